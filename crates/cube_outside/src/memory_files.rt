@@ -1,0 +1,185 @@
+ghost use Rattle.std.specs.Prelude.{◌≡◌, ◌≢◌, ℕ, ◌⊎◌, List, [], ◌∷◌, ◌++◌, Some, None, OnOk, OnErr, IfOk, IsErrOf, Contains, find};
+ghost use Rattle.std.specs.Option.{option_copied};
+ghost use Rattle.std.specs.Str.{bytes_eq};
+ghost use Rattle.cube_outside.specs.Counts.{one_more, Rose};
+ghost use Rattle.cube_outside.specs.NamedBytes.{bytes_named};
+ghost use Rattle.cube_outside.specs.declared.files.FileFault.TheVariants.{Failed};
+
+use crate::files::{FileFault, Files};
+use std::alloc::{AllocError, Global};
+
+/// Files in memory: pairs of a name and its bytes, where the first pair with a name holds. A read fails at a name that
+/// no pair has, and at each call whose number was given to `fail_at`. Calls count from 1.
+#[derive(Debug, Drop)]
+pub struct MemoryFiles {
+    pub pairs: Vec<(Vec<u8>, Vec<u8>)>,
+    /// The numbers of the calls that fail.
+    pub failing: Vec<u64>,
+    /// How many reads were called.
+    pub calls: u64,
+    /// How many of them failed.
+    pub count: u64,
+    /// The name of the last that failed.
+    pub missed: Vec<u8>,
+}
+
+impl MemoryFiles {
+    /// No file, and no call that fails.
+    pub fn new(alloc: Global) -> MemoryFiles
+        ensures empty { result.pairs.items ≡ [] }
+        ensures free { result.failing.items ≡ [] }
+        ensures calls { result.calls ≡ 0 }
+        ensures faults { result.count ≡ 0 }
+        ensures missed { result.missed.items ≡ [] }
+    {
+        MemoryFiles {
+            pairs: Vec::new(alloc),
+            failing: Vec::new(alloc),
+            calls: 0,
+            count: 0,
+            missed: Vec::new(alloc),
+        }
+    }
+
+    /// Puts bytes under a name, in place of those that it had.
+    pub fn put(&mut self, name: &str, bytes: &[u8]) -> Result<(), AllocError>
+        ensures put { OnOk result (bytes_named self.new.pairs.items name.now ≡ Some bytes.now) }
+        ensures others { OnOk result ((other : List ℕ) → other ≢ name.now →
+            bytes_named self.new.pairs.items other ≡ bytes_named self.old.pairs.items other) }
+        ensures err { OnErr result (self.new.pairs.items ≡ self.old.pairs.items) }
+        ensures failing { self.new.failing ≡ self.old.failing }
+        ensures calls { self.new.calls ≡ self.old.calls }
+        ensures faults { self.new.count ≡ self.old.count }
+        ensures missed { self.new.missed ≡ self.old.missed }
+    {
+        let alloc = *self.pairs.allocator();
+        let pair = (
+            Vec::from_slice(alloc, name.as_bytes())?,
+            Vec::from_slice(alloc, bytes)?,
+        );
+        self.pairs.insert(0, pair)?;
+        Ok(())
+    }
+
+    /// Has the read fail that is called as the given one, counted from 1.
+    pub fn fail_at(&mut self, call: u64) -> Result<(), AllocError>
+        ensures added { OnOk result (self.new.failing.items ≡ self.old.failing.items ++ call ∷ []) }
+        ensures err { OnErr result (self.new.failing.items ≡ self.old.failing.items) }
+        ensures pairs { self.new.pairs ≡ self.old.pairs }
+        ensures calls { self.new.calls ≡ self.old.calls }
+        ensures faults { self.new.count ≡ self.old.count }
+        ensures missed { self.new.missed ≡ self.old.missed }
+    {
+        self.failing.push(call)?;
+        Ok(())
+    }
+
+    // Counts a failure at this name, unless there is no memory for the name.
+    fn fail(&mut self, alloc: Global, name: &str) -> FileFault
+        ensures failed { result ≡ FileFault.Failed →
+            (self.new.count ≡ one_more self.old.count) × (self.new.missed.items ≡ name.now) }
+        ensures memory { result ≡ FileFault.Failed
+            ⊎ (self.new.count ≡ self.old.count) × (self.new.missed ≡ self.old.missed) }
+        ensures pairs { self.new.pairs ≡ self.old.pairs }
+        ensures failing { self.new.failing ≡ self.old.failing }
+        ensures calls { self.new.calls ≡ self.old.calls }
+    {
+        let Ok(missed) = Vec::from_slice(alloc, name.as_bytes()) else {
+            return FileFault::Memory;
+        };
+        self.missed = missed;
+        self.count = self.count.saturating_add(1);
+        FileFault::Failed
+    }
+
+    // The first pair with this name.
+    fn find(&self, name: &str) -> Option<&(Vec<u8>, Vec<u8>)>
+        ensures { option_copied result ≡ find (λ pair. bytes_eq pair.0.items name.now) self.now.pairs.items }
+    {
+        self.pairs
+            .iter()
+            .find(|pair| pair.0.as_slice() == name.as_bytes())
+    }
+}
+
+impl Files for MemoryFiles {
+    ghost told = { λ files. Some (bytes_named files.pairs.items) };
+
+    ghost faults = { λ files. files.count };
+
+    ghost missed = { λ files. files.missed.items };
+
+    /// Fails exactly at a name that no pair has and at a call that was given to `fail_at`, want of memory aside.
+    fn read(&mut self, alloc: Global, name: &str) -> Result<Vec<u8>, FileFault>
+        ensures pairs { self.new.pairs ≡ self.old.pairs }
+        ensures failing { self.new.failing ≡ self.old.failing }
+        ensures calls { self.new.calls ≡ one_more self.old.calls }
+
+        ensures ok { IfOk result (λ bytes.
+            bytes_named self.old.pairs.items name.now ≡ Some bytes.items) }
+        ensures passed { OnOk result (¬ Contains self.old.failing.items self.new.calls) }
+        ensures cause { IsErrOf result Failed →
+            Contains self.old.failing.items self.new.calls ⊎ (bytes_named self.old.pairs.items name.now ≡ None) }
+        ensures failed { IsErrOf result Failed → self.new.count ≡ one_more self.old.count }
+        ensures name { IsErrOf result Failed → self.new.missed.items ≡ name.now }
+        ensures calm { IsErrOf result Failed
+            ⊎ (self.new.count ≡ self.old.count) × (self.new.missed ≡ self.old.missed) }
+
+        // What the trait says.
+        ensures told { Some (bytes_named self.new.pairs.items) ≡ Some (bytes_named self.old.pairs.items) }
+        ensures bytes { IfOk result (λ bytes. bytes_named self.old.pairs.items name.now ≡ Some bytes.items) }
+        ensures rose { IsErrOf result Failed → Rose self.old.count self.new.count }
+    {
+        self.calls = self.calls.saturating_add(1);
+        if self.failing.contains(&self.calls) {
+            return Err(self.fail(alloc, name));
+        }
+        let Some(pair) = self.find(name) else {
+            return Err(self.fail(alloc, name));
+        };
+        Ok(Vec::from_slice(alloc, pair.1.as_slice())?)
+    }
+
+    fn faults(&self) -> u64 {
+        self.count
+    }
+
+    fn missed(&self) -> &[u8] {
+        &self.missed
+    }
+}
+
+#[cfg(test)]
+mod tests {
+    use super::*;
+    use std::test::Fail;
+
+    #[test]
+    fn reads_what_was_put_and_fails_where_it_was_told_to(rt: HostRuntime) -> Result<(), Fail> {
+        let alloc = rt.alloc();
+        let mut files = MemoryFiles::new(alloc);
+        files.put("model.txt", b"MODEL 1;")?;
+        files.put("a.txt", b"old")?;
+        files.put("a.txt", b"new")?;
+        files.fail_at(3)?;
+        let calls: [(&str, Option<&[u8]>, &[u8]); 5] = [
+            ("model.txt", Some(b"MODEL 1;"), b""),
+            ("a.txt", Some(b"new"), b""),
+            ("a.txt", None, b"a.txt"),
+            ("a.txt", Some(b"new"), b"a.txt"),
+            ("b.txt", None, b"b.txt"),
+        ];
+        for (name, bytes, missed) in calls {
+            match files.read(alloc, name) {
+                Ok(read) => assert_eq!(rt; Some(read.as_slice()), bytes, "reading {name}"),
+                Err(fault) => {
+                    assert_eq!(rt; fault, FileFault::Failed);
+                    assert!(rt; bytes.is_none(), "reading {name}");
+                }
+            }
+            assert_eq!(rt; files.missed(), missed);
+        }
+        assert_eq!(rt; files.faults(), 2);
+        Ok(())
+    }
+}
