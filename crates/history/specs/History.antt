@@ -1,6 +1,6 @@
 -- Histories as a whole, over the commands of all users: `users` has the list of each user's commands. The user at index
 -- i has the number i + 1, and a user's commands count from 1.
-use Rattle.std.specs.Prelude.{ℕ, ◌≡◌, ◌+◌, List, Some, slice_get, length}
+use Rattle.std.specs.Prelude.{ℕ, ◌≡◌, ◌+◌, ◌≤◌, List, Some, slice_get, length}
 use Rattle.history.specs.declared.entry.Entry.{Entry}
 use Rattle.history.specs.declared.told.Told.{Told}
 use Rattle.history.specs.declared.effect.Effect.{Effect}
@@ -25,6 +25,10 @@ pub record IsLegalAt {C K T R : Type 0} (effect : C → K → Effect T R) (after
 abbrev pub IsLegal : {C K T R : Type 0} → (C → K → Effect T R) → (C → T → C) → C → List (List K) → List (Entry T) → Type 0
 IsLegal {T = T} effect after first users log =
     (place : ℕ) (entry : Entry T) → slice_get log place ≡ Some entry → IsLegalAt effect after first users log place entry
+
+-- each entry is one of these users'
+abbrev pub HasUsers : {T : Type 0} → ℕ → List (Entry T) → Type 0
+HasUsers {T} count log = (place : ℕ) (entry : Entry T) → slice_get log place ≡ Some entry → (1 ≤ entry.user) × (entry.user ≤ count)
 
 -- each user has what was told so far: the first commands with their replies
 abbrev pub EachRunSoFar : {C K T R : Type 0} → (C → K → Effect T R) → (C → T → C) → C

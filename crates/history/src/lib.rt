@@ -6,10 +6,12 @@
 
 mod effect;
 mod entry;
+mod laws;
 mod told;
 mod world;
 
 pub use effect::Effect;
 pub use entry::Entry;
+pub use laws::{runs_go_on, runs_make_a_history};
 pub use told::Told;
 pub use world::World;

@@ -12,7 +12,9 @@ pub trait World {
     type State: Drop;
     /// What a state stands for. No value of it need ever be made.
     type Content;
+
     type Command: Drop;
+
     type Reply: Drop;
     /// What an accepted command changes.
     type Writes: Drop;
@@ -20,6 +22,7 @@ pub trait World {
     type Value;
 
     ghost content: { Self.State → Self.Content };
+
     ghost effect: { Self.Content → Self.Command → Effect Self.Writes Self.Reply };
     /// The content after these writes.
     ghost after: { Self.Content → Self.Writes → Self.Content };
