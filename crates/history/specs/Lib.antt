@@ -1,0 +1,3 @@
+pub mod Version
+pub mod UserRun
+pub mod History

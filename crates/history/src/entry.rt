@@ -1,0 +1,7 @@
+/// One accepted command of a history. Users and the commands of each user count from 1.
+#[derive(Debug, Drop)]
+pub struct Entry<T> {
+    pub user: u32,
+    pub command: u32,
+    pub writes: T,
+}

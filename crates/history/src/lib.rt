@@ -1,0 +1,17 @@
+//! The words for histories: what a world of commands is, which histories of its commits are legal, and what a run of
+//! one user's commands against such a history is. Contracts of the crates above cite the definitions of `specs/`.
+//!
+//! Read `World` first, then `specs/Version.antt`, `specs/UserRun.antt` and `specs/History.antt`.
+#![tactic(auto)]
+
+mod effect;
+mod entry;
+mod laws;
+mod told;
+mod world;
+
+pub use effect::Effect;
+pub use entry::Entry;
+pub use laws::{runs_go_on, runs_make_a_history};
+pub use told::Told;
+pub use world::World;

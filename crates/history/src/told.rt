@@ -1,0 +1,6 @@
+/// What a user is told of one command: the number of the version that the reply speaks of, and the reply.
+#[derive(Debug, Drop)]
+pub struct Told<R> {
+    pub place: u64,
+    pub reply: R,
+}
