@@ -1,0 +1,127 @@
+-- The parts of a text round its point, and the sizes that are read up to a cap.
+use Rattle.std.proofs.Common.{◌≡◌, ◌∙◌, sym, ap, refl, inl, inr, arith, lit<, lit≤, ℕ, zero, suc, ◌+◌, ◌-◌, ◌*◌, ◌<◌, ◌≤◌, min, ℤ, pos, unsigned_abs, Bool, true, false, not, ◌&&◌, ◌||◌, cond, IsTrue, ltb, List, [], ◌∷◌, ◌++◌, length, take, drop, Option, Some, None, Result, Ok, Err, nat_le, if◌then◌else◌, position}
+use Rattle.std.specs.List.{list_any, position_or_len, before_first, after_first}
+use Rattle.std.specs.Str.Parse.{digits_value}
+use Rattle.std.specs.Option.{SomeIff, ok_or}
+use Rattle.std.proofs.lemmas.Bool.Decides.{nat_tests}
+use Rattle.std.proofs.lemmas.List.{take_all, drop_all}
+use Rattle.std.proofs.lemmas.Grind.{common_steps}
+use Rattle.std.proofs.lemmas.Bool.{cases_lt}
+use Rattle.cube_fixed.specs.declared.reading.NumberFault.{NumberFault}
+use Rattle.cube_fixed.specs.declared.reading.NumberFault.TheVariants.{NotANumber, TooLarge}
+use Rattle.cube_fixed.specs.declared.reading.TheConstants.{TOO_MANY_UNITS}
+use Rattle.cube_fixed.specs.Range.{IsInRange, is_in_range, limit, unit}
+use Rattle.cube_fixed.specs.Text.{is_point, is_digits, is_decimal, signed, decimals_value, decimal_value, capped_value, number_after_sign, reading_of}
+
+-- a test passes somewhere just where the first place that passes is within the list
+any-position : (p : ℕ → Bool) (xs : List ℕ) → list_any p xs ≡ ltb (position_or_len p xs) (length xs)
+any-position p [] = refl
+any-position p (x ∷ xs) =
+    elim (p x) as (λ b. (b || list_any p xs) ≡ ltb (cond (not b) (1 + position_or_len p xs) 0) (length (x ∷ xs))) [
+      | true ↦ grind (arith, nat_tests)
+      | false ↦ any-position p xs ∙ grind (arith, nat_tests)
+    ]
+
+-- where `position` found the point
+pub record HasPointAt (text : List ℕ) (at : ℕ) : Type 0 where
+  pub any : list_any is_point text ≡ true
+  pub first : position_or_len is_point text ≡ at
+  pub within : at < length text
+
+pub point_found : (text : List ℕ) (at : ℕ) → position is_point text ≡ Some at → HasPointAt text at
+point_found text at h =
+    let go : (b : Bool) → ltb (position_or_len is_point text) (length text) ≡ b →
+    cond b (Some (position_or_len is_point text)) None ≡ Some at → HasPointAt text at =
+    λ b. elim b as (λ b. ltb (position_or_len is_point text) (length text) ≡ b →
+    cond b (Some (position_or_len is_point text)) None ≡ Some at → HasPointAt text at) [
+      | true ↦ λ e f.
+          let first : position_or_len is_point text ≡ at = cc in
+          record { any = any-position is_point text ∙ e; first = first; within = grind (arith, nat_tests) }
+      | false ↦ λ e f. cc
+    ] in
+    go (ltb (position_or_len is_point text) (length text)) refl h
+
+pub point_missing : (text : List ℕ) → position is_point text ≡ None → list_any is_point text ≡ false
+point_missing text h =
+    let go : (b : Bool) → ltb (position_or_len is_point text) (length text) ≡ b →
+    cond b (Some (position_or_len is_point text)) None ≡ None → list_any is_point text ≡ false =
+    λ b. elim b as (λ b. ltb (position_or_len is_point text) (length text) ≡ b →
+    cond b (Some (position_or_len is_point text)) None ≡ None → list_any is_point text ≡ false) [
+      | true ↦ λ e f. cc
+      | false ↦ λ e f. any-position is_point text ∙ e
+    ] in
+    go (ltb (position_or_len is_point text) (length text)) refl h
+
+-- with no point all stands before it, and nothing after it
+pub before_first-none : (text : List ℕ) → list_any is_point text ≡ false → before_first is_point text ≡ text
+before_first-none text h =
+    let e = sym (any-position is_point text) ∙ h in
+    let far : length text ≤ position_or_len is_point text = grind (arith, nat_tests) in
+    take_all _ text far
+
+pub after_first-none : (text : List ℕ) → list_any is_point text ≡ false → after_first is_point text ≡ []
+after_first-none text h =
+    let e = sym (any-position is_point text) ∙ h in
+    let far : length text ≤ position_or_len is_point text = grind (arith, nat_tests) in
+    drop_all (position_or_len is_point text + 1) text (omega arith)
+
+-- what the two parts round the point say of the text
+pub is_decimal-point : (text : List ℕ) (at : ℕ) → HasPointAt text at → is_decimal text ≡ (is_digits (take at text) && is_digits (drop (at + 1) text))
+is_decimal-point text at p =
+    ap (λ b. if b then is_digits (before_first is_point text) && is_digits (after_first is_point text) else is_digits text) p.any ∙
+    ap (λ n. is_digits (take n text) && is_digits (drop (n + 1) text)) p.first
+
+pub capped_value-point : (most : ℕ) (text : List ℕ) (at : ℕ) → HasPointAt text at → capped_value most text ≡ min (digits_value 10 (take at text)) most * unit + decimals_value (drop (at + 1) text)
+capped_value-point most text at p =
+    ap (λ n. min (digits_value 10 (take n text)) most * unit + decimals_value (drop (n + 1) text)) p.first
+
+pub is_decimal-none : (text : List ℕ) → list_any is_point text ≡ false → is_decimal text ≡ is_digits text
+is_decimal-none text h =
+    ap (λ b. if b then is_digits (before_first is_point text) && is_digits (after_first is_point text) else is_digits text) h
+
+pub capped_value-none : (most : ℕ) (text : List ℕ) → list_any is_point text ≡ false → capped_value most text ≡ min (digits_value 10 text) most * unit
+capped_value-none most text h =
+    let whole : digits_value 10 (before_first is_point text) ≡ digits_value 10 text = ap (λ xs. digits_value 10 xs) (before_first-none text h) in
+    let rest : decimals_value (after_first is_point text) ≡ 0 = ap decimals_value (after_first-none text h) in
+    omega (arith, whole, rest)
+
+-- ---- the range
+
+unsigned_abs-signed : (negative : Bool) (n : ℕ) → unsigned_abs (signed negative n) ≡ n
+unsigned_abs-signed true zero = refl
+unsigned_abs-signed true (suc n) = refl
+unsigned_abs-signed false n = refl
+
+too_large : (negative : Bool) (n : ℕ) → limit < n → reading_of (Some (signed negative n)) ≡ Err TooLarge
+too_large negative n above =
+    let size = unsigned_abs-signed negative n in
+    let no : nat_le (unsigned_abs (signed negative n)) limit ≡ false = ap (λ m. nat_le m limit) size ∙ grind (arith, nat_tests) in
+    ap (λ b. if b then Ok (signed negative n) else Err TooLarge) no
+
+-- what is read up to the cap answers as the whole does
+pub capped_reading : (negative : Bool) (text : List ℕ) → reading_of (Some (signed negative (capped_value TOO_MANY_UNITS text))) ≡ reading_of (Some (signed negative (decimal_value text)))
+capped_reading negative text =
+    let u = digits_value 10 (before_first is_point text) in
+    let f = decimals_value (after_first is_point text) in
+    elim (cases_lt u TOO_MANY_UNITS) [
+      | inl below ↦
+          let same : min u TOO_MANY_UNITS ≡ u = omega arith in
+          ap (λ v. reading_of (Some (signed negative (v * unit + f)))) same
+      | inr above ↦
+          let capped : limit < min u TOO_MANY_UNITS * unit + f = omega arith in
+          let whole : limit < u * unit + f = omega arith in
+          too_large negative (min u TOO_MANY_UNITS * unit + f) capped ∙ sym (too_large negative (u * unit + f) whole)
+    ]
+
+-- `Money::of`, with the fault
+pub reading_of_money : (z : ℤ) (r : Option ℤ) → SomeIff r (IsInRange z) z → ok_or r TooLarge ≡ reading_of (Some z)
+reading_of_money z (Some x) h =
+    let yes : nat_le (unsigned_abs z) limit ≡ true = grind (arith, nat_tests) in
+    ap (λ y. Ok y) h.1 ∙ sym (ap (λ b. if b then Ok z else Err TooLarge) yes)
+reading_of_money z None h =
+    let no : nat_le (unsigned_abs z) limit ≡ false = grind (arith, nat_tests) in
+    sym (ap (λ b. if b then Ok z else Err TooLarge) no)
+
+pub number_after_sign-decimal : (negative : Bool) (text : List ℕ) → is_decimal text ≡ true → number_after_sign negative text ≡ Some (signed negative (decimal_value text))
+number_after_sign-decimal negative text h =
+    ap (λ b. if b then Some (signed negative (decimal_value text)) else None) h

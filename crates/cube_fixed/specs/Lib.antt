@@ -1,0 +1,5 @@
+pub mod Range
+pub mod Rounding
+pub mod Arithmetic
+pub mod Text
+pub mod Total

@@ -1,0 +1,90 @@
+-- The text of a number: what it says, and how it is written.
+use Rattle.std.specs.Prelude.{ℕ, zero, suc, ◌+◌, ◌*◌, ◌/◌, ◌%◌, ◌^◌, ◌==◌, min, ℤ, pos, neg_ℤ, unsigned_abs, Bool, true, false, not, ◌&&◌, ◌||◌, if◌then◌else◌, List, [], ◌∷◌, ◌++◌, length, drop, Option, Some, None, Result, Ok, Err, codes, decimal}
+use Rattle.std.specs.Int.{is_negative}
+use Rattle.std.specs.Char.{is_ascii_digit}
+use Rattle.std.specs.List.{before_first, after_first, list_all, list_any}
+use Rattle.std.specs.Str.Parse.{digits_value, starts_with_minus}
+use Rattle.cube_fixed.specs.declared.value.Value.{Value}
+use Rattle.cube_fixed.specs.declared.value.Value.TheVariants.{Num, Over}
+use Rattle.cube_fixed.specs.declared.reading.NumberFault.{NumberFault}
+use Rattle.cube_fixed.specs.declared.reading.NumberFault.TheVariants.{NotANumber, TooLarge}
+use Rattle.cube_fixed.specs.Range.{unit, is_in_range}
+use Rattle.cube_fixed.specs.Rounding.{nearest}
+
+-- ---- reading
+
+-- the point, `.`
+abbrev pub is_point : ℕ → Bool
+is_point c = c == 46
+
+-- one or more decimal digits
+abbrev pub is_digits : List ℕ → Bool
+is_digits text = not (length text == 0) && list_all is_ascii_digit text
+
+-- of an unsigned text: digits, or digits, a point and digits
+abbrev pub is_decimal : List ℕ → Bool
+is_decimal text =
+    if list_any is_point text then is_digits (before_first is_point text) && is_digits (after_first is_point text)
+    else is_digits text
+
+-- how many millionths the decimals after the point are, to the nearest; a half goes up
+abbrev pub decimals_value : List ℕ → ℕ
+decimals_value decimals = nearest (digits_value 10 decimals * unit) (10 ^ length decimals)
+
+-- how many millionths such a text is
+abbrev pub decimal_value : List ℕ → ℕ
+decimal_value text =
+    digits_value 10 (before_first is_point text) * unit + decimals_value (after_first is_point text)
+
+-- the same with at most this many whole units
+abbrev pub capped_value : ℕ → List ℕ → ℕ
+capped_value most text =
+    min (digits_value 10 (before_first is_point text)) most * unit + decimals_value (after_first is_point text)
+
+-- the number of this size
+abbrev pub signed : Bool → ℕ → ℤ
+signed negative size = if negative then neg_ℤ (pos size) else pos size
+
+-- the number that an unsigned text says under this sign
+abbrev pub number_after_sign : Bool → List ℕ → Option ℤ
+number_after_sign negative text = if is_decimal text then Some (signed negative (decimal_value text)) else None
+
+-- the millionths that a text says: an optional `-`, one or more digits, and optionally `.` and one or more
+-- digits; None for any other text
+unfoldable pub number_of : List ℕ → Option ℤ
+number_of text =
+    if starts_with_minus text then number_after_sign true (drop 1 text) else number_after_sign false text
+
+-- what reading answers: the range is tested after rounding
+abbrev pub reading_of : Option ℤ → Result ℤ NumberFault
+reading_of None = Err NotANumber
+reading_of (Some z) = if is_in_range z then Ok z else Err TooLarge
+
+-- ---- writing
+
+-- n in k digits, with zeros in front
+abbrev pub digits_in : ℕ → ℕ → List ℕ
+digits_in zero n = []
+digits_in (suc k) n = (48 + n / 10 ^ k) ∷ digits_in k (n % 10 ^ k)
+
+-- a digit before the digits that are left of the rest, where a zero with nothing after it goes too
+abbrev pub onto_trimmed : ℕ → List ℕ → List ℕ
+onto_trimmed c [] = if c == 48 then [] else c ∷ []
+onto_trimmed c (d ∷ ds) = c ∷ d ∷ ds
+
+-- the digits without the zeros at their end
+abbrev pub without_zeros_at_end : List ℕ → List ℕ
+without_zeros_at_end [] = []
+without_zeros_at_end (c ∷ cs) = onto_trimmed c (without_zeros_at_end cs)
+
+-- nothing for 0 millionths, else the point and the six decimals without the zeros at their end
+unfoldable pub fraction_text : ℕ → List ℕ
+fraction_text zero = []
+fraction_text (suc n) = 46 ∷ without_zeros_at_end (digits_in 6 (suc n))
+
+-- the text of a value: `-` where it is negative, the whole units, and the fraction
+unfoldable pub printed : Value → List ℕ
+printed (Num z) =
+    (if is_negative z then codes "-" else []) ++
+    decimal (unsigned_abs z / unit) ++ fraction_text (unsigned_abs z % unit)
+printed Over = codes "#OVER"

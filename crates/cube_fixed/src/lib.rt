@@ -1,0 +1,32 @@
+//! The numbers of the cube server: fixed point, in millionths, with one mark for what is out of range.
+//!
+//! - [`Money`] is a number: a whole count of millionths, at most 9,000,000,000,000 units from 0.
+//! - [`Value`] is what a cell or a formula holds: a number, or the mark `Over`.
+//! - The operations `add`, `sub`, `mul`, `div`, `div_safe`, `max`, `min`, `round`, `floor`, `abs` and `sign`
+//!   are total, exact before one rounding, and take no memory. [`compare`] puts values in order.
+//! - [`read`] and [`print`] are a number's text.
+//! - [`Sum`] is a weighted sum that is exact to its end, and [`Steps`] a count that takes no bytes.
+//!
+//! Contracts see a `Money` as its count of millionths, a whole number, and cite `specs/`.
+#![tactic(auto)]
+
+pub use arithmetic::{abs, add, compare, floor, max, min, mul, round, sign, sub};
+pub use division::{div, div_safe};
+pub use money::Money;
+pub use printing::print;
+pub use reading::{NumberFault, read};
+pub use steps::Steps;
+pub use total::Sum;
+pub use value::Value;
+
+mod arithmetic;
+mod division;
+mod money;
+mod printing;
+mod reading;
+mod rounding;
+mod steps;
+#[cfg(test)]
+mod tests;
+mod total;
+mod value;

@@ -1,0 +1,109 @@
+ghost use Rattle.std.specs.Prelude.{◌≡◌, pos, ◌+◌, ◌*◌, ◌≤◌, ◌≤ℤ◌, min, position, IsTrue, IfSome};
+ghost use Rattle.std.specs.List.{list_all};
+ghost use Rattle.std.specs.Option.{SomeIff};
+ghost use Rattle.std.specs.Char.{is_ascii_digit};
+ghost use Rattle.std.specs.Str.Parse.{digits_value};
+ghost use Rattle.cube_fixed.specs.Text.{is_digits, is_point, is_decimal, capped_value, decimals_value, number_after_sign, number_of, reading_of};
+
+use crate::money::Money;
+
+/// Why a text gives no number.
+#[derive(Clone, Copy, Debug, PartialEq, Eq)]
+pub enum NumberFault {
+    /// The text isn't an optional `-`, one or more digits, and optionally `.` and one or more digits.
+    NotANumber,
+    /// The number, rounded to the millionth, is out of range.
+    TooLarge,
+}
+
+/// One whole unit more than any number in range has.
+const TOO_MANY_UNITS: u64 = 9_000_000_000_001;
+
+/// The number that a text says: an optional `-`, one or more digits, and optionally `.` and one or more digits.
+/// Decimals past the sixth are rounded, halves away from zero, before the range is tested.
+#[tactic(auto, unfolding(crate::specs::Text::number_of))]
+pub fn read(text: &[u8]) -> Result<Money, NumberFault>
+    ensures value { result ≡ reading_of (number_of text.now) }
+{
+    if text.starts_with(b"-") {
+        read_after_sign(true, &text[1..])
+    } else {
+        read_after_sign(false, text)
+    }
+}
+
+fn read_after_sign(negative: bool, text: &[u8]) -> Result<Money, NumberFault>
+    ensures { result ≡ reading_of (number_after_sign negative text.now) }
+{
+    let Some(size) = decimal_size(text) else {
+        return Err(NumberFault::NotANumber);
+    };
+    Money::of(if negative { -size } else { size }).ok_or(NumberFault::TooLarge)
+}
+
+/// The millionths that an unsigned text says, where the whole units count up to `TOO_MANY_UNITS`.
+fn decimal_size(text: &[u8]) -> Option<i64>
+    ensures value { SomeIff result (IsTrue (is_decimal text.now)) (pos (capped_value TOO_MANY_UNITS text.now)) }
+    ensures bound { IfSome result (λ size. size ≤ℤ pos 9000000000002000000) }
+{
+    match point_of(text) {
+        Some(at) => {
+            let whole = &text[..at];
+            let decimals = &text[at + 1..];
+            if are_digits(whole) && are_digits(decimals) {
+                Some((units_of(whole) * 1_000_000 + millionths_of(decimals)) as i64)
+            } else {
+                None
+            }
+        }
+        None if are_digits(text) => Some((units_of(text) * 1_000_000) as i64),
+        None => None,
+    }
+}
+
+/// Where the point is.
+fn point_of(text: &[u8]) -> Option<usize>
+    ensures { result ≡ position is_point text.now }
+{
+    text.iter().position(|c| *c == b'.')
+}
+
+fn all_digits(text: &[u8]) -> bool
+    ensures { result ≡ list_all is_ascii_digit text.now }
+{
+    text.iter().all(|c| c.is_ascii_digit())
+}
+
+/// Whether the text is one or more digits.
+fn are_digits(text: &[u8]) -> bool
+    ensures { result ≡ is_digits text.now }
+{
+    !text.is_empty() && all_digits(text)
+}
+
+/// The number that the digits write, or `TOO_MANY_UNITS` where it is more.
+fn units_of(digits: &[u8]) -> u64
+    requires { IsTrue (list_all is_ascii_digit digits.now) }
+    ensures value { result ≡ min (digits_value 10 digits.now) TOO_MANY_UNITS }
+{
+    let mut units = 0;
+    for &digit in digits {
+        units = (units * 10 + u64::from(digit - b'0')).min(TOO_MANY_UNITS);
+    }
+    units
+}
+
+/// The millionths that the decimals after the point are, to the nearest; a half goes up.
+fn millionths_of(decimals: &[u8]) -> u64
+    requires { IsTrue (list_all is_ascii_digit decimals.now) }
+    ensures value { result ≡ decimals_value decimals.now }
+    ensures bound { result ≤ 1000000 }
+{
+    let mut tenths = 0;
+    let mut place = 10_000_000;
+    for &digit in decimals {
+        place /= 10;
+        tenths += place * u64::from(digit - b'0');
+    }
+    (tenths + 5) / 10
+}

@@ -1,0 +1,82 @@
+ghost use Rattle.std.specs.Prelude.{◌≡◌, ◌*◌, ◌^◌, ◌<◌, ◌≤◌, unsigned_abs};
+ghost use Rattle.cube_fixed.specs.Total.{no_terms, term_of, is_over, with_term, value_of};
+ghost use Rattle.cube_fixed.specs.Range.{limit};
+
+use crate::rounding::{exact_product, fitted};
+use crate::value::Value;
+use std::marker::Model;
+
+/// A weighted sum that is exact to its end: the range is tested once, by [`Sum::value`].
+#[derive(Debug, Drop)]
+pub struct Sum {
+    exact: i128,
+    over: bool,
+    terms: u64,
+}
+
+impl Model for Sum {
+    ghost use Rattle.std.specs.Prelude.{◌*◌, ◌^◌, ◌≤◌, unsigned_abs};
+    ghost use Rattle.cube_fixed.specs.Range.{limit};
+    ghost use Rattle.cube_fixed.specs.Total.{Total};
+
+    ghost Value = { Total };
+
+    ghost view = { λ s. record { exact = s.exact; over = s.over; terms = s.terms } };
+
+    ghost invariant = { λ s. (unsigned_abs s.exact ≤ s.terms * (10 ^ 9 * limit)) × (s.terms ≤ 2 ^ 32) };
+}
+
+impl Sum {
+    /// The sum of no terms, which is 0.
+    pub fn new() -> Sum
+        ensures { result ≡ no_terms }
+    {
+        Sum {
+            exact: 0,
+            over: false,
+            terms: 0,
+        }
+    }
+
+    /// Adds `coef * v`. With the coefficient 0 it adds nothing, also for `Over`; with another one an `Over` makes
+    /// the sum `Over`.
+    pub fn add(&mut self, coef: i64, v: Value)
+        requires size { unsigned_abs coef ≤ 10 ^ 9 }
+        requires room { self.old.terms < 2 ^ 32 }
+        ensures { self.new ≡ with_term self.old coef v }
+    {
+        self.over |= is_over_term(coef, &v);
+        self.exact += exact_term(coef, v);
+        self.terms += 1;
+    }
+
+    /// The sum, or `Over` where it is out of range or a term was `Over`.
+    pub fn value(&self) -> Value
+        ensures { result ≡ value_of self.now }
+    {
+        if self.over {
+            Value::Over
+        } else {
+            fitted(self.exact)
+        }
+    }
+}
+
+/// What a term adds to the exact sum.
+fn exact_term(coef: i64, v: Value) -> i128
+    requires { unsigned_abs coef ≤ 10 ^ 9 }
+    ensures value { result ≡ term_of coef v }
+    ensures size { unsigned_abs result ≤ 10 ^ 9 * limit }
+{
+    match v {
+        Value::Num(number) => exact_product(coef, number.millionths()),
+        Value::Over => 0,
+    }
+}
+
+/// Whether a term makes the sum `Over`.
+fn is_over_term(coef: i64, v: &Value) -> bool
+    ensures { result ≡ is_over coef v.now }
+{
+    *v == Value::Over && coef != 0
+}
