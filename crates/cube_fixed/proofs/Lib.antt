@@ -1,3 +1,5 @@
 pub mod Decimals
 pub mod Digits
 pub mod Points
+pub mod RoundTrip
+pub mod Zero

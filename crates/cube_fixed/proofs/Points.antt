@@ -1,26 +1,28 @@
 -- The parts of a text round its point, and the sizes that are read up to a cap.
-use Rattle.std.proofs.Common.{◌≡◌, ◌∙◌, sym, ap, refl, inl, inr, arith, lit<, lit≤, ℕ, zero, suc, ◌+◌, ◌-◌, ◌*◌, ◌<◌, ◌≤◌, min, ℤ, pos, unsigned_abs, Bool, true, false, not, ◌&&◌, ◌||◌, cond, IsTrue, ltb, List, [], ◌∷◌, ◌++◌, length, take, drop, Option, Some, None, Result, Ok, Err, nat_le, if◌then◌else◌, position}
-use Rattle.std.specs.List.{list_any, position_or_len, before_first, after_first}
-use Rattle.std.specs.Str.Parse.{digits_value}
+use Rattle.std.proofs.Common.{◌≡◌, ◌∙◌, sym, ap, refl, inl, inr, arith, ℕ, zero, suc, ◌+◌, ◌*◌, ◌<◌, ◌≤◌, min, ℤ, unsigned_abs, Bool, true, false, not, ◌&&◌, ◌||◌, cond, ltb, eqb, List, [], ◌∷◌, length, take, drop, Option, Some, None, Ok, Err, nat_le, if◌then◌else◌, position}
+use Rattle.std.specs.List.{list_any, starts_with, position_or_len, before_first, after_first}
+use Rattle.std.specs.Str.Parse.{digits_value, starts_with_minus}
 use Rattle.std.specs.Option.{SomeIff, ok_or}
 use Rattle.std.proofs.lemmas.Bool.Decides.{nat_tests}
 use Rattle.std.proofs.lemmas.List.{take_all, drop_all}
-use Rattle.std.proofs.lemmas.Grind.{common_steps}
 use Rattle.std.proofs.lemmas.Bool.{cases_lt}
-use Rattle.cube_fixed.specs.declared.reading.NumberFault.{NumberFault}
-use Rattle.cube_fixed.specs.declared.reading.NumberFault.TheVariants.{NotANumber, TooLarge}
-use Rattle.cube_fixed.specs.declared.reading.TheConstants.{TOO_MANY_UNITS}
-use Rattle.cube_fixed.specs.Range.{IsInRange, is_in_range, limit, unit}
-use Rattle.cube_fixed.specs.Text.{is_point, is_digits, is_decimal, signed, decimals_value, decimal_value, capped_value, number_after_sign, reading_of}
+use Rattle.cube_fixed.specs.declared.reading.NumberFault.TheVariants.{TooLarge}
+use Rattle.cube_fixed.specs.Range.{IsInRange, limit, unit}
+use Rattle.cube_fixed.specs.Text.{is_point, is_digits, is_decimal, signed, decimals_value, decimal_value, number_after_sign, reading_of}
 
 -- a test passes somewhere just where the first place that passes is within the list
-any-position : (p : ℕ → Bool) (xs : List ℕ) → list_any p xs ≡ ltb (position_or_len p xs) (length xs)
+pub any-position : (p : ℕ → Bool) (xs : List ℕ) → list_any p xs ≡ ltb (position_or_len p xs) (length xs)
 any-position p [] = refl
 any-position p (x ∷ xs) =
     elim (p x) as (λ b. (b || list_any p xs) ≡ ltb (cond (not b) (1 + position_or_len p xs) 0) (length (x ∷ xs))) [
       | true ↦ grind (arith, nat_tests)
       | false ↦ any-position p xs ∙ grind (arith, nat_tests)
     ]
+
+-- the code's test for `-`
+pub starts_with-minus : (text : List ℕ) → starts_with eqb text (45 ∷ []) ≡ starts_with_minus text
+starts_with-minus [] = refl
+starts_with-minus (c ∷ cs) = grind (arith, nat_tests)
 
 -- where `position` found the point
 pub record HasPointAt (text : List ℕ) (at : ℕ) : Type 0 where
@@ -71,16 +73,16 @@ is_decimal-point text at p =
     ap (λ b. if b then is_digits (before_first is_point text) && is_digits (after_first is_point text) else is_digits text) p.any ∙
     ap (λ n. is_digits (take n text) && is_digits (drop (n + 1) text)) p.first
 
-pub capped_value-point : (most : ℕ) (text : List ℕ) (at : ℕ) → HasPointAt text at → capped_value most text ≡ min (digits_value 10 (take at text)) most * unit + decimals_value (drop (at + 1) text)
-capped_value-point most text at p =
-    ap (λ n. min (digits_value 10 (take n text)) most * unit + decimals_value (drop (n + 1) text)) p.first
+pub decimal_value-point : (text : List ℕ) (at : ℕ) → HasPointAt text at → decimal_value text ≡ digits_value 10 (take at text) * unit + decimals_value (drop (at + 1) text)
+decimal_value-point text at p =
+    ap (λ n. digits_value 10 (take n text) * unit + decimals_value (drop (n + 1) text)) p.first
 
 pub is_decimal-none : (text : List ℕ) → list_any is_point text ≡ false → is_decimal text ≡ is_digits text
 is_decimal-none text h =
     ap (λ b. if b then is_digits (before_first is_point text) && is_digits (after_first is_point text) else is_digits text) h
 
-pub capped_value-none : (most : ℕ) (text : List ℕ) → list_any is_point text ≡ false → capped_value most text ≡ min (digits_value 10 text) most * unit
-capped_value-none most text h =
+pub decimal_value-none : (text : List ℕ) → list_any is_point text ≡ false → decimal_value text ≡ digits_value 10 text * unit
+decimal_value-none text h =
     let whole : digits_value 10 (before_first is_point text) ≡ digits_value 10 text = ap (λ xs. digits_value 10 xs) (before_first-none text h) in
     let rest : decimals_value (after_first is_point text) ≡ 0 = ap decimals_value (after_first-none text h) in
     omega (arith, whole, rest)
@@ -98,19 +100,16 @@ too_large negative n above =
     let no : nat_le (unsigned_abs (signed negative n)) limit ≡ false = ap (λ m. nat_le m limit) size ∙ grind (arith, nat_tests) in
     ap (λ b. if b then Ok (signed negative n) else Err TooLarge) no
 
--- what is read up to the cap answers as the whole does
-pub capped_reading : (negative : Bool) (text : List ℕ) → reading_of (Some (signed negative (capped_value TOO_MANY_UNITS text))) ≡ reading_of (Some (signed negative (decimal_value text)))
-capped_reading negative text =
-    let u = digits_value 10 (before_first is_point text) in
-    let f = decimals_value (after_first is_point text) in
-    elim (cases_lt u TOO_MANY_UNITS) [
-      | inl below ↦
-          let same : min u TOO_MANY_UNITS ≡ u = omega arith in
-          ap (λ v. reading_of (Some (signed negative (v * unit + f)))) same
-      | inr above ↦
-          let capped : limit < min u TOO_MANY_UNITS * unit + f = omega arith in
-          let whole : limit < u * unit + f = omega arith in
-          too_large negative (min u TOO_MANY_UNITS * unit + f) capped ∙ sym (too_large negative (u * unit + f) whole)
+-- what is read up to the limit answers as the whole does
+pub capped_reading : (negative : Bool) (size : ℕ) → reading_of (Some (signed negative (min size (limit + 1)))) ≡ reading_of (Some (signed negative size))
+capped_reading negative size =
+    elim (cases_lt limit size) [
+      | inl above ↦
+          let capped : limit < min size (limit + 1) = omega arith in
+          too_large negative (min size (limit + 1)) capped ∙ sym (too_large negative size above)
+      | inr within ↦
+          let same : min size (limit + 1) ≡ size = omega arith in
+          ap (λ n. reading_of (Some (signed negative n))) same
     ]
 
 -- `Money::of`, with the fault

@@ -1,5 +1,6 @@
 pub mod Range
 pub mod Rounding
 pub mod Arithmetic
+pub mod Laws
 pub mod Text
 pub mod Total

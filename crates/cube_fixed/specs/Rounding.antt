@@ -1,7 +1,7 @@
 -- The one rule of rounding: to the nearest whole number, halves away from zero.
 use Rattle.std.specs.Prelude.{ℕ, suc, ◌+◌, ◌*◌, ◌/◌, ℤ, pos, negsuc, neg_ℤ}
 
--- the whole number nearest to n / d; a half goes up
+-- the whole number nearest to n / d, which is the floor of n / d + 1 / 2; a half goes up
 abbrev pub nearest : ℕ → ℕ → ℕ
 nearest n d = (2 * n + d) / (2 * d)
 

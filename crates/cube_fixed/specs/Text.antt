@@ -1,5 +1,5 @@
 -- The text of a number: what it says, and how it is written.
-use Rattle.std.specs.Prelude.{ℕ, zero, suc, ◌+◌, ◌*◌, ◌/◌, ◌%◌, ◌^◌, ◌==◌, min, ℤ, pos, neg_ℤ, unsigned_abs, Bool, true, false, not, ◌&&◌, ◌||◌, if◌then◌else◌, List, [], ◌∷◌, ◌++◌, length, drop, Option, Some, None, Result, Ok, Err, codes, decimal}
+use Rattle.std.specs.Prelude.{ℕ, zero, suc, ◌+◌, ◌*◌, ◌/◌, ◌%◌, ◌^◌, ◌==◌, ℤ, pos, neg_ℤ, unsigned_abs, Bool, true, false, not, ◌&&◌, if◌then◌else◌, List, [], ◌∷◌, ◌++◌, length, drop, Option, Some, None, Result, Ok, Err, codes, decimal}
 use Rattle.std.specs.Int.{is_negative}
 use Rattle.std.specs.Char.{is_ascii_digit}
 use Rattle.std.specs.List.{before_first, after_first, list_all, list_any}
@@ -35,11 +35,6 @@ decimals_value decimals = nearest (digits_value 10 decimals * unit) (10 ^ length
 abbrev pub decimal_value : List ℕ → ℕ
 decimal_value text =
     digits_value 10 (before_first is_point text) * unit + decimals_value (after_first is_point text)
-
--- the same with at most this many whole units
-abbrev pub capped_value : ℕ → List ℕ → ℕ
-capped_value most text =
-    min (digits_value 10 (before_first is_point text)) most * unit + decimals_value (after_first is_point text)
 
 -- the number of this size
 abbrev pub signed : Bool → ℕ → ℤ

@@ -1,5 +1,5 @@
 -- A weighted sum that is exact to its end.
-use Rattle.std.specs.Prelude.{ℕ, ◌+◌, ℤ, pos, ◌+ℤ◌, ◌*ℤ◌, Bool, true, false, not, ◌||◌, if◌then◌else◌}
+use Rattle.std.specs.Prelude.{ℕ, ◌+◌, ℤ, pos, ◌+ℤ◌, ◌*ℤ◌, Bool, false, not, ◌||◌, if◌then◌else◌}
 use Rattle.std.specs.Ordering.{int_eq}
 use Rattle.cube_fixed.specs.declared.value.Value.{Value}
 use Rattle.cube_fixed.specs.declared.value.Value.TheVariants.{Num, Over}
@@ -20,15 +20,15 @@ abbrev pub term_of : ℤ → Value → ℤ
 term_of coef (Num z) = coef *ℤ z
 term_of coef Over = pos 0
 
--- whether the term makes the sum Over: with the coefficient 0 it adds nothing, also for Over
-abbrev pub is_over : ℤ → Value → Bool
-is_over coef (Num z) = false
-is_over coef Over = not (int_eq coef (pos 0))
+-- whether Over enters the sum by this term: with the coefficient 0 nothing does
+abbrev pub over_enters : ℤ → Value → Bool
+over_enters coef (Num z) = false
+over_enters coef Over = not (int_eq coef (pos 0))
 
 -- the sum with the term coef * v more
 abbrev pub with_term : Total → ℤ → Value → Total
 with_term t coef v =
-    record { exact = t.exact +ℤ term_of coef v; over = t.over || is_over coef v; terms = t.terms + 1 }
+    record { exact = t.exact +ℤ term_of coef v; over = t.over || over_enters coef v; terms = t.terms + 1 }
 
 -- the value of the sum: the range is tested once, here
 abbrev pub value_of : Total → Value

@@ -58,11 +58,8 @@ pub fn max(a: Value, b: Value) -> Value
     if let Value::Num(a) = a
         && let Value::Num(b) = b
     {
-        Value::Num(if a.millionths() < b.millionths() {
-            b
-        } else {
-            a
-        })
+        let below = a.millionths() < b.millionths();
+        Value::Num(if below { b } else { a })
     } else {
         Value::Over
     }
@@ -76,11 +73,8 @@ pub fn min(a: Value, b: Value) -> Value
     if let Value::Num(a) = a
         && let Value::Num(b) = b
     {
-        Value::Num(if b.millionths() < a.millionths() {
-            b
-        } else {
-            a
-        })
+        let above = b.millionths() < a.millionths();
+        Value::Num(if above { b } else { a })
     } else {
         Value::Over
     }

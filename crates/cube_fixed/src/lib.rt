@@ -6,12 +6,14 @@
 //!   are total, exact before one rounding, and take no memory. [`compare`] puts values in order.
 //! - [`read`] and [`print`] are a number's text.
 //! - [`Sum`] is a weighted sum that is exact to its end, and [`Steps`] a count that takes no bytes.
+//! - [`laws_of_zero`] and [`law_of_opposites`] are what sparse evaluation stands on.
 //!
 //! Contracts see a `Money` as its count of millionths, a whole number, and cite `specs/`.
 #![tactic(auto)]
 
 pub use arithmetic::{abs, add, compare, floor, max, min, mul, round, sign, sub};
 pub use division::{div, div_safe};
+pub use laws::{law_of_opposites, laws_of_zero};
 pub use money::Money;
 pub use printing::print;
 pub use reading::{NumberFault, read};
@@ -21,6 +23,7 @@ pub use value::Value;
 
 mod arithmetic;
 mod division;
+mod laws;
 mod money;
 mod printing;
 mod reading;

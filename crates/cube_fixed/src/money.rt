@@ -4,6 +4,12 @@ ghost use Rattle.cube_fixed.specs.Range.{IsInRange};
 
 use std::marker::Model;
 
+/// One whole unit, in millionths.
+pub const UNIT: u64 = 1_000_000;
+
+/// The largest count of millionths on either side of 0.
+pub const LIMIT: u64 = 9_000_000_000_000_000_000;
+
 /// A number: a whole count of millionths, from -9,000,000,000,000 units to 9,000,000,000,000 units.
 #[derive(Clone, Copy, Debug, PartialEq, Eq)]
 pub struct Money {
@@ -46,6 +52,3 @@ impl Money {
         self.millionths
     }
 }
-
-/// The largest count of millionths on either side of 0.
-const LIMIT: u64 = 9_000_000_000_000_000_000;

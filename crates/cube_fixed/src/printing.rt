@@ -1,8 +1,9 @@
 ghost use Rattle.std.specs.Prelude.{◌≡◌, ◌++◌, ◌<◌, IfOk, OnOk, OnErr};
 ghost use Rattle.cube_fixed.specs.declared.value.Value.TheVariants.{Num};
+ghost use Rattle.cube_fixed.specs.Range.{unit};
 ghost use Rattle.cube_fixed.specs.Text.{fraction_text, printed};
 
-use crate::money::Money;
+use crate::money::{Money, UNIT};
 use crate::value::Value;
 use std::alloc::{AllocError, Global};
 
@@ -29,16 +30,16 @@ fn text_of(alloc: Global, number: Money) -> Result<Vec<u8>, AllocError>
     let millionths = number.millionths();
     let sign = if millionths < 0 { "-" } else { "" };
     let size = millionths.unsigned_abs();
-    let whole = size / 1_000_000;
+    let whole = size / UNIT;
     let mut text = format!(in alloc; "{sign}{whole}")?.into_bytes();
-    push_fraction(&mut text, size % 1_000_000)?;
+    push_fraction(&mut text, size % UNIT)?;
     Ok(text)
 }
 
 /// Appends the point and the decimals of a count of millionths below one unit, or nothing for 0.
 #[tactic(auto, unfolding(crate::specs::Text::fraction_text))]
 fn push_fraction(text: &mut Vec<u8>, millionths: u64) -> Result<(), AllocError>
-    requires { millionths < 1000000 }
+    requires { millionths < unit }
     ensures { OnOk result (text.new.items ≡ text.old.items ++ fraction_text millionths) }
 {
     if millionths == 0 {

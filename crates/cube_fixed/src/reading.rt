@@ -1,11 +1,13 @@
-ghost use Rattle.std.specs.Prelude.{◌≡◌, pos, ◌+◌, ◌*◌, ◌≤◌, ◌≤ℤ◌, min, position, IsTrue, IfSome};
+ghost use Rattle.std.specs.Prelude.{◌≡◌, ℤ, pos, ◌+◌, ◌*◌, ◌≤◌, ◌≤ℤ◌, min, position, IsTrue, IfSome};
 ghost use Rattle.std.specs.List.{list_all};
 ghost use Rattle.std.specs.Option.{SomeIff};
 ghost use Rattle.std.specs.Char.{is_ascii_digit};
 ghost use Rattle.std.specs.Str.Parse.{digits_value};
-ghost use Rattle.cube_fixed.specs.Text.{is_digits, is_point, is_decimal, capped_value, decimals_value, number_after_sign, number_of, reading_of};
+ghost use Rattle.cube_fixed.specs.declared.value.Value.TheVariants.{Num};
+ghost use Rattle.cube_fixed.specs.Range.{unit, limit, IsInRange};
+ghost use Rattle.cube_fixed.specs.Text.{is_digits, is_point, is_decimal, decimals_value, decimal_value, number_after_sign, number_of, printed, reading_of};
 
-use crate::money::Money;
+use crate::money::{LIMIT, Money, UNIT};
 
 /// Why a text gives no number.
 #[derive(Clone, Copy, Debug, PartialEq, Eq)]
@@ -21,9 +23,12 @@ const TOO_MANY_UNITS: u64 = 9_000_000_000_001;
 
 /// The number that a text says: an optional `-`, one or more digits, and optionally `.` and one or more digits.
 /// Decimals past the sixth are rounded, halves away from zero, before the range is tested.
+///
+/// What [`print`](crate::print) writes for a number reads back as that number.
 #[tactic(auto, unfolding(crate::specs::Text::number_of))]
 pub fn read(text: &[u8]) -> Result<Money, NumberFault>
     ensures value { result ≡ reading_of (number_of text.now) }
+    ensures round_trip { (m : ℤ) → IsInRange m → text.now ≡ printed (Num m) → result ≡ Ok m }
 {
     if text.starts_with(b"-") {
         read_after_sign(true, &text[1..])
@@ -41,24 +46,31 @@ fn read_after_sign(negative: bool, text: &[u8]) -> Result<Money, NumberFault>
     Money::of(if negative { -size } else { size }).ok_or(NumberFault::TooLarge)
 }
 
-/// The millionths that an unsigned text says, where the whole units count up to `TOO_MANY_UNITS`.
+/// The millionths that an unsigned text says, or `LIMIT + 1` where they are more than any number has.
 fn decimal_size(text: &[u8]) -> Option<i64>
-    ensures value { SomeIff result (IsTrue (is_decimal text.now)) (pos (capped_value TOO_MANY_UNITS text.now)) }
-    ensures bound { IfSome result (λ size. size ≤ℤ pos 9000000000002000000) }
+    ensures value { SomeIff result (IsTrue (is_decimal text.now)) (pos (min (decimal_value text.now) (limit + 1))) }
+    ensures bound { IfSome result (λ size. size ≤ℤ pos (limit + 1)) }
 {
     match point_of(text) {
         Some(at) => {
             let whole = &text[..at];
             let decimals = &text[at + 1..];
             if are_digits(whole) && are_digits(decimals) {
-                Some((units_of(whole) * 1_000_000 + millionths_of(decimals)) as i64)
+                Some(capped(units_of(whole) * UNIT + millionths_of(decimals)))
             } else {
                 None
             }
         }
-        None if are_digits(text) => Some((units_of(text) * 1_000_000) as i64),
+        None if are_digits(text) => Some(capped(units_of(text) * UNIT)),
         None => None,
     }
+}
+
+/// This count of millionths, or `LIMIT + 1` where it is more.
+fn capped(millionths: u64) -> i64
+    ensures { result ≡ pos (min millionths (limit + 1)) }
+{
+    millionths.min(LIMIT + 1) as i64
 }
 
 /// Where the point is.
@@ -97,7 +109,7 @@ fn units_of(digits: &[u8]) -> u64
 fn millionths_of(decimals: &[u8]) -> u64
     requires { IsTrue (list_all is_ascii_digit decimals.now) }
     ensures value { result ≡ decimals_value decimals.now }
-    ensures bound { result ≤ 1000000 }
+    ensures bound { result ≤ unit }
 {
     let mut tenths = 0;
     let mut place = 10_000_000;

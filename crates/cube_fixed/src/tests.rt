@@ -1,9 +1,13 @@
+ghost use Rattle.std.specs.Prelude.{◌≡◌, ◌<◌};
+
 use crate::{
-    Sum, Value, abs, add, compare, div, div_safe, floor, max, min, mul, print, read, round, sign,
-    sub,
+    Steps, Sum, Value, abs, add, compare, div, div_safe, floor, max, min, mul, print, read, round,
+    sign, sub,
 };
 use std::cmp::Ordering;
+use std::marker::Brand;
 use std::process::Abort;
+use std::sync::ledger::{Blank, Ledger};
 use std::test::Fail;
 
 fn value(text: &str) -> Result<Value, Fail> {
@@ -92,4 +96,20 @@ fn sums_beyond_the_range_and_back(rt: HostRuntime) -> Result<(), Fail> {
     shows(&rt, sum.value(), "0.5")?;
     sum.add(-1, Value::Over);
     shows(&rt, sum.value(), "#OVER")
+}
+
+fn three_steps<L: Ledger>(blank: Blank)
+    requires name { blank.name ≡ L.name }
+    requires parts { blank.parts ≡ L.parts }
+    requires some { 0 < L.parts }
+{
+    let mut steps = Steps::<L>::begin(blank);
+    steps.tick();
+    steps.tick();
+    steps.tick();
+}
+
+#[test]
+fn counts_steps() {
+    three_steps::<Brand>(Blank::new(1));
 }

@@ -1,5 +1,5 @@
 ghost use Rattle.std.specs.Prelude.{◌≡◌, ◌*◌, ◌^◌, ◌<◌, ◌≤◌, unsigned_abs};
-ghost use Rattle.cube_fixed.specs.Total.{no_terms, term_of, is_over, with_term, value_of};
+ghost use Rattle.cube_fixed.specs.Total.{no_terms, term_of, over_enters, with_term, value_of};
 ghost use Rattle.cube_fixed.specs.Range.{limit};
 
 use crate::rounding::{exact_product, fitted};
@@ -45,7 +45,7 @@ impl Sum {
         requires room { self.old.terms < 2 ^ 32 }
         ensures { self.new ≡ with_term self.old coef v }
     {
-        self.over |= is_over_term(coef, &v);
+        self.over |= lets_over_in(coef, &v);
         self.exact += exact_term(coef, v);
         self.terms += 1;
     }
@@ -74,9 +74,9 @@ fn exact_term(coef: i64, v: Value) -> i128
     }
 }
 
-/// Whether a term makes the sum `Over`.
-fn is_over_term(coef: i64, v: &Value) -> bool
-    ensures { result ≡ is_over coef v.now }
+/// Whether `Over` enters the sum by this term.
+fn lets_over_in(coef: i64, v: &Value) -> bool
+    ensures { result ≡ over_enters coef v.now }
 {
     *v == Value::Over && coef != 0
 }

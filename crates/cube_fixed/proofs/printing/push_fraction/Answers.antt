@@ -1,5 +1,4 @@
 use Rattle.std.proofs.Common.{◌≡◌, ◌∙◌, ap, sym, arith, ℕ, suc, ◌+◌, ◌-◌, ◌/◌, ◌%◌, ◌^◌, ◌<◌, ◌++◌, ◌∷◌, [], get_or}
-use Rattle.cube_fixed.specs.Text.{fraction_text}
 use Rattle.cube_fixed.proofs.Digits.{decimals, decimals-none, decimals-zero, below_place, place_at, fraction_step, fraction_end}
 use Rattle.cube_fixed.proofs.printing.push_fraction.Goals as goal
 

@@ -1,8 +1,8 @@
-use Rattle.std.proofs.Common.{◌≡◌, ◌∙◌, ap, sym, arith, true, false, Bool, pos, Some, to_z}
+use Rattle.std.proofs.Common.{◌≡◌, ◌∙◌, ap, sym, arith, true, false, ◌+◌, min, Some, to_z}
 use Rattle.std.proofs.lemmas.Int.{ints}
 use mir.Syntax.{w64}
-use Rattle.cube_fixed.specs.declared.reading.TheConstants.{TOO_MANY_UNITS}
-use Rattle.cube_fixed.specs.Text.{signed, capped_value, reading_of}
+use Rattle.cube_fixed.specs.Range.{limit}
+use Rattle.cube_fixed.specs.Text.{signed, decimal_value, reading_of}
 use Rattle.cube_fixed.proofs.Points.{capped_reading, reading_of_money, number_after_sign-decimal}
 use Rattle.cube_fixed.proofs.reading.read_after_sign.Goals as goal
 use Rattle.cube_fixed.proofs.reading.read_after_sign.Goals.{then-negative, else-negative}
@@ -10,7 +10,7 @@ use Rattle.cube_fixed.proofs.reading.read_after_sign.Goals.{then-negative, else-
 pub returns : goal.returns
 returns c =
     let text = c.args.text.now in
-    let size = capped_value TOO_MANY_UNITS text in
+    let size = min (decimal_value text) (limit + 1) in
     let size_is = c.in-Some.ensures.value.1 in
     let bound = c.in-Some.ensures.bound in
     let z = to_z w64 c.if-negative.of-bits in
@@ -23,5 +23,5 @@ returns c =
           e ∙ ap (λ b. signed b size) (sym w.if-negative.false)
     ] in
     c.ok_or.ensures.value ∙ reading_of_money z c.of.result c.of.ensures ∙
-    ap (λ x. reading_of (Some x)) z_is ∙ capped_reading c.args.negative text ∙
+    ap (λ x. reading_of (Some x)) z_is ∙ capped_reading c.args.negative (decimal_value text) ∙
     ap reading_of (sym (number_after_sign-decimal c.args.negative text c.in-Some.ensures.value.0))
