@@ -1,0 +1,99 @@
+-- Components by name and by index.
+use Rattle.std.proofs.Common.{◌≡◌, ℕ, zero, suc, ◌<◌, ℤ, List, [], ◌∷◌, length, get_or, refl, ap, sym, ◌∙◌, arith, subst, Bool, true, false, ◌&&◌, nat_le, None, not, position, IsTrue, All, sum_by, unsigned_abs}
+use Rattle.std.specs.List.{AllZip, IsDistinct}
+use Rattle.std.proofs.lemmas.Bool.{leb-true}
+use Rattle.std.proofs.lemmas.List.Elements.{All-cons, All-nil, All-head, All-tail}
+use Rattle.std.proofs.lemmas.List.Quantifiers.{position-Some}
+use Rattle.std.proofs.lemmas.List.Sums.{sum_by-cons}
+use Rattle.std.proofs.lemmas.Slice.Zip.{AllZip-long}
+use Rattle.dim_core.specs.Name.{is_same_name}
+use Rattle.dim_core.specs.Draft.{IsResolved, has_weights, are_known, first_unknown, IsFinished}
+use Rattle.dim_core.specs.Kept.{IsKept}
+use Rattle.dim_core.specs.Outline.{Element, elements_of, component_count, IsWeight, IsDimension}
+use Rattle.dim_core.proofs.Places.{none_passes}
+use Rattle.dim_core.proofs.Elements.{names_of-elements_of, component_lists-elements_of, length-elements_of}
+
+-- the test of a builder over its fields
+pub first_unknown-elements_of : (of : List ℕ) (names : List (List ℕ)) (lists : List (List (List ℕ × ℤ))) → length lists ≡ length names
+    → first_unknown (record { name = of; elements = elements_of names lists }) ≡ position (λ parts. not (are_known names parts)) lists
+first_unknown-elements_of of names lists paired =
+    let shown = names_of-elements_of names lists paired in
+    let parts = component_lists-elements_of names lists paired in
+    rw (shown, parts) refl
+
+not_false : (b : Bool) → not b ≡ false → b ≡ true
+not_false true h = refl
+not_false false h = absurd (cc)
+
+-- a draft of which no component is unknown
+pub all_known : (of : List ℕ) (names : List (List ℕ)) (lists : List (List (List ℕ × ℤ))) → length lists ≡ length names
+    → first_unknown (record { name = of; elements = elements_of names lists }) ≡ None → All (λ parts. IsTrue (are_known names parts)) lists
+all_known of names lists paired none =
+    let unknown : position (λ parts. not (are_known names parts)) lists ≡ None = sym (first_unknown-elements_of of names lists paired) ∙ none in
+    λ e d within. not_false _ (none_passes (λ parts. not (are_known names parts)) lists unknown e d within)
+
+-- the two halves of a test that is a conjunction
+and_true : (a b : Bool) → (a && b) ≡ true → (a ≡ true) × (b ≡ true)
+and_true true b h = (refl, h)
+and_true false b h = absurd (cc)
+
+resolved_parts : (names : List (List ℕ)) (written : List (List ℕ × ℤ)) (resolved : List (ℕ × ℤ)) → IsResolved names written resolved → has_weights written ≡ true
+    → All (λ c. (c.0 < length names) × IsWeight c.1) resolved
+resolved_parts names [] [] r w = All-nil (λ c. (c.0 < length names) × IsWeight c.1)
+resolved_parts names [] (c ∷ cs) r w = elim r [ ]
+resolved_parts names (part ∷ parts) [] r w = elim r [ ]
+resolved_parts names (part ∷ parts) (c ∷ cs) r w =
+    let tests = and_true (nat_le (unsigned_abs part.1) 1000000) (has_weights parts) w in
+    let small = leb-true (unsigned_abs part.1) 1000000 tests.0 in
+    let P : ℤ → Type 0 = IsWeight in
+    All-cons (λ c. (c.0 < length names) × IsWeight c.1) c cs
+    ((position-Some (is_same_name part.0) names c.0 [] r.0.0).0, subst P (sym r.0.1) small)
+    (resolved_parts names parts cs r.1 tests.1)
+
+resolved_parts_at : (names : List (List ℕ)) (lists : List (List (List ℕ × ℤ))) (resolved : List (List (ℕ × ℤ))) → AllZip (IsResolved names) lists resolved
+    → All (λ list. IsTrue (has_weights list)) lists → (e : ℕ) → All (λ c. (c.0 < length names) × IsWeight c.1) (get_or resolved e [])
+resolved_parts_at names [] [] r w e = All-nil (λ c. (c.0 < length names) × IsWeight c.1)
+resolved_parts_at names [] (c ∷ cs) r w e = elim r [ ]
+resolved_parts_at names (l ∷ ls) [] r w e = elim r [ ]
+resolved_parts_at names (l ∷ ls) (c ∷ cs) r w zero = resolved_parts names l c r.0 (All-head (λ list. IsTrue (has_weights list)) l ls w)
+resolved_parts_at names (l ∷ ls) (c ∷ cs) r w (suc e) = resolved_parts_at names ls cs r.1 (All-tail (λ list. IsTrue (has_weights list)) l ls w) e
+
+sum_by-resolved : (names : List (List ℕ)) (lists : List (List (List ℕ × ℤ))) (resolved : List (List (ℕ × ℤ))) → AllZip (IsResolved names) lists resolved
+    → sum_by length resolved ≡ sum_by length lists
+sum_by-resolved names [] [] r = refl
+sum_by-resolved names [] (c ∷ cs) r = elim r [ ]
+sum_by-resolved names (l ∷ ls) [] r = elim r [ ]
+sum_by-resolved names (l ∷ ls) (c ∷ cs) r =
+    omega (arith, sum_by-cons length l ls, sum_by-cons length c cs, sum_by-resolved names ls cs r.1, AllZip-long _ l c r.0)
+
+finished_elements : (names shown : List (List ℕ)) (lists : List (List (List ℕ × ℤ))) (resolved : List (List (ℕ × ℤ))) → AllZip (IsResolved names) lists resolved
+    → AllZip (λ (from : Element (List ℕ)) (to : Element ℕ). (to.name ≡ from.name) × IsResolved names from.components to.components) (elements_of shown lists) (elements_of shown resolved)
+finished_elements names [] lists resolved r = tt
+finished_elements names (s ∷ shown) [] [] r = tt
+finished_elements names (s ∷ shown) [] (c ∷ cs) r = elim r [ ]
+finished_elements names (s ∷ shown) (l ∷ ls) [] r = elim r [ ]
+finished_elements names (s ∷ shown) (l ∷ ls) (c ∷ cs) r = ((refl, r.0), finished_elements names shown ls cs r.1)
+
+-- the fields of a builder, with its components by index, are a dimension
+pub resolved_dimension : (of : List ℕ) (names : List (List ℕ)) (lists : List (List (List ℕ × ℤ))) (count : ℕ) (resolved : List (List (ℕ × ℤ)))
+    → IsKept names lists count → AllZip (IsResolved names) lists resolved → IsDimension (record { name = of; elements = elements_of names resolved })
+resolved_dimension of names lists count resolved kept r =
+    let paired : length resolved ≡ length names = AllZip-long (IsResolved names) lists resolved r ∙ kept.paired in
+    let counted = length-elements_of names resolved paired in
+    let listed = component_lists-elements_of names resolved paired in
+    let total : component_count (elements_of names resolved) ≡ count = ap (sum_by length) listed ∙ sum_by-resolved names lists resolved r ∙ sym kept.counted in
+    let D : List (List ℕ) → Type 0 = IsDistinct is_same_name in
+    record {
+      few = rw counted kept.few;
+      few_components = rw total kept.few_components;
+      distinct = subst D (sym (names_of-elements_of names resolved paired)) kept.distinct;
+      parts = λ e. rw (counted, listed) (resolved_parts_at names lists resolved r kept.weights e);
+    }
+
+-- and the draft that they are seen as is finished so
+pub resolved_finished : (of : List ℕ) (names : List (List ℕ)) (lists : List (List (List ℕ × ℤ))) (resolved : List (List (ℕ × ℤ)))
+    → length lists ≡ length names → AllZip (IsResolved names) lists resolved → IsFinished (record { name = of; elements = elements_of names lists }) (record { name = of; elements = elements_of names resolved })
+resolved_finished of names lists resolved paired r = record {
+  name = refl;
+  elements = rw (names_of-elements_of names lists paired) (finished_elements names names lists resolved r);
+}

@@ -1,0 +1,56 @@
+-- What contracts see of a builder: the definitions that it has taken.
+use Rattle.std.specs.Prelude.{◌≡◌, ℕ, ◌+◌, ◌<◌, Bool, ℤ, List, [], ◌∷◌, ◌++◌, length, take, Some, IsTrue, nat_le, nat_lt, ◌||◌, unsigned_abs, slice_index_or, not, Option, position}
+use Rattle.std.specs.List.{AllZip, list_all}
+use Rattle.dim_core.specs.Name.{has_name, place_of}
+use Rattle.dim_core.specs.Outline.{Element, Outline, names_of, component_lists, component_count}
+
+-- the dimension's name, and its elements in the order of their definitions, whose components are named as they were written
+pub record Draft : Type 0 where
+  pub name : List ℕ
+  pub elements : List (Element (List ℕ))
+
+-- a dimension of which no element is defined yet
+abbrev pub empty_draft : List ℕ → Draft
+empty_draft name = record { name = name; elements = [] }
+
+-- the draft with one more element
+abbrev pub with_element : Draft → List ℕ → List (List ℕ × ℤ) → Draft
+with_element draft name components = record draft { elements = draft.elements ++ record { name = name; components = components } ∷ [] }
+
+-- whether an element of this name is defined
+abbrev pub is_defined : Draft → List ℕ → Bool
+is_defined draft name = has_name (names_of draft.elements) name
+
+-- whether each weight is at most a million in size
+abbrev pub has_weights : List (List ℕ × ℤ) → Bool
+has_weights components = list_all (λ part. nat_le (unsigned_abs part.1) 1000000) components
+
+-- whether one more element with this many components would be one too many, or its components too many
+abbrev pub is_too_many : List (Element (List ℕ)) → ℕ → Bool
+is_too_many elements further = nat_lt 100000 (length elements + 1) || nat_lt 1000000 (component_count elements + further)
+
+-- whether each of these components is among the names
+abbrev pub are_known : List (List ℕ) → List (List ℕ × ℤ) → Bool
+are_known names components = list_all (λ part. has_name names part.0) components
+
+-- the first element with a component that isn't defined
+abbrev pub first_unknown : Draft → Option ℕ
+first_unknown draft = position (λ components. not (are_known (names_of draft.elements) components)) (component_lists draft.elements)
+
+-- each component of each element names an element that was defined before it
+abbrev pub HasEarlierComponents : Draft → Type 0
+HasEarlierComponents draft =
+    (e : ℕ) → e < length draft.elements → IsTrue (are_known (take e (names_of draft.elements)) (slice_index_or (component_lists draft.elements) e []))
+
+-- this is the same component by index among these names, of the same weight
+abbrev pub IsResolvedPart : List (List ℕ) → List ℕ × ℤ → ℕ × ℤ → Type 0
+IsResolvedPart names written resolved = (place_of names written.0 ≡ Some resolved.0) × (resolved.1 ≡ written.1)
+
+-- these are the same components by index, in the same order
+abbrev pub IsResolved : List (List ℕ) → List (List ℕ × ℤ) → List (ℕ × ℤ) → Type 0
+IsResolved names written resolved = AllZip (IsResolvedPart names) written resolved
+
+-- the dimension is the draft, with each component named by index
+pub record IsFinished (draft : Draft) (d : Outline) : Type 0 where
+  pub name : d.name ≡ draft.name
+  pub elements : AllZip (λ (from : Element (List ℕ)) (to : Element ℕ). (to.name ≡ from.name) × IsResolved (names_of draft.elements) from.components to.components) draft.elements d.elements

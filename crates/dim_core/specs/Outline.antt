@@ -1,0 +1,56 @@
+-- What contracts see of a dimension.
+use Rattle.std.specs.Prelude.{ℕ, ◌<◌, ◌≤◌, ℤ, List, [], ◌∷◌, map, length, All, sum_by, unsigned_abs, slice_index_or, Option}
+use Rattle.std.specs.List.{IsDistinct}
+use Rattle.dim_core.specs.Name.{is_same_name, place_of}
+
+-- an element: its name as it was written, and its components, each with its weight
+pub record Element (Component : Type 0) : Type 0 where
+  pub name : List ℕ
+  pub components : List (Component × ℤ)
+
+-- a finished dimension: its name and its elements by index, whose components are named by index
+pub record Outline : Type 0 where
+  pub name : List ℕ
+  pub elements : List (Element ℕ)
+
+-- the elements with these names and these components, place by place
+abbrev pub elements_of : {C : Type 0} → List (List ℕ) → List (List (C × ℤ)) → List (Element C)
+elements_of [] lists = []
+elements_of (name ∷ names) [] = []
+elements_of (name ∷ names) (components ∷ lists) = record { name = name; components = components } ∷ elements_of names lists
+
+-- the names of the elements
+abbrev pub names_of : {C : Type 0} → List (Element C) → List (List ℕ)
+names_of elements = map (λ e. e.name) elements
+
+-- the lists of components of the elements
+abbrev pub component_lists : {C : Type 0} → List (Element C) → List (List (C × ℤ))
+component_lists elements = map (λ e. e.components) elements
+
+-- how many components the elements have together, each naming counted
+abbrev pub component_count : {C : Type 0} → List (Element C) → ℕ
+component_count elements = sum_by length (component_lists elements)
+
+-- the name of an element
+abbrev pub name_of : Outline → ℕ → List ℕ
+name_of d element = slice_index_or (names_of d.elements) element []
+
+-- the components of an element; a leaf has none
+abbrev pub components_of : Outline → ℕ → List (ℕ × ℤ)
+components_of d element = slice_index_or (component_lists d.elements) element []
+
+-- the index of the element that has this name
+abbrev pub index_of : Outline → List ℕ → Option ℕ
+index_of d name = place_of (names_of d.elements) name
+
+-- a weight is at most a million in size
+abbrev pub IsWeight : ℤ → Type 0
+IsWeight weight = unsigned_abs weight ≤ 1000000
+
+-- what holds of every dimension: it is within the limits, no two elements have the same name, and each component is an
+-- element of it, with a weight in range
+pub record IsDimension (d : Outline) : Type 0 where
+  pub few : length d.elements ≤ 100000
+  pub few_components : component_count d.elements ≤ 1000000
+  pub distinct : IsDistinct is_same_name (names_of d.elements)
+  pub parts : (e : ℕ) → All (λ c. (c.0 < length d.elements) × IsWeight c.1) (components_of d e)

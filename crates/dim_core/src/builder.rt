@@ -1,0 +1,160 @@
+ghost use Rattle.std.specs.Prelude.{◌≡◌, ◌↔◌, [], None, IfOk, IfSome, IfNone, OnOk, OnErr, IsOkUnless, IsTrue};
+ghost use Rattle.dim_core.specs.Draft.{empty_draft, with_element, is_defined, has_weights, is_too_many, first_unknown, HasEarlierComponents, IsFinished};
+ghost use Rattle.dim_core.specs.Refusal.{refusal_of};
+
+use crate::components::NamedComponents;
+use crate::resolve::{first_unknown, resolve_all};
+use crate::{DimFault, Dimension, Name};
+use indexmap::IndexSet;
+use std::alloc::{AllocError, Global};
+use std::marker::Model;
+
+/// The most elements of a dimension.
+pub const MAX_ELEMENTS: usize = 100_000;
+
+/// The most components of a dimension, each naming counted.
+pub const MAX_COMPONENTS: usize = 1_000_000;
+
+/// The greatest size of a component's weight.
+pub const MAX_WEIGHT: u64 = 1_000_000;
+
+/// A dimension that is being defined, element by element. A refused call leaves it as it was.
+#[derive(Drop)]
+pub struct Builder {
+    alloc: Global,
+    name: Name,
+    names: IndexSet<Name>,
+    components: Vec<NamedComponents>,
+    component_count: usize,
+}
+
+impl Model for Builder {
+    ghost use Rattle.dim_core.specs.Draft.{Draft};
+    ghost use Rattle.dim_core.specs.Outline.{elements_of};
+    ghost use Rattle.dim_core.specs.Kept.{IsKept};
+
+    ghost Value = { Draft };
+
+    ghost view = { λ b. record { name = b.name; elements = elements_of b.names.keys b.components.items } };
+
+    ghost invariant = { λ b. IsKept b.names.keys b.components.items b.component_count };
+}
+
+impl Builder {
+    /// A dimension of this name, with no elements.
+    pub fn new(alloc: Global, name: Name) -> Result<Builder, AllocError>
+        ensures { IfOk result (λ builder. builder ≡ empty_draft name) }
+    {
+        Ok(Builder {
+            alloc,
+            name,
+            names: IndexSet::new(alloc),
+            components: Vec::new(alloc),
+            component_count: 0,
+        })
+    }
+
+    /// Defines an element without components.
+    pub fn leaf(&mut self, name: Name) -> Result<(), DimFault>
+        ensures refused { IfSome (refusal_of self.old name []) (λ fault. result ≡ Err fault) }
+        ensures accepted { IfNone (refusal_of self.old name []) (IsOkUnless result DimFault.Memory) }
+        ensures defined { OnOk result (self.new ≡ with_element self.old name []) }
+        ensures unchanged { OnErr result (self.new ≡ self.old) }
+    {
+        let components = Vec::new(self.alloc);
+        self.consolidated(name, components)
+    }
+
+    /// Defines an element that consolidates these, each with its weight. Without components it is a leaf.
+    pub fn consolidated(&mut self, name: Name, components: Vec<(Name, i64)>) -> Result<(), DimFault>
+        ensures refused { IfSome (refusal_of self.old name components.items) (λ fault. result ≡ Err fault) }
+        ensures accepted { IfNone (refusal_of self.old name components.items) (IsOkUnless result DimFault.Memory) }
+        ensures defined { OnOk result (self.new ≡ with_element self.old name components.items) }
+        ensures unchanged { OnErr result (self.new ≡ self.old) }
+    {
+        if let Some(fault) = self.refusal(&name, &components) {
+            return Err(fault);
+        }
+        let count = self.component_count + components.len();
+        self.components.reserve(1)?;
+        self.names.insert(name)?;
+        self.components
+            .push_reserved(NamedComponents::new(components));
+        self.component_count = count;
+        Ok(())
+    }
+
+    // The first cause to refuse this element.
+    fn refusal(&self, name: &Name, components: &[(Name, i64)]) -> Option<DimFault>
+        ensures { result ≡ refusal_of self.now name.now components.now }
+    {
+        if self.is_defined(name) {
+            return Some(DimFault::Duplicate);
+        }
+        if !has_weights(components) {
+            return Some(DimFault::WeightRange);
+        }
+        if self.is_too_many(components.len()) {
+            return Some(DimFault::TooMany);
+        }
+        None
+    }
+
+    fn is_defined(&self, name: &Name) -> bool
+        ensures { result ≡ is_defined self.now name.now }
+    {
+        self.names.contains(name)
+    }
+
+    fn is_too_many(&self, further: usize) -> bool
+        ensures { result ≡ is_too_many self.now.elements further }
+    {
+        self.names.len() == MAX_ELEMENTS || MAX_COMPONENTS - self.component_count < further
+    }
+
+    /// The dimension of the elements defined so far. Components may be defined after what they are components of.
+    pub fn finish(self) -> Result<Dimension, DimFault>
+        ensures finished { IfOk result (λ dimension. IsFinished self dimension) }
+        ensures unknown { IfSome (first_unknown self) (λ e. result ≡ Err (DimFault.UnknownComponent e)) }
+        ensures known { IfNone (first_unknown self) (IsOkUnless result DimFault.Memory) }
+        ensures earlier { HasEarlierComponents self → IsOkUnless result DimFault.Memory }
+    {
+        if let Some(element) = self.first_unknown() {
+            return Err(DimFault::UnknownComponent(element));
+        }
+        Ok(self.resolved()?)
+    }
+
+    // The first element with a component that isn't defined.
+    fn first_unknown(&self) -> Option<u32>
+        ensures { result ≡ first_unknown self.now }
+    {
+        match first_unknown(&self.names, &self.components) {
+            Some(element) => Some(element as u32),
+            None => None,
+        }
+    }
+
+    fn resolved(self) -> Result<Dimension, AllocError>
+        requires { first_unknown self ≡ None }
+        ensures { IfOk result (λ dimension. IsFinished self dimension) }
+    {
+        let Builder {
+            alloc,
+            name,
+            names,
+            components,
+            component_count: _,
+        } = self;
+        let resolved = resolve_all(alloc, &names, &components)?;
+        Ok(Dimension::new(name, names, resolved))
+    }
+}
+
+fn has_weights(components: &[(Name, i64)]) -> bool
+    ensures { result ≡ has_weights components.now }
+{
+    components
+        .iter()
+        .all(|part| part.1.unsigned_abs() <= MAX_WEIGHT)
+}

@@ -1,0 +1,89 @@
+ghost use Rattle.std.specs.Prelude.{◌≡◌, ◌↔◌, ◌<◌, ◌≤◌, [], length, IsTrue};
+ghost use Rattle.dim_core.specs.Outline.{name_of, components_of, index_of, elements_of, IsDimension};
+
+use crate::Name;
+use crate::components::Components;
+use indexmap::IndexSet;
+use std::marker::Model;
+
+/// A finished dimension. Its elements are named by their index, from 0 in the order of definition.
+#[derive(Drop)]
+pub struct Dimension {
+    name: Name,
+    names: IndexSet<Name>,
+    components: Vec<Components>,
+}
+
+impl Model for Dimension {
+    ghost use Rattle.std.specs.Prelude.{◌≡◌, length};
+    ghost use Rattle.dim_core.specs.Outline.{Outline, elements_of, IsDimension};
+
+    ghost Value = { Outline };
+
+    ghost view = { λ d. record { name = d.name; elements = elements_of d.names.keys d.components.items } };
+
+    ghost invariant = { λ d. (length d.components.items ≡ length d.names.keys) × IsDimension (record { name = d.name; elements = elements_of d.names.keys d.components.items }) };
+}
+
+impl Dimension {
+    pub(crate) fn new(name: Name, names: IndexSet<Name>, components: Vec<Components>) -> Dimension
+        requires paired { length components.items ≡ length names.keys }
+        requires valid { IsDimension (record { name = name; elements = elements_of names.keys components.items }) }
+        ensures { result ≡ record { name = name; elements = elements_of names.keys components.items } }
+    {
+        Dimension {
+            name,
+            names,
+            components,
+        }
+    }
+
+    /// How many elements there are.
+    pub fn len(&self) -> u32
+        ensures len { result ≡ length self.now.elements }
+        ensures valid { IsDimension self.now }
+    {
+        self.names.len() as u32
+    }
+
+    /// The dimension's own name.
+    pub fn name(&self) -> &Name
+        ensures { result.now ≡ self.now.name }
+    {
+        &self.name
+    }
+
+    /// The element of this name, or None where no element has it.
+    pub fn index_of(&self, name: &Name) -> Option<u32>
+        ensures { result ≡ index_of self.now name.now }
+    {
+        match self.names.get_index_of(name) {
+            Some(index) => Some(index as u32),
+            None => None,
+        }
+    }
+
+    /// The name of an element, as it was defined.
+    pub fn name_of(&self, element: u32) -> &Name
+        requires { element < length self.now.elements }
+        ensures { result.now ≡ name_of self.now element }
+    {
+        self.names.get_index(element as usize).unwrap()
+    }
+
+    /// Whether an element is a leaf, which is one without components.
+    pub fn is_leaf(&self, element: u32) -> bool
+        requires { element < length self.now.elements }
+        ensures { IsTrue result ↔ (components_of self.now element ≡ []) }
+    {
+        self.components(element).is_empty()
+    }
+
+    /// The components of an element by index, in the order of its definition, each with its weight. A leaf has none.
+    pub fn components(&self, element: u32) -> &[(u32, i64)]
+        requires { element < length self.now.elements }
+        ensures { result.now ≡ components_of self.now element }
+    {
+        self.components[element as usize].as_slice()
+    }
+}

@@ -1,0 +1,21 @@
+//! Names and dimensions, as a planner writes them.
+//!
+//! Read in this order: [`Name`], the texts by which dimensions, elements and cubes are called; [`Builder`], which takes
+//! the definitions of a dimension one by one and refuses a bad one; [`Dimension`], the finished list of elements with
+//! its look-ups; [`DimFault`], why a definition was refused.
+#![tactic(auto)]
+
+mod builder;
+mod components;
+mod dimension;
+mod fault;
+mod name;
+mod resolve;
+
+pub use builder::{Builder, MAX_COMPONENTS, MAX_ELEMENTS, MAX_WEIGHT};
+pub use dimension::Dimension;
+pub use fault::DimFault;
+pub use name::{Name, NameFault};
+
+#[cfg(test)]
+mod tests;
