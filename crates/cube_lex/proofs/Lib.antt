@@ -1,0 +1,8 @@
+mod Runs
+mod Numbers
+mod Fronts
+mod Quotes
+mod Insides
+mod SignTable
+mod Sorts
+mod Readings

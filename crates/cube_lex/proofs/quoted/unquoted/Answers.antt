@@ -1,0 +1,9 @@
+use Rattle.std.proofs.Common.{◌≡◌, ◌++◌, [], ap, sym, ◌∙◌, rules, append-nil, arith, List, ℕ, length}
+use Rattle.cube_lex.specs.Quoted.{quoted, unquoted, undoubled}
+use Rattle.cube_lex.proofs.Quotes.{unquoted-quoted}
+use Rattle.cube_lex.proofs.quoted.unquoted.Goals as goal
+
+pub returns-clause-same : goal.returns-clause-same
+returns-clause-same c =
+    let read : c.bytes.bytes.items ≡ unquoted c.args.piece.now = search rules in
+    ap quoted read ∙ ap (λ piece. quoted (unquoted piece)) c.requires.2 ∙ ap quoted (unquoted-quoted c.requires.0) ∙ sym c.requires.2

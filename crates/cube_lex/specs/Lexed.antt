@@ -1,0 +1,18 @@
+-- What a text is read as.
+use Rattle.std.specs.Prelude.{◌≡◌, ℕ, List, map, All}
+use Rattle.cube_lex.specs.Lexeme.{Lexeme, lexeme_of}
+use Rattle.cube_lex.specs.Parts.{IsQuoted}
+use Rattle.cube_lex.specs.declared.token.Kind.TheVariants.{Text}
+use Rattle.cube_lex.specs.declared.token.Token.{Token}
+
+-- the tokens of a text up to its first fault, and the line of that fault or of the text's end
+pub record Lexed : Type 0 where
+  pub lexemes : List Lexeme
+  pub end_line : ℕ
+
+abbrev pub lexed_of : List Token → ℕ → Lexed
+lexed_of tokens end_line = record { lexemes = map lexeme_of tokens; end_line = end_line }
+
+-- each token that is a quoted text is one
+abbrev pub TextsAreQuoted : List Token → Type 0
+TextsAreQuoted tokens = All (λ token. token.kind ≡ Text → IsQuoted token.piece.now) tokens

@@ -1,0 +1,9 @@
+pub mod Bytes
+pub mod Fault
+pub mod Front
+pub mod Lexeme
+pub mod Lexed
+pub mod Parts
+pub mod Quoted
+pub mod Reading
+pub mod Written

@@ -1,0 +1,110 @@
+ghost use Rattle.std.specs.Prelude.{◌≡◌, ◌<◌, ◌↔◌, map, length, IfOk, IsTrue, IsSomeAnd, option_map, slice_get};
+ghost use Rattle.cube_lex.specs.Quoted.{quoted, unquoted};
+ghost use Rattle.cube_lex.specs.declared.token.Kind.TheVariants.{Text};
+
+use crate::quoted::unquoted;
+use crate::token::{Kind, Token};
+use std::alloc::{AllocError, Global};
+use std::marker::Model;
+
+/// The tokens of a text up to its first fault, in order. They borrow the text.
+#[derive(Debug, Drop)]
+pub struct Tokens<'a> {
+    tokens: Vec<Token<'a>>,
+    end_line: u32,
+}
+
+impl<'a> Model for Tokens<'a> {
+    ghost use Rattle.cube_lex.specs.Lexed.{Lexed, lexed_of, TextsAreQuoted};
+
+    ghost Value = { Lexed };
+
+    ghost view = { λ t. lexed_of t.tokens.items t.end_line };
+
+    ghost invariant = { λ t. TextsAreQuoted t.tokens.items };
+}
+
+impl<'a> Tokens<'a> {
+    ghost use Rattle.cube_lex.specs.Lexeme.{lexeme_of};
+    ghost use Rattle.cube_lex.specs.Lexed.{lexed_of, TextsAreQuoted};
+
+    pub(crate) fn new(tokens: Vec<Token<'a>>, end_line: u32) -> Self
+        requires { TextsAreQuoted tokens.items }
+        ensures { result ≡ lexed_of tokens.entry.items end_line }
+    {
+        Tokens { tokens, end_line }
+    }
+
+    /// How many tokens there are.
+    pub fn len(&self) -> usize
+        ensures { result ≡ length self.now.lexemes }
+    {
+        self.tokens.len()
+    }
+
+    pub fn is_empty(&self) -> bool
+        ensures { IsTrue result ↔ (length self.now.lexemes ≡ 0) }
+    {
+        self.tokens.is_empty()
+    }
+
+    /// The tokens themselves.
+    pub fn as_slice(&self) -> &[Token<'a>]
+        ensures { map lexeme_of result.now ≡ self.now.lexemes }
+    {
+        self.tokens.as_slice()
+    }
+
+    pub fn get(&self, i: usize) -> Option<Token<'a>>
+        ensures { option_map lexeme_of result ≡ slice_get self.now.lexemes i }
+    {
+        self.tokens.get(i).copied()
+    }
+
+    pub fn kind(&self, i: usize) -> Kind
+        requires { i < length self.now.lexemes }
+        ensures { IsSomeAnd (slice_get self.now.lexemes i) (λ token. result ≡ token.kind) }
+    {
+        self.tokens[i].kind
+    }
+
+    /// The bytes of the token in the text, as they are written.
+    pub fn piece(&self, i: usize) -> &'a [u8]
+        requires { i < length self.now.lexemes }
+        ensures { IsSomeAnd (slice_get self.now.lexemes i) (λ token. result.now ≡ token.piece) }
+    {
+        self.tokens[i].piece
+    }
+
+    /// The offset of the token's first byte in the text.
+    pub fn start(&self, i: usize) -> usize
+        requires { i < length self.now.lexemes }
+        ensures { IsSomeAnd (slice_get self.now.lexemes i) (λ token. result ≡ token.start) }
+    {
+        self.tokens[i].start
+    }
+
+    /// The line of the token's first byte, from 1.
+    pub fn line(&self, i: usize) -> u32
+        requires { i < length self.now.lexemes }
+        ensures { IsSomeAnd (slice_get self.now.lexemes i) (λ token. result ≡ token.line) }
+    {
+        self.tokens[i].line
+    }
+
+    /// The line of the first fault, or of the text's end where there is none.
+    pub fn end_line(&self) -> u32
+        ensures { result ≡ self.now.end_line }
+    {
+        self.end_line
+    }
+
+    /// The bytes that a quoted text stands for: without the outer quotes, each doubled quote being one.
+    pub fn text(&self, alloc: Global, i: usize) -> Result<Vec<u8>, AllocError>
+        requires { IsSomeAnd (slice_get self.now.lexemes i) (λ token. token.kind ≡ Text) }
+        ensures value { IfOk result (λ bytes. IsSomeAnd (slice_get self.now.lexemes i) (λ token. bytes.items ≡ unquoted token.piece)) }
+        ensures written { IfOk result (λ bytes. IsSomeAnd (slice_get self.now.lexemes i) (λ token. token.piece ≡ quoted bytes.items)) }
+    {
+        unquoted(alloc, self.tokens[i].piece)
+    }
+}

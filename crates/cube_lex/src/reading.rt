@@ -1,0 +1,83 @@
+ghost use Rattle.std.specs.Prelude.{◌≡◌, ◌≢◌, ℕ, ◌<◌, ◌≤◌, ◌^◌, length, IfOk, IfErr, Ok, Err, Some, None, Option, count_by, MatchResult};
+ghost use Rattle.cube_lex.specs.Bytes.{is_line_end};
+ghost use Rattle.cube_lex.specs.Lexed.{Lexed};
+ghost use Rattle.cube_lex.specs.Reading.{IsReading, mark_len};
+ghost use Rattle.cube_lex.specs.declared.fault.LexFault.{LexFault};
+ghost use Rattle.cube_lex.specs.declared.fault.LexFault.TheVariants.{Memory};
+
+use crate::fault::LexFault;
+use crate::front::front_of;
+use crate::lexed::Tokens;
+use crate::token::Token;
+use std::alloc::{AllocError, Global};
+
+/// How many bytes a text may have.
+const TEXT_LIMIT: usize = 1 << 30;
+
+const MARK: [u8; 3] = [0xEF, 0xBB, 0xBF];
+
+fn mark_len(text: &[u8]) -> usize
+    ensures { result ≡ mark_len text.now }
+{
+    if text.starts_with(&MARK) { 3 } else { 0 }
+}
+
+fn line_ends(bytes: &[u8]) -> usize
+    ensures { result ≡ count_by is_line_end bytes.now }
+{
+    bytes.iter().filter(|byte| **byte == b'\n').count()
+}
+
+fn read(alloc: Global, text: &[u8]) -> Result<(Tokens<'_>, Option<LexFault>), AllocError>
+    requires { length text.now ≤ 2 ^ 30 }
+    ensures { IfOk result (λ read. IsReading text.now read.0 read.1) }
+{
+    let mut tokens = Vec::new(alloc);
+    let mut at = mark_len(text);
+    let mut line: u32 = 1;
+    let (_, mut rest) = text.split_at(at);
+    'parts: while !rest.is_empty() {
+        let front = match front_of(rest, at) {
+            Ok(front) => front,
+            Err(fault) => return Ok((Tokens::new(tokens, line), Some(fault))),
+        };
+        if let Some(kind) = front.kind {
+            tokens.push(Token {
+                kind,
+                piece: front.bytes,
+                start: at,
+                line,
+            })?;
+        }
+        line += line_ends(front.bytes) as u32;
+        at += front.bytes.len();
+        rest = front.after;
+    }
+    Ok((Tokens::new(tokens, line), None))
+}
+
+/// The tokens of a text up to its first fault, and that fault, which is never `Memory`.
+pub fn tokens_until(
+    alloc: Global,
+    text: &[u8],
+) -> Result<(Tokens<'_>, Option<LexFault>), AllocError>
+    ensures { IfOk result (λ read. IsReading text.now read.0 read.1) }
+{
+    if text.len() > TEXT_LIMIT {
+        let (within, _) = text.split_at(TEXT_LIMIT);
+        let end_line = 1 + line_ends(within) as u32;
+        let fault = LexFault::TooLong(TEXT_LIMIT);
+        return Ok((Tokens::new(Vec::new(alloc), end_line), Some(fault)));
+    }
+    read(alloc, text)
+}
+
+/// The tokens of a text without fault.
+pub fn tokens(alloc: Global, text: &[u8]) -> Result<Tokens<'_>, LexFault>
+    ensures { MatchResult result (λ lexed. IsReading text.now lexed None) (λ fault. fault ≢ Memory → (lexed : Lexed) × IsReading text.now lexed (Some fault)) }
+{
+    match tokens_until(alloc, text)? {
+        (tokens, None) => Ok(tokens),
+        (_, Some(fault)) => Err(fault),
+    }
+}

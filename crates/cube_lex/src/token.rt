@@ -1,0 +1,24 @@
+/// The kind of a token.
+#[derive(Clone, Copy, Debug, PartialEq, Eq)]
+pub enum Kind {
+    /// A letter or `_`, then letters, digits and `_`. The case of letters doesn't count.
+    Word,
+    /// Digits, optionally a point and digits.
+    Number,
+    /// Bytes between single quotes, each quote among them doubled.
+    Text,
+    /// One of the signs, as `=>` or `;`.
+    Sign,
+}
+
+/// A token of a text, which it borrows.
+#[derive(Clone, Copy, Debug)]
+pub struct Token<'a> {
+    pub kind: Kind,
+    /// Its bytes as they are written.
+    pub piece: &'a [u8],
+    /// The offset of its first byte. A byte order mark counts.
+    pub start: usize,
+    /// The line of its first byte, from 1. Only LF ends a line.
+    pub line: u32,
+}
