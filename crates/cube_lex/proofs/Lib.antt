@@ -1,8 +1,10 @@
 mod Runs
 mod Numbers
 mod Fronts
-mod Quotes
+pub mod Quotes
 mod Insides
 mod SignTable
 mod Sorts
 mod Readings
+pub mod Unique
+pub mod WrittenTexts

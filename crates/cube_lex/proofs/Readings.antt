@@ -21,7 +21,7 @@ use Rattle.cube_lex.specs.declared.fault.LexFault.TheVariants.{BadByte, OpenQuot
 use Rattle.cube_lex.specs.declared.token.Kind.{Kind}
 use Rattle.cube_lex.specs.declared.token.Kind.TheVariants.{Word, Number, Text, Sign}
 use Rattle.cube_lex.specs.declared.token.Token.{Token}
-use Rattle.cube_lex.proofs.Runs.{both, false-of}
+use Rattle.cube_lex.proofs.Runs.{both, false-of, weaker}
 
 -- So far the text has these tokens; the rest begins at this offset and on this line.
 pub record Going (text : List ℕ) (tokens : List Token) (at line : ℕ) (rest : List ℕ) : Type 0 where
@@ -149,12 +149,6 @@ count-none p [] all = refl
 count-none p (x ∷ xs) all =
     let here : p x ≡ false = false-of (p x) (λ yes. cc (yes, (both (not (p x)) (list_all (λ y. not (p y)) xs) all).0)) in
     sum_by-cons (λ y. cond (p y) 1 0) x xs ∙ rw here (rw (count-none p xs (both (not (p x)) (list_all (λ y. not (p y)) xs) all).1) refl)
-
-weaker : (p q : ℕ → Bool) → ((b : ℕ) → p b ≡ true → q b ≡ true) → (xs : List ℕ) → list_all p xs ≡ true → list_all q xs ≡ true
-weaker p q implies [] all = refl
-weaker p q implies (x ∷ xs) all =
-    let here : q x ≡ true = implies x (both (p x) (list_all p xs) all).0 in
-    rw here (weaker p q implies xs (both (p x) (list_all p xs) all).1)
 
 doubled-passes : (p : ℕ → Bool) (xs : List ℕ) → list_all p xs ≡ true → list_all p (doubled xs) ≡ true
 doubled-passes p [] all = refl

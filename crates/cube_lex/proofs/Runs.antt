@@ -65,3 +65,10 @@ list_all-append p [] ys here there = there
 list_all-append p (x ∷ xs) ys here there =
     let first : p x ≡ true = (both (p x) (list_all p xs) here).0 in
     rw first (list_all-append p xs ys (both (p x) (list_all p xs) here).1 there)
+
+-- what passes one test passes a weaker one
+pub weaker : (p q : ℕ → Bool) → ((b : ℕ) → p b ≡ true → q b ≡ true) → (xs : List ℕ) → list_all p xs ≡ true → list_all q xs ≡ true
+weaker p q implies [] all = refl
+weaker p q implies (x ∷ xs) all =
+    let here : q x ≡ true = implies x (both (p x) (list_all p xs) all).0 in
+    rw here (weaker p q implies xs (both (p x) (list_all p xs) all).1)

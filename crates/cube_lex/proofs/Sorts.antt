@@ -64,7 +64,7 @@ white-values b e = elim (either _ _ e) [
   | inr x ↦ inr (inr (inr (eqb-true _ _ x)))
 ]
 
-at-white : (P : ℕ → Type 0) → P 32 → P 9 → P 13 → P 10 → (b : ℕ) → is_white b ≡ true → P b
+pub at-white : (P : ℕ → Type 0) → P 32 → P 9 → P 13 → P 10 → (b : ℕ) → is_white b ≡ true → P b
 at-white P at32 at9 at13 at10 b e = elim (white-values b e) [
   | inl x ↦ subst P (sym x) at32
   | inr h ↦ elim h [ inl x ↦ subst P (sym x) at9 | inr k ↦ elim k [ inl x ↦ subst P (sym x) at13 | inr x ↦ subst P (sym x) at10 ] ]

@@ -1,7 +1,7 @@
 -- The parts of a text: tokens, white space and comments, each as long as can be.
-use Rattle.std.specs.Prelude.{◌≡◌, ◌≢◌, ℕ, ◌≤◌, ◌⊎◌, not, IsTrue, List, [], ◌∷◌, ◌++◌, length, codes, Contains, Option, Some, None}
+use Rattle.std.specs.Prelude.{◌≡◌, ◌≢◌, ℕ, ◌≤◌, ◌⊎◌, not, IsTrue, List, [], ◌∷◌, ◌++◌, length, codes, bytes_eq, Bool, Contains, Option, Some, None}
 use Rattle.std.specs.Char.{is_ascii_digit}
-use Rattle.std.specs.List.{list_all}
+use Rattle.std.specs.List.{list_all, list_any}
 use Rattle.cube_lex.specs.Bytes.{Begins, is_white, is_line_end, is_quote, is_plain, starts_word, is_word_byte}
 use Rattle.cube_lex.specs.Quoted.{quoted}
 use Rattle.cube_lex.specs.declared.token.Kind.{Kind}
@@ -30,6 +30,10 @@ signs = codes "@<>" ∷ codes "=>" ∷ codes "<>" ∷ codes "<=" ∷ codes ">=" 
     ∷ codes "[" ∷ codes "]" ∷ codes "{" ∷ codes "}" ∷ codes "(" ∷ codes ")" ∷ codes "," ∷ codes ";" ∷ codes ":"
     ∷ codes "=" ∷ codes "<" ∷ codes ">" ∷ codes "+" ∷ codes "-" ∷ codes "*" ∷ codes "/" ∷ codes "\\"
     ∷ codes "&" ∷ codes "%" ∷ codes "~" ∷ codes "!" ∷ codes "|" ∷ []
+
+-- whether the bytes are a sign, by the table
+abbrev pub is_sign : List ℕ → Bool
+is_sign bytes = list_any (bytes_eq bytes) signs
 
 abbrev pub IsToken : Kind → List ℕ → Type 0
 IsToken Word = IsWord

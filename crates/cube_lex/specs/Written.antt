@@ -21,3 +21,7 @@ IsWritten (token ∷ tokens) bytes = (before after : List ℕ) × (white : ℕ)
     × (bytes ≡ before ++ (token.piece ++ white ∷ after)) × IsTrue (list_all is_white before) × IsTrue (is_white white)
     × IsToken token.kind token.piece × (length token.piece ≤ token_limit)
     × IsWritten tokens after
+
+-- new is old with these tokens written at its end
+abbrev pub Adds : List ℕ → List ℕ → List Spelling → Type 0
+Adds old new tokens = (bytes : List ℕ) × (new ≡ old ++ bytes) × IsWritten tokens bytes

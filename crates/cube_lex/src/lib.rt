@@ -8,11 +8,16 @@ mod quoted;
 mod reading;
 mod signs;
 mod token;
+mod writing;
 
 pub use fault::LexFault;
 pub use lexed::Tokens;
+pub use quoted::unquoted;
 pub use reading::{tokens, tokens_until};
 pub use token::{Kind, Token};
+pub use writing::{
+    what_is_written_is_read, write_line_end, write_number, write_quoted, write_sign, write_word,
+};
 
 #[cfg(test)]
 mod tests;

@@ -47,14 +47,17 @@ pub fn quote_end(bytes: &[u8]) -> QuoteEnd
     QuoteEnd::Open
 }
 
-/// The bytes that a quoted text stands for.
+/// The bytes that a quoted text stands for: without the outer quotes, each doubled quote being one.
+/// Of a piece that is no quoted text it takes off the first and the last byte all the same.
 pub fn unquoted(alloc: Global, piece: &[u8]) -> Result<Vec<u8>, AllocError>
-    requires { IsQuoted piece.now }
     ensures value { IfOk result (λ bytes. bytes.items ≡ unquoted piece.now) }
-    ensures same { IfOk result (λ bytes. quoted bytes.items ≡ piece.now) }
+    ensures same { IsQuoted piece.now → IfOk result (λ bytes. quoted bytes.items ≡ piece.now) }
 {
-    let mut rest = &piece[1..piece.len() - 1];
     let mut bytes = Vec::new(alloc);
+    if piece.len() < 2 {
+        return Ok(bytes);
+    }
+    let mut rest = &piece[1..piece.len() - 1];
     'bytes: while let [byte, after @ ..] = rest {
         bytes.push(*byte)?;
         rest = match after {

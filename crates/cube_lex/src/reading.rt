@@ -1,4 +1,4 @@
-ghost use Rattle.std.specs.Prelude.{◌≡◌, ◌≢◌, ℕ, ◌<◌, ◌≤◌, ◌^◌, length, IfOk, IfErr, Ok, Err, Some, None, Option, count_by, MatchResult};
+ghost use Rattle.std.specs.Prelude.{◌≡◌, ◌≢◌, ◌⊎◌, ℕ, ◌<◌, ◌≤◌, ◌^◌, length, IfOk, IfErr, Ok, Err, Some, None, Option, count_by, MatchResult};
 ghost use Rattle.cube_lex.specs.Bytes.{is_line_end};
 ghost use Rattle.cube_lex.specs.Lexed.{Lexed};
 ghost use Rattle.cube_lex.specs.Reading.{IsReading, mark_len};
@@ -56,12 +56,15 @@ fn read(alloc: Global, text: &[u8]) -> Result<(Tokens<'_>, Option<LexFault>), Al
     Ok((Tokens::new(tokens, line), None))
 }
 
-/// The tokens of a text up to its first fault, and that fault, which is never `Memory`.
+/// The tokens of a text up to its first fault, and that fault, which is never `Memory`; `None` where the text has none.
+/// Of a text of more than 2^30 bytes nothing is read.
 pub fn tokens_until(
     alloc: Global,
     text: &[u8],
 ) -> Result<(Tokens<'_>, Option<LexFault>), AllocError>
-    ensures { IfOk result (λ read. IsReading text.now read.0 read.1) }
+    ensures found { IfOk result (λ read. IsReading text.now read.0 read.1) }
+    // A text is read as one thing only, so this is it.
+    ensures only { (lexed : Lexed) (fault : Option LexFault) → IsReading text.now lexed fault → IfOk result (λ read. (read.0 ≡ lexed) × (read.1 ≡ fault)) }
 {
     if text.len() > TEXT_LIMIT {
         let (within, _) = text.split_at(TEXT_LIMIT);
@@ -72,12 +75,17 @@ pub fn tokens_until(
     read(alloc, text)
 }
 
-/// The tokens of a text without fault.
+/// The tokens of a text that has no fault, or its first fault.
 pub fn tokens(alloc: Global, text: &[u8]) -> Result<Tokens<'_>, LexFault>
-    ensures { MatchResult result (λ lexed. IsReading text.now lexed None) (λ fault. fault ≢ Memory → (lexed : Lexed) × IsReading text.now lexed (Some fault)) }
+    ensures read { IfOk result (λ lexed. IsReading text.now lexed None) }
+    ensures fault { IfErr result (λ fault. fault ≢ Memory → (lexed : Lexed) × IsReading text.now lexed (Some fault)) }
+    // A text is read as one thing only, so one without fault is never refused but for want of memory.
+    ensures only { (lexed : Lexed) (fault : Option LexFault) → IsReading text.now lexed fault
+        → MatchResult result (λ tokens. (tokens ≡ lexed) × (fault ≡ None)) (λ cause. (cause ≡ Memory) ⊎ (fault ≡ Some cause)) }
 {
-    match tokens_until(alloc, text)? {
-        (tokens, None) => Ok(tokens),
-        (_, Some(fault)) => Err(fault),
+    let (tokens, fault) = tokens_until(alloc, text)?;
+    match fault {
+        None => Ok(tokens),
+        Some(fault) => Err(fault),
     }
 }

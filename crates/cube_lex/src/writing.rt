@@ -1,0 +1,104 @@
+ghost use Rattle.std.specs.Prelude.{◌≡◌, ◌≤◌, ℕ, List, [], ◌∷◌, ◌++◌, length, map, take, IsTrue, OnOk, OnErr, Option, None};
+ghost use Rattle.std.specs.List.{list_all};
+ghost use Rattle.cube_lex.specs.Bytes.{is_plain};
+ghost use Rattle.cube_lex.specs.Parts.{IsWord, IsNumber, is_sign};
+ghost use Rattle.cube_lex.specs.Quoted.{quoted};
+ghost use Rattle.cube_lex.specs.Lexed.{Lexed};
+ghost use Rattle.cube_lex.specs.Reading.{IsReading, text_limit};
+ghost use Rattle.cube_lex.specs.Written.{Spelling, spelling_of, IsWritten, Adds};
+ghost use Rattle.cube_lex.specs.declared.fault.LexFault.{LexFault};
+ghost use Rattle.cube_lex.specs.declared.token.Kind.TheVariants.{Word, Number, Text, Sign};
+
+use crate::quoted::QUOTE;
+use std::alloc::AllocError;
+
+/// Writes a piece and a space. A refusal changes nothing.
+fn write_piece(out: &mut Vec<u8>, piece: &[u8]) -> Result<(), AllocError>
+    ensures ok { OnOk result (out.new.items ≡ (out.old.items ++ piece.now) ++ 32 ∷ []) }
+    ensures err { OnErr result (out.new.items ≡ out.old.items) }
+{
+    let len = out.len();
+    out.extend_from_slice(piece)?;
+    if let Err(full) = out.push(b' ') {
+        out.truncate(len);
+        return Err(AllocError::from(full));
+    }
+    Ok(())
+}
+
+/// Writes a word, as `DIM`, and a space.
+pub fn write_word(out: &mut Vec<u8>, word: &[u8]) -> Result<(), AllocError>
+    requires word { IsWord word.now }
+    requires short { length word.now ≤ 1024 }
+    ensures ok { OnOk result (Adds out.old.items out.new.items (record { kind = Word; piece = word.now } ∷ [])) }
+    ensures err { OnErr result (out.new.items ≡ out.old.items) }
+{
+    write_piece(out, word)
+}
+
+/// Writes a number, as `12.5`, and a space.
+pub fn write_number(out: &mut Vec<u8>, number: &[u8]) -> Result<(), AllocError>
+    requires number { IsNumber number.now }
+    requires short { length number.now ≤ 1024 }
+    ensures ok { OnOk result (Adds out.old.items out.new.items (record { kind = Number; piece = number.now } ∷ [])) }
+    ensures err { OnErr result (out.new.items ≡ out.old.items) }
+{
+    write_piece(out, number)
+}
+
+/// Writes a sign, as `=>`, and a space.
+pub fn write_sign(out: &mut Vec<u8>, sign: &[u8]) -> Result<(), AllocError>
+    requires { IsTrue (is_sign sign.now) }
+    ensures ok { OnOk result (Adds out.old.items out.new.items (record { kind = Sign; piece = sign.now } ∷ [])) }
+    ensures err { OnErr result (out.new.items ≡ out.old.items) }
+{
+    write_piece(out, sign)
+}
+
+/// Writes the quoted text that stands for the bytes, each quote among them doubled, and a space.
+pub fn write_quoted(out: &mut Vec<u8>, bytes: &[u8]) -> Result<(), AllocError>
+    requires plain { IsTrue (list_all is_plain bytes.now) }
+    requires short { length (quoted bytes.now) ≤ 1024 }
+    ensures ok { OnOk result (Adds out.old.items out.new.items (record { kind = Text; piece = quoted bytes.now } ∷ [])) }
+    ensures err { OnErr result (out.new.items ≡ out.old.items) }
+{
+    let len = out.len();
+    let written = push_quoted(out, bytes);
+    if written.is_err() {
+        out.truncate(len);
+    }
+    written
+}
+
+/// Writes a line end, which is no token.
+pub fn write_line_end(out: &mut Vec<u8>) -> Result<(), AllocError>
+    ensures ok { OnOk result (Adds out.old.items out.new.items []) }
+    ensures err { OnErr result (out.new.items ≡ out.old.items) }
+{
+    out.push(b'\n')?;
+    Ok(())
+}
+
+/// Writes the quoted text and a space. What a refusal leaves begins as before.
+fn push_quoted(out: &mut Vec<u8>, bytes: &[u8]) -> Result<(), AllocError>
+    ensures ok { OnOk result (out.new.items ≡ (out.old.items ++ quoted bytes.now) ++ 32 ∷ []) }
+    ensures begins { take (length out.old.items) out.new.items ≡ out.old.items }
+{
+    out.push(QUOTE)?;
+    for byte in bytes {
+        if *byte == QUOTE {
+            out.push(QUOTE)?;
+        }
+        out.push(*byte)?;
+    }
+    out.push(QUOTE)?;
+    out.push(b' ')?;
+    Ok(())
+}
+
+/// What the calls above have written, of at most 2^30 bytes, is read as just these tokens, and has no fault.
+pub fn what_is_written_is_read()
+    ensures { (tokens : List Spelling) (text : List ℕ) (lexed : Lexed) (fault : Option LexFault)
+        → IsWritten tokens text → length text ≤ text_limit → IsReading text lexed fault
+        → (map spelling_of lexed.lexemes ≡ tokens) × (fault ≡ None) }
+{}
