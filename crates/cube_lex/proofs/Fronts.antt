@@ -1,5 +1,5 @@
 -- What each kind of part begins with.
-use Rattle.std.proofs.Common.{◌≡◌, ℕ, ◌+◌, ◌≤◌, Bool, true, false, cond, not, ◌&&◌, ◌||◌, nat_eq, ◌==◌, eqb, eqb-true, List, [], ◌∷◌, ◌++◌, length, take, drop, get_or, refl, sym, ap, ◌∙◌, one-add, arith, take-append-drop, inl, inr, ◌⊎◌, min, length-take, length-append, append_assoc}
+use Rattle.std.proofs.Common.{◌≡◌, ℕ, ◌+◌, ◌≤◌, Bool, true, false, cond, not, ◌||◌, ◌==◌, eqb, eqb-true, List, [], ◌∷◌, ◌++◌, length, take, drop, get_or, refl, sym, ap, ◌∙◌, one-add, arith, take-append-drop, inl, inr, min, length-take, length-append, append_assoc}
 use Rattle.std.proofs.Math.Seq.{take-append_seam, drop-append_seam}
 use Rattle.std.proofs.lemmas.List.Sums.{prefix_len-le-length}
 use Rattle.std.specs.Char.{is_ascii_digit}
@@ -8,7 +8,7 @@ use Rattle.std.specs.List.{list_all, prefix_len}
 use Rattle.cube_lex.specs.Bytes.{Begins, is_white, is_line_end, starts_word, is_word_byte}
 use Rattle.cube_lex.specs.Parts.{IsWord, IsSpace, IsComment, IsNumber, IsDigits, IsLongest}
 use Rattle.cube_lex.specs.Front.{IsFractionLen}
-use Rattle.cube_lex.proofs.Runs.{both, prefix-passes, prefix-ends, run-longest}
+use Rattle.cube_lex.proofs.Runs.{prefix-passes, prefix-ends, run-longest}
 use Rattle.cube_lex.proofs.Numbers.{whole-longest, fraction-longest}
 
 -- a byte that passes is what the bytes begin with

@@ -1,19 +1,19 @@
 -- How far a quoted text goes, byte by byte.
-use Rattle.std.proofs.Common.{◌≡◌, ℕ, zero, suc, ◌+◌, ◌<◌, ◌≤◌, Bool, true, false, not, List, [], ◌∷◌, ◌++◌, length, take, drop, get_or, refl, sym, ap, ◌∙◌, inl, inr, ◌⊎◌, add-one, arith, length-append, length-take, append_assoc, take-append-drop, Some, None, min, add_assoc, eqb-true, eqb}
+use Rattle.std.proofs.Common.{◌≡◌, ℕ, zero, suc, ◌+◌, ◌<◌, ◌≤◌, Bool, true, false, not, List, [], ◌∷◌, ◌++◌, length, take, drop, get_or, refl, sym, ap, ◌∙◌, inr, add-one, arith, length-append, length-take, append_assoc, take-append-drop, Some, min, eqb-true}
 use Rattle.std.proofs.Math.Seq.{take-append_seam, drop-append_seam}
 use Rattle.std.proofs.lemmas.Grind.{flat_map-append}
 use Rattle.std.proofs.lemmas.List.{take_more}
 use Rattle.std.specs.List.{list_all}
 use Rattle.cube_lex.specs.Bytes.{Begins, is_quote, is_plain}
-use Rattle.cube_lex.specs.Fault.{OpensQuote, Stops}
+use Rattle.cube_lex.specs.Fault.{Stops}
 use Rattle.cube_lex.specs.Front.{IsInside, EndsQuote}
-use Rattle.cube_lex.specs.Parts.{IsQuoted, Stands}
+use Rattle.cube_lex.specs.Parts.{Stands}
 use Rattle.cube_lex.specs.Quoted.{doubled, quoted}
 use Rattle.cube_lex.specs.declared.token.Kind.TheVariants.{Text}
 use Rattle.cube_lex.specs.declared.fault.LexFault.TheVariants.{BadByte}
 use Rattle.cube_lex.specs.declared.quoted.QuoteEnd.TheVariants.{Closed, Forbidden}
 use Rattle.cube_lex.proofs.Runs.{list_all-append}
-use Rattle.cube_lex.proofs.Quotes.{doubled-quote, doubled-other}
+use Rattle.cube_lex.proofs.Quotes.{doubled-other}
 
 doubled-append : (xs ys : List ℕ) → doubled (xs ++ ys) ≡ doubled xs ++ doubled ys
 doubled-append xs ys = flat_map-append _ xs ys

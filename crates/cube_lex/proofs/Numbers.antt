@@ -1,11 +1,11 @@
 -- Numbers: digits, and optionally a point and digits.
-use Rattle.std.proofs.Common.{◌≡◌, ℕ, ◌+◌, ◌≤◌, Bool, true, false, cond, List, [], ◌∷◌, ◌++◌, length, take, drop, refl, sym, ap, ◌∙◌, append_assoc, length-append, inl, inr, ◌⊎◌, arith}
+use Rattle.std.proofs.Common.{◌≡◌, ℕ, ◌≤◌, true, List, [], ◌∷◌, ◌++◌, length, refl, sym, ap, ◌∙◌, append_assoc, length-append, inl, inr, arith}
 use Rattle.std.specs.Char.{is_ascii_digit}
-use Rattle.std.specs.List.{list_all, prefix_len}
+use Rattle.std.specs.List.{list_all}
 use Rattle.cube_lex.specs.Bytes.{Begins}
-use Rattle.cube_lex.specs.Front.{BeginsFraction, IsFractionLen}
+use Rattle.cube_lex.specs.Front.{BeginsFraction}
 use Rattle.cube_lex.specs.Parts.{IsDigits, IsNumber, IsLongest}
-use Rattle.cube_lex.proofs.Runs.{both, run-longest, run-only}
+use Rattle.cube_lex.proofs.Runs.{run-longest, run-only}
 
 pub digits-pass : (bytes : List ℕ) → IsDigits bytes → list_all is_ascii_digit bytes ≡ true
 digits-pass [] is = absurd is

@@ -1,6 +1,6 @@
 -- The loop over the parts of a text.
-use Rattle.std.proofs.Common.{◌≡◌, ℕ, ◌+◌, ◌-◌, ◌^◌, ◌<◌, ◌≤◌, Bool, true, false, not, List, [], ◌∷◌, ◌++◌, length, take, drop, map, refl, sym, ap, ◌∙◌, subst, arith, add_assoc, append_assoc, append-nil, length-append, length-drop, length-take, take-append-drop, add-zero, zero-add, Some, None, Option, inl, inr, ◌⊎◌, option_to_list, nat_eq, nat_le, eqb, eqb-true, cond}
-use Rattle.std.proofs.Math.Seq.{take-append_seam, drop-append_seam}
+use Rattle.std.proofs.Common.{◌≡◌, ℕ, ◌+◌, ◌-◌, ◌^◌, ◌<◌, ◌≤◌, Bool, true, false, not, List, [], ◌∷◌, ◌++◌, length, take, drop, map, refl, sym, ap, ◌∙◌, subst, arith, add_assoc, append_assoc, append-nil, length-append, length-drop, length-take, take-append-drop, add-zero, zero-add, Some, None, Option, inl, inr, option_to_list, nat_eq, nat_le, eqb, eqb-true, cond}
+use Rattle.std.proofs.Math.Seq.{take-append_seam}
 use Rattle.std.proofs.lemmas.Bool.{leb-true}
 use Rattle.std.proofs.lemmas.Bool.Decides.{Decides-eqb}
 use Rattle.std.proofs.lemmas.List.{map-append}
@@ -8,10 +8,9 @@ use Rattle.std.proofs.lemmas.List.Elements.{All-push, All-nil}
 use Rattle.std.proofs.lemmas.List.Sums.{sum_by-append, count_by-le-length, sum_by-cons}
 use Rattle.std.proofs.lemmas.Slice.Eq.{starts_is}
 use Rattle.std.specs.List.{list_all, count_by, cons_option, starts_with}
-use Rattle.std.specs.Option.{option_map}
 use Rattle.cube_lex.specs.Bytes.{is_line_end, is_plain, is_quote, line_at}
-use Rattle.cube_lex.specs.Fault.{Stops, place_of, OpensQuote}
-use Rattle.cube_lex.specs.Lexed.{Lexed, lexed_of, TextsAreQuoted}
+use Rattle.cube_lex.specs.Fault.{Stops, place_of}
+use Rattle.cube_lex.specs.Lexed.{lexed_of, TextsAreQuoted}
 use Rattle.cube_lex.specs.Lexeme.{Lexeme, lexeme_of}
 use Rattle.cube_lex.specs.Parts.{Part, Divides, IsPart, IsQuoted}
 use Rattle.cube_lex.specs.Quoted.{doubled}

@@ -1,6 +1,6 @@
 -- The longest sign that a text begins with is the first that fits of a table with longer ones first.
-use Rattle.std.proofs.Common.{◌≡◌, ℕ, zero, suc, ◌+◌, ◌<◌, ◌≤◌, Bool, true, false, not, cond, ◌&&◌, List, [], ◌∷◌, ◌++◌, length, map, take, drop, get_or, refl, sym, ap, ◌∙◌, subst, nat_le, nat_eq, Some, None, Option, arith, take_all, length-append, take-append-drop, inl, inr, ◌⊎◌, Bor}
-use Rattle.std.proofs.Math.Seq.{take-append_seam, drop-append_seam}
+use Rattle.std.proofs.Common.{◌≡◌, ℕ, zero, suc, ◌≤◌, Bool, true, false, cond, ◌&&◌, List, [], ◌∷◌, ◌++◌, length, map, take, drop, refl, sym, ap, ◌∙◌, nat_le, nat_eq, Some, None, arith, length-append, inl, inr, ◌⊎◌, Bor}
+use Rattle.std.proofs.Math.Seq.{take-append_seam}
 use Rattle.std.proofs.lemmas.Bool.{leb-true}
 use Rattle.std.proofs.lemmas.Bool.Decides.{Decides-eqb}
 use Rattle.std.proofs.lemmas.List.Sums.{AllPass-from_list_all}
@@ -8,7 +8,7 @@ use Rattle.std.proofs.lemmas.Slice.Eq.{starts_is}
 use Rattle.std.specs.List.{list_all, find, starts_with, Contains}
 use Rattle.std.specs.Option.{option_map}
 use Rattle.cube_lex.specs.Front.{IsSignLen}
-use Rattle.cube_lex.specs.Parts.{IsLongest, signs}
+use Rattle.cube_lex.specs.Parts.{signs}
 use Rattle.cube_lex.proofs.Runs.{both}
 
 -- longer ones come first

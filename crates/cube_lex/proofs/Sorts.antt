@@ -1,13 +1,13 @@
 -- The first byte of a part tells what it is.
-use Rattle.std.proofs.Common.{◌≡◌, ℕ, ◌+◌, ◌<◌, ◌≤◌, Bool, true, false, not, cond, ◌&&◌, ◌||◌, ◌==◌, List, [], ◌∷◌, ◌++◌, length, take, drop, get_or, refl, sym, ap, ◌∙◌, subst, nat_le, eqb, eqb-true, Some, None, Option, arith, inl, inr, ◌⊎◌}
+use Rattle.std.proofs.Common.{◌≡◌, ℕ, ◌≤◌, Bool, true, false, cond, ◌||◌, ◌==◌, List, [], ◌∷◌, ◌++◌, refl, sym, ap, ◌∙◌, subst, eqb-true, Some, None, Option, arith, inl, inr, ◌⊎◌}
 use Rattle.std.proofs.lemmas.Bool.{leb-true}
 use Rattle.std.specs.Char.{is_ascii_digit}
 use Rattle.std.specs.Int.{is_in_range}
 use Rattle.std.specs.List.{list_all, Contains}
 use Rattle.cube_lex.specs.Fault.{BeginsPart}
 use Rattle.cube_lex.specs.Front.{IsSignLen}
-use Rattle.cube_lex.specs.Bytes.{Begins, is_white, is_quote, starts_word}
-use Rattle.cube_lex.specs.Parts.{IsWord, IsNumber, IsDigits, IsQuoted, IsToken, IsSpace, IsComment, IsLongest, Stands, IsPart, signs, token_limit}
+use Rattle.cube_lex.specs.Bytes.{is_white, is_quote, starts_word}
+use Rattle.cube_lex.specs.Parts.{IsWord, IsNumber, IsDigits, IsQuoted, IsToken, IsSpace, IsComment, IsLongest, Stands, IsPart, signs}
 use Rattle.cube_lex.specs.declared.token.Kind.{Kind}
 use Rattle.cube_lex.specs.declared.token.Kind.TheVariants.{Word, Number, Text, Sign}
 use Rattle.cube_lex.proofs.Runs.{both, false-of}

@@ -1,19 +1,18 @@
 -- A text is read in one way.
-use Rattle.std.proofs.Common.{◌≡◌, ℕ, ◌+◌, ◌-◌, ◌^◌, ◌<◌, ◌≤◌, Bool, true, false, List, [], ◌∷◌, ◌++◌, length, take, drop, refl, sym, ap, ◌∙◌, subst, arith, append_assoc, append-nil, length-append, Some, None, Option, inl, inr, ◌⊎◌, leb, Result, Ok, Err, IfOk}
+use Rattle.std.proofs.Common.{◌≡◌, ℕ, ◌+◌, ◌-◌, ◌<◌, ◌≤◌, true, false, List, [], ◌∷◌, ◌++◌, length, take, drop, refl, sym, ap, ◌∙◌, subst, arith, append_assoc, Some, None, Option, inl, inr, leb, Result, Ok, Err, IfOk}
 use Rattle.std.proofs.lemmas.Bool.{leb-true, leb-false}
 use Rattle.std.proofs.Math.Seq.{take-append_seam, drop-append_seam}
 use Rattle.cube_lex.specs.Bytes.{Begins, is_quote, is_plain, line_at}
 use Rattle.cube_lex.specs.Fault.{Stops, BeginsPart, OpensQuote, place_of}
 use Rattle.cube_lex.specs.Lexed.{Lexed}
 use Rattle.cube_lex.specs.Lexeme.{Lexeme}
-use Rattle.cube_lex.specs.Parts.{Part, Divides, IsPart, IsLongest, IsToken, Stands, IsQuoted, token_limit}
+use Rattle.cube_lex.specs.Parts.{Part, Divides, IsPart, IsLongest, IsToken, Stands}
 use Rattle.cube_lex.specs.Quoted.{doubled, quoted}
 use Rattle.cube_lex.specs.Reading.{mark_len, lexemes_among, IsRead, IsReading, text_limit}
 use Rattle.cube_lex.specs.declared.fault.LexFault.{LexFault}
 use Rattle.cube_lex.specs.declared.fault.LexFault.TheVariants.{BadByte, OpenQuote, TooLong, Memory}
 use Rattle.cube_lex.specs.declared.token.Kind.{Kind}
 use Rattle.cube_lex.specs.declared.token.Kind.TheVariants.{Word, Number, Text, Sign}
-use Rattle.cube_lex.proofs.Runs.{both}
 use Rattle.cube_lex.proofs.Quotes.{EndsInside, inside-only}
 use Rattle.cube_lex.proofs.Sorts.{Sort, a_space, a_comment, a_word, a_number, a_text, a_sign, sort_of, kind_of, IsOf, StandsAs, first-tells, part-stands, stands-is}
 

@@ -1,5 +1,5 @@
 -- What is written token by token is read back.
-use Rattle.std.proofs.Common.{◌≡◌, ℕ, ◌+◌, ◌<◌, ◌≤◌, Bool, true, false, not, ◌&&◌, ◌||◌, ◌==◌, List, [], ◌∷◌, ◌++◌, length, take, drop, map, refl, sym, ap, ◌∙◌, subst, arith, append_assoc, append-nil, zero-add, Some, None, Option, inl, inr, ◌⊎◌, eqb-true, eq-eqb, cond, nat_eq, nat_le, suc, Result, Ok, Err, OnOk, IsTrue, bytes_eq}
+use Rattle.std.proofs.Common.{◌≡◌, ℕ, ◌+◌, ◌≤◌, Bool, true, false, not, ◌||◌, ◌==◌, List, [], ◌∷◌, ◌++◌, length, drop, map, refl, sym, ap, ◌∙◌, subst, arith, append_assoc, append-nil, Some, None, Option, inl, inr, eq-eqb, cond, nat_eq, nat_le, suc, Result, Ok, Err, OnOk, IsTrue, bytes_eq}
 use Rattle.std.proofs.lemmas.Bool.{leb-true}
 use Rattle.std.specs.Cmp.Lexicographic.{same_text}
 use Rattle.std.proofs.lemmas.Bool.Decides.{Decides-eqb}
@@ -8,10 +8,8 @@ use Rattle.std.specs.Char.{is_ascii_digit}
 use Rattle.std.specs.List.{list_all, list_any, Contains, cons_option, starts_with}
 use Rattle.std.specs.Option.{option_map}
 use Rattle.cube_lex.specs.Bytes.{Begins, is_white, is_quote, starts_word, is_word_byte}
-use Rattle.cube_lex.specs.Fault.{Stops}
 use Rattle.cube_lex.specs.Lexed.{Lexed}
-use Rattle.cube_lex.specs.Lexeme.{Lexeme}
-use Rattle.cube_lex.specs.Parts.{Part, Divides, IsPart, IsLongest, IsToken, IsWord, IsNumber, IsDigits, IsQuoted, IsSpace, Stands, signs, is_sign, token_limit}
+use Rattle.cube_lex.specs.Parts.{Part, Divides, IsLongest, IsToken, IsWord, IsNumber, IsDigits, IsQuoted, Stands, signs, is_sign, token_limit}
 use Rattle.cube_lex.specs.Reading.{mark_len, lexeme_at, lexemes_among, IsRead, IsReading, text_limit}
 use Rattle.cube_lex.specs.Written.{Spelling, spelling_of, IsWritten, Adds}
 use Rattle.cube_lex.specs.declared.fault.LexFault.{LexFault}

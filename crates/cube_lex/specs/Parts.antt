@@ -1,5 +1,5 @@
 -- The parts of a text: tokens, white space and comments, each as long as can be.
-use Rattle.std.specs.Prelude.{◌≡◌, ◌≢◌, ℕ, ◌≤◌, ◌⊎◌, not, IsTrue, List, [], ◌∷◌, ◌++◌, length, codes, bytes_eq, Bool, Contains, Option, Some, None}
+use Rattle.std.specs.Prelude.{◌≡◌, ℕ, ◌≤◌, ◌⊎◌, not, IsTrue, List, [], ◌∷◌, ◌++◌, length, codes, bytes_eq, Bool, Contains, Option, Some, None}
 use Rattle.std.specs.Char.{is_ascii_digit}
 use Rattle.std.specs.List.{list_all, list_any}
 use Rattle.cube_lex.specs.Bytes.{Begins, is_white, is_line_end, is_quote, is_plain, starts_word, is_word_byte}

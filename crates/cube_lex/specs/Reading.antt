@@ -1,12 +1,11 @@
 -- Reading a text: its tokens in order, and the first place where it can't be read on.
-use Rattle.std.specs.Prelude.{◌≡◌, ℕ, ◌+◌, ◌-◌, ◌^◌, ◌<◌, ◌≤◌, List, [], ◌∷◌, ◌++◌, length, Option, Some, None, option_map, drop, nat_eq, if◌then◌else◌}
+use Rattle.std.specs.Prelude.{◌≡◌, ℕ, ◌+◌, ◌-◌, ◌^◌, ◌<◌, ◌≤◌, List, [], ◌∷◌, length, Option, Some, option_map, drop, nat_eq, if◌then◌else◌}
 use Rattle.std.specs.List.{cons_option, starts_with}
 use Rattle.cube_lex.specs.Bytes.{line_at}
 use Rattle.cube_lex.specs.Fault.{Stops, place_of}
 use Rattle.cube_lex.specs.Lexeme.{Lexeme}
 use Rattle.cube_lex.specs.Lexed.{Lexed}
 use Rattle.cube_lex.specs.Parts.{Part, Divides}
-use Rattle.cube_lex.specs.declared.token.Kind.{Kind}
 use Rattle.cube_lex.specs.declared.fault.LexFault.{LexFault}
 use Rattle.cube_lex.specs.declared.fault.LexFault.TheVariants.{TooLong}
 

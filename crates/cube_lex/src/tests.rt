@@ -1,4 +1,7 @@
-use crate::{Kind, LexFault, tokens, tokens_until};
+use crate::{
+    Kind, LexFault, tokens, tokens_until, unquoted, write_line_end, write_number, write_quoted,
+    write_sign, write_word,
+};
 use std::alloc::{AllocError, Global};
 use std::fmt::Write;
 use std::test::Fail;
@@ -17,7 +20,7 @@ fn shown(alloc: Global, text: &[u8]) -> Result<String, AllocError> {
 }
 
 #[test]
-fn reads_each_kind_of_token_at_its_edges(rt: HostRuntime) -> Result<(), Fail> {
+fn each_kind_of_token_is_read_at_its_edges(rt: HostRuntime) -> Result<(), Fail> {
     let cases: [(&[u8], &str); 40] = [
         (b"", "None :1"),
         (b"\xEF\xBB\xBF", "None :1"),
@@ -51,16 +54,19 @@ fn reads_each_kind_of_token_at_its_edges(rt: HostRuntime) -> Result<(), Fail> {
         (b"a @", "Word 0+1:1 Some(BadByte(2)) :1"),
         (b"==", "Sign 0+1:1 Sign 1+1:1 None :1"),
         (
-            b"[]{}(),;:+-",
-            "Sign 0+1:1 Sign 1+1:1 Sign 2+1:1 Sign 3+1:1 Sign 4+1:1 Sign 5+1:1 Sign 6+1:1 Sign 7+1:1 Sign 8+1:1 Sign 9+1:1 Sign 10+1:1 None :1",
+            b"[]{}()",
+            "Sign 0+1:1 Sign 1+1:1 Sign 2+1:1 Sign 3+1:1 Sign 4+1:1 Sign 5+1:1 None :1",
         ),
         (
-            b"*/\\&%~!|",
-            "Sign 0+1:1 Sign 1+1:1 Sign 2+1:1 Sign 3+1:1 Sign 4+1:1 Sign 5+1:1 Sign 6+1:1 Sign 7+1:1 None :1",
+            b",;:+-*/",
+            "Sign 0+1:1 Sign 1+1:1 Sign 2+1:1 Sign 3+1:1 Sign 4+1:1 Sign 5+1:1 Sign 6+1:1 None :1",
+        ),
+        (
+            b"\\&%~!|",
+            "Sign 0+1:1 Sign 1+1:1 Sign 2+1:1 Sign 3+1:1 Sign 4+1:1 Sign 5+1:1 None :1",
         ),
         (b"a # b 'c\nd", "Word 0+1:1 Word 9+1:2 None :2"),
         (b"# a\rb\nc", "Word 6+1:2 None :2"),
-        (b"#", "None :1"),
         (b"a\r\nb\rc\n\n", "Word 0+1:1 Word 3+1:2 Word 5+1:2 None :4"),
         (b"a#b", "Word 0+1:1 None :1"),
         (b"a\xC3\xA9", "Word 0+1:1 Some(BadByte(1)) :1"),
@@ -70,5 +76,67 @@ fn reads_each_kind_of_token_at_its_edges(rt: HostRuntime) -> Result<(), Fail> {
         let line = shown(rt.alloc(), text)?;
         assert_eq!(rt; line.as_str(), expected);
     }
+    Ok(())
+}
+
+#[test]
+fn a_token_has_at_most_1024_bytes(rt: HostRuntime) -> Result<(), Fail> {
+    let cases: [(&[u8], u8, usize, &[u8], &str); 9] = [
+        (b"a", b'b', 1023, b"", "Word 0+1024:1 None :1"),
+        (b"\na", b'b', 1024, b"", "Some(TooLong(1)) :2"),
+        (b"", b'7', 1024, b"", "Number 0+1024:1 None :1"),
+        (b"", b'7', 1023, b".5", "Some(TooLong(0)) :1"),
+        (b"'", b' ', 1022, b"'", "Text 0+1024:1 None :1"),
+        (b"'", b'\'', 1024, b"'", "Some(TooLong(0)) :1"),
+        (b"'", b' ', 2000, b"\n", "Some(BadByte(2001)) :1"),
+        (b"'", b' ', 2000, b"", "Some(OpenQuote(0)) :1"),
+        (b"#", b'b', 2000, b"\nc", "Word 2002+1:2 None :2"),
+    ];
+    for (head, fill, count, tail, expected) in cases {
+        let mut text = Vec::from_slice(rt.alloc(), head)?;
+        for _ in 0..count {
+            text.push(fill)?;
+        }
+        text.extend_from_slice(tail)?;
+        let line = shown(rt.alloc(), text.as_slice())?;
+        assert_eq!(rt; line.as_str(), expected);
+    }
+    Ok(())
+}
+
+#[test]
+fn tokens_are_looked_up_by_their_place(rt: HostRuntime) -> Result<(), Fail> {
+    let found = tokens(rt.alloc(), b"A\n 'o''clock'")?;
+    assert_eq!(rt; found.len(), 2);
+    assert!(rt; !found.is_empty());
+    assert_eq!(rt; found.kind(1), Kind::Text);
+    assert_eq!(rt; found.piece(1), b"'o''clock'".as_slice());
+    assert_eq!(rt; found.start(1), 3);
+    assert_eq!(rt; found.line(1), 2);
+    assert_eq!(rt; found.get(0).ok_or("no token")?.kind, Kind::Word);
+    assert!(rt; found.get(2).is_none());
+    let text = unquoted(rt.alloc(), found.piece(1))?;
+    assert_eq!(rt; text.as_slice(), b"o'clock".as_slice());
+    assert_eq!(rt;
+        tokens(rt.alloc(), b"'").err(),
+        Some(LexFault::OpenQuote(0))
+    );
+    Ok(())
+}
+
+#[test]
+fn what_is_written_is_read_back(rt: HostRuntime) -> Result<(), Fail> {
+    let mut out = Vec::new(rt.alloc());
+    write_word(&mut out, b"N")?;
+    write_quoted(&mut out, b"o'clock")?;
+    write_sign(&mut out, b"=>")?;
+    write_line_end(&mut out)?;
+    write_number(&mut out, b"12")?;
+    assert_eq!(rt; out.as_slice(), b"N 'o''clock' => \n12 ".as_slice());
+    let line = shown(rt.alloc(), out.as_slice())?;
+    assert_eq!(rt;
+        line.as_str(),
+        "Word 0+1:1 Text 2+10:1 Sign 13+2:1 Number 17+2:2 None :2"
+    );
     Ok(())
 }

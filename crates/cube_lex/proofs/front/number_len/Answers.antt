@@ -1,6 +1,4 @@
-use Rattle.std.proofs.Common.{sym, drop, ap, ◌∙◌}
 use Rattle.cube_lex.proofs.Fronts.{number-stands}
-use Rattle.cube_lex.specs.Front.{IsFractionLen}
 use Rattle.cube_lex.proofs.front.number_len.Goals as goal
 
 pub returns-clause-stands : goal.returns-clause-stands

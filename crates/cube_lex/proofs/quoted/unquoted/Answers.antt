@@ -1,5 +1,5 @@
-use Rattle.std.proofs.Common.{◌≡◌, ◌++◌, [], ap, sym, ◌∙◌, rules, append-nil, arith, List, ℕ, length}
-use Rattle.cube_lex.specs.Quoted.{quoted, unquoted, undoubled}
+use Rattle.std.proofs.Common.{◌≡◌, ap, sym, ◌∙◌, rules}
+use Rattle.cube_lex.specs.Quoted.{quoted, unquoted}
 use Rattle.cube_lex.proofs.Quotes.{unquoted-quoted}
 use Rattle.cube_lex.proofs.quoted.unquoted.Goals as goal
 

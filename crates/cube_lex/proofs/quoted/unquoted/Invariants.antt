@@ -1,5 +1,5 @@
 -- the bytes so far and the reading of what is left are the reading of all
-use Rattle.std.proofs.Common.{◌≡◌, ◌++◌, length, take, drop, ◌-◌}
+use Rattle.std.proofs.Common.{◌≡◌, ◌++◌, length}
 use Rattle.cube_lex.specs.Quoted.{undoubled, unquoted}
 use Rattle.cube_lex.proofs.quoted.unquoted.Given as goal
 

@@ -1,6 +1,5 @@
-use Rattle.std.proofs.Common.{◌≡◌, sym, ap, eqb-true, length, Some, refl}
-use Rattle.cube_lex.specs.Parts.{IsPart}
-use Rattle.cube_lex.proofs.Readings.{going-blank, going-token, reading-done, reading-stopped, Going}
+use Rattle.std.proofs.Common.{sym, eqb-true, length, refl}
+use Rattle.cube_lex.proofs.Readings.{going-blank, going-token, reading-done, reading-stopped}
 use Rattle.cube_lex.proofs.reading.read.Goals as goal
 use Rattle.cube_lex.proofs.reading.read.Goals.{in-Some+in_ok-push, in_default}
 
