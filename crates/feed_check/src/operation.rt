@@ -1,0 +1,119 @@
+ghost use Rattle.std.specs.Prelude.{◌≡◌, not};
+ghost use Rattle.std.specs.Option.{option_map};
+ghost use Rattle.rule_laws.specs.ZeroTest.{written_value, is_other_than_zero, is_divisor, known_value, sure_comparison, sure_and, sure_or, zero_operation, zero_choice};
+
+use cube_fixed::{Value, sub};
+use rule_laws::{Formula, Fun, Op, Rel};
+
+/// Whether an operation gives 0, by whether each side is 0 and whether the right one is written as a number other than 0.
+pub fn zero_operation(op: Op, left: bool, right: bool, divisor: bool) -> bool
+    ensures { result ≡ zero_operation op left right divisor }
+{
+    match op {
+        Op::Add | Op::Sub | Op::Max | Op::Min => left && right,
+        Op::Mul | Op::DivSafe => left || right,
+        Op::Div => left && divisor,
+    }
+}
+
+/// Whether an `IF` gives 0, by the truth that its condition surely has and by whether each branch is 0.
+pub fn zero_choice(sure: Option<bool>, left: bool, right: bool) -> bool
+    ensures { result ≡ zero_choice sure left right }
+{
+    match sure {
+        Some(true) => left,
+        Some(false) => right,
+        None => left && right,
+    }
+}
+
+/// The value that a formula is written as: a Number, with or without minus.
+pub fn written_value(formula: &Formula) -> Option<Value>
+    ensures { result ≡ written_value formula.now }
+{
+    match formula {
+        Formula::Number(k) => Some(Value::Num(*k)),
+        Formula::Unary(Fun::Minus, inner) => match &**inner {
+            Formula::Number(k) => Some(sub(Value::ZERO, Value::Num(*k))),
+            _ => None,
+        },
+        _ => None,
+    }
+}
+
+fn is_other_than_zero(value: Value) -> bool
+    ensures { result ≡ is_other_than_zero value }
+{
+    match value {
+        Value::Num(k) => k.millionths() != 0,
+        Value::Over => false,
+    }
+}
+
+/// Whether a formula is written as a number other than 0.
+pub fn is_divisor(formula: &Formula) -> bool
+    ensures { result ≡ is_divisor formula.now }
+{
+    match written_value(formula) {
+        Some(value) => is_other_than_zero(value),
+        None => false,
+    }
+}
+
+/// The value that a formula is known to have: the one that it is written as, else 0 where the formula is 0.
+pub fn known_value(formula: &Formula, is_zero: bool) -> Option<Value>
+    ensures { result ≡ known_value formula.now is_zero }
+{
+    match written_value(formula) {
+        Some(value) => Some(value),
+        None => if is_zero { Some(Value::ZERO) } else { None },
+    }
+}
+
+/// The truth that a comparison surely has, by what its sides are known to be.
+pub fn sure_comparison(rel: Rel, left: Option<Value>, right: Option<Value>) -> Option<bool>
+    ensures { result ≡ sure_comparison rel left right }
+{
+    if let Some(left) = left
+        && let Some(right) = right
+    {
+        Some(rel.holds(left, right))
+    } else {
+        None
+    }
+}
+
+pub fn sure_and(left: Option<bool>, right: Option<bool>) -> Option<bool>
+    ensures { result ≡ sure_and left right }
+{
+    match left {
+        Some(false) => Some(false),
+        Some(true) => right,
+        None => match right {
+            Some(false) => Some(false),
+            _ => None,
+        },
+    }
+}
+
+pub fn sure_or(left: Option<bool>, right: Option<bool>) -> Option<bool>
+    ensures { result ≡ sure_or left right }
+{
+    match left {
+        Some(true) => Some(true),
+        Some(false) => right,
+        None => match right {
+            Some(true) => Some(true),
+            _ => None,
+        },
+    }
+}
+
+pub fn sure_not(truth: Option<bool>) -> Option<bool>
+    ensures { result ≡ option_map not truth }
+{
+    match truth {
+        Some(truth) => Some(!truth),
+        None => None,
+    }
+}

@@ -1,0 +1,5 @@
+use Rattle.rule_laws.proofs.SystemFacts.{dense_value-solves}
+use Rattle.rule_laws.proofs.laws.dense_values_solve.Goals as goal
+
+pub returns : goal.returns
+returns c w formed ordered = dense_value-solves w formed ordered

@@ -1,0 +1,19 @@
+use lists::ListOf;
+
+/// A cell of some cube, named from the cell whose formula is evaluated.
+#[derive(Debug, Drop)]
+pub struct Reference {
+    /// The cube of the cell that is named.
+    pub cube: u32,
+    /// One argument per dimension of that cube, in its order.
+    pub args: ListOf<Arg>,
+}
+
+/// How an element of the target is found.
+#[derive(Debug, Drop)]
+pub enum Arg {
+    /// This element, from every cell.
+    Fixed(u32),
+    /// For each element that the source has in its dimension `from`: the target's element, or none.
+    Moved { from: u32, to: ListOf<Option<u32>> },
+}
