@@ -1,5 +1,5 @@
 -- Which element of a list stands at a place, when the list goes on.
-use Rattle.std.proofs.Common.{◌≡◌, ℕ, ◌+◌, ◌<◌, zero, suc, List, [], ◌∷◌, ◌++◌, length, Some, refl, arith, ◌⊎◌, inl, inr}
+use Rattle.std.proofs.Common.{◌≡◌, ℕ, ◌+◌, ◌<◌, zero, suc, List, [], ◌∷◌, ◌++◌, length, drop, Some, refl, arith, ◌⊎◌, inl, inr}
 use Rattle.std.specs.List.{slice_get}
 
 module _ {A : Type 0} where
@@ -35,3 +35,8 @@ module _ {A : Type 0} where
   get_some [] k below = absurd (omega arith)
   get_some (x ∷ xs) zero below = (x, refl)
   get_some (x ∷ xs) (suc k) below = get_some xs k (omega arith)
+
+  pub get_drop : (n : ℕ) (xs : List A) (k : ℕ) (y : A) → slice_get (drop n xs) k ≡ Some y → slice_get xs (n + k) ≡ Some y
+  get_drop zero xs k y is = let same : zero + k ≡ k = omega arith in rw same is
+  get_drop (suc n) [] k y is = is
+  get_drop (suc n) (x ∷ xs) k y is = let same : suc n + k ≡ suc (n + k) = omega arith in rw same (get_drop n xs k y is)

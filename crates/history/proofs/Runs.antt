@@ -168,3 +168,11 @@ module _ {C K T R : Type 0} (effect : C → K → Effect T R) (after : C → T �
   -- before the first command is told: the user has no entry
   pub run_starts : (log : List (Entry T)) (user : ℕ) (commands : List K) → NoneFrom log 0 user → RunSoFar effect after first log user [] commands
   run_starts log user commands none = (omega arith, none)
+
+  -- commands that are given later change nothing of what was told
+  pub told_given : (log : List (Entry T)) (user number least : ℕ) (told : List (Told R)) (commands more : List K)
+      → ToldFrom effect after first log user number least told commands → ToldFrom effect after first log user number least told (commands ++ more)
+  told_given log user number least [] commands more t = t
+  told_given log user number least (one ∷ told) [] more t = absurd t
+  told_given log user number least (one ∷ told) (command ∷ commands) more t =
+      (t.0, t.1, t.2, t.3, told_given log user (number + 1) (least_after (effect (version after first log one.place) command) one.place) told commands more t.4)

@@ -1,0 +1,5 @@
+pub mod Finding
+pub mod Users
+pub mod Cores
+pub mod Pins
+pub mod Steps
