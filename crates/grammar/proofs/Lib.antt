@@ -1,0 +1,9 @@
+pub mod Exact
+pub mod Begins
+pub mod Tokens
+pub mod Many
+pub mod Digits
+pub mod Checked
+pub mod Inside
+pub mod Top
+pub mod Loops

@@ -1,0 +1,64 @@
+-- Which token a rule asks for.
+use Rattle.std.specs.Prelude.{ℕ, ◌^◌, nat_lt, List, Bool, true, false, Option, Some, None, ◌&&◌, if◌then◌else◌}
+use Rattle.std.specs.Str.{bytes_eq, str_eq_ignore_ascii_case}
+use Rattle.std.specs.Char.{is_ascii_digit}
+use Rattle.std.specs.List.{list_all}
+use Rattle.std.specs.Str.Parse.{digits_value}
+use Rattle.cube_lex.specs.Lexeme.{Lexeme}
+use Rattle.cube_lex.specs.Quoted.{unquoted}
+use Rattle.dim_core.specs.Name.{is_name}
+use Rattle.cube_lex.specs.declared.token.Kind.{Kind}
+use Rattle.cube_lex.specs.declared.token.Kind.TheVariants as kinds
+
+-- a sign, and whether it's this one
+abbrev pub is_sign_kind : Kind → Bool
+is_sign_kind kinds.Sign = true
+is_sign_kind _ = false
+
+abbrev pub is_word_kind : Kind → Bool
+is_word_kind kinds.Word = true
+is_word_kind _ = false
+
+abbrev pub is_text_kind : Kind → Bool
+is_text_kind kinds.Text = true
+is_text_kind _ = false
+
+abbrev pub is_number_kind : Kind → Bool
+is_number_kind kinds.Number = true
+is_number_kind _ = false
+
+-- whether the token is this sign
+abbrev pub is_sign : List ℕ → Lexeme → Bool
+is_sign sign t = is_sign_kind t.kind && bytes_eq t.piece sign
+
+-- whether the token is this word, in letters of either case
+abbrev pub is_word : List ℕ → Lexeme → Bool
+is_word word t = is_word_kind t.kind && str_eq_ignore_ascii_case t.piece word
+
+-- the token, if it is one of these, gives this value
+abbrev pub when : {T A : Type 0} → (T → Bool) → (T → A) → T → Option A
+when p value t = if p t then Some (value t) else None
+
+-- this sign
+abbrev pub sign : List ℕ → Lexeme → Option (Unit {0})
+sign bytes = when (is_sign bytes) (λ _. tt)
+
+-- this word, which gives its line
+abbrev pub word : List ℕ → Lexeme → Option ℕ
+word bytes = when (is_word bytes) (λ t. t.line)
+
+-- a quoted text, which gives its bytes
+abbrev pub text : Lexeme → Option (List ℕ)
+text = when (λ t. is_text_kind t.kind) (λ t. unquoted t.piece)
+
+-- a quoted text that is a name, which gives its bytes
+abbrev pub name : Lexeme → Option (List ℕ)
+name = when (λ t. is_text_kind t.kind && is_name (unquoted t.piece)) (λ t. unquoted t.piece)
+
+-- digits alone, which write a number below 2 ^ 31
+abbrev pub is_whole : List ℕ → Bool
+is_whole piece = list_all is_ascii_digit piece && nat_lt (digits_value 10 piece) (2 ^ 31)
+
+-- a whole number, which gives its value
+abbrev pub whole : Lexeme → Option ℕ
+whole = when (λ t. is_number_kind t.kind && is_whole t.piece) (λ t. digits_value 10 t.piece)

@@ -1,0 +1,88 @@
+ghost use Rattle.std.specs.Prelude.{◌≡◌, ◌<◌, length, OnOk};
+ghost use Rattle.std.specs.Str.{bytes_eq, str_eq_ignore_ascii_case};
+ghost use Rattle.cube_lex.specs.Lexeme.{lexeme_of};
+ghost use Rattle.grammar.specs.Reading.{starts, take_one, finish};
+ghost use Rattle.grammar.specs.Cursor.{lexemes, Reads};
+ghost use Rattle.grammar.specs.Tokens.{is_sign, is_word};
+ghost use Rattle.grammar.specs.Tokens as tokens;
+
+use crate::cursor::{Cursor, Scan};
+use crate::stop::Stop;
+use cube_lex::{Kind, Token};
+
+/// Whether the token is this sign.
+pub fn is_sign(token: &Token<'_>, sign: &[u8]) -> bool
+    ensures { result ≡ tokens.is_sign sign.now (lexeme_of token.now) }
+{
+    match token.kind {
+        Kind::Sign => token.piece == sign,
+        _ => false,
+    }
+}
+
+/// Whether the token is this word. The case of letters doesn't count.
+pub fn is_word(token: &Token<'_>, word: &[u8]) -> bool
+    ensures { result ≡ tokens.is_word word.now (lexeme_of token.now) }
+{
+    match token.kind {
+        Kind::Word => token.piece.eq_ignore_ascii_case(word),
+        _ => false,
+    }
+}
+
+/// Whether this sign comes next.
+pub fn sign_comes<S>(cursor: &Cursor<'_, S>, sign: &[u8]) -> bool
+    ensures { result ≡ starts (tokens.is_sign sign.now) (lexemes cursor.now.tokens.now) }
+{
+    match cursor.peek() {
+        Some(token) => is_sign(&token, sign),
+        None => false,
+    }
+}
+
+/// Whether this word comes next.
+pub fn word_comes<S>(cursor: &Cursor<'_, S>, word: &[u8]) -> bool
+    ensures { result ≡ starts (tokens.is_word word.now) (lexemes cursor.now.tokens.now) }
+{
+    match cursor.peek() {
+        Some(token) => is_word(&token, word),
+        None => false,
+    }
+}
+
+/// Takes this sign.
+pub fn sign<C, S: Scan<C>>(cursor: &mut Cursor<'_, S>, sign: &[u8]) -> Result<(), Stop<C>>
+    ensures read { Reads (λ _. tt) (take_one S.scanned (tokens.sign sign.now)) cursor.old result cursor.new }
+    ensures shorter { OnOk result (length cursor.new.tokens.now < length cursor.old.tokens.now) }
+{
+    if sign_comes(cursor, sign) {
+        cursor.advance()
+    } else {
+        Err(cursor.dead())
+    }
+}
+
+/// Takes this word, and gives its line.
+pub fn word<C, S: Scan<C>>(cursor: &mut Cursor<'_, S>, word: &[u8]) -> Result<u32, Stop<C>>
+    ensures read { Reads (λ line. line) (take_one S.scanned (tokens.word word.now)) cursor.old result cursor.new }
+    ensures shorter { OnOk result (length cursor.new.tokens.now < length cursor.old.tokens.now) }
+{
+    match cursor.peek() {
+        Some(token) if is_word(&token, word) => {
+            cursor.advance()?;
+            Ok(token.line)
+        }
+        _ => Err(cursor.dead()),
+    }
+}
+
+/// Takes the end of the text.
+pub fn end<C, S: Scan<C>>(cursor: &mut Cursor<'_, S>) -> Result<(), Stop<C>>
+    ensures { Reads (λ _. tt) finish cursor.old result cursor.new }
+{
+    if cursor.tokens.is_empty() {
+        Ok(())
+    } else {
+        Err(cursor.dead())
+    }
+}

@@ -1,0 +1,92 @@
+ghost use Rattle.std.specs.Prelude.{◌≡◌, ◌<◌, ◌-◌, drop, length, OnOk, IfErr, Result, Ok, Err};
+ghost use Rattle.std.specs.Option.{option_map};
+ghost use Rattle.cube_lex.specs.Lexeme.{Lexeme, lexeme_of};
+ghost use Rattle.grammar.specs.Fault.{line_at};
+ghost use Rattle.grammar.specs.Reading.{first, take_one};
+ghost use Rattle.grammar.specs.Cursor.{lexemes, Reads, any_token};
+
+use crate::stop::Stop;
+use cube_lex::Token;
+
+/// What a text is watched by, token by token: the state that its limits and further causes `C` depend on.
+pub trait Scan<C> {
+    ghost scanned: { Self → Lexeme → Result Self C };
+
+    /// Goes over one more token.
+    fn scan(&mut self, token: &Token<'_>) -> Result<(), C>
+        ensures passed { OnOk result (scanned self.old (lexeme_of token.now) ≡ Ok self.new) }
+        ensures refused { IfErr result (λ cause. scanned self.old (lexeme_of token.now) ≡ Err cause) };
+}
+
+/// A place in a text: the tokens that are left, and the state of the watch.
+#[derive(Drop)]
+pub struct Cursor<'a, S> {
+    pub tokens: &'a [Token<'a>],
+    pub state: S,
+}
+
+impl<'a, S> Cursor<'a, S> {
+    /// The place before these tokens.
+    pub fn new(tokens: &'a [Token<'a>], state: S) -> Cursor<'a, S>
+        ensures tokens { result.tokens.now ≡ tokens.now }
+        ensures state { result.state ≡ state }
+    {
+        Cursor { tokens, state }
+    }
+
+    /// The next token.
+    pub fn peek(&self) -> Option<Token<'a>>
+        ensures { option_map lexeme_of result ≡ first (lexemes self.now.tokens.now) }
+    {
+        self.tokens.first().copied()
+    }
+
+    /// Why a reader stops where the next token fits nothing.
+    pub fn dead<C>(&self) -> Stop<C>
+        ensures { result ≡ Stop.Dead (length self.now.tokens.now) }
+    {
+        Stop::Dead(self.tokens.len())
+    }
+
+    /// Takes the next token, whatever it is.
+    pub fn advance<C>(&mut self) -> Result<(), Stop<C>>
+    where
+        S: Scan<C>,
+        ensures read { Reads (λ _. tt) (take_one S.scanned any_token) self.old result self.new }
+        ensures shorter { OnOk result (length self.new.tokens.now < length self.old.tokens.now) }
+    {
+        let Some(token) = self.peek() else {
+            return Err(self.dead());
+        };
+        if let Err(cause) = self.state.scan(&token) {
+            return Err(Stop::Refused(cause));
+        }
+        self.tokens = &self.tokens[1..];
+        Ok(())
+    }
+}
+
+/// No watch.
+#[derive(Clone, Copy, Debug)]
+pub struct Unwatched;
+
+impl<C> Scan<C> for Unwatched {
+    ghost use Rattle.grammar.specs.Watch.{unscanned};
+
+    ghost scanned = { unscanned };
+
+    fn scan(&mut self, _: &Token<'_>) -> Result<(), C> {
+        Ok(())
+    }
+}
+
+/// The line of the place at which so many tokens are left: that of the next token, or of the text's end.
+pub fn line_left(tokens: &[Token<'_>], end_line: u32, left: usize) -> u32
+    ensures { result ≡ line_at (λ t. t.line) end_line (lexemes (drop (length tokens.now - left) tokens.now)) }
+{
+    let at = tokens.len().saturating_sub(left);
+    match &tokens[at..] {
+        [token, ..] => token.line,
+        [] => end_line,
+    }
+}

@@ -1,0 +1,16 @@
+//! The engine that all exact texts are read with: grammars as relations, readers of the same shape, and one proof that such a
+//! reader is exact.
+#![tactic(auto)]
+
+mod basic;
+mod cursor;
+mod stop;
+mod values;
+
+pub use basic::{end, is_sign, is_word, sign, sign_comes, word, word_comes};
+pub use cursor::{Cursor, Scan, Unwatched, line_left};
+pub use stop::Stop;
+pub use values::{name, text, whole};
+
+#[cfg(test)]
+mod tests;
