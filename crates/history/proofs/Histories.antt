@@ -15,7 +15,7 @@ here_or_past : (a b : ℕ) → a ≤ b → (a ≡ b) ⊎ (a + 1 ≤ b)
 here_or_past a b h = elim (cases_lt a b) [ inl less ↦ inr (omega arith) | inr more ↦ inl (omega arith) ]
 
 -- an entry at or after an answer's place is that answer's, or comes after it
-stands_cases : {T R : Type 0} (found : Effect T R) (log : List (Entry T)) (place user number p : ℕ) (entry : Entry T)
+pub stands_cases : {T R : Type 0} (found : Effect T R) (log : List (Entry T)) (place user number p : ℕ) (entry : Entry T)
     → Stands found log place user number → slice_get log p ≡ Some entry → place ≤ p
     → (least_after found place ≤ p) ⊎ ((reply : R) × (p ≡ place) × (entry.command ≡ number) × (found ≡ Commit entry.writes reply))
 stands_cases (Commit writes reply) log place user number p entry stands is from =

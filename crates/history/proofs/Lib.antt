@@ -1,3 +1,5 @@
 pub mod Lists
 pub mod Runs
 pub mod Histories
+pub mod ByPlaces
+pub mod OneUser

@@ -1,3 +1,4 @@
 pub mod Version
 pub mod UserRun
+pub mod ByPlace
 pub mod History

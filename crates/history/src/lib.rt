@@ -12,6 +12,6 @@ mod world;
 
 pub use effect::Effect;
 pub use entry::Entry;
-pub use laws::{runs_go_on, runs_make_a_history};
+pub use laws::{one_user_has_one_history, runs_are_read_by_place, runs_go_on, runs_make_a_history};
 pub use told::Told;
 pub use world::World;

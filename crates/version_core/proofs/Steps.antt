@@ -1,7 +1,6 @@
 -- The steps as the code takes them: the user of a number stands at an index of a list, and a step writes that element.
 use Rattle.std.proofs.Common.{◌≡◌, ◌≢◌, ℕ, ◌+◌, ◌<◌, ◌≤◌, ◌^◌, ◌==◌, ◌&&◌, ◌||◌, map, Bool, true, false, zero, suc, List, [], ◌∷◌, ◌++◌, length, Option, Some, None, refl, ap, sym, ◌∙◌, subst, arith, inl, inr}
 use Rattle.std.specs.List.{slice_get, list_any}
-use Rattle.std.specs.Bool.{MatchBool}
 use Rattle.std.proofs.Math.Seq.{take-length}
 use Rattle.std.proofs.lemmas.List.{map-append}
 use Rattle.std.proofs.lemmas.Bool.Decides.{nat_tests}
@@ -18,7 +17,7 @@ use Rattle.version_core.specs.declared.event.Event.TheVariants as kind
 use Rattle.version_core.specs.declared.known.Known.{Known}
 use Rattle.version_core.specs.declared.user.Tried.{Tried}
 use Rattle.version_core.specs.CoreState.{UserState, KeptValue, CoreState, start, new_user, next_command, user_at, set_user, with_user, given}
-use Rattle.version_core.specs.Events.{pinned, unpinned, answered, after_try, has_kept, try_by, commit_by, event_after}
+use Rattle.version_core.specs.Events.{pinned, unpinned, answered, after_try, has_kept, try_by, commit_by, event_after, IsStep}
 use Rattle.version_core.specs.Acts.{Give, act_after}
 use Rattle.version_core.specs.Sound.{IsSound}
 use Rattle.version_core.specs.Stored.{kept_value, core_of, IsStored}
@@ -300,15 +299,13 @@ module _ {S C K T R V : Type 0} (content : S → C) (effect : C → K → Effect
   pub read_done : (first : C) (log : List (Entry T)) (known : List Known) (users : List (UserState K T R)) (number place cell : ℕ) (user : UserState K T R) (found : Bool)
       → user_at users number ≡ Some user → user.pin ≡ Some place
       → found ≡ list_any (λ k. (k.version == place) && (k.cell == cell)) known
-      → MatchBool found
-      (event_after effect after value (core_of after value first log known users) (kind.Read number cell) ≡ Some (core_of after value first log known users))
-      (event_after effect after value (core_of after value first log known users) (kind.Read number cell) ≡ None)
+      → IsStep effect after value (core_of after value first log known users) (kind.Read number cell) (core_of after value first log known users) found
   read_done first log known users number place cell user true here pin is =
       let test : has_kept (map (kept_value after value first log) known) place cell ≡ true = has_kept-known first log known place cell ∙ sym is in
       rw (here, pin, test) refl
   read_done first log known users number place cell user false here pin is =
       let test : has_kept (map (kept_value after value first log) known) place cell ≡ false = has_kept-known first log known place cell ∙ sym is in
-      rw (here, pin, test) refl
+      (let idle : event_after effect after value (core_of after value first log known users) (kind.Read number cell) ≡ None = rw (here, pin, test) refl in idle, refl)
 
   -- ## Start
 

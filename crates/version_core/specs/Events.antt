@@ -1,6 +1,6 @@
 -- The events: where each is enabled, and what it does. `effect` is what a command does on a content, `after` the content
 -- after writes, and `value` the value of a cell on a content.
-use Rattle.std.specs.Prelude.{ℕ, ◌+◌, ◌==◌, Bool, ◌&&◌, if◌then◌else◌, List, [], ◌∷◌, ◌++◌, Option, Some, None, length, option_map, option_and_then}
+use Rattle.std.specs.Prelude.{ℕ, ◌+◌, ◌==◌, Bool, ◌&&◌, if◌then◌else◌, List, [], ◌∷◌, ◌++◌, Option, Some, None, length, option_map, option_and_then, ◌≡◌, MatchBool}
 use Rattle.std.specs.List.{list_any}
 use Rattle.history.specs.declared.effect.Effect.{Effect}
 use Rattle.history.specs.declared.effect.Effect.TheVariants.{Commit, Rejected, Read}
@@ -92,3 +92,20 @@ event_after effect after value core (event.Read number cell) = option_and_then (
 event_after effect after value core (event.Keep number cell) =
     option_and_then (λ user. keep_by after value core user cell) (user_at core.users number)
 event_after effect after value core (event.Unpin number) = option_and_then (λ user. unpin_by core number user) (user_at core.users number)
+
+-- one step: where the event is enabled, the core is the one after it; where it is not, the core is as it was
+abbrev pub IsStep : {C K T R V : Type 0} → (C → K → Effect T R) → (C → T → C) → (C → ℕ → V) → CoreState C K T R V → Event
+    → CoreState C K T R V → Bool → Type 0
+IsStep effect after value old event new enabled =
+    MatchBool enabled
+    (event_after effect after value old event ≡ Some new)
+    ((event_after effect after value old event ≡ None) × (new ≡ old))
+
+-- the events whose step takes no memory, so that it is always answered
+abbrev pub TakesNoMemory : Event → Type 0
+TakesNoMemory (event.Pin number) = Unit {0}
+TakesNoMemory (event.Read number cell) = Unit {0}
+TakesNoMemory (event.Unpin number) = Unit {0}
+TakesNoMemory (event.Try number) = ⊥
+TakesNoMemory (event.Commit number) = ⊥
+TakesNoMemory (event.Keep number cell) = ⊥

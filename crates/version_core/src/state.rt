@@ -1,4 +1,4 @@
-ghost use Rattle.std.specs.Prelude.{◌≡◌, ◌+◌, ◌-◌, ◌<◌, ◌≤◌, ◌^◌, ◌⊎◌, length, IsOk, IsSome, IfOk, OnOk, OnErr, IfSome, MatchBool, MatchOption, Some, None, option_copied, option_map};
+ghost use Rattle.std.specs.Prelude.{◌≡◌, ◌+◌, ◌-◌, ◌<◌, ◌≤◌, ◌^◌, ◌⊎◌, length, IsOk, IsSome, IfOk, OnOk, OnErr, IfSome, MatchOption, Some, None, option_copied, option_map};
 ghost use Rattle.std.specs.Option.{ForSome};
 ghost use Rattle.version_core.specs.CoreState.{user_at};
 
@@ -35,7 +35,7 @@ impl<W: World> Model for Core<W> {
 impl<W: World> Core<W> {
     ghost use Rattle.version_core.specs.declared.event.Event.{Event};
     ghost use Rattle.version_core.specs.CoreState.{start};
-    ghost use Rattle.version_core.specs.Events.{event_after};
+    ghost use Rattle.version_core.specs.Events.{IsStep, TakesNoMemory};
     ghost use Rattle.version_core.specs.Acts.{Act, act_after};
     ghost use Rattle.version_core.specs.OneHistory.{IsOneHistory};
 
@@ -59,7 +59,8 @@ impl<W: World> Core<W> {
         })
     }
 
-    /// Gives the user one command more, which is the user's last.
+    /// Gives the user one command more, which is the user's last. A command's number is below 2^32, so a user has room
+    /// for one more while there are fewer than 2^32 - 1.
     pub fn give(&mut self, user: u32, command: W::Command) -> Result<(), AllocError>
         requires user { IsSome (user_at self.old.users user) }
         requires few { ForSome (user_at self.old.users user) (λ found. length found.commands + 1 < 2 ^ 32) }
@@ -72,10 +73,12 @@ impl<W: World> Core<W> {
         given
     }
 
-    /// Takes one step, and answers whether the event is enabled. Where it is not, nothing changes.
+    /// Takes one step, and answers whether the event is enabled. Where it is not, nothing changes; where memory runs out,
+    /// the core is as it was and the event may come again.
     pub fn step(&mut self, alloc: Global, event: Event) -> Result<bool, AllocError>
-        ensures step { IfOk result (λ enabled. MatchBool enabled (event_after W.effect W.after W.cell_value self.old event ≡ Some self.new) ((event_after W.effect W.after W.cell_value self.old event ≡ None) × (self.new ≡ self.old))) }
+        ensures step { IfOk result (IsStep W.effect W.after W.cell_value self.old event self.new) }
         ensures history { IsOneHistory W.effect W.after W.cell_value self.new }
+        ensures no_memory { TakesNoMemory event → IsOk result }
         ensures err { OnErr result (self.new ≡ self.old) }
     {
         let enabled = match event {
@@ -127,7 +130,7 @@ impl<W: World> Core<W> {
 
     /// The user pins the newest version, where a command waits.
     fn pin(&mut self, user: u32) -> bool
-        ensures { MatchBool result (event_after W.effect W.after W.cell_value self.old (Event.Pin user) ≡ Some self.new) ((event_after W.effect W.after W.cell_value self.old (Event.Pin user) ≡ None) × (self.new ≡ self.old)) }
+        ensures { IsStep W.effect W.after W.cell_value self.old (Event.Pin user) self.new result }
     {
         let place = self.history.len() as u64;
         let Some(index) = index_of(&self.users, user) else {
@@ -142,7 +145,7 @@ impl<W: World> Core<W> {
 
     /// The user's next command is tried on the pinned version, where no try is there yet.
     fn attempt(&mut self, alloc: Global, user: u32) -> Result<bool, AllocError>
-        ensures step { IfOk result (λ enabled. MatchBool enabled (event_after W.effect W.after W.cell_value self.old (Event.Try user) ≡ Some self.new) ((event_after W.effect W.after W.cell_value self.old (Event.Try user) ≡ None) × (self.new ≡ self.old))) }
+        ensures step { IfOk result (IsStep W.effect W.after W.cell_value self.old (Event.Try user) self.new) }
         ensures err { OnErr result (self.new ≡ self.old) }
     {
         let Some(index) = index_of(&self.users, user) else {
@@ -164,7 +167,7 @@ impl<W: World> Core<W> {
 
     /// The user's try enters the history, where the pinned version is still the newest.
     fn commit(&mut self, alloc: Global, user: u32) -> Result<bool, AllocError>
-        ensures step { IfOk result (λ enabled. MatchBool enabled (event_after W.effect W.after W.cell_value self.old (Event.Commit user) ≡ Some self.new) ((event_after W.effect W.after W.cell_value self.old (Event.Commit user) ≡ None) × (self.new ≡ self.old))) }
+        ensures step { IfOk result (IsStep W.effect W.after W.cell_value self.old (Event.Commit user) self.new) }
         ensures err { OnErr result (self.new ≡ self.old) }
     {
         let newest = self.history.len();
@@ -195,7 +198,7 @@ impl<W: World> Core<W> {
 
     /// The user finds the kept value of the cell on the pinned version.
     fn read(&self, user: u32, cell: u64) -> bool
-        ensures { MatchBool result (event_after W.effect W.after W.cell_value self.now (Event.Read user cell) ≡ Some self.now) (event_after W.effect W.after W.cell_value self.now (Event.Read user cell) ≡ None) }
+        ensures { IsStep W.effect W.after W.cell_value self.now (Event.Read user cell) self.now result }
     {
         let Some(index) = index_of(&self.users, user) else {
             return false;
@@ -208,7 +211,7 @@ impl<W: World> Core<W> {
 
     /// The cell's value on the pinned version is kept for all users.
     fn keep(&mut self, user: u32, cell: u64) -> Result<bool, AllocError>
-        ensures step { IfOk result (λ enabled. MatchBool enabled (event_after W.effect W.after W.cell_value self.old (Event.Keep user cell) ≡ Some self.new) ((event_after W.effect W.after W.cell_value self.old (Event.Keep user cell) ≡ None) × (self.new ≡ self.old))) }
+        ensures step { IfOk result (IsStep W.effect W.after W.cell_value self.old (Event.Keep user cell) self.new) }
         ensures err { OnErr result (self.new ≡ self.old) }
     {
         let Some(index) = index_of(&self.users, user) else {
@@ -228,7 +231,7 @@ impl<W: World> Core<W> {
 
     /// The user gives up the pin and the try.
     fn unpin(&mut self, user: u32) -> bool
-        ensures { MatchBool result (event_after W.effect W.after W.cell_value self.old (Event.Unpin user) ≡ Some self.new) ((event_after W.effect W.after W.cell_value self.old (Event.Unpin user) ≡ None) × (self.new ≡ self.old)) }
+        ensures { IsStep W.effect W.after W.cell_value self.old (Event.Unpin user) self.new result }
     {
         let Some(index) = index_of(&self.users, user) else {
             return false;
