@@ -58,52 +58,32 @@ fn looks_up_the_elements_of_a_quarter(rt: HostRuntime) -> Result<(), Fail> {
     Ok(())
 }
 
+// A dimension of these consolidations, each of one part, and the leaf Leaf.
+fn chain(alloc: Global, elements: &[(&str, &str)]) -> Result<Builder, Fail> {
+    let mut builder = Builder::new(alloc, name(alloc, "Chain")?)?;
+    builder.leaf(name(alloc, "Leaf")?)?;
+    for (element, part) in elements {
+        let parts = vec![in alloc; (name(alloc, part)?, 1)]?;
+        builder.consolidated(name(alloc, element)?, parts)?;
+    }
+    Ok(builder)
+}
+
 #[test]
-fn orders_components_and_names_the_first_element_of_a_loop(rt: HostRuntime) -> Result<(), Fail> {
-    let alloc = rt.alloc();
-    // H1 = Q1 + Mar, Q1 = Jan + Feb, each defined before its components
-    let mut builder = Builder::new(alloc, name(alloc, "Month")?)?;
-    builder.consolidated(name(alloc, "H1")?, parts(alloc, &["Q1", "Mar"])?)?;
-    builder.consolidated(name(alloc, "Q1")?, parts(alloc, &["Jan", "Feb"])?)?;
-    for leaf in ["Jan", "Feb", "Mar"] {
-        builder.leaf(name(alloc, leaf)?)?;
-    }
-    let month = builder.finish()?;
-    assert_eq!(rt; month.components(0), [(1, 1), (4, 1)].as_slice());
-    assert_eq!(rt; month.order().len(), 5);
-    assert_eq!(rt;
-        month.order().iter().position(|element| *element == 0),
-        Some(4)
-    );
-
-    // Top stands above the loop, and A, B and C lie on it
-    let mut builder = Builder::new(alloc, name(alloc, "Ring")?)?;
-    for (element, part) in [
-        ("Top", "C"),
-        ("Leaf", ""),
-        ("C", "B"),
-        ("B", "A"),
-        ("A", "C"),
-    ] {
-        if part.is_empty() {
-            builder.leaf(name(alloc, element)?)?;
-        } else {
-            builder.consolidated(name(alloc, element)?, parts(alloc, &[part])?)?;
-        }
-    }
-    assert!(rt; matches!(builder.finish(), Err(DimFault::Loop(2))));
-
-    let mut builder = Builder::new(alloc, name(alloc, "Short")?)?;
-    builder.leaf(name(alloc, "Jan")?)?;
-    builder.consolidated(name(alloc, "Q1")?, parts(alloc, &["Jan", "Feb"])?)?;
-    assert!(rt; matches!(builder.finish(), Err(DimFault::UnknownComponent(1))));
+fn orders_components_before_what_they_are_components_of(rt: HostRuntime) -> Result<(), Fail> {
+    let chain = chain(rt.alloc(), &[("Year", "Half"), ("Half", "Leaf")])?.finish()?;
+    assert_eq!(rt; chain.len(), 3);
+    assert_eq!(rt; chain.components(1), [(2, 1)].as_slice());
+    assert_eq!(rt; chain.order(), [0, 2, 1].as_slice());
     Ok(())
 }
 
-fn parts(alloc: Global, names: &[&str]) -> Result<Vec<(Name, i64)>, Fail> {
-    let mut parts = Vec::new(alloc);
-    for text in names {
-        parts.push((name(alloc, text)?, 1))?;
-    }
-    Ok(parts)
+#[test]
+fn names_the_first_element_of_a_loop(rt: HostRuntime) -> Result<(), Fail> {
+    // Top stands above the loop of C, B and A
+    let ring = chain(rt.alloc(), &[("Top", "C"), ("C", "B"), ("B", "A"), ("A", "C")])?;
+    assert!(rt; matches!(ring.finish(), Err(DimFault::Loop(2))));
+    let short = chain(rt.alloc(), &[("Year", "Leaf"), ("Half", "Feb")])?;
+    assert!(rt; matches!(short.finish(), Err(DimFault::UnknownComponent(2))));
+    Ok(())
 }
