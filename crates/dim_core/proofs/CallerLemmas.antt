@@ -6,7 +6,7 @@ use Rattle.std.proofs.lemmas.List.{map-append, take-append-le, get_or_append_lef
 use Rattle.dim_core.specs.Name.{has_name, is_same_name}
 use Rattle.dim_core.specs.Draft.{Draft, empty_draft, with_element, are_known, first_unknown, HasEarlierComponents}
 use Rattle.dim_core.specs.Outline.{Element, names_of, component_lists}
-use Rattle.dim_core.proofs.Places.{position-none}
+use Rattle.dim_order.proofs.Places.{position-none}
 use Rattle.dim_core.proofs.Elements.{get_or_within}
 
 first_or_rest : (b : Bool) {few all : Bool} → (b || few) ≡ true → (few ≡ true → all ≡ true) → (b || all) ≡ true
@@ -30,11 +30,11 @@ are_known-take names n [] h = refl
 are_known-take names n (part ∷ parts) h =
     both_kept (has_name (take n names) part.0) (are_known (take n names) parts) h (has_name-take names n part.0) (are_known-take names n parts)
 
-length-component_lists : (elements : List (Element (List ℕ))) → length (component_lists elements) ≡ length elements
+pub length-component_lists : (elements : List (Element (List ℕ))) → length (component_lists elements) ≡ length elements
 length-component_lists [] = refl
 length-component_lists (e ∷ es) = omega (arith, length-component_lists es)
 
-length-names_of : (elements : List (Element (List ℕ))) → length (names_of elements) ≡ length elements
+pub length-names_of : (elements : List (Element (List ℕ))) → length (names_of elements) ≡ length elements
 length-names_of [] = refl
 length-names_of (e ∷ es) = omega (arith, length-names_of es)
 

@@ -1,5 +1,6 @@
+pub mod Answering
 pub mod CallerLemmas
 pub mod Elements
 pub mod Definitions
-pub mod Places
+pub mod InOrder
 pub mod Resolving

@@ -1,5 +1,5 @@
 -- Components by name and by index.
-use Rattle.std.proofs.Common.{◌≡◌, ℕ, zero, suc, ◌<◌, ℤ, List, [], ◌∷◌, length, get_or, refl, ap, sym, ◌∙◌, arith, subst, Bool, true, false, ◌&&◌, nat_le, None, not, position, IsTrue, All, sum_by, unsigned_abs}
+use Rattle.std.proofs.Common.{◌≡◌, ℕ, zero, suc, ◌<◌, ℤ, List, [], ◌∷◌, length, get_or, refl, ap, sym, ◌∙◌, arith, subst, Bool, true, false, ◌&&◌, nat_le, None, not, position, IsTrue, All, sum_by, unsigned_abs, map}
 use Rattle.std.specs.List.{AllZip, IsDistinct}
 use Rattle.std.proofs.lemmas.Bool.{leb-true}
 use Rattle.std.proofs.lemmas.List.Elements.{All-cons, All-nil, All-head, All-tail}
@@ -7,11 +7,12 @@ use Rattle.std.proofs.lemmas.List.Quantifiers.{position-Some}
 use Rattle.std.proofs.lemmas.List.Sums.{sum_by-cons}
 use Rattle.std.proofs.lemmas.Slice.Zip.{AllZip-long}
 use Rattle.dim_core.specs.Name.{is_same_name}
-use Rattle.dim_core.specs.Draft.{IsResolved, has_weights, are_known, first_unknown, IsFinished}
-use Rattle.dim_core.specs.Kept.{IsKept}
-use Rattle.dim_core.specs.Outline.{Element, elements_of, component_count, IsWeight, IsDimension}
-use Rattle.dim_core.proofs.Places.{none_passes}
-use Rattle.dim_core.proofs.Elements.{names_of-elements_of, component_lists-elements_of, length-elements_of}
+use Rattle.dim_core.specs.Draft.{IsResolved, has_weights, are_known, by_index, first_unknown, first_loop, IsFinished}
+use Rattle.dim_core.specs.Kept.{IsKept, IsStored}
+use Rattle.dim_order.specs.Loops.{IsOrder, ArePartsWithin, first_on_loop}
+use Rattle.dim_core.specs.Outline.{Element, elements_of, IsWeight, IsDimension, names_of, component_lists}
+use Rattle.dim_order.proofs.Places.{none_passes}
+use Rattle.dim_core.proofs.Elements.{names_of-elements_of, component_lists-elements_of, length-elements_of, get_or_within}
 
 -- the test of a builder over its fields
 pub first_unknown-elements_of : (of : List ℕ) (names : List (List ℕ)) (lists : List (List (List ℕ × ℤ))) → length lists ≡ length names
@@ -74,21 +75,74 @@ finished_elements names (s ∷ shown) [] (c ∷ cs) r = elim r [ ]
 finished_elements names (s ∷ shown) (l ∷ ls) [] r = elim r [ ]
 finished_elements names (s ∷ shown) (l ∷ ls) (c ∷ cs) r = ((refl, r.0), finished_elements names shown ls cs r.1)
 
--- the fields of a builder, with its components by index, are a dimension
-pub resolved_dimension : (of : List ℕ) (names : List (List ℕ)) (lists : List (List (List ℕ × ℤ))) (count : ℕ) (resolved : List (List (ℕ × ℤ)))
-    → IsKept names lists count → AllZip (IsResolved names) lists resolved → IsDimension (record { name = of; elements = elements_of names resolved })
-resolved_dimension of names lists count resolved kept r =
-    let paired : length resolved ≡ length names = AllZip-long (IsResolved names) lists resolved r ∙ kept.paired in
-    let counted = length-elements_of names resolved paired in
-    let listed = component_lists-elements_of names resolved paired in
-    let total : component_count (elements_of names resolved) ≡ count = ap (sum_by length) listed ∙ sum_by-resolved names lists resolved r ∙ sym kept.counted in
-    let D : List (List ℕ) → Type 0 = IsDistinct is_same_name in
+-- the fields of a builder, with its components by index and an order, are those of a dimension
+pub resolved_stored : (names : List (List ℕ)) (lists : List (List (List ℕ × ℤ))) (count : ℕ) (resolved : List (List (ℕ × ℤ))) (order : List ℕ)
+    → IsKept names lists count → AllZip (IsResolved names) lists resolved → IsOrder resolved order → IsStored names resolved order
+resolved_stored names lists count resolved order kept r ordered =
+    let total = sum_by-resolved names lists resolved r ∙ sym kept.counted in
     record {
-      few = rw counted kept.few;
+      paired = AllZip-long (IsResolved names) lists resolved r ∙ kept.paired;
+      distinct = kept.distinct;
+      few = kept.few;
       few_components = rw total kept.few_components;
-      distinct = subst D (sym (names_of-elements_of names resolved paired)) kept.distinct;
-      parts = λ e. rw (counted, listed) (resolved_parts_at names lists resolved r kept.weights e);
+      parts = resolved_parts_at names lists resolved r kept.weights;
+      ordered = ordered;
     }
+
+-- the fields of a dimension are seen as one
+pub stored_dimension : (of : List ℕ) (names : List (List ℕ)) (lists : List (List (ℕ × ℤ))) (order : List ℕ) → IsStored names lists order
+    → IsDimension (record { name = of; elements = elements_of names lists })
+stored_dimension of names lists order stored =
+    let counted = length-elements_of names lists stored.paired in
+    let listed = component_lists-elements_of names lists stored.paired in
+    let D : List (List ℕ) → Type 0 = IsDistinct is_same_name in
+    let O : List (List (ℕ × ℤ)) → Type 0 = λ ls. IsOrder ls order in
+    record {
+      few = rw counted stored.few;
+      few_components = rw listed stored.few_components;
+      distinct = subst D (sym (names_of-elements_of names lists stored.paired)) stored.distinct;
+      parts = λ e. rw (counted, listed) (stored.parts e);
+      order = order;
+      ordered = subst O (sym listed) stored.ordered;
+    }
+
+-- each component by index is an element
+pub resolved_within : (names : List (List ℕ)) (lists : List (List (List ℕ × ℤ))) (count : ℕ) (resolved : List (List (ℕ × ℤ)))
+    → IsKept names lists count → AllZip (IsResolved names) lists resolved → ArePartsWithin resolved
+resolved_within names lists count resolved kept r e d there k part inside =
+    let long = AllZip-long (IsResolved names) lists resolved r in
+    let same : get_or resolved e d ≡ get_or resolved e [] = get_or_within resolved e d [] there in
+    let P : List (ℕ × ℤ) → Type 0 = All (λ c. (c.0 < length names) × IsWeight c.1) in
+    let at = subst P (sym same) (resolved_parts_at names lists resolved r kept.weights e) k part inside in
+    omega (arith, at.0, long, kept.paired)
+
+-- the components by index are what the draft says
+resolved_is : (names : List (List ℕ)) (written : List (List ℕ × ℤ)) (resolved : List (ℕ × ℤ)) → IsResolved names written resolved → resolved ≡ by_index names written
+resolved_is names [] [] r = refl
+resolved_is names [] (c ∷ cs) r = elim r [ ]
+resolved_is names (part ∷ parts) [] r = elim r [ ]
+resolved_is names (part ∷ parts) (c ∷ cs) r =
+    let rest = resolved_is names parts cs r.1 in
+    let here : (c.0, c.1) ≡ (c.0, part.1) = ap (λ (w : ℤ). (c.0, w)) r.0.1 in
+    rw (r.0.0) (ap (λ (x : ℕ × ℤ). x ∷ cs) here ∙ ap (λ xs. (c.0, part.1) ∷ xs) rest)
+
+resolved_are : (names : List (List ℕ)) (lists : List (List (List ℕ × ℤ))) (resolved : List (List (ℕ × ℤ))) → AllZip (IsResolved names) lists resolved → resolved ≡ map (by_index names) lists
+resolved_are names [] [] r = refl
+resolved_are names [] (c ∷ cs) r = elim r [ ]
+resolved_are names (l ∷ ls) [] r = elim r [ ]
+resolved_are names (l ∷ ls) (c ∷ cs) r =
+    let here = resolved_is names l c r.0 in
+    let rest = resolved_are names ls cs r.1 in
+    ap (λ x. x ∷ cs) here ∙ ap (λ xs. by_index names l ∷ xs) rest
+
+pub first_loop-resolved : (of : List ℕ) (names : List (List ℕ)) (lists : List (List (List ℕ × ℤ))) (resolved : List (List (ℕ × ℤ))) → length lists ≡ length names → AllZip (IsResolved names) lists resolved
+    → first_loop (record { name = of; elements = elements_of names lists }) ≡ first_on_loop resolved
+first_loop-resolved of names lists resolved paired r =
+    let shown = names_of-elements_of names lists paired in
+    let parts = component_lists-elements_of names lists paired in
+    let e : map (by_index (names_of (elements_of names lists))) (component_lists (elements_of names lists)) ≡ map (by_index names) lists =
+    ap (λ ns. map (by_index ns) (component_lists (elements_of names lists))) shown ∙ ap (map (by_index names)) parts in
+    ap first_on_loop (e ∙ sym (resolved_are names lists resolved r))
 
 -- and the draft that they are seen as is finished so
 pub resolved_finished : (of : List ℕ) (names : List (List ℕ)) (lists : List (List (List ℕ × ℤ))) (resolved : List (List (ℕ × ℤ)))

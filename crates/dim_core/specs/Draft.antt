@@ -1,6 +1,7 @@
 -- What contracts see of a builder: the definitions that it has taken.
-use Rattle.std.specs.Prelude.{◌≡◌, ℕ, ◌+◌, ◌<◌, Bool, ℤ, List, [], ◌∷◌, ◌++◌, length, take, Some, IsTrue, nat_le, nat_lt, ◌||◌, unsigned_abs, slice_index_or, not, Option, position}
+use Rattle.std.specs.Prelude.{◌≡◌, ℕ, ◌+◌, ◌<◌, Bool, ℤ, List, [], ◌∷◌, ◌++◌, length, take, Some, IsTrue, nat_le, nat_lt, ◌||◌, unsigned_abs, slice_index_or, not, Option, option_map, position, map, filter_map}
 use Rattle.std.specs.List.{AllZip, list_all}
+use Rattle.dim_order.specs.Loops.{first_on_loop}
 use Rattle.dim_core.specs.Name.{has_name, place_of}
 use Rattle.dim_core.specs.Outline.{Element, Outline, names_of, component_lists, component_count}
 
@@ -36,6 +37,14 @@ are_known names components = list_all (λ part. has_name names part.0) component
 -- the first element with a component that isn't defined
 abbrev pub first_unknown : Draft → Option ℕ
 first_unknown draft = position (λ components. not (are_known (names_of draft.elements) components)) (component_lists draft.elements)
+
+-- the components by index among these names; one that isn't there is left out
+abbrev pub by_index : List (List ℕ) → List (List ℕ × ℤ) → List (ℕ × ℤ)
+by_index names components = filter_map (λ part. option_map (λ index. (index, part.1)) (place_of names part.0)) components
+
+-- the element of least index that lies on a loop of components
+abbrev pub first_loop : Draft → Option ℕ
+first_loop draft = first_on_loop (map (by_index (names_of draft.elements)) (component_lists draft.elements))
 
 -- each component of each element names an element that was defined before it
 abbrev pub HasEarlierComponents : Draft → Type 0

@@ -1,7 +1,9 @@
 -- What the fields of a builder and of a dimension keep.
-use Rattle.std.specs.Prelude.{◌≡◌, ℕ, ◌≤◌, ℤ, List, length, sum_by, IsTrue, All}
+use Rattle.std.specs.Prelude.{◌≡◌, ℕ, ◌≤◌, ℤ, ◌<◌, List, [], length, sum_by, IsTrue, All, slice_index_or}
 use Rattle.std.specs.List.{IsDistinct}
+use Rattle.dim_order.specs.Loops.{IsOrder}
 use Rattle.dim_core.specs.Name.{is_same_name}
+use Rattle.dim_core.specs.Outline.{IsWeight}
 use Rattle.dim_core.specs.Draft.{has_weights}
 
 -- a builder has a list of components per name, no name twice, its count of components, and no more than the limits; each weight is in range
@@ -12,3 +14,12 @@ pub record IsKept (names : List (List ℕ)) (lists : List (List (List ℕ × ℤ
   pub few : length names ≤ 100000
   pub few_components : count ≤ 1000000
   pub weights : All (λ components. IsTrue (has_weights components)) lists
+
+-- a dimension has a list of components per name and an order of the elements, within the limits
+pub record IsStored (names : List (List ℕ)) (lists : List (List (ℕ × ℤ))) (order : List ℕ) : Type 0 where
+  pub paired : length lists ≡ length names
+  pub distinct : IsDistinct is_same_name names
+  pub few : length names ≤ 100000
+  pub few_components : sum_by length lists ≤ 1000000
+  pub parts : (e : ℕ) → All (λ c. (c.0 < length names) × IsWeight c.1) (slice_index_or lists e [])
+  pub ordered : IsOrder lists order

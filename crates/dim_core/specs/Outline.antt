@@ -1,6 +1,7 @@
 -- What contracts see of a dimension.
 use Rattle.std.specs.Prelude.{ℕ, ◌<◌, ◌≤◌, ℤ, List, [], ◌∷◌, map, length, All, sum_by, unsigned_abs, slice_index_or, Option}
 use Rattle.std.specs.List.{IsDistinct}
+use Rattle.dim_order.specs.Loops.{IsOrder}
 use Rattle.dim_core.specs.Name.{is_same_name, place_of}
 
 -- an element: its name as it was written, and its components, each with its weight
@@ -47,10 +48,12 @@ index_of d name = place_of (names_of d.elements) name
 abbrev pub IsWeight : ℤ → Type 0
 IsWeight weight = unsigned_abs weight ≤ 1000000
 
--- what holds of every dimension: it is within the limits, no two elements have the same name, and each component is an
--- element of it, with a weight in range
+-- what holds of every dimension: it is within the limits, no two elements have the same name, each component is an
+-- element of it, with a weight in range, and there is an order of the elements in which components come first
 pub record IsDimension (d : Outline) : Type 0 where
   pub few : length d.elements ≤ 100000
   pub few_components : component_count d.elements ≤ 1000000
   pub distinct : IsDistinct is_same_name (names_of d.elements)
   pub parts : (e : ℕ) → All (λ c. (c.0 < length d.elements) × IsWeight c.1) (components_of d e)
+  pub order : List ℕ
+  pub ordered : IsOrder (component_lists d.elements) order

@@ -1,10 +1,12 @@
-ghost use Rattle.std.specs.Prelude.{◌≡◌, ◌↔◌, [], None, IfOk, IfSome, IfNone, OnOk, OnErr, IsOkUnless, IsTrue};
-ghost use Rattle.dim_core.specs.Draft.{empty_draft, with_element, is_defined, has_weights, is_too_many, first_unknown, HasEarlierComponents, IsFinished};
-ghost use Rattle.dim_core.specs.Refusal.{refusal_of};
+ghost use Rattle.std.specs.Prelude.{◌≡◌, ◌<◌, ◌^◌, [], None, length, option_map, IfOk, IfSome, IfNone, OnOk, OnErr, IsOkUnless, IsTrue};
+ghost use Rattle.dim_core.specs.Draft.{empty_draft, with_element, is_defined, has_weights, is_too_many, first_unknown, first_loop, HasEarlierComponents, IsFinished};
+ghost use Rattle.dim_core.specs.Refusal.{refusal_of, finish_refusal_of, IsAnsweredBy};
+ghost use Rattle.dim_order.specs.Loops.{IsOrder, ArePartsWithin, first_on_loop};
 
 use crate::components::NamedComponents;
 use crate::resolve::{first_unknown, resolve_all};
 use crate::{DimFault, Dimension, Name};
+use dim_order::{Components, first_on_loop, order_of};
 use indexmap::IndexSet;
 use std::alloc::{AllocError, Global};
 use std::marker::Model;
@@ -115,14 +117,13 @@ impl Builder {
     /// The dimension of the elements defined so far. Components may be defined after what they are components of.
     pub fn finish(self) -> Result<Dimension, DimFault>
         ensures finished { IfOk result (λ dimension. IsFinished self dimension) }
-        ensures unknown { IfSome (first_unknown self) (λ e. result ≡ Err (DimFault.UnknownComponent e)) }
-        ensures known { IfNone (first_unknown self) (IsOkUnless result DimFault.Memory) }
+        ensures answered { IsAnsweredBy (finish_refusal_of self) result }
         ensures earlier { HasEarlierComponents self → IsOkUnless result DimFault.Memory }
     {
         if let Some(element) = self.first_unknown() {
             return Err(DimFault::UnknownComponent(element));
         }
-        Ok(self.resolved()?)
+        self.resolved()
     }
 
     // The first element with a component that isn't defined.
@@ -135,9 +136,11 @@ impl Builder {
         }
     }
 
-    fn resolved(self) -> Result<Dimension, AllocError>
+    // The dimension where each component is defined.
+    fn resolved(self) -> Result<Dimension, DimFault>
         requires { first_unknown self ≡ None }
-        ensures { IfOk result (λ dimension. IsFinished self dimension) }
+        ensures finished { IfOk result (λ dimension. IsFinished self dimension) }
+        ensures answered { IsAnsweredBy (option_map DimFault.Loop (first_loop self)) result }
     {
         let Builder {
             alloc,
@@ -147,7 +150,26 @@ impl Builder {
             component_count: _,
         } = self;
         let resolved = resolve_all(alloc, &names, &components)?;
-        Ok(Dimension::new(name, names, resolved))
+        match order_or_loop(alloc, &resolved) {
+            Ok(order) => Ok(Dimension::new(name, names, resolved, order)),
+            Err(fault) => Err(fault),
+        }
+    }
+}
+
+// An order of the elements, or the first that lies on a loop.
+fn order_or_loop(alloc: Global, lists: &[Components]) -> Result<Vec<u32>, DimFault>
+    requires few { length lists.now < 2 ^ 32 }
+    requires within { ArePartsWithin lists.now }
+    ensures order { IfOk result (λ order. IsOrder lists.now order.items) }
+    ensures answered { IsAnsweredBy (option_map DimFault.Loop (first_on_loop lists.now)) result }
+{
+    if let Some(order) = order_of(alloc, lists)? {
+        return Ok(order);
+    }
+    match first_on_loop(alloc, lists)? {
+        Some(element) => Err(DimFault::Loop(element)),
+        None => unreachable!(),
     }
 }
 

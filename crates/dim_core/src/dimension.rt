@@ -1,8 +1,10 @@
 ghost use Rattle.std.specs.Prelude.{◌≡◌, ◌↔◌, ◌<◌, ◌≤◌, [], length, IsTrue};
-ghost use Rattle.dim_core.specs.Outline.{name_of, components_of, index_of, elements_of, IsDimension};
+ghost use Rattle.dim_order.specs.Loops.{IsOrder};
+ghost use Rattle.dim_core.specs.Kept.{IsStored};
+ghost use Rattle.dim_core.specs.Outline.{component_lists, name_of, components_of, index_of, elements_of, IsDimension};
 
 use crate::Name;
-use crate::components::Components;
+use dim_order::Components;
 use indexmap::IndexSet;
 use std::marker::Model;
 
@@ -12,29 +14,35 @@ pub struct Dimension {
     name: Name,
     names: IndexSet<Name>,
     components: Vec<Components>,
+    order: Vec<u32>,
 }
 
 impl Model for Dimension {
-    ghost use Rattle.std.specs.Prelude.{◌≡◌, length};
-    ghost use Rattle.dim_core.specs.Outline.{Outline, elements_of, IsDimension};
+    ghost use Rattle.dim_core.specs.Outline.{Outline, elements_of};
+    ghost use Rattle.dim_core.specs.Kept.{IsStored};
 
     ghost Value = { Outline };
 
     ghost view = { λ d. record { name = d.name; elements = elements_of d.names.keys d.components.items } };
 
-    ghost invariant = { λ d. (length d.components.items ≡ length d.names.keys) × IsDimension (record { name = d.name; elements = elements_of d.names.keys d.components.items }) };
+    ghost invariant = { λ d. IsStored d.names.keys d.components.items d.order.items };
 }
 
 impl Dimension {
-    pub(crate) fn new(name: Name, names: IndexSet<Name>, components: Vec<Components>) -> Dimension
-        requires paired { length components.items ≡ length names.keys }
-        requires valid { IsDimension (record { name = name; elements = elements_of names.keys components.items }) }
+    pub(crate) fn new(
+        name: Name,
+        names: IndexSet<Name>,
+        components: Vec<Components>,
+        order: Vec<u32>,
+    ) -> Dimension
+        requires { IsStored names.keys components.items order.items }
         ensures { result ≡ record { name = name; elements = elements_of names.keys components.items } }
     {
         Dimension {
             name,
             names,
             components,
+            order,
         }
     }
 
@@ -85,5 +93,11 @@ impl Dimension {
         ensures { result.now ≡ components_of self.now element }
     {
         self.components[element as usize].as_slice()
+    }
+    /// All elements, each after its components.
+    pub fn order(&self) -> &[u32]
+        ensures { IsOrder (component_lists self.now.elements) result.now }
+    {
+        &self.order
     }
 }

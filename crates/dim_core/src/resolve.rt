@@ -3,7 +3,8 @@ ghost use Rattle.std.specs.List.{AllZip};
 ghost use Rattle.dim_core.specs.Draft.{are_known, IsResolved};
 
 use crate::Name;
-use crate::components::{Components, NamedComponents};
+use crate::components::NamedComponents;
+use dim_order::Components;
 use indexmap::IndexSet;
 use std::alloc::{AllocError, Global};
 

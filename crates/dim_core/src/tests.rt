@@ -57,3 +57,33 @@ fn looks_up_the_elements_of_a_quarter(rt: HostRuntime) -> Result<(), Fail> {
     assert!(rt; !month.is_leaf(2));
     Ok(())
 }
+
+// A dimension of these consolidations, each of one part, and the leaf Leaf.
+fn chain(alloc: Global, elements: &[(&str, &str)]) -> Result<Builder, Fail> {
+    let mut builder = Builder::new(alloc, name(alloc, "Chain")?)?;
+    builder.leaf(name(alloc, "Leaf")?)?;
+    for (element, part) in elements {
+        let parts = vec![in alloc; (name(alloc, part)?, 1)]?;
+        builder.consolidated(name(alloc, element)?, parts)?;
+    }
+    Ok(builder)
+}
+
+#[test]
+fn orders_components_before_what_they_are_components_of(rt: HostRuntime) -> Result<(), Fail> {
+    let chain = chain(rt.alloc(), &[("Year", "Half"), ("Half", "Leaf")])?.finish()?;
+    assert_eq!(rt; chain.len(), 3);
+    assert_eq!(rt; chain.components(1), [(2, 1)].as_slice());
+    assert_eq!(rt; chain.order(), [0, 2, 1].as_slice());
+    Ok(())
+}
+
+#[test]
+fn names_the_first_element_of_a_loop(rt: HostRuntime) -> Result<(), Fail> {
+    // Top stands above the loop of C, B and A
+    let ring = chain(rt.alloc(), &[("Top", "C"), ("C", "B"), ("B", "A"), ("A", "C")])?;
+    assert!(rt; matches!(ring.finish(), Err(DimFault::Loop(2))));
+    let short = chain(rt.alloc(), &[("Year", "Leaf"), ("Half", "Feb")])?;
+    assert!(rt; matches!(short.finish(), Err(DimFault::UnknownComponent(2))));
+    Ok(())
+}

@@ -1,0 +1,5 @@
+pub mod GrowthLemmas
+pub mod LoopLemmas
+pub mod Places
+pub mod Tests
+pub mod Walks

@@ -1,0 +1,13 @@
+//! Orders of elements in which components come first, and the loops that forbid one.
+#![tactic(auto)]
+
+mod components;
+mod growth;
+mod joining;
+mod loops;
+mod members;
+mod order;
+
+pub use components::Components;
+pub use loops::first_on_loop;
+pub use order::order_of;

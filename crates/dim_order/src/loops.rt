@@ -1,0 +1,31 @@
+ghost use Rattle.std.specs.Prelude.{◌≡◌, ◌<◌, ◌^◌, length, IfOk};
+ghost use Rattle.dim_order.specs.Loops.{lies_on_loop, first_on_loop, ArePartsWithin};
+
+use crate::Components;
+use crate::growth::grow;
+use crate::joining::Joining;
+use std::alloc::{AllocError, Global};
+
+/// The element of least index that lies on a loop of components, or None where none does.
+pub fn first_on_loop(alloc: Global, lists: &[Components]) -> Result<Option<u32>, AllocError>
+    requires few { length lists.now < 2 ^ 32 }
+    requires within { ArePartsWithin lists.now }
+    ensures { IfOk result (λ found. found ≡ first_on_loop lists.now) }
+{
+    for element in 0..lists.len() {
+        if is_on_loop(alloc, lists, element as u32)? {
+            return Ok(Some(element as u32));
+        }
+    }
+    Ok(None)
+}
+
+fn is_on_loop(alloc: Global, lists: &[Components], element: u32) -> Result<bool, AllocError>
+    requires few { length lists.now < 2 ^ 32 }
+    requires within { ArePartsWithin lists.now }
+    requires there { element < length lists.now }
+    ensures { IfOk result (λ on. on ≡ lies_on_loop lists.now element) }
+{
+    let leading = grow(alloc, Joining::WhenLeadingTo(element), lists)?;
+    Ok(leading.has(element))
+}
