@@ -1,6 +1,6 @@
 -- How far a quoted text goes, byte by byte.
 use Rattle.std.proofs.Common.{◌≡◌, ℕ, zero, suc, ◌+◌, ◌<◌, ◌≤◌, Bool, true, false, not, List, [], ◌∷◌, ◌++◌, length, take, drop, get_or, refl, sym, ap, ◌∙◌, inr, add-one, arith, length-append, length-take, append_assoc, take-append-drop, Some, min, eqb-true}
-use Rattle.std.proofs.Math.Seq.{take-append_seam, drop-append_seam}
+use Rattle.std.proofs.Math.Seq.{take-append_seam, drop-append_seam, drop-length}
 use Rattle.std.proofs.lemmas.Grind.{flat_map-append}
 use Rattle.std.proofs.lemmas.List.{take_more}
 use Rattle.std.specs.List.{list_all}
@@ -10,8 +10,8 @@ use Rattle.cube_lex.specs.Front.{IsInside, EndsQuote}
 use Rattle.cube_lex.specs.Parts.{Stands}
 use Rattle.cube_lex.specs.Quoted.{doubled, quoted}
 use Rattle.cube_lex.specs.declared.token.Kind.TheVariants.{Text}
-use Rattle.cube_lex.specs.declared.fault.LexFault.TheVariants.{BadByte}
-use Rattle.cube_lex.specs.declared.quoted.QuoteEnd.TheVariants.{Closed, Forbidden}
+use Rattle.cube_lex.specs.declared.fault.LexFault.TheVariants.{BadByte, OpenQuote}
+use Rattle.cube_lex.specs.declared.quoted.QuoteEnd.TheVariants.{Closed, Forbidden, Open}
 use Rattle.cube_lex.proofs.Runs.{list_all-append}
 use Rattle.cube_lex.proofs.Quotes.{doubled-other}
 
@@ -77,18 +77,36 @@ closed-stands (q ∷ bytes) place starts ends =
     let within : place + 2 ≤ length (q ∷ bytes) = omega (arith, len, ap length whole, length-append (quoted ends.0.0) last.1) in
     (within, rw (whole, len, take-append_seam (quoted ends.0.0) last.1, drop-append_seam (quoted ends.0.0) last.1) ((ends.0.0, ends.0.1, refl), no_quote))
 
+pub open-stops : (rest : List ℕ) (at : ℕ) → Begins is_quote rest → EndsQuote (drop 1 rest) Open → Stops at rest (Some (OpenQuote at))
+open-stops [] at starts ends = absurd starts
+open-stops (q ∷ bytes) at starts ends =
+    let split : (bytes ≡ doubled ends.0 ++ drop (length bytes) bytes) × (length (doubled ends.0) ≡ length bytes) = inside-split bytes (length bytes) ends in (
+      record {
+        inside = ends.0;
+        opens = record {
+          plain = ends.1;
+          is = ap (λ b. b ∷ bytes) (eqb-true q 39 starts) ∙ ap (λ bs. 39 ∷ bs) (split.0 ∙ ap (λ tail. doubled ends.0 ++ tail) (drop-length bytes));
+        };
+      },
+      refl,
+    )
+
 pub forbidden-stops : (rest : List ℕ) (at place : ℕ) → Begins is_quote rest → EndsQuote (drop 1 rest) (Forbidden place) → Stops at rest (Some (BadByte (at + 1 + place)))
 forbidden-stops [] at place starts ends = absurd starts
 forbidden-stops (q ∷ bytes) at place starts ends =
     let bad : (b : ℕ) × (bs : List ℕ) × (drop place bytes ≡ b ∷ bs) × (not (is_plain b) ≡ true) = begins-cons (λ b. not (is_plain b)) (drop place bytes) ends.1 in
     let split : (bytes ≡ doubled ends.0.0 ++ drop place bytes) × (length (doubled ends.0.0) ≡ place) = inside-split bytes place ends.0 in
     inr (
-      ends.0.0,
-      bad.1,
-      bad.0,
-      record { plain = ends.0.1; is = ap (λ b. b ∷ bytes) (eqb-true q 39 starts) ∙ ap (λ bs. 39 ∷ bs) (split.0 ∙ ap (λ tail. doubled ends.0.0 ++ tail) bad.2) },
-      not-true (is_plain bad.0) bad.3,
-      omega (arith, split.1),
+      1 + place,
+      record {
+        inside = ends.0.0;
+        bad = bad.0;
+        after = bad.1;
+        opens = record { plain = ends.0.1; is = ap (λ b. b ∷ bytes) (eqb-true q 39 starts) ∙ ap (λ bs. 39 ∷ bs) (split.0 ∙ ap (λ tail. doubled ends.0.0 ++ tail) bad.2) };
+        forbidden = not-true (is_plain bad.0) bad.3;
+        before = ap (λ n. 1 + n) (sym split.1);
+      },
+      omega arith,
     ) where
       not-true : (b : Bool) → not b ≡ true → b ≡ false
       not-true true e = absurd (cc)

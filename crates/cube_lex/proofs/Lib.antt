@@ -8,3 +8,4 @@ mod Sorts
 mod Readings
 pub mod Unique
 pub mod WrittenTexts
+pub mod Wholes

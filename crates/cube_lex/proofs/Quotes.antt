@@ -1,5 +1,5 @@
 -- Quoted texts: each has one reading.
-use Rattle.std.proofs.Common.{◌≡◌, ℕ, ◌-◌, true, false, cond, List, [], ◌∷◌, ◌++◌, length, take, drop, refl, sym, ap, ◌∙◌, inl, inr, ◌⊎◌, subst, arith, length-append, append_assoc}
+use Rattle.std.proofs.Common.{◌≡◌, ℕ, ◌+◌, ◌≤◌, ◌-◌, ◌*◌, true, false, cond, List, [], ◌∷◌, ◌++◌, length, take, drop, refl, sym, ap, ◌∙◌, inl, inr, ◌⊎◌, subst, arith, length-append, append_assoc}
 use Rattle.std.proofs.Math.Seq.{take-append_seam}
 use Rattle.std.specs.List.{list_all}
 use Rattle.cube_lex.specs.Bytes.{Begins, is_quote, is_plain}
@@ -91,3 +91,13 @@ inner-quoted bytes =
 
 pub unquoted-quoted : (bytes : List ℕ) → unquoted (quoted bytes) ≡ bytes
 unquoted-quoted bytes = rw (inner-quoted bytes) (undoubled-doubled bytes)
+
+-- a quoted text is at most twice as long as what it stands for, and its two quotes
+pub length-quoted-le : (bytes : List ℕ) → length (quoted bytes) ≤ 2 * length bytes + 2
+length-quoted-le bytes = simp length-append (omega (arith, each bytes)) where
+  each : (bytes : List ℕ) → length (doubled bytes) ≤ 2 * length bytes
+  each [] = omega arith
+  each (b ∷ bs) = elim (is_quote b) as (λ q. length (cond q (b ∷ b ∷ []) (b ∷ []) ++ doubled bs) ≤ 2 * length (b ∷ bs)) [
+    | true ↦ omega (arith, each bs)
+    | false ↦ omega (arith, each bs)
+  ]

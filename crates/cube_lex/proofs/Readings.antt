@@ -165,16 +165,16 @@ plain-within_line b plain = rw other refl where
 fault-line : (text : List ℕ) (at : ℕ) (rest : List ℕ) (fault : LexFault) → text ≡ take at text ++ rest → at ≤ length text → Stops at rest (Some fault)
     → line_at text (place_of text (Some fault)) ≡ line_at text at
 fault-line text at rest (BadByte place) text-is within stops = elim stops [
-  | inl nothing ↦ ap (line_at text) nothing.3
-  | inr inside ↦
-      let quoted_front : text ≡ take at text ++ ((39 ∷ doubled inside.0) ++ (inside.2 ∷ inside.1)) = text-is ∙ ap (λ tail. take at text ++ tail) inside.3.is in
-      let none : count_by is_line_end (39 ∷ doubled inside.0) ≡ 0 =
-      count-none is_line_end (39 ∷ doubled inside.0) (doubled-passes (λ b. not (is_line_end b)) inside.0 (weaker is_plain (λ b. not (is_line_end b)) plain-within_line inside.0 inside.3.plain)) in
-      let there : place ≡ at + length (39 ∷ doubled inside.0) = inside.5 ∙ omega arith in
-      ap (line_at text) there ∙ (line-more text at (39 ∷ doubled inside.0) (inside.2 ∷ inside.1) quoted_front within).1 ∙ ap (λ n. line_at text at + n) none ∙ add-zero (line_at text at)
+  | inl nothing ↦ ap (line_at text) nothing.1
+  | inr (len, quote, there) ↦
+      let front : text ≡ take at text ++ ((39 ∷ doubled quote.inside) ++ (quote.bad ∷ quote.after)) = text-is ∙ ap (λ tail. take at text ++ tail) quote.opens.is in
+      let none : count_by is_line_end (39 ∷ doubled quote.inside) ≡ 0 =
+      count-none is_line_end (39 ∷ doubled quote.inside) (doubled-passes (λ b. not (is_line_end b)) quote.inside (weaker is_plain (λ b. not (is_line_end b)) plain-within_line quote.inside quote.opens.plain)) in
+      let before : at + len ≡ at + length (39 ∷ doubled quote.inside) = omega (arith, quote.before) in
+      ap (line_at text) (there ∙ before) ∙ (line-more text at (39 ∷ doubled quote.inside) (quote.bad ∷ quote.after) front within).1 ∙ ap (λ n. line_at text at + n) none ∙ add-zero (line_at text at)
 ]
-fault-line text at rest (OpenQuote place) text-is within stops = ap (line_at text) stops.2
-fault-line text at rest (TooLong place) text-is within stops = ap (line_at text) stops.6
+fault-line text at rest (OpenQuote place) text-is within stops = ap (line_at text) stops.1
+fault-line text at rest (TooLong place) text-is within stops = ap (line_at text) stops.1
 fault-line text at rest Memory text-is within stops = absurd stops
 
 -- at the end of the text

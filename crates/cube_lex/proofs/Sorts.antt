@@ -1,10 +1,10 @@
 -- The first byte of a part tells what it is.
-use Rattle.std.proofs.Common.{◌≡◌, ℕ, ◌≤◌, Bool, true, false, cond, ◌||◌, ◌==◌, List, [], ◌∷◌, ◌++◌, refl, sym, ap, ◌∙◌, subst, eqb-true, Some, None, Option, arith, inl, inr, ◌⊎◌}
+use Rattle.std.proofs.Common.{◌<◌, length, get_or, ◌≡◌, ℕ, ◌≤◌, Bool, true, false, cond, ◌||◌, ◌==◌, List, [], ◌∷◌, ◌++◌, refl, sym, ap, ◌∙◌, subst, eqb-true, Some, None, Option, arith, inl, inr, ◌⊎◌}
 use Rattle.std.proofs.lemmas.Bool.{leb-true}
 use Rattle.std.specs.Char.{is_ascii_digit}
 use Rattle.std.specs.Int.{is_in_range}
 use Rattle.std.specs.List.{list_all, Contains}
-use Rattle.cube_lex.specs.Fault.{BeginsPart}
+use Rattle.cube_lex.specs.Fault.{BeginsPart, BeginsNothing}
 use Rattle.cube_lex.specs.Front.{IsSignLen}
 use Rattle.cube_lex.specs.Bytes.{is_white, is_quote, starts_word}
 use Rattle.cube_lex.specs.Parts.{IsWord, IsNumber, IsDigits, IsQuoted, IsToken, IsSpace, IsComment, IsLongest, Stands, IsPart, signs}
@@ -157,24 +157,28 @@ same-first sort bytes after rest b bs is split rest-is =
     ap sort_of same ∙ first.3
 
 -- bytes that begin nothing: none of white space, comments, words, numbers, quotes and signs
-pub nothing-begins : (rest : List ℕ) (b : ℕ) (bs : List ℕ) → rest ≡ b ∷ bs → is_white b ≡ false → (b ≡ 35 → ⊥) → starts_word b ≡ false → is_ascii_digit b ≡ false → (b ≡ 39 → ⊥)
-    → IsSignLen rest None → ¬ BeginsPart rest
-nothing-begins rest b bs rest-is no_white no_hash no_word no_digit no_quote no_sign part =
+pub nothing-begins : (rest : List ℕ) → 0 < length rest → is_white (get_or rest 0 0) ≡ false → (get_or rest 0 0 ≡ 35 → ⊥) → starts_word (get_or rest 0 0) ≡ false
+    → is_ascii_digit (get_or rest 0 0) ≡ false → (get_or rest 0 0 ≡ 39 → ⊥) → IsSignLen rest None → BeginsNothing rest
+nothing-begins [] some no_white no_hash no_word no_digit no_quote no_sign = absurd (omega (arith, some))
+nothing-begins (b ∷ bs) some no_white no_hash no_word no_digit no_quote no_sign =
     let no_35 : (b == 35) ≡ false = false-of (b == 35) (λ h. no_hash (eqb-true b 35 h)) in
     let no_39 : is_quote b ≡ false = false-of (is_quote b) (λ h. no_quote (eqb-true b 39 h)) in
     let other : sort_of b ≡ a_sign = rw (no_white, no_35, no_word, no_digit, no_39) in
-    elim part.3 [
-      | inl space ↦ cc (other, same-first a_space part.0 part.1 rest b bs space part.2 rest-is)
-      | inr h ↦ elim h [
-        | inl comment ↦ cc (other, same-first a_comment part.0 part.1 rest b bs comment part.2 rest-is)
-        | inr token ↦ of-kind other token.0 token.1
+    record { some = some; no_part = no-part other; no_quote = λ quote. no_quote (eqb-true b 39 quote) } where
+      no-token : sort_of b ≡ a_sign → (bytes after : List ℕ) → b ∷ bs ≡ bytes ++ after → (kind : Kind) → IsToken kind bytes → ⊥
+      no-token other bytes after e Word is = cc (other, same-first a_word bytes after (b ∷ bs) b bs is e refl)
+      no-token other bytes after e Number is = cc (other, same-first a_number bytes after (b ∷ bs) b bs is e refl)
+      no-token other bytes after e Text is = cc (other, same-first a_text bytes after (b ∷ bs) b bs is e refl)
+      no-token other bytes after e Sign is = no_sign bytes after is e
+
+      no-part : sort_of b ≡ a_sign → ¬ BeginsPart (b ∷ bs)
+      no-part other (bytes, after, e, part) = elim part [
+        | inl space ↦ cc (other, same-first a_space bytes after (b ∷ bs) b bs space e refl)
+        | inr more ↦ elim more [
+          | inl comment ↦ cc (other, same-first a_comment bytes after (b ∷ bs) b bs comment e refl)
+          | inr token ↦ no-token other bytes after e token.0 token.1
+        ]
       ]
-    ] where
-      of-kind : sort_of b ≡ a_sign → (kind : Kind) → IsToken kind part.0 → ⊥
-      of-kind other Word is = cc (other, same-first a_word part.0 part.1 rest b bs is part.2 rest-is)
-      of-kind other Number is = cc (other, same-first a_number part.0 part.1 rest b bs is part.2 rest-is)
-      of-kind other Text is = cc (other, same-first a_text part.0 part.1 rest b bs is part.2 rest-is)
-      of-kind other Sign is = no_sign part.0 part.1 is part.2
 
 pub stands-some : (kind : Kind) (bytes rest : List ℕ) → Stands kind bytes rest → bytes ≡ [] → ⊥
 stands-some Word bytes rest stands none = cc (none, (first-tells a_word bytes stands.0).2)

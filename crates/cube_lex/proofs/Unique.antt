@@ -3,7 +3,7 @@ use Rattle.std.proofs.Common.{◌≡◌, ℕ, ◌+◌, ◌-◌, ◌<◌, ◌≤�
 use Rattle.std.proofs.lemmas.Bool.{leb-true, leb-false}
 use Rattle.std.proofs.Math.Seq.{take-append_seam, drop-append_seam}
 use Rattle.cube_lex.specs.Bytes.{Begins, is_quote, is_plain, line_at}
-use Rattle.cube_lex.specs.Fault.{Stops, BeginsPart, OpensQuote, place_of}
+use Rattle.cube_lex.specs.Fault.{Stops, BeginsPart, BeginsNothing, OpensQuote, HasForbiddenByte, IsOpenQuote, BeginsLongToken, place_of}
 use Rattle.cube_lex.specs.Lexed.{Lexed}
 use Rattle.cube_lex.specs.Lexeme.{Lexeme}
 use Rattle.cube_lex.specs.Parts.{Part, Divides, IsPart, IsLongest, IsToken, Stands}
@@ -110,11 +110,42 @@ open-part rest inside tail sort bytes after opens ends stands e =
 open-quote : (rest inside tail : List ℕ) → OpensQuote rest inside tail → Begins is_quote rest
 open-quote rest inside tail opens = rw opens.is refl
 
-bad-ends : (bad : ℕ) (after : List ℕ) → is_plain bad ≡ false → EndsInside (bad ∷ after)
-bad-ends bad after is_bad = inl is_bad
+bad-ends : (rest : List ℕ) (len : ℕ) (quote : HasForbiddenByte rest len) → EndsInside (quote.bad ∷ quote.after)
+bad-ends rest len quote = inl quote.forbidden
 
-bad-no_quote : (bad : ℕ) (after more : List ℕ) → is_plain bad ≡ false → bad ∷ after ≡ 39 ∷ more → ⊥
-bad-no_quote bad after more is_bad e = let quote : bad ≡ 39 = cc (e) in cc (is_bad, ap is_plain quote)
+-- a forbidden byte is no quote
+bad-no_quote : (rest : List ℕ) (len : ℕ) (quote : HasForbiddenByte rest len) (more : List ℕ) → quote.bad ∷ quote.after ≡ 39 ∷ more → ⊥
+bad-no_quote rest len quote more e = let same : quote.bad ≡ 39 = cc (e) in cc (quote.forbidden, ap is_plain same)
+
+-- so no part stands before it
+bad-no_part : (rest : List ℕ) (len : ℕ) (quote : HasForbiddenByte rest len) (sort : Sort) (bytes after : List ℕ) → StandsAs sort bytes after → rest ≡ bytes ++ after → ⊥
+bad-no_part rest len quote sort bytes after stands e =
+    bad-no_quote rest len quote after (open-part rest quote.inside (quote.bad ∷ quote.after) sort bytes after quote.opens (bad-ends rest len quote) stands e)
+
+open-no_part : (rest : List ℕ) (quote : IsOpenQuote rest) (sort : Sort) (bytes after : List ℕ) → StandsAs sort bytes after → rest ≡ bytes ++ after → ⊥
+open-no_part rest quote sort bytes after stands e =
+    let closed : [] ≡ 39 ∷ after = open-part rest quote.inside [] sort bytes after quote.opens tt stands e in
+    cc (closed)
+
+-- a token that is too long is no part that isn't
+long-no_part : (rest : List ℕ) (token : BeginsLongToken rest) (k : Option Kind) (bytes after : List ℕ) → IsPart k bytes after → rest ≡ bytes ++ after → ⊥
+long-no_part rest token k bytes after is e =
+    let stands : StandsAs (token-sort token.kind) token.piece token.after = token-stands token.kind token.piece token.after token.stands in
+    let part = part-stands k bytes after is in
+    let same : token-sort token.kind ≡ part.0 =
+    same-sort (token-sort token.kind) part.0 token.piece bytes token.after after (stands-is (token-sort token.kind) token.piece token.after stands) (stands-is part.0 bytes after part.2) (sym token.split ∙ e) in
+    let only : (token.piece ≡ bytes) × (token.after ≡ after) =
+    stands-only part.0 token.piece bytes token.after after (subst (λ s. StandsAs s token.piece token.after) same stands) part.2 (sym token.split ∙ e) in
+    too-short k is (part.1 ∙ ap kind_of (sym same)) (ap length only.0) where
+      no-kind : (kind : Kind) → (None ≡ kind_of (token-sort kind)) → ⊥
+      no-kind Word x = cc (x)
+      no-kind Number x = cc (x)
+      no-kind Text x = cc (x)
+      no-kind Sign x = cc (x)
+
+      too-short : (k : Option Kind) → IsPart k bytes after → k ≡ kind_of (token-sort token.kind) → length token.piece ≡ length bytes → ⊥
+      too-short None part-is k-is len = no-kind token.kind k-is
+      too-short (Some l) part-is k-is len = omega (arith, part-is.1, token.long, len)
 
 -- where a text stops no part stands
 stops-no_part : (at : ℕ) (rest : List ℕ) (fault : Option LexFault) (k : Option Kind) (bytes after : List ℕ) → Stops at rest fault → IsPart k bytes after → rest ≡ bytes ++ after → ⊥
@@ -126,80 +157,65 @@ stops-no_part at rest None k bytes after stops is e =
 stops-no_part at rest (Some (BadByte place)) k bytes after stops is e =
     let part = part-stands k bytes after is in
     elim stops [
-      | inl nothing ↦ nothing.0 (stands-begins part.0 bytes after rest (stands-is part.0 bytes after part.2) e)
-      | inr inside ↦ bad-no_quote inside.2 inside.1 after inside.4
-          (open-part rest inside.0 (inside.2 ∷ inside.1) part.0 bytes after inside.3 (bad-ends inside.2 inside.1 inside.4) part.2 e)
+      | inl nothing ↦ nothing.0.no_part (stands-begins part.0 bytes after rest (stands-is part.0 bytes after part.2) e)
+      | inr forbidden ↦ bad-no_part rest forbidden.0 forbidden.1 part.0 bytes after part.2 e
     ]
-stops-no_part at rest (Some (OpenQuote place)) k bytes after stops is e =
-    let part = part-stands k bytes after is in
-    let closed : [] ≡ 39 ∷ after = open-part rest stops.0 [] part.0 bytes after stops.1 tt part.2 e in
-    cc (closed)
-stops-no_part at rest (Some (TooLong place)) k bytes after (kind, piece, behind, split, stands, long, there) is e = too-long k is where
-  as_token : StandsAs (token-sort kind) piece behind
-  as_token = token-stands kind piece behind stands
-
-  kind-some : (kind : Kind) → (None ≡ kind_of (token-sort kind)) → ⊥
-  kind-some Word x = cc (x)
-  kind-some Number x = cc (x)
-  kind-some Text x = cc (x)
-  kind-some Sign x = cc (x)
-
-  short : (k : Option Kind) → IsPart k bytes after → k ≡ kind_of (token-sort kind) → length piece ≡ length bytes → ⊥
-  short None part-is k-is len = kind-some kind k-is
-  short (Some l) part-is k-is len = omega (arith, part-is.1, long, len)
-
-  too-long : (k : Option Kind) → IsPart k bytes after → ⊥
-  too-long k part-is =
-      let part = part-stands k bytes after part-is in
-      let same : token-sort kind ≡ part.0 = same-sort (token-sort kind) part.0 piece bytes behind after (stands-is (token-sort kind) piece behind as_token) (stands-is part.0 bytes after part.2) (sym split ∙ e) in
-      let only : (piece ≡ bytes) × (behind ≡ after) = stands-only part.0 piece bytes behind after (subst (λ s. StandsAs s piece behind) same as_token) part.2 (sym split ∙ e) in
-      short k part-is (part.1 ∙ ap kind_of (sym same)) (ap length only.0)
+stops-no_part at rest (Some (OpenQuote place)) k bytes after stops is e = let part = part-stands k bytes after is in open-no_part rest stops.0 part.0 bytes after part.2 e
+stops-no_part at rest (Some (TooLong place)) k bytes after stops is e = long-no_part rest stops.0 k bytes after is e
 stops-no_part at rest (Some Memory) k bytes after stops is e = stops
 
-stops-some : (at : ℕ) (rest : List ℕ) (fault : LexFault) → Stops at rest (Some fault) → rest ≡ [] → ⊥
-stops-some at rest (BadByte place) stops e = elim stops [ inl nothing ↦ nothing.2 (ap length e) | inr inside ↦ cc (e, inside.3.is) ]
-stops-some at rest (OpenQuote place) stops e = cc (e, stops.1.is)
-stops-some at rest (TooLong place) stops e =
-    let first = first-tells (token-sort stops.0) stops.1 (stands-is (token-sort stops.0) stops.1 stops.2 (token-stands stops.0 stops.1 stops.2 stops.4)) in
-    let none : [] ≡ first.0 ∷ first.1 ++ stops.2 = sym e ∙ stops.3 ∙ ap (λ bs. bs ++ stops.2) first.2 in
+long-some : (rest : List ℕ) → BeginsLongToken rest → rest ≡ [] → ⊥
+long-some rest token e =
+    let first = first-tells (token-sort token.kind) token.piece (stands-is (token-sort token.kind) token.piece token.after (token-stands token.kind token.piece token.after token.stands)) in
+    let none : [] ≡ first.0 ∷ first.1 ++ token.after = sym e ∙ token.split ∙ ap (λ bs. bs ++ token.after) first.2 in
     cc (none)
+
+stops-some : (at : ℕ) (rest : List ℕ) (fault : LexFault) → Stops at rest (Some fault) → rest ≡ [] → ⊥
+stops-some at rest (BadByte place) stops e = elim stops [ inl nothing ↦ omega (arith, nothing.0.some, ap length e) | inr forbidden ↦ cc (e, forbidden.1.opens.is) ]
+stops-some at rest (OpenQuote place) stops e = cc (e, stops.0.opens.is)
+stops-some at rest (TooLong place) stops e = long-some rest stops.0 e
 stops-some at rest Memory stops e = stops
 
 -- of two causes at one place only one holds
 bad-open : (at : ℕ) (rest : List ℕ) (p q : ℕ) → Stops at rest (Some (BadByte p)) → Stops at rest (Some (OpenQuote q)) → ⊥
-bad-open at rest p q bad open_ = elim bad [
-  | inl nothing ↦ nothing.1 (open-quote rest open_.0 [] open_.1)
-  | inr inside ↦
-      let one : (inside.0 ≡ open_.0) × (inside.2 ∷ inside.1 ≡ []) =
-      inside-only inside.0 open_.0 (inside.2 ∷ inside.1) [] inside.3.plain open_.1.plain (bad-ends inside.2 inside.1 inside.4) tt (ap (drop 1) (sym inside.3.is ∙ open_.1.is)) in
+bad-open at rest p q bad (quote, there) = elim bad [
+  | inl nothing ↦ nothing.0.no_quote (open-quote rest quote.inside [] quote.opens)
+  | inr (len, forbidden, here) ↦
+      let one : (forbidden.inside ≡ quote.inside) × (forbidden.bad ∷ forbidden.after ≡ []) =
+      inside-only forbidden.inside quote.inside (forbidden.bad ∷ forbidden.after) [] forbidden.opens.plain quote.opens.plain (bad-ends rest len forbidden) tt
+      (ap (drop 1) (sym forbidden.opens.is ∙ quote.opens.is)) in
       cc (one.1)
 ]
 
 bad-long : (at : ℕ) (rest : List ℕ) (p q : ℕ) → Stops at rest (Some (BadByte p)) → Stops at rest (Some (TooLong q)) → ⊥
-bad-long at rest p q bad (kind, piece, behind, split, stands, long, there) = elim bad [
-  | inl nothing ↦ nothing.0 (stands-begins (token-sort kind) piece behind rest (stands-is (token-sort kind) piece behind (token-stands kind piece behind stands)) split)
-  | inr inside ↦ bad-no_quote inside.2 inside.1 behind inside.4
-      (open-part rest inside.0 (inside.2 ∷ inside.1) (token-sort kind) piece behind inside.3 (bad-ends inside.2 inside.1 inside.4) (token-stands kind piece behind stands) split)
-]
+bad-long at rest p q bad (token, there) =
+    let stands : StandsAs (token-sort token.kind) token.piece token.after = token-stands token.kind token.piece token.after token.stands in
+    elim bad [
+      | inl nothing ↦ nothing.0.no_part (stands-begins (token-sort token.kind) token.piece token.after rest (stands-is (token-sort token.kind) token.piece token.after stands) token.split)
+      | inr forbidden ↦ bad-no_part rest forbidden.0 forbidden.1 (token-sort token.kind) token.piece token.after stands token.split
+    ]
 
 open-long : (at : ℕ) (rest : List ℕ) (p q : ℕ) → Stops at rest (Some (OpenQuote p)) → Stops at rest (Some (TooLong q)) → ⊥
-open-long at rest p q open_ (kind, piece, behind, split, stands, long, there) =
-    let closed : [] ≡ 39 ∷ behind = open-part rest open_.0 [] (token-sort kind) piece behind open_.1 tt (token-stands kind piece behind stands) split in
-    cc (closed)
+open-long at rest p q (quote, here) (token, there) =
+    open-no_part rest quote (token-sort token.kind) token.piece token.after (token-stands token.kind token.piece token.after token.stands) token.split
+
+nothing-bad : (rest : List ℕ) (len : ℕ) → BeginsNothing rest → HasForbiddenByte rest len → ⊥
+nothing-bad rest len nothing forbidden = nothing.no_quote (open-quote rest forbidden.inside (forbidden.bad ∷ forbidden.after) forbidden.opens)
+
+-- a quoted text has one first forbidden byte
+bad-place : (rest : List ℕ) (m n : ℕ) → HasForbiddenByte rest m → HasForbiddenByte rest n → m ≡ n
+bad-place rest m n x y =
+    let one : (x.inside ≡ y.inside) × (x.bad ∷ x.after ≡ y.bad ∷ y.after) =
+    inside-only x.inside y.inside (x.bad ∷ x.after) (y.bad ∷ y.after) x.opens.plain y.opens.plain (bad-ends rest m x) (bad-ends rest n y)
+    (ap (drop 1) (sym x.opens.is ∙ y.opens.is)) in
+    x.before ∙ ap (λ bs. 1 + length (doubled bs)) one.0 ∙ sym y.before
 
 bad-only : (at : ℕ) (rest : List ℕ) (p q : ℕ) → Stops at rest (Some (BadByte p)) → Stops at rest (Some (BadByte q)) → p ≡ q
 bad-only at rest p q x y = elim x [
-  | inl nothing ↦ elim y [
-    | inl other ↦ nothing.3 ∙ sym other.3
-    | inr inside ↦ absurd (nothing.1 (open-quote rest inside.0 (inside.2 ∷ inside.1) inside.3))
-  ]
-  | inr inside ↦ elim y [
-    | inl nothing ↦ absurd (nothing.1 (open-quote rest inside.0 (inside.2 ∷ inside.1) inside.3))
-    | inr other ↦
-        let one : (inside.0 ≡ other.0) × (inside.2 ∷ inside.1 ≡ other.2 ∷ other.1) =
-        inside-only inside.0 other.0 (inside.2 ∷ inside.1) (other.2 ∷ other.1) inside.3.plain other.3.plain (bad-ends inside.2 inside.1 inside.4) (bad-ends other.2 other.1 other.4)
-        (ap (drop 1) (sym inside.3.is ∙ other.3.is)) in
-        inside.5 ∙ ap (λ bs. at + 1 + length (doubled bs)) one.0 ∙ sym other.5
+  | inl nothing ↦ elim y [ inl other ↦ nothing.1 ∙ sym other.1 | inr forbidden ↦ absurd (nothing-bad rest forbidden.0 nothing.0 forbidden.1) ]
+  | inr forbidden ↦ elim y [
+    | inl nothing ↦ absurd (nothing-bad rest forbidden.0 nothing.0 forbidden.1)
+    | inr other ↦ forbidden.2 ∙ ap (λ n. at + n) (bad-place rest forbidden.0 other.0 forbidden.1 other.1) ∙ sym other.2
   ]
 ]
 
@@ -213,12 +229,12 @@ stops-only at rest (Some (BadByte p)) (Some (OpenQuote q)) x y = absurd (bad-ope
 stops-only at rest (Some (BadByte p)) (Some (TooLong q)) x y = absurd (bad-long at rest p q x y)
 stops-only at rest (Some (BadByte p)) (Some Memory) x y = absurd y
 stops-only at rest (Some (OpenQuote p)) (Some (BadByte q)) x y = absurd (bad-open at rest q p y x)
-stops-only at rest (Some (OpenQuote p)) (Some (OpenQuote q)) x y = ap (λ n. Some (OpenQuote n)) (x.2 ∙ sym y.2)
+stops-only at rest (Some (OpenQuote p)) (Some (OpenQuote q)) x y = ap (λ n. Some (OpenQuote n)) (x.1 ∙ sym y.1)
 stops-only at rest (Some (OpenQuote p)) (Some (TooLong q)) x y = absurd (open-long at rest p q x y)
 stops-only at rest (Some (OpenQuote p)) (Some Memory) x y = absurd y
 stops-only at rest (Some (TooLong p)) (Some (BadByte q)) x y = absurd (bad-long at rest q p y x)
 stops-only at rest (Some (TooLong p)) (Some (OpenQuote q)) x y = absurd (open-long at rest q p y x)
-stops-only at rest (Some (TooLong p)) (Some (TooLong q)) x y = ap (λ n. Some (TooLong n)) (x.6 ∙ sym y.6)
+stops-only at rest (Some (TooLong p)) (Some (TooLong q)) x y = ap (λ n. Some (TooLong n)) (x.1 ∙ sym y.1)
 stops-only at rest (Some (TooLong p)) (Some Memory) x y = absurd y
 stops-only at rest (Some Memory) (Some g) x y = absurd x
 

@@ -16,7 +16,8 @@ pub use quoted::unquoted;
 pub use reading::{tokens, tokens_until};
 pub use token::{Kind, Token};
 pub use writing::{
-    what_is_written_is_read, write_line_end, write_number, write_quoted, write_sign, write_word,
+    what_is_written_is_read, write_line_end, write_number, write_quoted, write_sign, write_whole,
+    write_word,
 };
 
 #[cfg(test)]

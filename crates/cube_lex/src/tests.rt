@@ -1,6 +1,6 @@
 use crate::{
     Kind, LexFault, tokens, tokens_until, unquoted, write_line_end, write_number, write_quoted,
-    write_sign, write_word,
+    write_sign, write_whole, write_word,
 };
 use std::alloc::{AllocError, Global};
 use std::fmt::Write;
@@ -115,6 +115,8 @@ fn tokens_are_looked_up_by_their_place(rt: HostRuntime) -> Result<(), Fail> {
     assert_eq!(rt; found.line(1), 2);
     assert_eq!(rt; found.get(0).ok_or("no token")?.kind, Kind::Word);
     assert!(rt; found.get(2).is_none());
+    let text = found.text(rt.alloc(), 1)?;
+    assert_eq!(rt; text.as_slice(), b"o'clock".as_slice());
     let text = unquoted(rt.alloc(), found.piece(1))?;
     assert_eq!(rt; text.as_slice(), b"o'clock".as_slice());
     assert_eq!(rt;
@@ -132,11 +134,12 @@ fn what_is_written_is_read_back(rt: HostRuntime) -> Result<(), Fail> {
     write_sign(&mut out, b"=>")?;
     write_line_end(&mut out)?;
     write_number(&mut out, b"12")?;
-    assert_eq!(rt; out.as_slice(), b"N 'o''clock' => \n12 ".as_slice());
+    write_whole(rt.alloc(), &mut out, 340)?;
+    assert_eq!(rt; out.as_slice(), b"N 'o''clock' => \n12 340 ".as_slice());
     let line = shown(rt.alloc(), out.as_slice())?;
     assert_eq!(rt;
         line.as_str(),
-        "Word 0+1:1 Text 2+10:1 Sign 13+2:1 Number 17+2:2 None :2"
+        "Word 0+1:1 Text 2+10:1 Sign 13+2:1 Number 17+2:2 Number 20+3:2 None :2"
     );
     Ok(())
 }

@@ -1,4 +1,4 @@
-ghost use Rattle.std.specs.Prelude.{◌≡◌, ◌≤◌, ℕ, List, [], ◌∷◌, ◌++◌, length, map, take, IsTrue, OnOk, OnErr, Option, None};
+ghost use Rattle.std.specs.Prelude.{◌≡◌, ◌≤◌, ℕ, List, [], ◌∷◌, ◌++◌, length, map, take, IsTrue, OnOk, OnErr, Option, None, decimal};
 ghost use Rattle.std.specs.List.{list_all};
 ghost use Rattle.cube_lex.specs.Bytes.{is_plain};
 ghost use Rattle.cube_lex.specs.Parts.{IsWord, IsNumber, is_sign};
@@ -10,7 +10,8 @@ ghost use Rattle.cube_lex.specs.declared.fault.LexFault.{LexFault};
 ghost use Rattle.cube_lex.specs.declared.token.Kind.TheVariants.{Word, Number, Text, Sign};
 
 use crate::quoted::QUOTE;
-use std::alloc::AllocError;
+use std::alloc::{AllocError, Global};
+use std::fmt::Display;
 
 /// Writes a piece and a space. A refusal changes nothing.
 fn write_piece(out: &mut Vec<u8>, piece: &[u8]) -> Result<(), AllocError>
@@ -44,6 +45,15 @@ pub fn write_number(out: &mut Vec<u8>, number: &[u8]) -> Result<(), AllocError>
     ensures err { OnErr result (out.new.items ≡ out.old.items) }
 {
     write_piece(out, number)
+}
+
+/// Writes a whole number in digits without leading zeros, and a space.
+pub fn write_whole(alloc: Global, out: &mut Vec<u8>, number: u64) -> Result<(), AllocError>
+    ensures ok { OnOk result (Adds out.old.items out.new.items (record { kind = Number; piece = decimal number } ∷ [])) }
+    ensures err { OnErr result (out.new.items ≡ out.old.items) }
+{
+    let digits = number.to_string(alloc)?;
+    write_piece(out, digits.as_bytes())
 }
 
 /// Writes a sign, as `=>`, and a space.
