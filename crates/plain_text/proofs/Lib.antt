@@ -1,0 +1,10 @@
+pub mod Engine
+pub mod Loops
+pub mod ModelExact
+pub mod UserExact
+pub mod Cuts
+pub mod NextPiece
+pub mod Written
+pub mod Zips
+pub mod Defining
+pub mod PlainTexts

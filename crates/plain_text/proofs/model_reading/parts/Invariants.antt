@@ -1,0 +1,12 @@
+use Rattle.std.proofs.Common.{length}
+use Rattle.plain_text.specs.declared.mark.Mark.TheVariants as marks
+use Rattle.plain_text.specs.ModelReading.{next_part}
+use Rattle.plain_text.specs.Reading.{is}
+use Rattle.plain_text.proofs.Loops.{Going}
+use Rattle.plain_text.proofs.model_reading.parts.Given as goal
+
+abbrev pub invariant-each : goal.invariant-each
+invariant-each l = Going (is marks.Comma) next_part l.initial.parts.items l.initial.pieces.items l.parts.items l.pieces.items
+
+abbrev pub decreases-each : goal.decreases-each
+decreases-each l = length l.pieces.items

@@ -1,0 +1,14 @@
+pub mod Mark
+pub mod MarkText
+pub mod Text
+pub mod Scanning
+pub mod Grammar
+pub mod Reading
+pub mod ModelGrammar
+pub mod ModelReading
+pub mod UserGrammar
+pub mod UserReading
+pub mod Cube
+pub mod PlainModel
+pub mod PlainUser
+pub mod Building
