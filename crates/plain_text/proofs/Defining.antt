@@ -23,7 +23,7 @@ use Rattle.plain_text.specs.Scanning.{Missed}
 use Rattle.plain_text.proofs.Engine.{some_is, bind_some}
 use Rattle.plain_text.proofs.Zips.{zip-one, first-others, zip-length, drop-here}
 
-both_true : (a b : Bool) → (a && b) ≡ true → (a ≡ true) × (b ≡ true)
+pub both_true : (a b : Bool) → (a && b) ≡ true → (a ≡ true) × (b ≡ true)
 both_true true b e = (refl, e)
 both_true false b e = cc
 

@@ -8,3 +8,4 @@ pub mod Written
 pub mod Zips
 pub mod Defining
 pub mod PlainTexts
+pub mod Flat

@@ -2,7 +2,7 @@
 use Rattle.std.specs.Prelude.{◌≡◌, ℕ, ℤ, ◌≤◌, ◌^◌, ◌<◌, ◌==◌, nat_lt, nat_le, not, ◌&&◌, Bool, true, if◌then◌else◌, List, [], ◌∷◌, length, Option, Some, None, is_none, option_and_then, unsigned_abs, IsTrue}
 use Rattle.std.specs.List.{AllZip, list_any}
 use Rattle.std.specs.Option.{option_map}
-use Rattle.dim_core.specs.Draft.{Draft, empty_draft, with_element, first_unknown, IsFinished}
+use Rattle.dim_core.specs.Draft.{Draft, empty_draft, with_element, IsFinished}
 use Rattle.dim_core.specs.Name.{is_same_name}
 use Rattle.dim_core.specs.Outline.{Element, Outline, components_of}
 use Rattle.dim_core.specs.Refusal.{refusal_of}
@@ -48,7 +48,6 @@ IsFlat d = (e : ℕ) → e < length d.elements → IsTrue (are_flat_parts d e (c
 pub record IsPlainDimension (text : DimensionText) (d : Outline) : Type 0 where
   pub few : length text.elements ≤ 20
   pub accepted : IsTrue (are_accepted (empty_draft text.name) text.elements)
-  pub known : first_unknown (draft_of text) ≡ None
   pub finished : IsFinished (draft_of text) d
   pub flat : IsFlat d
 
