@@ -1,0 +1,62 @@
+-- From what the reader of a block gives to what is answered.
+use Rattle.std.proofs.Common.{◌≡◌, ◌≤◌, ℕ, ◌-◌, ◌+◌, List, [], ◌∷◌, ◌++◌, length, drop, Ok, Err, codes, true, refl, sym, ◌∙◌, ap, subst, arith, length-append, length-drop}
+use Rattle.std.proofs.lemmas.List.{length-map, drop-map}
+use Rattle.cube_lex.specs.Lexeme.{Lexeme, lexeme_of}
+use Rattle.cube_lex.specs.declared.token.Token.{Token}
+use Rattle.grammar.specs.Cursor.{lexemes}
+use Rattle.grammar.specs.Fault.{line_at, IsText, IsSyntax, IsRefused}
+use Rattle.grammar.specs.Reading.{Dead, Refused}
+use Rattle.grammar.specs.Tokens.{is_word}
+use Rattle.grammar.specs.declared.stop.Stop.{Stop}
+use Rattle.grammar.specs.declared.stop.Stop.TheVariants as stops
+use Rattle.grammar.proofs.Begins.{Begins, begins_both}
+use Rattle.grammar.proofs.Tokens.{word_begins}
+use Rattle.grammar.proofs.Top.{read_told, stuck_told, refused_told}
+use Rattle.dim_text.specs.Answers.{IsBlock, IsFault}
+use Rattle.dim_text.specs.Building.{building, nothing}
+use Rattle.dim_text.specs.Progress.{Progress, Text, IsBuilt}
+use Rattle.dim_text.specs.Reading.{read_block}
+use Rattle.dim_text.specs.Statement.{dimension}
+use Rattle.dim_text.specs.Views.{GivesText, Explains}
+use Rattle.dim_text.specs.declared.fault.DimTextFault.{DimTextFault}
+use Rattle.dim_text.specs.declared.fault.DimTextCause.TheVariants as causes
+use Rattle.dim_text.specs.declared.fault.Refusal.{Refusal}
+use Rattle.dim_text.proofs.BlockExact.{block_exact}
+
+dimension_begins : Begins dimension (is_word (codes "DIM")) true
+dimension_begins = begins_both (begins_both (begins_both (word_begins (codes "DIM") (codes "DIM"))))
+
+-- how many tokens the block has
+places : (all block left : List Lexeme) (from : ℕ) (t : Lexeme) (v : List Lexeme) → drop from all ≡ block ++ left → block ≡ t ∷ v → (length left ≤ length all) × (length all - length left ≡ from + length block)
+places all block left from t v parts some =
+    let whole : length (drop from all) ≡ length block + length left = ap length parts ∙ length-append block left in
+    let size : length (drop from all) ≡ length all - from = length-drop from all in
+    let one : length block ≡ length (t ∷ v) = ap length some in
+    (omega (arith, whole, size, one), omega (arith, whole, size, one))
+
+pub block_told : (all : List Lexeme) (from : ℕ) (text : Text) (left : List Lexeme) (p : Progress) → read_block nothing (drop from all) ≡ Ok (tt, p, left) → IsBuilt text p → (length left ≤ length all) × IsBlock (drop from all) from text (length all - length left)
+block_told all from text left p read built =
+    let (block, parts, is) = read_told block_exact nothing (drop from all) tt p left read in
+    let (t, v, some, _) = dimension_begins.at block tt is.text in
+    let (fewer, place) = places all block left from t v parts some in
+    (fewer, record { block = block; rest = left; parts = parts; next_is = place; built = p; text_of = is; is_built = built })
+
+-- the same over the tokens as they lie in memory
+pub block_at_told : (all : List Lexeme) (from : ℕ) (given left : List Token) (text : Text) → lexemes given ≡ drop from all → GivesText (Ok text) (lexemes left) (read_block nothing (lexemes given)) → (length left ≤ length all) × IsBlock (drop from all) from text (length all - length left)
+block_at_told all from given left text same (p, read, built) =
+    let (fewer, is) = block_told all from text (lexemes left) p (subst (λ ts. read_block nothing ts ≡ Ok (tt, p, lexemes left)) same read) built in
+    let size : length (lexemes left) ≡ length left = length-map left lexeme_of in
+    (subst (λ n. n ≤ length all) size fewer, subst (λ n. IsBlock (drop from all) from text (length all - n)) size is)
+
+pub fault_told : (ts : List Lexeme) (given left : List Token) (end_line : ℕ) (stop : Stop Refusal) (fault : DimTextFault) → lexemes given ≡ ts → GivesText (Err stop) (lexemes left) (read_block nothing (lexemes given)) → Explains given end_line stop fault → IsFault ts end_line fault.line fault.cause
+fault_told ts given left end_line stops.Memory fault same read told = subst (IsFault ts end_line fault.line) (sym told.1) told.0
+fault_told ts given left end_line (stops.Dead n) fault same read told =
+    let is : IsSyntax (λ t. t.line) dimension building nothing ts end_line (line_at (λ t. t.line) end_line (drop (length ts - n) ts)) = stuck_told block_exact tt (λ t. t.line) end_line nothing ts n (subst (λ x. read_block nothing x ≡ Err (Dead n)) same read) in
+    let dropped : lexemes (drop (length given - n) given) ≡ drop (length given - n) (lexemes given) = sym (drop-map lexeme_of (length given - n) given) in
+    let size : length given ≡ length (lexemes given) = sym (length-map given lexeme_of) in
+    let place : fault.line ≡ line_at (λ t. t.line) end_line (drop (length ts - n) ts) = told.0 ∙ ap (line_at (λ t. t.line) end_line) (dropped ∙ ap (λ k. drop (k - n) (lexemes given)) size ∙ ap (λ x. drop (length x - n) x) same) in
+    subst (IsFault ts end_line fault.line) (sym told.1) (subst (IsSyntax (λ t. t.line) dimension building nothing ts end_line) (sym place) is)
+fault_told ts given left end_line (stops.Refused refusal) fault same read told =
+    let is : IsRefused dimension building nothing ts refusal = refused_told block_exact nothing ts refusal (subst (λ x. read_block nothing x ≡ Err (Refused refusal)) same read) in
+    let place : refusal ≡ record { line = fault.line; fault = refusal.fault } = ap (λ n. record { line = n; fault = refusal.fault }) (sym told.0) in
+    subst (IsFault ts end_line fault.line) (sym told.1) (subst (IsRefused dimension building nothing ts) place is)

@@ -1,0 +1,30 @@
+-- What is answered of a block: the dimension that its statements build, or the first fault.
+use Rattle.std.specs.Prelude.{◌≡◌, ℕ, ◌+◌, List, ◌++◌, length, Result, Ok, Err}
+use Rattle.cube_lex.specs.Lexeme.{Lexeme}
+use Rattle.grammar.specs.Fault.{IsText, IsSyntax, IsRefused}
+use Rattle.dim_text.specs.Progress.{Progress, Text, IsBuilt}
+use Rattle.dim_text.specs.Building.{building, nothing}
+use Rattle.dim_text.specs.Statement.{dimension}
+use Rattle.dim_text.specs.declared.fault.DimTextFault.{DimTextFault}
+use Rattle.dim_text.specs.declared.fault.DimTextCause.{DimTextCause}
+use Rattle.dim_text.specs.declared.fault.DimTextCause.TheVariants as causes
+
+-- the first tokens are a block, whose statements build this text; the rest begins at this place, where the tokens begin at from
+pub record IsBlock (tokens : List Lexeme) (from : ℕ) (text : Text) (next : ℕ) : Type 0 where
+  pub block : List Lexeme
+  pub rest : List Lexeme
+  pub parts : tokens ≡ block ++ rest
+  pub next_is : next ≡ from + length block
+  pub built : Progress
+  pub text_of : IsText dimension building nothing block tt built
+  pub is_built : IsBuilt text built
+
+-- this is the first fault, on this line
+abbrev pub IsFault : List Lexeme → ℕ → ℕ → DimTextCause → Type 0
+IsFault tokens end_line line causes.Syntax = IsSyntax (λ t. t.line) dimension building nothing tokens end_line line
+IsFault tokens end_line line (causes.Dim fault) = IsRefused dimension building nothing tokens (record { line = line; fault = fault })
+IsFault tokens end_line line causes.Memory = line ≡ 0
+
+abbrev pub Answers : List Lexeme → ℕ → ℕ → Result (Text × ℕ) DimTextFault → Type 0
+Answers tokens end_line from (Ok x) = IsBlock tokens from x.0 x.1
+Answers tokens end_line from (Err fault) = IsFault tokens end_line fault.line fault.cause

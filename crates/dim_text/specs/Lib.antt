@@ -1,0 +1,6 @@
+pub mod Progress
+pub mod Statement
+pub mod Building
+pub mod Reading
+pub mod Views
+pub mod Answers

@@ -1,0 +1,95 @@
+-- The block of a dimension in a model file.
+use Rattle.std.specs.Prelude.{ℕ, ℤ, pos, neg_ℤ, List, [], ◌∷◌, Bool, true, false, codes}
+use Rattle.cube_lex.specs.Lexeme.{Lexeme}
+use Rattle.grammar.specs.Grammar.{Grammar, done, one, either, many, ◌>>=◌, ◌>>◌}
+use Rattle.grammar.specs.Tokens.{sign, word, whole, name}
+
+-- a statement, with the line of its first word
+pub data Statement : Type 0 where
+  -- the head, with the dimension's name
+  Head : ℕ → List ℕ → Statement
+  Leaf : ℕ → List ℕ → Statement
+  -- with its components and their weights
+  Consolidated : ℕ → List ℕ → List (List ℕ × ℤ) → Statement
+  End : ℕ → Statement
+  -- the last `;`
+  Close : Statement
+
+abbrev pub signed : Bool → ℕ → ℤ
+signed true n = neg_ℤ (pos n)
+signed false n = pos n
+
+-- "DIM" name ";"
+abbrev pub head : Grammar Lexeme Statement
+head = do
+  line ← one (word (codes "DIM"))
+  shown ← one name
+  one (sign (codes ";"))
+  done (Head line shown)
+
+-- [ "-" ]
+abbrev pub minus : Grammar Lexeme Bool
+minus = either (do one (sign (codes "-")); done true) (done false)
+
+-- [ "*" [ "-" ] whole ]
+abbrev pub weight : Grammar Lexeme ℤ
+weight = either (do one (sign (codes "*")); negative ← minus; n ← one whole; done (signed negative n)) (done (pos 1))
+
+-- name [ "*" [ "-" ] whole ]
+abbrev pub part : Grammar Lexeme (List ℕ × ℤ)
+part = do
+  shown ← one name
+  n ← weight
+  done (shown, n)
+
+-- [ ":" part { "," part } ]
+abbrev pub parts : Grammar Lexeme (List (List ℕ × ℤ))
+parts = either (do one (sign (codes ":")); first ← part; rest ← many (do one (sign (codes ",")); part); done (first ∷ rest)) (done [])
+
+-- "N" name ";"
+abbrev pub leaf : Grammar Lexeme Statement
+leaf = do
+  line ← one (word (codes "N"))
+  shown ← one name
+  one (sign (codes ";"))
+  done (Leaf line shown)
+
+-- "C" name [ ":" part { "," part } ] ";"
+abbrev pub consolidated : Grammar Lexeme Statement
+consolidated = do
+  line ← one (word (codes "C"))
+  shown ← one name
+  components ← parts
+  one (sign (codes ";"))
+  done (Consolidated line shown components)
+
+abbrev pub element : Grammar Lexeme Statement
+element = either leaf consolidated
+
+-- a text of G, whose tree isn't kept
+abbrev pub unit : {A : Type 0} → Grammar Lexeme A → Grammar Lexeme (Unit {0})
+unit G = do
+  G
+  done tt
+
+abbrev pub ending : Grammar Lexeme Statement
+ending = do
+  line ← one (word (codes "END"))
+  done (End line)
+
+abbrev pub closing : Grammar Lexeme Statement
+closing = do
+  one (sign (codes ";"))
+  done Close
+
+-- "DIM" name ";" { element } "END" ";"
+abbrev pub dimension : Grammar Lexeme (Unit {0})
+dimension = do
+  unit head
+  unit (many element)
+  unit ending
+  unit closing
+
+-- the pieces by which a block is built
+abbrev pub statement : Grammar Lexeme Statement
+statement = either head (either element (either ending closing))

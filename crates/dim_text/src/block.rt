@@ -1,0 +1,115 @@
+ghost use Rattle.std.specs.Prelude.{◌≡◌, drop};
+ghost use Rattle.grammar.specs.Cursor.{lexemes};
+ghost use Rattle.dim_text.specs.Answers.{Answers};
+ghost use Rattle.dim_text.specs.Building.{nothing};
+ghost use Rattle.dim_text.specs.Progress.{Progress, IsBuilt};
+ghost use Rattle.dim_text.specs.Reading.{read_opening, read_elements, read_ending, read_closing, read_block};
+ghost use Rattle.dim_text.specs.Views.{GivesWork, GivesEnd, GivesText, Explains};
+
+use crate::element::{element_at, element_comes, head_at};
+use crate::fault::{DimTextCause, DimTextFault, Refusal};
+use crate::text::DimText;
+use crate::work::Work;
+use cube_lex::{Token, Tokens};
+use grammar::{Cursor, Stop, Unwatched, line_left, sign, word};
+use std::alloc::Global;
+
+// Reads the head.
+#[tactic(auto, unfolding(crate::specs::Reading::read_opening))]
+fn opening_at(alloc: Global, cursor: &mut Cursor<'_, Unwatched>) -> Result<Work, Stop<Refusal>>
+    ensures { GivesWork result (lexemes cursor.new.tokens.now) (read_opening nothing (lexemes cursor.old.tokens.now)) }
+{
+    let (line, shown) = head_at(alloc, cursor)?;
+    Ok(Work::new(alloc, line, shown)?)
+}
+
+// Reads the elements.
+#[tactic(auto, unfolding(crate::specs::Reading::read_elements))]
+fn elements_at(
+    alloc: Global,
+    cursor: &mut Cursor<'_, Unwatched>,
+    mut work: Work,
+) -> Result<Work, Stop<Refusal>>
+    ensures { GivesWork result (lexemes cursor.new.tokens.now) (read_elements work (lexemes cursor.old.tokens.now)) }
+{
+    'element: while element_comes(cursor) {
+        let element = element_at(alloc, cursor)?;
+        work.add(element)?;
+    }
+    Ok(work)
+}
+
+// Reads `END`.
+#[tactic(auto, unfolding(crate::specs::Reading::read_ending, crate::specs::Reading::read_end))]
+fn ending_at(cursor: &mut Cursor<'_, Unwatched>, work: Work) -> Result<DimText, Stop<Refusal>>
+    ensures { GivesEnd result work (lexemes cursor.new.tokens.now) (read_ending work (lexemes cursor.old.tokens.now)) }
+{
+    word(cursor, b"END")?;
+    work.finish()
+}
+
+// Reads the last `;`.
+#[tactic(auto, unfolding(crate::specs::Reading::read_closing, crate::specs::Reading::read_close))]
+fn closing_at(cursor: &mut Cursor<'_, Unwatched>, text: DimText) -> Result<DimText, Stop<Refusal>>
+    ensures { (p : Progress) → IsBuilt text p → GivesEnd result p (lexemes cursor.new.tokens.now) (read_closing p (lexemes cursor.old.tokens.now)) }
+{
+    sign(cursor, b";")?;
+    Ok(text)
+}
+
+// Reads a block.
+#[tactic(auto, unfolding(crate::specs::Reading::read_block))]
+fn block_at(alloc: Global, cursor: &mut Cursor<'_, Unwatched>) -> Result<DimText, Stop<Refusal>>
+    ensures { GivesText result (lexemes cursor.new.tokens.now) (read_block nothing (lexemes cursor.old.tokens.now)) }
+{
+    let opened = opening_at(alloc, cursor)?;
+    let work = elements_at(alloc, cursor, opened)?;
+    let text = ending_at(cursor, work)?;
+    closing_at(cursor, text)
+}
+
+// Why a block that begins with these tokens is refused.
+fn fault_of(tokens: &[Token<'_>], end_line: u32, stop: Stop<Refusal>) -> DimTextFault
+    ensures { Explains tokens.now end_line stop result }
+{
+    match stop {
+        Stop::Memory => DimTextFault {
+            line: 0,
+            cause: DimTextCause::Memory,
+        },
+        Stop::Dead(left) => DimTextFault {
+            line: line_left(tokens, end_line, left),
+            cause: DimTextCause::Syntax,
+        },
+        Stop::Refused(Refusal { line, fault }) => DimTextFault {
+            line,
+            cause: DimTextCause::Dim(fault),
+        },
+    }
+}
+
+// The tokens from this place on.
+#[tactic(auto, using(crate::proofs::Rests::rest_is))]
+fn rest_from<'a>(tokens: &'a Tokens<'a>, from: usize) -> &'a [Token<'a>]
+    ensures { lexemes result.now ≡ drop from tokens.now.lexemes }
+{
+    let all = tokens.as_slice();
+    let (_, rest) = all.split_at(from.min(all.len()));
+    rest
+}
+
+/// Reads the block that begins at token `from`, and gives it with the place of the token after it.
+pub fn read(
+    alloc: Global,
+    tokens: &Tokens<'_>,
+    from: usize,
+) -> Result<(DimText, usize), DimTextFault>
+    ensures { Answers (drop from tokens.now.lexemes) tokens.now.end_line from result }
+{
+    let rest = rest_from(tokens, from);
+    let mut cursor = Cursor::new(rest, Unwatched);
+    match block_at(alloc, &mut cursor) {
+        Ok(text) => Ok((text, tokens.len() - cursor.tokens.len())),
+        Err(stop) => Err(fault_of(rest, tokens.end_line(), stop)),
+    }
+}

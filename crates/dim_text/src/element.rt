@@ -1,0 +1,180 @@
+ghost use Rattle.std.specs.Prelude.{◌≡◌, ◌<◌, ◌≤◌, length, OnOk, codes};
+ghost use Rattle.grammar.specs.Cursor.{lexemes, Reads};
+ghost use Rattle.grammar.specs.Reading.{starts};
+ghost use Rattle.dim_text.specs.Reading as reading;
+ghost use Rattle.dim_text.specs.Statement.{signed};
+ghost use Rattle.dim_text.specs.Views.{element_view, head_view};
+
+use crate::fault::Refusal;
+use dim_core::Name;
+use grammar::{Cursor, Stop, Unwatched, name, sign, sign_comes, whole, word, word_comes};
+use std::alloc::Global;
+
+/// A statement of a block, with the line of its first word.
+#[derive(Debug, Drop)]
+pub enum Element {
+    Leaf(u32, Name),
+    /// Its components, each with its weight.
+    Consolidated(u32, Name, Vec<(Name, i64)>),
+}
+
+/// Reads `DIM name ;`.
+#[tactic(auto, unfolding(crate::specs::Reading::read_head))]
+pub fn head_at(
+    alloc: Global,
+    cursor: &mut Cursor<'_, Unwatched>,
+) -> Result<(u32, Name), Stop<Refusal>>
+    ensures { Reads head_view reading.read_head cursor.old result cursor.new }
+{
+    let line = word(cursor, b"DIM")?;
+    let shown = name(alloc, cursor)?;
+    sign(cursor, b";")?;
+    Ok((line, shown))
+}
+
+/// Reads an optional `-`.
+#[tactic(auto, unfolding(crate::specs::Reading::read_minus))]
+fn minus_at(cursor: &mut Cursor<'_, Unwatched>) -> Result<bool, Stop<Refusal>>
+    ensures read { Reads (λ negative. negative) reading.read_minus cursor.old result cursor.new }
+    ensures no_longer { OnOk result (length cursor.new.tokens.now ≤ length cursor.old.tokens.now) }
+{
+    if sign_comes(cursor, b"-") {
+        sign(cursor, b"-")?;
+        Ok(true)
+    } else {
+        Ok(false)
+    }
+}
+
+fn signed(negative: bool, n: u32) -> i64
+    ensures { result ≡ signed negative n }
+{
+    if negative {
+        -i64::from(n)
+    } else {
+        i64::from(n)
+    }
+}
+
+/// Reads an optional `*` with its weight. A weight that isn't given is 1.
+#[tactic(auto, unfolding(crate::specs::Reading::read_weight))]
+fn weight_at(cursor: &mut Cursor<'_, Unwatched>) -> Result<i64, Stop<Refusal>>
+    ensures read { Reads (λ weight. weight) reading.read_weight cursor.old result cursor.new }
+    ensures no_longer { OnOk result (length cursor.new.tokens.now ≤ length cursor.old.tokens.now) }
+{
+    if sign_comes(cursor, b"*") {
+        sign(cursor, b"*")?;
+        let negative = minus_at(cursor)?;
+        let n = whole(cursor)?;
+        Ok(signed(negative, n))
+    } else {
+        Ok(1)
+    }
+}
+
+/// Reads a component with its weight.
+#[tactic(auto, unfolding(crate::specs::Reading::read_part))]
+fn part_at(alloc: Global, cursor: &mut Cursor<'_, Unwatched>) -> Result<(Name, i64), Stop<Refusal>>
+    ensures read { Reads (λ part. part) reading.read_part cursor.old result cursor.new }
+    ensures shorter { OnOk result (length cursor.new.tokens.now < length cursor.old.tokens.now) }
+{
+    let shown = name(alloc, cursor)?;
+    let weight = weight_at(cursor)?;
+    Ok((shown, weight))
+}
+
+/// Reads a further component, behind its `,`.
+#[tactic(auto, unfolding(crate::specs::Reading::read_next_part))]
+fn next_part_at(
+    alloc: Global,
+    cursor: &mut Cursor<'_, Unwatched>,
+) -> Result<(Name, i64), Stop<Refusal>>
+    ensures read { Reads (λ part. part) reading.read_next_part cursor.old result cursor.new }
+    ensures shorter { OnOk result (length cursor.new.tokens.now < length cursor.old.tokens.now) }
+{
+    sign(cursor, b",")?;
+    part_at(alloc, cursor)
+}
+
+/// Reads the components behind the first.
+#[tactic(auto, unfolding(crate::specs::Reading::read_further))]
+fn further_parts(
+    alloc: Global,
+    cursor: &mut Cursor<'_, Unwatched>,
+    first: (Name, i64),
+) -> Result<Vec<(Name, i64)>, Stop<Refusal>>
+    ensures { Reads (λ parts. parts.items) (reading.read_further first) cursor.old result cursor.new }
+{
+    let mut parts = Vec::new(alloc);
+    parts.push(first)?;
+    'part: while sign_comes(cursor, b",") {
+        let part = next_part_at(alloc, cursor)?;
+        parts.push(part)?;
+    }
+    Ok(parts)
+}
+
+/// Reads the components of an element, if there are any.
+#[tactic(auto, unfolding(crate::specs::Reading::read_parts))]
+fn parts_at(
+    alloc: Global,
+    cursor: &mut Cursor<'_, Unwatched>,
+) -> Result<Vec<(Name, i64)>, Stop<Refusal>>
+    ensures { Reads (λ parts. parts.items) reading.read_parts cursor.old result cursor.new }
+{
+    if sign_comes(cursor, b":") {
+        sign(cursor, b":")?;
+        let first = part_at(alloc, cursor)?;
+        further_parts(alloc, cursor, first)
+    } else {
+        Ok(Vec::new(alloc))
+    }
+}
+
+/// Reads `N name ;`.
+#[tactic(auto, unfolding(crate::specs::Reading::read_leaf))]
+fn leaf_at(alloc: Global, cursor: &mut Cursor<'_, Unwatched>) -> Result<Element, Stop<Refusal>>
+    ensures { Reads element_view reading.read_leaf cursor.old result cursor.new }
+{
+    let line = word(cursor, b"N")?;
+    let shown = name(alloc, cursor)?;
+    sign(cursor, b";")?;
+    Ok(Element::Leaf(line, shown))
+}
+
+/// Reads `C name [ : part { , part } ] ;`.
+#[tactic(auto, unfolding(crate::specs::Reading::read_consolidated))]
+fn consolidated_at(
+    alloc: Global,
+    cursor: &mut Cursor<'_, Unwatched>,
+) -> Result<Element, Stop<Refusal>>
+    ensures { Reads element_view reading.read_consolidated cursor.old result cursor.new }
+{
+    let line = word(cursor, b"C")?;
+    let shown = name(alloc, cursor)?;
+    let parts = parts_at(alloc, cursor)?;
+    sign(cursor, b";")?;
+    Ok(Element::Consolidated(line, shown, parts))
+}
+
+/// Whether an element's statement comes.
+pub fn element_comes(cursor: &Cursor<'_, Unwatched>) -> bool
+    ensures { result ≡ starts reading.is_element_word (lexemes cursor.now.tokens.now) }
+{
+    word_comes(cursor, b"N") || word_comes(cursor, b"C")
+}
+
+/// Reads an element's statement.
+#[tactic(auto, unfolding(crate::specs::Reading::read_element))]
+pub fn element_at(
+    alloc: Global,
+    cursor: &mut Cursor<'_, Unwatched>,
+) -> Result<Element, Stop<Refusal>>
+    ensures { Reads element_view reading.read_element cursor.old result cursor.new }
+{
+    if word_comes(cursor, b"N") {
+        leaf_at(alloc, cursor)
+    } else {
+        consolidated_at(alloc, cursor)
+    }
+}

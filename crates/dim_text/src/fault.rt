@@ -1,0 +1,28 @@
+use dim_core::DimFault;
+
+/// Why a block is refused, and on which line. For want of memory the line is 0.
+#[derive(Debug, Drop)]
+pub struct DimTextFault {
+    pub line: u32,
+    pub cause: DimTextCause,
+}
+
+/// The cause of a refusal.
+#[derive(Debug, Drop)]
+pub enum DimTextCause {
+    /// The line has the first token with which the tokens so far begin no block; where all tokens begin one but are none, it is
+    /// the line of the text's end.
+    Syntax,
+    /// A statement that the dimension doesn't take, on the line of its first word. Where the whole dimension is refused it is the
+    /// line of the element that is named. It holds no want of memory.
+    Dim(DimFault),
+    /// Want of memory.
+    Memory,
+}
+
+/// A statement, or the whole, that the builder refuses, with the line of the statement that it names.
+#[derive(Debug, Drop)]
+pub struct Refusal {
+    pub line: u32,
+    pub fault: DimFault,
+}
