@@ -1,0 +1,5 @@
+//! Tests across the crates: whole runs over files and a sink in memory.
+#![tactic(auto)]
+
+#[cfg(test)]
+mod runs;

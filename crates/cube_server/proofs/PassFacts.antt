@@ -1,0 +1,66 @@
+-- A pass comes to one thing over one list of files, and what it has found stays while more files are read.
+use Rattle.std.proofs.Common.{◌≡◌, ℕ, List, inl, inr, sym, ◌∙◌, subst}
+use Rattle.cube_server.specs.declared.refusal.Refusal.{Refusal}
+use Rattle.cube_server.specs.Pass.{Readings, Stop, Refuses, Pass, found, file, the, ◌>>=◌, text}
+
+-- a pass comes to one thing at most
+pub record IsOne {A : Type 0} (P : Pass A) : Type 0 where
+  pub one_found : (readings : Readings) (a b : A) → P.finds readings a → P.finds readings b → a ≡ b
+  pub one_stop : (readings : Readings) (s t : Stop) → P.stops readings s → P.stops readings t → s ≡ t
+  pub not_both : (readings : Readings) (a : A) (s : Stop) → P.finds readings a → P.stops readings s → ⊥
+
+pub one-found : {A : Type 0} (a : A) → IsOne (found a)
+one-found a = record {
+  one_found = λ readings b c p q. p ∙ sym q;
+  one_stop = λ readings s t p q. absurd p;
+  not_both = λ readings b s p q. q;
+}
+
+pub one-file : (name : List ℕ) → IsOne (file name)
+one-file name = record {
+  one_found = λ readings b c p q. cc;
+  one_stop = λ readings s t p q. p.1 ∙ sym q.1;
+  not_both = λ readings b s p q. (let e = q.0 in cc);
+}
+
+pub one-the : {A : Type 0} (Is : A → Type 0) (otherwise : Stop) → ((a b : A) → Is a → Is b → a ≡ b) → IsOne (the Is otherwise)
+one-the Is otherwise one = record {
+  one_found = λ readings a b p q. one a b p q;
+  one_stop = λ readings s t p q. p.1 ∙ sym q.1;
+  not_both = λ readings a s p q. q.0 a p;
+}
+
+two_stops : {A B : Type 0} (P : Pass A) (K : A → Pass B) → IsOne P → ((a : A) → IsOne (K a)) → (readings : Readings) (s t : Stop)
+    → (P >>= K).stops readings s → (P >>= K).stops readings t → s ≡ t
+two_stops P K one ones readings s t (inl p) (inl q) = one.one_stop readings s t p q
+two_stops P K one ones readings s t (inl p) (inr q) = absurd (one.not_both readings q.0 s q.1 p)
+two_stops P K one ones readings s t (inr p) (inl q) = absurd (one.not_both readings p.0 t p.1 q)
+two_stops P K one ones readings s t (inr p) (inr q) =
+    let same = one.one_found readings q.0 p.0 q.1 p.1 in
+    (ones p.0).one_stop readings s t p.2 (subst (λ a. (K a).stops readings t) same q.2)
+
+found_stops : {A B : Type 0} (P : Pass A) (K : A → Pass B) → IsOne P → ((a : A) → IsOne (K a)) → (readings : Readings) (b : B) (s : Stop)
+    → (P >>= K).finds readings b → (P >>= K).stops readings s → ⊥
+found_stops P K one ones readings b s p (inl q) = one.not_both readings p.0 s p.1 q
+found_stops P K one ones readings b s p (inr q) =
+    let same = one.one_found readings q.0 p.0 q.1 p.1 in
+    (ones p.0).not_both readings b s p.2 (subst (λ a. (K a).stops readings s) same q.2)
+
+two_found : {A B : Type 0} (P : Pass A) (K : A → Pass B) → IsOne P → ((a : A) → IsOne (K a)) → (readings : Readings) (b c : B)
+    → (P >>= K).finds readings b → (P >>= K).finds readings c → b ≡ c
+two_found P K one ones readings b c p q =
+    let same = one.one_found readings q.0 p.0 q.1 p.1 in
+    (ones p.0).one_found readings b c p.2 (subst (λ a. (K a).finds readings c) same q.2)
+
+pub one-bind : {A B : Type 0} (P : Pass A) (K : A → Pass B) → IsOne P → ((a : A) → IsOne (K a)) → IsOne (P >>= K)
+one-bind P K one ones = record {
+  one_found = two_found P K one ones;
+  one_stop = two_stops P K one ones;
+  not_both = found_stops P K one ones;
+}
+
+pub one-text : {A : Type 0} (name : List ℕ) (StandsFor : List ℕ → A → Type 0) (refusal : Refusal)
+    → ((bytes : List ℕ) (a b : A) → StandsFor bytes a → StandsFor bytes b → a ≡ b) → IsOne (text name StandsFor refusal)
+one-text name StandsFor refusal one =
+    one-bind (file name) (λ bytes. the (StandsFor bytes) (Refuses name refusal)) (one-file name)
+    (λ bytes. one-the (StandsFor bytes) (Refuses name refusal) (one bytes))

@@ -1,0 +1,29 @@
+ghost use Rattle.cube_server.specs.Answer.{Ends};
+ghost use Rattle.cube_server.specs.Outside.{outside};
+ghost use Rattle.cube_server.specs.Words.{texts_of};
+
+use crate::answer::answer_of;
+use crate::status::Status;
+use crate::tell::tell;
+use cube_outside::{Files, Sink, SinkFault};
+use std::alloc::Global;
+
+/// Computes the whole answer, and then writes it.
+pub(crate) fn run<F: Files, S: Sink>(
+    alloc: Global,
+    words: &[String],
+    files: &mut F,
+    out: &mut S,
+) -> Status
+    ensures { Ends (texts_of words.now) (outside F.told F.faults F.missed files.old files.new)
+        (S.written out.old) (S.written out.new) (S.faults out.old) (S.faults out.new) result }
+{
+    let Ok(answer) = answer_of(alloc, words, files) else {
+        return Status::NoMemory;
+    };
+    match tell(out, &answer.pieces) {
+        Ok(()) => answer.status,
+        Err(SinkFault::Failed) => Status::WriteFault,
+        Err(SinkFault::Memory) => Status::NoMemory,
+    }
+}
