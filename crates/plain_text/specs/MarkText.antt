@@ -8,6 +8,7 @@ use Rattle.plain_text.specs.declared.mark.Mark.TheVariants.{Model, Dimension, Le
 abbrev pub are : List ℕ → List ℕ → Bool
 are bytes text = pointwise nat_eq bytes text
 
+-- the word that these bytes are
 abbrev pub word_of : List ℕ → Option Mark
 word_of bytes =
     if are bytes (codes "MODEL") then Some Model
@@ -20,6 +21,7 @@ word_of bytes =
     else if are bytes (codes "GET") then Some Get
     else None
 
+-- the sign that this byte is
 abbrev pub sign_of : ℕ → Option Mark
 sign_of byte =
     if byte == 40 then Some Open

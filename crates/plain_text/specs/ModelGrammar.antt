@@ -33,6 +33,7 @@ minus = either (one (mark marks.Minus) >> done true) (done false)
 abbrev pub signed : Bool → ℤ → ℤ
 signed is_negative z = cond is_negative (neg_ℤ z) z
 
+-- `*`, and a whole number with its sign
 abbrev pub weight_given : Grammar ℤ
 weight_given = do
   one (mark marks.Times)
@@ -62,6 +63,7 @@ parts = do
   rest ← many further_part
   done (first ∷ rest)
 
+-- `N`, a name, `;`
 abbrev pub leaf : Grammar (Element (List ℕ))
 leaf = do
   one (mark marks.Leaf)
@@ -69,6 +71,7 @@ leaf = do
   one (mark marks.Semicolon)
   done (record { name = n; components = [] })
 
+-- `C`, a name, `:`, components, `;`
 abbrev pub consolidated : Grammar (Element (List ℕ))
 consolidated = do
   one (mark marks.Consolidated)
@@ -78,9 +81,11 @@ consolidated = do
   one (mark marks.Semicolon)
   done (record { name = n; components = components })
 
+-- a leaf or a consolidation
 abbrev pub element : Grammar (Element (List ℕ))
 element = either leaf consolidated
 
+-- `DIM`, a name, `;`, elements, `END`, `;`
 abbrev pub dimension : Grammar DimensionText
 dimension = do
   one (mark marks.Dimension)
@@ -91,7 +96,7 @@ dimension = do
   one (mark marks.Semicolon)
   done (record { name = n; elements = elements })
 
--- the version, the dimensions, and one cube
+-- `MODEL 1;`, dimensions, and one cube: `CUBE`, a name, the names of its dimensions in brackets, `;`, `END`, `;`
 abbrev pub model : Grammar ModelText
 model = do
   one (mark marks.Model)

@@ -1,4 +1,4 @@
--- How a model text is read: what the private functions do.
+-- How a model text is read, form by form as ModelGrammar has them: what the private functions do.
 use Rattle.std.specs.Prelude.{ℕ, ℤ, pos, List, [], ◌∷◌, Bool, true, false, ◌||◌}
 use Rattle.plain_text.specs.declared.mark.Mark.TheVariants as marks
 use Rattle.plain_text.specs.declared.piece.Piece.{Piece}

@@ -36,6 +36,7 @@ abbrev pub command_of : Cube → CommandText → Option PlainCommand
 command_of cube (texts.Put target number) = option_map (λ cell. Put cell number) (cell_of true cube target)
 command_of cube (texts.Get target) = option_map (λ cell. Get cell) (cell_of false cube target)
 
+-- the commands that texts stand for, one for each
 abbrev pub commands_of : Cube → List CommandText → Option (List PlainCommand)
 commands_of cube [] = Some []
 commands_of cube (text ∷ texts) = option_and_then (λ c. option_map (λ more. c ∷ more) (commands_of cube texts)) (command_of cube text)

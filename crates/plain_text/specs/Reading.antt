@@ -11,18 +11,21 @@ use Rattle.plain_text.specs.Mark.{is_mark}
 abbrev pub Reader : Type 0 → Type 0
 Reader A = List Piece → Option (A × List Piece)
 
+-- no piece, for one value
 abbrev pub gives : {A : Type 0} → A → Reader A
 gives a ps = Some (a, ps)
 
--- the next piece, which is picked for its value
+-- the value for which a piece was picked, and the pieces after it
 abbrev pub picked : {A : Type 0} → Option A → List Piece → Option (A × List Piece)
 picked None ps = None
 picked (Some a) ps = Some (a, ps)
 
+-- the next piece, where it is picked
 abbrev pub take_one : {A : Type 0} → (Piece → Option A) → Reader A
 take_one pick [] = None
 take_one pick (p ∷ ps) = picked (pick p) ps
 
+-- one reading, and then another that may depend on the first value
 infixl 10 ◌>>=◌
 abbrev pub ◌>>=◌ : {A B : Type 0} → Reader A → (A → Reader B) → Reader B
 (P >>= K) ps = option_and_then (λ r. K r.0 r.1) (P ps)
@@ -51,6 +54,7 @@ abbrev pub at_most : {A : Type 0} → ℕ → (Piece → Bool) → Reader A → 
 at_most zero test P ps = None
 at_most (suc n) test P ps = cond (starts test ps) (option_and_then (λ r. option_and_then (λ s. Some ((r.0 ∷ s.0), s.1)) (at_most n test P r.1)) (P ps)) (Some ([], ps))
 
+-- as long as the next piece passes the test
 abbrev pub all_of : {A : Type 0} → (Piece → Bool) → Reader A → Reader (List A)
 all_of test P ps = at_most (suc (length ps)) test P ps
 

@@ -13,14 +13,16 @@ use Rattle.plain_text.specs.declared.piece.Piece.TheVariants as pieces
 use Rattle.plain_text.specs.MarkText.{word_of, sign_of}
 use Rattle.plain_text.specs.Text.{is_white, is_word_byte, is_number_byte, is_quote}
 
--- the text from its first byte on that isn't white space
+-- any byte but white space
 abbrev pub is_ink : ℕ → Bool
 is_ink byte = not (is_white byte)
 
+-- the text from a place on, or nothing
 abbrev pub from_place : Option ℕ → List ℕ → List ℕ
 from_place None text = []
 from_place (Some at) text = drop at text
 
+-- the text from its first byte on that isn't white space
 abbrev pub without_white : List ℕ → List ℕ
 without_white text = from_place (position is_ink text) text
 
@@ -33,6 +35,7 @@ cut (Some at) text = (take at text, drop at text)
 abbrev pub is_apart : ℕ → Bool
 is_apart byte = not (is_word_byte byte)
 
+-- the bytes of the word or number in front, and what is left
 abbrev pub word_cut : List ℕ → List ℕ × List ℕ
 word_cut text = cut (position is_apart text) text
 
@@ -41,9 +44,11 @@ abbrev pub number_read : List ℕ → Result ℤ NumberFault → Option Piece
 number_read bytes (Ok number) = Some (pieces.Number number (list_all is_ascii_digit bytes))
 number_read bytes (Err fault) = None
 
+-- the number that these bytes are, without a sign
 unfoldable pub number_piece : List ℕ → Option Piece
 number_piece bytes = if list_all is_number_byte bytes then number_read bytes (reading_of (number_of bytes)) else None
 
+-- the word, or else the number
 abbrev pub or_number : List ℕ → Option Mark → Option Piece
 or_number bytes (Some mark) = Some (pieces.Mark mark)
 or_number bytes None = number_piece bytes
@@ -61,10 +66,12 @@ abbrev pub with_rest : List ℕ → Option Piece → Option (Piece × List ℕ)
 with_rest rest None = None
 with_rest rest (Some piece) = Some (piece, rest)
 
+-- the name up to a quote, and what is left after that
 abbrev pub quoted_to : List ℕ → Option ℕ → Option (Piece × List ℕ)
 quoted_to text None = None
 quoted_to text (Some end) = with_rest (drop (end + 1) text) (name_piece (take end text))
 
+-- the sign, where there is one
 abbrev pub sign_piece : Option Mark → Option Piece
 sign_piece None = None
 sign_piece (Some mark) = Some (pieces.Mark mark)
@@ -76,6 +83,7 @@ next_piece byte rest =
     else if is_word_byte byte then with_rest ((word_cut (byte ∷ rest)).1) (run_piece ((word_cut (byte ∷ rest)).0))
     else with_rest rest (sign_piece (sign_of byte))
 
+-- the first piece of a text without white space in front, and what is left
 abbrev pub next_of : List ℕ → Option (Piece × List ℕ)
 next_of [] = None
 next_of (byte ∷ rest) = next_piece byte rest

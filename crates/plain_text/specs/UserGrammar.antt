@@ -21,6 +21,7 @@ amount = do
   z ← one number
   done (signed is_negative z)
 
+-- `PUT`, a cell, `=`, a number, `;`
 abbrev pub put : Grammar CommandText
 put = do
   one (mark marks.Put)
@@ -30,6 +31,7 @@ put = do
   one (mark marks.Semicolon)
   done (Put target z)
 
+-- `GET`, a cell, `;`
 abbrev pub get : Grammar CommandText
 get = do
   one (mark marks.Get)
@@ -37,8 +39,10 @@ get = do
   one (mark marks.Semicolon)
   done (Get target)
 
+-- one of the two
 abbrev pub command : Grammar CommandText
 command = either put get
 
+-- any number of commands
 abbrev pub user : Grammar (List CommandText)
 user = many command

@@ -1,4 +1,4 @@
--- How a user text is read: what the private functions do.
+-- How a user text is read, form by form as UserGrammar has them: what the private functions do.
 use Rattle.std.specs.Prelude.{ℤ, List, Bool, true}
 use Rattle.plain_text.specs.declared.mark.Mark.TheVariants as marks
 use Rattle.plain_text.specs.declared.piece.Piece.{Piece}
