@@ -81,7 +81,10 @@ fn orders_components_before_what_they_are_components_of(rt: HostRuntime) -> Resu
 #[test]
 fn names_the_first_element_of_a_loop(rt: HostRuntime) -> Result<(), Fail> {
     // Top stands above the loop of C, B and A
-    let ring = chain(rt.alloc(), &[("Top", "C"), ("C", "B"), ("B", "A"), ("A", "C")])?;
+    let ring = chain(
+        rt.alloc(),
+        &[("Top", "C"), ("C", "B"), ("B", "A"), ("A", "C")],
+    )?;
     assert!(rt; matches!(ring.finish(), Err(DimFault::Loop(2))));
     let short = chain(rt.alloc(), &[("Year", "Leaf"), ("Half", "Feb")])?;
     assert!(rt; matches!(short.finish(), Err(DimFault::UnknownComponent(2))));
