@@ -1,0 +1,141 @@
+ghost use Rattle.std.specs.Prelude.{◌≡◌, ◌<◌, length, slice_get, None, option_and_then, nat_lt, ◌&&◌, true, false, unwrap_or, nat_le, unsigned_abs, ◌^◌};
+ghost use Rattle.std.specs.List.{list_all};
+ghost use Rattle.std.specs.Option.{option_copied, option_map_or};
+ghost use Rattle.rule_tables.specs.Tables.{system_of, has_cell, in_tables, cell_named, is_empty, is_small_sum, has_small_sums};
+
+use crate::tables::{CellRow, RuleTables};
+use cube_fixed::{Money, Value};
+use rule_laws::{Arg, Reference};
+
+/// Whether a list of cells has the cell.
+pub fn has_cell(cells: &[u64], cell: u64) -> bool
+    ensures { result ≡ has_cell cells.now cell }
+{
+    cells.iter().any(|x| *x == cell)
+}
+
+/// The row of a cell.
+pub fn row_of(rows: &[CellRow], cell: u64) -> Option<&CellRow>
+    ensures { option_copied result ≡ slice_get rows.now cell }
+{
+    rows.get(cell as usize)
+}
+
+/// Whether the cell is a leaf cell.
+#[tactic(auto, unfolding(crate::specs::Tables::system_of))]
+pub fn is_leaf(tables: &RuleTables, cell: u64) -> bool
+    ensures { result ≡ (system_of tables.now).is_leaf cell }
+{
+    match row_of(tables.cells.as_slice(), cell) {
+        Some(row) => row.components.as_slice().is_empty(),
+        None => true,
+    }
+}
+
+/// The cube of a cell.
+#[tactic(auto, unfolding(crate::specs::Tables::system_of))]
+pub fn cube_of(tables: &RuleTables, cell: u64) -> u32
+    ensures { result ≡ (system_of tables.now).cube_of cell }
+{
+    match row_of(tables.cells.as_slice(), cell) {
+        Some(row) => row.cube,
+        None => 0,
+    }
+}
+
+/// What is stored in a cell.
+#[tactic(auto, unfolding(crate::specs::Tables::system_of))]
+pub fn stored(tables: &RuleTables, cell: u64) -> Option<Money>
+    ensures { result ≡ (system_of tables.now).stored cell }
+{
+    match row_of(tables.cells.as_slice(), cell) {
+        Some(row) => row.stored,
+        None => None,
+    }
+}
+
+/// The leaf cells below a cell, with their weights.
+#[tactic(auto, unfolding(crate::specs::Tables::system_of), using(crate::proofs::TableFacts::small_row))]
+pub fn below(tables: &RuleTables, cell: u64) -> &[(u64, i64)]
+    requires { has_small_sums tables.now.cells ≡ true }
+    ensures value { result.now ≡ (system_of tables.now).below cell }
+    ensures small { is_small_sum result.now ≡ true }
+{
+    match row_of(tables.cells.as_slice(), cell) {
+        Some(row) => row.below.as_slice(),
+        None => &[],
+    }
+}
+
+/// The place of a cell in the declared order.
+#[tactic(auto, unfolding(crate::specs::Tables::system_of))]
+pub fn rank(tables: &RuleTables, cell: u64) -> u32
+    ensures { result ≡ (system_of tables.now).rank cell }
+{
+    match row_of(tables.cells.as_slice(), cell) {
+        Some(row) => row.rank,
+        None => 0,
+    }
+}
+
+fn in_tables(size: usize, cell: u64) -> Option<u64>
+    ensures { result ≡ in_tables size cell }
+{
+    if (cell as usize) < size {
+        Some(cell)
+    } else {
+        None
+    }
+}
+
+/// The cell that the arguments name.
+fn cell_named(size: usize, args: &[Arg], cell: u64) -> Option<u64>
+    ensures { result ≡ cell_named size args.now cell }
+{
+    match args {
+        [Arg::Fixed(target)] => in_tables(size, u64::from(*target)),
+        [Arg::Moved { to, .. }] => match to.as_slice().get(cell as usize) {
+            Some(Some(target)) => in_tables(size, u64::from(*target)),
+            _ => None,
+        },
+        _ => None,
+    }
+}
+
+/// The cell that a reference names from a cell.
+#[tactic(auto, unfolding(crate::specs::Tables::system_of))]
+pub fn target(tables: &RuleTables, reference: &Reference, cell: u64) -> Option<u64>
+    ensures { result ≡ (system_of tables.now).target reference.now cell }
+{
+    cell_named(
+        tables.cells.as_slice().len(),
+        reference.args.as_slice(),
+        cell,
+    )
+}
+
+/// The most cells that a sum may have, and the largest size of a weight.
+const MOST_CELLS: usize = 4_294_967_296;
+
+const LARGEST_WEIGHT: u64 = 1_000_000_000;
+
+fn has_small_weights(below: &[(u64, i64)]) -> bool
+    ensures { result ≡ list_all (λ pair. nat_le (unsigned_abs pair.1) (10 ^ 9)) below.now }
+{
+    below
+        .iter()
+        .all(|pair| pair.1.unsigned_abs() <= LARGEST_WEIGHT)
+}
+
+fn is_small_sum(below: &[(u64, i64)]) -> bool
+    ensures { result ≡ is_small_sum below.now }
+{
+    below.len() <= MOST_CELLS && has_small_weights(below)
+}
+
+/// Whether each sum over the cells below a cell stays exact: at most 2^32 cells, each with a weight of at most 10^9 in size.
+pub fn has_small_sums(rows: &[CellRow]) -> bool
+    ensures { result ≡ has_small_sums rows.now }
+{
+    rows.iter().all(|row| is_small_sum(row.below.as_slice()))
+}

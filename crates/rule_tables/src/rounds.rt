@@ -1,0 +1,40 @@
+ghost use Rattle.std.specs.Prelude.{◌≡◌, ℕ, ◌<◌, true, length, IfOk};
+ghost use Rattle.rule_laws.specs.RuleSystem.{dense_value};
+ghost use Rattle.rule_tables.specs.Tables.{system_of, has_small_sums};
+ghost use Rattle.rule_tables.specs.Evaluation.{IsNextRound};
+
+use crate::evaluate::{right_side, value_at};
+use crate::lookup::rank;
+use crate::tables::RuleTables;
+use cube_fixed::Value;
+use std::alloc::{AllocError, Global};
+
+/// The values after one round more: each cell takes the value of its right side.
+fn next_round(
+    alloc: Global,
+    tables: &RuleTables,
+    values: &[Value],
+) -> Result<Vec<Value>, AllocError>
+    requires { has_small_sums tables.now.cells ≡ true }
+    ensures { IfOk result (λ next. IsNextRound tables.now values.now next.items) }
+{
+    let size = tables.cells.as_slice().len();
+    let mut next = Vec::new(alloc);
+    for cell in 0..size {
+        next.push(right_side(tables, values, cell as u64))?;
+    }
+    Ok(next)
+}
+
+/// The dense value of a cell: that of plain rounds of evaluation over all cells, as many as its place in the order asks for.
+pub fn dense_value(alloc: Global, tables: &RuleTables, cell: u64) -> Result<Value, AllocError>
+    requires { has_small_sums tables.now.cells ≡ true }
+    ensures { IfOk result (λ value. value ≡ dense_value (system_of tables.now) cell) }
+{
+    // No values yet: each cell has 0.
+    let mut values = Vec::new(alloc);
+    for _round in 0..2 * u64::from(rank(tables, cell)) + 2 {
+        values = next_round(alloc, tables, values.as_slice())?;
+    }
+    Ok(value_at(values.as_slice(), cell))
+}

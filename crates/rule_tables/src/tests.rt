@@ -1,0 +1,279 @@
+use crate::{CellRow, FeederRow, RuleTables, StatementRow, dense_value, has_small_sums};
+use cube_fixed::{Money, Value};
+use lists::ListOf;
+use rule_laws::{Arg, Formula, Op, Reference};
+use std::alloc::{AllocError, Global};
+use std::test::Fail;
+
+// The months Jan, Feb and Mar, their quarter Q1, and Half, which has Q1 alone below it.
+const JAN: u8 = 0;
+
+const FEB: u8 = 1;
+
+const MAR: u8 = 2;
+
+const Q1: u8 = 3;
+
+const HALF: u8 = 4;
+
+const MONTHS: u8 = 5;
+
+// The measures; Margin is Sales less Cost.
+const UNITS: u8 = 0;
+
+const PRICE: u8 = 1;
+
+const SALES: u8 = 2;
+
+const COST: u8 = 3;
+
+const OPENING: u8 = 4;
+
+const CLOSING: u8 = 5;
+
+const MARGIN: u8 = 6;
+
+const MARGIN_SHARE: u8 = 7;
+
+const MEASURES: u8 = 8;
+
+const CELLS: u8 = MONTHS * MEASURES;
+
+fn cell(month: u8, measure: u8) -> u64 {
+    u64::from(month) * u64::from(MEASURES) + u64::from(measure)
+}
+
+fn components(alloc: Global, month: u8, measure: u8) -> Result<ListOf<(u64, i64)>, AllocError> {
+    let mut parts = Vec::new(alloc);
+    if month == HALF {
+        parts.push((cell(Q1, measure), 1))?;
+    } else if month == Q1 {
+        parts.push((cell(JAN, measure), 1))?;
+        parts.push((cell(FEB, measure), 1))?;
+        parts.push((cell(MAR, measure), 1))?;
+    } else if measure == MARGIN {
+        parts.push((cell(month, SALES), 1))?;
+        parts.push((cell(month, COST), -1))?;
+    }
+    Ok(ListOf::new(parts))
+}
+
+fn below(alloc: Global, month: u8, measure: u8) -> Result<ListOf<(u64, i64)>, AllocError> {
+    let mut leaves = Vec::new(alloc);
+    for leaf in 0..Q1 {
+        if leaf == month || month >= Q1 {
+            if measure == MARGIN {
+                leaves.push((cell(leaf, SALES), 1))?;
+                leaves.push((cell(leaf, COST), -1))?;
+            } else {
+                leaves.push((cell(leaf, measure), 1))?;
+            }
+        }
+    }
+    Ok(ListOf::new(leaves))
+}
+
+// The order: by month, and within a month Sales and Opening after what is typed in, Closing and Margin% after these.
+fn rank(month: u8, measure: u8) -> u32 {
+    let of_month = if month < MAR { u32::from(month) + 1 } else { 3 };
+    let of_measure = match measure {
+        SALES | OPENING | MARGIN => 1,
+        CLOSING | MARGIN_SHARE => 2,
+        _ => 0,
+    };
+    of_month * 3 + of_measure
+}
+
+// January: 10 units at a price of 10 and a cost of 60. February: 5 units.
+fn stored(month: u8, measure: u8) -> Option<Money> {
+    match (month, measure) {
+        (JAN, UNITS) | (JAN, PRICE) => Money::of(10_000_000),
+        (JAN, COST) => Money::of(60_000_000),
+        (FEB, UNITS) => Money::of(5_000_000),
+        _ => None,
+    }
+}
+
+fn cells(alloc: Global) -> Result<ListOf<CellRow>, AllocError> {
+    let mut rows = Vec::new(alloc);
+    for number in 0..CELLS {
+        let (month, measure) = (number / MEASURES, number % MEASURES);
+        rows.push(CellRow {
+            cube: 0,
+            components: components(alloc, month, measure)?,
+            below: below(alloc, month, measure)?,
+            stored: stored(month, measure),
+            rank: rank(month, measure),
+        })?;
+    }
+    Ok(ListOf::new(rows))
+}
+
+// The cells of a measure, from one month to another.
+fn area(alloc: Global, measure: u8, from: u8, to: u8) -> Result<ListOf<u64>, AllocError> {
+    let mut area = Vec::new(alloc);
+    for month in from..=to {
+        area.push(cell(month, measure))?;
+    }
+    Ok(ListOf::new(area))
+}
+
+fn by_table(places: Vec<Option<u32>>, alloc: Global) -> Result<Reference, AllocError> {
+    let mut args = Vec::new(alloc);
+    args.push(Arg::Moved {
+        from: 0,
+        to: ListOf::new(places),
+    })?;
+    Ok(Reference {
+        cube: 0,
+        args: ListOf::new(args),
+    })
+}
+
+// ['measure']: the same month.
+fn same_month(alloc: Global, measure: u8) -> Result<Reference, AllocError> {
+    let mut places = Vec::new(alloc);
+    for number in 0..CELLS {
+        places.push(Some(u32::from(number / MEASURES) * 8 + u32::from(measure)))?;
+    }
+    by_table(places, alloc)
+}
+
+// The Closing of the month before; January has none.
+fn closing_before(alloc: Global) -> Result<Reference, AllocError> {
+    let mut places = Vec::new(alloc);
+    for number in 0..CELLS {
+        if number < MEASURES {
+            places.push(None)?;
+        } else {
+            places.push(Some(u32::from(number / MEASURES - 1) * 8 + u32::from(CLOSING)))?;
+        }
+    }
+    by_table(places, alloc)
+}
+
+// The Opening of the month after.
+fn opening_after(alloc: Global) -> Result<Reference, AllocError> {
+    let mut places = Vec::new(alloc);
+    for number in 0..CELLS {
+        if number / MEASURES == HALF {
+            places.push(None)?;
+        } else {
+            places.push(Some(u32::from(number / MEASURES + 1) * 8 + u32::from(OPENING)))?;
+        }
+    }
+    by_table(places, alloc)
+}
+
+fn of_two(alloc: Global, op: Op, left: u8, right: u8) -> Result<Formula, AllocError> {
+    let left = Box::new(alloc, Formula::Ref(same_month(alloc, left)?))?;
+    let right = Box::new(alloc, Formula::Ref(same_month(alloc, right)?))?;
+    Ok(Formula::Binary(op, left, right))
+}
+
+fn leaf_rule(area: ListOf<u64>, formula: Formula) -> StatementRow {
+    StatementRow {
+        cube: 0,
+        area,
+        leaf: Some(formula),
+        consolidated: None,
+    }
+}
+
+fn statements(alloc: Global) -> Result<ListOf<StatementRow>, AllocError> {
+    let mut rows = Vec::new(alloc);
+    // ['Sales'] = N: ['Units'] * ['Price'];
+    rows.push(leaf_rule(
+        area(alloc, SALES, JAN, HALF)?,
+        of_two(alloc, Op::Mul, UNITS, PRICE)?,
+    ))?;
+    // ['Opening'] = N: the Closing of the month before;
+    rows.push(leaf_rule(
+        area(alloc, OPENING, JAN, HALF)?,
+        Formula::Ref(closing_before(alloc)?),
+    ))?;
+    // ['Closing'] = N: ['Opening'] + ['Units'];
+    rows.push(leaf_rule(
+        area(alloc, CLOSING, JAN, HALF)?,
+        of_two(alloc, Op::Add, OPENING, UNITS)?,
+    ))?;
+    // ['Q1', 'Margin%'] = C: ['Margin'] \ ['Sales'];
+    rows.push(StatementRow {
+        cube: 0,
+        area: area(alloc, MARGIN_SHARE, Q1, Q1)?,
+        leaf: None,
+        consolidated: Some(of_two(alloc, Op::DivSafe, MARGIN, SALES)?),
+    })?;
+    // ['Sales'] = N: ['Units'] + ['Price'];, which never governs, since the first statement does.
+    rows.push(leaf_rule(
+        area(alloc, SALES, JAN, HALF)?,
+        of_two(alloc, Op::Add, UNITS, PRICE)?,
+    ))?;
+    Ok(ListOf::new(rows))
+}
+
+fn feeders(alloc: Global) -> Result<ListOf<FeederRow>, AllocError> {
+    let mut rows = Vec::new(alloc);
+    rows.push(FeederRow {
+        sources: area(alloc, UNITS, JAN, MAR)?,
+        target: same_month(alloc, SALES)?,
+    })?;
+    rows.push(FeederRow {
+        sources: area(alloc, UNITS, JAN, MAR)?,
+        target: same_month(alloc, CLOSING)?,
+    })?;
+    rows.push(FeederRow {
+        sources: area(alloc, OPENING, JAN, MAR)?,
+        target: same_month(alloc, CLOSING)?,
+    })?;
+    rows.push(FeederRow {
+        sources: area(alloc, CLOSING, JAN, MAR)?,
+        target: opening_after(alloc)?,
+    })?;
+    Ok(ListOf::new(rows))
+}
+
+fn three_months(alloc: Global) -> Result<RuleTables, AllocError> {
+    let mut skips_check = Vec::new(alloc);
+    skips_check.push(true)?;
+    Ok(RuleTables {
+        cells: cells(alloc)?,
+        skips_check: ListOf::new(skips_check),
+        statements: statements(alloc)?,
+        feeders: feeders(alloc)?,
+    })
+}
+
+// Month, measure, and the value in millionths, worked out by hand.
+const VALUES: [(u8, u8, i64); 17] = [
+    (JAN, SALES, 100_000_000),
+    (FEB, SALES, 0),
+    (Q1, SALES, 100_000_000),
+    (HALF, SALES, 100_000_000),
+    (JAN, OPENING, 0),
+    (JAN, CLOSING, 10_000_000),
+    (FEB, OPENING, 10_000_000),
+    (FEB, CLOSING, 15_000_000),
+    (MAR, OPENING, 15_000_000),
+    (MAR, CLOSING, 15_000_000),
+    (Q1, CLOSING, 40_000_000),
+    (Q1, UNITS, 15_000_000),
+    (JAN, MARGIN, 40_000_000),
+    (Q1, MARGIN, 40_000_000),
+    (JAN, MARGIN_SHARE, 0),
+    (Q1, MARGIN_SHARE, 400_000),
+    // The C: rule on Q1 does not enter the total above it, which sums the months.
+    (HALF, MARGIN_SHARE, 0),
+];
+
+#[test]
+fn three_months_have_the_values_worked_out_by_hand(rt: HostRuntime) -> Result<(), Fail> {
+    let tables = three_months(rt.alloc())?;
+    assert!(rt; has_small_sums(tables.cells.as_slice()));
+    for (month, measure, millionths) in VALUES {
+        let expected = Value::Num(Money::of(millionths).ok_or("out of range")?);
+        let value = dense_value(rt.alloc(), &tables, cell(month, measure))?;
+        assert_eq!(rt; value, expected, "month {month}, measure {measure}");
+    }
+    Ok(())
+}
