@@ -1,0 +1,7 @@
+mod Splits
+pub mod Rising
+mod EntryCells
+mod NextCells
+mod Numbers
+mod Writes
+mod Sorting
