@@ -1,10 +1,10 @@
 -- From what the reader of a block gives to what is answered.
-use Rattle.std.proofs.Common.{◌≡◌, ◌≤◌, ℕ, ◌-◌, ◌+◌, List, [], ◌∷◌, ◌++◌, length, drop, Ok, Err, codes, true, refl, sym, ◌∙◌, ap, subst, arith, length-append, length-drop}
+use Rattle.std.proofs.Common.{◌≡◌, ◌≤◌, ℕ, ◌-◌, ◌+◌, List, ◌∷◌, ◌++◌, length, drop, Ok, Err, codes, true, sym, ◌∙◌, ap, subst, arith, length-append, length-drop}
 use Rattle.std.proofs.lemmas.List.{length-map, drop-map}
 use Rattle.cube_lex.specs.Lexeme.{Lexeme, lexeme_of}
 use Rattle.cube_lex.specs.declared.token.Token.{Token}
 use Rattle.grammar.specs.Cursor.{lexemes}
-use Rattle.grammar.specs.Fault.{line_at, IsText, IsSyntax, IsRefused}
+use Rattle.grammar.specs.Fault.{line_at, IsSyntax, IsRefused}
 use Rattle.grammar.specs.Reading.{Dead, Refused}
 use Rattle.grammar.specs.Tokens.{is_word}
 use Rattle.grammar.specs.declared.stop.Stop.{Stop}
@@ -19,7 +19,6 @@ use Rattle.dim_text.specs.Reading.{read_block}
 use Rattle.dim_text.specs.Statement.{dimension}
 use Rattle.dim_text.specs.Views.{GivesText, Explains}
 use Rattle.dim_text.specs.declared.fault.DimTextFault.{DimTextFault}
-use Rattle.dim_text.specs.declared.fault.DimTextCause.TheVariants as causes
 use Rattle.dim_text.specs.declared.fault.Refusal.{Refusal}
 use Rattle.dim_text.proofs.BlockExact.{block_exact}
 

@@ -1,14 +1,12 @@
 -- The reader of a block is exact.
-use Rattle.std.proofs.Common.{◌≡◌, List, ◌⊎◌, inl, inr, Bool, true, false, codes}
+use Rattle.std.proofs.Common.{List, inl, inr, true, codes}
 use Rattle.cube_lex.specs.Lexeme.{Lexeme}
 use Rattle.grammar.specs.Grammar.{Grammar, many}
-use Rattle.grammar.specs.Tokens.{sign, is_sign}
-use Rattle.grammar.specs.declared.cursor.Unwatched.{Unwatched}
 use Rattle.grammar.proofs.Exact.{Exact, Always, Not, exact_then, exact_made}
-use Rattle.grammar.proofs.Begins.{Begins, HasToken, begins_both, exact_before_next, has_token}
+use Rattle.grammar.proofs.Begins.{HasToken, begins_both, exact_before_next, has_token}
 use Rattle.grammar.proofs.Many.{exact_rest, Shortens, shortens}
 use Rattle.grammar.proofs.Checked.{exact_checked}
-use Rattle.grammar.proofs.Tokens.{sign_begins, word_begins}
+use Rattle.grammar.proofs.Tokens.{sign_begins}
 use Rattle.dim_text.specs.Statement.{Statement, unit, head, element, ending, closing, statement, dimension}
 use Rattle.dim_text.specs.Building.{add, building}
 use Rattle.dim_text.specs.Reading.{Plain, built, read_head, read_element, read_elements, read_end, read_close, read_opening, read_ending, read_closing, read_block, is_element_word}

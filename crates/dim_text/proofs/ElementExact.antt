@@ -1,11 +1,11 @@
 -- The readers of statements are exact.
-use Rattle.std.proofs.Common.{◌≡◌, ℕ, ℤ, pos, List, [], ◌∷◌, ◌++◌, Bool, true, false, ◌||◌, codes, refl, sym, ◌∙◌, ap}
+use Rattle.std.proofs.Common.{ℕ, ℤ, pos, List, [], ◌∷◌, ◌++◌, true, false, ◌||◌, codes, ◌∙◌, ap}
 use Rattle.std.specs.Str.{bytes_eq, str_eq_ignore_ascii_case}
 use Rattle.cube_lex.specs.Lexeme.{Lexeme}
 use Rattle.grammar.specs.Grammar.{Grammar, one, both, many, done}
 use Rattle.grammar.specs.Watch.{Watch, unwatched, unscanned}
-use Rattle.grammar.specs.Reading.{starts, all_of}
-use Rattle.grammar.specs.Tokens.{sign, word, whole, name, is_sign, is_word}
+use Rattle.grammar.specs.Reading.{starts}
+use Rattle.grammar.specs.Tokens.{sign, word, is_sign, is_word}
 use Rattle.grammar.specs.declared.cursor.Unwatched.{Unwatched}
 use Rattle.grammar.proofs.Exact.{Exact, Always, Not, exact_gives, exact_then, exact_both, exact_made, exact_choose}
 use Rattle.grammar.proofs.Begins.{Begins, begins_both, begins_either, exact_or, exact_option, exact_before_next, starts_text, starts_many, made_is}
@@ -13,7 +13,7 @@ use Rattle.grammar.proofs.Many.{exact_all}
 use Rattle.grammar.proofs.Tokens.{exact_sign, exact_word, exact_name, exact_whole_number, sign_begins, word_begins, value_no_sign, whole_is_value, begins_any}
 use Rattle.dim_text.specs.declared.fault.Refusal.{Refusal}
 use Rattle.dim_text.specs.Statement.{Statement, Head, Leaf, Consolidated, End, Close, signed, head, minus, weight, part, parts, leaf, consolidated, element, ending, closing}
-use Rattle.dim_text.specs.Reading.{Plain, read_head, read_minus, read_weight, read_part, read_next_part, read_further, read_parts, read_leaf, read_consolidated, read_element, read_end, read_close, is_element_word}
+use Rattle.dim_text.specs.Reading.{read_head, read_minus, read_weight, read_part, read_next_part, read_further, read_parts, read_leaf, read_consolidated, read_element, read_end, read_close, is_element_word}
 
 -- nothing watches the parts of a statement
 abbrev pub free : Watch Lexeme Unwatched Refusal

@@ -2,7 +2,7 @@
 use Rattle.std.proofs.Common.{◌≡◌, List, true, Ok, Err, sym, ap}
 use Rattle.cube_lex.specs.Lexeme.{Lexeme}
 use Rattle.grammar.specs.Cursor.{Gives}
-use Rattle.grammar.specs.Reading.{Halt, Dead, Refused, Read, gives, bound, starts}
+use Rattle.grammar.specs.Reading.{Halt, Dead, Refused, gives, bound, starts}
 use Rattle.grammar.specs.declared.cursor.Unwatched.{Unwatched}
 use Rattle.grammar.specs.declared.stop.Stop.{Stop}
 use Rattle.grammar.specs.declared.stop.Stop.TheVariants as stops

@@ -2,7 +2,7 @@
 use Rattle.std.specs.Prelude.{ℕ, List, [], ◌∷◌, ◌++◌, ℤ, Option, Some, None, Result, Ok, Err, slice_index}
 use Rattle.dim_core.specs.declared.fault.DimFault.{DimFault}
 use Rattle.dim_core.specs.declared.fault.DimFault.TheVariants as faults
-use Rattle.dim_core.specs.Draft.{Draft, empty_draft, with_element}
+use Rattle.dim_core.specs.Draft.{empty_draft, with_element}
 use Rattle.dim_core.specs.Refusal.{refusal_of, finish_refusal_of}
 use Rattle.cube_lex.specs.Lexeme.{Lexeme}
 use Rattle.grammar.specs.Watch.{Watch, each_text}

@@ -9,7 +9,7 @@ use Rattle.grammar.specs.Reading.{Dead, Refused, Read}
 use Rattle.grammar.specs.declared.stop.Stop.{Stop}
 use Rattle.grammar.specs.declared.stop.Stop.TheVariants as stops
 use Rattle.dim_text.specs.Progress.{Progress, Text, IsBuilt}
-use Rattle.dim_text.specs.Building.{add, finished}
+use Rattle.dim_text.specs.Building.{finished}
 use Rattle.dim_text.specs.Statement.{Statement, Head, Leaf, Consolidated}
 use Rattle.dim_text.specs.declared.element.Element.{Element}
 use Rattle.dim_text.specs.declared.element.Element.TheVariants as elements

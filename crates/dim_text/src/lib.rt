@@ -1,4 +1,4 @@
-//! The block of a dimension in a model file: read from tokens, and printed.
+//! The block of a dimension in a model file, read from its tokens.
 //!
 //! Read in this order: [`read`], which reads one block; [`DimText`], what it gives; [`DimTextFault`], why it refuses.
 #![tactic(auto)]

@@ -34,12 +34,14 @@ impl DimText {
         }
     }
 
+    /// What the block's statements define.
     pub fn dimension(&self) -> &Dimension
         ensures { result.now ≡ self.now.dimension }
     {
         &self.dimension
     }
 
+    /// The same, without the lines.
     pub fn into_dimension(self) -> Dimension
         ensures { result ≡ self.dimension }
     {

@@ -1,7 +1,5 @@
-use Rattle.std.proofs.Common.{◌<◌, [], ◌∷◌, ◌++◌, length, refl, sym, ap, arith}
+use Rattle.std.proofs.Common.{[], ◌∷◌, ◌++◌, refl, sym, ap, arith}
 use Rattle.std.proofs.lemmas.List.{length-map}
-use Rattle.cube_lex.specs.Lexeme.{lexeme_of}
-use Rattle.grammar.specs.Cursor.{lexemes}
 use Rattle.std.proofs.lemmas.Result.{err_from_is_err_and}
 use Rattle.grammar.specs.Reading.{gives, bound}
 use Rattle.grammar.proofs.Loops.{begun_all, goes_further, is_done}

@@ -1,4 +1,4 @@
-use Rattle.std.proofs.Common.{◌≡◌, codes, length}
+use Rattle.std.proofs.Common.{codes, length}
 use Rattle.grammar.specs.Cursor.{lexemes}
 use Rattle.grammar.specs.Tokens.{is_sign}
 use Rattle.grammar.proofs.Loops.{Going}
