@@ -3,7 +3,7 @@ use Rattle.std.proofs.Common.{◌≡◌, ℕ, zero, suc, ◌+◌, ◌<◌, ◌�
 use Rattle.std.proofs.Math.Seq.{take-append_seam, get_or-append_seam}
 use Rattle.std.proofs.lemmas.Bool.{cases_lt}
 use Rattle.std.proofs.lemmas.List.{map-append, take-append-le, get_or_append_left}
-use Rattle.dim_core.specs.Name.{has_name, is_same_name}
+use Rattle.dim_name.specs.Name.{has_name, is_same_name}
 use Rattle.dim_core.specs.Draft.{Draft, empty_draft, with_element, are_known, first_unknown, HasEarlierComponents}
 use Rattle.dim_core.specs.Outline.{Element, names_of, component_lists}
 use Rattle.dim_order.proofs.Places.{position-none}

@@ -6,7 +6,7 @@ use Rattle.std.proofs.lemmas.List.Elements.{All-push}
 use Rattle.std.proofs.lemmas.List.Sums.{sum_by-append, sum_by-cons}
 use Rattle.indexmap.specs.IndexSet.{insert_key}
 use Rattle.dim_core.specs.declared.fault.DimFault.TheVariants.{Duplicate, WeightRange, TooMany}
-use Rattle.dim_core.specs.Name.{has_name, is_same_name}
+use Rattle.dim_name.specs.Name.{has_name, is_same_name}
 use Rattle.dim_core.specs.Draft.{has_weights, with_element}
 use Rattle.dim_core.specs.Refusal.{refusal_of}
 use Rattle.dim_core.specs.Kept.{IsKept}

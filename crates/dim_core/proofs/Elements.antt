@@ -2,7 +2,7 @@
 use Rattle.std.proofs.Common.{◌≡◌, ℕ, ◌+◌, ◌<◌, ◌≤◌, ℤ, List, [], ◌∷◌, ◌++◌, length, refl, ap, sym, ◌∙◌, arith, get_or, sum_by, nat_lt, ◌||◌, ◌-◌, Bool, true}
 use Rattle.std.proofs.lemmas.Bool.Decides.{nat_tests}
 use Rattle.std.proofs.lemmas.Option.{slice_get-get_or}
-use Rattle.dim_core.specs.Name.{has_name}
+use Rattle.dim_name.specs.Name.{has_name}
 use Rattle.dim_core.specs.Draft.{is_defined, is_too_many}
 use Rattle.dim_core.specs.Outline.{elements_of, names_of, component_lists, component_count}
 

@@ -11,7 +11,7 @@ use Rattle.dim_order.specs.Members.{is_among}
 use Rattle.dim_order.specs.Loops.{IsOrder}
 use Rattle.dim_order.proofs.LoopLemmas.{first_on_loop-ordered}
 use Rattle.dim_order.proofs.Tests.{both, place_among}
-use Rattle.dim_core.specs.Name.{has_name, is_same_name}
+use Rattle.dim_name.specs.Name.{has_name, is_same_name}
 use Rattle.dim_core.specs.Draft.{Draft, are_known, by_index, first_loop, HasEarlierComponents}
 use Rattle.dim_core.specs.Refusal.{finish_refusal_of, first_cause}
 use Rattle.dim_core.specs.Outline.{names_of, component_lists}

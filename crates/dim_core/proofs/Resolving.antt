@@ -6,7 +6,7 @@ use Rattle.std.proofs.lemmas.List.Elements.{All-cons, All-nil, All-head, All-tai
 use Rattle.std.proofs.lemmas.List.Quantifiers.{position-Some}
 use Rattle.std.proofs.lemmas.List.Sums.{sum_by-cons}
 use Rattle.std.proofs.lemmas.Slice.Zip.{AllZip-long}
-use Rattle.dim_core.specs.Name.{is_same_name}
+use Rattle.dim_name.specs.Name.{is_same_name}
 use Rattle.dim_core.specs.Draft.{IsResolved, has_weights, are_known, by_index, first_unknown, first_loop, IsFinished}
 use Rattle.dim_core.specs.Kept.{IsKept, IsStored}
 use Rattle.dim_order.specs.Loops.{IsOrder, ArePartsWithin, first_on_loop}

@@ -2,7 +2,7 @@
 use Rattle.std.specs.Prelude.{◌≡◌, ℕ, ◌+◌, ◌<◌, Bool, ℤ, List, [], ◌∷◌, ◌++◌, length, take, Some, IsTrue, nat_le, nat_lt, ◌||◌, unsigned_abs, slice_index_or, not, Option, option_map, position, map, filter_map}
 use Rattle.std.specs.List.{AllZip, list_all}
 use Rattle.dim_order.specs.Loops.{first_on_loop}
-use Rattle.dim_core.specs.Name.{has_name, place_of}
+use Rattle.dim_name.specs.Name.{has_name, place_of}
 use Rattle.dim_core.specs.Outline.{Element, Outline, names_of, component_lists, component_count}
 
 -- the dimension's name, and its elements in the order of their definitions, whose components are named as they were written

@@ -2,7 +2,7 @@
 use Rattle.std.specs.Prelude.{◌≡◌, ℕ, ◌≤◌, ℤ, ◌<◌, List, [], length, sum_by, IsTrue, All, slice_index_or}
 use Rattle.std.specs.List.{IsDistinct}
 use Rattle.dim_order.specs.Loops.{IsOrder}
-use Rattle.dim_core.specs.Name.{is_same_name}
+use Rattle.dim_name.specs.Name.{is_same_name}
 use Rattle.dim_core.specs.Outline.{IsWeight}
 use Rattle.dim_core.specs.Draft.{has_weights}
 

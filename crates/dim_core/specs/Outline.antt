@@ -2,7 +2,7 @@
 use Rattle.std.specs.Prelude.{ℕ, ◌<◌, ◌≤◌, ℤ, List, [], ◌∷◌, map, length, All, sum_by, unsigned_abs, slice_index_or, Option}
 use Rattle.std.specs.List.{IsDistinct}
 use Rattle.dim_order.specs.Loops.{IsOrder}
-use Rattle.dim_core.specs.Name.{is_same_name, place_of}
+use Rattle.dim_name.specs.Name.{is_same_name, place_of}
 
 -- an element: its name as it was written, and its components, each with its weight
 pub record Element (Component : Type 0) : Type 0 where

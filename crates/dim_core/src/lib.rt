@@ -9,13 +9,12 @@ mod builder;
 mod components;
 mod dimension;
 mod fault;
-mod name;
 mod resolve;
 
 pub use builder::{Builder, MAX_COMPONENTS, MAX_ELEMENTS, MAX_WEIGHT};
+pub use dim_name::{Name, NameFault};
 pub use dimension::Dimension;
 pub use fault::DimFault;
-pub use name::{Name, NameFault};
 
 #[cfg(test)]
 mod tests;

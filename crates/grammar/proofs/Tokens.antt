@@ -9,7 +9,7 @@ use Rattle.grammar.specs.Grammar.{Grammar, one}
 use Rattle.grammar.specs.Watch.{each_token}
 use Rattle.grammar.specs.Reading.{take_one}
 use Rattle.cube_lex.specs.Quoted.{unquoted}
-use Rattle.dim_core.specs.Name.{is_name}
+use Rattle.dim_name.specs.Name.{is_name}
 use Rattle.std.specs.Str.Parse.{digits_value}
 use Rattle.grammar.specs.Tokens.{is_sign_kind, is_word_kind, is_text_kind, is_number_kind, is_sign, is_word, is_whole, when, sign, word, text, name, whole}
 use Rattle.grammar.proofs.Exact.{Exact, Always, exact_one}

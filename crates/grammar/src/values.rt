@@ -10,7 +10,7 @@ ghost use Rattle.grammar.specs.Tokens as tokens;
 use crate::cursor::{Cursor, Scan};
 use crate::stop::Stop;
 use cube_lex::{Kind, Token, unquoted};
-use dim_core::{Name, NameFault};
+use dim_name::{Name, NameFault};
 use std::alloc::Global;
 
 /// Whole numbers are below this.

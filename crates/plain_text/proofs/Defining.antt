@@ -8,7 +8,7 @@ use Rattle.std.proofs.lemmas.List.Elements.{All-from_recursion}
 use Rattle.dim_core.specs.declared.fault.DimFault.{DimFault}
 use Rattle.dim_core.specs.declared.fault.DimFault.TheVariants as causes
 use Rattle.dim_core.specs.Draft.{Draft, empty_draft, with_element, IsFinished, IsResolved}
-use Rattle.dim_core.specs.Name.{is_same_name}
+use Rattle.dim_name.specs.Name.{is_same_name}
 use Rattle.dim_core.specs.Outline.{Element, Outline, components_of, component_lists, names_of}
 use Rattle.dim_core.specs.Refusal.{refusal_of}
 use Rattle.plain_text.specs.declared.element_text.DimensionText.{DimensionText}

@@ -6,7 +6,7 @@ use Rattle.std.proofs.lemmas.List.Quantifiers.{position-Some}
 use Rattle.dim_core.specs.declared.fault.DimFault.{DimFault}
 use Rattle.dim_core.specs.declared.fault.DimFault.TheVariants as causes
 use Rattle.dim_core.specs.Draft.{Draft, are_known, HasEarlierComponents, IsFinished, IsResolved}
-use Rattle.dim_core.specs.Name.{has_name, is_same_name, place_of}
+use Rattle.dim_name.specs.Name.{has_name, is_same_name, place_of}
 use Rattle.dim_core.specs.Outline.{Element, Outline, component_lists, components_of, names_of}
 use Rattle.plain_text.specs.declared.fault.PlainFault.{PlainFault}
 use Rattle.plain_text.specs.declared.fault.PlainFault.TheVariants as faults

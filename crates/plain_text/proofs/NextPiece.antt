@@ -7,7 +7,7 @@ use Rattle.std.proofs.lemmas.List.{length-drop, drop-drop}
 use Rattle.std.proofs.lemmas.Slice.Eq.{bytes_eq-Decides}
 use Rattle.cube_fixed.specs.Text.{number_of, reading_of}
 use Rattle.cube_fixed.specs.declared.reading.NumberFault.{NumberFault}
-use Rattle.dim_core.specs.Name.{is_name}
+use Rattle.dim_name.specs.Name.{is_name}
 use Rattle.plain_text.specs.declared.mark.Mark.{Mark}
 use Rattle.plain_text.specs.declared.mark.Mark.TheVariants.{Model, Dimension, Leaf, Consolidated, End, Cube, Put, Get, Open, Close, Comma, Semicolon, Colon, Equal, Times, Minus}
 use Rattle.plain_text.specs.declared.piece.Piece.{Piece}

@@ -4,7 +4,7 @@ use Rattle.std.specs.List.{AllZip, AllByRecursion}
 use Rattle.std.specs.Option.{option_map}
 use Rattle.std.proofs.lemmas.List.{nil_from_length}
 use Rattle.std.proofs.lemmas.List.Elements.{All-from_recursion}
-use Rattle.dim_core.specs.Name.{is_same_name}
+use Rattle.dim_name.specs.Name.{is_same_name}
 use Rattle.dim_core.specs.Outline.{Element, Outline, index_of, components_of, names_of}
 use Rattle.plain_text.specs.declared.command.PlainCommand.{PlainCommand}
 use Rattle.plain_text.specs.declared.command.PlainCommand.TheVariants.{Put, Get}

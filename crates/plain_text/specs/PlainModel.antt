@@ -3,7 +3,7 @@ use Rattle.std.specs.Prelude.{◌≡◌, ℕ, ℤ, ◌≤◌, ◌^◌, ◌<◌, 
 use Rattle.std.specs.List.{AllZip, list_any}
 use Rattle.std.specs.Option.{option_map}
 use Rattle.dim_core.specs.Draft.{Draft, empty_draft, with_element, IsFinished}
-use Rattle.dim_core.specs.Name.{is_same_name}
+use Rattle.dim_name.specs.Name.{is_same_name}
 use Rattle.dim_core.specs.Outline.{Element, Outline, components_of}
 use Rattle.dim_core.specs.Refusal.{refusal_of}
 use Rattle.plain_text.specs.declared.element_text.DimensionText.{DimensionText}

@@ -1,7 +1,7 @@
 -- What a plain user text is, over a plain model.
 use Rattle.std.specs.Prelude.{◌≡◌, ℕ, ◌≤◌, ◌==◌, ◌&&◌, not, Bool, true, false, if◌then◌else◌, List, [], ◌∷◌, length, Option, Some, None, option_and_then}
 use Rattle.std.specs.Option.{option_map}
-use Rattle.dim_core.specs.Name.{is_same_name}
+use Rattle.dim_name.specs.Name.{is_same_name}
 use Rattle.dim_core.specs.Outline.{Outline, components_of, index_of}
 use Rattle.plain_text.specs.declared.command.PlainCommand.{PlainCommand}
 use Rattle.plain_text.specs.declared.command.PlainCommand.TheVariants.{Put, Get}

@@ -4,7 +4,7 @@ use Rattle.std.specs.Char.{is_ascii_digit}
 use Rattle.std.specs.List.{list_all}
 use Rattle.cube_fixed.specs.Text.{number_of, reading_of}
 use Rattle.cube_fixed.specs.declared.reading.NumberFault.{NumberFault}
-use Rattle.dim_core.specs.Name.{is_name}
+use Rattle.dim_name.specs.Name.{is_name}
 use Rattle.plain_text.specs.declared.mark.Mark.{Mark}
 use Rattle.plain_text.specs.declared.fault.PlainFault.{PlainFault}
 use Rattle.plain_text.specs.declared.fault.PlainFault.TheVariants as faults

@@ -7,7 +7,7 @@ use Rattle.plain_text.specs.declared.mark.Mark.TheVariants.{Model, Dimension, Le
 use Rattle.plain_text.specs.declared.piece.Piece.{Piece}
 use Rattle.plain_text.specs.declared.piece.Piece.TheVariants as pieces
 use Rattle.cube_fixed.specs.Text.{number_of, reading_of}
-use Rattle.dim_core.specs.Name.{is_name}
+use Rattle.dim_name.specs.Name.{is_name}
 
 -- a space or a line's end
 abbrev pub is_white : ℕ → Bool

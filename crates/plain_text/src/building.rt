@@ -1,7 +1,7 @@
 ghost use Rattle.std.specs.Prelude.{◌≡◌, ◌<◌, ◌≤◌, ◌==◌, true, false, length, position, IfOk, OnOk, IsErrOf, IsTrue};
 ghost use Rattle.std.specs.List.{AllZip, list_any};
 ghost use Rattle.dim_core.specs.Draft.{empty_draft};
-ghost use Rattle.dim_core.specs.Name.{is_same_name};
+ghost use Rattle.dim_name.specs.Name.{is_same_name};
 ghost use Rattle.plain_text.specs.Scanning.{Finds};
 ghost use Rattle.dim_core.specs.Outline.{Outline, components_of};
 ghost use Rattle.plain_text.specs.PlainModel.{are_accepted, with_elements, is_flat_part, are_flat_parts, IsFlat, IsPlainDimension, are_distinct, taken, named, DefinesCube};

@@ -8,7 +8,7 @@ use crate::fault::PlainFault;
 use crate::mark_text::{sign_of, word_of};
 use crate::piece::Piece;
 use cube_fixed::read;
-use dim_core::{Name, NameFault};
+use dim_name::{Name, NameFault};
 use std::alloc::Global;
 use std::collections::VecDeque;
 

@@ -1,7 +1,7 @@
 use Rattle.std.proofs.Common.{◌≡◌, length, ◌++◌, ◌∷◌, [], ◌∙◌, sym, ap, subst, List, ℕ, None}
 use Rattle.std.specs.List.{IsDistinct}
 use Rattle.indexmap.specs.IndexSet.{insert_key}
-use Rattle.dim_core.specs.Name.{is_same_name}
+use Rattle.dim_name.specs.Name.{is_same_name}
 use Rattle.dim_core.specs.Draft.{Draft}
 use Rattle.dim_core.specs.Refusal.{refusal_of}
 use Rattle.dim_core.proofs.Definitions.{new_key, kept_after, one_more}

@@ -6,7 +6,7 @@ ghost use Rattle.std.specs.Cmp.{on_equiv, on_per, partial_equiv_from_equiv};
 ghost use Rattle.std.specs.Cmp.Lexicographic.{nat_list_eq_equiv};
 ghost use Rattle.std.specs.Cmp.Rules.{hashing};
 ghost use Rattle.std.specs.Hash as fed;
-ghost use Rattle.dim_core.specs.Name.{is_name, is_not_space, is_same_name, key_of};
+ghost use Rattle.dim_name.specs.Name.{is_name, is_not_space, is_same_name, key_of};
 
 use std::alloc::{AllocError, Global};
 use std::hash::{Hash, Hasher};
@@ -23,7 +23,7 @@ pub enum NameFault {
 
 impl From<AllocError> for NameFault {
     ghost use Rattle.std.specs.Prelude.{◌≡◌};
-    ghost use Rattle.dim_core.specs.declared.name.NameFault.TheVariants.{Memory};
+    ghost use Rattle.dim_name.specs.declared.name.NameFault.TheVariants.{Memory};
 
     ghost from_gives = { λ _ e. e ≡ Memory };
 
@@ -42,7 +42,7 @@ pub struct Name {
 
 impl Model for Name {
     ghost use Rattle.std.specs.Prelude.{◌≡◌, ℕ, List, IsTrue};
-    ghost use Rattle.dim_core.specs.Name.{is_name, key_of};
+    ghost use Rattle.dim_name.specs.Name.{is_name, key_of};
 
     ghost Value = { List ℕ };
 
