@@ -7,3 +7,5 @@ pub mod Checked
 pub mod Inside
 pub mod Top
 pub mod Loops
+pub mod Cuts
+pub mod Settles
