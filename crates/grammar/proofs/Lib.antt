@@ -9,3 +9,5 @@ pub mod Top
 pub mod Loops
 pub mod Cuts
 pub mod Settles
+pub mod WholeTexts
+pub mod OneAnswer

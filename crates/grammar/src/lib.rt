@@ -2,11 +2,13 @@
 //! reader is exact.
 #![tactic(auto)]
 
+mod answer;
 mod basic;
 mod cursor;
 mod stop;
 mod values;
 
+pub use answer::{TextFault, settled};
 pub use basic::{end, is_sign, is_word, sign, sign_comes, word, word_comes};
 pub use cursor::{Cursor, Scan, Unwatched, line_left};
 pub use stop::Stop;
