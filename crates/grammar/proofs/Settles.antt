@@ -1,11 +1,11 @@
 -- Readers that never use up their turns; the grammars of which each text ends by itself and has one tree.
 use Rattle.std.proofs.Common.{◌≡◌, ℕ, ◌<◌, zero, suc, List, [], ◌∷◌, ◌++◌, length, refl, sym, ◌∙◌, ap, subst, arith, append-nil, append_assoc, Option, Some, None, Result, Ok, Err, Bool, true, false, if◌then◌else◌}
 use Rattle.grammar.specs.Grammar.{Grammar}
-use Rattle.grammar.specs.Watch.{Watch, Refuses, each_text, unwatched}
+use Rattle.grammar.specs.Watch.{each_text, unwatched}
 use Rattle.grammar.specs.Reading.{Dead, Refused, Spent, Read, Reader, gives, taken, take_one, bound, both_of, choose, starts, repeat, all_of, let_through, checked_result, checked, inside_result, inside, finish, whole}
-use Rattle.grammar.proofs.Exact.{Exact, Outcome, IsStopped, Agrees, Always}
-use Rattle.grammar.proofs.Begins.{Begins, HasToken}
-use Rattle.grammar.proofs.Many.{IsSettled, Shortens, shortens}
+use Rattle.grammar.proofs.Exact.{Exact, Outcome, Agrees, Always}
+use Rattle.grammar.proofs.Begins.{HasToken}
+use Rattle.grammar.proofs.Many.{IsSettled, Shortens}
 use Rattle.grammar.proofs.Cuts.{Cuts, no_token}
 
 pub record Settles {T R C A : Type 0} (P : Reader T R C A) : Type 0 where

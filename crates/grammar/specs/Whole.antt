@@ -67,3 +67,12 @@ settled lexed fault (Ok x) rest = at_end x lexed fault rest
 settled lexed fault (Err stops.Memory) rest = Err faults.Memory
 settled lexed fault (Err (stops.Dead left)) rest = Err (faults.Syntax (line_of lexed (drop (length lexed.lexemes - left) lexed.lexemes)))
 settled lexed fault (Err (stops.Refused cause)) rest = Err (faults.Refused cause)
+
+-- The bytes of a text have one answer: one tree, or one first fault, and not both.
+pub record HasOneAnswer {A R C : Type 0} (G : Grammar Lexeme A) (W : Watch Lexeme R C) (start : R) : Type 0 where
+  pub one_tree : (bytes : List ℕ) (x y : A) (r s : R) → IsWholeText G W start bytes x r → IsWholeText G W start bytes y s → x ≡ y
+  pub one_line : (bytes : List ℕ) (k l : ℕ) → IsWholeSyntax G W start bytes k → IsWholeSyntax G W start bytes l → k ≡ l
+  pub one_cause : (bytes : List ℕ) (c d : C) → IsWholeRefused G W start bytes c → IsWholeRefused G W start bytes d → c ≡ d
+  pub no_syntax : (bytes : List ℕ) (x : A) (r : R) (k : ℕ) → IsWholeText G W start bytes x r → IsWholeSyntax G W start bytes k → ⊥
+  pub no_refusal : (bytes : List ℕ) (x : A) (r : R) (c : C) → IsWholeText G W start bytes x r → IsWholeRefused G W start bytes c → ⊥
+  pub one_fault : (bytes : List ℕ) (k : ℕ) (c : C) → IsWholeSyntax G W start bytes k → IsWholeRefused G W start bytes c → ⊥
