@@ -59,9 +59,13 @@ cell_number layout cube elements = if is_place layout cube elements then Some (f
 abbrev pub is_leaf : Outline → ℕ → Bool
 is_leaf dimension element = length (components_of dimension element) == 0
 
--- whether all elements of a cell are leaves
+-- whether each of these elements, one of each of these dimensions, is a leaf
+abbrev pub are_leaves : List Outline → List ℕ → Bool
+are_leaves dimensions elements = list_all (λ p. is_leaf p.0 p.1) (zip dimensions elements)
+
+-- whether a cell is a leaf cell: all its elements are leaves
 unfoldable pub is_leaf_cell : Layout → ℕ → Bool
-is_leaf_cell layout cell = list_all (λ p. is_leaf p.0 p.1) (zip (axes layout (cube_of layout cell)) (elements_of layout cell))
+is_leaf_cell layout cell = are_leaves (axes layout (cube_of layout cell)) (elements_of layout cell)
 
 -- what holds of every space
 pub record IsSpace (space : Layout) : Type 0 where

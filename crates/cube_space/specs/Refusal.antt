@@ -6,14 +6,18 @@ use Rattle.cube_space.specs.declared.fault.SpaceFault.TheVariants.{CubeTooLarge,
 use Rattle.cube_space.specs.Layout.{Layout, dims_of}
 use Rattle.cube_space.specs.Cells.{cell_count, first_cell}
 
--- the first cause that holds of a cube: it hasn't 2 to 16 dimensions, it has too many cells, the cubes so far have
--- too many cells together
-abbrev pub cube_fault : Layout → ℕ → Option SpaceFault
-cube_fault layout cube =
-    if nat_lt (length (dims_of layout cube)) 2 || nat_lt 16 (length (dims_of layout cube)) then Some (DimensionCount cube)
-    else if nat_lt 4611686018427387904 (cell_count layout cube) then Some (CubeTooLarge cube)
-    else if nat_lt 4611686018427387904 (first_cell layout cube + cell_count layout cube) then Some (ModelTooLarge cube)
+-- the first cause that holds of a cube with this many dimensions and cells, after this many cells of the cubes before:
+-- it hasn't 2 to 16 dimensions, it has more than 2 ^ 62 cells, or the cells so far, its own included, are more
+abbrev pub fault_of : ℕ → ℕ → ℕ → ℕ → Option SpaceFault
+fault_of cube dimensions cells before =
+    if nat_lt dimensions 2 || nat_lt 16 dimensions then Some (DimensionCount cube)
+    else if nat_lt 4611686018427387904 cells then Some (CubeTooLarge cube)
+    else if nat_lt 4611686018427387904 (before + cells) then Some (ModelTooLarge cube)
     else None
+
+-- the fault of a cube, if it has one
+unfoldable pub cube_fault : Layout → ℕ → Option SpaceFault
+cube_fault layout cube = fault_of cube (length (dims_of layout cube)) (cell_count layout cube) (first_cell layout cube)
 
 -- the fault of the first cube that has one
 unfoldable pub refusal_of : Layout → Option SpaceFault

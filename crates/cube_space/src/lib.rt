@@ -7,7 +7,11 @@
 //! Contracts see a space as a `Layout`, the list of its dimensions and the list of its shapes, and cite `specs/Cells.antt`.
 #![tactic(auto)]
 
+mod digits;
 mod fault;
+mod leaves;
+mod names;
+mod numbering;
 mod run;
 mod shape;
 mod space;

@@ -4,7 +4,10 @@ ghost use Rattle.cube_space.specs.Layout.{IsLayout, cube_names, dimension_names}
 ghost use Rattle.cube_space.specs.Cells.{IsSpace, IsCell, size_of, first_cell, cell_count, cell_number, cube_of, elements_of, is_leaf_cell};
 ghost use Rattle.cube_space.specs.Refusal.{refusal_of, IsAnsweredBy};
 
-use crate::run::Run;
+use crate::digits::{are_digits, number_of, write_digits};
+use crate::leaves::are_leaves;
+use crate::names::{cube_named, dimension_named};
+use crate::run::{Run, runs};
 use crate::{CubeShape, SpaceFault};
 use dim_core::Dimension;
 use dim_name::Name;
@@ -37,7 +40,7 @@ impl Model for Space {
 
     ghost view = { λ s. record { dimensions = s.dimensions.items; cubes = s.cubes.items } };
 
-    ghost invariant = { λ s. ⊥ };
+    ghost invariant = { λ s. IsNumbered (record { dimensions = s.dimensions.items; cubes = s.cubes.items }) s.runs.items };
 }
 
 impl Space {
@@ -52,8 +55,12 @@ impl Space {
         ensures made { IfOk result (λ space. space ≡ record { dimensions = dims.items; cubes = cubes.items }) }
         ensures answered { IsAnsweredBy (refusal_of (record { dimensions = dims.items; cubes = cubes.items })) result }
     {
-        let _ = (alloc, dims, cubes);
-        Err(SpaceFault::Memory)
+        let runs = runs(alloc, &dims, &cubes)?;
+        Ok(Space {
+            dimensions: dims,
+            cubes,
+            runs,
+        })
     }
 
     /// How many cells there are. A number below it is a cell's.
@@ -61,24 +68,24 @@ impl Space {
         ensures size { result ≡ size_of self.now }
         ensures valid { IsSpace self.now }
     {
-        let _runs = self.runs.len();
-        unreachable!()
+        match self.runs.last() {
+            Some(run) => run.end,
+            None => 0,
+        }
     }
 
     /// How many cubes there are.
     pub fn cubes(&self) -> u32
         ensures { result ≡ length self.now.cubes }
     {
-        let _runs = self.runs.len();
-        unreachable!()
+        self.cubes.len() as u32
     }
 
     /// How many dimensions there are.
     pub fn dimensions(&self) -> u32
         ensures { result ≡ length self.now.dimensions }
     {
-        let _runs = self.runs.len();
-        unreachable!()
+        self.dimensions.len() as u32
     }
 
     /// The name of a cube and the numbers of its dimensions.
@@ -86,8 +93,7 @@ impl Space {
         requires { cube < length self.now.cubes }
         ensures { slice_get self.now.cubes cube ≡ Some result.now }
     {
-        let _runs = self.runs.len();
-        unreachable!()
+        &self.cubes[cube as usize]
     }
 
     /// A dimension by its number.
@@ -95,8 +101,7 @@ impl Space {
         requires { dim < length self.now.dimensions }
         ensures { slice_get self.now.dimensions dim ≡ Some result.now }
     {
-        let _runs = self.runs.len();
-        unreachable!()
+        &self.dimensions[dim as usize]
     }
 
     /// The number of a cube's first cell. A cube without cells has the number that it would begin with.
@@ -104,8 +109,7 @@ impl Space {
         requires { cube < length self.now.cubes }
         ensures { result ≡ first_cell self.now cube }
     {
-        let _runs = self.runs.len();
-        unreachable!()
+        self.runs[cube as usize].first
     }
 
     /// How many cells a cube has: none where one of its dimensions has no elements.
@@ -113,24 +117,28 @@ impl Space {
         requires { cube < length self.now.cubes }
         ensures { result ≡ cell_count self.now cube }
     {
-        let _runs = self.runs.len();
-        unreachable!()
+        let run = &self.runs[cube as usize];
+        run.end - run.first
     }
 
     /// The number of the cube that has this name, or None where none has it.
     pub fn cube_of(&self, name: &Name) -> Option<u32>
         ensures { result ≡ place_of (cube_names self.now) name.now }
     {
-        let _runs = self.runs.len();
-        unreachable!()
+        match cube_named(&self.cubes, name) {
+            Some(cube) => Some(cube as u32),
+            None => None,
+        }
     }
 
     /// The number of the dimension that has this name, or None where none has it.
     pub fn dimension_of(&self, name: &Name) -> Option<u32>
         ensures { result ≡ place_of (dimension_names self.now) name.now }
     {
-        let _runs = self.runs.len();
-        unreachable!()
+        match dimension_named(&self.dimensions, name) {
+            Some(dim) => Some(dim as u32),
+            None => None,
+        }
     }
 
     /// The number of the cell of this cube and these elements, one of each of its dimensions in their order. None where
@@ -143,8 +151,15 @@ impl Space {
         ensures cube { IfSome result (λ cell. cube_of self.now cell ≡ cube) }
         ensures elements { IfSome result (λ cell. elements_of self.now cell ≡ at.now) }
     {
-        let _runs = self.runs.len();
-        unreachable!()
+        if cube >= self.cubes() {
+            return None;
+        }
+        let run = &self.runs[cube as usize];
+        let sizes = run.sizes.as_slice();
+        if !are_digits(sizes, at) {
+            return None;
+        }
+        Some(run.first + number_of(sizes, at))
     }
 
     /// The cube of a cell, whose elements are put into the first places of `at`. The places past the cube's dimensions
@@ -157,8 +172,10 @@ impl Space {
         // the number and the place are inverse
         ensures number { cell_number self.now result (elements_of self.now cell) ≡ Some cell }
     {
-        let _runs = self.runs.len();
-        unreachable!()
+        let cube = self.run_of(cell);
+        let run = &self.runs[cube];
+        write_digits(run.sizes.as_slice(), cell - run.first, at);
+        cube as u32
     }
 
     /// Whether all elements of a cell are leaves.
@@ -166,8 +183,10 @@ impl Space {
         requires { IsCell self.now cell }
         ensures { result ≡ is_leaf_cell self.now cell }
     {
-        let _runs = self.runs.len();
-        unreachable!()
+        let mut at = [0; MAX_DIMENSIONS];
+        let cube = self.place(cell, &mut at);
+        let dims = self.shape(cube).dims.as_slice();
+        are_leaves(&self.dimensions, dims, &at[..dims.len()])
     }
 
     // The cube whose run has the cell.
@@ -177,7 +196,6 @@ impl Space {
         ensures from { first_cell self.now result ≤ cell }
         ensures before { cell < first_cell self.now (suc result) }
     {
-        let _runs = self.runs.len();
-        unreachable!()
+        self.runs.partition_point(|run| run.end <= cell)
     }
 }
