@@ -1,4 +1,5 @@
 pub mod Axes
+pub mod Distinct
 pub mod LeafCells
 pub mod LeafTests
 pub mod Named

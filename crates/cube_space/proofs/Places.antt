@@ -55,6 +55,11 @@ pub run_within : (layout : Layout) (cube : ℕ) → cube < length layout.cubes �
 run_within layout cube h =
     omega (arith, first_cell-next layout cube, first_cell-least layout (suc cube) (length layout.cubes) (omega arith))
 
+-- the list of all cells has as many as there are
+pub length-all_cells : (layout : Layout) → length (all_cells layout) ≡ size_of layout
+unfolding all_cells
+length-all_cells layout = first_cell-counts layout (length layout.cubes)
+
 -- a place: its cube is there, and its elements are digits for the sizes of the cube's dimensions
 pub record IsPlace (layout : Layout) (cube : ℕ) (elements : List ℕ) : Type 0 where
   pub there : cube < length layout.cubes

@@ -108,3 +108,27 @@ product-positive (suc size ∷ sizes) (suc k) d h within = product-positive size
     positive_from : (count : ℕ) → 0 < suc size * count → 0 < count
     positive_from zero h = absurd (omega arith)
     positive_from (suc count) h = omega arith
+
+-- a number with no greater digit is no greater
+pub number-at_most : (sizes xs ys : List ℕ) → are_digits sizes xs ≡ true → are_digits sizes ys ≡ true → ((k : ℕ) → k < length sizes → get_or xs k 0 ≤ get_or ys k 0) → number_of sizes xs ≤ number_of sizes ys
+number-at_most [] xs ys h i least = omega arith
+number-at_most (size ∷ sizes) [] ys h i least = absurd (cc)
+number-at_most (size ∷ sizes) (x ∷ xs) [] h i least = absurd (cc)
+number-at_most (size ∷ sizes) (x ∷ xs) (y ∷ ys) h i least =
+    let here : x ≤ y = least 0 (omega arith) in
+    let rest = number-at_most sizes xs ys (and_parts (nat_lt x size) (are_digits sizes xs) h).1 (and_parts (nat_lt y size) (are_digits sizes ys) i).1 (λ k less. least (suc k) (omega arith)) in
+    omega (arith, rest, mul-le x (product sizes) y (product sizes) here (omega arith))
+
+-- a number with a smaller digit at a place, and no greater one before, is smaller
+pub number-smaller : (sizes xs ys : List ℕ) (n : ℕ) → are_digits sizes xs ≡ true → are_digits sizes ys ≡ true → n < length sizes → ((k : ℕ) → k < n → get_or xs k 0 ≤ get_or ys k 0)
+    → get_or xs n 0 < get_or ys n 0 → number_of sizes xs < number_of sizes ys
+number-smaller [] xs ys n h i within before here = absurd (omega arith)
+number-smaller (size ∷ sizes) [] ys n h i within before here = absurd (cc)
+number-smaller (size ∷ sizes) (x ∷ xs) [] n h i within before here = absurd (cc)
+number-smaller (size ∷ sizes) (x ∷ xs) (y ∷ ys) zero h i within before here =
+    let below = number-below sizes xs (and_parts (nat_lt x size) (are_digits sizes xs) h).1 in
+    omega (arith, below, mul-le (x + 1) (product sizes) y (product sizes) (omega arith) (omega arith))
+number-smaller (size ∷ sizes) (x ∷ xs) (y ∷ ys) (suc n) h i within before here =
+    let first : x ≤ y = before 0 (omega arith) in
+    let rest = number-smaller sizes xs ys n (and_parts (nat_lt x size) (are_digits sizes xs) h).1 (and_parts (nat_lt y size) (are_digits sizes ys) i).1 (omega arith) (λ k less. before (suc k) (omega arith)) here in
+    omega (arith, rest, mul-le x (product sizes) y (product sizes) first (omega arith))

@@ -1,5 +1,5 @@
 -- Why dimensions and cubes are no space.
-use Rattle.std.specs.Prelude.{◌≡◌, ℕ, ◌+◌, ◌⊎◌, Bool, ◌||◌, nat_lt, Option, Some, None, Result, Ok, Err, List, length, slice_get, if◌then◌else◌, ⊤}
+use Rattle.std.specs.Prelude.{◌≡◌, ℕ, ◌+◌, ◌^◌, ◌⊎◌, Bool, ◌||◌, nat_lt, Option, Some, None, Result, Ok, Err, List, length, slice_get, if◌then◌else◌, ⊤}
 use Rattle.std.specs.List.{filter_map, range_with_len}
 use Rattle.cube_space.specs.declared.fault.SpaceFault.{SpaceFault}
 use Rattle.cube_space.specs.declared.fault.SpaceFault.TheVariants.{CubeTooLarge, ModelTooLarge, DimensionCount, Memory}
@@ -11,8 +11,8 @@ use Rattle.cube_space.specs.Cells.{cell_count, first_cell}
 abbrev pub fault_of : ℕ → ℕ → ℕ → ℕ → Option SpaceFault
 fault_of cube dimensions cells before =
     if nat_lt dimensions 2 || nat_lt 16 dimensions then Some (DimensionCount cube)
-    else if nat_lt 4611686018427387904 cells then Some (CubeTooLarge cube)
-    else if nat_lt 4611686018427387904 (before + cells) then Some (ModelTooLarge cube)
+    else if nat_lt (2 ^ 62) cells then Some (CubeTooLarge cube)
+    else if nat_lt (2 ^ 62) (before + cells) then Some (ModelTooLarge cube)
     else None
 
 -- the fault of a cube, if it has one

@@ -19,3 +19,8 @@ mod space;
 pub use fault::SpaceFault;
 pub use shape::CubeShape;
 pub use space::{MAX_CELLS, MAX_DIMENSIONS, MIN_DIMENSIONS, Space};
+
+#[cfg(test)]
+mod allowed;
+#[cfg(test)]
+mod tests;

@@ -1,7 +1,7 @@
 ghost use Rattle.std.specs.Prelude.{◌≡◌, suc, ◌<◌, ◌≤◌, ◌++◌, length, drop, IfOk, IfSome, slice_get};
 ghost use Rattle.dim_name.specs.Name.{place_of};
 ghost use Rattle.cube_space.specs.Layout.{IsLayout, cube_names, dimension_names};
-ghost use Rattle.cube_space.specs.Cells.{IsSpace, IsCell, size_of, first_cell, cell_count, cell_number, cube_of, elements_of, is_leaf_cell};
+ghost use Rattle.cube_space.specs.Cells.{IsSpace, IsCell, all_cells, size_of, first_cell, cell_count, cell_number, cube_of, elements_of, is_leaf_cell};
 ghost use Rattle.cube_space.specs.Refusal.{refusal_of, IsAnsweredBy};
 
 use crate::digits::{are_digits, number_of, write_digits};
@@ -66,6 +66,7 @@ impl Space {
     /// How many cells there are. A number below it is a cell's.
     pub fn size(&self) -> u64
         ensures size { result ≡ size_of self.now }
+        ensures all { size_of self.now ≡ length (all_cells self.now) }
         ensures valid { IsSpace self.now }
     {
         match self.runs.last() {
