@@ -1,9 +1,9 @@
 -- The dimensions of a cube and their sizes.
-use Rattle.std.proofs.Common.{◌≡◌, ℕ, zero, suc, ◌+◌, ◌<◌, Some, List, [], ◌∷◌, map, length, get_or, refl, ap, sym, ◌∙◌, arith, All, slice_index, slice_get, slice_index_or}
+use Rattle.std.proofs.Common.{◌≡◌, ℕ, suc, ◌<◌, List, [], ◌∷◌, map, length, get_or, refl, ap, sym, ◌∙◌, arith, All, slice_index}
 use Rattle.std.proofs.lemmas.List.{get_or-map, length-map}
 use Rattle.std.proofs.lemmas.Option.{slice_get-get_or}
 use Rattle.dim_core.specs.Outline.{Outline}
-use Rattle.cube_space.specs.Layout.{Layout, axes_of, sizes_of, dims_of, IsLayout}
+use Rattle.cube_space.specs.Layout.{axes_of, sizes_of}
 
 -- the first of the numbers names a dimension, and the others stay
 pub axes_of-cons : (dimensions : List Outline) (dim : ℕ) (dims : List ℕ) (d : Outline) → dim < length dimensions → axes_of dimensions (dim ∷ dims) ≡ get_or dimensions dim d ∷ axes_of dimensions dims

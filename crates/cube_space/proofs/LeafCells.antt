@@ -1,15 +1,15 @@
 -- What is read of a cell to tell whether it is a leaf cell.
-use Rattle.std.proofs.Common.{◌≡◌, ℕ, ◌<◌, ◌≤◌, Bool, true, Some, List, [], ◌++◌, length, get_or, take, map, refl, ap, sym, ◌∙◌, subst, arith, All, slice_get}
+use Rattle.std.proofs.Common.{◌≡◌, ℕ, ◌<◌, ◌≤◌, true, Some, List, [], ◌++◌, length, get_or, take, ap, sym, ◌∙◌, subst, All, slice_get}
 use Rattle.std.proofs.lemmas.List.{get_or-map, take_at}
 use Rattle.std.proofs.lemmas.Option.{slice_get_within, get_or_from_slice_get}
 use Rattle.dim_core.specs.Outline.{Outline}
 use Rattle.cube_space.specs.declared.shape.CubeShape.{CubeShape}
 use Rattle.cube_space.specs.Radix.{are_digits}
-use Rattle.cube_space.specs.Layout.{Layout, IsLayout, dims_of, axes, axes_of, sizes, sizes_of}
+use Rattle.cube_space.specs.Layout.{Layout, dims_of, axes, axes_of, sizes_of}
 use Rattle.cube_space.specs.Cells.{IsSpace, IsCell, cube_of, elements_of, are_leaves, is_leaf_cell}
 use Rattle.cube_space.proofs.Axes.{length-axes_of}
 use Rattle.cube_space.proofs.Radix.{digits-length}
-use Rattle.cube_space.proofs.Places.{HasPlace, cell-place}
+use Rattle.cube_space.proofs.Places.{cell-place}
 
 pub record IsRead (layout : Layout) (cell : ℕ) (dimensions : List Outline) (dims at : List ℕ) : Type 0 where
   pub few : length dims ≤ 16

@@ -1,12 +1,12 @@
 -- Cells and their places: the cell of a place stands in the list of all cells at the place's number.
-use Rattle.std.proofs.Common.{◌≡◌, ℕ, zero, suc, ◌+◌, ◌-◌, ◌<◌, ◌≤◌, ◌⊎◌, inl, inr, Bool, true, false, ◌&&◌, Some, None, List, [], ◌∷◌, ◌++◌, map, length, get_or, take, refl, ap, sym, ◌∙◌, subst, arith, zero-add, length-append, nat_lt, slice_get, if◌then◌else◌, IsTrue, cond}
+use Rattle.std.proofs.Common.{◌≡◌, ℕ, zero, suc, ◌+◌, ◌-◌, ◌<◌, ◌≤◌, inl, inr, true, false, Some, None, List, [], ◌∷◌, ◌++◌, length, get_or, take, refl, ap, sym, ◌∙◌, subst, arith, zero-add, length-append, nat_lt}
 use Rattle.std.specs.List.{flat_map, range_with_len}
 use Rattle.std.proofs.lemmas.Bool.{and_parts, and_from, ltb-true, lt-ltb, cases_lt}
 use Rattle.std.proofs.lemmas.List.{get_or-map, length-map}
 use Rattle.std.proofs.lemmas.List.Concat.{get_or-flat_map}
 use Rattle.std.proofs.lemmas.List.FromFn.{length-range_with_len, get_or-range_with_len}
 use Rattle.std.proofs.lemmas.Grind.{flat_map-append}
-use Rattle.cube_space.specs.Radix.{product, are_digits, all_digits, number_of}
+use Rattle.cube_space.specs.Radix.{are_digits, all_digits, number_of}
 use Rattle.cube_space.specs.Layout.{Layout, sizes}
 use Rattle.cube_space.specs.Cells.{Cell, cells_of, all_cells, cell_at, cell_count, first_cell, size_of, is_place, IsCell, cell_number, cube_of, elements_of}
 use Rattle.cube_space.proofs.Radix.{length-all_digits, all_digits-at, number-below, number-digits, take-range}

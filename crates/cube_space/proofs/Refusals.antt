@@ -1,14 +1,14 @@
 -- The first cube with a fault, and what it takes to be a space.
-use Rattle.std.proofs.Common.{◌≡◌, ℕ, zero, suc, ◌+◌, ◌<◌, ◌≤◌, ◌⊎◌, inl, inr, ◌||◌, ◌^◌, Bool, true, false, Option, Some, None, Result, Ok, Err, List, [], ◌∷◌, length, get_or, map, refl, ap, sym, ◌∙◌, subst, arith, nat_lt, if◌then◌else◌, All, slice_get, slice_index, IsErrAnd}
-use Rattle.std.specs.List.{filter_map, range_with_len, cons_option}
-use Rattle.std.proofs.lemmas.Bool.{ltb-false, or_parts}
+use Rattle.std.proofs.Common.{◌≡◌, ℕ, zero, suc, ◌+◌, ◌<◌, ◌≤◌, inl, inr, ◌||◌, Bool, true, false, Option, Some, None, Result, Ok, Err, List, [], length, get_or, map, refl, ap, sym, ◌∙◌, subst, arith, nat_lt, if◌then◌else◌, All, slice_get, slice_index, IsErrAnd}
+use Rattle.std.specs.List.{filter_map, range_with_len}
+use Rattle.std.proofs.lemmas.Bool.{ltb-false}
 use Rattle.std.proofs.lemmas.List.{get_or-map, length-map}
-use Rattle.dim_core.specs.Outline.{Outline, IsDimension}
+use Rattle.dim_core.specs.Outline.{IsDimension}
 use Rattle.cube_space.specs.declared.fault.SpaceFault.{SpaceFault}
 use Rattle.cube_space.specs.declared.fault.SpaceFault.TheVariants.{CubeTooLarge, ModelTooLarge, DimensionCount, Memory}
 use Rattle.cube_space.specs.declared.shape.CubeShape.{CubeShape}
 use Rattle.cube_space.specs.Radix.{product}
-use Rattle.cube_space.specs.Layout.{Layout, IsLayout, dims_of, axes_of, sizes_of, sizes}
+use Rattle.cube_space.specs.Layout.{Layout, IsLayout, dims_of, sizes_of, sizes}
 use Rattle.cube_space.specs.Cells.{IsSpace, first_cell, cell_count, size_of}
 use Rattle.cube_space.specs.Refusal.{fault_of, cube_fault, refusal_of, IsAnsweredBy}
 use Rattle.cube_space.proofs.Axes.{sizes-by_counts}

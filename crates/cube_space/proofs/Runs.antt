@@ -1,5 +1,5 @@
 -- The runs of a space.
-use Rattle.std.proofs.Common.{◌≡◌, ℕ, zero, suc, ◌+◌, ◌-◌, ◌<◌, ◌≤◌, ◌⊎◌, inl, inr, Bool, true, false, Some, None, List, [], ◌∷◌, ◌++◌, length, get_or, refl, ap, sym, ◌∙◌, subst, arith, leb, nat_le, All, map, slice_get}
+use Rattle.std.proofs.Common.{◌≡◌, ℕ, zero, suc, ◌+◌, ◌-◌, ◌<◌, ◌≤◌, ◌⊎◌, inl, inr, true, false, None, List, [], ◌∷◌, ◌++◌, length, get_or, refl, ap, sym, ◌∙◌, subst, arith, leb, All, slice_get}
 use Rattle.std.specs.List.{AllWithin}
 use Rattle.std.specs.List.Sorted.{IsPartitionedBy}
 use Rattle.std.proofs.lemmas.Bool.{leb-true, leb-false, le-leb, cases_lt}
@@ -8,11 +8,11 @@ use Rattle.std.proofs.lemmas.Option.{slice_get-get_or, none-some}
 use Rattle.cube_space.specs.declared.run.Run.{Run}
 use Rattle.cube_space.specs.declared.shape.CubeShape.{CubeShape}
 use Rattle.cube_space.specs.Radix.{product, are_digits, number_of}
-use Rattle.cube_space.specs.Layout.{Layout, IsLayout, sizes, dims_of}
+use Rattle.cube_space.specs.Layout.{Layout, sizes, dims_of}
 use Rattle.cube_space.specs.Cells.{IsSpace, IsCell, size_of, first_cell, cell_count, cell_at}
 use Rattle.cube_space.specs.Kept.{IsRunOf, IsNumbered}
 use Rattle.cube_space.proofs.Axes.{length-axes_of}
-use Rattle.cube_space.proofs.Places.{IsPlace, place_number, cell_at-place, first_cell-none, first_cell-next, first_cell-least, run_within}
+use Rattle.cube_space.proofs.Places.{IsPlace, place_number, cell_at-place, first_cell-none, first_cell-least, run_within}
 
 -- the run that stands at a cube's place is the cube's
 pub run-at : (layout seen : Layout) (runs : List Run) (cube : ℕ) (run : Run) → IsNumbered layout runs → layout ≡ seen → cube < length seen.cubes → run ≡ get_or runs cube run → IsRunOf seen cube run

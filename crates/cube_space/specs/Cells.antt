@@ -1,9 +1,9 @@
 -- The cells of a space and their numbers.
-use Rattle.std.specs.Prelude.{◌≡◌, ℕ, zero, suc, ◌+◌, ◌<◌, ◌≤◌, ◌^◌, ◌==◌, Bool, ◌&&◌, nat_lt, Option, Some, None, List, [], map, length, All, slice_get, slice_index_or, if◌then◌else◌}
+use Rattle.std.specs.Prelude.{ℕ, zero, suc, ◌+◌, ◌<◌, ◌≤◌, ◌^◌, ◌==◌, Bool, ◌&&◌, nat_lt, Option, Some, None, List, [], map, length, All, slice_index_or, if◌then◌else◌}
 use Rattle.std.specs.List.{flat_map, range_with_len, list_all, zip}
 use Rattle.dim_core.specs.Outline.{Outline, IsDimension, components_of}
 use Rattle.cube_space.specs.Radix.{product, are_digits, all_digits, number_of}
-use Rattle.cube_space.specs.Layout.{Layout, IsLayout, dims_of, axes, sizes}
+use Rattle.cube_space.specs.Layout.{Layout, IsLayout, axes, sizes}
 
 -- a cell as a planner names it: its cube, and one element of each dimension of the cube
 pub record Cell : Type 0 where

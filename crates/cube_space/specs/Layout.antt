@@ -1,8 +1,8 @@
 -- What contracts see of a space: its dimensions, and which of them each cube has.
-use Rattle.std.specs.Prelude.{◌≡◌, ℕ, ◌<◌, ◌≤◌, ◌^◌, List, [], map, length, nat_eq, All, slice_get, slice_index_or}
+use Rattle.std.specs.Prelude.{ℕ, ◌<◌, ◌^◌, List, [], map, length, nat_eq, All, slice_get, slice_index_or}
 use Rattle.std.specs.List.{IsDistinct, filter_map}
 use Rattle.dim_name.specs.Name.{is_same_name}
-use Rattle.dim_core.specs.Outline.{Outline, IsDimension}
+use Rattle.dim_core.specs.Outline.{Outline}
 use Rattle.cube_space.specs.declared.shape.CubeShape.{CubeShape}
 
 -- the dimensions and the cubes of a model, each by number

@@ -1,12 +1,13 @@
 //! Whether tests may make a space of these dimensions and cubes.
-ghost use Rattle.std.specs.Prelude.{◌<◌, All, length, map, nat_eq};
+ghost use Rattle.std.specs.Prelude.{◌≡◌, ◌<◌, All, length, map, nat_eq};
 ghost use Rattle.std.specs.Bool.{OnTrue};
-ghost use Rattle.std.specs.List.{IsDistinct};
+ghost use Rattle.std.specs.List.{IsDistinct, list_any};
 ghost use Rattle.dim_name.specs.Name.{is_same_name};
 ghost use Rattle.cube_space.specs.Layout.{IsLayout};
 
 use crate::CubeShape;
 use dim_core::Dimension;
+use dim_name::Name;
 
 /// Whether these meet what `Space::new` asks of them.
 pub fn is_layout(dims: &[Dimension], cubes: &[CubeShape]) -> bool
@@ -43,7 +44,7 @@ fn are_numbers_apart(dims: &[u32]) -> bool
 {
     for i in (0..dims.len()).rev() {
         let one = dims[i];
-        if dims[i + 1..].iter().any(|other| one == *other) {
+        if repeats_number(one, &dims[i + 1..]) {
             return false;
         }
     }
@@ -55,7 +56,7 @@ fn are_dimensions_apart(dims: &[Dimension]) -> bool
 {
     for i in (0..dims.len()).rev() {
         let one = dims[i].name();
-        if dims[i + 1..].iter().any(|other| one == other.name()) {
+        if repeats_dimension(one, &dims[i + 1..]) {
             return false;
         }
     }
@@ -66,10 +67,27 @@ fn are_cubes_apart(cubes: &[CubeShape]) -> bool
     ensures { OnTrue result (IsDistinct is_same_name (map (λ shape. shape.name) cubes.now)) }
 {
     for i in (0..cubes.len()).rev() {
-        let one = &cubes[i].name;
-        if cubes[i + 1..].iter().any(|other| *one == other.name) {
+        if repeats_cube(&cubes[i], &cubes[i + 1..]) {
             return false;
         }
     }
     true
+}
+
+fn repeats_number(one: u32, rest: &[u32]) -> bool
+    ensures { result ≡ list_any (nat_eq one) rest.now }
+{
+    rest.iter().any(|other| one == *other)
+}
+
+fn repeats_dimension(one: &Name, rest: &[Dimension]) -> bool
+    ensures { result ≡ list_any (λ dimension. is_same_name one.now dimension.name) rest.now }
+{
+    rest.iter().any(|other| one == other.name())
+}
+
+fn repeats_cube(one: &CubeShape, rest: &[CubeShape]) -> bool
+    ensures { result ≡ list_any (λ shape. is_same_name one.now.name shape.name) rest.now }
+{
+    rest.iter().any(|other| one.name == other.name)
 }

@@ -63,18 +63,40 @@ fn shop(alloc: Global) -> Result<Space, Fail> {
 fn numbers_the_cells_of_two_cubes(rt: HostRuntime) -> Result<(), Fail> {
     let alloc = rt.alloc();
     let space = shop(alloc)?;
-    assert_eq!(rt; space.size(), 30);
-    assert_eq!(rt; space.cubes(), 2);
-    assert_eq!(rt; space.dimensions(), 3);
-    assert_eq!(rt; space.first(1), 6);
-    assert_eq!(rt; space.cells(0), 6);
+    let counts = [space.cubes(), space.dimensions()];
+    assert_eq!(rt; counts, [2, 3]);
+    let numbers = [
+        space.first(0),
+        space.cells(0),
+        space.first(1),
+        space.cells(1),
+        space.size(),
+    ];
+    assert_eq!(rt; numbers, [0, 6, 6, 24, 30]);
     assert_eq!(rt; space.shape(1).dims.as_slice(), [1, 0, 2].as_slice());
     assert_eq!(rt; space.dimension(2).name().shown(), b"Region".as_slice());
-    assert_eq!(rt; space.cube_of(&name(alloc, "ST OCK")?), Some(1));
-    assert_eq!(rt; space.cube_of(&name(alloc, "Month")?), None);
-    assert_eq!(rt; space.dimension_of(&name(alloc, "month")?), Some(0));
-    assert_eq!(rt; space.dimension_of(&name(alloc, "Plan")?), None);
+    let stock = name(alloc, "ST OCK")?;
+    let month = name(alloc, "month")?;
+    let named = [
+        space.cube_of(&stock),
+        space.cube_of(&month),
+        space.dimension_of(&month),
+        space.dimension_of(&stock),
+    ];
+    assert_eq!(rt; named, [Some(1), None, Some(0), None]);
+    let outside = [
+        space.number(2, &[0, 0]),
+        space.number(0, &[3, 0]),
+        space.number(0, &[0]),
+        space.number(0, &[0, 0, 0]),
+    ];
+    assert_eq!(rt; outside, [None; 4]);
+    Ok(())
+}
 
+#[test]
+fn finds_the_place_of_each_number(rt: HostRuntime) -> Result<(), Fail> {
+    let space = shop(rt.alloc())?;
     // cube, elements, number, whether all elements are leaves
     let cells: [(u32, &[u32], u64, bool); 7] = [
         (0, &[0, 0], 0, true),
@@ -87,18 +109,13 @@ fn numbers_the_cells_of_two_cubes(rt: HostRuntime) -> Result<(), Fail> {
     ];
     for (cube, elements, number, is_leaf) in cells {
         assert_eq!(rt; space.number(cube, elements), Some(number));
-        let mut at = [9; 16];
-        if number < space.size() {
-            assert_eq!(rt; space.place(number, &mut at), cube);
-            assert_eq!(rt; space.is_leaf(number), is_leaf);
+        if number < space.size() && elements.len() <= 16 {
+            let mut at = [9; 16];
+            let found = space.place(number, &mut at);
+            assert_eq!(rt; (found, space.is_leaf(number)), (cube, is_leaf));
+            assert_eq!(rt; &at[..elements.len()], elements);
+            assert_eq!(rt; at[15], 9);
         }
-        for (i, element) in at.iter().enumerate() {
-            assert_eq!(rt; elements.get(i).unwrap_or(&9), element);
-        }
-    }
-    let nowhere: [(u32, &[u32]); 4] = [(2, &[0, 0]), (0, &[3, 0]), (0, &[0]), (0, &[0, 0, 0])];
-    for (cube, elements) in nowhere {
-        assert_eq!(rt; space.number(cube, elements), None);
     }
     Ok(())
 }
@@ -137,35 +154,25 @@ const LARGE: [u32; 16] = [
     14, 14, 14, 14, 14, 14, 14, 14, 14, 14, 14, 14, 14, 14, 14, 29,
 ];
 
-#[test]
-fn takes_cubes_within_the_limits(rt: HostRuntime) -> Result<(), Fail> {
-    // 14 to the 16th is 2177953337809371136
-    let cases: [(&[&[u32]], u64); 5] = [
-        (&[], 0),
-        (&[&[3, 4]], 12),
-        (&[&[14; 16], &[14; 16]], 4355906675618742272),
-        (&[&LARGE], 4511474771176554496),
-        (&[&EMPTY, &[2, 0], &[2, 5]], 10),
-    ];
-    for (cubes, size) in cases {
-        let space = grown(rt.alloc(), cubes)??;
-        assert_eq!(rt; space.size(), size);
-    }
-    Ok(())
-}
-
-fn told(fault: &SpaceFault) -> (&str, u32) {
-    match fault {
-        SpaceFault::DimensionCount(cube) => ("count", *cube),
-        SpaceFault::CubeTooLarge(cube) => ("cube", *cube),
-        SpaceFault::ModelTooLarge(cube) => ("model", *cube),
-        SpaceFault::Memory => ("memory", 0),
+// The size of the space, or the kind of the fault and its cube.
+fn outcome(answer: &Result<Space, SpaceFault>) -> (&str, u64) {
+    match answer {
+        Ok(space) => ("size", space.size()),
+        Err(SpaceFault::DimensionCount(cube)) => ("count", u64::from(*cube)),
+        Err(SpaceFault::CubeTooLarge(cube)) => ("cube", u64::from(*cube)),
+        Err(SpaceFault::ModelTooLarge(cube)) => ("model", u64::from(*cube)),
+        Err(SpaceFault::Memory) => ("memory", 0),
     }
 }
 
 #[test]
 fn names_the_first_cube_with_a_fault(rt: HostRuntime) -> Result<(), Fail> {
-    let cases: [(&[&[u32]], &str, u32); 7] = [
+    // 14 to the 16th is 2177953337809371136
+    let cases: [(&[&[u32]], &str, u64); 11] = [
+        (&[], "size", 0),
+        (&[&[14; 16], &[14; 16]], "size", 4355906675618742272),
+        (&[&LARGE], "size", 4511474771176554496),
+        (&[&EMPTY, &[2, 0], &[2, 5]], "size", 10),
         (&[&[]], "count", 0),
         (&[&[3, 4], &[5]], "count", 1),
         (&[&[15; 17], &[15; 16]], "count", 0),
@@ -174,11 +181,9 @@ fn names_the_first_cube_with_a_fault(rt: HostRuntime) -> Result<(), Fail> {
         (&[&LARGE, &[15; 16]], "cube", 1),
         (&[&[14; 16], &[14; 16], &[14; 16]], "model", 2),
     ];
-    for (cubes, kind, cube) in cases {
-        match grown(rt.alloc(), cubes)? {
-            Ok(_) => return Err(Fail::from("a space")),
-            Err(fault) => assert_eq!(rt; told(&fault), (kind, cube)),
-        }
+    for (cubes, kind, number) in cases {
+        let answer = grown(rt.alloc(), cubes)?;
+        assert_eq!(rt; outcome(&answer), (kind, number));
     }
     Ok(())
 }

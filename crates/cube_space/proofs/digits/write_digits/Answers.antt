@@ -1,10 +1,10 @@
 -- A digit is what is left modulo its size, and no size is 0.
-use Rattle.std.proofs.Common.{◌≡◌, ◌<◌, ◌+◌, ◌-◌, ◌%◌, ◌∙◌, length, arith}
+use Rattle.std.proofs.Common.{◌≡◌, ◌<◌, ◌-◌, ◌%◌, ◌∙◌, length, arith}
 use Rattle.std.proofs.lemmas.Nat.{mod_below}
 use Rattle.std.proofs.lemmas.List.{length-set, drop-set-lt}
 use Rattle.cube_space.proofs.Radix.{product-positive}
 use Rattle.cube_space.proofs.Steps.{write-turn, nothing-left}
-use Rattle.cube_space.specs.Radix.{product, number_of}
+use Rattle.cube_space.specs.Radix.{product}
 use Rattle.cube_space.proofs.digits.write_digits.Goals as goal
 
 pub nonzero_rem-places : goal.nonzero_rem-places

@@ -1,4 +1,4 @@
-use Rattle.std.proofs.Common.{◌≡◌, ◌+◌, ◌*◌, ◌<◌, drop, take, length, true}
+use Rattle.std.proofs.Common.{◌≡◌, ◌+◌, ◌*◌, drop, take, length, true}
 use Rattle.cube_space.specs.Radix.{product, are_digits, number_of}
 use Rattle.cube_space.proofs.digits.write_digits.Given as goal
 

@@ -1,8 +1,7 @@
-use Rattle.std.proofs.Common.{◌≡◌, ◌<◌, ◌+◌, ◌++◌, ◌∷◌, [], ◌∙◌, List, length, arith, get_or, sym, ap, take, subst, All, refl}
+use Rattle.std.proofs.Common.{◌≡◌, ◌<◌, ◌+◌, ◌++◌, ◌∷◌, [], ◌∙◌, List, length, arith, sym, ap, take, subst, All, refl}
 use Rattle.std.proofs.lemmas.List.{take_more, map-append}
 use Rattle.std.proofs.lemmas.List.Elements.{All-push}
 use Rattle.dim_core.specs.Outline.{Outline, IsDimension}
-use Rattle.cube_space.specs.Layout.{sizes_of}
 use Rattle.cube_space.proofs.numbering.element_counts.Goals as goal
 
 pub loop-dimension-preserved : goal.loop-dimension-preserved

@@ -1,4 +1,4 @@
-use Rattle.std.proofs.Common.{◌≡◌, ◌*◌, ◌≤◌, arith, ap, min, lit≤}
+use Rattle.std.proofs.Common.{◌≡◌, ◌*◌, arith, ap, min, lit≤}
 use Rattle.cube_space.specs.Radix.{product}
 use Rattle.std.proofs.Math.Nat.{min-le_right}
 use Rattle.cube_space.proofs.Steps.{product-turn, product-end}

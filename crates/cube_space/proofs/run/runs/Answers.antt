@@ -1,14 +1,13 @@
 -- Each cube's fault and run, by the counts of the dimensions' elements.
-use Rattle.std.proofs.Common.{◌≡◌, ℕ, suc, ◌+◌, ◌<◌, ◌≤◌, ◌⊎◌, inl, inr, ◌∙◌, ◌++◌, ◌∷◌, [], List, Option, None, Err, length, get_or, arith, sym, ap, subst, lit≤, map, slice_index, All, length-append}
+use Rattle.std.proofs.Common.{◌≡◌, ℕ, suc, ◌+◌, ◌<◌, inl, inr, ◌∙◌, Option, None, Err, length, arith, sym, ap, subst, lit≤, map, slice_index}
 use Rattle.std.proofs.lemmas.Bool.{cases_lt}
-use Rattle.std.proofs.lemmas.List.{get_or_append_left, get_or_push, length_push}
+use Rattle.std.proofs.lemmas.List.{length_push}
 use Rattle.cube_space.specs.declared.run.Run.{Run}
 use Rattle.cube_space.specs.declared.fault.SpaceFault.{SpaceFault}
 use Rattle.cube_space.specs.Radix.{product}
-use Rattle.cube_space.specs.Layout.{Layout, sizes}
+use Rattle.cube_space.specs.Layout.{Layout}
 use Rattle.cube_space.specs.Cells.{first_cell}
-use Rattle.cube_space.specs.Kept.{IsRunOf}
-use Rattle.cube_space.specs.Refusal.{fault_of, cube_fault, refusal_of, IsAnsweredBy}
+use Rattle.cube_space.specs.Refusal.{cube_fault, IsAnsweredBy}
 use Rattle.cube_space.proofs.Places.{first_cell-none, first_cell-next}
 use Rattle.cube_space.proofs.Refusals.{fault-by_counts, refused-as, unrefused, no-fault, space-from, answered-ok}
 use Rattle.cube_space.proofs.Runs.{runs-more}

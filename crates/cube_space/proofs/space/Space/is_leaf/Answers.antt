@@ -1,5 +1,5 @@
 -- What is read of the cell is its own dimensions and elements.
-use Rattle.std.proofs.Common.{◌≡◌, ◌<◌, ◌≤◌, ◌∙◌, length, arith, sym, ap, subst}
+use Rattle.std.proofs.Common.{◌∙◌, length, arith, sym, ap, subst}
 use Rattle.std.proofs.lemmas.List.{length-take-le}
 use Rattle.cube_space.specs.Layout.{Layout}
 use Rattle.cube_space.specs.Cells.{IsSpace}

@@ -1,9 +1,9 @@
 -- The digits of a run's sizes are a place, and the number is the place's.
-use Rattle.std.proofs.Common.{◌≡◌, ◌<◌, ◌≤◌, ◌+◌, ◌∙◌, Some, List, ℕ, false, true, length, get_or, arith, sym, ap, subst, refl}
+use Rattle.std.proofs.Common.{◌≡◌, ◌<◌, ◌≤◌, ◌+◌, ◌∙◌, Some, false, length, arith, sym, ap, subst}
 use Rattle.std.proofs.lemmas.Bool.{and_left, and_right, le-ltb}
-use Rattle.cube_space.specs.Radix.{are_digits, number_of}
-use Rattle.cube_space.specs.Layout.{Layout, sizes}
-use Rattle.cube_space.specs.Cells.{Cell, IsSpace, cell_at, cell_number, is_place}
+use Rattle.cube_space.specs.Radix.{are_digits}
+use Rattle.cube_space.specs.Layout.{sizes}
+use Rattle.cube_space.specs.Cells.{Cell, IsSpace, cell_at}
 use Rattle.cube_space.proofs.Places.{IsPlace, place_number, place-within, cell_number-place, cell_number-none, cell_at-place}
 use Rattle.cube_space.proofs.Runs.{run-at, run-place, run-fits}
 use Rattle.cube_space.proofs.space.Space.number.Goals as goal

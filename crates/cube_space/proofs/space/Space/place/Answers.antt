@@ -1,10 +1,8 @@
 -- The digits that are written are the cell's elements.
-use Rattle.std.proofs.Common.{◌≡◌, ◌<◌, ◌≤◌, ◌++◌, ◌∙◌, Some, List, ℕ, length, get_or, take, drop, arith, sym, ap, subst}
+use Rattle.std.proofs.Common.{◌≡◌, ◌≤◌, ◌++◌, ◌∙◌, Some, ℕ, length, take, drop, arith, sym, ap, subst}
 use Rattle.std.proofs.lemmas.List.{take-append-drop, length-take-le}
 use Rattle.cube_space.specs.Radix.{product}
-use Rattle.cube_space.specs.Layout.{Layout, sizes}
 use Rattle.cube_space.specs.Cells.{Cell, IsSpace, cell_at, cell_number, cell_count}
-use Rattle.cube_space.specs.Kept.{IsRunOf}
 use Rattle.cube_space.proofs.Places.{first_cell-next, cell_number-cell}
 use Rattle.cube_space.proofs.Runs.{run-at, few-sizes, written-cell}
 use Rattle.cube_space.proofs.space.Space.place.Goals as goal

@@ -1,10 +1,8 @@
 -- The tests of the runs' ends split them at the cell's run.
-use Rattle.std.proofs.Common.{◌≡◌, leb, rules, subst, sym, List, length, true, false}
-use Rattle.std.specs.List.Sorted.{IsPartitionPoint, IsPartitionedBy}
+use Rattle.std.proofs.Common.{leb, rules, subst, sym, List}
+use Rattle.std.specs.List.Sorted.{IsPartitionedBy}
 use Rattle.std.proofs.lemmas.List.Sorted.{IsPartitionPoint-from_clause}
 use Rattle.cube_space.specs.declared.run.Run.{Run}
-use Rattle.cube_space.specs.Layout.{Layout}
-use Rattle.cube_space.specs.Cells.{IsCell}
 use Rattle.cube_space.proofs.Runs.{ends-parted, found-at, IsFound}
 use Rattle.cube_space.proofs.space.Space.run_of.Goals as goal
 
