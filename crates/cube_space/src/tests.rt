@@ -136,7 +136,7 @@ fn grown(alloc: Global, cubes: &[&[u32]]) -> Result<Result<Space, SpaceFault>, F
     for (cube, counts) in cubes.iter().enumerate() {
         let mut numbers = Vec::new(alloc);
         for (i, count) in counts.iter().enumerate() {
-            numbers.push(dims.len() as u32)?;
+            numbers.push(u32::try_from(dims.len())?)?;
             dims.push(leaves(alloc, format!(in alloc; "{cube}/{i}")?.as_str(), *count)?)?;
         }
         shapes.push(shape(alloc, format!(in alloc; "{cube}")?.as_str(), &numbers)?)?;
