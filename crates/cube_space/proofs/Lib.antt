@@ -1,0 +1,10 @@
+pub mod Axes
+pub mod Distinct
+pub mod LeafCells
+pub mod LeafTests
+pub mod Named
+pub mod Places
+pub mod Radix
+pub mod Refusals
+pub mod Runs
+pub mod Steps
