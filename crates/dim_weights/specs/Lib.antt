@@ -1,0 +1,4 @@
+pub mod Coefficients
+pub mod Kept
+pub mod Refusal
+pub mod Table
