@@ -1,6 +1,6 @@
 -- Why a dimension has no table of coefficients.
-use Rattle.std.specs.Prelude.{ℕ, ◌+◌, ◌==◌, nat_lt, List, [], ◌∷◌, length, map, filter, take, sum_by, slice_index_or, Option, Some, None, if◌then◌else◌}
-use Rattle.std.specs.List.{range_with_len, concat}
+use Rattle.std.specs.Prelude.{ℕ, ℤ, ◌+◌, ◌==◌, nat_lt, List, [], ◌∷◌, length, filter, take, sum_by, slice_index, Option, Some, None, if◌then◌else◌}
+use Rattle.std.specs.List.{range_with_len, flat_map}
 use Rattle.dim_core.specs.Outline.{Outline}
 use Rattle.dim_weights.specs.declared.fault.WeightFault.{WeightFault}
 use Rattle.dim_weights.specs.declared.fault.WeightFault.TheVariants.{CoefficientTooLarge, TooManyPairs}
@@ -13,21 +13,25 @@ of_level d n = filter (λ element. level d element == n) (range_with_len 0 (leng
 
 -- all elements by level, and those of one level by index
 abbrev pub by_level : Outline → List ℕ
-by_level d = concat (map (of_level d) (range_with_len 0 (length d.elements)))
+by_level d = flat_map (of_level d) (range_with_len 0 (length d.elements))
 
 -- how many pairs these elements have with their leaves
 abbrev pub pair_count : Outline → List ℕ → ℕ
 pair_count d elements = sum_by (λ element. length (leaves_of d element)) elements
 
--- what is wrong at this place of a list of elements: the element there has a coefficient above a billion in size, or else
--- the pairs up to and including it are more than four million
-abbrev pub fault_at : Outline → List ℕ → ℕ → Option WeightFault
-fault_at d elements place =
-    let element = slice_index_or elements place 0 in
-    let count = pair_count d (take (place + 1) elements) in
-    if nat_lt 1000000000 (greatest_in (leaves_of d element)) then Some (CoefficientTooLarge element)
+-- what is wrong with an element of these leaves, where so many pairs are up to and including it: it has a coefficient above
+-- a billion in size, or else the pairs are more than four million
+abbrev pub fault_of : ℕ → List (ℕ × ℤ) → ℕ → Option WeightFault
+fault_of element leaves count =
+    if nat_lt 1000000000 (greatest_in leaves) then Some (CoefficientTooLarge element)
     else if nat_lt 4000000 count then Some (TooManyPairs count)
     else None
+
+-- what is wrong at this place of a list of elements
+abbrev pub fault_at : Outline → List ℕ → ℕ → Option WeightFault
+fault_at d elements place =
+    let element = slice_index elements place in
+    fault_of element (leaves_of d element) (pair_count d (take (place + 1) elements))
 
 -- the fault at the first of these places that has one
 abbrev pub first_fault : (ℕ → Option WeightFault) → List ℕ → Option WeightFault

@@ -10,13 +10,13 @@ is_nonzero (pos zero) = false
 is_nonzero (pos (suc n)) = true
 is_nonzero (negsuc n) = true
 
--- the elements below n with a value other than 0, each with it, in rising order
-abbrev pub nonzero_pairs : (ℕ → ℤ) → ℕ → List (ℕ × ℤ)
-nonzero_pairs value n = filter (λ pair. is_nonzero pair.1) (map (λ leaf. (leaf, value leaf)) (range_with_len 0 n))
+-- those of these leaves with a value other than 0, each with it
+abbrev pub nonzero_among : (ℕ → ℤ) → List ℕ → List (ℕ × ℤ)
+nonzero_among value leaves = filter (λ pair. is_nonzero pair.1) (map (λ leaf. (leaf, value leaf)) leaves)
 
 -- the leaves of an element: those with a coefficient other than 0 in it, each with its coefficient, in rising order
 abbrev pub leaves_of : Outline → ℕ → List (ℕ × ℤ)
-leaves_of d element = nonzero_pairs (coef d element) (length d.elements)
+leaves_of d element = nonzero_among (coef d element) (range_with_len 0 (length d.elements))
 
 -- each pair has a greater leaf than the one before it
 abbrev pub IsRising : List (ℕ × ℤ) → Type 0

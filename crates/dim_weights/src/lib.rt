@@ -17,4 +17,10 @@ pub use weights::{MAX_COEFFICIENT, MAX_PAIRS, Weights};
 
 mod fault;
 mod laws;
+mod levels;
+mod rows;
+mod sums;
+mod table;
+#[cfg(test)]
+mod tests;
 mod weights;

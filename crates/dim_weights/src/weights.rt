@@ -5,6 +5,8 @@ ghost use Rattle.dim_weights.specs.Table.{IsWeightsOf, leaves_in, leaves_of, sha
 ghost use Rattle.dim_weights.specs.Refusal.{refusal_of};
 
 use crate::fault::WeightFault;
+use crate::levels::elements_by_level;
+use crate::table::{TableBuilder, greatest_of};
 use dim_core::Dimension;
 use lists::ListOf;
 use std::alloc::Global;
@@ -41,7 +43,14 @@ impl Weights {
         ensures refused { IfSome (refusal_of dimension.now) (λ fault. (result ≡ Err fault) ⊎ (result ≡ Err WeightFault.Memory)) }
         ensures accepted { IfNone (refusal_of dimension.now) (IsOkUnless result WeightFault.Memory) }
     {
-        Err(WeightFault::Memory)
+        let elements = elements_by_level(alloc, dimension)?;
+        let mut table = TableBuilder::new(alloc, dimension.len() as usize)?;
+        for element in &elements {
+            table.add(dimension, *element)?;
+        }
+        let rows = table.into_rows();
+        let greatest = greatest_of(&rows);
+        Ok(Weights { rows, greatest })
     }
 
     /// How much a leaf counts in an element: 0 also where it isn't a leaf.
@@ -51,11 +60,7 @@ impl Weights {
         ensures coefficient { (d : Outline) → IsWeightsOf d self.now → IsElement d leaf → result ≡ coef d element leaf }
         ensures size { unsigned_abs result ≤ greatest_of self.now }
     {
-        let pairs = self.leaves(element);
-        match pairs.binary_search_by_key(&leaf, |pair| pair.0) {
-            Ok(place) => pairs[place].1,
-            Err(_) => 0,
-        }
+        share(self.leaves(element), leaf)
     }
 
     /// The leaves that count in an element, each with its coefficient, in rising order. None has the coefficient 0.
@@ -76,5 +81,16 @@ impl Weights {
         ensures within { greatest_of self.now ≤ 1000000000 }
     {
         self.greatest
+    }
+}
+
+// The coefficient that pairs in rising order have for a leaf, or 0 without one.
+fn share(pairs: &[(u32, i64)], leaf: u32) -> i64
+    requires { IsRising pairs.now }
+    ensures { result ≡ share pairs.now leaf }
+{
+    match pairs.binary_search_by_key(&leaf, |pair| pair.0) {
+        Ok(place) => pairs[place].1,
+        Err(_) => 0,
     }
 }

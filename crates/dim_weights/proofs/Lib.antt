@@ -1,0 +1,5 @@
+pub mod Equations
+pub mod Pairs
+pub mod Searches
+pub mod Tables
+pub mod Touched
