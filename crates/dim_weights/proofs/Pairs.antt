@@ -6,6 +6,7 @@ use Rattle.std.proofs.lemmas.Bool.{eqb-true, eq-eqb}
 use Rattle.std.proofs.lemmas.Bool.Decides.{nat_tests}
 use Rattle.std.proofs.lemmas.Int.{ints}
 use Rattle.std.proofs.lemmas.List.Elements.{All-cons, All-nil}
+use Rattle.std.proofs.lemmas.List.{take_more, append-nil}
 use Rattle.std.proofs.lemmas.List.Kept.{AllPairs-from_increasing}
 use Rattle.dim_weights.specs.Table.{is_nonzero, nonzero_among, share, greatest_in, IsRising}
 
@@ -48,7 +49,7 @@ RisesFrom-at a (p ∷ ps) rises (suc k) d within =
     let first : a ≤ p.0 = rises.0 in
     omega arith
 
-differ : (m n : ℕ) → m ≢ n → eqb m n ≡ false
+pub differ : (m n : ℕ) → m ≢ n → eqb m n ≡ false
 differ m n h = by (eqb m n) refl
   where
     by : (b : Bool) → eqb m n ≡ b → b ≡ false
@@ -192,3 +193,38 @@ share-le a (p ∷ ps) rises leaf = by (eqb p.0 leaf) refl (share-le (p.0 + 1) ps
         let nothing : unsigned_abs (share ps leaf) ≡ 0 = ap unsigned_abs none in
         omega arith
     by false e rest = let sum = abs-plus (pos 0) (share ps leaf) in omega arith
+
+pub greatest_in-take : (ps : List (ℕ × ℤ)) (i : ℕ) → greatest_in (take i ps) ≤ greatest_in ps
+greatest_in-take [] zero = omega arith
+greatest_in-take [] (suc i) = omega arith
+greatest_in-take (p ∷ ps) zero = omega arith
+greatest_in-take (p ∷ ps) (suc i) = let rest = greatest_in-take ps i in omega arith
+
+nonzero_among-push : (f : ℕ → ℤ) (ts : List ℕ) (t : ℕ) → nonzero_among f (ts ++ t ∷ []) ≡ nonzero_among f ts ++ cond (is_nonzero (f t)) ((t, f t) ∷ []) []
+nonzero_among-push f [] t = refl
+nonzero_among-push f (u ∷ ts) t = by (is_nonzero (f u)) (nonzero_among-push f ts t)
+  where
+    by : (b : Bool) → nonzero_among f (ts ++ t ∷ []) ≡ nonzero_among f ts ++ cond (is_nonzero (f t)) ((t, f t) ∷ []) []
+        → cond b ((u, f u) ∷ nonzero_among f (ts ++ t ∷ [])) (nonzero_among f (ts ++ t ∷ [])) ≡ cond b ((u, f u) ∷ nonzero_among f ts) (nonzero_among f ts) ++ cond (is_nonzero (f t)) ((t, f t) ∷ []) []
+    by true rest = ap (λ (xs : List (ℕ × ℤ)). (u, f u) ∷ xs) rest
+    by false rest = rest
+
+-- one more number
+pub pairs-more : (f : ℕ → ℤ) (ts : List ℕ) (i : ℕ) (xs ys : List (ℕ × ℤ)) → i < length ts → xs ≡ nonzero_among f (take i ts) → ys ≡ xs ++ cond (is_nonzero (f (get_or ts i 0))) ((get_or ts i 0, f (get_or ts i 0)) ∷ []) []
+    → ys ≡ nonzero_among f (take (i + 1) ts)
+pairs-more f ts i xs ys within before pushed =
+    let more = take_more ts i 0 within in
+    let push = nonzero_among-push f (take i ts) (get_or ts i 0) in
+    rw (more, push, ← before) pushed
+
+pub small-more : (m t : ℕ) (v : ℤ) (xs ys : List (ℕ × ℤ)) → greatest_in xs ≤ m → unsigned_abs v ≤ m → ys ≡ xs ++ cond (is_nonzero v) ((t, v) ∷ []) [] → greatest_in ys ≤ m
+small-more m t v xs ys before small pushed = by (is_nonzero v) pushed
+  where
+    by : (b : Bool) → ys ≡ xs ++ cond b ((t, v) ∷ []) [] → greatest_in ys ≤ m
+    by true e = let all = greatest_in-push xs (t, v) in rw e (omega arith)
+    by false e = rw (e, append-nil xs) before
+
+pub nonzero-true : (z : ℤ) → z ≢ pos 0 → is_nonzero z ≡ true
+nonzero-true (pos zero) h = absurd (h refl)
+nonzero-true (pos (suc n)) h = refl
+nonzero-true (negsuc n) h = refl

@@ -6,7 +6,7 @@ use Rattle.dim_order.specs.Members.{is_among}
 use Rattle.dim_weights.specs.Coefficients.{coef_over}
 use Rattle.dim_weights.specs.Table.{leaves_in, leaves_of, share, nonzero_among}
 use Rattle.dim_weights.specs.Refusal.{pair_count}
-use Rattle.dim_weights.specs.Sums.{AreRows, AreZero}
+use Rattle.dim_weights.specs.Sums.{AreRows}
 
 -- the rows that are made so far, without pairs for the other elements, and how many pairs they have
 pub record Rows : Type 0 where
@@ -37,8 +37,6 @@ pub record AreRowsOf (d : Outline) (done : List ℕ) (made : Rows) : Type 0 wher
   pub counted : made.count ≡ pair_count d done
 
 -- what the fields of a table keep while it is made
-pub record IsBuilding (rows : List (List (ℕ × ℤ))) (sums : List ℤ) (count : ℕ) : Type 0 where
-  pub whole : length sums ≡ length rows
-  pub zero : AreZero sums
+pub record IsBuilding (rows : List (List (ℕ × ℤ))) (count : ℕ) : Type 0 where
   pub made : AreRows (length rows) rows
   pub few : count ≤ 4000000

@@ -1,11 +1,15 @@
 -- Sums by leaf.
-use Rattle.std.specs.Prelude.{◌≡◌, ℕ, ◌≤◌, ◌<◌, Bool, true, false, ℤ, pos, List, length, All, count_by, nat_eq, unsigned_abs, slice_index_or, if◌then◌else◌}
+use Rattle.std.specs.Prelude.{◌≡◌, ℕ, ◌≤◌, ◌<◌, Bool, true, false, ℤ, pos, List, [], ◌∷◌, length, All, count_by, nat_eq, unsigned_abs, slice_index_or, if◌then◌else◌}
 use Rattle.std.specs.List.{list_any}
-use Rattle.dim_weights.specs.Table.{leaves_in, greatest_in, IsRising}
+use Rattle.dim_weights.specs.Table.{is_nonzero, leaves_in, greatest_in, IsRising}
 
 -- the sum of a leaf
 abbrev pub sum_at : List ℤ → ℕ → ℤ
 sum_at sums leaf = slice_index_or sums leaf (pos 0)
+
+-- the pair of a leaf with its sum, unless that is 0
+abbrev pub nonzero_pair : ℕ → ℤ → List (ℕ × ℤ)
+nonzero_pair leaf sum = if is_nonzero sum then (leaf, sum) ∷ [] else []
 
 -- no sum is other than 0
 abbrev pub AreZero : List ℤ → Type 0

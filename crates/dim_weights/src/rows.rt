@@ -65,7 +65,13 @@ fn add_row(sums: &mut Sums, row: &[(u32, i64)], weight: i64) -> Result<(), Alloc
     ensures length { length sums.new ≡ length sums.old }
 {
     for (leaf, coefficient) in row {
-        sums.add(*leaf, i128::from(weight) * i128::from(*coefficient))?;
+        sums.add(*leaf, product(weight, *coefficient))?;
     }
     Ok(())
+}
+
+fn product(weight: i64, coefficient: i64) -> i128
+    ensures { result ≡ weight *ℤ coefficient }
+{
+    i128::from(weight) * i128::from(coefficient)
 }

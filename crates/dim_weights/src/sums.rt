@@ -1,8 +1,8 @@
-ghost use Rattle.std.specs.Prelude.{◌≡◌, ◌<◌, ◌≤◌, ◌^◌, ◌+ℤ◌, pos, false, All, length, slice_set, unsigned_abs, IfOk, OnOk, IfSome, IfNone, SomeIndex};
+ghost use Rattle.std.specs.Prelude.{◌≡◌, ◌<◌, ◌≤◌, ◌^◌, ◌+ℤ◌, pos, true, false, [], ◌∷◌, ◌++◌, All, length, slice_index_or, slice_set, unsigned_abs, if◌then◌else◌, IfOk, OnOk, OnErr, IfSome, IfNone, SomeIndex};
 ghost use Rattle.std.specs.List.{range_with_len};
 ghost use Rattle.std.specs.List.Sorted.{IsStrictlyIncreasing};
 ghost use Rattle.dim_weights.specs.Table.{nonzero_among, greatest_in};
-ghost use Rattle.dim_weights.specs.Sums.{sum_at, AreZero, ArePut};
+ghost use Rattle.dim_weights.specs.Sums.{sum_at, nonzero_pair, AreZero, ArePut};
 
 use crate::weights::MAX_COEFFICIENT;
 use std::alloc::{AllocError, Global};
@@ -48,12 +48,8 @@ impl Sums {
         ensures added { OnOk result (self.new ≡ slice_set self.old leaf (sum_at self.old leaf +ℤ amount)) }
         ensures length { length self.new ≡ length self.old }
     {
-        let place = leaf as usize;
-        if !self.marked[place] {
-            self.touched.push(leaf)?;
-            self.marked[place] = true;
-        }
-        self.sums[place] += amount;
+        mark(leaf, &mut self.marked, &mut self.touched)?;
+        self.sums[leaf as usize] += amount;
         Ok(())
     }
 
@@ -66,14 +62,46 @@ impl Sums {
         ensures zero { IfOk result (λ found. IfSome found (λ _. AreZero self.new)) }
         ensures length { length self.new ≡ length self.old }
     {
-        self.touched.sort_unstable();
-        let found = pairs_of(alloc, &self.touched, &self.sums)?;
+        let found = self.pairs(alloc)?;
         if found.is_some() {
-            clear(&self.touched, &mut self.sums, &mut self.marked);
-            self.touched.clear();
+            self.clear();
         }
         Ok(found)
     }
+
+    // The pairs, and no sum changes.
+    fn pairs(&mut self, alloc: Global) -> Result<Option<Vec<(u32, i64)>>, AllocError>
+        ensures pairs { IfOk result (λ found. IfSome found (λ pairs. pairs.items ≡ nonzero_among (sum_at self.old) (range_with_len 0 (length self.old)))) }
+        ensures small { IfOk result (λ found. IfSome found (λ pairs. greatest_in pairs.items ≤ 1000000000)) }
+        ensures large { IfOk result (λ found. IfNone found (1000000000 < greatest_in (nonzero_among (sum_at self.old) (range_with_len 0 (length self.old))))) }
+        ensures unchanged { self.new ≡ self.old }
+    {
+        self.touched.sort()?;
+        pairs_of(alloc, &self.touched, &self.sums)
+    }
+
+    fn clear(&mut self)
+        ensures zero { AreZero self.new }
+        ensures length { length self.new ≡ length self.old }
+    {
+        clear(&self.touched, &mut self.sums, &mut self.marked);
+        self.touched.clear();
+    }
+}
+
+// Marks a leaf, and lists it where it wasn't marked.
+fn mark(leaf: u32, marked: &mut Vec<bool>, touched: &mut Vec<u32>) -> Result<(), AllocError>
+    requires { leaf < length marked.old.items }
+    ensures marked { OnOk result (marked.new.items ≡ slice_set marked.old.items leaf true) }
+    ensures touched { OnOk result (touched.new.items ≡ (if slice_index_or marked.old.items leaf false then touched.old.items else touched.old.items ++ leaf ∷ [])) }
+    ensures unchanged { OnErr result ((marked.new.items ≡ marked.old.items) × (touched.new.items ≡ touched.old.items)) }
+{
+    let place = leaf as usize;
+    if !marked[place] {
+        touched.push(leaf)?;
+    }
+    marked[place] = true;
+    Ok(())
 }
 
 // Those of these leaves with a sum other than 0, or None where one is too large.
@@ -93,19 +121,27 @@ fn pairs_of(
         if sum.unsigned_abs() > u128::from(MAX_COEFFICIENT) {
             return Ok(None);
         }
-        if sum != 0 {
-            pairs.push((*leaf, sum as i64))?;
-        }
+        push_nonzero(&mut pairs, *leaf, sum)?;
     }
     Ok(Some(pairs))
 }
 
+fn push_nonzero(pairs: &mut Vec<(u32, i64)>, leaf: u32, sum: i128) -> Result<(), AllocError>
+    requires { unsigned_abs sum ≤ 1000000000 }
+    ensures { OnOk result (pairs.new.items ≡ pairs.old.items ++ nonzero_pair leaf sum) }
+{
+    if sum != 0 {
+        pairs.push((leaf, sum as i64))?;
+    }
+    Ok(())
+}
+
 // Sets the sums of these leaves to 0 and takes their marks.
-fn clear(leaves: &[u32], sums: &mut [i128], marked: &mut [bool])
-    requires within { All (λ leaf. leaf < length sums.old) leaves.now }
-    requires whole { length marked.old ≡ length sums.old }
-    ensures sums { ArePut leaves.now (pos 0) sums.old sums.new }
-    ensures marked { ArePut leaves.now false marked.old marked.new }
+fn clear(leaves: &[u32], sums: &mut Vec<i128>, marked: &mut Vec<bool>)
+    requires within { All (λ leaf. leaf < length sums.old.items) leaves.now }
+    requires whole { length marked.old.items ≡ length sums.old.items }
+    ensures sums { ArePut leaves.now (pos 0) sums.old.items sums.new.items }
+    ensures marked { ArePut leaves.now false marked.old.items marked.new.items }
 {
     for leaf in leaves {
         sums[*leaf as usize] = 0;

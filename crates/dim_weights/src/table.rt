@@ -1,9 +1,9 @@
 ghost use Rattle.std.specs.Prelude.{◌≡◌, ℕ, ◌+◌, ◌<◌, ◌≤◌, ◌⊎◌, pos, [], Err, length, IfOk, OnOk, IfSome, IfNone, IsOkUnless};
-ghost use Rattle.dim_core.specs.Outline.{components_of};
+ghost use Rattle.dim_core.specs.Outline.{IsDimension, components_of};
 ghost use Rattle.dim_weights.specs.Coefficients.{IsElement};
 ghost use Rattle.dim_weights.specs.Table.{leaves_in, greatest_of, greatest_in};
 ghost use Rattle.dim_weights.specs.Refusal.{fault_of};
-ghost use Rattle.dim_weights.specs.Sums.{AreRows};
+ghost use Rattle.dim_weights.specs.Sums.{AreRows, AreZero};
 ghost use Rattle.dim_weights.specs.Rows.{pairs_over, with_row};
 
 use crate::fault::WeightFault;
@@ -20,7 +20,6 @@ use std::marker::Model;
 pub struct TableBuilder {
     alloc: Global,
     rows: Vec<ListOf<(u32, i64)>>,
-    sums: Sums,
     count: usize,
 }
 
@@ -31,7 +30,7 @@ impl Model for TableBuilder {
 
     ghost view = { λ b. record { rows = b.rows.items; count = b.count } };
 
-    ghost invariant = { λ b. IsBuilding b.rows.items b.sums b.count };
+    ghost invariant = { λ b. IsBuilding b.rows.items b.count };
 }
 
 impl TableBuilder {
@@ -47,21 +46,30 @@ impl TableBuilder {
         Ok(TableBuilder {
             alloc,
             rows,
-            sums: Sums::new(alloc, elements)?,
             count: 0,
         })
     }
 
     /// Makes the row of an element, whose components have theirs.
-    pub fn add(&mut self, dimension: &Dimension, element: u32) -> Result<(), WeightFault>
+    pub fn add(
+        &mut self,
+        sums: &mut Sums,
+        dimension: &Dimension,
+        element: u32,
+    ) -> Result<(), WeightFault>
+        requires valid { IsDimension dimension.now }
         requires whole { length self.old.rows ≡ length dimension.now.elements }
+        requires sums { length sums.old ≡ length dimension.now.elements }
+        requires zero { AreZero sums.old }
         requires within { IsElement dimension.now element }
         ensures refused { let pairs = pairs_over (length dimension.now.elements) self.old.rows element (components_of dimension.now element) in IfSome (fault_of element pairs (self.old.count + length pairs)) (λ fault. (result ≡ Err fault) ⊎ (result ≡ Err WeightFault.Memory)) }
         ensures accepted { let pairs = pairs_over (length dimension.now.elements) self.old.rows element (components_of dimension.now element) in IfNone (fault_of element pairs (self.old.count + length pairs)) (IsOkUnless result WeightFault.Memory) }
         ensures added { let pairs = pairs_over (length dimension.now.elements) self.old.rows element (components_of dimension.now element) in OnOk result (self.new ≡ with_row self.old element pairs) }
+        ensures zero { OnOk result (AreZero sums.new) }
+        ensures sums { length sums.new ≡ length sums.old }
     {
         let parts = dimension.components(element);
-        let found = pairs_over(self.alloc, &mut self.sums, &self.rows, element, parts)?;
+        let found = pairs_over(self.alloc, sums, &self.rows, element, parts)?;
         let Some(pairs) = found else {
             return Err(WeightFault::CoefficientTooLarge(element));
         };

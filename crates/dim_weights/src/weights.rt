@@ -6,6 +6,7 @@ ghost use Rattle.dim_weights.specs.Refusal.{refusal_of};
 
 use crate::fault::WeightFault;
 use crate::levels::elements_by_level;
+use crate::sums::Sums;
 use crate::table::{TableBuilder, greatest_of};
 use dim_core::Dimension;
 use lists::ListOf;
@@ -44,9 +45,10 @@ impl Weights {
         ensures accepted { IfNone (refusal_of dimension.now) (IsOkUnless result WeightFault.Memory) }
     {
         let elements = elements_by_level(alloc, dimension)?;
+        let mut sums = Sums::new(alloc, dimension.len() as usize)?;
         let mut table = TableBuilder::new(alloc, dimension.len() as usize)?;
         for element in &elements {
-            table.add(dimension, *element)?;
+            table.add(&mut sums, dimension, *element)?;
         }
         let rows = table.into_rows();
         let greatest = greatest_of(&rows);
