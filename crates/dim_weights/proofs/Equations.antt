@@ -1,9 +1,9 @@
 -- The coefficients and the levels of a dimension are the solutions of their equations.
-use Rattle.std.proofs.Common.{◌≡◌, ℕ, zero, suc, ◌+◌, ◌*◌, ◌<◌, ◌≤◌, max, ◌≢◌, ◌⊎◌, inl, inr, Bool, true, false, cond, eqb, ℤ, pos, ◌+ℤ◌, ◌*ℤ◌, List, [], ◌∷◌, length, take, get_or, map, refl, ap, sym, ◌∙◌, subst, arith, All}
+use Rattle.std.proofs.Common.{◌≡◌, ℕ, zero, suc, ◌+◌, ◌*◌, ◌<◌, ◌≤◌, max, ◌≢◌, ◌⊎◌, inl, inr, Bool, true, false, cond, eqb, ℤ, pos, ◌+ℤ◌, ◌*ℤ◌, List, [], ◌∷◌, ◌++◌, length, take, get_or, map, refl, ap, sym, ◌∙◌, subst, arith, All}
 use Rattle.std.specs.List.{list_all, position_or_len}
 use Rattle.std.proofs.lemmas.Bool.{eqb-true, eq-eqb, cases_lt}
 use Rattle.std.proofs.lemmas.Int.{ints}
-use Rattle.std.proofs.lemmas.List.{length-map}
+use Rattle.std.proofs.lemmas.List.{length-map, take_more}
 use Rattle.std.proofs.lemmas.List.Elements.{All-head, All-tail}
 use Rattle.std.proofs.lemmas.List.Sums.{fails_before_first, passes_at_first}
 use Rattle.equations.specs.Equations.{IsGrounded, Solves, Outlasts, settled}
@@ -133,3 +133,56 @@ only-leaves d dim leaf above element here =
     sym (coef-only d dim leaf (λ _. pos 0)
     (λ e within. sym (coef_over-zero leaf e (components_of d e) (λ none same. above (subst (λ (x : ℕ). components_of d x ≡ []) same none))))
     element here)
+
+-- levels
+level_over-push : (f : ℕ → ℕ) (parts : List (ℕ × ℤ)) (p : ℕ × ℤ) → level_over f (parts ++ p ∷ []) ≡ max (level_over f parts) (f p.0 + 1)
+level_over-push f [] p = omega arith
+level_over-push f (q ∷ parts) p = let rest = level_over-push f parts p in omega arith
+
+pub level_over-more : (f : ℕ → ℕ) (parts : List (ℕ × ℤ)) (i : ℕ) (d : ℕ × ℤ) → i < length parts
+    → level_over f (take (i + 1) parts) ≡ max (level_over f (take i parts)) (f (get_or parts i d).0 + 1)
+level_over-more f parts i d within = ap (level_over f) (take_more parts i d within) ∙ level_over-push f (take i parts) (get_or parts i d)
+
+level_over-le : (f : ℕ → ℕ) (m n : ℕ) (front : List ℕ) (parts : List (ℕ × ℤ)) → list_all (λ part. is_among front part.0) parts ≡ true
+    → All (λ part. (part.0 < n) × IsWeight part.1) parts → ((x : ℕ) → x < n → is_among front x ≡ true → f x < m) → level_over f parts ≤ m
+level_over-le f m n front [] among within below = omega arith
+level_over-le f m n front (part ∷ parts) among within below =
+    let tests = both (is_among front part.0) (list_all (λ part. is_among front part.0) parts) among in
+    let here = below part.0 (All-head (λ part. (part.0 < n) × IsWeight part.1) part parts within).0 tests.0 in
+    let rest = level_over-le f m n front parts tests.1 (All-tail (λ part. (part.0 < n) × IsWeight part.1) part parts within) below in
+    omega arith
+
+module _ (d : Outline) (dim : IsDimension d) where
+  level-low : (n : ℕ) (element : ℕ) → IsElement d element → depth d dim element < n → level d element ≤ depth d dim element
+  level-low zero element here below = absurd (omega arith)
+  level-low (suc n) element here below =
+      let over = level_over-le (level d) (depth d dim element) (length d.elements) (take (depth d dim element) dim.order) (components_of d element) (parts-earlier d dim element here) (dim.parts element)
+          (λ x within among.
+          let first = depth-earlier d dim element x among in
+          let low = level-low n x within (omega arith) in
+          omega arith) in
+      let same = level-solves d dim element here in
+      omega arith
+
+  -- there are more elements than levels
+  pub level-below : (element : ℕ) → IsElement d element → level d element < length d.elements
+  level-below element here =
+      let low = level-low (suc (depth d dim element)) element here (omega arith) in
+      let deep = depth-within d dim element here in
+      omega arith
+
+-- the level of an element, where the levels of its components are known
+pub level-from : (d : Outline) → IsDimension d → (front : List ℕ) (levels : ℕ → ℕ) (element : ℕ) → IsElement d element
+    → list_all (λ part. is_among front part.0) (components_of d element) ≡ true → ((x : ℕ) → is_among front x ≡ true → levels x ≡ level d x)
+    → level_over levels (components_of d element) ≡ level d element
+level-from d dim front levels element here among known =
+    level_over-agree levels (level d) (components_of d element) (agree-parts (length d.elements) front levels (level d) (components_of d element) among (dim.parts element) (λ x within there. known x there))
+    ∙ sym (level-solves d dim element here)
+
+-- the coefficient of a leaf in an element, where those in its components are known
+pub coef-from : (d : Outline) → IsDimension d → (leaf : ℕ) (front : List ℕ) (table : ℕ → ℤ) (element : ℕ) → IsElement d element
+    → list_all (λ part. is_among front part.0) (components_of d element) ≡ true → ((x : ℕ) → is_among front x ≡ true → x < length d.elements → table x ≡ coef d x leaf)
+    → coef_over leaf element table (components_of d element) ≡ coef d element leaf
+coef-from d dim leaf front table element here among known =
+    coef_over-agree leaf element table (λ x. coef d x leaf) (components_of d element) (agree-parts (length d.elements) front table (λ x. coef d x leaf) (components_of d element) among (dim.parts element) (λ x within there. known x there within))
+    ∙ sym (coef-solves d dim leaf element here)

@@ -228,3 +228,6 @@ pub nonzero-true : (z : ℤ) → z ≢ pos 0 → is_nonzero z ≡ true
 nonzero-true (pos zero) h = absurd (h refl)
 nonzero-true (pos (suc n)) h = refl
 nonzero-true (negsuc n) h = refl
+
+pub greatest_in-more : (ps : List (ℕ × ℤ)) (i : ℕ) (d : ℕ × ℤ) → i < length ps → greatest_in (take (i + 1) ps) ≡ max (greatest_in (take i ps)) (unsigned_abs (get_or ps i d).1)
+greatest_in-more ps i d within = ap greatest_in (take_more ps i d within) ∙ greatest_in-push (take i ps) (get_or ps i d)

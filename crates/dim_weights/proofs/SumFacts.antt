@@ -15,7 +15,7 @@ use Rattle.dim_core.specs.Outline.{IsWeight}
 use Rattle.dim_order.proofs.Tests.{neither}
 use Rattle.dim_weights.specs.Coefficients.{weighted_sum}
 use Rattle.dim_weights.specs.Table.{nonzero_among, share, greatest_in, leaves_in}
-use Rattle.dim_weights.specs.Rows.{AreParts}
+use Rattle.dim_weights.specs.Rows.{AreParts, counted_over}
 use Rattle.dim_weights.specs.Sums.{sum_at, AreZero, IsTouched, IsRow, AreRows, AreWithin, ArePut}
 use Rattle.dim_weights.proofs.Pairs.{differ, share-push, share-size, greatest_in-take, greatest-range}
 use Rattle.dim_weights.proofs.Touched.{AscendsFrom-sorted, nonzero_among-touched}
@@ -126,3 +126,18 @@ parts-step f parts i old new within before added =
     let more = take_more parts i (0, pos 0) within in
     let push = weighted_sum-push f (take i parts) (get_or parts i (0, pos 0)) in
     rw (more, push, ← before) added
+
+-- a leaf counts in itself
+pub leaf-sums : (sums : List ℤ) (rows : List (List (ℕ × ℤ))) (element : ℕ) (parts : List (ℕ × ℤ)) → length parts ≡ 0 → AreZero sums → element < length sums
+    → (leaf : ℕ) → sum_at (set sums element (sum_at sums element +ℤ pos 1)) leaf ≡ counted_over rows element parts leaf
+leaf-sums sums rows element [] none zeros within leaf = sum_at-set sums element leaf _ within ∙ by (eqb element leaf)
+  where
+    by : (b : Bool) → cond b (sum_at sums element +ℤ pos 1) (sum_at sums leaf) ≡ cond b (pos 1) (pos 0)
+    by true = let at = zeros element in rw at refl
+    by false = zeros leaf
+leaf-sums sums rows element (p ∷ parts) none zeros within leaf = absurd (omega arith)
+
+pub parts-sums : (rows : List (List (ℕ × ℤ))) (element : ℕ) (parts : List (ℕ × ℤ)) → 0 < length parts
+    → (leaf : ℕ) → weighted_sum (λ part. share (leaves_in rows part) leaf) parts ≡ counted_over rows element parts leaf
+parts-sums rows element [] some leaf = absurd (omega arith)
+parts-sums rows element (p ∷ parts) some leaf = refl

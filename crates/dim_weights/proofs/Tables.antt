@@ -1,5 +1,6 @@
 -- Tables of pairs.
-use Rattle.std.proofs.Common.{◌≡◌, ℕ, zero, suc, ◌<◌, ◌≤◌, max, ℤ, List, [], ◌∷◌, ◌++◌, length, get_or, unsigned_abs, All, refl, arith}
+use Rattle.std.proofs.Common.{◌≡◌, ℕ, zero, suc, ◌<◌, ◌≤◌, max, ℤ, List, [], ◌∷◌, ◌++◌, length, take, get_or, unsigned_abs, All, refl, ap, ◌+◌, ◌∙◌, arith}
+use Rattle.std.proofs.lemmas.List.{take_more}
 use Rattle.dim_weights.specs.Table.{leaves_in, greatest_in, greatest_of}
 use Rattle.dim_weights.proofs.Pairs.{greatest_in-at}
 
@@ -25,3 +26,6 @@ pair-size rows element k d within =
     let here = greatest_in-at (leaves_in rows element) k d within in
     let all = greatest_of-at rows element in
     omega arith
+
+pub greatest_of-more : (rows : List (List (ℕ × ℤ))) (i : ℕ) (d : List (ℕ × ℤ)) → i < length rows → greatest_of (take (i + 1) rows) ≡ max (greatest_of (take i rows)) (greatest_in (get_or rows i d))
+greatest_of-more rows i d within = ap greatest_of (take_more rows i d within) ∙ greatest_of-push (take i rows) (get_or rows i d)

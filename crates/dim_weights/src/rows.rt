@@ -3,7 +3,7 @@ ghost use Rattle.dim_core.specs.Outline.{IsWeight};
 ghost use Rattle.dim_weights.specs.Coefficients.{weighted_sum};
 ghost use Rattle.dim_weights.specs.Table.{leaves_in, share, greatest_in};
 ghost use Rattle.dim_weights.specs.Sums.{sum_at, AreZero, AreRows, IsRow, AreWithin};
-ghost use Rattle.dim_weights.specs.Rows.{pairs_over, AreParts};
+ghost use Rattle.dim_weights.specs.Rows.{pairs_over, counted_over, AreParts};
 
 use crate::sums::Sums;
 use lists::ListOf;
@@ -29,12 +29,30 @@ pub fn pairs_over(
     ensures zero { IfOk result (λ found. IfSome found (λ _. AreZero sums.new)) }
     ensures length { length sums.new ≡ length sums.old }
 {
-    if parts.is_empty() {
-        sums.add(element, 1)?;
-    } else {
-        add_parts(sums, rows, parts)?;
-    }
+    add_element(sums, rows, element, parts)?;
     sums.take_pairs(alloc)
+}
+
+// Adds what each leaf counts in the element: a leaf counts in itself alone.
+fn add_element(
+    sums: &mut Sums,
+    rows: &[ListOf<(u32, i64)>],
+    element: u32,
+    parts: &[(u32, i64)],
+) -> Result<(), AllocError>
+    requires zero { AreZero sums.old }
+    requires rows { AreRows (length sums.old) rows.now }
+    requires whole { length rows.now ≡ length sums.old }
+    requires within { element < length sums.old }
+    requires parts { AreParts (length sums.old) parts.now }
+    ensures counted { OnOk result ((leaf : ℕ) → sum_at sums.new leaf ≡ counted_over rows.now element parts.now leaf) }
+    ensures length { length sums.new ≡ length sums.old }
+{
+    if parts.is_empty() {
+        sums.add(element, 1)
+    } else {
+        add_parts(sums, rows, parts)
+    }
 }
 
 // Adds the rows of these components, each times its weight.

@@ -40,7 +40,7 @@ impl TableBuilder {
         ensures count { IfOk result (λ made. made.count ≡ 0) }
     {
         let mut rows = Vec::with_capacity(alloc, elements)?;
-        for _ in 0..elements {
+        'rows: for _ in 0..elements {
             rows.push(ListOf::new(Vec::new(alloc)))?;
         }
         Ok(TableBuilder {
