@@ -1,5 +1,8 @@
+pub mod Building
+pub mod ByLevel
 pub mod Equations
 pub mod Marks
+pub mod Maxima
 pub mod Pairs
 pub mod Searches
 pub mod SumFacts

@@ -33,14 +33,14 @@ fault_at d elements place =
     let element = slice_index elements place in
     fault_of element (leaves_of d element) (pair_count d (take (place + 1) elements))
 
+abbrev pub first_of_two : Option WeightFault → Option WeightFault → Option WeightFault
+first_of_two (Some fault) other = Some fault
+first_of_two None other = other
+
 -- the fault at the first of these places that has one
 abbrev pub first_fault : (ℕ → Option WeightFault) → List ℕ → Option WeightFault
 first_fault at [] = None
 first_fault at (place ∷ places) = first_of_two (at place) (first_fault at places)
-  where
-    first_of_two : Option WeightFault → Option WeightFault → Option WeightFault
-    first_of_two (Some fault) other = Some fault
-    first_of_two None other = other
 
 -- the refusal is what is wrong first, as the elements are taken by level and then by index
 abbrev pub refusal_of : Outline → Option WeightFault

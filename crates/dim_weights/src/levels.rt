@@ -1,6 +1,7 @@
-ghost use Rattle.std.specs.Prelude.{◌≡◌, ◌<◌, ◌≤◌, All, IfOk, length, slice_index};
+ghost use Rattle.std.specs.Prelude.{◌≡◌, ◌<◌, ◌≤◌, All, IfOk, OnOk, length, slice_index};
+ghost use Rattle.std.specs.List.{range_with_len};
 ghost use Rattle.dim_weights.specs.Coefficients.{level_over};
-ghost use Rattle.dim_weights.specs.Levels.{AreLevels, IsByLevel};
+ghost use Rattle.dim_weights.specs.Levels.{AreLevels, IsByLevel, IsSortedByLevel};
 
 use dim_core::Dimension;
 use std::alloc::{AllocError, Global};
@@ -10,9 +11,27 @@ pub fn elements_by_level(alloc: Global, dimension: &Dimension) -> Result<Vec<u32
     ensures { IfOk result (λ elements. IsByLevel dimension.now elements.items) }
 {
     let levels = levels_of(alloc, dimension)?;
-    let mut elements: Vec<u32> = (0..dimension.len()).collect(alloc)?;
-    elements.sort_by_key(|element| level_at(&levels, *element))?;
+    let mut elements = elements_below(alloc, dimension.len())?;
+    sort_by_level(&levels, &mut elements)?;
     Ok(elements)
+}
+
+fn elements_below(alloc: Global, count: u32) -> Result<Vec<u32>, AllocError>
+    ensures { IfOk result (λ elements. elements.items ≡ range_with_len 0 count) }
+{
+    let mut elements = Vec::with_capacity(alloc, count as usize)?;
+    for element in 0..count {
+        elements.push(element)?;
+    }
+    Ok(elements)
+}
+
+// Elements of one level stay in their order.
+fn sort_by_level(levels: &[u32], elements: &mut Vec<u32>) -> Result<(), AllocError>
+    ensures { OnOk result (IsSortedByLevel levels.now elements.old.items elements.new.items) }
+{
+    elements.sort_by_key(|element| level_at(levels, *element))?;
+    Ok(())
 }
 
 fn level_at(levels: &[u32], element: u32) -> u32
