@@ -33,7 +33,7 @@ among-front xs i j before within =
     list_any_at (eqb (get_or xs j 0)) (take i xs) j 0 long (eq-eqb _ _ (sym same))
 
 -- one more is among the first
-among-more : (xs : List ℕ) (i k : ℕ) → i < length xs → is_among (take (i + 1) xs) k ≡ true → (is_among (take i xs) k ≡ true) ⊎ (k ≡ get_or xs i 0)
+pub among-more : (xs : List ℕ) (i k : ℕ) → i < length xs → is_among (take (i + 1) xs) k ≡ true → (is_among (take i xs) k ≡ true) ⊎ (k ≡ get_or xs i 0)
 among-more xs i k within among = by (either (is_among (take i xs) k) (eqb k (get_or xs i 0)) (sym (list_any_more (eqb k) xs i 0 within) ∙ among))
   where
     by : (is_among (take i xs) k ≡ true) ⊎ (eqb k (get_or xs i 0) ≡ true) → (is_among (take i xs) k ≡ true) ⊎ (k ≡ get_or xs i 0)

@@ -4,6 +4,7 @@ pub mod Equations
 pub mod Marks
 pub mod Maxima
 pub mod Pairs
+pub mod MadeRows
 pub mod Searches
 pub mod SumFacts
 pub mod Tables

@@ -3,6 +3,7 @@ ghost use Rattle.dim_core.specs.Outline.{Outline};
 ghost use Rattle.dim_weights.specs.Coefficients.{IsElement, coef};
 ghost use Rattle.dim_weights.specs.Table.{IsWeightsOf, leaves_in, leaves_of, share, greatest_of, IsRising};
 ghost use Rattle.dim_weights.specs.Refusal.{refusal_of};
+ghost use Rattle.dim_weights.specs.Sums.{AreRows};
 
 use crate::fault::WeightFault;
 use crate::levels::elements_by_level;
@@ -44,13 +45,7 @@ impl Weights {
         ensures refused { IfSome (refusal_of dimension.now) (λ fault. (result ≡ Err fault) ⊎ (result ≡ Err WeightFault.Memory)) }
         ensures accepted { IfNone (refusal_of dimension.now) (IsOkUnless result WeightFault.Memory) }
     {
-        let elements = elements_by_level(alloc, dimension)?;
-        let mut sums = Sums::new(alloc, dimension.len() as usize)?;
-        let mut table = TableBuilder::new(alloc, dimension.len() as usize)?;
-        for element in &elements {
-            table.add(&mut sums, dimension, *element)?;
-        }
-        let rows = table.into_rows();
+        let rows = rows_of(alloc, dimension)?;
         let greatest = greatest_of(&rows);
         Ok(Weights { rows, greatest })
     }
@@ -95,4 +90,24 @@ fn share(pairs: &[(u32, i64)], leaf: u32) -> i64
         Ok(place) => pairs[place].1,
         Err(_) => 0,
     }
+}
+
+// The leaves of each element.
+fn rows_of(
+    alloc: Global,
+    dimension: &Dimension,
+) -> Result<Vec<ListOf<(u32, i64)>>, WeightFault>
+    ensures weights { IfOk result (λ rows. IsWeightsOf dimension.now rows.items) }
+    ensures valid { IfOk result (λ rows. AreRows (length rows.items) rows.items) }
+    ensures refused { IfSome (refusal_of dimension.now) (λ fault. (result ≡ Err fault) ⊎ (result ≡ Err WeightFault.Memory)) }
+    ensures accepted { IfNone (refusal_of dimension.now) (IsOkUnless result WeightFault.Memory) }
+{
+    let elements = elements_by_level(alloc, dimension)?;
+    let mut sums = Sums::new(alloc, dimension.len() as usize)?;
+    let mut table = TableBuilder::new(alloc, dimension.len() as usize)?;
+    let by_level = elements.as_slice();
+    for element in by_level {
+        table.add(&mut sums, dimension, *element)?;
+    }
+    Ok(table.into_rows())
 }
