@@ -1,0 +1,11 @@
+pub mod Building
+pub mod ByLevel
+pub mod Equations
+pub mod Marks
+pub mod Maxima
+pub mod Pairs
+pub mod MadeRows
+pub mod Searches
+pub mod SumFacts
+pub mod Tables
+pub mod Touched

@@ -1,0 +1,95 @@
+ghost use Rattle.std.specs.Prelude.{◌≡◌, ℕ, ◌+◌, ◌*◌, ◌^◌, ◌<◌, ◌≤◌, ◌+ℤ◌, ◌*ℤ◌, All, length, unsigned_abs, IfOk, OnOk, IfSome, IfNone};
+ghost use Rattle.dim_core.specs.Outline.{IsWeight};
+ghost use Rattle.dim_weights.specs.Coefficients.{weighted_sum};
+ghost use Rattle.dim_weights.specs.Table.{leaves_in, share, greatest_in};
+ghost use Rattle.dim_weights.specs.Sums.{sum_at, AreZero, AreRows, IsRow, AreWithin};
+ghost use Rattle.dim_weights.specs.Rows.{pairs_over, counted_over, AreParts};
+
+use crate::sums::Sums;
+use lists::ListOf;
+use std::alloc::{AllocError, Global};
+
+/// The leaves that count in an element with these components, each with its coefficient, in rising order, or None where
+/// a coefficient is too large. The rows of the components are made.
+pub fn pairs_over(
+    alloc: Global,
+    sums: &mut Sums,
+    rows: &[ListOf<(u32, i64)>],
+    element: u32,
+    parts: &[(u32, i64)],
+) -> Result<Option<Vec<(u32, i64)>>, AllocError>
+    requires zero { AreZero sums.old }
+    requires rows { AreRows (length sums.old) rows.now }
+    requires whole { length rows.now ≡ length sums.old }
+    requires within { element < length sums.old }
+    requires parts { AreParts (length sums.old) parts.now }
+    ensures pairs { IfOk result (λ found. IfSome found (λ pairs. pairs.items ≡ pairs_over (length sums.old) rows.now element parts.now)) }
+    ensures small { IfOk result (λ found. IfSome found (λ pairs. greatest_in pairs.items ≤ 1000000000)) }
+    ensures large { IfOk result (λ found. IfNone found (1000000000 < greatest_in (pairs_over (length sums.old) rows.now element parts.now))) }
+    ensures zero { IfOk result (λ found. IfSome found (λ _. AreZero sums.new)) }
+    ensures length { length sums.new ≡ length sums.old }
+{
+    add_element(sums, rows, element, parts)?;
+    sums.take_pairs(alloc)
+}
+
+// Adds what each leaf counts in the element: a leaf counts in itself alone.
+fn add_element(
+    sums: &mut Sums,
+    rows: &[ListOf<(u32, i64)>],
+    element: u32,
+    parts: &[(u32, i64)],
+) -> Result<(), AllocError>
+    requires zero { AreZero sums.old }
+    requires rows { AreRows (length sums.old) rows.now }
+    requires whole { length rows.now ≡ length sums.old }
+    requires within { element < length sums.old }
+    requires parts { AreParts (length sums.old) parts.now }
+    ensures counted { OnOk result ((leaf : ℕ) → sum_at sums.new leaf ≡ counted_over rows.now element parts.now leaf) }
+    ensures length { length sums.new ≡ length sums.old }
+{
+    if parts.is_empty() {
+        sums.add(element, 1)
+    } else {
+        add_parts(sums, rows, parts)
+    }
+}
+
+// Adds the rows of these components, each times its weight.
+fn add_parts(
+    sums: &mut Sums,
+    rows: &[ListOf<(u32, i64)>],
+    parts: &[(u32, i64)],
+) -> Result<(), AllocError>
+    requires zero { AreZero sums.old }
+    requires rows { AreRows (length sums.old) rows.now }
+    requires whole { length rows.now ≡ length sums.old }
+    requires parts { AreParts (length sums.old) parts.now }
+    ensures added { OnOk result ((leaf : ℕ) → sum_at sums.new leaf ≡ weighted_sum (λ part. share (leaves_in rows.now part) leaf) parts.now) }
+    ensures length { length sums.new ≡ length sums.old }
+{
+    for (part, weight) in parts {
+        add_row(sums, rows[*part as usize].as_slice(), *weight)?;
+    }
+    Ok(())
+}
+
+// Adds a row times a weight.
+fn add_row(sums: &mut Sums, row: &[(u32, i64)], weight: i64) -> Result<(), AllocError>
+    requires row { IsRow (length sums.old) row.now }
+    requires weight { IsWeight weight }
+    requires room { AreWithin (10 ^ 28) sums.old }
+    ensures added { OnOk result ((leaf : ℕ) → sum_at sums.new leaf ≡ sum_at sums.old leaf +ℤ (weight *ℤ share row.now leaf)) }
+    ensures length { length sums.new ≡ length sums.old }
+{
+    for (leaf, coefficient) in row {
+        sums.add(*leaf, product(weight, *coefficient))?;
+    }
+    Ok(())
+}
+
+fn product(weight: i64, coefficient: i64) -> i128
+    ensures { result ≡ weight *ℤ coefficient }
+{
+    i128::from(weight) * i128::from(coefficient)
+}
