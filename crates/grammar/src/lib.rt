@@ -8,6 +8,7 @@ mod cursor;
 mod literals;
 mod stop;
 mod values;
+mod variables;
 mod words;
 
 pub use answer::{TextFault, settled};
@@ -16,6 +17,7 @@ pub use cursor::{Cursor, Scan, Unwatched, line_left};
 pub use literals::{file, money};
 pub use stop::Stop;
 pub use values::{name, text, whole};
+pub use variables::{is_column, is_function_word, is_statement_word, is_variable};
 pub use words::{any_word, capital_word};
 
 #[cfg(test)]
