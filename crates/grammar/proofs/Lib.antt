@@ -9,3 +9,4 @@ pub mod Top
 pub mod Loops
 pub mod WholeTexts
 pub mod After
+pub mod Picks
