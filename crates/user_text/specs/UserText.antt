@@ -1,5 +1,5 @@
 -- The grammar of a user's text.
-use Rattle.std.specs.Prelude.{ℕ, ℤ, pos, neg_ℤ, Bool, true, false, not, ◌&&◌, if◌then◌else◌, List, [], ◌∷◌, Option, Some, None, codes, bytes_eq}
+use Rattle.std.specs.Prelude.{ℕ, ℤ, neg_ℤ, Bool, true, false, not, ◌&&◌, if◌then◌else◌, List, [], ◌∷◌, Option, Some, None, codes, bytes_eq}
 use Rattle.std.specs.List.{list_any}
 use Rattle.cube_lex.specs.Lexeme.{Lexeme}
 use Rattle.grammar.specs.Grammar.{Grammar, done, one, either, many, ◌>>=◌, ◌>>◌}
@@ -73,9 +73,13 @@ source = either (do one (word (codes "FROM")); path ← one file; records ← sk
 abbrev pub is_set : List (List ℕ × ParamText) → List ℕ → Bool
 is_set before variable = list_any (λ param. bytes_eq param.0 variable) before
 
+-- whether a parameter of this word may come behind these
+abbrev pub may_come : List (List ℕ × ParamText) → List ℕ → Bool
+may_come before variable = is_variable variable && not (is_set before variable)
+
 -- a word that may name a variable and isn't set yet, in capitals
 abbrev pub new_variable : List (List ℕ × ParamText) → Lexeme → Option (List ℕ)
-new_variable before = when (λ t. is_word_kind t.kind && is_variable (capitals t.piece) && not (is_set before (capitals t.piece))) (λ t. capitals t.piece)
+new_variable before = when (λ t. is_word_kind t.kind && may_come before (capitals t.piece)) (λ t. capitals t.piece)
 
 -- [ "-" ] Number | Text
 abbrev pub value : Grammar Lexeme ParamText
