@@ -1,5 +1,9 @@
 //! The engine that all exact texts are read with: grammars as relations, readers of the same shape, and one proof that such a
 //! reader is exact.
+//!
+//! A parser of a whole text takes its tokens (`cube_lex::tokens_until`), reads them over a [`Cursor`] by functions that follow
+//! its grammar line for line, and hands what they return to [`settled`], which counts a lexical fault as a token that fits
+//! nothing.
 #![tactic(auto)]
 
 mod answer;

@@ -120,7 +120,7 @@ fn next_param_at(
     param_at(alloc, cursor, before)
 }
 
-/// How many tokens are left.
+/// How many tokens are left. No text has as many as the reader has turns.
 fn tokens_left(cursor: &Cursor<'_, Counted>) -> usize
     ensures count { result ≡ length cursor.now.tokens.now }
     ensures room { length cursor.now.tokens.now < 2 ^ 64 }
