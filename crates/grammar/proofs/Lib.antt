@@ -11,3 +11,5 @@ pub mod Cuts
 pub mod Settles
 pub mod WholeTexts
 pub mod OneAnswer
+pub mod After
+pub mod Picks
