@@ -7,3 +7,4 @@ pub mod Checked
 pub mod Inside
 pub mod Top
 pub mod Loops
+pub mod WholeTexts
