@@ -1,5 +1,5 @@
 -- What tokens give can be written as tokens again.
-use Rattle.std.proofs.Common.{◌≡◌, ◌≤◌, ◌<◌, ◌+◌, ℕ, ℤ, List, [], ◌∷◌, ◌++◌, length, true, Ok, Err, Option, Some, None, Result, refl, sym, ap, ◌∙◌, subst, inl, inr, ◌&&◌, arith, length-append, IfOk, OnOk}
+use Rattle.std.proofs.Common.{◌≡◌, ◌≤◌, ◌<◌, ◌+◌, ℕ, ℤ, List, [], ◌∷◌, ◌++◌, length, true, false, Ok, Err, Option, Some, None, Result, refl, sym, ap, ◌∙◌, subst, inl, inr, ◌&&◌, arith, length-append, IfOk, OnOk}
 use Rattle.std.proofs.lemmas.List.Elements.{All-nil, All-cons, All-head, All-tail, All-push, All-take, All-drop}
 use Rattle.std.proofs.Math.Seq.{take-append_seam, drop-append_seam}
 use Rattle.std.specs.List.{All, AllZip}
@@ -60,9 +60,11 @@ keeps_one : {A : Type 0} {pick : Lexeme → Option A} {P : A → Type 0} → ((t
 keeps_one tells = record { at = λ u a tokens (t, is, picks). tells t a (All-head IsWellFormed t [] (subst AreTokens is tokens)) picks }
 
 keeps_both : {A B : Type 0} {G : Grammar Lexeme A} {K : A → Grammar Lexeme B} {P : A → Type 0} {Q : B → Type 0} → Keeps G P → ((a : A) → P a → Keeps (K a) Q) → Keeps (both G K) Q
-keeps_both g k = record { at = λ u b tokens (v, w, a, parts, h, l). (
-  let whole : AreTokens (v ++ w) = subst AreTokens parts tokens in
-  (k a (g.at v a (first_tokens v w whole) h)).at w b (last_tokens v w whole) l) }
+keeps_both g k = record {
+  at = λ u b tokens (v, w, a, parts, h, l). (
+      let whole : AreTokens (v ++ w) = subst AreTokens parts tokens in
+      (k a (g.at v a (first_tokens v w whole) h)).at w b (last_tokens v w whole) l);
+}
 
 keeps_either_at : {A : Type 0} {G H : Grammar Lexeme A} (P : A → Type 0) → Keeps G P → Keeps H P → (u : List Lexeme) (a : A) → AreTokens u → either G H u a → P a
 keeps_either_at P g h u a tokens (inl e) = g.at u a tokens e

@@ -1,5 +1,5 @@
 -- Tokens that are texts of a grammar wherever they stand.
-use Rattle.std.proofs.Common.{◌≡◌, ℕ, List, [], ◌∷◌, ◌++◌, map, Option, Some, refl, sym, ap, ◌∙◌, subst, inl, inr}
+use Rattle.std.proofs.Common.{◌≡◌, ℕ, List, [], ◌∷◌, ◌++◌, map, Option, Some, refl, sym, ap, ◌∙◌, inl, inr, append-nil}
 use Rattle.std.proofs.lemmas.List.Elements.{All-head, All-tail}
 use Rattle.std.specs.List.{All, AllZip, flat_map}
 use Rattle.cube_lex.specs.Lexeme.{Lexeme}
@@ -43,11 +43,13 @@ pub spells_one : {A : Type 0} {pick : Lexeme → Option A} {token : Spelling} {P
 spells_one {P = P} picks = record { at = one_at P picks }
 
 pub spells_both : {A B : Type 0} {G : Grammar Lexeme A} {K : A → Grammar Lexeme B} {xs ys : List Spelling} {P : A → Type 0} {Q : B → Type 0} → Spells G xs P → ((a : A) → P a → Spells (K a) ys Q) → Spells (both G K) (xs ++ ys) Q
-spells_both {xs = xs} {ys = ys} g k = record { at = λ ts e. (
-  let (u, v, parts, front, back) = split_at ts xs ys e in
-  let (a, h, p) = g.at u front in
-  let (b, l, q) = (k a p).at v back in
-  (b, (u, v, a, parts, h, l), q)) }
+spells_both {xs = xs} {ys = ys} g k = record {
+  at = λ ts e. (
+      let (u, v, parts, front, back) = split_at ts xs ys e in
+      let (a, h, p) = g.at u front in
+      let (b, l, q) = (k a p).at v back in
+      (b, (u, v, a, parts, h, l), q));
+}
 
 -- one token, and then what its value leads to
 pub spells_next : {A B : Type 0} {pick : Lexeme → Option A} {K : A → Grammar Lexeme B} {token : Spelling} {ys : List Spelling} {P : A → Type 0} {Q : B → Type 0} → Picks pick token P → ((a : A) → P a → Spells (K a) ys Q) → Spells (both (one pick) K) (token ∷ ys) Q
@@ -58,6 +60,10 @@ spells_left g = record { at = λ ts e. (let (a, h, p) = g.at ts e in (a, inl h, 
 
 pub spells_right : {A : Type 0} {G H : Grammar Lexeme A} {tokens : List Spelling} {P : A → Type 0} → Spells H tokens P → Spells (either G H) tokens P
 spells_right g = record { at = λ ts e. (let (a, h, p) = g.at ts e in (a, inr h, p)) }
+
+-- a text of G, and then the tree that is made of its own
+pub spells_made : {A B : Type 0} {G : Grammar Lexeme A} {tokens : List Spelling} {P : A → Type 0} {Q : B → Type 0} (make : A → B) → Spells G tokens P → ((a : A) → P a → Q (make a)) → Spells (both G (λ a. done (make a))) tokens Q
+spells_made make g into = record { at = λ ts e. (let (a, h, p) = g.at ts e in (make a, (ts, [], a, sym (append-nil ts), h, (refl, refl)), into a p)) }
 
 pub spells_as : {A : Type 0} {G : Grammar Lexeme A} {tokens : List Spelling} {P Q : A → Type 0} → ((a : A) → P a → Q a) → Spells G tokens P → Spells G tokens Q
 spells_as into g = record { at = λ ts e. (let (a, h, p) = g.at ts e in (a, h, into a p)) }

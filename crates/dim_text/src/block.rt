@@ -87,10 +87,7 @@ pub fn body_at(
 
 /// Reads a block, `DIM name ; { element } END ;`.
 #[tactic(auto, unfolding(crate::specs::Reading::read_block, crate::specs::Reading::read_opening))]
-pub fn block_at(
-    alloc: Global,
-    cursor: &mut Cursor<'_, Unwatched>,
-) -> Result<DimText, Stop<Refusal>>
+pub fn block_at(alloc: Global, cursor: &mut Cursor<'_, Unwatched>) -> Result<DimText, Stop<Refusal>>
     requires { All IsWellFormed (lexemes cursor.now.tokens.now) }
     ensures read { GivesText result (lexemes cursor.new.tokens.now) (read_block nothing (lexemes cursor.old.tokens.now)) }
     ensures shorter { OnOk result (length cursor.new.tokens.now < length cursor.old.tokens.now) }
