@@ -51,8 +51,7 @@ attributes_again (a ∷ rest) (y ∷ ys) zip p ts (u, v, parts, here, more) =
     let line : ℕ = zip.0.0 in
     let next : Progress = record p { draft = record p.draft { attributes = p.draft.attributes ++ a ∷ [] }; attribute_lines = p.attribute_lines ++ line ∷ [] } in
     let added : add p y ≡ Ok next = ap (add p) zip.0.1 in
-    let (s, passes, draft) = attributes_again rest ys zip.1 next v more in
-    (
+    let (s, passes, draft) = attributes_again rest ys zip.1 next v more in (
       s,
       subst (λ w. Passes building p w s) (sym parts) (passes-append building p next s u v (passes_one building p next u (y, inr (inl here), added)) passes),
       draft ∙ ap (λ bs. record p.draft { attributes = bs }) (append_assoc p.draft.attributes (a ∷ []) rest),
@@ -79,7 +78,8 @@ all_good : (d : Outline) → IsDimension d → All IsGood (written d).elements
 all_good d is = All-map IsGood (written_element (names_of d.elements)) d.elements (λ k e within. (
   is.elements_named k e within,
   (let same : components_of d k ≡ (get_or d.elements k e).components = get_or-map (λ (x : Element ℕ). x.components) d.elements k e [] within in
-  named_parts d is (get_or d.elements k e).components (subst (All (λ c. (c.0 < length d.elements) × IsWeight c.1)) same (is.parts k)))))
+      named_parts d is (get_or d.elements k e).components (subst (All (λ c. (c.0 < length d.elements) × IsWeight c.1)) same (is.parts k))),
+))
 
 -- an attribute that can be written
 abbrev IsGoodAttribute : NamedAttribute → Type 0
@@ -123,8 +123,7 @@ elements_again d is (e ∷ rest) front parts (y ∷ ys) zip p so_far ts (u, v, s
     let (next, added, built) = element_again p e.name (by_name (names_of d.elements) e.components) y zip.0 (free_element d is front e rest parts p.draft so_far) in
     let further : next.draft.elements ≡ map (written_element (names_of d.elements)) (front ++ e ∷ []) =
     ap (λ draft. draft.elements) built ∙ ap (λ es. es ++ written_element (names_of d.elements) e ∷ []) so_far ∙ sym (map-append (written_element (names_of d.elements)) front (e ∷ [])) in
-    let (s, passes, draft) = elements_again d is rest (front ++ e ∷ []) (parts ∙ sym (append_assoc front (e ∷ []) rest)) ys zip.1 next further v more in
-    (
+    let (s, passes, draft) = elements_again d is rest (front ++ e ∷ []) (parts ∙ sym (append_assoc front (e ∷ []) rest)) ys zip.1 next further v more in (
       s,
       subst (λ w. Passes building p w s) (sym split) (passes-append building p next s u v (passes_one building p next u (y, inr (inl here), added)) passes),
       draft ∙ ap (λ (old : Draft). record old { elements = (written d).elements }) built,

@@ -110,7 +110,11 @@ fn write_element(
 {
     let name = shown_of(dimension, element);
     if dimension.is_leaf(element) {
-        return write_line(alloc, out, &[Piece::Word(b"N"), Piece::Quoted(name), Piece::Sign(b";")]);
+        return write_line(
+            alloc,
+            out,
+            &[Piece::Word(b"N"), Piece::Quoted(name), Piece::Sign(b";")],
+        );
     }
     write_pieces(alloc, out, &[Piece::Word(b"C"), Piece::Quoted(name)])?;
     write_parts(alloc, out, dimension, dimension.components(element))?;
@@ -118,11 +122,7 @@ fn write_element(
 }
 
 // Writes the statements that define the elements.
-fn write_elements(
-    alloc: Global,
-    out: &mut Vec<u8>,
-    dimension: &Dimension,
-) -> Result<(), AllocError>
+fn write_elements(alloc: Global, out: &mut Vec<u8>, dimension: &Dimension) -> Result<(), AllocError>
     requires valid { IsDimension dimension.now }
     requires writable { IsWritable dimension.now }
     ensures { OnOk result (Adds out.old.items out.new.items (flat_map element_spelled (written dimension.now).elements)) }
@@ -180,7 +180,11 @@ fn write_block(alloc: Global, out: &mut Vec<u8>, dimension: &Dimension) -> Resul
     ensures { OnOk result (Adds out.old.items out.new.items (draft_spelled (written dimension.now))) }
 {
     let name = dimension.name().shown();
-    write_line(alloc, out, &[Piece::Word(b"DIM"), Piece::Quoted(name), Piece::Sign(b";")])?;
+    write_line(
+        alloc,
+        out,
+        &[Piece::Word(b"DIM"), Piece::Quoted(name), Piece::Sign(b";")],
+    )?;
     write_elements(alloc, out, dimension)?;
     write_attributes(alloc, out, dimension)?;
     write_line(alloc, out, &[Piece::Word(b"END"), Piece::Sign(b";")])

@@ -26,9 +26,11 @@ fn fault_in(alloc: Global, text: &[u8]) -> Result<(u32, &'static str), Fail> {
     }
 }
 
-const BLOCK: &[u8] = b"# months\nDim 'Month';\nn 'Jan'; N\n'Feb';\nC 'Q1': 'Jan', 'feb' * -2;\nA 'Feb' 'Prev' = 'Jan';\na 'q 1' 'Note' = 'it''s';\nEnd; DIM";
+const BLOCK: &[u8] =
+    b"# months\nDim 'Month';\nn 'Jan'; N\n'Feb';\nC 'Q1': 'Jan', 'feb' * -2;\nA 'Feb' 'Prev' = 'Jan';\na 'q 1' 'Note' = 'it''s';\nEnd; DIM";
 
-const PRINTED: &[u8] = b"DIM 'Month' ; \nN 'Jan' ; \nN 'Feb' ; \nC 'Q1' : 'Jan' , 'Feb' * - 2 ; \nA 'Feb' 'Prev' = 'Jan' ; \nA 'Q1' 'Note' = 'it''s' ; \nEND ; \n";
+const PRINTED: &[u8] =
+    b"DIM 'Month' ; \nN 'Jan' ; \nN 'Feb' ; \nC 'Q1' : 'Jan' , 'Feb' * - 2 ; \nA 'Feb' 'Prev' = 'Jan' ; \nA 'Q1' 'Note' = 'it''s' ; \nEND ; \n";
 
 #[test]
 fn reads_a_block_and_prints_it(rt: HostRuntime) -> Result<(), Fail> {
@@ -130,7 +132,8 @@ fn names_the_first_fault_and_its_line(rt: HostRuntime) -> Result<(), Fail> {
 
 #[test]
 fn each_beginning_ends_too_early(rt: HostRuntime) -> Result<(), Fail> {
-    let text = b"DIM\n'a''b'\n;\nN\n'x'\n;\nC\n'c'\n:\n'x'\n*\n-\n12\n,\n'x'\n;\nA\n'x'\n'p'\n=\n''\n;\nEND\n;";
+    let text =
+        b"DIM\n'a''b'\n;\nN\n'x'\n;\nC\n'c'\n:\n'x'\n*\n-\n12\n,\n'x'\n;\nA\n'x'\n'p'\n=\n''\n;\nEND\n;";
     let mut line = 1;
     for end in 0..text.len() {
         assert_eq!(rt; fault_in(rt.alloc(), &text[..end])?, (line, "Syntax"));
