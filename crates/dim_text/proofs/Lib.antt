@@ -1,6 +1,7 @@
 pub mod ElementExact
 pub mod BlockExact
 pub mod Built
+pub mod BlockParts
 pub mod Refusals
 pub mod Quotable
 pub mod Spells
