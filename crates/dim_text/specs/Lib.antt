@@ -4,3 +4,7 @@ pub mod Building
 pub mod Reading
 pub mod Views
 pub mod Answers
+pub mod Writable
+pub mod Spelled
+pub mod Piece
+pub mod Printed

@@ -1,13 +1,15 @@
-ghost use Rattle.std.specs.Prelude.{◌≡◌, ◌<◌, ◌≤◌, length, OnOk, codes};
+ghost use Rattle.std.specs.Prelude.{◌≡◌, ◌<◌, ◌≤◌, length, All, IfOk, OnOk, codes};
+ghost use Rattle.cube_lex.specs.Lexed.{IsWellFormed};
 ghost use Rattle.grammar.specs.Cursor.{lexemes, Reads};
 ghost use Rattle.grammar.specs.Reading.{starts};
 ghost use Rattle.dim_text.specs.Reading as reading;
 ghost use Rattle.dim_text.specs.Statement.{signed};
 ghost use Rattle.dim_text.specs.Views.{element_view, head_view};
+ghost use Rattle.dim_text.specs.Writable.{IsQuotable};
 
 use crate::fault::Refusal;
 use dim_core::Name;
-use grammar::{Cursor, Stop, Unwatched, name, sign, sign_comes, whole, word, word_comes};
+use grammar::{Cursor, Stop, Unwatched, name, sign, sign_comes, text, whole, word, word_comes};
 use std::alloc::Global;
 
 /// A statement of a block, with the line of its first word.
@@ -16,15 +18,31 @@ pub enum Element {
     Leaf(u32, Name),
     /// Its components, each with its weight.
     Consolidated(u32, Name, Vec<(Name, i64)>),
+    /// An element, the name of one of its attributes, and the text.
+    Attribute(u32, Name, Name, Vec<u8>),
 }
 
-/// Reads `DIM name ;`.
-#[tactic(auto, unfolding(crate::specs::Reading::read_head))]
+/// Reads the head of a block, `DIM name ;`, and gives its line and its name.
 pub fn head_at(
     alloc: Global,
     cursor: &mut Cursor<'_, Unwatched>,
 ) -> Result<(u32, Name), Stop<Refusal>>
-    ensures { Reads head_view reading.read_head cursor.old result cursor.new }
+    ensures read { Reads head_view reading.read_head cursor.old result cursor.new }
+    ensures shorter { OnOk result (length cursor.new.tokens.now < length cursor.old.tokens.now) }
+    // From the tokens of a text comes a name that can be written.
+    ensures quotable { All IsWellFormed (lexemes cursor.old.tokens.now) → IfOk result (λ head. IsQuotable head.1) }
+    ensures rest { All IsWellFormed (lexemes cursor.old.tokens.now) → OnOk result (All IsWellFormed (lexemes cursor.new.tokens.now)) }
+{
+    head_words(alloc, cursor)
+}
+
+#[tactic(auto, unfolding(crate::specs::Reading::read_head))]
+fn head_words(
+    alloc: Global,
+    cursor: &mut Cursor<'_, Unwatched>,
+) -> Result<(u32, Name), Stop<Refusal>>
+    ensures read { Reads head_view reading.read_head cursor.old result cursor.new }
+    ensures shorter { OnOk result (length cursor.new.tokens.now < length cursor.old.tokens.now) }
 {
     let line = word(cursor, b"DIM")?;
     let shown = name(alloc, cursor)?;
@@ -157,11 +175,25 @@ fn consolidated_at(
     Ok(Element::Consolidated(line, shown, parts))
 }
 
+/// Reads `A name name = Text ;`.
+#[tactic(auto, unfolding(crate::specs::Reading::read_attribute))]
+fn attribute_at(alloc: Global, cursor: &mut Cursor<'_, Unwatched>) -> Result<Element, Stop<Refusal>>
+    ensures { Reads element_view reading.read_attribute cursor.old result cursor.new }
+{
+    let line = word(cursor, b"A")?;
+    let shown = name(alloc, cursor)?;
+    let called = name(alloc, cursor)?;
+    sign(cursor, b"=")?;
+    let value = text(alloc, cursor)?;
+    sign(cursor, b";")?;
+    Ok(Element::Attribute(line, shown, called, value))
+}
+
 /// Whether an element's statement comes.
 pub fn element_comes(cursor: &Cursor<'_, Unwatched>) -> bool
     ensures { result ≡ starts reading.is_element_word (lexemes cursor.now.tokens.now) }
 {
-    word_comes(cursor, b"N") || word_comes(cursor, b"C")
+    word_comes(cursor, b"N") || word_comes(cursor, b"C") || word_comes(cursor, b"A")
 }
 
 /// Reads an element's statement.
@@ -174,7 +206,9 @@ pub fn element_at(
 {
     if word_comes(cursor, b"N") {
         leaf_at(alloc, cursor)
-    } else {
+    } else if word_comes(cursor, b"C") {
         consolidated_at(alloc, cursor)
+    } else {
+        attribute_at(alloc, cursor)
     }
 }
