@@ -1,0 +1,5 @@
+pub mod Contents
+pub mod Statement
+pub mod Gathering
+pub mod Watching
+pub mod Answers
