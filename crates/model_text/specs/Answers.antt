@@ -12,10 +12,10 @@ use Rattle.model_text.specs.declared.fault.ModelTextCause.TheVariants as causes
 
 -- the contents are what has been read
 pub record IsGathered (contents : Contents) (s : Seen) : Type 0 where
-  pub version : contents.version ≡ s.given.version
+  pub version : contents.version ≡ s.given.parts.version
   pub dims : AllZip IsBuilt contents.dims s.blocks
-  pub cubes : contents.cubes ≡ s.given.cubes
-  pub scripts : contents.scripts ≡ s.given.scripts
+  pub cubes : contents.cubes ≡ s.given.parts.cubes
+  pub scripts : contents.scripts ≡ s.given.parts.scripts
 
 -- the bytes are a model text, in which nothing is refused, and these are its contents
 pub record IsModelText (bytes : List ℕ) (contents : Contents) : Type 0 where

@@ -1,22 +1,12 @@
 -- The grammar of a model text. Its pieces are those by which it is watched: each ends where something may be refused.
-use Rattle.std.specs.Prelude.{ℕ, List, ◌∷◌, Bool, not, ◌&&◌, ◌==◌, length, Option, Some, None, option_map, codes}
-use Rattle.std.specs.Str.{is_utf8}
+use Rattle.std.specs.Prelude.{ℕ, List, ◌∷◌, Option, Some, None, option_map, codes}
 use Rattle.cube_lex.specs.Lexeme.{Lexeme}
-use Rattle.cube_lex.specs.Quoted.{unquoted}
 use Rattle.grammar.specs.Grammar.{Grammar, done, one, either, many, ◌>>=◌, ◌>>◌}
-use Rattle.grammar.specs.Tokens.{sign, word, whole, name, text, when, is_text_kind}
-use Rattle.dim_text.specs.Statement.{unit, dimension}
+use Rattle.grammar.specs.Tokens.{sign, word, whole, name, text, file}
+use Rattle.dim_text.specs.Statement.{unit, body}
 use Rattle.model_text.specs.declared.order.OrderLine.{OrderLine}
 use Rattle.model_text.specs.declared.order.OrderWord.{OrderWord}
 use Rattle.model_text.specs.declared.order.OrderWord.TheVariants as words
-
--- UTF-8 and not empty
-abbrev pub is_file : List ℕ → Bool
-is_file bytes = is_utf8 bytes && not (length bytes == 0)
-
--- a quoted text that names a file, which gives its bytes
-abbrev pub file : Lexeme → Option (List ℕ)
-file = when (λ t. is_text_kind t.kind && is_file (unquoted t.piece)) (λ t. unquoted t.piece)
 
 -- what a token gives, with its line
 abbrev pub located : {A : Type 0} → (Lexeme → Option A) → Lexeme → Option (ℕ × A)
@@ -28,9 +18,10 @@ pub data Piece : Type 0 where
   -- a `;`
   Closing : Piece
   -- the line of the word
+  DimensionWord : ℕ → Piece
   CubeWord : ℕ → Piece
   ScriptWord : ℕ → Piece
-  -- a quoted text with its line: the name of a cube or a script, or the file of a script
+  -- a quoted text with its line: the name of a dimension, a cube or a script, or the file of a script
   Shown : ℕ → List ℕ → Piece
   -- the name of one more dimension of a cube, with its line
   CubeDimension : ℕ → List ℕ → Piece
@@ -49,6 +40,12 @@ abbrev pub closing : Grammar Lexeme Piece
 closing = do
   one (sign (codes ";"))
   done Closing
+
+-- "DIM"
+abbrev pub dimension_word : Grammar Lexeme Piece
+dimension_word = do
+  line ← one (word (codes "DIM"))
+  done (DimensionWord line)
 
 -- "CUBE"
 abbrev pub cube_word : Grammar Lexeme Piece
@@ -137,13 +134,36 @@ script_file = do
   n ← one (located file)
   done (Shown n.0 n.1)
 
+-- "DIM" name ";"
+abbrev pub dimension_head : Grammar Lexeme (Unit {0})
+dimension_head = do
+  unit dimension_word
+  unit naming
+  unit closing
+
+-- "DIM" name ";" { element } "END" ";"
+abbrev pub dimension : Grammar Lexeme (Unit {0})
+dimension = do
+  dimension_head
+  body
+
+-- "CUBE" name
+abbrev pub cube_head : Grammar Lexeme (Unit {0})
+cube_head = do
+  unit cube_word
+  unit naming
+
+-- "(" name { "," name }
+abbrev pub cube_dimensions : Grammar Lexeme (Unit {0})
+cube_dimensions = do
+  unit first_dimension
+  unit (many next_dimension)
+
 -- "CUBE" name "(" name { "," name } ")" ";" [ "RULES" file ";" ] [ "ORDER" position { "," position } ";" ] "END" ";"
 abbrev pub cube : Grammar Lexeme (Unit {0})
 cube = do
-  unit cube_word
-  unit naming
-  unit first_dimension
-  unit (many next_dimension)
+  cube_head
+  cube_dimensions
   unit cube_end
 
 -- "SCRIPT" name file ";"
@@ -154,11 +174,16 @@ script = do
   unit script_file
   unit closing
 
+-- "MODEL" whole ";"
+abbrev pub opening : Grammar Lexeme (Unit {0})
+opening = do
+  unit version
+  unit closing
+
 -- "MODEL" whole ";" { dimension } { cube } { script }
 abbrev pub model : Grammar Lexeme (Unit {0})
 model = do
-  unit version
-  unit closing
+  opening
   unit (many dimension)
   unit (many cube)
   unit (many script)
@@ -169,7 +194,7 @@ shown_text = do
   n ← one (located text)
   done (Shown n.0 n.1)
 
--- The pieces by which a model text is watched, outside of the blocks of its dimensions. Their first tokens differ, and none begins
+-- The pieces by which a model text is watched, outside of the bodies of its dimensions. Their first tokens differ, and none begins
 -- another, so a text can be cut in one way only.
 abbrev pub piece : Grammar Lexeme Piece
-piece = either version (either closing (either cube_word (either script_word (either shown_text (either first_dimension (either next_dimension cube_end))))))
+piece = either version (either closing (either dimension_word (either cube_word (either script_word (either shown_text (either first_dimension (either next_dimension cube_end)))))))
