@@ -1,0 +1,2 @@
+pub mod PieceExact
+pub mod ModelExact
