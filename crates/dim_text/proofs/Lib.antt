@@ -3,6 +3,8 @@ pub mod BlockExact
 pub mod Built
 pub mod Refusals
 pub mod Quotable
+pub mod Spells
+pub mod SpelledStatements
 pub mod Answering
 pub mod ElementLoop
 pub mod Rests

@@ -5,4 +5,5 @@ pub mod Reading
 pub mod Views
 pub mod Answers
 pub mod Writable
+pub mod Spelled
 pub mod Printed
