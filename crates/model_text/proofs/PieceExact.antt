@@ -15,7 +15,7 @@ use Rattle.dim_name.specs.Name.{is_name}
 use Rattle.std.specs.Str.Parse.{digits_value}
 use Rattle.grammar.proofs.Exact.{Exact, Always, Not, exact_one, exact_gives, exact_then, exact_both, exact_made, exact_before}
 use Rattle.grammar.proofs.Begins.{Begins, begins_one, begins_both, begins_either, begins_behind, exact_or, exact_option, exact_before_next, starts_text, starts_many, made_is}
-use Rattle.grammar.proofs.Many.{exact_all, exact_rest}
+use Rattle.grammar.proofs.Many.{Shortens, shortens, exact_all, exact_rest}
 use Rattle.grammar.proofs.Tokens.{IsValue, exact_sign, exact_word, exact_name, exact_whole_number, exact_file, sign_begins, word_begins, word_no_sign, value_no_sign, value_no_word, name_is_value, whole_is_value, file_is_value, when_picks, and_is}
 use Rattle.model_text.specs.declared.fault.ModelTextFault.{ModelTextFault}
 use Rattle.model_text.specs.declared.order.OrderLine.{OrderLine}
@@ -214,3 +214,6 @@ cube_end_exact = exact_then (exact_sign unscanned (codes ")")) (λ _. exact_then
       (λ o. exact_then (exact_word unscanned (codes "END")) (λ _. exact_then (exact_sign unscanned (codes ";")) (λ _. exact_gives free (CubeEnd r o))))
       (λ o. begins_both (word_begins (codes "END") (codes "ORDER"))))
     (λ r. begins_behind order_first (λ o. begins_both (word_begins (codes "END") (codes "RULES"))))))
+
+pub next_position_shortens : Shortens read_next_position
+next_position_shortens = shortens (is_sign (codes ",")) true (begins_both (sign_begins (codes ",") (codes ","))) next_position_exact

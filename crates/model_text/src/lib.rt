@@ -7,8 +7,10 @@
 mod fault;
 mod model;
 mod order;
+mod order_line;
 mod parts;
 mod reading;
+mod tokens;
 
 pub use fault::{ModelTextCause, ModelTextFault};
 pub use model::ModelText;
