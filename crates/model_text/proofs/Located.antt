@@ -1,7 +1,10 @@
 -- Tokens that are taken with their lines.
 use Rattle.std.proofs.Common.{◌≡◌, ℕ, List, [], ◌∷◌, Option, Some, None, option_map, Result, Ok, Err, ap, refl}
 use Rattle.cube_lex.specs.Lexeme.{Lexeme}
-use Rattle.grammar.specs.Reading.{Halt, Read, taken, take_one}
+use Rattle.grammar.specs.Cursor.{Gives}
+use Rattle.grammar.specs.Reading.{Halt, Dead, Refused, Read, taken, take_one}
+use Rattle.grammar.specs.declared.stop.Stop.{Stop}
+use Rattle.grammar.specs.declared.stop.Stop.TheVariants as stops
 use Rattle.grammar.specs.Watch.{unscanned}
 use Rattle.grammar.specs.declared.cursor.Unwatched.{Unwatched}
 use Rattle.model_text.specs.Statement.{located}
@@ -28,3 +31,9 @@ located_taken pick s (t ∷ ts) rest line a m e at = rw at (taken_with (pick t) 
 pub located_halt : {A : Type 0} (pick : Lexeme → Option A) (s : Unwatched) (ts : List Lexeme) (halt : Halt ModelTextFault) → take_one (unscanned {C = ModelTextFault}) pick s ts ≡ Err halt → take_one (unscanned {C = ModelTextFault}) (located pick) s ts ≡ Err halt
 located_halt pick s [] halt e = cc
 located_halt pick s (t ∷ ts) halt e = taken_halt (pick t) t.line s ts halt e
+
+-- where a token isn't taken
+pub located_stops : {X Y A : Type 0} (view : X → A) (other : Y → ℕ × A) (pick : Lexeme → Option A) (s m n : Unwatched) (ts left rest : List Lexeme) (stop : Stop ModelTextFault) → Gives view (Err stop) m left (take_one (unscanned {C = ModelTextFault}) pick s ts) → Gives other (Err stop) n rest (take_one (unscanned {C = ModelTextFault}) (located pick) s ts)
+located_stops view other pick s m n ts left rest stops.Memory e = tt
+located_stops view other pick s m n ts left rest (stops.Dead k) e = located_halt pick s ts (Dead k) e
+located_stops view other pick s m n ts left rest (stops.Refused fault) e = located_halt pick s ts (Refused fault) e

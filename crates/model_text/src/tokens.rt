@@ -11,6 +11,7 @@ use crate::fault::ModelTextFault;
 use cube_lex::Kind;
 use dim_name::Name;
 use grammar::{Cursor, Stop, Unwatched, file, name, whole};
+use lists::ListOf;
 use std::alloc::Global;
 
 /// The line of the next token, or 0.
@@ -37,7 +38,6 @@ pub fn number_comes(cursor: &Cursor<'_, Unwatched>) -> bool
 }
 
 /// Takes a name, and gives it with its line.
-#[tactic(auto, using(crate::proofs::Located::located_taken, crate::proofs::Located::located_halt))]
 pub fn located_name(
     alloc: Global,
     cursor: &mut Cursor<'_, Unwatched>,
@@ -51,7 +51,6 @@ pub fn located_name(
 }
 
 /// Takes a whole number, and gives it with its line.
-#[tactic(auto, using(crate::proofs::Located::located_taken, crate::proofs::Located::located_halt))]
 pub fn located_whole(cursor: &mut Cursor<'_, Unwatched>) -> Result<(u32, u32), Stop<ModelTextFault>>
     ensures { Reads (λ x. x) (take_one unscanned (located tokens.whole)) cursor.old result cursor.new }
 {
@@ -60,15 +59,25 @@ pub fn located_whole(cursor: &mut Cursor<'_, Unwatched>) -> Result<(u32, u32), S
     Ok((line, n))
 }
 
+// Takes a quoted text that names a file.
+fn file_list(
+    alloc: Global,
+    cursor: &mut Cursor<'_, Unwatched>,
+) -> Result<ListOf<u8>, Stop<ModelTextFault>>
+    ensures { Reads (λ bytes. bytes) (take_one unscanned tokens.file) cursor.old result cursor.new }
+{
+    let bytes = file(alloc, cursor)?;
+    Ok(ListOf::new(bytes))
+}
+
 /// Takes a quoted text that names a file, and gives it with its line.
-#[tactic(auto, using(crate::proofs::Located::located_taken, crate::proofs::Located::located_halt))]
 pub fn located_file(
     alloc: Global,
     cursor: &mut Cursor<'_, Unwatched>,
-) -> Result<(u32, Vec<u8>), Stop<ModelTextFault>>
-    ensures { Reads (λ x. (x.0, x.1.items)) (take_one unscanned (located tokens.file)) cursor.old result cursor.new }
+) -> Result<(u32, ListOf<u8>), Stop<ModelTextFault>>
+    ensures { Reads (λ x. x) (take_one unscanned (located tokens.file)) cursor.old result cursor.new }
 {
     let line = next_line(cursor);
-    let bytes = file(alloc, cursor)?;
+    let bytes = file_list(alloc, cursor)?;
     Ok((line, bytes))
 }
