@@ -1,3 +1,5 @@
+pub mod BlockName
+pub mod Stopping
 pub mod Gathered
 pub mod Located
 pub mod PieceExact

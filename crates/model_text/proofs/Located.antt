@@ -7,6 +7,11 @@ use Rattle.grammar.specs.declared.stop.Stop.{Stop}
 use Rattle.grammar.specs.declared.stop.Stop.TheVariants as stops
 use Rattle.grammar.specs.Watch.{unscanned}
 use Rattle.grammar.specs.declared.cursor.Unwatched.{Unwatched}
+use Rattle.std.specs.List.{All}
+use Rattle.cube_lex.specs.Lexed.{IsWellFormed}
+use Rattle.grammar.specs.Tokens.{name}
+use Rattle.dim_text.specs.Writable.{IsQuotable}
+use Rattle.dim_text.proofs.Quotable.{first_tokens, name_quotable}
 use Rattle.model_text.specs.Statement.{located}
 use Rattle.model_text.specs.Views.{head_line}
 use Rattle.model_text.specs.declared.fault.ModelTextFault.{ModelTextFault}
@@ -37,3 +42,17 @@ pub located_stops : {X Y A : Type 0} (view : X → A) (other : Y → ℕ × A) (
 located_stops view other pick s m n ts left rest stops.Memory e = tt
 located_stops view other pick s m n ts left rest (stops.Dead k) e = located_halt pick s ts (Dead k) e
 located_stops view other pick s m n ts left rest (stops.Refused fault) e = located_halt pick s ts (Refused fault) e
+
+picked : {A : Type 0} (o : Option A) (s m : Unwatched) (ts rest : List Lexeme) (a : A) → ◌≡◌ {A = Read Lexeme Unwatched ModelTextFault A} (taken o (Ok s) ts) (Ok (a, m, rest)) → o ≡ Some a
+picked None s m ts rest a e = cc
+picked (Some b) s m ts rest a e =
+    let same : b ≡ a = ap (from b) e in
+    ap (λ x. Some x) same where
+      from : {A : Type 0} → A → Read Lexeme Unwatched ModelTextFault A → A
+      from b (Ok x) = x.0
+      from b (Err halt) = b
+
+-- a name that is taken from well-formed tokens can be quoted again
+pub taken_quotable : (s m : Unwatched) (ts rest : List Lexeme) (shown : List ℕ) → take_one (unscanned {C = ModelTextFault}) name s ts ≡ Ok (shown, m, rest) → All IsWellFormed ts → IsQuotable shown
+taken_quotable s m [] rest shown e tokens = cc
+taken_quotable s m (t ∷ ts) rest shown e tokens = name_quotable.at (t ∷ []) shown (first_tokens (t ∷ []) ts tokens) (t, refl, picked (name t) s m ts rest shown e)

@@ -10,7 +10,7 @@ use Rattle.cube_lex.specs.Quoted.{unquoted}
 use Rattle.dim_name.specs.Name.{is_name}
 use Rattle.grammar.proofs.Exact.{Exact, Always, Not, Outcome, Agrees, IsRead, IsStuck, IsStopped, passes_one, passes_nothing, refuses_one, exact_then, exact_both, exact_made, exact_before}
 use Rattle.grammar.proofs.Begins.{Begins, HasToken, begins_both, begins_one, exact_before_next, has_token, starts_text, starts_many, made_is}
-use Rattle.grammar.proofs.Many.{exact_rest}
+use Rattle.grammar.proofs.Many.{Shortens, shortens, exact_rest}
 use Rattle.grammar.proofs.Checked.{exact_checked}
 use Rattle.grammar.proofs.Inside.{IsInside, exact_inside}
 use Rattle.grammar.proofs.Tokens.{sign_begins, word_begins, value_no_word, name_is_value, file_is_value, when_picks, and_is}
@@ -43,7 +43,7 @@ gathers_closing : Exact pieces (unit closing) (unit closing) gather_closing Alwa
 unfolding gather_closing
 gathers_closing = exact_made (λ _. tt) (piece_exact (λ u x h. inr (inl h)) (has_token (begins_both (sign_begins (codes ";") (codes ";")))) closing_exact)
 
-gathers_dimension_word : Exact pieces (unit dimension_word) (unit dimension_word) gather_dimension_word Always
+pub gathers_dimension_word : Exact pieces (unit dimension_word) (unit dimension_word) gather_dimension_word Always
 unfolding gather_dimension_word
 gathers_dimension_word = exact_made (λ _. tt) (piece_exact (λ u x h. inr (inr (inl h))) (has_token (begins_both (word_begins (codes "DIM") (codes "DIM")))) dimension_word_exact)
 
@@ -107,11 +107,11 @@ gathers_cube_end = exact_made (λ _. tt) (piece_exact (λ u x h. inr (inr (inr (
 
 -- Statements.
 
-opening_exact : Exact pieces opening opening read_opening Always
+pub opening_exact : Exact pieces opening opening read_opening Always
 unfolding read_opening
 opening_exact = exact_then gathers_version (λ _. gathers_closing)
 
-dimension_head_exact : Exact pieces dimension_head dimension_head read_dimension_head Always
+pub dimension_head_exact : Exact pieces dimension_head dimension_head read_dimension_head Always
 unfolding read_dimension_head
 dimension_head_exact = exact_then gathers_dimension_word (λ _. exact_then gathers_naming (λ _. gathers_closing))
 
@@ -303,3 +303,20 @@ model_exact = exact_then (outside_exact opening_exact) (λ _. exact_both dimensi
       (λ _. exact_before (λ rest ends. ends.script) (outside_exact scripts_exact))
       (λ _ v b rest l ends. scripts_follow v rest b l (codes "CUBE") refl ends.cube))
     (λ _ v b rest l ends. cubes_and_scripts_follow v rest b l ends))
+
+-- each has a token
+
+pub dimension_shortens : Shortens read_dimension
+dimension_shortens = shortens (is_word (codes "DIM")) true (dimension_begins (codes "DIM")) dimension_exact
+
+pub dimension_head_shortens : Shortens read_dimension_head
+dimension_head_shortens = shortens (is_word (codes "DIM")) true (begins_both (begins_both (begins_both (word_begins (codes "DIM") (codes "DIM"))))) dimension_head_exact
+
+pub cube_shortens : Shortens read_cube
+cube_shortens = shortens (is_word (codes "CUBE")) true (cube_begins (codes "CUBE")) cube_exact
+
+pub script_shortens : Shortens read_script
+script_shortens = shortens (is_word (codes "SCRIPT")) true (script_begins (codes "SCRIPT")) script_exact
+
+pub next_dimension_shortens : Shortens (gather (read_dimension_behind (codes ",")))
+next_dimension_shortens = shortens (is_sign (codes ",")) true next_dimension_begins next_dimension_exact

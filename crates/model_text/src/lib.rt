@@ -4,6 +4,7 @@
 //! refuses.
 #![tactic(auto)]
 
+mod cubes;
 mod dimensions;
 mod fault;
 mod model;
@@ -12,6 +13,7 @@ mod order_line;
 mod parts;
 mod pieces;
 mod reading;
+mod scripts;
 mod tokens;
 mod work;
 

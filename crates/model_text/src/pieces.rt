@@ -1,4 +1,6 @@
-ghost use Rattle.std.specs.Prelude.{◌≡◌, ◌<◌, length, OnOk, codes};
+ghost use Rattle.std.specs.Prelude.{◌≡◌, ◌<◌, length, OnOk, IfOk, All, codes};
+ghost use Rattle.cube_lex.specs.Lexed.{IsWellFormed};
+ghost use Rattle.dim_text.specs.Writable.{IsQuotable};
 ghost use Rattle.grammar.specs.Cursor.{lexemes, Reads};
 ghost use Rattle.model_text.specs.Reading as reading;
 ghost use Rattle.model_text.specs.Statement.{Version, Closing, DimensionWord, CubeWord, ScriptWord, Shown, CubeDimension};
@@ -62,7 +64,8 @@ pub fn name_at(
     alloc: Global,
     cursor: &mut Cursor<'_, Unwatched>,
 ) -> Result<(u32, Name), Stop<ModelTextFault>>
-    ensures { Reads (λ x. Shown x.0 x.1) reading.read_naming cursor.old result cursor.new }
+    ensures read { Reads (λ x. Shown x.0 x.1) reading.read_naming cursor.old result cursor.new }
+    ensures quotable { All IsWellFormed (lexemes cursor.old.tokens.now) → IfOk result (λ x. IsQuotable x.1) }
 {
     let shown = located_name(alloc, cursor)?;
     Ok(shown)

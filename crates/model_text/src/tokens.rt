@@ -1,4 +1,6 @@
-ghost use Rattle.std.specs.Prelude.{◌≡◌, ◌<◌, length, OnOk};
+ghost use Rattle.std.specs.Prelude.{◌≡◌, ◌<◌, length, OnOk, IfOk, All};
+ghost use Rattle.cube_lex.specs.Lexed.{IsWellFormed};
+ghost use Rattle.dim_text.specs.Writable.{IsQuotable};
 ghost use Rattle.grammar.specs.Cursor.{lexemes, Reads};
 ghost use Rattle.grammar.specs.Reading.{starts, take_one};
 ghost use Rattle.grammar.specs.Watch.{unscanned};
@@ -44,6 +46,7 @@ pub fn located_name(
 ) -> Result<(u32, Name), Stop<ModelTextFault>>
     ensures read { Reads (λ x. x) (take_one unscanned (located tokens.name)) cursor.old result cursor.new }
     ensures shorter { OnOk result (length cursor.new.tokens.now < length cursor.old.tokens.now) }
+    ensures quotable { All IsWellFormed (lexemes cursor.old.tokens.now) → IfOk result (λ x. IsQuotable x.1) }
 {
     let line = next_line(cursor);
     let shown = name(alloc, cursor)?;

@@ -1,4 +1,4 @@
-ghost use Rattle.std.specs.Prelude.{◌≡◌, ◌<◌, ◌≤◌, [], ◌∷◌, ◌++◌, false, length, OnOk, OnErr, IfOk};
+ghost use Rattle.std.specs.Prelude.{◌≡◌, ◌<◌, ◌≤◌, [], ◌∷◌, ◌++◌, false, length, OnOk, OnErr, IfSome};
 ghost use Rattle.dim_name.specs.Name.{place_of};
 ghost use Rattle.model_text.specs.Gathering as gathering;
 ghost use Rattle.model_text.specs.Gathering.{with_cube, with_script};
@@ -35,6 +35,14 @@ impl Model for Work {
     ghost view = { λ w. record { version = w.version; names = w.names.items; cubes = w.cubes.items; scripts = w.scripts.items } };
 
     ghost invariant = { λ w. length w.names.items ≤ 256 };
+}
+
+// Where a name stands among these.
+fn place_in(names: &[Name], name: &Name) -> Option<usize>
+    ensures place { result ≡ place_of names.now name.now }
+    ensures bound { IfSome result (λ number. number < length names.now) }
+{
+    names.iter().position(|known| name == known)
 }
 
 impl Work {
@@ -98,7 +106,7 @@ impl Work {
     pub fn dimension(&self, name: &Name) -> Option<u32>
         ensures { result ≡ place_of self.now.names name.now }
     {
-        match self.names.iter().position(|known| name == known) {
+        match place_in(&self.names, name) {
             Some(number) => Some(number as u32),
             None => None,
         }
