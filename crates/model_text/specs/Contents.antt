@@ -22,9 +22,8 @@ cube_names cubes = map (λ cube. cube.name) cubes
 abbrev pub script_names : List ScriptText → List (List ℕ)
 script_names scripts = map (λ script. script.name) scripts
 
--- the dimensions of a cube, by number: at least one, each one of so many, and none twice
+-- the dimensions of a cube, by number: each is one of so many, and none stands twice
 pub record AreDimensions (count : ℕ) (numbers : List ℕ) : Type 0 where
-  pub some : 0 < length numbers
   pub there : All (λ number. number < count) numbers
   pub distinct : IsDistinct nat_eq numbers
 

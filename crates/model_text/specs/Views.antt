@@ -5,6 +5,9 @@ use Rattle.cube_lex.specs.Lexeme.{Lexeme}
 use Rattle.grammar.specs.Reading.{Dead, Refused, Read}
 use Rattle.grammar.specs.declared.stop.Stop.{Stop}
 use Rattle.grammar.specs.declared.stop.Stop.TheVariants as stops
+use Rattle.grammar.specs.declared.answer.TextFault.{TextFault}
+use Rattle.grammar.specs.declared.answer.TextFault.TheVariants as faults
+use Rattle.model_text.specs.declared.fault.ModelTextCause.TheVariants as causes
 use Rattle.dim_text.specs.Progress.{Progress, Text, IsBuilt}
 use Rattle.dim_text.specs.declared.fault.Refusal.{Refusal}
 use Rattle.model_text.specs.Contents.{dimension_names}
@@ -70,3 +73,9 @@ GivesBlocks dims parts (Err stop) tokens read = Stops stop read
 pub record AreSame (old new : Parts) : Type 0 where
   pub version : new.version ≡ old.version
   pub names : new.names ≡ old.names
+
+-- the fault of a whole text
+abbrev pub fault_from : TextFault ModelTextFault → ModelTextFault
+fault_from faults.Memory = record { line = 0; cause = causes.Memory }
+fault_from (faults.Syntax line) = record { line = line; cause = causes.Syntax }
+fault_from (faults.Refused fault) = fault
