@@ -19,7 +19,6 @@ piece_halt P g read = ap (checked_result (gathered g)) read
 
 -- the same, where the piece isn't kept
 
-
 pub gather_ok : (P : Plain Piece) (g : Given) {h : Given} {ts rest : List Lexeme} {x : Piece} {u : Unwatched} → P (record {}) ts ≡ Ok (x, u, rest) → gathered g x ≡ Ok h → unit_of (gather P) g ts ≡ Ok (tt, h, rest)
 gather_ok P g read added = ap (λ r. bound r (λ _. gives tt)) (piece_ok P g read added)
 

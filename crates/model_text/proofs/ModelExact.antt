@@ -300,8 +300,8 @@ pub model_exact : Exact watching model model read_model Ends
 unfolding read_model
 model_exact = exact_then (outside_exact opening_exact) (λ _. exact_both dimensions_exact
     (λ _. exact_both (outside_exact cubes_exact)
-      (λ _. exact_before (λ rest ends. ends.script) (outside_exact scripts_exact))
-      (λ _ v b rest l ends. scripts_follow v rest b l (codes "CUBE") refl ends.cube))
+    (λ _. exact_before (λ rest ends. ends.script) (outside_exact scripts_exact))
+    (λ _ v b rest l ends. scripts_follow v rest b l (codes "CUBE") refl ends.cube))
     (λ _ v b rest l ends. cubes_and_scripts_follow v rest b l ends))
 
 -- each has a token

@@ -211,8 +211,8 @@ pub cube_end_exact : Exact free cube_end cube_end read_cube_end Always
 unfolding read_cube_end
 cube_end_exact = exact_then (exact_sign unscanned (codes ")")) (λ _. exact_then (exact_sign unscanned (codes ";")) (λ _. exact_before_next rules_exact
     (λ r. exact_before_next order_exact
-      (λ o. exact_then (exact_word unscanned (codes "END")) (λ _. exact_then (exact_sign unscanned (codes ";")) (λ _. exact_gives free (CubeEnd r o))))
-      (λ o. begins_both (word_begins (codes "END") (codes "ORDER"))))
+    (λ o. exact_then (exact_word unscanned (codes "END")) (λ _. exact_then (exact_sign unscanned (codes ";")) (λ _. exact_gives free (CubeEnd r o))))
+    (λ o. begins_both (word_begins (codes "END") (codes "ORDER"))))
     (λ r. begins_behind order_first (λ o. begins_both (word_begins (codes "END") (codes "RULES"))))))
 
 pub next_position_shortens : Shortens read_next_position

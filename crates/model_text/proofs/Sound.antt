@@ -34,10 +34,10 @@ record NewDimension (parts : Parts) (shown : List ℕ) : Type 0 where
   room : length parts.names < 256
   new : has_dimension parts shown ≡ false
 
-record NewCube (parts : Parts) (shown : List ℕ) (dims : List ℕ) : Type 0 where
+record NewCube (parts : Parts) (shown : List ℕ) (numbers : List ℕ) : Type 0 where
   room : length parts.cubes < 64
   new : has_cube parts shown ≡ false
-  dims : AreDimensions (length parts.names) dims
+  dims : AreDimensions (length parts.names) numbers
 
 record NewScript (parts : Parts) (shown : List ℕ) : Type 0 where
   room : length parts.scripts < 256
@@ -74,14 +74,18 @@ unless_then : (b : Bool) (line : ℕ) (cause : ModelTextCause) (parts : Parts) (
 unless_then true line cause parts current sound due = tt
 unless_then false line cause parts current sound due = record { sound = sound; due = due refl }
 
+none_distinct : {K : Type 0} (eq : K → K → Bool) → IsDistinct eq []
+unfolding IsDistinct
+none_distinct eq = tt
+
 no_dims : (n : ℕ) → AreDimensions n []
-no_dims n = record { there = All-nil _; distinct = tt }
+no_dims n = record { there = All-nil _; distinct = none_distinct nat_eq }
 
 shown_then : (parts : Parts) (line : ℕ) (shown : List ℕ) (current : Current) → IsSound parts → IsDue parts current → Then (with_shown parts line shown current)
 shown_then parts line shown Nothing sound due = record { sound = sound; due = due }
-shown_then parts line shown (DimensionDue l) sound due = unless_then (has_dimension parts shown) _ _ parts (DimensionOpen l shown) sound (λ new. record { room = due; new = new })
-shown_then parts line shown (CubeDue l) sound due = unless_then (has_cube parts shown) _ _ parts (CubeOpen l shown []) sound (λ new. record { room = due; new = new; dims = no_dims (length parts.names) })
-shown_then parts line shown (ScriptDue l) sound due = unless_then (has_script parts shown) _ _ parts (ScriptOpen l shown) sound (λ new. record { room = due; new = new })
+shown_then parts line shown (DimensionDue l) sound due = unless_then (has_dimension parts shown) line causes.Duplicate parts (DimensionOpen l shown) sound (λ new. record { room = due; new = new })
+shown_then parts line shown (CubeDue l) sound due = unless_then (has_cube parts shown) line causes.Duplicate parts (CubeOpen l shown []) sound (λ new. record { room = due; new = new; dims = no_dims (length parts.names) })
+shown_then parts line shown (ScriptDue l) sound due = unless_then (has_script parts shown) line causes.Duplicate parts (ScriptOpen l shown) sound (λ new. record { room = due; new = new })
 shown_then parts line shown (DimensionOpen l n) sound due = record { sound = sound; due = due }
 shown_then parts line shown (DimensionBody l n) sound due = record { sound = sound; due = due }
 shown_then parts line shown (CubeOpen l n dims) sound due = record { sound = sound; due = due }
@@ -90,19 +94,27 @@ shown_then parts line shown (ScriptWhole l n file) sound due = record { sound = 
 
 dimension_then : (parts : Parts) (line : ℕ) (o : Option ℕ) (current : Current) → ((k : ℕ) → o ≡ Some k → k < length parts.names) → IsSound parts → IsDue parts current → Then (with_dimension parts line o current)
 dimension_then parts line None (CubeOpen l n dims) there sound due = tt
-dimension_then parts line (Some k) (CubeOpen l n dims) there sound due = unless_then (list_any (nat_eq k) dims) _ _ parts (CubeOpen l n (dims ++ k ∷ [])) sound (λ new. record {
+dimension_then parts line (Some k) (CubeOpen l n dims) there sound due = unless_then (list_any (nat_eq k) dims) line causes.Duplicate parts (CubeOpen l n (dims ++ k ∷ [])) sound (λ new. record {
   room = due.room;
   new = due.new;
-  dims = record { there = All-push _ dims k due.dims.there (there k refl); distinct = IsDistinct-push nat_eq_equiv dims k due.dims.distinct new };
+  dims = record { there = All-push (λ number. number < length parts.names) dims k due.dims.there (there k refl); distinct = IsDistinct-push nat_eq_equiv dims k due.dims.distinct new };
 })
-dimension_then parts line o Nothing there sound due = record { sound = sound; due = due }
-dimension_then parts line o (DimensionDue l) there sound due = record { sound = sound; due = due }
-dimension_then parts line o (CubeDue l) there sound due = record { sound = sound; due = due }
-dimension_then parts line o (ScriptDue l) there sound due = record { sound = sound; due = due }
-dimension_then parts line o (DimensionOpen l n) there sound due = record { sound = sound; due = due }
-dimension_then parts line o (DimensionBody l n) there sound due = record { sound = sound; due = due }
-dimension_then parts line o (ScriptOpen l n) there sound due = record { sound = sound; due = due }
-dimension_then parts line o (ScriptWhole l n file) there sound due = record { sound = sound; due = due }
+dimension_then parts line None Nothing there sound due = record { sound = sound; due = due }
+dimension_then parts line (Some k) Nothing there sound due = record { sound = sound; due = due }
+dimension_then parts line None (DimensionDue l) there sound due = record { sound = sound; due = due }
+dimension_then parts line (Some k) (DimensionDue l) there sound due = record { sound = sound; due = due }
+dimension_then parts line None (CubeDue l) there sound due = record { sound = sound; due = due }
+dimension_then parts line (Some k) (CubeDue l) there sound due = record { sound = sound; due = due }
+dimension_then parts line None (ScriptDue l) there sound due = record { sound = sound; due = due }
+dimension_then parts line (Some k) (ScriptDue l) there sound due = record { sound = sound; due = due }
+dimension_then parts line None (DimensionOpen l n) there sound due = record { sound = sound; due = due }
+dimension_then parts line (Some k) (DimensionOpen l n) there sound due = record { sound = sound; due = due }
+dimension_then parts line None (DimensionBody l n) there sound due = record { sound = sound; due = due }
+dimension_then parts line (Some k) (DimensionBody l n) there sound due = record { sound = sound; due = due }
+dimension_then parts line None (ScriptOpen l n) there sound due = record { sound = sound; due = due }
+dimension_then parts line (Some k) (ScriptOpen l n) there sound due = record { sound = sound; due = due }
+dimension_then parts line None (ScriptWhole l n file) there sound due = record { sound = sound; due = due }
+dimension_then parts line (Some k) (ScriptWhole l n file) there sound due = record { sound = sound; due = due }
 
 name_equiv : IsEquivalence is_same_name
 name_equiv = on_equiv key_of nat_list_eq_equiv
@@ -118,10 +130,14 @@ end_then : (parts : Parts) (rules : Option (ℕ × List ℕ)) (order : Option (�
 end_then parts rules order (CubeOpen line shown dims) sound due =
     let cube : CubeText = record { line = line; name = shown; dims = dims; rules = rules; order = order } in
     record {
-      sound = record sound {
+      sound = record {
+        few_names = sound.few_names;
+        few_scripts = sound.few_scripts;
+        names = sound.names;
+        scripts = sound.scripts;
         few_cubes = one_more parts.cubes cube 64 due.room;
         cubes = subst (IsDistinct is_same_name) (sym (map-append (λ (c : CubeText). c.name) parts.cubes (cube ∷ []))) (IsDistinct-push name_equiv (cube_names parts.cubes) shown sound.cubes (any-map (is_same_name shown) (λ (c : CubeText). c.name) parts.cubes ∙ due.new));
-        cube_dims = All-push _ parts.cubes cube sound.cube_dims due.dims;
+        cube_dims = All-push (λ (c : CubeText). AreDimensions (length parts.names) c.dims) parts.cubes cube sound.cube_dims due.dims;
       };
       due = tt;
     }
@@ -139,7 +155,12 @@ closed_then parts (DimensionOpen l n) sound due = record { sound = sound; due = 
 closed_then parts (ScriptWhole line shown file) sound due =
     let script : ScriptText = record { line = line; name = shown; file = file } in
     record {
-      sound = record sound {
+      sound = record {
+        few_names = sound.few_names;
+        few_cubes = sound.few_cubes;
+        names = sound.names;
+        cubes = sound.cubes;
+        cube_dims = sound.cube_dims;
         few_scripts = one_more parts.scripts script 256 due.room;
         scripts = subst (IsDistinct is_same_name) (sym (map-append (λ (s : ScriptText). s.name) parts.scripts (script ∷ []))) (IsDistinct-push name_equiv (script_names parts.scripts) shown sound.scripts (any-map (is_same_name shown) (λ (s : ScriptText). s.name) parts.scripts ∙ due.new));
       };
@@ -174,9 +195,9 @@ version_then g line number true h = record {
 gathered_then : (g : Given) (x : Piece) → Holds g → Then (gathered g x)
 gathered_then g (Version line number) h = version_then g line number (number == 1) h
 gathered_then g Closing h = closed_then g.parts g.current h.sound h.due
-gathered_then g (DimensionWord line) h = unless_then (dimensions_are_full g.parts) _ _ g.parts (DimensionDue line) h.sound (λ e. room_256 (length g.parts.names) e)
-gathered_then g (CubeWord line) h = unless_then (cubes_are_full g.parts) _ _ g.parts (CubeDue line) h.sound (λ e. room_64 (length g.parts.cubes) e)
-gathered_then g (ScriptWord line) h = unless_then (scripts_are_full g.parts) _ _ g.parts (ScriptDue line) h.sound (λ e. room_256 (length g.parts.scripts) e)
+gathered_then g (DimensionWord line) h = unless_then (dimensions_are_full g.parts) line causes.TooMany g.parts (DimensionDue line) h.sound (λ e. room_256 (length g.parts.names) e)
+gathered_then g (CubeWord line) h = unless_then (cubes_are_full g.parts) line causes.TooMany g.parts (CubeDue line) h.sound (λ e. room_64 (length g.parts.cubes) e)
+gathered_then g (ScriptWord line) h = unless_then (scripts_are_full g.parts) line causes.TooMany g.parts (ScriptDue line) h.sound (λ e. room_256 (length g.parts.scripts) e)
 gathered_then g (Shown line shown) h = shown_then g.parts line shown g.current h.sound h.due
 gathered_then g (CubeDimension line shown) h = dimension_then g.parts line (place_of g.parts.names shown) g.current (λ k e. (position-Some (is_same_name shown) g.parts.names k [] e).0) h.sound h.due
 gathered_then g (CubeEnd rules order) h = end_then g.parts rules order g.current h.sound h.due
@@ -227,7 +248,7 @@ all_hold s t (u ∷ us) (m, p, rest) h = all_hold m t us rest (pass_holds s m u 
 
 nothing_holds : Holds nothing_seen.given
 nothing_holds = record {
-  sound = record { few_names = omega arith; few_cubes = omega arith; few_scripts = omega arith; names = tt; cubes = tt; scripts = tt; cube_dims = All-nil _ };
+  sound = record { few_names = omega arith; few_cubes = omega arith; few_scripts = omega arith; names = none_distinct is_same_name; cubes = none_distinct is_same_name; scripts = none_distinct is_same_name; cube_dims = All-nil _ };
   due = tt;
 }
 

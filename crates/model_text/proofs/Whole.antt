@@ -2,7 +2,7 @@
 use Rattle.std.proofs.Common.{◌≡◌, ℕ, ◌-◌, ◌≤◌, ◌==◌, if◌then◌else◌, List, [], ◌∷◌, length, drop, Option, Some, None, Bool, true, false, Result, Ok, Err, refl, sym, ◌∙◌, ap, subst, inl, inr}
 use Rattle.std.specs.List.{All, AllZip, IsDistinct, list_any}
 use Rattle.std.proofs.lemmas.List.{length-map}
-use Rattle.std.specs.Prelude.{nat_eq}
+use Rattle.std.specs.Prelude.{nat_eq, IfOk}
 use Rattle.cube_lex.specs.Lexed.{Lexed}
 use Rattle.cube_lex.specs.Lexeme.{Lexeme}
 use Rattle.cube_lex.specs.Reading.{IsReading}
@@ -91,14 +91,22 @@ shown_cause parts line shown (ScriptWhole l n file) = tt
 dimension_cause : (parts : Parts) (line : ℕ) (o : Option ℕ) (current : Current) → HasCause (with_dimension parts line o current)
 dimension_cause parts line None (CubeOpen l n dims) = tt
 dimension_cause parts line (Some k) (CubeOpen l n dims) = unless_cause (list_any (nat_eq k) dims) line causes.Duplicate parts _ tt
-dimension_cause parts line o Nothing = tt
-dimension_cause parts line o (DimensionDue l) = tt
-dimension_cause parts line o (CubeDue l) = tt
-dimension_cause parts line o (ScriptDue l) = tt
-dimension_cause parts line o (DimensionOpen l n) = tt
-dimension_cause parts line o (DimensionBody l n) = tt
-dimension_cause parts line o (ScriptOpen l n) = tt
-dimension_cause parts line o (ScriptWhole l n file) = tt
+dimension_cause parts line None Nothing = tt
+dimension_cause parts line (Some k) Nothing = tt
+dimension_cause parts line None (DimensionDue l) = tt
+dimension_cause parts line (Some k) (DimensionDue l) = tt
+dimension_cause parts line None (CubeDue l) = tt
+dimension_cause parts line (Some k) (CubeDue l) = tt
+dimension_cause parts line None (ScriptDue l) = tt
+dimension_cause parts line (Some k) (ScriptDue l) = tt
+dimension_cause parts line None (DimensionOpen l n) = tt
+dimension_cause parts line (Some k) (DimensionOpen l n) = tt
+dimension_cause parts line None (DimensionBody l n) = tt
+dimension_cause parts line (Some k) (DimensionBody l n) = tt
+dimension_cause parts line None (ScriptOpen l n) = tt
+dimension_cause parts line (Some k) (ScriptOpen l n) = tt
+dimension_cause parts line None (ScriptWhole l n file) = tt
+dimension_cause parts line (Some k) (ScriptWhole l n file) = tt
 
 version_cause : (g : Given) (line number : ℕ) (b : Bool) → HasCause (if b then Ok (at (record g.parts { version = number }) g.current) else refused line causes.WrongVersion)
 version_cause g line number true = tt
@@ -173,3 +181,28 @@ contents_sound bytes dims blocks parts is one names =
       scripts = sound.scripts;
       cube_dims = subst (λ n. All (λ (cube : CubeText). AreDimensions n cube.dims) parts.cubes) count sound.cube_dims;
     }
+
+settled_ok : {X : Type 0} (lexed : Lexed) (fault : Option LexFault) (read : Result X (Stop ModelTextFault)) (left : List Lexeme) (x : X) → ◌≡◌ {A = Result X (TextFault ModelTextFault)} (settled lexed fault read left) (Ok x) → ◌≡◌ {A = Result X (Stop ModelTextFault)} read (Ok x)
+settled_ok lexed None (Ok y) [] x e = let same : y ≡ x = cc in ap (λ z. Ok z) same
+settled_ok lexed (Some f) (Ok y) [] x e = cc
+settled_ok lexed None (Ok y) (t ∷ left) x e = cc
+settled_ok lexed (Some f) (Ok y) (t ∷ left) x e = cc
+settled_ok lexed fault (Err stops.Memory) left x e = cc
+settled_ok lexed fault (Err (stops.Dead n)) left x e = cc
+settled_ok lexed fault (Err (stops.Refused f)) left x e = cc
+
+abbrev contents : Parts → List Text → Contents
+contents parts dims = record { version = parts.version; dims = dims; cubes = parts.cubes; scripts = parts.scripts }
+
+told_contents : (bytes : List ℕ) (dims : List Text) (parts : Parts) → (blocks : List Progress) × IsWholeText model watching nothing_seen bytes tt (seen blocks parts) × AllZip IsBuilt dims blocks → parts.version ≡ 1 → parts.names ≡ dimension_names dims → IsModelText bytes (contents parts dims) × IsContents (contents parts dims)
+told_contents bytes dims parts (blocks, is, built) one names = (contents_of bytes dims blocks parts is built, contents_sound bytes dims blocks parts is one names)
+
+-- a text was read
+pub answer_ok : {X : Type 0} (dims : X → List Text) (parts : X → Parts) (bytes : List ℕ) (lexed : Lexed) (fault : Option LexFault) (read : Result X (Stop ModelTextFault)) (left : List Lexeme) (x : X) → IsReading bytes lexed fault → GivesBlocks dims parts read left (read_model nothing_seen lexed.lexemes) → IfOk read (λ y. (parts y).version ≡ 1) → IfOk read (λ y. (parts y).names ≡ dimension_names (dims y)) → ◌≡◌ {A = Result X (TextFault ModelTextFault)} (Ok x) (settled lexed fault read left) → IsModelText bytes (contents (parts x) (dims x)) × IsContents (contents (parts x) (dims x))
+answer_ok {X = X} dims parts bytes lexed fault read left x reading given one names e =
+    let same : ◌≡◌ {A = Result X (Stop ModelTextFault)} read (Ok x) = settled_ok lexed fault read left x (sym e) in
+    told_contents bytes (dims x) (parts x) (subst (Told dims parts bytes) (sym e) (told dims parts bytes lexed fault read left reading given)) (subst (λ r. IfOk r (λ y. (parts y).version ≡ 1)) same one) (subst (λ r. IfOk r (λ y. (parts y).names ≡ dimension_names (dims y))) same names)
+
+-- a text was refused
+pub answer_err : {X : Type 0} (dims : X → List Text) (parts : X → Parts) (bytes : List ℕ) (lexed : Lexed) (fault : Option LexFault) (read : Result X (Stop ModelTextFault)) (left : List Lexeme) (f : TextFault ModelTextFault) → IsReading bytes lexed fault → GivesBlocks dims parts read left (read_model nothing_seen lexed.lexemes) → ◌≡◌ {A = Result X (TextFault ModelTextFault)} (Err f) (settled lexed fault read left) → IsFault bytes (fault_from f).line (fault_from f).cause
+answer_err dims parts bytes lexed fault read left f reading given e = subst (Told dims parts bytes) (sym e) (told dims parts bytes lexed fault read left reading given)

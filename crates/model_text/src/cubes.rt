@@ -76,12 +76,7 @@ fn alone(alloc: Global, number: u32) -> Result<Vec<u32>, AllocError>
 }
 
 // The number of the dimension of this name, which a cube with these dimensions so far names on this line.
-fn number_of(
-    work: &Work,
-    line: u32,
-    name: &Name,
-    dims: &[u32],
-) -> Result<u32, Stop<ModelTextFault>>
+fn number_of(work: &Work, line: u32, name: &Name, dims: &[u32]) -> Result<u32, Stop<ModelTextFault>>
     ensures { (word_line : ℕ) (cube : List ℕ) → Gathers (λ number. at work.now (CubeOpen word_line cube (dims.now ++ number ∷ []))) result (gathered (at work.now (CubeOpen word_line cube dims.now)) (CubeDimension line name.now)) }
 {
     let Some(number) = work.dimension(name) else {

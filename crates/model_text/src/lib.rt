@@ -22,3 +22,6 @@ pub use model::ModelText;
 pub use order::{OrderLine, OrderWord};
 pub use parts::{CubeText, ScriptText};
 pub use reading::read;
+
+#[cfg(test)]
+mod tests;

@@ -21,10 +21,11 @@ cube-smaller c =
 
 pub cube-preserved : goal.cube-preserved
 cube-preserved c =
-    let (front, going, same) = c.cube.invariant in
-    (front ++ tt ∷ [],
+    let (front, going, same) = c.cube.invariant in (
+      front ++ tt ∷ [],
       goes_further going c.cube-test.ensures c.in_ok-cube_at.ensures.read (cube_shortens _ _ _ _ _ c.in_ok-cube_at.ensures.read) refl,
-      record { version = c.in_ok-cube_at.ensures.same.version ∙ same.version; names = c.in_ok-cube_at.ensures.same.names ∙ same.names })
+      record { version = c.in_ok-cube_at.ensures.same.version ∙ same.version; names = c.in_ok-cube_at.ensures.same.names ∙ same.names },
+    )
 
 pub returns-in_err-cube_at-clause-read : goal.returns-in_err-cube_at-clause-read
 unfolding read_cubes

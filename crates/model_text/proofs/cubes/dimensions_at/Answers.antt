@@ -16,5 +16,5 @@ pub returns : goal.returns
 returns c = λ word_line cube. (
     let (piece, read) = c.in_ok-first.ensures.read word_line cube in
     subst (GivesState (λ all. at c.args.work.now (CubeOpen word_line cube all.items)) c.further_dimensions.result (lexemes c.further_dimensions.new.cursor.tokens.now))
-      (sym (dimensions_behind_first _ _ (lexemes c.args.cursor.now.tokens.now) (lexemes c.dimension_at.new.cursor.tokens.now) piece read ∙ ap (λ ds. gather_further_dimensions (at c.args.work.now (CubeOpen word_line cube ds)) (lexemes c.dimension_at.new.cursor.tokens.now)) (sym c.in_ok-dims.ensures)))
-      (c.further_dimensions.ensures word_line cube))
+    (sym (dimensions_behind_first _ _ (lexemes c.args.cursor.now.tokens.now) (lexemes c.dimension_at.new.cursor.tokens.now) piece read ∙ ap (λ ds. gather_further_dimensions (at c.args.work.now (CubeOpen word_line cube ds)) (lexemes c.dimension_at.new.cursor.tokens.now)) (sym c.in_ok-dims.ensures)))
+    (c.further_dimensions.ensures word_line cube))

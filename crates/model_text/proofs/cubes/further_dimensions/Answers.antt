@@ -17,10 +17,12 @@ pub dimension-preserved : goal.dimension-preserved
 dimension-preserved c = λ word_line cube. (
     let (front, going) = c.dimension.invariant word_line cube in
     let (piece, read) = rw c.deref.ensures.value at (c.in_ok-number.ensures.read word_line cube) in
-    let pushed = c.in_ok-push.ensures.items in
-    (front ++ piece ∷ [], goes_further going c.dimension-test.ensures
-      (subst (λ ds. gather (read_dimension_behind (codes ",")) (at c.args.work.now (CubeOpen word_line cube c.dimension.dims.items)) (lexemes c.dimension.cursor.tokens.now) ≡ Ok (piece, at c.args.work.now (CubeOpen word_line cube ds), lexemes c.dimension_at.new.cursor.tokens.now)) (sym pushed) read)
-      (next_dimension_shortens _ _ _ _ _ read) refl))
+    let pushed = c.in_ok-push.ensures.items in (
+      front ++ piece ∷ [],
+      goes_further going c.dimension-test.ensures
+          (subst (λ ds. gather (read_dimension_behind (codes ",")) (at c.args.work.now (CubeOpen word_line cube c.dimension.dims.items)) (lexemes c.dimension.cursor.tokens.now) ≡ Ok (piece, at c.args.work.now (CubeOpen word_line cube ds), lexemes c.dimension_at.new.cursor.tokens.now)) (sym pushed) read)
+          (next_dimension_shortens _ _ _ _ _ read) refl,
+    ))
 
 pub returns-in_err-number : goal.returns-in_err-number
 unfolding gather_further_dimensions

@@ -17,9 +17,12 @@ body_at-requires-clause-tokens c = rests dimension_head_exact _ _ _ _ _ c.in_ok-
 
 pub returns-in_ok-add_dimension-in-Ok-clause-read : goal.returns-in_ok-add_dimension-in-Ok-clause-read
 returns-in_ok-add_dimension-in-Ok-clause-read c = λ blocks. (
-    let (block, read, built) = c.in-Ok.ensures.read in
-    (block, block_read blocks c.args.work.now c.add_dimension.new.self (lexemes c.args.cursor.now.tokens.now) _ _ c.in_ok-line.line c.in_ok-line.name block c.in_ok-line.ensures.read read
-      (c.in_ok-add_dimension-in-Ok.ensures.ok ∙ ap (λ n. record c.args.work.now { names = c.args.work.now.names ++ n ∷ [] }) c.in_ok-copy.ensures), built))
+    let (block, read, built) = c.in-Ok.ensures.read in (
+      block,
+      block_read blocks c.args.work.now c.add_dimension.new.self (lexemes c.args.cursor.now.tokens.now) _ _ c.in_ok-line.line c.in_ok-line.name block c.in_ok-line.ensures.read read
+          (c.in_ok-add_dimension-in-Ok.ensures.ok ∙ ap (λ n. record c.args.work.now { names = c.args.work.now.names ++ n ∷ [] }) c.in_ok-copy.ensures),
+      built,
+    ))
 
 pub returns-in_ok-add_dimension-in-Ok-clause-added : goal.returns-in_ok-add_dimension-in-Ok-clause-added
 returns-in_ok-add_dimension-in-Ok-clause-added c =

@@ -40,12 +40,14 @@ pub dimension-preserved : goal.dimension-preserved
 dimension-preserved c =
     let (front, blocks, going, built, same, tokens) = c.dimension.invariant in
     let (block, read, is) = c.in_ok-text.ensures.read blocks in
-    let pushed = c.in_ok-push.ensures.items in
-    (front ++ tt ∷ [], blocks ++ block ∷ [],
+    let pushed = c.in_ok-push.ensures.items in (
+      front ++ tt ∷ [],
+      blocks ++ block ∷ [],
       goes_further going c.dimension-test.ensures read (dimension_shortens _ _ _ _ _ read) refl,
       subst (λ ds. AllZip IsBuilt ds (blocks ++ block ∷ [])) (sym pushed) (built_last _ blocks c.in_ok-text.text block built is),
       names_step c.args.work.now _ _ _ _ c.in_ok-text.text same c.in_ok-text.ensures.added pushed,
-      c.in_ok-text.ensures.rest)
+      c.in_ok-text.ensures.rest,
+    )
 
 pub returns-in_err-text-clause-read : goal.returns-in_err-text-clause-read
 unfolding read_dimensions

@@ -21,10 +21,11 @@ script-smaller c =
 
 pub script-preserved : goal.script-preserved
 script-preserved c =
-    let (front, going, same) = c.script.invariant in
-    (front ++ tt ∷ [],
+    let (front, going, same) = c.script.invariant in (
+      front ++ tt ∷ [],
       goes_further going c.script-test.ensures c.in_ok-script_at.ensures.read (script_shortens _ _ _ _ _ c.in_ok-script_at.ensures.read) refl,
-      record { version = c.in_ok-script_at.ensures.same.version ∙ same.version; names = c.in_ok-script_at.ensures.same.names ∙ same.names })
+      record { version = c.in_ok-script_at.ensures.same.version ∙ same.version; names = c.in_ok-script_at.ensures.same.names ∙ same.names },
+    )
 
 pub returns-in_err-script_at-clause-read : goal.returns-in_err-script_at-clause-read
 unfolding read_scripts
