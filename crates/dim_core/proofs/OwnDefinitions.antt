@@ -1,11 +1,10 @@
 -- What a finished dimension has is accepted again, and finishes to the same dimension.
-use Rattle.std.proofs.Common.{◌≡◌, ℕ, zero, suc, ◌+◌, ◌<◌, ◌≤◌, ℤ, List, [], ◌∷◌, length, map, take, get_or, eqb, sum_by, unsigned_abs, nat_le, nat_lt, refl, ap, sym, ◌∙◌, subst, arith, Bool, true, false, ◌&&◌, ◌||◌, not, Some, None, All, if◌then◌else◌, option_map, position}
-use Rattle.std.specs.List.{AllZip, IsDistinct, list_all, list_any, range_with_len}
+use Rattle.std.proofs.Common.{◌≡◌, ℕ, suc, ◌+◌, ◌<◌, ◌≤◌, ℤ, List, [], ◌∷◌, length, map, take, get_or, sum_by, unsigned_abs, nat_le, nat_lt, refl, ap, sym, ◌∙◌, subst, arith, Bool, true, false, ◌&&◌, ◌||◌, not, Some, None, All, if◌then◌else◌, position}
+use Rattle.std.specs.List.{AllZip, IsDistinct, list_any}
 use Rattle.std.proofs.lemmas.Bool.Decides.{nat_tests}
 use Rattle.std.proofs.lemmas.List.{get_or-map, get_or-take, length-map, length-take, take-map}
 use Rattle.std.proofs.lemmas.List.Elements.{All-head, All-tail}
 use Rattle.std.proofs.lemmas.List.Folds.{list_any_at, list_any_none}
-use Rattle.std.proofs.lemmas.List.FromFn.{length-range_with_len, get_or-range_with_len}
 use Rattle.std.proofs.lemmas.List.Sums.{sum_by_more_le, sum_by-cons}
 use Rattle.std.proofs.lemmas.Map.Keys.{apart_from_distinct}
 use Rattle.dim_order.specs.Loops.{first_on_loop}
@@ -14,12 +13,12 @@ use Rattle.dim_order.proofs.Places.{position-none, get_or_within}
 use Rattle.dim_name.specs.Name.{has_name, is_same_name, place_of}
 use Rattle.dim_core.specs.declared.attribute.Attribute.{Attribute}
 use Rattle.dim_core.specs.declared.attribute.NamedAttribute.{NamedAttribute}
-use Rattle.dim_core.specs.declared.fault.DimFault.{DimFault}
 use Rattle.dim_core.specs.declared.fault.DimFault.TheVariants.{Duplicate, WeightRange, TooMany}
 use Rattle.dim_core.specs.Draft.{Draft, are_known, has_weights, by_index, is_repeated, is_bad_attribute, call_at, first_unknown, first_bad_attribute, first_bad_among, first_loop, IsFinished, IsResolved, IsResolvedAttribute}
 use Rattle.dim_core.specs.Outline.{Element, Outline, names_of, name_of, component_lists, components_of, component_count, is_same_attribute, IsWeight, IsDimension}
 use Rattle.dim_core.specs.Refusal.{refusal_of, first_cause, finish_refusal_of}
 use Rattle.dim_core.specs.Written.{by_name, written_element, written_attribute, written}
+use Rattle.dim_core.proofs.BadAttributes.{first_bad-none}
 use Rattle.dim_core.proofs.Naming.{same_names, same_attributes, same_number, place_at, repeated-resolved}
 use Rattle.dim_core.proofs.Resolving.{resolved_is}
 
@@ -172,15 +171,8 @@ good_attribute names distinct attributes within once k inside =
 none_bad : (names : List (List ℕ)) → IsDistinct is_same_name names → (attributes : List Attribute) → All (λ a. a.element < length names) attributes → IsDistinct is_same_attribute attributes
     → first_bad_among names (map (written_attribute names) attributes) ≡ None
 none_bad names distinct attributes within once =
-    let calls = map (written_attribute names) attributes in
-    ap (option_map (λ (place : ℕ). place + 1))
-    (position-none (λ place. is_bad_attribute names (take place calls) (call_at calls place)) (range_with_len 0 (length calls))
-    (λ k d inside.
-    let there : k < length calls = omega (arith, length-range_with_len 0 (length calls)) in
-    let here : k < length attributes = omega (arith, length-map attributes (written_attribute names)) in
-    let at : get_or (range_with_len 0 (length calls)) k d ≡ k = get_or-range_with_len 0 (length calls) k d there ∙ omega arith in
-    let P : ℕ → Type 0 = λ place. is_bad_attribute names (take place calls) (call_at calls place) ≡ false in
-    subst P (sym at) (good_attribute names distinct attributes within once k here)))
+    first_bad-none names (map (written_attribute names) attributes)
+    (λ k inside. good_attribute names distinct attributes within once k (omega (arith, length-map attributes (written_attribute names))))
 
 -- the parts of each list, counted against the names
 parts_named : (d : Outline) → IsDimension d → (e : ℕ) → All (λ c. (c.0 < length (names_of d.elements)) × IsWeight c.1) (components_of d e)

@@ -120,34 +120,38 @@ first_on_loop-free lists free =
     let here : get_or (range_with_len 0 (length lists)) k d < length lists = omega arith in
     free _ here)
 
--- an order of all elements
-module _ (lists : List (List (ℕ × ℤ))) (order : List ℕ) (ordered : IsOrder lists order) where
+-- a list of elements whose components come before them in it
+module _ (lists : List (List (ℕ × ℤ))) (list : List ℕ) (grown : IsGrown AfterAllParts lists list) where
   -- what is reached from an element stands before it
-  reached_before : (m i to : ℕ) → i < length order → is_reached lists m (get_or order i 0) to ≡ true → is_among (take i order) to ≡ true
+  reached_before : (m i to : ℕ) → i < length list → is_reached lists m (get_or list i 0) to ≡ true → is_among (take i list) to ≡ true
   reached_before zero i to inside h = absurd (cc)
   reached_before (suc m) i to inside h =
-      let some = some_of_all (λ part. eqb part.0 to || is_reached lists m part.0 to) (λ part. is_among (take i order) part.0) (parts_of lists (get_or order i 0)) h (ordered.earlier i inside) in
+      let some = some_of_all (λ part. eqb part.0 to || is_reached lists m part.0 to) (λ part. is_among (take i list) part.0) (parts_of lists (get_or list i 0)) h (grown.ready i inside) in
       by some.0.0 some.2 (either (eqb some.0.0 to) (is_reached lists m some.0.0 to) some.1) (λ j within r. reached_before m j to within r)
     where
-      by : (k : ℕ) → is_among (take i order) k ≡ true → (eqb k to ≡ true) ⊎ (is_reached lists m k to ≡ true)
-          → ((j : ℕ) → j < length order → is_reached lists m (get_or order j 0) to ≡ true → is_among (take j order) to ≡ true) → is_among (take i order) to ≡ true
-      by k before (inl here) rest = let P : ℕ → Type 0 = λ x. is_among (take i order) x ≡ true in subst P (eqb-true k to here) before
+      by : (k : ℕ) → is_among (take i list) k ≡ true → (eqb k to ≡ true) ⊎ (is_reached lists m k to ≡ true)
+          → ((j : ℕ) → j < length list → is_reached lists m (get_or list j 0) to ≡ true → is_among (take j list) to ≡ true) → is_among (take i list) to ≡ true
+      by k before (inl here) rest = let P : ℕ → Type 0 = λ x. is_among (take i list) x ≡ true in subst P (eqb-true k to here) before
       by k before (inr there) rest =
-          let at = place_in_front order i k before in
+          let at = place_in_front list i k before in
           let P : ℕ → Type 0 = λ x. is_reached lists m x to ≡ true in
-          is_among-take order at.0 i to (omega (arith, at.1)) (rest at.0 at.2 (subst P (sym at.3) there))
+          is_among-take list at.0 i to (omega (arith, at.1)) (rest at.0 at.2 (subst P (sym at.3) there))
 
-  no_loop : (e : ℕ) → e < length lists → lies_on_loop lists e ≡ false
+  -- so none of them lies on a loop
+  pub no_loop : (e : ℕ) → is_among list e ≡ true → lies_on_loop lists e ≡ false
   no_loop e there = by (lies_on_loop lists e) refl
     where
       by : (b : Bool) → lies_on_loop lists e ≡ b → b ≡ false
       by false h = refl
       by true h =
-          let at = place_among order e (ordered.each e there) in
+          let at = place_among list e there in
           let P : ℕ → Type 0 = λ x. is_reached lists (length lists) x e ≡ true in
-          let before = place_in_front order at.0 e (reached_before (length lists) at.0 e at.1 (subst P (sym at.2) h)) in
-          let apart = apart_from_distinct eqb order before.0 at.0 0 ordered.distinct before.1 at.1 in
-          not_both (eqb (get_or order before.0 0) (get_or order at.0 0)) (eq-eqb _ _ (before.3 ∙ sym at.2)) apart
+          let before = place_in_front list at.0 e (reached_before (length lists) at.0 e at.1 (subst P (sym at.2) h)) in
+          let apart = apart_from_distinct eqb list before.0 at.0 0 grown.distinct before.1 at.1 in
+          not_both (eqb (get_or list before.0 0) (get_or list at.0 0)) (eq-eqb _ _ (before.3 ∙ sym at.2)) apart
 
-  pub first_on_loop-ordered : first_on_loop lists ≡ None
-  first_on_loop-ordered = first_on_loop-free lists no_loop
+-- an order of all elements
+pub first_on_loop-ordered : (lists : List (List (ℕ × ℤ))) (order : List ℕ) → IsOrder lists order → first_on_loop lists ≡ None
+first_on_loop-ordered lists order ordered =
+    let grown : IsGrown AfterAllParts lists order = record { distinct = ordered.distinct; within = ordered.within; ready = ordered.earlier } in
+    first_on_loop-free lists (λ e there. no_loop lists order grown e (ordered.each e there))

@@ -6,4 +6,5 @@ pub mod Views
 pub mod Answers
 pub mod Writable
 pub mod Spelled
+pub mod Piece
 pub mod Printed

@@ -57,7 +57,12 @@ element_spelled e = spelled (defining e.name e.components)
 abbrev pub attribute_spelled : NamedAttribute → List Spelling
 attribute_spelled a = spelled (Attribute 0 a.element a.name a.text)
 
--- the head, the elements, the attributes and the end
+-- the elements, the attributes and the end
+abbrev pub body_spelled : Draft → List Spelling
+body_spelled draft = flat_map element_spelled draft.elements ++ (flat_map attribute_spelled draft.attributes ++ (spelled (End 0) ++ spelled Close))
+
+abbrev pub head_spelled : List ℕ → List Spelling
+head_spelled shown = spelled (Head 0 shown)
+
 abbrev pub draft_spelled : Draft → List Spelling
-draft_spelled draft = spelled (Head 0 draft.name) ++ (flat_map element_spelled draft.elements
-    ++ (flat_map attribute_spelled draft.attributes ++ (spelled (End 0) ++ spelled Close)))
+draft_spelled draft = head_spelled draft.name ++ body_spelled draft

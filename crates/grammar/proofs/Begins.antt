@@ -71,3 +71,11 @@ exact_before_next e k begins = exact_both e k (λ a v b rest l stops. starts_tex
 
 pub has_token : {T A : Type 0} {G : Grammar T A} {p : T → Bool} {b : Bool} → Begins G p b → HasToken G
 has_token e = record { at = λ u a h. (let (t, v, is, _) = e.at u a h in (t, v, is)) }
+
+optional_front : {T A : Type 0} {G : Grammar T A} {p : T → Bool} {b : Bool} (x : A) → Begins G p b → (u : List T) (a : A) → either G (done x) u a → (u ≡ []) ⊎ ((t : T) × (v : List T) × (u ≡ t ∷ v) × (p t ≡ b))
+optional_front x e u a (inl h) = inr (e.at u a h)
+optional_front x e u a (inr h) = inl h.0
+
+-- an optional text that begins so, before one that begins so
+pub begins_optional : {T A B : Type 0} {G : Grammar T A} {x : A} {K : A → Grammar T B} {p : T → Bool} {b : Bool} → Begins G p b → ((a : A) → Begins (K a) p b) → Begins (both (either G (done x)) K) p b
+begins_optional {x = x} e k = begins_behind (optional_front x e) k

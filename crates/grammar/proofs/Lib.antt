@@ -8,3 +8,5 @@ pub mod Inside
 pub mod Top
 pub mod Loops
 pub mod WholeTexts
+pub mod After
+pub mod Picks

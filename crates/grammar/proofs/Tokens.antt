@@ -193,3 +193,22 @@ capital_word_takes_words = record { kind = λ t a e. (when_picks (λ t. is_word_
 
 pub words_no_sign : {A : Type 0} {pick : Lexeme → Option A} → TakesWords pick → (b : List ℕ) → Begins (one pick) (is_sign b) false
 words_no_sign {pick = pick} is b = begins_one pick (is_sign b) false (λ t a e. no_sign t.kind (bytes_eq t.piece b) (or_first (is_word_kind t.kind) (is_text_kind t.kind) (is_number_kind t.kind) (is.kind t a e)))
+
+-- Whether a quoted text comes.
+
+kind_of : (k : Kind) → (is_sign_kind k || is_number_kind k) ≡ true → is_text_kind k ≡ false
+kind_of kinds.Word e = refl
+kind_of kinds.Number e = refl
+kind_of kinds.Text e = cc
+kind_of kinds.Sign e = refl
+
+pub text_begins : Begins (one text) (λ t. is_text_kind t.kind) true
+text_begins = begins_one text (λ t. is_text_kind t.kind) true (λ t a e. (when_picks (λ t. is_text_kind t.kind) (λ t. unquoted t.piece) t a e).0)
+
+pub sign_no_text : (a : List ℕ) → Begins (one (sign a)) (λ t. is_text_kind t.kind) false
+sign_no_text a = begins_one (sign a) (λ t. is_text_kind t.kind) false (λ t x e.
+    kind_of t.kind (first_of_two (is_sign_kind t.kind) (is_number_kind t.kind) (and_is (is_sign_kind t.kind) (bytes_eq t.piece a) (when_picks (is_sign a) (λ _. tt) t x e).0).0))
+
+pub money_no_text : Begins (one money) (λ t. is_text_kind t.kind) false
+money_no_text = begins_one money (λ t. is_text_kind t.kind) false (λ t a e.
+    kind_of t.kind (second_of_two (is_sign_kind t.kind) (is_number_kind t.kind) (money_kind (is_number_kind t.kind) (result_ok (reading_of (number_of t.piece))) a e)))

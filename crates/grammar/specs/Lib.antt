@@ -5,3 +5,5 @@ pub mod Reading
 pub mod Cursor
 pub mod Tokens
 pub mod Whole
+pub mod After
+pub mod Variables

@@ -5,6 +5,7 @@ use Rattle.std.specs.Option.{IfNone, option_map}
 use Rattle.std.proofs.lemmas.Bool.{leb-true, ltb-true, ltb-false, cases_lt}
 use Rattle.std.proofs.lemmas.List.{nil_from_length, get_or_past}
 use Rattle.std.proofs.lemmas.List.Elements.{All-from_recursion}
+use Rattle.dim_core.specs.declared.attribute.Attribute.{Attribute}
 use Rattle.dim_core.specs.declared.fault.DimFault.{DimFault}
 use Rattle.dim_core.specs.declared.fault.DimFault.TheVariants as causes
 use Rattle.dim_core.specs.Draft.{Draft, empty_draft, with_element, IsFinished, IsResolved}
@@ -49,8 +50,15 @@ element_is a b e f = ap (λ n. record { name = n; components = a.components }) e
 part_is : (a b : ℕ × ℤ) → a.0 ≡ b.0 → a.1 ≡ b.1 → a ≡ b
 part_is a b e f = ap (λ n. (n, a.1)) e ∙ ap (λ w. (b.0, w)) f
 
-outline_is : (a b : Outline) → a.name ≡ b.name → a.elements ≡ b.elements → a ≡ b
-outline_is a b e f = ap (λ n. record { name = n; elements = a.elements }) e ∙ ap (λ c. record { name = b.name; elements = c }) f
+attribute_is : (a b : Attribute) → a.element ≡ b.element → a.name ≡ b.name → a.text ≡ b.text → a ≡ b
+attribute_is a b e f g =
+    let A : ℕ → List ℕ → List ℕ → Attribute = λ e n t. record { element = e; name = n; text = t } in
+    ap (λ e. A e a.name a.text) e ∙ ap (λ n. A b.element n a.text) f ∙ ap (A b.element b.name) g
+
+outline_is : (a b : Outline) → a.name ≡ b.name → a.elements ≡ b.elements → a.attributes ≡ b.attributes → a ≡ b
+outline_is a b e f g =
+    let O : List ℕ → List (Element ℕ) → List Attribute → Outline = λ n es ts. record { name = n; elements = es; attributes = ts } in
+    ap (λ n. O n a.elements a.attributes) e ∙ ap (λ es. O b.name es a.attributes) f ∙ ap (O b.name b.elements) g
 
 resolved_one : (names : List (List ℕ)) (written : List (List ℕ × ℤ)) (a b : List (ℕ × ℤ)) → IsResolved names written a → IsResolved names written b → a ≡ b
 resolved_one names written a b = zip-one _ (λ x y z r s. part_is y z (some_is _ _ (sym r.0 ∙ s.0)) (r.1 ∙ sym s.1)) written a b
@@ -59,6 +67,7 @@ pub finished_one : (draft : Draft) (a b : Outline) → IsFinished draft a → Is
 finished_one draft a b f g =
     outline_is a b (f.name ∙ sym g.name)
     (zip-one _ (λ x y z r s. element_is y z (r.0 ∙ sym s.0) (resolved_one (names_of draft.elements) x.components y.components z.components r.1 s.1)) draft.elements a.elements b.elements f.elements g.elements)
+    (zip-one _ (λ x y z r s. attribute_is y z (some_is _ _ (sym r.0 ∙ s.0)) (r.1 ∙ sym s.1) (r.2 ∙ sym s.2)) draft.attributes a.attributes b.attributes f.attributes g.attributes)
 
 pub plain_dimension-one : (text : DimensionText) (a b : Outline) → IsPlainDimension text a → IsPlainDimension text b → a ≡ b
 plain_dimension-one text a b p q = finished_one (draft_of text) a b p.finished q.finished

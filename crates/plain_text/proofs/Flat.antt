@@ -1,17 +1,18 @@
 -- In a flat dimension each component was defined before the element that it is a component of.
-use Rattle.std.proofs.Common.{◌≡◌, ℕ, zero, suc, ◌<◌, ◌&&◌, ◌||◌, ◌==◌, ℤ, List, [], ◌∷◌, length, take, get_or, slice_index_or, Bool, true, false, not, nat_lt, nat_le, Some, refl, ap, ◌∙◌, arith, unsigned_abs}
+use Rattle.std.proofs.Common.{◌≡◌, ℕ, zero, suc, ◌<◌, ◌&&◌, ◌||◌, ◌==◌, ℤ, List, [], ◌∷◌, length, take, get_or, slice_index_or, Bool, true, false, not, nat_lt, nat_le, Some, None, refl, ap, ◌∙◌, arith, unsigned_abs}
 use Rattle.std.specs.List.{AllZip, list_any}
 use Rattle.std.proofs.lemmas.Bool.{ltb-true}
 use Rattle.std.proofs.lemmas.List.Quantifiers.{position-Some}
 use Rattle.dim_core.specs.declared.fault.DimFault.{DimFault}
 use Rattle.dim_core.specs.declared.fault.DimFault.TheVariants as causes
-use Rattle.dim_core.specs.Draft.{Draft, are_known, HasEarlierComponents, IsFinished, IsResolved}
+use Rattle.dim_core.specs.Draft.{Draft, empty_draft, with_element, are_known, first_bad_among, first_bad_attribute, HasEarlierComponents, IsFinished, IsResolved}
 use Rattle.dim_name.specs.Name.{has_name, is_same_name, place_of}
 use Rattle.dim_core.specs.Outline.{Element, Outline, component_lists, components_of, names_of}
+use Rattle.plain_text.specs.declared.element_text.DimensionText.{DimensionText}
 use Rattle.plain_text.specs.declared.fault.PlainFault.{PlainFault}
 use Rattle.plain_text.specs.declared.fault.PlainFault.TheVariants as faults
 use Rattle.plain_text.specs.Building.{plain_fault, NoneOf}
-use Rattle.plain_text.specs.PlainModel.{is_flat_part, are_flat_parts, IsFlat}
+use Rattle.plain_text.specs.PlainModel.{draft_of, with_elements, is_flat_part, are_flat_parts, IsFlat}
 use Rattle.plain_text.proofs.Defining.{both_true}
 use Rattle.plain_text.proofs.Zips.{zip-length}
 
@@ -56,6 +57,14 @@ pub flat_earlier : (draft : Draft) (d : Outline) → IsFinished draft d → IsFl
 flat_earlier draft d finished flat e within =
     let long : length d.elements ≡ length draft.elements = zip-length _ draft.elements d.elements finished.elements in
     parts_known (names_of draft.elements) d e _ _ (components_at (names_of draft.elements) draft.elements d.elements finished.elements e within) (flat e (omega (arith, long)))
+
+-- and such a draft has no attributes
+attributes-with_elements : (draft : Draft) (elements : List (Element (List ℕ))) → (with_elements draft elements).attributes ≡ draft.attributes
+attributes-with_elements draft [] = refl
+attributes-with_elements draft (e ∷ es) = attributes-with_elements (with_element draft e.name e.components) es
+
+pub no_bad_attribute : (text : DimensionText) → first_bad_attribute (draft_of text) ≡ None
+no_bad_attribute text = ap (first_bad_among (names_of (draft_of text).elements)) (attributes-with_elements (empty_draft text.name) text.elements)
 
 -- where a definition that is plain fails for want of memory alone, any other failure shows that there is none
 pub none_unless_memory : {B : Type 0} (Is : B → Type 0) (fault : DimFault) (answer : PlainFault) → answer ≡ plain_fault fault → ((b : B) → Is b → fault ≡ causes.Memory) → NoneOf answer Is

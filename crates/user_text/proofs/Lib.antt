@@ -1,0 +1,6 @@
+pub mod CellExact
+pub mod NewVariables
+pub mod LoadExact
+pub mod ViewExact
+pub mod UserExact
+pub mod Answering

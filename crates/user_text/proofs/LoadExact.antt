@@ -1,0 +1,116 @@
+-- The readers of a load are exact.
+use Rattle.std.proofs.Common.{ℕ, List, [], ◌∷◌, ◌++◌, Option, Some, None, true, false, codes, ◌∙◌, ap}
+use Rattle.cube_lex.specs.Lexeme.{Lexeme}
+use Rattle.grammar.specs.Grammar.{Grammar, one, both, done}
+use Rattle.grammar.specs.After.{many_after}
+use Rattle.grammar.specs.Reading.{starts}
+use Rattle.grammar.specs.Tokens.{sign, word, file, is_sign, is_word}
+use Rattle.grammar.proofs.Exact.{Exact, Always, Not, exact_gives, exact_then, exact_both, exact_made, exact_choose}
+use Rattle.grammar.proofs.Begins.{Begins, begins_both, begins_optional, exact_or, exact_option, starts_text}
+use Rattle.grammar.proofs.Many.{Shortens, shortens}
+use Rattle.grammar.proofs.After.{exact_rest_after}
+use Rattle.grammar.proofs.Tokens.{exact_sign, exact_word, exact_name, exact_file, exact_text, exact_whole_number, sign_begins, word_begins, text_begins, sign_no_text, money_no_text}
+use Rattle.user_text.specs.Counting.{count, counting}
+use Rattle.user_text.specs.UserText.{skip, source, value, param, with_params, load}
+use Rattle.user_text.specs.Reading.{is_text, read_skip, read_source, read_value, read_param, read_next_param, read_further_params, read_params, read_load}
+use Rattle.user_text.specs.declared.command.ParamText.{ParamText}
+use Rattle.user_text.specs.declared.command.ParamText.TheVariants as params
+use Rattle.user_text.specs.declared.command.UserBody.TheVariants as bodies
+use Rattle.user_text.specs.declared.command.UserCommand.{UserCommand}
+use Rattle.user_text.proofs.CellExact.{amount_exact, closed, closed_sign, closed_word}
+use Rattle.user_text.proofs.NewVariables.{exact_new_variable}
+
+skip_exact : Exact counting skip skip read_skip (Not (is_word (codes "SKIP")))
+unfolding read_skip
+skip_exact = exact_option (is_word (codes "SKIP")) 0 (begins_both (word_begins (codes "SKIP") (codes "SKIP"))) (exact_then (exact_word count (codes "SKIP")) (λ _. exact_whole_number count))
+
+-- what may stand behind the source
+record BehindSource (rest : List Lexeme) : Type 0 where
+  from : Not (is_word (codes "FROM")) rest
+  skip : Not (is_word (codes "SKIP")) rest
+
+-- `FROM file [ SKIP whole ]`
+abbrev given_source : Grammar Lexeme (Option (List ℕ) × ℕ)
+given_source = both (one (word (codes "FROM"))) (λ _. both (one file) (λ path. both skip (λ records. done (Some path, records))))
+
+given_source_begins : Begins given_source (is_word (codes "FROM")) true
+given_source_begins = begins_both (word_begins (codes "FROM") (codes "FROM"))
+
+source_exact : Exact counting source source read_source BehindSource
+unfolding read_source
+source_exact = exact_choose {S = Not (is_word (codes "SKIP"))} {S' = Always} {S'' = BehindSource} (is_word (codes "FROM"))
+    (exact_then (exact_word count (codes "FROM")) (λ _. exact_then (exact_file count) (λ path. exact_made (λ records. (Some path, records)) skip_exact)))
+    (exact_gives counting (None, 0))
+    (λ u a rest h stops. (starts_text given_source_begins u a rest h, stops.skip))
+    (λ u a rest nothing stops. (ap (λ x. starts (is_word (codes "FROM")) (x ++ rest)) nothing.0 ∙ stops.from, tt))
+
+value_exact : Exact counting value value read_value Always
+unfolding read_value
+value_exact = exact_or is_text (begins_both text_begins) (begins_both (begins_optional (begins_both (sign_no_text (codes "-"))) (λ negative. begins_both money_no_text)))
+    (exact_then (exact_text count) (λ bytes. exact_gives counting (params.Text bytes)))
+    (exact_then amount_exact (λ number. exact_gives counting (params.Number number)))
+
+param_exact : (before : List (List ℕ × ParamText)) → Exact counting (param before) (param before) (read_param before) Always
+unfolding read_param
+param_exact before = exact_then (exact_new_variable before) (λ variable. exact_then (exact_sign count (codes "=")) (λ _. exact_then value_exact (λ given. exact_gives counting (variable, given))))
+
+-- `, param`
+abbrev next_param : List (List ℕ × ParamText) → Grammar Lexeme (List ℕ × ParamText)
+next_param before = both (one (sign (codes ","))) (λ _. param before)
+
+next_param_exact : (before : List (List ℕ × ParamText)) → Exact counting (next_param before) (next_param before) (read_next_param before) Always
+unfolding read_next_param
+next_param_exact before = exact_then (exact_sign count (codes ",")) (λ _. param_exact before)
+
+next_param_begins : (before : List (List ℕ × ParamText)) → Begins (next_param before) (is_sign (codes ",")) true
+next_param_begins before = begins_both (sign_begins (codes ",") (codes ","))
+
+pub next_param_shortens : (before : List (List ℕ × ParamText)) → Shortens (read_next_param before)
+next_param_shortens before = shortens (is_sign (codes ",")) true (next_param_begins before) (next_param_exact before)
+
+-- what may stand behind the parameters
+record BehindParams (rest : List Lexeme) : Type 0 where
+  with_word : Not (is_word (codes "WITH")) rest
+  comma : Not (is_sign (codes ",")) rest
+
+-- `WITH param { , param }`
+abbrev given_params : Grammar Lexeme (List (List ℕ × ParamText))
+given_params = both (one (word (codes "WITH"))) (λ _. both (param []) (λ first. both (many_after next_param (first ∷ [])) (λ rest. done (first ∷ rest))))
+
+given_params_begins : Begins given_params (is_word (codes "WITH")) true
+given_params_begins = begins_both (word_begins (codes "WITH") (codes "WITH"))
+
+params_exact : Exact counting with_params with_params read_params BehindParams
+unfolding read_params read_further_params
+params_exact = exact_choose {S = Not (is_sign (codes ","))} {S' = Always} {S'' = BehindParams} (is_word (codes "WITH"))
+    (exact_then (exact_word count (codes "WITH")) (λ _. exact_then (param_exact []) (λ first. exact_made (λ rest. first ∷ rest) (exact_rest_after (is_sign (codes ",")) next_param_begins next_param_exact (first ∷ [])))))
+    (exact_gives counting [])
+    (λ u a rest h stops. (starts_text given_params_begins u a rest h, stops.comma))
+    (λ u a rest nothing stops. (ap (λ x. starts (is_word (codes "WITH")) (x ++ rest)) nothing.0 ∙ stops.with_word, tt))
+
+abbrev loaded : ℕ → List ℕ → Option (List ℕ) × ℕ → List (List ℕ × ParamText) → UserCommand
+loaded line script records variables = record { line = line; body = bodies.Load (record { script = script; file = records.0; skip = records.1; params = variables }) }
+
+-- what stands behind the source
+abbrev load_rest : ℕ → List ℕ → Option (List ℕ) × ℕ → Grammar Lexeme UserCommand
+load_rest line script records = both with_params (λ variables. closed (loaded line script records variables))
+
+rest_no_from : (line : ℕ) (script : List ℕ) (records : Option (List ℕ) × ℕ) → Begins (load_rest line script records) (is_word (codes "FROM")) false
+rest_no_from line script records = begins_optional (begins_both (word_begins (codes "WITH") (codes "FROM"))) (λ variables. closed_word (loaded line script records variables) (codes "FROM"))
+
+rest_no_skip : (line : ℕ) (script : List ℕ) (records : Option (List ℕ) × ℕ) → Begins (load_rest line script records) (is_word (codes "SKIP")) false
+rest_no_skip line script records = begins_optional (begins_both (word_begins (codes "WITH") (codes "SKIP"))) (λ variables. closed_word (loaded line script records variables) (codes "SKIP"))
+
+pub load_exact : Exact counting load load read_load Always
+unfolding read_load
+load_exact = exact_then (exact_word count (codes "LOAD")) (λ line. exact_then (exact_name count) (λ script. exact_both source_exact
+    (λ records. exact_both params_exact
+    (λ variables. exact_then (exact_sign count (codes ";")) (λ _. exact_gives counting (loaded line script records variables)))
+    (λ variables v b rest l stops. record {
+      with_word = starts_text (closed_word (loaded line script records variables) (codes "WITH")) v b rest l;
+      comma = starts_text (closed_sign (loaded line script records variables) (codes ",")) v b rest l;
+    }))
+    (λ records v b rest l stops. record {
+      from = starts_text (rest_no_from line script records) v b rest l;
+      skip = starts_text (rest_no_skip line script records) v b rest l;
+    })))

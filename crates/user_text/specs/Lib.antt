@@ -1,0 +1,4 @@
+pub mod UserText
+pub mod Counting
+pub mod Answers
+pub mod Reading

@@ -1,0 +1,163 @@
+-- The grammar of a user's text.
+use Rattle.std.specs.Prelude.{ℕ, ℤ, neg_ℤ, Bool, true, false, not, ◌&&◌, if◌then◌else◌, List, [], ◌∷◌, Option, Some, None, codes, bytes_eq}
+use Rattle.std.specs.List.{list_any}
+use Rattle.cube_lex.specs.Lexeme.{Lexeme}
+use Rattle.grammar.specs.Grammar.{Grammar, done, one, either, many, ◌>>=◌, ◌>>◌}
+use Rattle.grammar.specs.After.{many_after}
+use Rattle.grammar.specs.Tokens.{sign, word, whole, name, text, money, file, when, is_word_kind, capitals}
+use Rattle.grammar.specs.Variables.{is_variable}
+use Rattle.user_text.specs.declared.command.CellText.{CellText}
+use Rattle.user_text.specs.declared.command.ParamText.{ParamText}
+use Rattle.user_text.specs.declared.command.ParamText.TheVariants as params
+use Rattle.user_text.specs.declared.command.SetText.{SetText}
+use Rattle.user_text.specs.declared.command.UserBody.TheVariants as bodies
+use Rattle.user_text.specs.declared.command.UserCommand.{UserCommand}
+
+-- name { "," name }
+abbrev pub names : Grammar Lexeme (List (List ℕ))
+names = do
+  first ← one name
+  rest ← many (do one (sign (codes ",")); one name)
+  done (first ∷ rest)
+
+-- name "(" name { "," name } ")"
+abbrev pub cell : Grammar Lexeme CellText
+cell = do
+  cube ← one name
+  one (sign (codes "("))
+  elements ← names
+  one (sign (codes ")"))
+  done (record { cube = cube; elements = elements })
+
+-- [ "-" ]
+abbrev pub minus : Grammar Lexeme Bool
+minus = either (do one (sign (codes "-")); done true) (done false)
+
+abbrev pub signed : Bool → ℤ → ℤ
+signed negative number = if negative then neg_ℤ number else number
+
+-- [ "-" ] Number, in millionths
+abbrev pub amount : Grammar Lexeme ℤ
+amount = do
+  negative ← minus
+  number ← one money
+  done (signed negative number)
+
+-- "PUT" cell "=" [ "-" ] Number ";"
+abbrev pub put : Grammar Lexeme UserCommand
+put = do
+  line ← one (word (codes "PUT"))
+  target ← cell
+  one (sign (codes "="))
+  value ← amount
+  one (sign (codes ";"))
+  done (record { line = line; body = bodies.Put target value })
+
+-- "GET" cell ";"
+abbrev pub get : Grammar Lexeme UserCommand
+get = do
+  line ← one (word (codes "GET"))
+  target ← cell
+  one (sign (codes ";"))
+  done (record { line = line; body = bodies.Get target })
+
+-- [ "SKIP" whole ]
+abbrev pub skip : Grammar Lexeme ℕ
+skip = either (do one (word (codes "SKIP")); one whole) (done 0)
+
+-- [ "FROM" file [ "SKIP" whole ] ]
+abbrev pub source : Grammar Lexeme (Option (List ℕ) × ℕ)
+source = either (do one (word (codes "FROM")); path ← one file; records ← skip; done (Some path, records)) (done (None, 0))
+
+-- whether a parameter of this word is among these
+abbrev pub is_set : List (List ℕ × ParamText) → List ℕ → Bool
+is_set before variable = list_any (λ param. bytes_eq param.0 variable) before
+
+-- whether a parameter of this word may come behind these
+abbrev pub may_come : List (List ℕ × ParamText) → List ℕ → Bool
+may_come before variable = is_variable variable && not (is_set before variable)
+
+-- a word that may name a variable and isn't set yet, in capitals
+abbrev pub new_variable : List (List ℕ × ParamText) → Lexeme → Option (List ℕ)
+new_variable before = when (λ t. is_word_kind t.kind && may_come before (capitals t.piece)) (λ t. capitals t.piece)
+
+-- [ "-" ] Number | Text
+abbrev pub value : Grammar Lexeme ParamText
+value = either (do bytes ← one text; done (params.Text bytes)) (do number ← amount; done (params.Number number))
+
+-- Word "=" ( [ "-" ] Number | Text )
+abbrev pub param : List (List ℕ × ParamText) → Grammar Lexeme (List ℕ × ParamText)
+param before = do
+  variable ← one (new_variable before)
+  one (sign (codes "="))
+  given ← value
+  done (variable, given)
+
+-- [ "WITH" param { "," param } ]
+abbrev pub with_params : Grammar Lexeme (List (List ℕ × ParamText))
+with_params = either (do one (word (codes "WITH")); first ← param []; rest ← many_after (λ before. do one (sign (codes ",")); param before) (first ∷ []); done (first ∷ rest)) (done [])
+
+-- "LOAD" name [ "FROM" file [ "SKIP" whole ] ] [ "WITH" param { "," param } ] ";"
+abbrev pub load : Grammar Lexeme UserCommand
+load = do
+  line ← one (word (codes "LOAD"))
+  script ← one name
+  records ← source
+  variables ← with_params
+  one (sign (codes ";"))
+  done (record { line = line; body = bodies.Load (record { script = script; file = records.0; skip = records.1; params = variables }) })
+
+-- [ ":" name { "," name } ]
+abbrev pub listed : Grammar Lexeme (Option (List (List ℕ)))
+listed = either (do one (sign (codes ":")); elements ← names; done (Some elements)) (done None)
+
+-- name [ ":" name { "," name } ]
+abbrev pub set : Grammar Lexeme SetText
+set = do
+  dim ← one name
+  elements ← listed
+  done (record { dim = dim; elements = elements })
+
+-- set { "BY" set }
+abbrev pub axis : Grammar Lexeme (List SetText)
+axis = do
+  first ← set
+  rest ← many (do one (word (codes "BY")); set)
+  done (first ∷ rest)
+
+-- name ":" name
+abbrev pub point : Grammar Lexeme (List ℕ × List ℕ)
+point = do
+  dim ← one name
+  one (sign (codes ":"))
+  element ← one name
+  done (dim, element)
+
+-- [ "AT" point { "," point } ]
+abbrev pub points : Grammar Lexeme (List (List ℕ × List ℕ))
+points = either (do one (word (codes "AT")); first ← point; rest ← many (do one (sign (codes ",")); point); done (first ∷ rest)) (done [])
+
+-- [ "NOZEROS" ]
+abbrev pub nozeros : Grammar Lexeme Bool
+nozeros = either (do one (word (codes "NOZEROS")); done true) (done false)
+
+-- "VIEW" name "ROWS" axis "COLUMNS" axis [ "AT" point { "," point } ] [ "NOZEROS" ] ";"
+abbrev pub view : Grammar Lexeme UserCommand
+view = do
+  line ← one (word (codes "VIEW"))
+  cube ← one name
+  one (word (codes "ROWS"))
+  rows ← axis
+  one (word (codes "COLUMNS"))
+  columns ← axis
+  at ← points
+  without_zeros ← nozeros
+  one (sign (codes ";"))
+  done (record { line = line; body = bodies.View (record { cube = cube; rows = rows; columns = columns; points = at; nozeros = without_zeros }) })
+
+abbrev pub command : Grammar Lexeme UserCommand
+command = either put (either get (either load view))
+
+-- { command }
+abbrev pub user : Grammar Lexeme (List UserCommand)
+user = many command

@@ -1,0 +1,68 @@
+use cube_fixed::Money;
+use dim_name::Name;
+use lists::ListOf;
+
+/// A cell as a text names it: its cube, and elements in the order of the cube's dimensions.
+#[derive(Debug, Drop)]
+pub struct CellText {
+    pub cube: Name,
+    pub elements: ListOf<Name>,
+}
+
+/// What a parameter is set to.
+#[derive(Debug, Drop)]
+pub enum ParamText {
+    Number(Money),
+    /// The bytes that stand between the quotes, each doubled quote being one.
+    Text(ListOf<u8>),
+}
+
+/// A load: which script runs over which records.
+#[derive(Debug, Drop)]
+pub struct LoadText {
+    pub script: Name,
+    /// The file of the records, which is UTF-8 and not empty. Without one there are no records.
+    pub file: Option<ListOf<u8>>,
+    /// How many records at the file's beginning are passed over.
+    pub skip: u32,
+    /// The variables that are set before the script's Prolog. Words are in capitals, and each stands once.
+    pub params: ListOf<(ListOf<u8>, ParamText)>,
+}
+
+/// A set on an axis of a view.
+#[derive(Debug, Drop)]
+pub struct SetText {
+    pub dim: Name,
+    /// The elements in order; without a list, all of the dimension.
+    pub elements: Option<ListOf<Name>>,
+}
+
+/// A view: a table of cells of a cube.
+#[derive(Debug, Drop)]
+pub struct ViewText {
+    pub cube: Name,
+    /// At least one set.
+    pub rows: ListOf<SetText>,
+    /// At least one set.
+    pub columns: ListOf<SetText>,
+    /// Dimensions, each with the element at which it stands.
+    pub points: ListOf<(Name, Name)>,
+    /// Whether rows and columns of zeros are left out.
+    pub nozeros: bool,
+}
+
+/// What a command does.
+#[derive(Debug, Drop)]
+pub enum UserBody {
+    Put(CellText, Money),
+    Get(CellText),
+    Load(LoadText),
+    View(ViewText),
+}
+
+/// A command, with the line of its first word, from 1.
+#[derive(Debug, Drop)]
+pub struct UserCommand {
+    pub line: u32,
+    pub body: UserBody,
+}

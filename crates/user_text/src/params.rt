@@ -1,0 +1,165 @@
+ghost use Rattle.std.specs.Prelude.{◌≡◌, ◌<◌, ◌^◌, length, IfOk};
+ghost use Rattle.cube_lex.specs.Lexeme.{lexeme_of};
+ghost use Rattle.grammar.specs.Cursor.{Reads};
+ghost use Rattle.grammar.specs.Reading.{starts, take_one};
+ghost use Rattle.grammar.specs.Cursor.{lexemes};
+ghost use Rattle.user_text.specs.Counting.{count};
+ghost use Rattle.user_text.specs.Reading as reading;
+ghost use Rattle.user_text.specs.UserText as user_text;
+
+use crate::cell::amount_at;
+use crate::command::ParamText;
+use crate::counted::Counted;
+use crate::fault::TooMany;
+use cube_lex::{Kind, Token};
+use grammar::{Cursor, Stop, is_variable, sign, sign_comes, text, word, word_comes};
+use lists::ListOf;
+use std::alloc::{AllocError, Global};
+
+/// Whether a parameter of this word is among these.
+fn is_set(before: &[(ListOf<u8>, ParamText)], variable: &[u8]) -> bool
+    ensures { result ≡ user_text.is_set before.now variable.now }
+{
+    before.iter().any(|param| param.0.as_slice() == variable)
+}
+
+/// Whether a parameter of this word, in capitals, may come behind these.
+fn may_come(before: &[(ListOf<u8>, ParamText)], variable: &[u8]) -> bool
+    ensures { result ≡ user_text.may_come before.now variable.now }
+{
+    is_variable(variable) && !is_set(before, variable)
+}
+
+/// The parameter's word that a token is, in capitals, if one may come behind these.
+fn variable_of(
+    alloc: Global,
+    token: &Token<'_>,
+    before: &[(ListOf<u8>, ParamText)],
+) -> Result<Option<ListOf<u8>>, AllocError>
+    ensures { IfOk result (λ variable. variable ≡ user_text.new_variable before.now (lexeme_of token.now)) }
+{
+    let variable = token.piece.to_ascii_uppercase(alloc)?;
+    match token.kind {
+        Kind::Word if may_come(before, variable.as_slice()) => Ok(Some(ListOf::new(variable))),
+        _ => Ok(None),
+    }
+}
+
+/// Takes a parameter's word, which is none of those before, and gives it in capitals.
+fn new_variable(
+    alloc: Global,
+    cursor: &mut Cursor<'_, Counted>,
+    before: &[(ListOf<u8>, ParamText)],
+) -> Result<ListOf<u8>, Stop<TooMany>>
+    ensures { Reads (λ variable. variable) (take_one count (user_text.new_variable before.now)) cursor.old result cursor.new }
+{
+    let Some(token) = cursor.peek() else {
+        return Err(cursor.dead());
+    };
+    match variable_of(alloc, &token, before)? {
+        Some(variable) => {
+            cursor.advance()?;
+            Ok(variable)
+        }
+        None => Err(cursor.dead()),
+    }
+}
+
+/// Whether a quoted text comes.
+fn text_comes(cursor: &Cursor<'_, Counted>) -> bool
+    ensures { result ≡ starts reading.is_text (lexemes cursor.now.tokens.now) }
+{
+    match cursor.peek() {
+        Some(token) => match token.kind {
+            Kind::Text => true,
+            _ => false,
+        },
+        None => false,
+    }
+}
+
+/// Reads what a parameter is set to.
+#[tactic(auto, unfolding(crate::specs::Reading::read_value))]
+fn value_at(alloc: Global, cursor: &mut Cursor<'_, Counted>) -> Result<ParamText, Stop<TooMany>>
+    ensures { Reads (λ value. value) reading.read_value cursor.old result cursor.new }
+{
+    if text_comes(cursor) {
+        let bytes = text(alloc, cursor)?;
+        Ok(ParamText::Text(ListOf::new(bytes)))
+    } else {
+        let number = amount_at(cursor)?;
+        Ok(ParamText::Number(number))
+    }
+}
+
+/// Reads a parameter, whose word is none of those before.
+#[tactic(auto, unfolding(crate::specs::Reading::read_param))]
+fn param_at(
+    alloc: Global,
+    cursor: &mut Cursor<'_, Counted>,
+    before: &[(ListOf<u8>, ParamText)],
+) -> Result<(ListOf<u8>, ParamText), Stop<TooMany>>
+    ensures { Reads (λ param. param) (reading.read_param before.now) cursor.old result cursor.new }
+{
+    let variable = new_variable(alloc, cursor, before)?;
+    sign(cursor, b"=")?;
+    let value = value_at(alloc, cursor)?;
+    Ok((variable, value))
+}
+
+/// Reads a further parameter, behind its `,`.
+#[tactic(auto, unfolding(crate::specs::Reading::read_next_param))]
+fn next_param_at(
+    alloc: Global,
+    cursor: &mut Cursor<'_, Counted>,
+    before: &[(ListOf<u8>, ParamText)],
+) -> Result<(ListOf<u8>, ParamText), Stop<TooMany>>
+    ensures { Reads (λ param. param) (reading.read_next_param before.now) cursor.old result cursor.new }
+{
+    sign(cursor, b",")?;
+    param_at(alloc, cursor, before)
+}
+
+/// How many tokens are left. No text has as many as the reader has turns.
+fn tokens_left(cursor: &Cursor<'_, Counted>) -> usize
+    ensures count { result ≡ length cursor.now.tokens.now }
+    ensures room { length cursor.now.tokens.now < 2 ^ 64 }
+{
+    cursor.tokens.len()
+}
+
+/// Reads the parameters behind the first.
+#[tactic(auto, unfolding(crate::specs::Reading::read_further_params))]
+fn further_params(
+    alloc: Global,
+    cursor: &mut Cursor<'_, Counted>,
+    first: (ListOf<u8>, ParamText),
+) -> Result<ListOf<(ListOf<u8>, ParamText)>, Stop<TooMany>>
+    ensures { Reads (λ params. params) (reading.read_further_params first) cursor.old result cursor.new }
+{
+    let mut params = Vec::new(alloc);
+    params.push(first)?;
+    let _left = tokens_left(cursor);
+    'param: while sign_comes(cursor, b",") {
+        let param = next_param_at(alloc, cursor, &params)?;
+        params.push(param)?;
+    }
+    Ok(ListOf::new(params))
+}
+
+/// Reads the parameters of a load, if there are any.
+#[tactic(auto, unfolding(crate::specs::Reading::read_params))]
+pub fn params_at(
+    alloc: Global,
+    cursor: &mut Cursor<'_, Counted>,
+) -> Result<ListOf<(ListOf<u8>, ParamText)>, Stop<TooMany>>
+    ensures { Reads (λ params. params) reading.read_params cursor.old result cursor.new }
+{
+    if word_comes(cursor, b"WITH") {
+        word(cursor, b"WITH")?;
+        let first = param_at(alloc, cursor, &[])?;
+        further_params(alloc, cursor, first)
+    } else {
+        Ok(ListOf::new(Vec::new(alloc)))
+    }
+}

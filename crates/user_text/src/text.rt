@@ -1,0 +1,77 @@
+ghost use Rattle.std.specs.Prelude.{◌≡◌, ◌≤◌};
+ghost use Rattle.grammar.specs.Cursor.{lexemes, Reads};
+ghost use Rattle.grammar.specs.Reading.{starts};
+ghost use Rattle.user_text.specs.Answers.{Answers};
+ghost use Rattle.user_text.specs.Reading as reading;
+
+use crate::cell::{get_at, put_at};
+use crate::command::UserCommand;
+use crate::counted::Counted;
+use crate::fault::{TooMany, UserFault};
+use crate::load::load_at;
+use crate::view::view_at;
+use cube_lex::tokens_until;
+use grammar::{Cursor, Stop, TextFault, settled, word_comes};
+use std::alloc::Global;
+
+// Whether a command comes.
+fn command_comes(cursor: &Cursor<'_, Counted>) -> bool
+    ensures { result ≡ starts reading.is_command_word (lexemes cursor.now.tokens.now) }
+{
+    word_comes(cursor, b"PUT")
+        || word_comes(cursor, b"GET")
+        || word_comes(cursor, b"LOAD")
+        || word_comes(cursor, b"VIEW")
+}
+
+// Reads a command.
+#[tactic(auto, unfolding(crate::specs::Reading::read_command))]
+fn command_at(alloc: Global, cursor: &mut Cursor<'_, Counted>) -> Result<UserCommand, Stop<TooMany>>
+    ensures { Reads (λ command. command) reading.read_command cursor.old result cursor.new }
+{
+    if word_comes(cursor, b"PUT") {
+        put_at(alloc, cursor)
+    } else if word_comes(cursor, b"GET") {
+        get_at(alloc, cursor)
+    } else if word_comes(cursor, b"LOAD") {
+        load_at(alloc, cursor)
+    } else {
+        view_at(alloc, cursor)
+    }
+}
+
+// Reads commands as long as they come.
+#[tactic(auto, unfolding(crate::specs::Reading::read_user))]
+fn commands_at(
+    alloc: Global,
+    cursor: &mut Cursor<'_, Counted>,
+) -> Result<Vec<UserCommand>, Stop<TooMany>>
+    ensures { Reads (λ commands. commands.items) reading.read_user cursor.old result cursor.new }
+{
+    let mut commands = Vec::new(alloc);
+    'command: while command_comes(cursor) {
+        let command = command_at(alloc, cursor)?;
+        commands.push(command)?;
+    }
+    Ok(commands)
+}
+
+/// Reads the commands of a user's text. The users before have `before` commands; all users together may have 65,536.
+pub fn parse(alloc: Global, text: &[u8], before: u32) -> Result<Vec<UserCommand>, UserFault>
+    requires { before ≤ 65536 }
+    ensures { Answers (λ commands. commands.items) text.now before result }
+{
+    let (tokens, fault) = tokens_until(alloc, text)?;
+    let start = Counted {
+        commands: before,
+        inside: false,
+    };
+    let mut cursor = Cursor::new(tokens.as_slice(), start);
+    let read = commands_at(alloc, &mut cursor);
+    match settled(&tokens, fault, read, &cursor) {
+        Ok(commands) => Ok(commands),
+        Err(TextFault::Memory) => Err(UserFault::Memory),
+        Err(TextFault::Syntax(line)) => Err(UserFault::Syntax(line)),
+        Err(TextFault::Refused(TooMany { line })) => Err(UserFault::TooMany(line)),
+    }
+}
