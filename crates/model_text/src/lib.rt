@@ -1,0 +1,27 @@
+//! Model files: the dimensions, cubes and scripts of a model.
+//!
+//! Read in this order: [`read`], which reads the bytes of a model file; [`ModelText`], what it gives; [`ModelTextFault`], why it
+//! refuses.
+#![tactic(auto)]
+
+mod cubes;
+mod dimensions;
+mod fault;
+mod model;
+mod order;
+mod order_line;
+mod parts;
+mod pieces;
+mod reading;
+mod scripts;
+mod tokens;
+mod work;
+
+pub use fault::{ModelTextCause, ModelTextFault};
+pub use model::ModelText;
+pub use order::{OrderLine, OrderWord};
+pub use parts::{CubeText, ScriptText};
+pub use reading::read;
+
+#[cfg(test)]
+mod tests;
