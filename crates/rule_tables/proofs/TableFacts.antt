@@ -1,7 +1,6 @@
 -- The statements of tables one by one, and the rows of cells.
-use Rattle.std.proofs.Common.{◌≡◌, refl, sym, ◌∙◌, ap, arith, below_more, length-append, ℕ, zero, suc, ◌+◌, ◌*◌, ◌<◌, ◌≤◌, ◌++◌, Bool, true, false, ◌&&◌, cond, List, [], ◌∷◌, length, map, drop, drop-cons, get_or, add-one, Option, None, Some}
-use Rattle.std.specs.Prelude.{find, is_some, option_and_then, slice_get, nat_lt, ◌==◌}
-use Rattle.std.specs.List.{list_all}
+use Rattle.std.proofs.Common.{◌≡◌, refl, sym, ◌∙◌, ap, arith, below_more, length-append, ℕ, zero, suc, ◌+◌, ◌*◌, ◌<◌, ◌≤◌, ◌++◌, Bool, true, false, List, [], ◌∷◌, length, drop, drop-cons, get_or, add-one, Option, None, Some}
+use Rattle.std.specs.Prelude.{slice_get, nat_lt, ◌==◌}
 use Rattle.std.specs.Bool.{if◌then◌else◌}
 use Rattle.std.specs.Option.{option_or}
 use Rattle.std.proofs.lemmas.List.{at_drop_all}
@@ -13,7 +12,7 @@ use Rattle.equations.specs.Equations.{round}
 use Rattle.cube_fixed.specs.declared.value.Value.{Value}
 use Rattle.cube_fixed.specs.Arithmetic.{zero_value}
 use Rattle.rule_laws.specs.Meaning.{formula_value}
-use Rattle.rule_laws.specs.RuleSystem.{RuleSystem, Rule, part_of, applies, can_govern, formula_of, base, named, right_side, dense_value}
+use Rattle.rule_laws.specs.RuleSystem.{RuleSystem, part_of, formula_of, base, right_side, dense_value}
 use Rattle.rule_laws.proofs.SystemFacts.{both}
 use Rattle.rule_tables.specs.declared.tables.CellRow.{CellRow}
 use Rattle.rule_tables.specs.declared.tables.StatementRow.{StatementRow}

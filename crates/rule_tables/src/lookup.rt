@@ -43,6 +43,17 @@ pub fn cube_of(tables: &RuleTables, cell: u64) -> u32
     }
 }
 
+/// Whether the rules of a cube say `SKIPCHECK`.
+#[tactic(auto, unfolding(crate::specs::Tables::system_of))]
+pub fn skips_check(tables: &RuleTables, cube: u32) -> bool
+    ensures { result ≡ (system_of tables.now).skips_check cube }
+{
+    match tables.skips_check.as_slice().get(cube as usize) {
+        Some(skips) => *skips,
+        None => false,
+    }
+}
+
 /// What is stored in a cell.
 #[tactic(auto, unfolding(crate::specs::Tables::system_of))]
 pub fn stored(tables: &RuleTables, cell: u64) -> Option<Money>
@@ -57,9 +68,8 @@ pub fn stored(tables: &RuleTables, cell: u64) -> Option<Money>
 /// The leaf cells below a cell, with their weights.
 #[tactic(auto, unfolding(crate::specs::Tables::system_of), using(crate::proofs::TableFacts::small_row))]
 pub fn below(tables: &RuleTables, cell: u64) -> &[(u64, i64)]
-    requires { has_small_sums tables.now.cells ≡ true }
     ensures value { result.now ≡ (system_of tables.now).below cell }
-    ensures small { is_small_sum result.now ≡ true }
+    ensures small { has_small_sums tables.now.cells ≡ true → is_small_sum result.now ≡ true }
 {
     match row_of(tables.cells.as_slice(), cell) {
         Some(row) => row.below.as_slice(),

@@ -1,4 +1,4 @@
-use crate::{CellRow, FeederRow, RuleTables, StatementRow, dense_value, has_small_sums};
+use crate::{CellRow, FeederRow, RuleTables, StatementRow, dense_value, fed_cells, has_small_sums};
 use cube_fixed::{Money, Value};
 use lists::ListOf;
 use rule_laws::{Arg, Formula, Op, Reference};
@@ -84,17 +84,28 @@ fn rank(month: u8, measure: u8) -> u32 {
     of_month * 3 + of_measure
 }
 
+// What is typed in: month, measure, and the number in millionths.
 // January: 10 units at a price of 10 and a cost of 60. February: 5 units.
-fn stored(month: u8, measure: u8) -> Option<Money> {
-    match (month, measure) {
-        (JAN, UNITS) | (JAN, PRICE) => Money::of(10_000_000),
-        (JAN, COST) => Money::of(60_000_000),
-        (FEB, UNITS) => Money::of(5_000_000),
-        _ => None,
+const TYPED_IN: [(u8, u8, i64); 4] = [
+    (JAN, UNITS, 10_000_000),
+    (JAN, PRICE, 10_000_000),
+    (JAN, COST, 60_000_000),
+    (FEB, UNITS, 5_000_000),
+];
+
+// January: 10 units. February: a price of 4.
+const TWO_TYPED_IN: [(u8, u8, i64); 2] = [(JAN, UNITS, 10_000_000), (FEB, PRICE, 4_000_000)];
+
+fn stored(typed_in: &[(u8, u8, i64)], month: u8, measure: u8) -> Option<Money> {
+    for (typed_month, typed_measure, millionths) in typed_in {
+        if *typed_month == month && *typed_measure == measure {
+            return Money::of(*millionths);
+        }
     }
+    None
 }
 
-fn cells(alloc: Global) -> Result<ListOf<CellRow>, AllocError> {
+fn cells(alloc: Global, typed_in: &[(u8, u8, i64)]) -> Result<ListOf<CellRow>, AllocError> {
     let mut rows = Vec::new(alloc);
     for number in 0..CELLS {
         let (month, measure) = (number / MEASURES, number % MEASURES);
@@ -102,7 +113,7 @@ fn cells(alloc: Global) -> Result<ListOf<CellRow>, AllocError> {
             cube: 0,
             components: components(alloc, month, measure)?,
             below: below(alloc, month, measure)?,
-            stored: stored(month, measure),
+            stored: stored(typed_in, month, measure),
             rank: rank(month, measure),
         })?;
     }
@@ -233,11 +244,15 @@ fn feeders(alloc: Global) -> Result<ListOf<FeederRow>, AllocError> {
     Ok(ListOf::new(rows))
 }
 
-fn three_months(alloc: Global) -> Result<RuleTables, AllocError> {
+fn three_months(
+    alloc: Global,
+    typed_in: &[(u8, u8, i64)],
+    says_skipcheck: bool,
+) -> Result<RuleTables, AllocError> {
     let mut skips_check = Vec::new(alloc);
-    skips_check.push(true)?;
+    skips_check.push(says_skipcheck)?;
     Ok(RuleTables {
-        cells: cells(alloc)?,
+        cells: cells(alloc, typed_in)?,
         skips_check: ListOf::new(skips_check),
         statements: statements(alloc)?,
         feeders: feeders(alloc)?,
@@ -268,12 +283,40 @@ const VALUES: [(u8, u8, i64); 17] = [
 
 #[test]
 fn three_months_have_the_values_worked_out_by_hand(rt: HostRuntime) -> Result<(), Fail> {
-    let tables = three_months(rt.alloc())?;
+    let tables = three_months(rt.alloc(), &TYPED_IN, true)?;
     assert!(rt; has_small_sums(tables.cells.as_slice()));
     for (month, measure, millionths) in VALUES {
         let expected = Value::Num(Money::of(millionths).ok_or("out of range")?);
         let value = dense_value(rt.alloc(), &tables, cell(month, measure))?;
         assert_eq!(rt; value, expected, "month {month}, measure {measure}");
     }
+    Ok(())
+}
+
+// A chain goes on from month to month, and back from March, where Q1 stands for all three months. A price feeds nothing.
+#[test]
+fn chains_of_feeds_reach_the_cells_worked_out_by_hand(rt: HostRuntime) -> Result<(), Fail> {
+    let tables = three_months(rt.alloc(), &TWO_TYPED_IN, true)?;
+    let seven = [
+        cell(JAN, SALES),
+        cell(JAN, OPENING),
+        cell(JAN, CLOSING),
+        cell(FEB, OPENING),
+        cell(FEB, CLOSING),
+        cell(MAR, OPENING),
+        cell(MAR, CLOSING),
+    ];
+    assert_eq!(rt;
+        fed_cells(rt.alloc(), &tables)?.as_slice(),
+        seven.as_slice()
+    );
+
+    // With units in February too, the Sales of February are fed besides.
+    let tables = three_months(rt.alloc(), &TYPED_IN, true)?;
+    assert_eq!(rt; fed_cells(rt.alloc(), &tables)?.len(), 8);
+
+    // Without SKIPCHECK all leaf cells are fed: seven measures in each of three months, since Margin is a total.
+    let tables = three_months(rt.alloc(), &TWO_TYPED_IN, false)?;
+    assert_eq!(rt; fed_cells(rt.alloc(), &tables)?.len(), 21);
     Ok(())
 }
