@@ -1,0 +1,2 @@
+mod SessionFacts
+mod Totals

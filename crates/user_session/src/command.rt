@@ -1,0 +1,11 @@
+use cube_fixed::Money;
+use user_text::CellText;
+
+/// A command that is run on a version of the stored cells.
+#[derive(Debug, Drop)]
+pub enum PlanCommand {
+    /// Stores this number in a cell. Only leaf cells are stored.
+    Put(CellText, Money),
+    /// Asks for the value of a cell.
+    Get(CellText),
+}
