@@ -1,5 +1,5 @@
 use Rattle.dim_core.specs.Outline.{Outline}
-use Rattle.std.proofs.Common.{◌∙◌, ◌-◌, ◌+◌, List, ℕ, ap, sym, take, drop, length}
+use Rattle.std.proofs.Common.{◌∙◌, ◌-◌, ◌+◌, ap, sym, take, drop, length}
 use Rattle.std.specs.List.{list_any}
 use Rattle.dim_name.specs.Name.{is_same_name}
 use Rattle.cube_space.proofs.Distinct.{IsDistinct-none, IsDistinct-turn}

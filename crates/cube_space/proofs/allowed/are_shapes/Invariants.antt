@@ -1,4 +1,4 @@
-use Rattle.std.proofs.Common.{◌<◌, All, length, nat_eq, take}
+use Rattle.std.proofs.Common.{◌<◌, All, nat_eq, take}
 use Rattle.std.specs.List.{IsDistinct}
 use Rattle.cube_space.specs.declared.shape.CubeShape.{CubeShape}
 use Rattle.cube_space.proofs.allowed.are_shapes.Given as goal
