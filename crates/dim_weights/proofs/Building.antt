@@ -54,6 +54,7 @@ module _ (d : Outline) (dim : IsDimension d) (order : List ℕ) (ordered : IsOrd
     where
       inside : get_or order i 0 < length levels
       inside = omega (arith, order-within d order i ordered within, whole)
+
       by : (b : Bool) → eqb k (get_or order i 0) ≡ b → (is_among (take i order) k ≡ true) ⊎ (k ≡ get_or order i 0) → slice_index (set levels (get_or order i 0) v) k ≡ level d k
       by true e place =
           let same = eqb-true k (get_or order i 0) e in

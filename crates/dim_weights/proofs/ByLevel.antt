@@ -107,6 +107,7 @@ module _ (key : ℕ → ℕ) (xs ys : List ℕ) (stable : (x : ℕ) → filter (
     where
       to : (x : ℕ) → key x ≡ k → of_key key ys k ≡ of_key key xs k
       to x same = let P : ℕ → Type 0 = λ n. of_key key ys n ≡ of_key key xs n in subst P same (at-element x)
+
       by : (us vs : List ℕ) → of_key key xs k ≡ us → of_key key ys k ≡ vs → of_key key ys k ≡ of_key key xs k
       by (x ∷ us) vs e f = to x (eqb-true (key x) k (head-passes (λ w. eqb (key w) k) xs x us e))
       by [] (y ∷ vs) e f = to y (eqb-true (key y) k (head-passes (λ w. eqb (key w) k) ys y vs f))

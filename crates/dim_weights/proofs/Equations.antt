@@ -157,10 +157,10 @@ module _ (d : Outline) (dim : IsDimension d) where
   level-low zero element here below = absurd (omega arith)
   level-low (suc n) element here below =
       let over = level_over-le (level d) (depth d dim element) (length d.elements) (take (depth d dim element) dim.order) (components_of d element) (parts-earlier d dim element here) (dim.parts element)
-          (λ x within among.
-          let first = depth-earlier d dim element x among in
-          let low = level-low n x within (omega arith) in
-          omega arith) in
+      (λ x within among.
+      let first = depth-earlier d dim element x among in
+      let low = level-low n x within (omega arith) in
+      omega arith) in
       let same = level-solves d dim element here in
       omega arith
 

@@ -83,6 +83,7 @@ module _ (d : Outline) (dim : IsDimension d) (elements : List ℕ) (by : IsByLev
     where
       element : ℕ
       element = get_or elements i 0
+
       before : All (λ part. is_among (take i elements) part.0 ≡ true) (components_of d (get_or elements i 0))
       before k e there =
           let here : get_or elements i 0 < length d.elements = by.within i 0 within in
@@ -132,6 +133,7 @@ module _ (d : Outline) (dim : IsDimension d) (elements : List ℕ) (by : IsByLev
     where
       row : pairs_over (length d.elements) made.rows (get_or elements i 0) (components_of d (get_or elements i 0)) ≡ leaves_of d (get_or elements i 0)
       row = row-is made.rows i within are.each
+
       pick : (x : ℕ) (b : Bool) → eqb x (get_or elements i 0) ≡ b → (is_among (take i elements) x ≡ true) ⊎ (x ≡ get_or elements i 0)
           → leaves_in (set made.rows (get_or elements i 0) (pairs_over (length d.elements) made.rows (get_or elements i 0) (components_of d (get_or elements i 0)))) x ≡ leaves_of d x
       pick x true e place =

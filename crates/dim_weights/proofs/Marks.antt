@@ -43,6 +43,7 @@ module _ (sums : List ℤ) (marked : List Bool) (touched : List ℕ) (leaf : ℕ
     where
       inside : leaf < length marked
       inside = omega (arith, is.whole)
+
       once : (k : ℕ) → count_by (eqb k) (cond (get_or marked leaf false) touched (touched ++ leaf ∷ [])) ≡ cond (get_or (set marked leaf true) k false) 1 0
       once k = by (eqb k leaf) refl
         where
@@ -55,6 +56,7 @@ module _ (sums : List ℤ) (marked : List Bool) (touched : List ℕ) (leaf : ℕ
           by false e =
               let other : k ≢ leaf = (λ same. let t = eq-eqb k leaf same in cc) in
               once-other k other (get_or marked leaf false) ∙ (is.once k ∙ ap one_if (sym (get_or-set_other marked leaf k true false other)))
+
       rest : (k : ℕ) → get_or (set marked leaf true) k false ≡ false → sum_at (set sums leaf v) k ≡ pos 0
       rest k none = by (eqb k leaf) refl
         where

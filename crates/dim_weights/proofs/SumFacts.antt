@@ -111,11 +111,11 @@ pub parts-room : (n : ℕ) (rows : List (List (ℕ × ℤ))) (parts : List (ℕ 
     → unsigned_abs (weighted_sum (λ part. share (leaves_in rows part) leaf) (take i parts)) ≤ 10000000000000000000000000000
 parts-room n rows parts i leaf are is =
     let size = weighted_sum-size (λ part. share (leaves_in rows part) leaf) 4000000000000000 (λ x. share-bound n (leaves_in rows x) leaf (are x)) (take i parts)
-        (λ k d within.
-        let long : k < min i (length parts) = rw length-take at within in
-        let same : get_or (take i parts) k d ≡ get_or parts k d = get_or-take i parts k d (omega arith) in
-        let P : ℕ × ℤ → Type 0 = λ p. IsWeight p.1 in
-        subst P (sym same) (is.within k d (omega arith)).1) in
+    (λ k d within.
+    let long : k < min i (length parts) = rw length-take at within in
+    let same : get_or (take i parts) k d ≡ get_or parts k d = get_or-take i parts k d (omega arith) in
+    let P : ℕ × ℤ → Type 0 = λ p. IsWeight p.1 in
+    subst P (sym same) (is.within k d (omega arith)).1) in
     let few : length (take i parts) ≤ 1000000 = omega (arith, length-take i parts, is.few) in
     let all = mul-le-mul {n₁ = length (take i parts)} {m₁ = 4000000000000000000000} {n₂ = 1000000} {m₂ = 4000000000000000000000} few (omega arith) in
     omega arith

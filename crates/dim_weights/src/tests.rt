@@ -80,3 +80,35 @@ fn a_coefficient_has_a_limit(rt: HostRuntime) -> Result<(), Fail> {
     assert_eq!(rt; weights.greatest(), 1_000_000_000);
     Ok(())
 }
+
+// 2,000 leaves, their total, and as many copies of it as make four million pairs; one more of a further element.
+fn wide(alloc: Global, more: bool) -> Result<Dimension, Fail> {
+    let mut builder = Builder::new(alloc, name(alloc, "Wide")?)?;
+    let mut total = Vec::new(alloc);
+    for leaf in 0..2000 {
+        let text = format!(in alloc; "Leaf {leaf}")?;
+        builder.leaf(name(alloc, text.as_str())?)?;
+        total.push((name(alloc, text.as_str())?, 1))?;
+    }
+    builder.consolidated(name(alloc, "Total")?, total)?;
+    for copy in 0..1998 {
+        let text = format!(in alloc; "Copy {copy}")?;
+        let parts = vec![in alloc; (name(alloc, "Total")?, 1)]?;
+        builder.consolidated(name(alloc, text.as_str())?, parts)?;
+    }
+    if more {
+        let parts = vec![in alloc; (name(alloc, "Leaf 7")?, 1)]?;
+        builder.consolidated(name(alloc, "More")?, parts)?;
+    }
+    Ok(builder.finish()?)
+}
+
+#[test]
+fn pairs_have_a_limit(rt: HostRuntime) -> Result<(), Fail> {
+    let alloc = rt.alloc();
+    let weights = Weights::of(alloc, &wide(alloc, false)?)?;
+    assert_eq!(rt; weights.leaves(3998).len(), 2000);
+    let refused = Weights::of(alloc, &wide(alloc, true)?);
+    assert!(rt; matches!(refused, Err(WeightFault::TooManyPairs(4_000_001))));
+    Ok(())
+}

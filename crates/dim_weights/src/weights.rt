@@ -93,10 +93,7 @@ fn share(pairs: &[(u32, i64)], leaf: u32) -> i64
 }
 
 // The leaves of each element.
-fn rows_of(
-    alloc: Global,
-    dimension: &Dimension,
-) -> Result<Vec<ListOf<(u32, i64)>>, WeightFault>
+fn rows_of(alloc: Global, dimension: &Dimension) -> Result<Vec<ListOf<(u32, i64)>>, WeightFault>
     ensures weights { IfOk result (λ rows. IsWeightsOf dimension.now rows.items) }
     ensures valid { IfOk result (λ rows. AreRows (length rows.items) rows.items) }
     ensures refused { IfSome (refusal_of dimension.now) (λ fault. (result ≡ Err fault) ⊎ (result ≡ Err WeightFault.Memory)) }
