@@ -9,3 +9,4 @@ mod Readings
 pub mod Unique
 pub mod WrittenTexts
 pub mod Wholes
+pub mod WellFormed

@@ -1,7 +1,7 @@
 -- What a text is read as.
-use Rattle.std.specs.Prelude.{◌≡◌, ℕ, List, map, All}
+use Rattle.std.specs.Prelude.{◌≡◌, ◌≤◌, ℕ, List, length, map, All}
 use Rattle.cube_lex.specs.Lexeme.{Lexeme, lexeme_of}
-use Rattle.cube_lex.specs.Parts.{IsQuoted}
+use Rattle.cube_lex.specs.Parts.{IsQuoted, IsToken, token_limit}
 use Rattle.cube_lex.specs.declared.token.Kind.TheVariants.{Text}
 use Rattle.cube_lex.specs.declared.token.Token.{Token}
 
@@ -16,3 +16,7 @@ lexed_of tokens end_line = record { lexemes = map lexeme_of tokens; end_line = e
 -- each token that is a quoted text is one
 abbrev pub TextsAreQuoted : List Token → Type 0
 TextsAreQuoted tokens = All (λ token. token.kind ≡ Text → IsQuoted token.piece.now) tokens
+
+-- a token of its kind, which isn't too long; so it can be written as it is
+abbrev pub IsWellFormed : Lexeme → Type 0
+IsWellFormed lexeme = IsToken lexeme.kind lexeme.piece × (length lexeme.piece ≤ token_limit)

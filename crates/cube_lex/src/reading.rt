@@ -1,6 +1,6 @@
-ghost use Rattle.std.specs.Prelude.{◌≡◌, ◌≢◌, ◌⊎◌, ℕ, ◌<◌, ◌≤◌, ◌^◌, length, IfOk, IfErr, Ok, Err, Some, None, Option, count_by, MatchResult};
+ghost use Rattle.std.specs.Prelude.{◌≡◌, ◌≢◌, ◌⊎◌, ℕ, ◌<◌, ◌≤◌, ◌^◌, length, IfOk, IfErr, Ok, Err, Some, None, Option, count_by, MatchResult, All};
 ghost use Rattle.cube_lex.specs.Bytes.{is_line_end};
-ghost use Rattle.cube_lex.specs.Lexed.{Lexed};
+ghost use Rattle.cube_lex.specs.Lexed.{Lexed, IsWellFormed};
 ghost use Rattle.cube_lex.specs.Reading.{IsReading, mark_len};
 ghost use Rattle.cube_lex.specs.declared.fault.LexFault.{LexFault};
 ghost use Rattle.cube_lex.specs.declared.fault.LexFault.TheVariants.{Memory};
@@ -63,6 +63,7 @@ pub fn tokens_until(
     text: &[u8],
 ) -> Result<(Tokens<'_>, Option<LexFault>), AllocError>
     ensures found { IfOk result (λ read. IsReading text.now read.0 read.1) }
+    ensures well_formed { IfOk result (λ read. All IsWellFormed read.0.lexemes) }
     // A text is read as one thing only, so this is it.
     ensures only { (lexed : Lexed) (fault : Option LexFault) → IsReading text.now lexed fault → IfOk result (λ read. (read.0 ≡ lexed) × (read.1 ≡ fault)) }
 {

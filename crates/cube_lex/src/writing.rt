@@ -80,8 +80,9 @@ pub fn write_quoted(out: &mut Vec<u8>, bytes: &[u8]) -> Result<(), AllocError>
     written
 }
 
-/// Writes a line end, which is no token.
+/// Writes a line end, LF, which is no token.
 pub fn write_line_end(out: &mut Vec<u8>) -> Result<(), AllocError>
+    ensures byte { OnOk result (out.new.items ≡ out.old.items ++ 10 ∷ []) }
     ensures ok { OnOk result (Adds out.old.items out.new.items []) }
     ensures err { OnErr result (out.new.items ≡ out.old.items) }
 {

@@ -10,11 +10,7 @@
 #![tactic(auto)]
 
 pub use fault::WeightFault;
-pub use laws::{
-    coefficients_solve, levels_solve, only_coefficients_solve, only_leaves_count, only_levels_solve,
-};
 pub use weights::{MAX_COEFFICIENT, MAX_PAIRS, Weights};
 
 mod fault;
-mod laws;
 mod weights;

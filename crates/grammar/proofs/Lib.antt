@@ -7,3 +7,7 @@ pub mod Checked
 pub mod Inside
 pub mod Top
 pub mod Loops
+pub mod Cuts
+pub mod Settles
+pub mod WholeTexts
+pub mod OneAnswer

@@ -1,5 +1,5 @@
 -- Which picks exclude one another, and the readers of one token.
-use Rattle.std.proofs.Common.{◌≡◌, ℕ, List, [], ◌∷◌, Option, Some, None, Bool, true, false, ◌&&◌, ◌||◌, if◌then◌else◌, refl, sym, ◌∙◌, ap, Result}
+use Rattle.std.proofs.Common.{◌≡◌, ◌<◌, ℕ, zero, suc, slice_index, arith, List, [], ◌∷◌, ℤ, pos, Option, Some, None, Bool, true, false, ◌&&◌, ◌||◌, if◌then◌else◌, refl, sym, ◌∙◌, ap, Result}
 use Rattle.std.specs.Str.{bytes_eq, str_eq_ignore_ascii_case, str_to_ascii_lowercase}
 use Rattle.std.proofs.lemmas.Slice.Eq.{bytes_eq-Decides}
 use Rattle.cube_lex.specs.Lexeme.{Lexeme}
@@ -11,7 +11,10 @@ use Rattle.grammar.specs.Reading.{take_one}
 use Rattle.cube_lex.specs.Quoted.{unquoted}
 use Rattle.dim_name.specs.Name.{is_name}
 use Rattle.std.specs.Str.Parse.{digits_value}
-use Rattle.grammar.specs.Tokens.{is_sign_kind, is_word_kind, is_text_kind, is_number_kind, is_sign, is_word, is_whole, when, sign, word, text, name, whole}
+use Rattle.cube_fixed.specs.Text.{number_of, reading_of}
+use Rattle.std.specs.Result.{result_ok}
+use Rattle.std.proofs.lemmas.Str.{IsUtf8-from_ascii, is_utf8-from_IsUtf8}
+use Rattle.grammar.specs.Tokens.{is_sign_kind, is_word_kind, is_text_kind, is_number_kind, is_sign, is_word, is_whole, is_file, when, sign, word, text, name, whole, money, file, any_word, capitals, capital_word}
 use Rattle.grammar.proofs.Exact.{Exact, Always, exact_one}
 use Rattle.grammar.proofs.Begins.{Begins, begins_one}
 
@@ -147,3 +150,46 @@ name_is_value = record { kind = λ t a e. first_of_two (is_text_kind t.kind) (is
 
 pub whole_is_value : IsValue whole
 whole_is_value = record { kind = λ t a e. second_of_two (is_text_kind t.kind) (is_number_kind t.kind) (and_is (is_number_kind t.kind) (is_whole t.piece) (when_picks (λ t. is_number_kind t.kind && is_whole t.piece) (λ t. digits_value 10 t.piece) t a e).0).0 }
+
+-- `1`
+pub exact_money : {R C : Type 0} (scan : R → Lexeme → Result R C) → Exact (each_token scan) (one money) (one money) (take_one scan money) Always
+unfolding number_of
+exact_money scan = exact_one scan money (sample_of kinds.Number (49 ∷ [])) (pos 1000000) refl
+
+one_ascii : (i : ℕ) → slice_index (97 ∷ []) i < 128
+one_ascii zero = omega arith
+one_ascii (suc i) = omega arith
+
+-- `'a'`
+pub exact_file : {R C : Type 0} (scan : R → Lexeme → Result R C) → Exact (each_token scan) (one file) (one file) (take_one scan file) Always
+exact_file scan = exact_one scan file (sample_of kinds.Text (39 ∷ 97 ∷ 39 ∷ [])) (97 ∷ []) (ap (λ b. if b then Some (97 ∷ []) else None) (is_utf8-from_IsUtf8 (97 ∷ []) (IsUtf8-from_ascii (97 ∷ []) one_ascii)))
+
+-- `A`
+pub exact_any_word : {R C : Type 0} (scan : R → Lexeme → Result R C) → Exact (each_token scan) (one any_word) (one any_word) (take_one scan any_word) Always
+exact_any_word scan = exact_one scan any_word (sample_of kinds.Word (65 ∷ [])) (65 ∷ []) refl
+
+pub exact_capital_word : {R C : Type 0} (scan : R → Lexeme → Result R C) → Exact (each_token scan) (one capital_word) (one capital_word) (take_one scan capital_word) Always
+exact_capital_word scan = exact_one scan capital_word (sample_of kinds.Word (65 ∷ [])) (65 ∷ []) refl
+
+money_kind : (b : Bool) (o : Option ℤ) (z : ℤ) → (if b then o else None) ≡ Some z → b ≡ true
+money_kind true o z e = refl
+money_kind false o z e = cc
+
+pub money_is_value : IsValue money
+money_is_value = record { kind = λ t a e. second_of_two (is_text_kind t.kind) (is_number_kind t.kind) (money_kind (is_number_kind t.kind) (result_ok (reading_of (number_of t.piece))) a e) }
+
+pub file_is_value : IsValue file
+file_is_value = record { kind = λ t a e. first_of_two (is_text_kind t.kind) (is_number_kind t.kind) (and_is (is_text_kind t.kind) (is_file (unquoted t.piece)) (when_picks (λ t. is_text_kind t.kind && is_file (unquoted t.piece)) (λ t. unquoted t.piece) t a e).0).0 }
+
+-- what a pick takes is a word
+pub record TakesWords {A : Type 0} (pick : Lexeme → Option A) : Type 0 where
+  pub kind : (t : Lexeme) (a : A) → pick t ≡ Some a → is_word_kind t.kind ≡ true
+
+pub any_word_takes_words : TakesWords any_word
+any_word_takes_words = record { kind = λ t a e. (when_picks (λ t. is_word_kind t.kind) (λ t. t.piece) t a e).0 }
+
+pub capital_word_takes_words : TakesWords capital_word
+capital_word_takes_words = record { kind = λ t a e. (when_picks (λ t. is_word_kind t.kind) (λ t. capitals t.piece) t a e).0 }
+
+pub words_no_sign : {A : Type 0} {pick : Lexeme → Option A} → TakesWords pick → (b : List ℕ) → Begins (one pick) (is_sign b) false
+words_no_sign {pick = pick} is b = begins_one pick (is_sign b) false (λ t a e. no_sign t.kind (bytes_eq t.piece b) (or_first (is_word_kind t.kind) (is_text_kind t.kind) (is_number_kind t.kind) (is.kind t a e)))

@@ -4,3 +4,4 @@ pub mod Fault
 pub mod Reading
 pub mod Cursor
 pub mod Tokens
+pub mod Whole

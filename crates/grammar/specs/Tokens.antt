@@ -1,11 +1,13 @@
 -- Which token a rule asks for.
-use Rattle.std.specs.Prelude.{ℕ, ◌^◌, nat_lt, List, Bool, true, false, Option, Some, None, ◌&&◌, if◌then◌else◌}
-use Rattle.std.specs.Str.{bytes_eq, str_eq_ignore_ascii_case}
-use Rattle.std.specs.Char.{is_ascii_digit}
+use Rattle.std.specs.Prelude.{ℕ, ◌^◌, nat_lt, List, Bool, true, false, Option, Some, None, ◌&&◌, not, ◌==◌, if◌then◌else◌, length, map, ℤ}
+use Rattle.std.specs.Str.{bytes_eq, str_eq_ignore_ascii_case, is_utf8}
+use Rattle.std.specs.Result.{result_ok}
+use Rattle.std.specs.Char.{is_ascii_digit, to_ascii_uppercase}
 use Rattle.std.specs.List.{list_all}
 use Rattle.std.specs.Str.Parse.{digits_value}
 use Rattle.cube_lex.specs.Lexeme.{Lexeme}
 use Rattle.cube_lex.specs.Quoted.{unquoted}
+use Rattle.cube_fixed.specs.Text.{number_of, reading_of}
 use Rattle.dim_name.specs.Name.{is_name}
 use Rattle.cube_lex.specs.declared.token.Kind.{Kind}
 use Rattle.cube_lex.specs.declared.token.Kind.TheVariants as kinds
@@ -62,3 +64,27 @@ is_whole piece = list_all is_ascii_digit piece && nat_lt (digits_value 10 piece)
 -- a whole number, which gives its value
 abbrev pub whole : Lexeme → Option ℕ
 whole = when (λ t. is_number_kind t.kind && is_whole t.piece) (λ t. digits_value 10 t.piece)
+
+-- a number that is in range once it is rounded, which gives its millionths
+abbrev pub money : Lexeme → Option ℤ
+money t = if is_number_kind t.kind then result_ok (reading_of (number_of t.piece)) else None
+
+-- what may name a file: UTF-8, and not empty
+abbrev pub is_file : List ℕ → Bool
+is_file bytes = not (length bytes == 0) && is_utf8 bytes
+
+-- a quoted text that names a file, which gives its bytes
+abbrev pub file : Lexeme → Option (List ℕ)
+file = when (λ t. is_text_kind t.kind && is_file (unquoted t.piece)) (λ t. unquoted t.piece)
+
+-- any word, which gives its bytes as they are written
+abbrev pub any_word : Lexeme → Option (List ℕ)
+any_word = when (λ t. is_word_kind t.kind) (λ t. t.piece)
+
+-- the bytes with a to z as A to Z
+abbrev pub capitals : List ℕ → List ℕ
+capitals bytes = map to_ascii_uppercase bytes
+
+-- any word, which gives its bytes in capitals
+abbrev pub capital_word : Lexeme → Option (List ℕ)
+capital_word = when (λ t. is_word_kind t.kind) (λ t. capitals t.piece)

@@ -1,5 +1,6 @@
 use super::*;
-use cube_lex::{Kind, Token};
+use cube_lex::{Kind, Token, tokens_until};
+use std::alloc::{AllocError, Global};
 use std::test::Fail;
 
 /// `Dim ;` and, on the next line, the word `n`.
@@ -79,4 +80,49 @@ fn stops_where_nothing_fits(rt: HostRuntime) {
 fn stops_where_the_watch_refuses(rt: HostRuntime) {
     let mut cursor = Cursor::new(&TOKENS, AtMost { tokens: 2 });
     assert!(rt; matches!(block(&mut cursor), Err(Stop::Refused(Cause::TooMany))));
+}
+
+// A number, a file, a word and a word in capitals, shown.
+fn literals(
+    alloc: Global,
+    cursor: &mut Cursor<'_, Unwatched>,
+) -> Result<(i64, Vec<u8>), Stop<Cause>> {
+    let number = money(cursor)?;
+    let mut shown = file(alloc, cursor)?;
+    shown.extend_from_slice(&any_word(alloc, cursor)?)?;
+    shown.extend_from_slice(&capital_word(alloc, cursor)?)?;
+    Ok((number.millionths(), shown))
+}
+
+// The line of the fault in such a text, or 0 where there is none.
+fn fault_in(alloc: Global, text: &[u8]) -> Result<u32, AllocError> {
+    let (tokens, fault) = tokens_until(alloc, text)?;
+    let mut cursor = Cursor::new(tokens.as_slice(), Unwatched);
+    let read = literals(alloc, &mut cursor);
+    match settled(&tokens, fault, read, &cursor) {
+        Ok((number, shown)) if number == 2_500_000 && shown.as_slice() == b"f'xYzXYZ".as_slice() =>
+            Ok(0),
+        Ok(_) => Ok(100),
+        Err(TextFault::Syntax(line)) => Ok(line),
+        Err(_) => Ok(200),
+    }
+}
+
+#[test]
+fn a_lexical_fault_counts_as_a_token(rt: HostRuntime) -> Result<(), Fail> {
+    let cases: [(&[u8], u32); 9] = [
+        (b"2.5 'f''x' Yz xYz", 0),
+        (b"2.4999999\n'f''x' Yz\nxYz", 0),
+        (b"2.5 'f''x'\nYz xYz\n\n", 0),
+        (b"2.5 'f''x'\nYz xYz\n$\n", 3),
+        (b"2.5 'f''x'\nYz xYz\n;\n$", 3),
+        (b"2.5 'f''x'\n\nYz\n", 4),
+        (b"2.5\n'' Yz xYz $", 2),
+        (b"2.5\n'\xFF' Yz xYz $", 2),
+        (b"\n9000000000000.0000005 'f' Yz xYz", 2),
+    ];
+    for (text, line) in cases {
+        assert_eq!(rt; fault_in(rt.alloc(), text)?, line);
+    }
+    Ok(())
 }

@@ -6,10 +6,14 @@
 #![tactic(auto)]
 
 pub use area::Area;
+pub use cells::{cell_of, weight};
+pub use model::Model;
 pub use order::{Order, Position};
 pub use rule_laws::{Arg, Formula, Fun, Op, Reference, Rel, Truth};
 pub use rules::{CubeRules, Feeder, Form, Statement};
 
 mod area;
+mod cells;
+mod model;
 mod order;
 mod rules;

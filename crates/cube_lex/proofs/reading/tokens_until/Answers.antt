@@ -5,6 +5,7 @@ use Rattle.cube_lex.specs.Reading.{IsReading}
 use Rattle.cube_lex.specs.declared.fault.LexFault.TheVariants.{TooLong}
 use Rattle.cube_lex.proofs.Readings.{reading-oversize}
 use Rattle.cube_lex.proofs.Unique.{answer-only, reading-only}
+use Rattle.cube_lex.proofs.WellFormed.{answer_formed, well_formed}
 use Rattle.cube_lex.proofs.reading.tokens_until.Goals as goal
 
 pub returns-then-text-gt-TEXT_LIMIT : goal.returns-then-text-gt-TEXT_LIMIT
@@ -13,7 +14,7 @@ returns-then-text-gt-TEXT_LIMIT c =
     rw (c.new-then-text-gt-TEXT_LIMIT.ensures, c.new.ensures.items)
     (reading-oversize c.args.text.now _ c.if-text-gt-TEXT_LIMIT.true
     (ap (λ n. 1 + n) (c.line_ends.ensures ∙ ap (count_by is_line_end) c.split_at.ensures.front))) in
-    record { found = found; only = λ lexed fault is. reading-only c.args.text.now _ lexed _ fault found is }
+    record { found = found; well_formed = well_formed c.args.text.now _ _ found; only = λ lexed fault is. reading-only c.args.text.now _ lexed _ fault found is }
 
 pub returns : goal.returns
-returns c = record { found = c.read.ensures; only = answer-only c.args.text.now c.read.result c.read.ensures }
+returns c = record { found = c.read.ensures; well_formed = answer_formed c.args.text.now c.read.result c.read.ensures; only = answer-only c.args.text.now c.read.result c.read.ensures }

