@@ -6,6 +6,7 @@ use Rattle.std.proofs.lemmas.List.Elements.{All-push}
 use Rattle.std.proofs.lemmas.List.Sums.{sum_by-append, sum_by-cons}
 use Rattle.indexmap.specs.IndexSet.{insert_key}
 use Rattle.dim_core.specs.declared.fault.DimFault.TheVariants.{Duplicate, WeightRange, TooMany}
+use Rattle.dim_core.specs.declared.attribute.NamedAttribute.{NamedAttribute}
 use Rattle.dim_name.specs.Name.{has_name, is_same_name}
 use Rattle.dim_core.specs.Draft.{has_weights, with_element}
 use Rattle.dim_core.specs.Refusal.{refusal_of}
@@ -27,12 +28,12 @@ bounds m n h =
     let second : n ≤ 1000000 = grind (arith, nat_tests) in
     (first, second)
 
-module _ (of : List ℕ) (names : List (List ℕ)) (lists : List (List (List ℕ × ℤ))) (count : ℕ) (name : List ℕ) (components : List (List ℕ × ℤ))
-    (kept : IsKept names lists count) (free : refusal_of (record { name = of; elements = elements_of names lists }) name components ≡ None) where
+module _ (of : List ℕ) (names : List (List ℕ)) (lists : List (List (List ℕ × ℤ))) (count : ℕ) (calls : List NamedAttribute) (name : List ℕ) (components : List (List ℕ × ℤ))
+    (kept : IsKept names lists count) (free : refusal_of (record { name = of; elements = elements_of names lists; attributes = calls }) name components ≡ None) where
   accepted : (has_name names name ≡ false) × (has_weights components ≡ true) × ((nat_lt 100000 (length names + 1) || nat_lt 1000000 (count + length components)) ≡ false)
   accepted =
       let tests = passed _ _ _ free in
-      (sym (is_defined-elements_of of names lists name kept.paired) ∙ tests.0, tests.1, sym (is_too_many-elements_of names lists count (length components) kept.paired kept.counted) ∙ tests.2)
+      (sym (is_defined-elements_of of names lists calls name kept.paired) ∙ tests.0, tests.1, sym (is_too_many-elements_of names lists count (length components) kept.paired kept.counted) ∙ tests.2)
 
   -- the name goes last
   pub new_key : insert_key is_same_name names name ≡ names ++ name ∷ []
@@ -55,9 +56,9 @@ module _ (of : List ℕ) (names : List (List ℕ)) (lists : List (List (List ℕ
   }
 
 -- a builder's fields with one more name and list of components are seen as the draft with one more element
-pub one_more : (of : List ℕ) (names names' : List (List ℕ)) (lists lists' : List (List (List ℕ × ℤ))) (name : List ℕ) (components : List (List ℕ × ℤ)) → length lists ≡ length names
+pub one_more : (of : List ℕ) (names names' : List (List ℕ)) (lists lists' : List (List (List ℕ × ℤ))) (calls : List NamedAttribute) (name : List ℕ) (components : List (List ℕ × ℤ)) → length lists ≡ length names
     → names' ≡ names ++ name ∷ [] → lists' ≡ lists ++ components ∷ []
-    → record { name = of; elements = elements_of names' lists' } ≡ with_element (record { name = of; elements = elements_of names lists }) name components
-one_more of names names' lists lists' name components paired n l =
+    → record { name = of; elements = elements_of names' lists'; attributes = calls } ≡ with_element (record { name = of; elements = elements_of names lists; attributes = calls }) name components
+one_more of names names' lists lists' calls name components paired n l =
     let e = elements_of-push names lists name components paired in
     rw (n, l, e) refl

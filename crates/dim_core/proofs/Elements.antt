@@ -3,6 +3,7 @@ use Rattle.std.proofs.Common.{◌≡◌, ℕ, ◌+◌, ◌<◌, ◌≤◌, ℤ, 
 use Rattle.std.proofs.lemmas.Bool.Decides.{nat_tests}
 use Rattle.std.proofs.lemmas.Option.{slice_get-get_or}
 use Rattle.dim_name.specs.Name.{has_name}
+use Rattle.dim_core.specs.declared.attribute.NamedAttribute.{NamedAttribute}
 use Rattle.dim_core.specs.Draft.{is_defined, is_too_many}
 use Rattle.dim_core.specs.Outline.{elements_of, names_of, component_lists, component_count}
 
@@ -39,9 +40,9 @@ module _ {C : Type 0} where
       ap (λ es. record { name = n; components = l } ∷ es) (elements_of-push names lists name list rest)
 
 -- what the tests of a builder say of its fields
-pub is_defined-elements_of : (of : List ℕ) (names : List (List ℕ)) (lists : List (List (List ℕ × ℤ))) (name : List ℕ) → length lists ≡ length names
-    → is_defined (record { name = of; elements = elements_of names lists }) name ≡ has_name names name
-is_defined-elements_of of names lists name paired = ap (λ ns. has_name ns name) (names_of-elements_of names lists paired)
+pub is_defined-elements_of : (of : List ℕ) (names : List (List ℕ)) (lists : List (List (List ℕ × ℤ))) (calls : List NamedAttribute) (name : List ℕ) → length lists ≡ length names
+    → is_defined (record { name = of; elements = elements_of names lists; attributes = calls }) name ≡ has_name names name
+is_defined-elements_of of names lists calls name paired = ap (λ ns. has_name ns name) (names_of-elements_of names lists paired)
 
 pub is_too_many-elements_of : (names : List (List ℕ)) (lists : List (List (List ℕ × ℤ))) (count further : ℕ) → length lists ≡ length names → count ≡ sum_by length lists
     → is_too_many (elements_of names lists) further ≡ nat_lt 100000 (length names + 1) || nat_lt 1000000 (count + further)

@@ -12,7 +12,7 @@ use Rattle.dim_order.specs.Loops.{IsOrder}
 use Rattle.dim_order.proofs.LoopLemmas.{first_on_loop-ordered}
 use Rattle.dim_order.proofs.Tests.{both, place_among}
 use Rattle.dim_name.specs.Name.{has_name, is_same_name}
-use Rattle.dim_core.specs.Draft.{Draft, are_known, by_index, first_loop, HasEarlierComponents}
+use Rattle.dim_core.specs.Draft.{Draft, are_known, by_index, first_bad_attribute, first_loop, HasEarlierComponents}
 use Rattle.dim_core.specs.Refusal.{finish_refusal_of, first_cause}
 use Rattle.dim_core.specs.Outline.{names_of, component_lists}
 use Rattle.dim_core.proofs.CallerLemmas.{first_unknown-earlier, length-component_lists}
@@ -95,6 +95,7 @@ first_loop-earlier draft earlier =
     let names = names_of draft.elements in
     first_on_loop-ordered (map (by_index names) lists) (range_with_len 0 (length lists)) (in_order names lists (λ e there. earlier e (omega (arith, length-component_lists draft.elements))))
 
-pub finish_refusal-earlier : (draft : Draft) → HasEarlierComponents draft → finish_refusal_of draft ≡ None
-finish_refusal-earlier draft earlier =
-    ap (λ u. first_cause u (first_loop draft)) (first_unknown-earlier draft earlier) ∙ ap (first_cause None) (first_loop-earlier draft earlier)
+pub finish_refusal-earlier : (draft : Draft) → HasEarlierComponents draft → first_bad_attribute draft ≡ None → finish_refusal_of draft ≡ None
+finish_refusal-earlier draft earlier good =
+    ap (λ u. first_cause u (first_bad_attribute draft) (first_loop draft)) (first_unknown-earlier draft earlier)
+    ∙ ap (λ b. first_cause None b (first_loop draft)) good ∙ ap (first_cause None None) (first_loop-earlier draft earlier)

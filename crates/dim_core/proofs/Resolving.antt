@@ -6,18 +6,20 @@ use Rattle.std.proofs.lemmas.List.Elements.{All-cons, All-nil, All-head, All-tai
 use Rattle.std.proofs.lemmas.List.Quantifiers.{position-Some}
 use Rattle.std.proofs.lemmas.List.Sums.{sum_by-cons}
 use Rattle.std.proofs.lemmas.Slice.Zip.{AllZip-long}
-use Rattle.dim_name.specs.Name.{is_same_name}
-use Rattle.dim_core.specs.Draft.{IsResolved, has_weights, are_known, by_index, first_unknown, first_loop, IsFinished}
-use Rattle.dim_core.specs.Kept.{IsKept, IsStored}
+use Rattle.dim_core.specs.declared.attribute.Attribute.{Attribute}
+use Rattle.dim_core.specs.declared.attribute.NamedAttribute.{NamedAttribute}
+use Rattle.dim_name.specs.Name.{is_name, is_same_name}
+use Rattle.dim_core.specs.Draft.{IsResolved, has_weights, are_known, by_index, first_unknown, first_bad_among, first_bad_attribute, first_loop, IsFinished, IsResolvedAttribute}
+use Rattle.dim_core.specs.Kept.{IsKept, IsStored, AreNamed, AreAttributed}
 use Rattle.dim_order.specs.Loops.{IsOrder, ArePartsWithin, first_on_loop}
-use Rattle.dim_core.specs.Outline.{Element, elements_of, IsWeight, IsDimension, names_of, component_lists}
+use Rattle.dim_core.specs.Outline.{Element, elements_of, IsWeight, is_same_attribute, IsDimension, names_of, component_lists}
 use Rattle.dim_order.proofs.Places.{none_passes}
 use Rattle.dim_core.proofs.Elements.{names_of-elements_of, component_lists-elements_of, length-elements_of, get_or_within}
 
 -- the test of a builder over its fields
-pub first_unknown-elements_of : (of : List ℕ) (names : List (List ℕ)) (lists : List (List (List ℕ × ℤ))) → length lists ≡ length names
-    → first_unknown (record { name = of; elements = elements_of names lists }) ≡ position (λ parts. not (are_known names parts)) lists
-first_unknown-elements_of of names lists paired =
+pub first_unknown-elements_of : (of : List ℕ) (names : List (List ℕ)) (lists : List (List (List ℕ × ℤ))) (calls : List NamedAttribute) → length lists ≡ length names
+    → first_unknown (record { name = of; elements = elements_of names lists; attributes = calls }) ≡ position (λ parts. not (are_known names parts)) lists
+first_unknown-elements_of of names lists calls paired =
     let shown = names_of-elements_of names lists paired in
     let parts = component_lists-elements_of names lists paired in
     rw (shown, parts) refl
@@ -27,10 +29,10 @@ not_false true h = refl
 not_false false h = absurd (cc)
 
 -- a draft of which no component is unknown
-pub all_known : (of : List ℕ) (names : List (List ℕ)) (lists : List (List (List ℕ × ℤ))) → length lists ≡ length names
-    → first_unknown (record { name = of; elements = elements_of names lists }) ≡ None → All (λ parts. IsTrue (are_known names parts)) lists
-all_known of names lists paired none =
-    let unknown : position (λ parts. not (are_known names parts)) lists ≡ None = sym (first_unknown-elements_of of names lists paired) ∙ none in
+pub all_known : (of : List ℕ) (names : List (List ℕ)) (lists : List (List (List ℕ × ℤ))) (calls : List NamedAttribute) → length lists ≡ length names
+    → first_unknown (record { name = of; elements = elements_of names lists; attributes = calls }) ≡ None → All (λ parts. IsTrue (are_known names parts)) lists
+all_known of names lists calls paired none =
+    let unknown : position (λ parts. not (are_known names parts)) lists ≡ None = sym (first_unknown-elements_of of names lists calls paired) ∙ none in
     λ e d within. not_false _ (none_passes (λ parts. not (are_known names parts)) lists unknown e d within)
 
 -- the two halves of a test that is a conjunction
@@ -89,10 +91,17 @@ resolved_stored names lists count resolved order kept r ordered =
       ordered = ordered;
     }
 
+elements_named : {C : Type 0} (names : List (List ℕ)) (lists : List (List (C × ℤ))) → All (λ n. IsTrue (is_name n)) names → All (λ e. IsTrue (is_name e.name)) (elements_of names lists)
+elements_named [] lists h = All-nil (λ e. IsTrue (is_name e.name))
+elements_named (name ∷ names) [] h = All-nil (λ e. IsTrue (is_name e.name))
+elements_named (name ∷ names) (l ∷ lists) h =
+    All-cons (λ e. IsTrue (is_name e.name)) (record { name = name; components = l }) (elements_of names lists)
+    (All-head (λ n. IsTrue (is_name n)) name names h) (elements_named names lists (All-tail (λ n. IsTrue (is_name n)) name names h))
+
 -- the fields of a dimension are seen as one
-pub stored_dimension : (of : List ℕ) (names : List (List ℕ)) (lists : List (List (ℕ × ℤ))) (order : List ℕ) → IsStored names lists order
-    → IsDimension (record { name = of; elements = elements_of names lists })
-stored_dimension of names lists order stored =
+pub stored_dimension : (of : List ℕ) (names : List (List ℕ)) (lists : List (List (ℕ × ℤ))) (order : List ℕ) (attributes : List Attribute) → IsStored names lists order → AreAttributed of names attributes
+    → IsDimension (record { name = of; elements = elements_of names lists; attributes = attributes })
+stored_dimension of names lists order attributes stored attributed =
     let counted = length-elements_of names lists stored.paired in
     let listed = component_lists-elements_of names lists stored.paired in
     let D : List (List ℕ) → Type 0 = IsDistinct is_same_name in
@@ -104,6 +113,11 @@ stored_dimension of names lists order stored =
       parts = λ e. rw (counted, listed) (stored.parts e);
       order = order;
       ordered = subst O (sym listed) stored.ordered;
+      attributes = rw counted attributed.within;
+      attributes_once = attributed.once;
+      is_named = attributed.own;
+      elements_named = elements_named names lists attributed.elements;
+      attributes_named = attributed.named;
     }
 
 -- each component by index is an element
@@ -135,9 +149,9 @@ resolved_are names (l ∷ ls) (c ∷ cs) r =
     let rest = resolved_are names ls cs r.1 in
     ap (λ x. x ∷ cs) here ∙ ap (λ xs. by_index names l ∷ xs) rest
 
-pub first_loop-resolved : (of : List ℕ) (names : List (List ℕ)) (lists : List (List (List ℕ × ℤ))) (resolved : List (List (ℕ × ℤ))) → length lists ≡ length names → AllZip (IsResolved names) lists resolved
-    → first_loop (record { name = of; elements = elements_of names lists }) ≡ first_on_loop resolved
-first_loop-resolved of names lists resolved paired r =
+pub first_loop-resolved : (of : List ℕ) (names : List (List ℕ)) (lists : List (List (List ℕ × ℤ))) (calls : List NamedAttribute) (resolved : List (List (ℕ × ℤ))) → length lists ≡ length names → AllZip (IsResolved names) lists resolved
+    → first_loop (record { name = of; elements = elements_of names lists; attributes = calls }) ≡ first_on_loop resolved
+first_loop-resolved of names lists calls resolved paired r =
     let shown = names_of-elements_of names lists paired in
     let parts = component_lists-elements_of names lists paired in
     let e : map (by_index (names_of (elements_of names lists))) (component_lists (elements_of names lists)) ≡ map (by_index names) lists =
@@ -145,9 +159,34 @@ first_loop-resolved of names lists resolved paired r =
     ap first_on_loop (e ∙ sym (resolved_are names lists resolved r))
 
 -- and the draft that they are seen as is finished so
-pub resolved_finished : (of : List ℕ) (names : List (List ℕ)) (lists : List (List (List ℕ × ℤ))) (resolved : List (List (ℕ × ℤ)))
-    → length lists ≡ length names → AllZip (IsResolved names) lists resolved → IsFinished (record { name = of; elements = elements_of names lists }) (record { name = of; elements = elements_of names resolved })
-resolved_finished of names lists resolved paired r = record {
+pub resolved_finished : (of : List ℕ) (names : List (List ℕ)) (lists : List (List (List ℕ × ℤ))) (resolved : List (List (ℕ × ℤ))) (calls : List NamedAttribute) (attributes : List Attribute)
+    → length lists ≡ length names → AllZip (IsResolved names) lists resolved → AllZip (IsResolvedAttribute names) calls attributes
+    → IsFinished (record { name = of; elements = elements_of names lists; attributes = calls }) (record { name = of; elements = elements_of names resolved; attributes = attributes })
+resolved_finished of names lists resolved calls attributes paired r a = record {
   name = refl;
   elements = rw (names_of-elements_of names lists paired) (finished_elements names names lists resolved r);
+  attributes = rw (names_of-elements_of names lists paired) a;
 }
+
+-- the attributes of a builder, with their elements by index, are those of a dimension
+attributes_at : (names : List (List ℕ)) (calls : List NamedAttribute) (attributes : List Attribute) → AllZip (IsResolvedAttribute names) calls attributes
+    → All (λ call. IsTrue (is_name call.name)) calls → All (λ a. IsTrue (is_name a.name)) attributes × All (λ a. a.element < length names) attributes
+attributes_at names [] [] r n = (All-nil (λ a. IsTrue (is_name a.name)), All-nil (λ a. a.element < length names))
+attributes_at names [] (a ∷ rest) r n = elim r [ ]
+attributes_at names (call ∷ calls) [] r n = elim r [ ]
+attributes_at names (call ∷ calls) (a ∷ rest) r n =
+    let others = attributes_at names calls rest r.1 (All-tail (λ c. IsTrue (is_name c.name)) call calls n) in
+    let P : List ℕ → Type 0 = λ text. IsTrue (is_name text) in (
+      All-cons (λ a. IsTrue (is_name a.name)) a rest (subst P (sym r.0.1) (All-head (λ c. IsTrue (is_name c.name)) call calls n)) others.0,
+      All-cons (λ a. a.element < length names) a rest (position-Some (is_same_name call.element) names a.element [] r.0.0).0 others.1,
+    )
+
+pub resolved_attributed : (of : List ℕ) (names : List (List ℕ)) (calls : List NamedAttribute) (attributes : List Attribute) → AreNamed of names calls
+    → AllZip (IsResolvedAttribute names) calls attributes → IsDistinct is_same_attribute attributes → AreAttributed of names attributes
+resolved_attributed of names calls attributes named r once =
+    let at = attributes_at names calls attributes r named.attributes in
+    record { own = named.own; elements = named.elements; named = at.0; within = at.1; once = once }
+
+pub first_bad-elements_of : (of : List ℕ) (names : List (List ℕ)) (lists : List (List (List ℕ × ℤ))) (calls : List NamedAttribute) → length lists ≡ length names
+    → first_bad_attribute (record { name = of; elements = elements_of names lists; attributes = calls }) ≡ first_bad_among names calls
+first_bad-elements_of of names lists calls paired = ap (λ ns. first_bad_among ns calls) (names_of-elements_of names lists paired)

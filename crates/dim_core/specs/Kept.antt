@@ -2,8 +2,10 @@
 use Rattle.std.specs.Prelude.{◌≡◌, ℕ, ◌≤◌, ℤ, ◌<◌, List, [], length, sum_by, IsTrue, All, slice_index_or}
 use Rattle.std.specs.List.{IsDistinct}
 use Rattle.dim_order.specs.Loops.{IsOrder}
-use Rattle.dim_name.specs.Name.{is_same_name}
-use Rattle.dim_core.specs.Outline.{IsWeight}
+use Rattle.dim_name.specs.Name.{is_name, is_same_name}
+use Rattle.dim_core.specs.declared.attribute.Attribute.{Attribute}
+use Rattle.dim_core.specs.declared.attribute.NamedAttribute.{NamedAttribute}
+use Rattle.dim_core.specs.Outline.{IsWeight, is_same_attribute}
 use Rattle.dim_core.specs.Draft.{has_weights}
 
 -- a builder has a list of components per name, no name twice, its count of components, and no more than the limits; each weight is in range
@@ -23,3 +25,17 @@ pub record IsStored (names : List (List ℕ)) (lists : List (List (ℕ × ℤ)))
   pub few_components : sum_by length lists ≤ 1000000
   pub parts : (e : ℕ) → All (λ c. (c.0 < length names) × IsWeight c.1) (slice_index_or lists e [])
   pub ordered : IsOrder lists order
+
+-- the names of a builder are names
+pub record AreNamed (name : List ℕ) (names : List (List ℕ)) (calls : List NamedAttribute) : Type 0 where
+  pub own : IsTrue (is_name name)
+  pub elements : All (λ n. IsTrue (is_name n)) names
+  pub attributes : All (λ call. IsTrue (is_name call.name)) calls
+
+-- so are those of a dimension, whose attributes are of its elements, none twice
+pub record AreAttributed (name : List ℕ) (names : List (List ℕ)) (attributes : List Attribute) : Type 0 where
+  pub own : IsTrue (is_name name)
+  pub elements : All (λ n. IsTrue (is_name n)) names
+  pub named : All (λ a. IsTrue (is_name a.name)) attributes
+  pub within : All (λ a. a.element < length names) attributes
+  pub once : IsDistinct is_same_attribute attributes

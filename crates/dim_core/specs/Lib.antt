@@ -2,3 +2,4 @@ pub mod Draft
 pub mod Kept
 pub mod Outline
 pub mod Refusal
+pub mod Written

@@ -1,13 +1,16 @@
 ghost use Rattle.std.specs.Prelude.{◌≡◌, ◌<◌, ◌^◌, [], None, length, option_map, IfOk, IfSome, IfNone, OnOk, OnErr, IsOkUnless, IsTrue};
-ghost use Rattle.dim_core.specs.Draft.{empty_draft, with_element, is_defined, has_weights, is_too_many, first_unknown, first_loop, HasEarlierComponents, IsFinished};
-ghost use Rattle.dim_core.specs.Refusal.{refusal_of, finish_refusal_of, IsAnsweredBy};
+ghost use Rattle.dim_core.specs.Draft.{empty_draft, with_element, with_attribute, is_defined, has_weights, is_too_many, first_unknown, first_bad_attribute, first_loop, HasEarlierComponents, IsFinished};
+ghost use Rattle.dim_core.specs.Refusal.{refusal_of, first_cause, finish_refusal_of, IsAnsweredBy};
 ghost use Rattle.dim_order.specs.Loops.{IsOrder, ArePartsWithin, first_on_loop};
 
+use crate::attribute::NamedAttribute;
+use crate::attributes::resolve_attributes;
 use crate::components::NamedComponents;
 use crate::resolve::{first_unknown, resolve_all};
 use crate::{DimFault, Dimension, Name};
 use dim_order::{Components, first_on_loop, order_of};
 use indexmap::IndexSet;
+use lists::ListOf;
 use std::alloc::{AllocError, Global};
 use std::marker::Model;
 
@@ -28,18 +31,19 @@ pub struct Builder {
     names: IndexSet<Name>,
     components: Vec<NamedComponents>,
     component_count: usize,
+    attributes: Vec<NamedAttribute>,
 }
 
 impl Model for Builder {
     ghost use Rattle.dim_core.specs.Draft.{Draft};
     ghost use Rattle.dim_core.specs.Outline.{elements_of};
-    ghost use Rattle.dim_core.specs.Kept.{IsKept};
+    ghost use Rattle.dim_core.specs.Kept.{IsKept, AreNamed};
 
     ghost Value = { Draft };
 
-    ghost view = { λ b. record { name = b.name; elements = elements_of b.names.keys b.components.items } };
+    ghost view = { λ b. record { name = b.name; elements = elements_of b.names.keys b.components.items; attributes = b.attributes.items } };
 
-    ghost invariant = { λ b. IsKept b.names.keys b.components.items b.component_count };
+    ghost invariant = { λ b. IsKept b.names.keys b.components.items b.component_count × AreNamed b.name b.names.keys b.attributes.items };
 }
 
 impl Builder {
@@ -47,12 +51,14 @@ impl Builder {
     pub fn new(alloc: Global, name: Name) -> Result<Builder, AllocError>
         ensures { IfOk result (λ builder. builder ≡ empty_draft name) }
     {
+        let _is_name = name.shown();
         Ok(Builder {
             alloc,
             name,
             names: IndexSet::new(alloc),
             components: Vec::new(alloc),
             component_count: 0,
+            attributes: Vec::new(alloc),
         })
     }
 
@@ -77,12 +83,33 @@ impl Builder {
         if let Some(fault) = self.refusal(&name, &components) {
             return Err(fault);
         }
+        let _is_name = name.shown();
         let count = self.component_count + components.len();
         self.components.reserve(1)?;
         self.names.insert(name)?;
         self.components
             .push_reserved(NamedComponents::new(components));
         self.component_count = count;
+        Ok(())
+    }
+
+    /// Gives an element a text under the name of an attribute. The element may be defined later. `finish` tells whether it
+    /// is, and whether a call repeats the element and attribute of an earlier one.
+    pub fn attribute(
+        &mut self,
+        element: Name,
+        attribute: Name,
+        text: Vec<u8>,
+    ) -> Result<(), AllocError>
+        ensures given { OnOk result (self.new ≡ with_attribute self.old element attribute text.items) }
+        ensures unchanged { OnErr result (self.new ≡ self.old) }
+    {
+        let _is_name = attribute.shown();
+        self.attributes.push(NamedAttribute {
+            element,
+            name: attribute,
+            text: ListOf::new(text),
+        })?;
         Ok(())
     }
 
@@ -114,11 +141,12 @@ impl Builder {
         self.names.len() == MAX_ELEMENTS || MAX_COMPONENTS - self.component_count < further
     }
 
-    /// The dimension of the elements defined so far. Components may be defined after what they are components of.
+    /// The dimension of the elements defined so far, with their attributes. Components may be defined after what they are
+    /// components of.
     pub fn finish(self) -> Result<Dimension, DimFault>
         ensures finished { IfOk result (λ dimension. IsFinished self dimension) }
         ensures answered { IsAnsweredBy (finish_refusal_of self) result }
-        ensures earlier { HasEarlierComponents self → IsOkUnless result DimFault.Memory }
+        ensures earlier { HasEarlierComponents self → first_bad_attribute self ≡ None → IsOkUnless result DimFault.Memory }
     {
         if let Some(element) = self.first_unknown() {
             return Err(DimFault::UnknownComponent(element));
@@ -140,7 +168,7 @@ impl Builder {
     fn resolved(self) -> Result<Dimension, DimFault>
         requires { first_unknown self ≡ None }
         ensures finished { IfOk result (λ dimension. IsFinished self dimension) }
-        ensures answered { IsAnsweredBy (option_map DimFault.Loop (first_loop self)) result }
+        ensures answered { IsAnsweredBy (first_cause None (first_bad_attribute self) (first_loop self)) result }
     {
         let Builder {
             alloc,
@@ -148,10 +176,15 @@ impl Builder {
             names,
             components,
             component_count: _,
+            attributes,
         } = self;
+        let described = match resolve_attributes(alloc, &names, attributes) {
+            Ok(described) => described,
+            Err(fault) => return Err(fault),
+        };
         let resolved = resolve_all(alloc, &names, &components)?;
         match order_or_loop(alloc, &resolved) {
-            Ok(order) => Ok(Dimension::new(name, names, resolved, order)),
+            Ok(order) => Ok(Dimension::new(name, names, resolved, order, described)),
             Err(fault) => Err(fault),
         }
     }

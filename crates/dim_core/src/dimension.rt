@@ -1,9 +1,11 @@
 ghost use Rattle.std.specs.Prelude.{◌≡◌, ◌↔◌, ◌<◌, ◌≤◌, [], length, IsTrue};
 ghost use Rattle.dim_order.specs.Loops.{IsOrder};
-ghost use Rattle.dim_core.specs.Kept.{IsStored};
-ghost use Rattle.dim_core.specs.Outline.{component_lists, name_of, components_of, index_of, elements_of, IsDimension};
+ghost use Rattle.dim_core.specs.Kept.{IsStored, AreAttributed};
+ghost use Rattle.dim_core.specs.Outline.{component_lists, name_of, components_of, index_of, attribute_of, elements_of, IsDimension};
 
 use crate::Name;
+use crate::attribute::Attribute;
+use crate::attributes::Attributes;
 use dim_order::Components;
 use indexmap::IndexSet;
 use std::marker::Model;
@@ -15,17 +17,18 @@ pub struct Dimension {
     names: IndexSet<Name>,
     components: Vec<Components>,
     order: Vec<u32>,
+    attributes: Attributes,
 }
 
 impl Model for Dimension {
     ghost use Rattle.dim_core.specs.Outline.{Outline, elements_of};
-    ghost use Rattle.dim_core.specs.Kept.{IsStored};
+    ghost use Rattle.dim_core.specs.Kept.{IsStored, AreAttributed};
 
     ghost Value = { Outline };
 
-    ghost view = { λ d. record { name = d.name; elements = elements_of d.names.keys d.components.items } };
+    ghost view = { λ d. record { name = d.name; elements = elements_of d.names.keys d.components.items; attributes = d.attributes } };
 
-    ghost invariant = { λ d. IsStored d.names.keys d.components.items d.order.items };
+    ghost invariant = { λ d. IsStored d.names.keys d.components.items d.order.items × AreAttributed d.name d.names.keys d.attributes };
 }
 
 impl Dimension {
@@ -34,15 +37,18 @@ impl Dimension {
         names: IndexSet<Name>,
         components: Vec<Components>,
         order: Vec<u32>,
+        attributes: Attributes,
     ) -> Dimension
-        requires { IsStored names.keys components.items order.items }
-        ensures { result ≡ record { name = name; elements = elements_of names.keys components.items } }
+        requires stored { IsStored names.keys components.items order.items }
+        requires attributed { AreAttributed name names.keys attributes }
+        ensures { result ≡ record { name = name; elements = elements_of names.keys components.items; attributes = attributes } }
     {
         Dimension {
             name,
             names,
             components,
             order,
+            attributes,
         }
     }
 
@@ -94,6 +100,21 @@ impl Dimension {
     {
         self.components[element as usize].as_slice()
     }
+
+    /// The text of an attribute of an element, which is empty where it isn't set.
+    pub fn attribute(&self, element: u32, attribute: &Name) -> &[u8]
+        ensures { result.now ≡ attribute_of self.now element attribute.now }
+    {
+        self.attributes.text_of(element, attribute)
+    }
+
+    /// The attributes of all elements, in the order of their calls.
+    pub fn attributes(&self) -> &[Attribute]
+        ensures { result.now ≡ self.now.attributes }
+    {
+        self.attributes.as_slice()
+    }
+
     /// All elements, each after its components.
     pub fn order(&self) -> &[u32]
         ensures { IsOrder (component_lists self.now.elements) result.now }

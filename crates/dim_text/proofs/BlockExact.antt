@@ -7,9 +7,9 @@ use Rattle.grammar.proofs.Begins.{HasToken, begins_both, exact_before_next, has_
 use Rattle.grammar.proofs.Many.{exact_rest, Shortens, shortens}
 use Rattle.grammar.proofs.Checked.{exact_checked}
 use Rattle.grammar.proofs.Tokens.{sign_begins}
-use Rattle.dim_text.specs.Statement.{Statement, unit, head, element, ending, closing, statement, dimension}
+use Rattle.dim_text.specs.Statement.{Statement, unit, head, element, ending, closing, statement, body, dimension}
 use Rattle.dim_text.specs.Building.{add, building}
-use Rattle.dim_text.specs.Reading.{Plain, built, read_head, read_element, read_elements, read_end, read_close, read_opening, read_ending, read_closing, read_block, is_element_word}
+use Rattle.dim_text.specs.Reading.{Plain, built, read_head, read_element, read_elements, read_end, read_close, read_opening, read_ending, read_closing, read_body, read_block, is_element_word}
 use Rattle.dim_text.proofs.ElementExact.{free, head_exact, element_exact, end_exact, close_exact, element_begins, end_begins, begins_statement}
 
 -- a statement that is built in
@@ -28,7 +28,7 @@ end_built = built_exact (λ u x h. inr (inr (inl h))) (has_token end_begins) end
 close_built : Exact building closing closing (built read_close) Always
 close_built = built_exact (λ u x h. inr (inr (inr h))) (has_token (begins_both (sign_begins (codes ";") (codes ";")))) close_exact
 
-opening_exact : Exact building (unit head) (unit head) read_opening Always
+pub opening_exact : Exact building (unit head) (unit head) read_opening Always
 unfolding read_opening
 opening_exact = exact_made (λ _. tt) head_built
 
@@ -44,9 +44,14 @@ closing_exact : Exact building (unit closing) (unit closing) read_closing Always
 unfolding read_closing
 closing_exact = exact_made (λ _. tt) close_built
 
+-- what stands behind the head
+pub body_exact : Exact building body body read_body Always
+unfolding read_body
+body_exact = exact_before_next elements_exact (λ _. exact_then ending_exact (λ _. closing_exact)) (λ _. begins_both (begins_both end_begins))
+
 pub block_exact : Exact building dimension dimension read_block Always
 unfolding read_block
-block_exact = exact_then opening_exact (λ _. exact_before_next elements_exact (λ _. exact_then ending_exact (λ _. closing_exact)) (λ _. begins_both (begins_both end_begins)))
+block_exact = exact_then opening_exact (λ _. body_exact)
 
 -- an element's statement has a token
 pub element_shortens : Shortens read_element

@@ -10,10 +10,10 @@ use Rattle.grammar.specs.declared.cursor.Unwatched.{Unwatched}
 use Rattle.grammar.proofs.Exact.{Exact, Always, Not, exact_gives, exact_then, exact_both, exact_made, exact_choose}
 use Rattle.grammar.proofs.Begins.{Begins, begins_both, begins_either, exact_or, exact_option, exact_before_next, starts_text, starts_many, made_is}
 use Rattle.grammar.proofs.Many.{exact_all}
-use Rattle.grammar.proofs.Tokens.{exact_sign, exact_word, exact_name, exact_whole_number, sign_begins, word_begins, value_no_sign, whole_is_value, begins_any}
+use Rattle.grammar.proofs.Tokens.{exact_sign, exact_word, exact_name, exact_text, exact_whole_number, sign_begins, word_begins, value_no_sign, whole_is_value, begins_any}
 use Rattle.dim_text.specs.declared.fault.Refusal.{Refusal}
-use Rattle.dim_text.specs.Statement.{Statement, Head, Leaf, Consolidated, End, Close, signed, head, minus, weight, part, parts, leaf, consolidated, element, ending, closing}
-use Rattle.dim_text.specs.Reading.{read_head, read_minus, read_weight, read_part, read_next_part, read_further, read_parts, read_leaf, read_consolidated, read_element, read_end, read_close, is_element_word}
+use Rattle.dim_text.specs.Statement.{Statement, Head, Leaf, Consolidated, Attribute, End, Close, signed, head, minus, weight, part, parts, leaf, consolidated, attribute, element, ending, closing}
+use Rattle.dim_text.specs.Reading.{read_head, read_minus, read_weight, read_part, read_next_part, read_further, read_parts, read_leaf, read_consolidated, read_attribute, read_element, read_end, read_close, is_element_word}
 
 -- nothing watches the parts of a statement
 abbrev pub free : Watch Lexeme Unwatched Refusal
@@ -101,9 +101,17 @@ consolidated_exact = exact_then (exact_word unscanned (codes "C")) (λ line. exa
       comma = starts_text (closed_begins (Consolidated line shown components) (codes ",")) v b rest l;
     })))
 
+attribute_exact : Exact free attribute attribute read_attribute Always
+unfolding read_attribute
+attribute_exact = exact_then (exact_word unscanned (codes "A")) (λ line. exact_then (exact_name unscanned) (λ shown. exact_then (exact_name unscanned)
+    (λ called. exact_then (exact_sign unscanned (codes "=")) (λ _. exact_then (exact_text unscanned)
+    (λ value. exact_then (exact_sign unscanned (codes ";")) (λ _. exact_gives free (Attribute line shown called value)))))))
+
 pub element_exact : Exact free element element read_element Always
 unfolding read_element
-element_exact = exact_or (is_word (codes "N")) (begins_both (word_begins (codes "N") (codes "N"))) (begins_both (word_begins (codes "C") (codes "N"))) leaf_exact consolidated_exact
+element_exact = exact_or (is_word (codes "N")) (begins_both (word_begins (codes "N") (codes "N")))
+    (begins_either (begins_both (word_begins (codes "C") (codes "N"))) (begins_both (word_begins (codes "A") (codes "N"))))
+    leaf_exact (exact_or (is_word (codes "C")) (begins_both (word_begins (codes "C") (codes "C"))) (begins_both (word_begins (codes "A") (codes "C"))) consolidated_exact attribute_exact)
 
 pub end_exact : Exact free ending ending read_end Always
 unfolding read_end
@@ -114,11 +122,11 @@ unfolding read_close
 close_exact = exact_then (exact_sign unscanned (codes ";")) (λ _. exact_gives free Close)
 
 -- whether a word begins an element's statement
-pub begins_statement : (w : List ℕ) → Begins (one (word w)) is_element_word (str_eq_ignore_ascii_case w (codes "N") || str_eq_ignore_ascii_case w (codes "C"))
-begins_statement w = begins_any (word_begins w (codes "N")) (word_begins w (codes "C"))
+pub begins_statement : (w : List ℕ) → Begins (one (word w)) is_element_word ((str_eq_ignore_ascii_case w (codes "N") || str_eq_ignore_ascii_case w (codes "C")) || str_eq_ignore_ascii_case w (codes "A"))
+begins_statement w = begins_any (begins_any (word_begins w (codes "N")) (word_begins w (codes "C"))) (word_begins w (codes "A"))
 
 pub element_begins : Begins element is_element_word true
-element_begins = begins_either (begins_both (begins_statement (codes "N"))) (begins_both (begins_statement (codes "C")))
+element_begins = begins_either (begins_both (begins_statement (codes "N"))) (begins_either (begins_both (begins_statement (codes "C"))) (begins_both (begins_statement (codes "A"))))
 
 pub end_begins : Begins ending is_element_word false
 end_begins = begins_both (begins_statement (codes "END"))

@@ -4,3 +4,5 @@ pub mod Building
 pub mod Reading
 pub mod Views
 pub mod Answers
+pub mod Writable
+pub mod Printed

@@ -3,11 +3,12 @@ use Rattle.std.specs.Prelude.{◌≡◌, ℕ, List}
 use Rattle.dim_core.specs.Draft.{Draft, IsFinished}
 use Rattle.dim_core.specs.Outline.{Outline}
 
--- the line of the head, the draft so far, and the lines of its elements
+-- the line of the head, the draft so far, and the lines of its elements and of its attributes
 pub record Progress : Type 0 where
   pub head : ℕ
   pub draft : Draft
   pub lines : List ℕ
+  pub attribute_lines : List ℕ
 
 -- a block: the line of its head, its dimension, and the line of each element's statement
 pub record Text : Type 0 where

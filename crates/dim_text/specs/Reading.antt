@@ -3,10 +3,10 @@ use Rattle.std.specs.Prelude.{ℕ, ℤ, pos, List, [], ◌∷◌, Bool, true, fa
 use Rattle.cube_lex.specs.Lexeme.{Lexeme}
 use Rattle.grammar.specs.Watch.{unscanned}
 use Rattle.grammar.specs.Reading.{Reader, gives, take_one, choose, all_of, checked, ◌>>=◌, ◌>>◌}
-use Rattle.grammar.specs.Tokens.{sign, word, whole, name, is_sign, is_word}
+use Rattle.grammar.specs.Tokens.{sign, word, whole, name, text, is_sign, is_word}
 use Rattle.grammar.specs.declared.cursor.Unwatched.{Unwatched}
 use Rattle.dim_text.specs.declared.fault.Refusal.{Refusal}
-use Rattle.dim_text.specs.Statement.{Statement, Head, Leaf, Consolidated, End, Close, signed}
+use Rattle.dim_text.specs.Statement.{Statement, Head, Leaf, Consolidated, Attribute, End, Close, signed}
 use Rattle.dim_text.specs.Building.{add}
 use Rattle.dim_text.specs.Progress.{Progress}
 
@@ -58,12 +58,22 @@ read_consolidated = do
   take_one unscanned (sign (codes ";"))
   gives (Consolidated line shown components)
 
+unfoldable pub read_attribute : Plain Statement
+read_attribute = do
+  line ← take_one unscanned (word (codes "A"))
+  shown ← take_one unscanned name
+  called ← take_one unscanned name
+  take_one unscanned (sign (codes "="))
+  value ← take_one unscanned text
+  take_one unscanned (sign (codes ";"))
+  gives (Attribute line shown called value)
+
 unfoldable pub read_element : Plain Statement
-read_element = choose (is_word (codes "N")) read_leaf read_consolidated
+read_element = choose (is_word (codes "N")) read_leaf (choose (is_word (codes "C")) read_consolidated read_attribute)
 
 -- whether an element's statement comes
 abbrev pub is_element_word : Lexeme → Bool
-is_element_word t = is_word (codes "N") t || is_word (codes "C") t
+is_element_word t = (is_word (codes "N") t || is_word (codes "C") t) || is_word (codes "A") t
 
 unfoldable pub read_end : Plain Statement
 read_end = do
@@ -99,9 +109,13 @@ read_ending = unit_of (built read_end)
 unfoldable pub read_closing : Reader Lexeme Progress Refusal (Unit {0})
 read_closing = unit_of (built read_close)
 
-unfoldable pub read_block : Reader Lexeme Progress Refusal (Unit {0})
-read_block = do
-  read_opening
+unfoldable pub read_body : Reader Lexeme Progress Refusal (Unit {0})
+read_body = do
   read_elements
   read_ending
   read_closing
+
+unfoldable pub read_block : Reader Lexeme Progress Refusal (Unit {0})
+read_block = do
+  read_opening
+  read_body

@@ -2,7 +2,7 @@
 use Rattle.std.specs.Prelude.{ℕ, ℤ, pos, neg_ℤ, List, [], ◌∷◌, Bool, true, false, codes}
 use Rattle.cube_lex.specs.Lexeme.{Lexeme}
 use Rattle.grammar.specs.Grammar.{Grammar, done, one, either, many, ◌>>=◌, ◌>>◌}
-use Rattle.grammar.specs.Tokens.{sign, word, whole, name}
+use Rattle.grammar.specs.Tokens.{sign, word, whole, name, text}
 
 -- a statement, with the line of its first word
 pub data Statement : Type 0 where
@@ -11,6 +11,8 @@ pub data Statement : Type 0 where
   Leaf : ℕ → List ℕ → Statement
   -- with its components and their weights
   Consolidated : ℕ → List ℕ → List (List ℕ × ℤ) → Statement
+  -- of an element, with the attribute's name and its text
+  Attribute : ℕ → List ℕ → List ℕ → List ℕ → Statement
   End : ℕ → Statement
   -- the last `;`
   Close : Statement
@@ -63,8 +65,19 @@ consolidated = do
   one (sign (codes ";"))
   done (Consolidated line shown components)
 
+-- "A" name name "=" Text ";"
+abbrev pub attribute : Grammar Lexeme Statement
+attribute = do
+  line ← one (word (codes "A"))
+  shown ← one name
+  called ← one name
+  one (sign (codes "="))
+  value ← one text
+  one (sign (codes ";"))
+  done (Attribute line shown called value)
+
 abbrev pub element : Grammar Lexeme Statement
-element = either leaf consolidated
+element = either leaf (either consolidated attribute)
 
 -- a text of G, whose tree isn't kept
 abbrev pub unit : {A : Type 0} → Grammar Lexeme A → Grammar Lexeme (Unit {0})
@@ -82,13 +95,18 @@ closing = do
   one (sign (codes ";"))
   done Close
 
+-- { element } "END" ";"
+abbrev pub body : Grammar Lexeme (Unit {0})
+body = do
+  unit (many element)
+  unit ending
+  unit closing
+
 -- "DIM" name ";" { element } "END" ";"
 abbrev pub dimension : Grammar Lexeme (Unit {0})
 dimension = do
   unit head
-  unit (many element)
-  unit ending
-  unit closing
+  body
 
 -- the pieces by which a block is built
 abbrev pub statement : Grammar Lexeme Statement

@@ -10,7 +10,7 @@ use Rattle.grammar.specs.declared.stop.Stop.{Stop}
 use Rattle.grammar.specs.declared.stop.Stop.TheVariants as stops
 use Rattle.dim_text.specs.Progress.{Progress, Text, IsBuilt}
 use Rattle.dim_text.specs.Building.{finished}
-use Rattle.dim_text.specs.Statement.{Statement, Head, Leaf, Consolidated}
+use Rattle.dim_text.specs.Statement.{Statement, Head, Leaf, Consolidated, Attribute}
 use Rattle.dim_text.specs.declared.element.Element.{Element}
 use Rattle.dim_text.specs.declared.element.Element.TheVariants as elements
 use Rattle.grammar.specs.Fault.{line_at}
@@ -24,6 +24,7 @@ head_view head = Head head.0 head.1
 abbrev pub element_view : Element → Statement
 element_view (elements.Leaf line shown) = Leaf line shown
 element_view (elements.Consolidated line shown components) = Consolidated line shown components.items
+element_view (elements.Attribute line shown called value) = Attribute line shown called value.items
 
 -- why a statement on this line stops the reading
 abbrev pub refused_on : ℕ → DimFault → Stop Refusal

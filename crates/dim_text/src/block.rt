@@ -1,27 +1,20 @@
-ghost use Rattle.std.specs.Prelude.{◌≡◌, drop};
+ghost use Rattle.std.specs.Prelude.{◌≡◌, ◌<◌, length, drop, OnOk};
 ghost use Rattle.grammar.specs.Cursor.{lexemes};
 ghost use Rattle.dim_text.specs.Answers.{Answers};
-ghost use Rattle.dim_text.specs.Building.{nothing};
+ghost use Rattle.dim_text.specs.Building.{nothing, opened};
 ghost use Rattle.dim_text.specs.Progress.{Progress, IsBuilt};
-ghost use Rattle.dim_text.specs.Reading.{read_opening, read_elements, read_ending, read_closing, read_block};
+ghost use Rattle.dim_text.specs.Reading.{read_elements, read_ending, read_closing, read_body, read_block};
 ghost use Rattle.dim_text.specs.Views.{GivesWork, GivesEnd, GivesText, Explains};
+ghost use Rattle.dim_text.specs.Writable.{AreTokens, IsQuotable};
 
 use crate::element::{element_at, element_comes, head_at};
 use crate::fault::{DimTextCause, DimTextFault, Refusal};
-use crate::text::DimText;
+use crate::text::{Block, DimText};
 use crate::work::Work;
 use cube_lex::{Token, Tokens};
+use dim_core::Name;
 use grammar::{Cursor, Stop, Unwatched, line_left, sign, word};
 use std::alloc::Global;
-
-// Reads the head.
-#[tactic(auto, unfolding(crate::specs::Reading::read_opening))]
-fn opening_at(alloc: Global, cursor: &mut Cursor<'_, Unwatched>) -> Result<Work, Stop<Refusal>>
-    ensures { GivesWork result (lexemes cursor.new.tokens.now) (read_opening nothing (lexemes cursor.old.tokens.now)) }
-{
-    let (line, shown) = head_at(alloc, cursor)?;
-    Ok(Work::new(alloc, line, shown)?)
-}
 
 // Reads the elements.
 #[tactic(auto, unfolding(crate::specs::Reading::read_elements))]
@@ -41,7 +34,7 @@ fn elements_at(
 
 // Reads `END`.
 #[tactic(auto, unfolding(crate::specs::Reading::read_ending, crate::specs::Reading::read_end))]
-fn ending_at(cursor: &mut Cursor<'_, Unwatched>, work: Work) -> Result<DimText, Stop<Refusal>>
+fn ending_at(cursor: &mut Cursor<'_, Unwatched>, work: Work) -> Result<Block, Stop<Refusal>>
     ensures { GivesEnd result work (lexemes cursor.new.tokens.now) (read_ending work (lexemes cursor.old.tokens.now)) }
 {
     word(cursor, b"END")?;
@@ -50,22 +43,60 @@ fn ending_at(cursor: &mut Cursor<'_, Unwatched>, work: Work) -> Result<DimText, 
 
 // Reads the last `;`.
 #[tactic(auto, unfolding(crate::specs::Reading::read_closing, crate::specs::Reading::read_close))]
-fn closing_at(cursor: &mut Cursor<'_, Unwatched>, text: DimText) -> Result<DimText, Stop<Refusal>>
-    ensures { (p : Progress) → IsBuilt text p → GivesEnd result p (lexemes cursor.new.tokens.now) (read_closing p (lexemes cursor.old.tokens.now)) }
+fn closing_at(cursor: &mut Cursor<'_, Unwatched>, block: Block) -> Result<Block, Stop<Refusal>>
+    ensures { (p : Progress) → IsBuilt block p → GivesEnd result p (lexemes cursor.new.tokens.now) (read_closing p (lexemes cursor.old.tokens.now)) }
 {
     sign(cursor, b";")?;
-    Ok(text)
+    Ok(block)
 }
 
-// Reads a block.
-#[tactic(auto, unfolding(crate::specs::Reading::read_block))]
-fn block_at(alloc: Global, cursor: &mut Cursor<'_, Unwatched>) -> Result<DimText, Stop<Refusal>>
-    ensures { GivesText result (lexemes cursor.new.tokens.now) (read_block nothing (lexemes cursor.old.tokens.now)) }
+// Reads what stands behind the head.
+#[tactic(auto, unfolding(crate::specs::Reading::read_body))]
+fn statements_at(
+    alloc: Global,
+    cursor: &mut Cursor<'_, Unwatched>,
+    head: u32,
+    name: Name,
+) -> Result<Block, Stop<Refusal>>
+    ensures { GivesText result (lexemes cursor.new.tokens.now) (read_body (opened head name) (lexemes cursor.old.tokens.now)) }
 {
-    let opened = opening_at(alloc, cursor)?;
-    let work = elements_at(alloc, cursor, opened)?;
-    let text = ending_at(cursor, work)?;
-    closing_at(cursor, text)
+    let work = elements_at(alloc, cursor, Work::new(alloc, head, name)?)?;
+    let block = ending_at(cursor, work)?;
+    closing_at(cursor, block)
+}
+
+/// Reads what stands behind the head of a block, `{ element } END ;`, where the head has this line and this name.
+pub fn body_at(
+    alloc: Global,
+    cursor: &mut Cursor<'_, Unwatched>,
+    head: u32,
+    name: Name,
+) -> Result<DimText, Stop<Refusal>>
+    requires tokens { AreTokens (lexemes cursor.now.tokens.now) }
+    requires name { IsQuotable name }
+    ensures read { GivesText result (lexemes cursor.new.tokens.now) (read_body (opened head name) (lexemes cursor.old.tokens.now)) }
+    ensures shorter { OnOk result (length cursor.new.tokens.now < length cursor.old.tokens.now) }
+    ensures rest { OnOk result (AreTokens (lexemes cursor.new.tokens.now)) }
+{
+    match statements_at(alloc, cursor, head, name) {
+        Ok(block) => Ok(DimText::new(block)),
+        Err(stop) => Err(stop),
+    }
+}
+
+/// Reads a block, `DIM name ; { element } END ;`.
+#[tactic(auto, unfolding(crate::specs::Reading::read_block, crate::specs::Reading::read_opening))]
+pub fn block_at(
+    alloc: Global,
+    cursor: &mut Cursor<'_, Unwatched>,
+) -> Result<DimText, Stop<Refusal>>
+    requires { AreTokens (lexemes cursor.now.tokens.now) }
+    ensures read { GivesText result (lexemes cursor.new.tokens.now) (read_block nothing (lexemes cursor.old.tokens.now)) }
+    ensures shorter { OnOk result (length cursor.new.tokens.now < length cursor.old.tokens.now) }
+    ensures rest { OnOk result (AreTokens (lexemes cursor.new.tokens.now)) }
+{
+    let (head, name) = head_at(alloc, cursor)?;
+    body_at(alloc, cursor, head, name)
 }
 
 // Why a block that begins with these tokens is refused.

@@ -1,13 +1,14 @@
-ghost use Rattle.std.specs.Prelude.{◌≡◌, ◌<◌, ◌≤◌, length, OnOk, codes};
+ghost use Rattle.std.specs.Prelude.{◌≡◌, ◌<◌, ◌≤◌, length, IfOk, OnOk, codes};
 ghost use Rattle.grammar.specs.Cursor.{lexemes, Reads};
 ghost use Rattle.grammar.specs.Reading.{starts};
 ghost use Rattle.dim_text.specs.Reading as reading;
 ghost use Rattle.dim_text.specs.Statement.{signed};
 ghost use Rattle.dim_text.specs.Views.{element_view, head_view};
+ghost use Rattle.dim_text.specs.Writable.{AreTokens, IsQuotable};
 
 use crate::fault::Refusal;
 use dim_core::Name;
-use grammar::{Cursor, Stop, Unwatched, name, sign, sign_comes, whole, word, word_comes};
+use grammar::{Cursor, Stop, Unwatched, name, sign, sign_comes, text, whole, word, word_comes};
 use std::alloc::Global;
 
 /// A statement of a block, with the line of its first word.
@@ -16,6 +17,8 @@ pub enum Element {
     Leaf(u32, Name),
     /// Its components, each with its weight.
     Consolidated(u32, Name, Vec<(Name, i64)>),
+    /// An element, the name of one of its attributes, and the text.
+    Attribute(u32, Name, Name, Vec<u8>),
 }
 
 /// Reads `DIM name ;`.
@@ -24,7 +27,9 @@ pub fn head_at(
     alloc: Global,
     cursor: &mut Cursor<'_, Unwatched>,
 ) -> Result<(u32, Name), Stop<Refusal>>
-    ensures { Reads head_view reading.read_head cursor.old result cursor.new }
+    ensures read { Reads head_view reading.read_head cursor.old result cursor.new }
+    ensures shorter { OnOk result (length cursor.new.tokens.now < length cursor.old.tokens.now) }
+    ensures writable { AreTokens (lexemes cursor.old.tokens.now) → IfOk result (λ head. IsQuotable head.1 × AreTokens (lexemes cursor.new.tokens.now)) }
 {
     let line = word(cursor, b"DIM")?;
     let shown = name(alloc, cursor)?;
@@ -157,11 +162,25 @@ fn consolidated_at(
     Ok(Element::Consolidated(line, shown, parts))
 }
 
+/// Reads `A name name = Text ;`.
+#[tactic(auto, unfolding(crate::specs::Reading::read_attribute))]
+fn attribute_at(alloc: Global, cursor: &mut Cursor<'_, Unwatched>) -> Result<Element, Stop<Refusal>>
+    ensures { Reads element_view reading.read_attribute cursor.old result cursor.new }
+{
+    let line = word(cursor, b"A")?;
+    let shown = name(alloc, cursor)?;
+    let called = name(alloc, cursor)?;
+    sign(cursor, b"=")?;
+    let value = text(alloc, cursor)?;
+    sign(cursor, b";")?;
+    Ok(Element::Attribute(line, shown, called, value))
+}
+
 /// Whether an element's statement comes.
 pub fn element_comes(cursor: &Cursor<'_, Unwatched>) -> bool
     ensures { result ≡ starts reading.is_element_word (lexemes cursor.now.tokens.now) }
 {
-    word_comes(cursor, b"N") || word_comes(cursor, b"C")
+    word_comes(cursor, b"N") || word_comes(cursor, b"C") || word_comes(cursor, b"A")
 }
 
 /// Reads an element's statement.
@@ -174,7 +193,9 @@ pub fn element_at(
 {
     if word_comes(cursor, b"N") {
         leaf_at(alloc, cursor)
-    } else {
+    } else if word_comes(cursor, b"C") {
         consolidated_at(alloc, cursor)
+    } else {
+        attribute_at(alloc, cursor)
     }
 }

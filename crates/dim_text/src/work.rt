@@ -1,13 +1,13 @@
 ghost use Rattle.std.specs.Prelude.{◌≡◌, IfOk, Ok, slice_index};
 ghost use Rattle.dim_core.specs.Refusal.{finish_refusal_of};
 ghost use Rattle.dim_text.specs.Building as building;
-ghost use Rattle.dim_text.specs.Building.{nothing};
-ghost use Rattle.dim_text.specs.Statement.{Leaf, Consolidated};
-ghost use Rattle.dim_text.specs.Views.{element_view, head_view, refused_on, Adds, Finishes};
+ghost use Rattle.dim_text.specs.Building.{opened};
+ghost use Rattle.dim_text.specs.Statement.{Leaf, Consolidated, Attribute};
+ghost use Rattle.dim_text.specs.Views.{element_view, refused_on, Adds, Finishes};
 
 use crate::element::Element;
 use crate::fault::Refusal;
-use crate::text::DimText;
+use crate::text::Block;
 use dim_core::{Builder, DimFault, Name};
 use grammar::Stop;
 use std::alloc::{AllocError, Global};
@@ -19,6 +19,7 @@ pub struct Work {
     head: u32,
     builder: Builder,
     lines: Vec<u32>,
+    attribute_lines: Vec<u32>,
 }
 
 impl Model for Work {
@@ -27,7 +28,7 @@ impl Model for Work {
 
     ghost Value = { Progress };
 
-    ghost view = { λ w. record { head = w.head; draft = w.builder; lines = w.lines.items } };
+    ghost view = { λ w. record { head = w.head; draft = w.builder; lines = w.lines.items; attribute_lines = w.attribute_lines.items } };
 
     ghost invariant = { λ w. length w.lines.items ≡ length w.builder.elements };
 }
@@ -43,14 +44,15 @@ fn refused(line: u32, fault: DimFault) -> Stop<Refusal>
 }
 
 impl Work {
-    /// Before the first element.
+    /// Behind the head on this line.
     pub fn new(alloc: Global, line: u32, name: Name) -> Result<Work, AllocError>
-        ensures { IfOk result (λ work. building.add nothing (head_view (line, name)) ≡ Ok work) }
+        ensures { IfOk result (λ work. work ≡ opened line name) }
     {
         Ok(Work {
             head: line,
             builder: Builder::new(alloc, name)?,
             lines: Vec::new(alloc),
+            attribute_lines: Vec::new(alloc),
         })
     }
 
@@ -87,6 +89,22 @@ impl Work {
         }
     }
 
+    // Gives an element the text of an attribute.
+    fn add_attribute(
+        &mut self,
+        line: u32,
+        element: Name,
+        attribute: Name,
+        text: Vec<u8>,
+    ) -> Result<(), Stop<Refusal>>
+        ensures { Adds result self.new (building.add self.old (Attribute line element attribute text.items)) }
+    {
+        self.attribute_lines.reserve(1)?;
+        self.builder.attribute(element, attribute, text)?;
+        self.attribute_lines.push_reserved(line);
+        Ok(())
+    }
+
     /// Adds an element's statement.
     pub fn add(&mut self, element: Element) -> Result<(), Stop<Refusal>>
         ensures { Adds result self.new (building.add self.old (element_view element)) }
@@ -96,21 +114,25 @@ impl Work {
             Element::Consolidated(line, name, components) => self.add_consolidated(
                 line, name, components,
             ),
+            Element::Attribute(line, element, attribute, text) => self.add_attribute(
+                line, element, attribute, text,
+            ),
         }
     }
 
     /// The dimension, after the last element.
-    pub fn finish(self) -> Result<DimText, Stop<Refusal>>
+    pub fn finish(self) -> Result<Block, Stop<Refusal>>
         ensures { Finishes result self (finish_refusal_of self.draft) }
     {
         let Work {
             head,
             builder,
             lines,
+            attribute_lines,
         } = self;
         match builder.finish() {
-            Ok(dimension) => Ok(DimText::new(head, dimension, lines)),
-            Err(fault) => Err(refused(line_of(&lines, &fault), fault)),
+            Ok(dimension) => Ok(Block::new(head, dimension, lines)),
+            Err(fault) => Err(refused(line_of(&lines, &attribute_lines, &fault), fault)),
         }
     }
 }
@@ -126,11 +148,13 @@ fn line_at(lines: &[u32], at: usize) -> u32
 }
 
 // The line of the statement that a fault of the whole dimension names.
-fn line_of(lines: &[u32], fault: &DimFault) -> u32
-    ensures { result ≡ building.line_of lines.now fault.now }
+fn line_of(lines: &[u32], attribute_lines: &[u32], fault: &DimFault) -> u32
+    ensures { result ≡ building.line_of lines.now attribute_lines.now fault.now }
 {
     match fault {
         DimFault::UnknownComponent(element) => line_at(lines, *element as usize),
+        // Attribute statements are counted from 1.
+        DimFault::BadAttribute(at) => line_at(attribute_lines, at.saturating_sub(1) as usize),
         DimFault::Loop(element) => line_at(lines, *element as usize),
         _ => 0,
     }

@@ -1,0 +1,18 @@
+use crate::Name;
+use lists::ListOf;
+
+/// A text of an element, under the name of an attribute as it was written.
+#[derive(Debug, Drop)]
+pub struct Attribute {
+    pub element: u32,
+    pub name: Name,
+    pub text: ListOf<u8>,
+}
+
+/// The same, with the element by its name.
+#[derive(Drop)]
+pub struct NamedAttribute {
+    pub element: Name,
+    pub name: Name,
+    pub text: ListOf<u8>,
+}

@@ -1,0 +1,185 @@
+-- What tokens give can be written as tokens again.
+use Rattle.std.proofs.Common.{◌≡◌, ◌≤◌, ℕ, ℤ, List, [], ◌∷◌, ◌++◌, length, true, Ok, Err, Option, Some, None, Result, refl, sym, ap, ◌∙◌, subst, inl, inr, ◌&&◌}
+use Rattle.std.proofs.lemmas.List.Elements.{All-nil, All-cons, All-head, All-tail, All-push, All-take, All-drop}
+use Rattle.std.proofs.Math.Seq.{take-append_seam, drop-append_seam}
+use Rattle.std.specs.List.{All, AllZip}
+use Rattle.cube_lex.specs.Lexeme.{Lexeme}
+use Rattle.cube_lex.specs.Parts.{IsToken, IsQuoted, token_limit}
+use Rattle.cube_lex.specs.Quoted.{unquoted}
+use Rattle.cube_lex.specs.declared.token.Kind.{Kind}
+use Rattle.cube_lex.specs.declared.token.Kind.TheVariants as kinds
+use Rattle.cube_lex.proofs.Quotes.{unquoted-quoted}
+use Rattle.dim_name.specs.Name.{is_name}
+use Rattle.grammar.specs.Grammar.{Grammar, done, one, both, either, many}
+use Rattle.grammar.specs.Tokens.{is_text_kind, name, text}
+use Rattle.grammar.specs.Watch.{AllPass, joined, Passes}
+use Rattle.grammar.proofs.Tokens.{when_picks, and_is}
+use Rattle.dim_core.specs.Draft.{Draft, IsFinished, empty_draft, with_element, with_attribute}
+use Rattle.dim_core.specs.Outline.{Element, Outline}
+use Rattle.dim_core.specs.declared.attribute.Attribute.{Attribute}
+use Rattle.dim_core.specs.declared.attribute.NamedAttribute.{NamedAttribute}
+use Rattle.dim_core.specs.declared.fault.DimFault.{DimFault}
+use Rattle.dim_core.specs.Refusal.{refusal_of, finish_refusal_of}
+use Rattle.dim_text.specs.Building.{add, building, element_added, finished}
+use Rattle.dim_text.specs.Progress.{Progress, Text, IsBuilt}
+use Rattle.dim_text.specs.Statement.{Statement, Head, Leaf, Consolidated, Attribute, End, Close, head, parts, leaf, consolidated, attribute, element, ending, closing, statement}
+use Rattle.dim_text.specs.Writable.{AreTokens, IsQuotable, IsWritable}
+
+-- Two halves of a list of tokens.
+
+abbrev IsLexeme : Lexeme → Type 0
+IsLexeme t = IsToken t.kind t.piece × (length t.piece ≤ token_limit)
+
+pub first_tokens : (u v : List Lexeme) → AreTokens (u ++ v) → AreTokens u
+first_tokens u v h = subst AreTokens (take-append_seam u v) (All-take IsLexeme (length u) (u ++ v) h)
+
+pub last_tokens : (u v : List Lexeme) → AreTokens (u ++ v) → AreTokens v
+last_tokens u v h = subst AreTokens (drop-append_seam u v) (All-drop IsLexeme (length u) (u ++ v) h)
+
+-- Each tree that G reads from tokens has P.
+
+pub record Keeps {A : Type 0} (G : Grammar Lexeme A) (P : A → Type 0) : Type 0 where
+  pub at : (u : List Lexeme) (a : A) → AreTokens u → G u a → P a
+
+keeps_any : {A : Type 0} {G : Grammar Lexeme A} → Keeps G (λ _. Unit {0})
+keeps_any = record { at = λ u a tokens h. tt }
+
+keeps_done : {A : Type 0} {P : A → Type 0} {a : A} → P a → Keeps (done a) P
+keeps_done {P = P} p = record { at = λ u b tokens h. subst P (sym h.1) p }
+
+keeps_one : {A : Type 0} {pick : Lexeme → Option A} {P : A → Type 0} → ((t : Lexeme) (a : A) → IsToken t.kind t.piece × (length t.piece ≤ token_limit) → pick t ≡ Some a → P a) → Keeps (one pick) P
+keeps_one tells = record { at = λ u a tokens (t, is, picks). tells t a (All-head IsLexeme t [] (subst AreTokens is tokens)) picks }
+
+keeps_both : {A B : Type 0} {G : Grammar Lexeme A} {K : A → Grammar Lexeme B} {P : A → Type 0} {Q : B → Type 0} → Keeps G P → ((a : A) → P a → Keeps (K a) Q) → Keeps (both G K) Q
+keeps_both g k = record { at = λ u b tokens (v, w, a, parts, h, l). (
+  let whole : AreTokens (v ++ w) = subst AreTokens parts tokens in
+  (k a (g.at v a (first_tokens v w whole) h)).at w b (last_tokens v w whole) l) }
+
+keeps_either_at : {A : Type 0} {G H : Grammar Lexeme A} (P : A → Type 0) → Keeps G P → Keeps H P → (u : List Lexeme) (a : A) → AreTokens u → either G H u a → P a
+keeps_either_at P g h u a tokens (inl e) = g.at u a tokens e
+keeps_either_at P g h u a tokens (inr e) = h.at u a tokens e
+
+keeps_either : {A : Type 0} {G H : Grammar Lexeme A} {P : A → Type 0} → Keeps G P → Keeps H P → Keeps (either G H) P
+keeps_either {P = P} g h = record { at = keeps_either_at P g h }
+
+-- Texts and names.
+
+quoted_quotable : (piece : List ℕ) → IsQuoted piece → length piece ≤ token_limit → IsQuotable (unquoted piece)
+quoted_quotable piece (bytes, plain, is) short =
+    let same : unquoted piece ≡ bytes = ap unquoted is ∙ unquoted-quoted bytes in
+    subst IsQuotable (sym same) (plain, subst (λ x. length x ≤ token_limit) is short)
+
+kind_quotable : (kind : Kind) (piece : List ℕ) → is_text_kind kind ≡ true → IsToken kind piece × (length piece ≤ token_limit) → IsQuotable (unquoted piece)
+kind_quotable kinds.Word piece e h = cc
+kind_quotable kinds.Number piece e h = cc
+kind_quotable kinds.Text piece e h = quoted_quotable piece h.0 h.1
+kind_quotable kinds.Sign piece e h = cc
+
+pub text_quotable : Keeps (one text) IsQuotable
+text_quotable = keeps_one (λ t a is picks.
+    let (kind, same) = when_picks (λ (t : Lexeme). is_text_kind t.kind) (λ t. unquoted t.piece) t a picks in
+    subst IsQuotable same (kind_quotable t.kind t.piece kind is))
+
+pub name_quotable : Keeps (one name) IsQuotable
+name_quotable = keeps_one (λ t a is picks.
+    let (both_hold, same) = when_picks (λ (t : Lexeme). is_text_kind t.kind && is_name (unquoted t.piece)) (λ t. unquoted t.piece) t a picks in
+    subst IsQuotable same (kind_quotable t.kind t.piece (and_is (is_text_kind t.kind) (is_name (unquoted t.piece)) both_hold).0 is))
+
+-- the names and texts that a statement gives a dimension can be written
+abbrev pub IsWritableStatement : Statement → Type 0
+IsWritableStatement (Head line shown) = IsQuotable shown
+IsWritableStatement (Leaf line shown) = IsQuotable shown
+IsWritableStatement (Consolidated line shown components) = IsQuotable shown
+IsWritableStatement (Attribute line shown called value) = IsQuotable called × IsQuotable value
+IsWritableStatement (End line) = Unit {0}
+IsWritableStatement Close = Unit {0}
+
+pub head_keeps : Keeps head IsWritableStatement
+head_keeps = keeps_both keeps_any (λ line _. keeps_both name_quotable (λ shown q. keeps_both keeps_any (λ _ _. keeps_done q)))
+
+leaf_keeps : Keeps leaf IsWritableStatement
+leaf_keeps = keeps_both keeps_any (λ line _. keeps_both name_quotable (λ shown q. keeps_both keeps_any (λ _ _. keeps_done q)))
+
+consolidated_keeps : Keeps consolidated IsWritableStatement
+consolidated_keeps = keeps_both keeps_any (λ line _. keeps_both name_quotable (λ shown q. keeps_both keeps_any (λ components _. keeps_both keeps_any (λ _ _. keeps_done q))))
+
+attribute_keeps : Keeps attribute IsWritableStatement
+attribute_keeps = keeps_both keeps_any (λ line _. keeps_both keeps_any (λ shown _. keeps_both name_quotable
+    (λ called q. keeps_both keeps_any (λ _ _. keeps_both text_quotable (λ value r. keeps_both keeps_any (λ _ _. keeps_done (q, r)))))))
+
+ending_keeps : Keeps ending IsWritableStatement
+ending_keeps = keeps_both keeps_any (λ line _. keeps_done tt)
+
+closing_keeps : Keeps closing IsWritableStatement
+closing_keeps = keeps_both keeps_any (λ _ _. keeps_done tt)
+
+statement_keeps : Keeps statement IsWritableStatement
+statement_keeps = keeps_either head_keeps (keeps_either (keeps_either leaf_keeps (keeps_either consolidated_keeps attribute_keeps)) (keeps_either ending_keeps closing_keeps))
+
+-- What statements build.
+
+pub record IsWritableDraft (draft : Draft) : Type 0 where
+  pub name : IsQuotable draft.name
+  pub elements : All (λ e. IsQuotable e.name) draft.elements
+  pub attributes : All (λ a. IsQuotable a.name × IsQuotable a.text) draft.attributes
+
+ok_is : {A E : Type 0} (x y : A) → ◌≡◌ {A = Result A E} (Ok x) (Ok y) → x ≡ y
+ok_is x y e = cc
+
+pub empty_writable : (shown : List ℕ) → IsQuotable shown → IsWritableDraft (empty_draft shown)
+empty_writable shown q = record { name = q; elements = All-nil (λ e. IsQuotable e.name); attributes = All-nil (λ a. IsQuotable a.name × IsQuotable a.text) }
+
+element_keeps : (p s : Progress) (line : ℕ) (shown : List ℕ) (components : List (List ℕ × ℤ)) (cause : Option DimFault) → IsQuotable shown → IsWritableDraft p.draft → element_added p line shown components cause ≡ Ok s → IsWritableDraft s.draft
+element_keeps p s line shown components None q w e =
+    let more : IsWritableDraft (with_element p.draft shown components) = record {
+      name = w.name;
+      elements = All-push (λ e. IsQuotable e.name) p.draft.elements (record { name = shown; components = components }) w.elements q;
+      attributes = w.attributes;
+    } in
+    let same : with_element p.draft shown components ≡ s.draft = cc in
+    subst IsWritableDraft same more
+element_keeps p s line shown components (Some fault) q w e = cc
+
+finish_keeps : (p s : Progress) (cause : Option DimFault) → IsWritableDraft p.draft → finished p cause ≡ Ok s → IsWritableDraft s.draft
+finish_keeps p s None w e = let same : p.draft ≡ s.draft = cc in subst IsWritableDraft same w
+finish_keeps p s (Some fault) w e = cc
+
+add_keeps : (p s : Progress) (x : Statement) → IsWritableStatement x → IsWritableDraft p.draft → add p x ≡ Ok s → IsWritableDraft s.draft
+add_keeps p s (Head line shown) q w e = let same : empty_draft shown ≡ s.draft = cc in subst IsWritableDraft same (empty_writable shown q)
+add_keeps p s (Leaf line shown) q w e = element_keeps p s line shown [] (refusal_of p.draft shown []) q w e
+add_keeps p s (Consolidated line shown components) q w e = element_keeps p s line shown components (refusal_of p.draft shown components) q w e
+add_keeps p s (Attribute line shown called value) q w e =
+    let more : IsWritableDraft (with_attribute p.draft shown called value) = record {
+      name = w.name;
+      elements = w.elements;
+      attributes = All-push (λ a. IsQuotable a.name × IsQuotable a.text) p.draft.attributes (record { element = shown; name = called; text = value }) w.attributes q;
+    } in
+    let same : with_attribute p.draft shown called value ≡ s.draft = cc in
+    subst IsWritableDraft same more
+add_keeps p s (End line) q w e = finish_keeps p s (finish_refusal_of p.draft) w e
+add_keeps p s Close q w e = let same : p.draft ≡ s.draft = cc in subst IsWritableDraft same w
+
+all_keep : (p s : Progress) (pieces : List (List Lexeme)) → AreTokens (joined pieces) → IsWritableDraft p.draft → AllPass building p pieces s → IsWritableDraft s.draft
+all_keep p s [] tokens w e = subst (λ x. IsWritableDraft x.draft) (sym e) w
+all_keep p s (u ∷ us) tokens w (m, (x, h, added), rest) =
+    all_keep m s us (last_tokens u (joined us) tokens)
+    (add_keeps p m x (statement_keeps.at u x (first_tokens u (joined us) tokens) h) w added) rest
+
+-- what is built of tokens can be written
+pub passes_keep : (p s : Progress) (ts : List Lexeme) → AreTokens ts → IsWritableDraft p.draft → Passes building p ts s → IsWritableDraft s.draft
+passes_keep p s ts tokens w passes = all_keep p s passes.pieces (subst AreTokens passes.parts tokens) w passes.pass
+
+zip_keeps : {X Y : Type 0} (R : X → Y → Type 0) (P : X → Type 0) (Q : Y → Type 0) → ((x : X) (y : Y) → R x y → P x → Q y) → (xs : List X) (ys : List Y) → AllZip R xs ys → All P xs → All Q ys
+zip_keeps R P Q keeps [] [] zip all = All-nil Q
+zip_keeps R P Q keeps [] (y ∷ ys) zip all = absurd zip
+zip_keeps R P Q keeps (x ∷ xs) [] zip all = absurd zip
+zip_keeps R P Q keeps (x ∷ xs) (y ∷ ys) zip all = All-cons Q y ys (keeps x y zip.0 (All-head P x xs all)) (zip_keeps R P Q keeps xs ys zip.1 (All-tail P x xs all))
+
+-- and so can the finished dimension
+pub finished_writable : (draft : Draft) (d : Outline) → IsWritableDraft draft → IsFinished draft d → IsWritable d
+finished_writable draft d w h = record {
+  name = subst IsQuotable (sym h.name) w.name;
+  elements = zip_keeps _ (λ e. IsQuotable e.name) (λ e. IsQuotable e.name) (λ x y r q. subst IsQuotable (sym r.0) q) draft.elements d.elements h.elements w.elements;
+  attributes = zip_keeps _ (λ a. IsQuotable a.name × IsQuotable a.text) (λ a. IsQuotable a.name × IsQuotable a.text)
+      (λ x y r q. (subst IsQuotable (sym r.1) q.0, subst IsQuotable (sym r.2) q.1)) draft.attributes d.attributes h.attributes w.attributes;
+}

@@ -1,0 +1,40 @@
+-- What a model text says.
+use Rattle.std.specs.Prelude.{◌≡◌, ℕ, ◌<◌, ◌≤◌, nat_eq, List, length, map, All}
+use Rattle.std.specs.List.{IsDistinct}
+use Rattle.dim_name.specs.Name.{is_same_name}
+use Rattle.dim_text.specs.Progress.{Text}
+use Rattle.model_text.specs.declared.parts.CubeText.{CubeText}
+use Rattle.model_text.specs.declared.parts.ScriptText.{ScriptText}
+
+-- its version, and its dimensions, cubes and scripts in their order
+pub record Contents : Type 0 where
+  pub version : ℕ
+  pub dims : List Text
+  pub cubes : List CubeText
+  pub scripts : List ScriptText
+
+abbrev pub dimension_names : List Text → List (List ℕ)
+dimension_names dims = map (λ d. d.dimension.name) dims
+
+abbrev pub cube_names : List CubeText → List (List ℕ)
+cube_names cubes = map (λ cube. cube.name) cubes
+
+abbrev pub script_names : List ScriptText → List (List ℕ)
+script_names scripts = map (λ script. script.name) scripts
+
+-- the dimensions of a cube, by number: at least one, each one of so many, and none twice
+pub record AreDimensions (count : ℕ) (numbers : List ℕ) : Type 0 where
+  pub some : 0 < length numbers
+  pub there : All (λ number. number < count) numbers
+  pub distinct : IsDistinct nat_eq numbers
+
+-- what holds of every model text that is read
+pub record IsContents (contents : Contents) : Type 0 where
+  pub first_version : contents.version ≡ 1
+  pub few_dims : length contents.dims ≤ 256
+  pub few_cubes : length contents.cubes ≤ 64
+  pub few_scripts : length contents.scripts ≤ 256
+  pub dims : IsDistinct is_same_name (dimension_names contents.dims)
+  pub cubes : IsDistinct is_same_name (cube_names contents.cubes)
+  pub scripts : IsDistinct is_same_name (script_names contents.scripts)
+  pub cube_dims : All (λ cube. AreDimensions (length contents.dims) cube.dims) contents.cubes

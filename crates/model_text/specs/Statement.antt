@@ -1,0 +1,200 @@
+-- The grammar of a model text. Its pieces are those by which it is watched: each ends where something may be refused.
+use Rattle.std.specs.Prelude.{ℕ, List, ◌∷◌, Option, Some, None, option_map, codes}
+use Rattle.cube_lex.specs.Lexeme.{Lexeme}
+use Rattle.grammar.specs.Grammar.{Grammar, done, one, either, many, ◌>>=◌, ◌>>◌}
+use Rattle.grammar.specs.Tokens.{sign, word, whole, name, text, file}
+use Rattle.dim_text.specs.Statement.{unit, body}
+use Rattle.model_text.specs.declared.order.OrderLine.{OrderLine}
+use Rattle.model_text.specs.declared.order.OrderWord.{OrderWord}
+use Rattle.model_text.specs.declared.order.OrderWord.TheVariants as words
+
+-- what a token gives, with its line
+abbrev pub located : {A : Type 0} → (Lexeme → Option A) → Lexeme → Option (ℕ × A)
+located pick t = option_map (λ a. (t.line, a)) (pick t)
+
+pub data Piece : Type 0 where
+  -- the version's line and number
+  Version : ℕ → ℕ → Piece
+  -- a `;`
+  Closing : Piece
+  -- the line of the word
+  DimensionWord : ℕ → Piece
+  CubeWord : ℕ → Piece
+  ScriptWord : ℕ → Piece
+  -- a quoted text with its line: the name of a dimension, a cube or a script, or the file of a script
+  Shown : ℕ → List ℕ → Piece
+  -- the name of one more dimension of a cube, with its line
+  CubeDimension : ℕ → List ℕ → Piece
+  -- the rest of a cube: its rule file and its order line, each with the line of its word
+  CubeEnd : Option (ℕ × List ℕ) → Option (ℕ × OrderLine) → Piece
+
+-- "MODEL" whole
+abbrev pub version : Grammar Lexeme Piece
+version = do
+  one (word (codes "MODEL"))
+  n ← one (located whole)
+  done (Version n.0 n.1)
+
+-- ";"
+abbrev pub closing : Grammar Lexeme Piece
+closing = do
+  one (sign (codes ";"))
+  done Closing
+
+-- "DIM"
+abbrev pub dimension_word : Grammar Lexeme Piece
+dimension_word = do
+  line ← one (word (codes "DIM"))
+  done (DimensionWord line)
+
+-- "CUBE"
+abbrev pub cube_word : Grammar Lexeme Piece
+cube_word = do
+  line ← one (word (codes "CUBE"))
+  done (CubeWord line)
+
+-- "SCRIPT"
+abbrev pub script_word : Grammar Lexeme Piece
+script_word = do
+  line ← one (word (codes "SCRIPT"))
+  done (ScriptWord line)
+
+-- name
+abbrev pub naming : Grammar Lexeme Piece
+naming = do
+  n ← one (located name)
+  done (Shown n.0 n.1)
+
+-- this sign, and name
+abbrev pub dimension_behind : List ℕ → Grammar Lexeme Piece
+dimension_behind bytes = do
+  one (sign bytes)
+  n ← one (located name)
+  done (CubeDimension n.0 n.1)
+
+-- "(" name
+abbrev pub first_dimension : Grammar Lexeme Piece
+first_dimension = dimension_behind (codes "(")
+
+-- "," name
+abbrev pub next_dimension : Grammar Lexeme Piece
+next_dimension = dimension_behind (codes ",")
+
+-- [ "RULES" file ";" ]
+abbrev pub rules : Grammar Lexeme (Option (ℕ × List ℕ))
+rules = either (do line ← one (word (codes "RULES")); bytes ← one file; one (sign (codes ";")); done (Some (line, bytes))) (done None)
+
+-- name whole
+abbrev pub rank : Grammar Lexeme (List ℕ × ℕ)
+rank = do
+  shown ← one name
+  n ← one whole
+  done (shown, n)
+
+-- [ "(" name whole { "," name whole } ")" ]
+abbrev pub ranks : List ℕ → Grammar Lexeme OrderWord
+ranks shown = either (do one (sign (codes "(")); first ← rank; rest ← many (do one (sign (codes ",")); rank); one (sign (codes ")")); done (words.Ranks shown (first ∷ rest))) (done (words.Index shown))
+
+-- whole
+abbrev pub constant : Grammar Lexeme OrderWord
+constant = do
+  n ← one whole
+  done (words.Constant n)
+
+-- name [ "(" name whole { "," name whole } ")" ]
+abbrev pub index : Grammar Lexeme OrderWord
+index = do
+  shown ← one name
+  ranks shown
+
+abbrev pub position : Grammar Lexeme OrderWord
+position = either constant index
+
+abbrev pub line_of : List OrderWord → OrderLine
+line_of words = record { words = words }
+
+-- [ "ORDER" position { "," position } ";" ]
+abbrev pub order : Grammar Lexeme (Option (ℕ × OrderLine))
+order = either (do line ← one (word (codes "ORDER")); first ← position; rest ← many (do one (sign (codes ",")); position); one (sign (codes ";")); done (Some (line, line_of (first ∷ rest)))) (done None)
+
+-- ")" ";" [ "RULES" file ";" ] [ "ORDER" position { "," position } ";" ] "END" ";"
+abbrev pub cube_end : Grammar Lexeme Piece
+cube_end = do
+  one (sign (codes ")"))
+  one (sign (codes ";"))
+  rule_file ← rules
+  order_line ← order
+  one (word (codes "END"))
+  one (sign (codes ";"))
+  done (CubeEnd rule_file order_line)
+
+-- file
+abbrev pub script_file : Grammar Lexeme Piece
+script_file = do
+  n ← one (located file)
+  done (Shown n.0 n.1)
+
+-- "DIM" name ";"
+abbrev pub dimension_head : Grammar Lexeme (Unit {0})
+dimension_head = do
+  unit dimension_word
+  unit naming
+  unit closing
+
+-- "DIM" name ";" { element } "END" ";"
+abbrev pub dimension : Grammar Lexeme (Unit {0})
+dimension = do
+  dimension_head
+  body
+
+-- "CUBE" name
+abbrev pub cube_head : Grammar Lexeme (Unit {0})
+cube_head = do
+  unit cube_word
+  unit naming
+
+-- "(" name { "," name }
+abbrev pub cube_dimensions : Grammar Lexeme (Unit {0})
+cube_dimensions = do
+  unit first_dimension
+  unit (many next_dimension)
+
+-- "CUBE" name "(" name { "," name } ")" ";" [ "RULES" file ";" ] [ "ORDER" position { "," position } ";" ] "END" ";"
+abbrev pub cube : Grammar Lexeme (Unit {0})
+cube = do
+  cube_head
+  cube_dimensions
+  unit cube_end
+
+-- "SCRIPT" name file ";"
+abbrev pub script : Grammar Lexeme (Unit {0})
+script = do
+  unit script_word
+  unit naming
+  unit script_file
+  unit closing
+
+-- "MODEL" whole ";"
+abbrev pub opening : Grammar Lexeme (Unit {0})
+opening = do
+  unit version
+  unit closing
+
+-- "MODEL" whole ";" { dimension } { cube } { script }
+abbrev pub model : Grammar Lexeme (Unit {0})
+model = do
+  opening
+  unit (many dimension)
+  unit (many cube)
+  unit (many script)
+
+-- a quoted text
+abbrev pub shown_text : Grammar Lexeme Piece
+shown_text = do
+  n ← one (located text)
+  done (Shown n.0 n.1)
+
+-- The pieces by which a model text is watched, outside of the bodies of its dimensions. Their first tokens differ, and none begins
+-- another, so a text can be cut in one way only.
+abbrev pub piece : Grammar Lexeme Piece
+piece = either version (either closing (either dimension_word (either cube_word (either script_word (either shown_text (either first_dimension (either next_dimension cube_end)))))))

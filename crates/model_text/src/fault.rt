@@ -1,0 +1,28 @@
+use dim_core::DimFault;
+
+/// Why a model text is refused, and on which line: the first fault in the text. For want of memory the line is 0.
+#[derive(Debug, Drop)]
+pub struct ModelTextFault {
+    pub line: u32,
+    pub cause: ModelTextCause,
+}
+
+/// The cause of a refusal. At one token the first in this order is told.
+#[derive(Debug, Drop)]
+pub enum ModelTextCause {
+    /// The line has the first token with which the tokens so far begin no model text; a lexical fault counts as such a token. Where
+    /// all tokens begin one but are none, it is the line of the text's end.
+    Syntax,
+    /// The version isn't 1. The line is the number's.
+    WrongVersion,
+    /// A second dimension, cube or script of a name, or a dimension twice in one cube, on the line of the second naming.
+    Duplicate,
+    /// A cube names a dimension that isn't there, on the line of the name.
+    UnknownName,
+    /// The 257th dimension, the 65th cube or the 257th script, on the line of its word.
+    TooMany,
+    /// What a dimension's block is refused for, on the line of the statement that is named. It holds no want of memory.
+    Dim(DimFault),
+    /// Want of memory.
+    Memory,
+}

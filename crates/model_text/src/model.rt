@@ -1,0 +1,89 @@
+use crate::parts::{CubeText, ScriptText};
+use dim_text::DimText;
+use std::marker::Model;
+
+/// A model text that was read: its dimensions, cubes and scripts, in the order of the text.
+#[derive(Drop)]
+pub struct ModelText {
+    version: u32,
+    dims: Vec<DimText>,
+    cubes: Vec<CubeText>,
+    scripts: Vec<ScriptText>,
+}
+
+impl Model for ModelText {
+    ghost use Rattle.model_text.specs.Contents.{Contents, IsContents};
+
+    ghost Value = { Contents };
+
+    ghost view = { λ t. record { version = t.version; dims = t.dims.items; cubes = t.cubes.items; scripts = t.scripts.items } };
+
+    ghost invariant = { λ t. IsContents (record { version = t.version; dims = t.dims.items; cubes = t.cubes.items; scripts = t.scripts.items }) };
+}
+
+impl ModelText {
+    ghost use Rattle.std.specs.Prelude.{◌≡◌};
+    ghost use Rattle.model_text.specs.Contents.{IsContents};
+
+    pub(crate) fn new(
+        version: u32,
+        dims: Vec<DimText>,
+        cubes: Vec<CubeText>,
+        scripts: Vec<ScriptText>,
+    ) -> ModelText
+        requires { IsContents (record { version = version; dims = dims.items; cubes = cubes.items; scripts = scripts.items }) }
+        ensures { result ≡ record { version = version; dims = dims.items; cubes = cubes.items; scripts = scripts.items } }
+    {
+        ModelText {
+            version,
+            dims,
+            cubes,
+            scripts,
+        }
+    }
+
+    /// The version of the text, which is 1.
+    pub fn version(&self) -> u32
+        ensures version { result ≡ self.now.version }
+        ensures valid { IsContents self.now }
+    {
+        self.version
+    }
+
+    pub fn dims(&self) -> &[DimText]
+        ensures dims { result.now ≡ self.now.dims }
+        ensures valid { IsContents self.now }
+    {
+        &self.dims
+    }
+
+    pub fn cubes(&self) -> &[CubeText]
+        ensures cubes { result.now ≡ self.now.cubes }
+        ensures valid { IsContents self.now }
+    {
+        &self.cubes
+    }
+
+    pub fn scripts(&self) -> &[ScriptText]
+        ensures scripts { result.now ≡ self.now.scripts }
+        ensures valid { IsContents self.now }
+    {
+        &self.scripts
+    }
+
+    /// Its dimensions, cubes and scripts.
+    pub fn into_parts(self) -> (Vec<DimText>, Vec<CubeText>, Vec<ScriptText>)
+        ensures dims { result.0.items ≡ self.dims }
+        ensures cubes { result.1.items ≡ self.cubes }
+        ensures scripts { result.2.items ≡ self.scripts }
+        ensures valid { IsContents self }
+    {
+        let ModelText {
+            version: _,
+            dims,
+            cubes,
+            scripts,
+        } = self;
+        (dims, cubes, scripts)
+    }
+}

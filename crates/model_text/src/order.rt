@@ -1,0 +1,19 @@
+use dim_name::Name;
+use lists::ListOf;
+
+/// The `ORDER` line of a cube, as it is written: its positions in order. Names aren't looked up yet.
+#[derive(Debug, Drop)]
+pub struct OrderLine {
+    pub words: ListOf<OrderWord>,
+}
+
+/// One position of an order line. Numbers are below 2^31.
+#[derive(Debug, Drop)]
+pub enum OrderWord {
+    /// The same number for every cell.
+    Constant(u32),
+    /// The element's index in this dimension.
+    Index(Name),
+    /// Ranks of elements of this dimension; those that aren't listed have rank 0.
+    Ranks(Name, ListOf<(Name, u32)>),
+}
