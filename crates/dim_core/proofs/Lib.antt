@@ -1,6 +1,10 @@
 pub mod Answering
+pub mod BadAttributes
 pub mod CallerLemmas
 pub mod Elements
 pub mod Definitions
 pub mod InOrder
+pub mod Keys
+pub mod Naming
+pub mod OwnDefinitions
 pub mod Resolving

@@ -131,7 +131,7 @@ resolved_within names lists count resolved kept r e d there k part inside =
     omega (arith, at.0, long, kept.paired)
 
 -- the components by index are what the draft says
-resolved_is : (names : List (List ℕ)) (written : List (List ℕ × ℤ)) (resolved : List (ℕ × ℤ)) → IsResolved names written resolved → resolved ≡ by_index names written
+pub resolved_is : (names : List (List ℕ)) (written : List (List ℕ × ℤ)) (resolved : List (ℕ × ℤ)) → IsResolved names written resolved → resolved ≡ by_index names written
 resolved_is names [] [] r = refl
 resolved_is names [] (c ∷ cs) r = elim r [ ]
 resolved_is names (part ∷ parts) [] r = elim r [ ]

@@ -1,8 +1,8 @@
 -- What the fields of a builder and of a dimension keep.
-use Rattle.std.specs.Prelude.{◌≡◌, ℕ, ◌≤◌, ℤ, ◌<◌, List, [], length, sum_by, IsTrue, All, slice_index_or}
+use Rattle.std.specs.Prelude.{◌≡◌, ℕ, ◌≤◌, ℤ, ◌<◌, List, [], length, Some, sum_by, IsTrue, All, slice_index_or}
 use Rattle.std.specs.List.{IsDistinct}
 use Rattle.dim_order.specs.Loops.{IsOrder}
-use Rattle.dim_name.specs.Name.{is_name, is_same_name}
+use Rattle.dim_name.specs.Name.{is_name, is_same_name, place_of}
 use Rattle.dim_core.specs.declared.attribute.Attribute.{Attribute}
 use Rattle.dim_core.specs.declared.attribute.NamedAttribute.{NamedAttribute}
 use Rattle.dim_core.specs.Outline.{IsWeight, is_same_attribute}
@@ -39,3 +39,7 @@ pub record AreAttributed (name : List ℕ) (names : List (List ℕ)) (attributes
   pub named : All (λ a. IsTrue (is_name a.name)) attributes
   pub within : All (λ a. a.element < length names) attributes
   pub once : IsDistinct is_same_attribute attributes
+
+-- the key by which an attribute is found: its element, and the place of its name among these
+abbrev pub IsKeyOf : List (List ℕ) → Attribute → ℕ × ℕ → Type 0
+IsKeyOf names a key = (key.0 ≡ a.element) × (place_of names a.name ≡ Some key.1)

@@ -49,7 +49,7 @@ index_of d name = place_of (names_of d.elements) name
 
 -- whether this is the attribute of that name of an element
 abbrev pub is_attribute : ℕ → List ℕ → Attribute → Bool
-is_attribute element name a = (a.element == element) && is_same_name name a.name
+is_attribute element name a = (element == a.element) && is_same_name name a.name
 
 -- the text of an attribute of an element among these; empty where it isn't set
 abbrev pub text_among : List Attribute → ℕ → List ℕ → List ℕ

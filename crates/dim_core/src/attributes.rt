@@ -1,29 +1,36 @@
-ghost use Rattle.std.specs.Prelude.{◌≡◌, [], None, length, option_map, IfOk};
-ghost use Rattle.std.specs.List.{AllZip, IsDistinct};
-ghost use Rattle.dim_core.specs.declared.fault.DimFault.TheVariants.{BadAttribute};
-ghost use Rattle.dim_core.specs.Draft.{first_bad_among, IsResolvedAttribute};
-ghost use Rattle.dim_core.specs.Outline.{text_among, is_same_attribute};
-ghost use Rattle.dim_core.specs.Refusal.{IsAnsweredBy};
+ghost use Rattle.std.specs.Prelude.{◌≡◌, [], ◌∷◌, ◌++◌, ℕ, List, Some, not, position, IfOk, if◌then◌else◌};
+ghost use Rattle.std.specs.List.{list_any};
+ghost use Rattle.dim_name.specs.Name.{place_of};
+ghost use Rattle.dim_core.specs.Outline.{is_attribute, is_same_attribute, text_among};
 
-use crate::attribute::{Attribute, NamedAttribute};
-use crate::{DimFault, Name};
+use crate::Name;
+use crate::attribute::Attribute;
+use dim_name::NameFault;
 use indexmap::IndexSet;
-use std::alloc::Global;
+use std::alloc::{AllocError, Global};
 use std::marker::Model;
 
-/// The attributes of a dimension's elements, in the order of their calls.
+/// The attributes of a dimension's elements, in the order of their calls, each found by its element and name.
 #[derive(Drop)]
 pub struct Attributes {
     list: Vec<Attribute>,
+    // The names of the attributes, each once.
+    names: IndexSet<Name>,
+    // The element of each attribute, with the place of its name.
+    keys: IndexSet<(u32, usize)>,
 }
 
 impl Model for Attributes {
     ghost use Rattle.std.specs.Prelude.{List};
+    ghost use Rattle.std.specs.List.{AllZip};
     ghost use Rattle.dim_core.specs.declared.attribute.Attribute.{Attribute};
+    ghost use Rattle.dim_core.specs.Kept.{IsKeyOf};
 
     ghost Value = { List Attribute };
 
     ghost view = { λ a. a.list.items };
+
+    ghost invariant = { λ a. AllZip (IsKeyOf a.names.keys) a.list.items a.keys.keys };
 }
 
 impl Attributes {
@@ -33,6 +40,8 @@ impl Attributes {
     {
         Attributes {
             list: Vec::new(alloc),
+            names: IndexSet::new(alloc),
+            keys: IndexSet::new(alloc),
         }
     }
 
@@ -46,28 +55,55 @@ impl Attributes {
     pub fn text_of(&self, element: u32, name: &Name) -> &[u8]
         ensures { result.now ≡ text_among self.now element name.now }
     {
-        match self.list.iter().find(|attribute| attribute.element == element
-            && name == &attribute.name)
-        {
-            Some(attribute) => attribute.text.as_slice(),
+        match self.place_of(element, name) {
+            Some(place) => self.list[place].text.as_slice(),
             None => &[],
         }
     }
+
+    fn place_of(&self, element: u32, name: &Name) -> Option<usize>
+        ensures { result ≡ position (is_attribute element name.now) self.now }
+    {
+        match self.names.get_index_of(name) {
+            Some(number) => self.keys.get_index_of(&(element, number)),
+            None => None,
+        }
+    }
+
+    /// Adds an attribute as the last, unless its element has it already.
+    pub fn add(&mut self, alloc: Global, attribute: Attribute) -> Result<bool, AllocError>
+        ensures added { IfOk result (λ added. added ≡ not (list_any (is_same_attribute attribute) self.old)) }
+        ensures list { IfOk result (λ added. self.new ≡ (if added then self.old ++ attribute ∷ [] else self.old)) }
+    {
+        self.list.reserve(1)?;
+        let number = number_of(alloc, &mut self.names, &attribute.name)?;
+        if !self.keys.insert((attribute.element, number))? {
+            return Ok(false);
+        }
+        self.list.push_reserved(attribute);
+        Ok(true)
+    }
 }
 
-/// The attributes of these calls, or the first call that is bad: whose element isn't among the names, or that repeats one
-/// before it.
-pub fn resolve_attributes(
-    alloc: Global,
-    names: &IndexSet<Name>,
-    calls: Vec<NamedAttribute>,
-) -> Result<Attributes, DimFault>
-    ensures resolved { IfOk result (λ attributes. AllZip (IsResolvedAttribute names.now.keys) calls.items attributes) }
-    ensures once { IfOk result (λ attributes. IsDistinct is_same_attribute attributes) }
-    ensures answered { IsAnsweredBy (option_map BadAttribute (first_bad_among names.now.keys calls.items)) result }
+// The place of a name, which is added where it isn't there.
+fn number_of(alloc: Global, names: &mut IndexSet<Name>, name: &Name) -> Result<usize, AllocError>
+    ensures number { IfOk result (λ number. place_of names.new.keys name.now ≡ Some number) }
+    ensures kept { (other : List ℕ) (number : ℕ) → place_of names.old.keys other ≡ Some number → place_of names.new.keys other ≡ Some number }
 {
-    if calls.is_empty() {
-        return Ok(Attributes::new(alloc));
+    if let Some(number) = names.get_index_of(name) {
+        return Ok(number);
     }
-    Err(DimFault::Memory)
+    let number = names.len();
+    names.insert(copy_of(alloc, name)?)?;
+    Ok(number)
+}
+
+fn copy_of(alloc: Global, name: &Name) -> Result<Name, AllocError>
+    ensures { IfOk result (λ copy. copy ≡ name.now) }
+{
+    match Name::new(alloc, name.shown()) {
+        Ok(copy) => Ok(copy),
+        Err(NameFault::Memory) => Err(AllocError),
+        Err(NameFault::NotAName) => unreachable!(),
+    }
 }

@@ -4,9 +4,8 @@ ghost use Rattle.dim_core.specs.Refusal.{refusal_of, first_cause, finish_refusal
 ghost use Rattle.dim_order.specs.Loops.{IsOrder, ArePartsWithin, first_on_loop};
 
 use crate::attribute::NamedAttribute;
-use crate::attributes::resolve_attributes;
 use crate::components::NamedComponents;
-use crate::resolve::{first_unknown, resolve_all};
+use crate::resolve::{first_unknown, resolve_all, resolve_attributes};
 use crate::{DimFault, Dimension, Name};
 use dim_order::{Components, first_on_loop, order_of};
 use indexmap::IndexSet;

@@ -11,6 +11,7 @@ mod builder;
 mod components;
 mod dimension;
 mod fault;
+mod laws;
 mod resolve;
 
 pub use attribute::Attribute;
@@ -18,6 +19,7 @@ pub use builder::{Builder, MAX_COMPONENTS, MAX_ELEMENTS, MAX_WEIGHT};
 pub use dim_name::{Name, NameFault};
 pub use dimension::Dimension;
 pub use fault::DimFault;
+pub use laws::laws_of_own_definitions;
 
 #[cfg(test)]
 mod tests;

@@ -1,9 +1,15 @@
-ghost use Rattle.std.specs.Prelude.{◌≡◌, ◌<◌, ◌≤◌, length, IfSome, not, position, IfOk, All, IsTrue};
-ghost use Rattle.std.specs.List.{AllZip};
-ghost use Rattle.dim_core.specs.Draft.{are_known, IsResolved};
+ghost use Rattle.std.specs.Prelude.{◌≡◌, ◌<◌, ◌≤◌, true, List, [], ◌∷◌, ◌++◌, length, IfSome, not, position, option_map, IfOk, All, IsTrue};
+ghost use Rattle.std.specs.List.{AllZip, IsDistinct};
+ghost use Rattle.dim_core.specs.declared.attribute.NamedAttribute.{NamedAttribute};
+ghost use Rattle.dim_core.specs.declared.fault.DimFault.TheVariants.{BadAttribute};
+ghost use Rattle.dim_core.specs.Draft.{are_known, is_bad_attribute, first_bad_among, IsResolved, IsResolvedAttribute};
+ghost use Rattle.dim_core.specs.Outline.{is_same_attribute};
+ghost use Rattle.dim_core.specs.Refusal.{IsAnsweredBy};
 
-use crate::Name;
+use crate::attribute::{Attribute, NamedAttribute};
+use crate::attributes::Attributes;
 use crate::components::NamedComponents;
+use crate::{DimFault, Name};
 use dim_order::Components;
 use indexmap::IndexSet;
 use std::alloc::{AllocError, Global};
@@ -56,4 +62,56 @@ fn resolve(
         resolved.push((index as u32, *weight))?;
     }
     Ok(Components::new(resolved))
+}
+
+/// The attributes of these calls, or the number of the first bad call: its element isn't among the names, or it repeats a
+/// call before it.
+pub fn resolve_attributes(
+    alloc: Global,
+    names: &IndexSet<Name>,
+    calls: Vec<NamedAttribute>,
+) -> Result<Attributes, DimFault>
+    requires few { length names.now.keys ≤ 100000 }
+    ensures resolved { IfOk result (λ resolved. AllZip (IsResolvedAttribute names.now.keys) calls.items resolved) }
+    ensures once { IfOk result (λ resolved. IsDistinct is_same_attribute resolved) }
+    ensures answered { IsAnsweredBy (option_map BadAttribute (first_bad_among names.now.keys calls.items)) result }
+{
+    let mut resolved = Attributes::new(alloc);
+    for call in calls {
+        let before = resolved.as_slice().len();
+        if !add_call(alloc, names, call, &mut resolved)? {
+            return Err(DimFault::BadAttribute(before as u64 + 1));
+        }
+    }
+    Ok(resolved)
+}
+
+// Adds the attribute of a call, unless the call is bad after those that came before it.
+fn add_call(
+    alloc: Global,
+    names: &IndexSet<Name>,
+    call: NamedAttribute,
+    resolved: &mut Attributes,
+) -> Result<bool, AllocError>
+    requires few { length names.now.keys ≤ 100000 }
+    ensures bad { IfOk result (λ added. (before : List NamedAttribute) → AllZip (IsResolvedAttribute names.now.keys) before resolved.old → added ≡ not (is_bad_attribute names.now.keys before call)) }
+    ensures added { IfOk result (λ added. added ≡ true → (before : List NamedAttribute) → AllZip (IsResolvedAttribute names.now.keys) before resolved.old → AllZip (IsResolvedAttribute names.now.keys) (before ++ call ∷ []) resolved.new) }
+    ensures once { IfOk result (λ added. added ≡ true → IsDistinct is_same_attribute resolved.old → IsDistinct is_same_attribute resolved.new) }
+{
+    let NamedAttribute {
+        element,
+        name,
+        text,
+    } = call;
+    match names.get_index_of(&element) {
+        Some(index) => resolved.add(
+            alloc,
+            Attribute {
+                element: index as u32,
+                name,
+                text,
+            },
+        ),
+        None => Ok(false),
+    }
 }

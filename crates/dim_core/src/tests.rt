@@ -66,3 +66,58 @@ fn names_the_first_element_of_a_loop(rt: HostRuntime) -> Result<(), Fail> {
     assert!(rt; matches!(short.finish(), Err(DimFault::UnknownComponent(2))));
     Ok(())
 }
+
+// The month January with the texts of these calls.
+fn months(alloc: Global, calls: &[(&str, &str, &str)]) -> Result<Builder, Fail> {
+    let mut builder = Builder::new(alloc, name(alloc, "Month")?)?;
+    for (element, attribute, text) in calls {
+        builder.attribute(
+            name(alloc, element)?,
+            name(alloc, attribute)?,
+            text.as_bytes().to_vec(alloc)?,
+        )?;
+    }
+    builder.leaf(name(alloc, "Jan")?)?;
+    builder.leaf(name(alloc, "Feb")?)?;
+    Ok(builder)
+}
+
+#[test]
+fn keeps_attributes_and_names_the_first_bad_one(rt: HostRuntime) -> Result<(), Fail> {
+    let alloc = rt.alloc();
+    let good = [
+        ("feb", "Prev", "Jan"),
+        ("Jan", "PREV", ""),
+        ("Feb", "Long", "February"),
+    ];
+    let month = months(alloc, &good)?.finish()?;
+    assert_eq!(rt;
+        month.attribute(1, &name(alloc, "p rev")?),
+        b"Jan".as_slice()
+    );
+    assert_eq!(rt;
+        month.attribute(1, &name(alloc, "Long")?),
+        b"February".as_slice()
+    );
+    assert_eq!(rt; month.attribute(0, &name(alloc, "Long")?), b"".as_slice());
+    assert_eq!(rt; month.attribute(0, &name(alloc, "Short")?), b"".as_slice());
+    assert_eq!(rt; month.attributes().len(), 3);
+    assert_eq!(rt; month.attributes()[1].element, 0);
+    assert_eq!(rt; month.attributes()[1].name.shown(), b"PREV".as_slice());
+    assert_eq!(rt;
+        month.attributes()[2].text.as_slice(),
+        b"February".as_slice()
+    );
+    let repeated = months(alloc, &[("Feb", "Prev", "Jan"), ("f e b", "PREV", "Feb")])?;
+    assert!(rt; matches!(repeated.finish(), Err(DimFault::BadAttribute(2))));
+    let unknown = months(
+        alloc,
+        &[
+            ("Feb", "Prev", "Jan"),
+            ("Jan", "Prev", ""),
+            ("Mar", "Prev", "Feb"),
+        ],
+    )?;
+    assert!(rt; matches!(unknown.finish(), Err(DimFault::BadAttribute(3))));
+    Ok(())
+}

@@ -19,7 +19,7 @@ built_exact into some e = exact_checked (record {}) add into some e
 head_built : Exact building head head (built read_head) Always
 head_built = built_exact (λ u x h. inl h) (has_token (begins_both (begins_statement (codes "DIM")))) head_exact
 
-element_built : Exact building element element (built read_element) Always
+pub element_built : Exact building element element (built read_element) Always
 element_built = built_exact (λ u x h. inr (inl h)) (has_token element_begins) element_exact
 
 end_built : Exact building ending ending (built read_end) Always

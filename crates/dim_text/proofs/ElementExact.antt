@@ -39,10 +39,13 @@ unfolding read_part
 part_exact = exact_then (exact_name unscanned) (λ shown. exact_made (λ n. (shown, n)) weight_exact)
 
 -- `, part`
-abbrev next_part : Grammar Lexeme (List ℕ × ℤ)
+abbrev pub next_part : Grammar Lexeme (List ℕ × ℤ)
 next_part = both (one (sign (codes ","))) (λ _. part)
 
-next_part_exact : Exact free next_part next_part read_next_part (Not (is_sign (codes "*")))
+pub next_part_begins : Begins next_part (is_sign (codes ",")) true
+next_part_begins = begins_both (sign_begins (codes ",") (codes ","))
+
+pub next_part_exact : Exact free next_part next_part read_next_part (Not (is_sign (codes "*")))
 unfolding read_next_part
 next_part_exact = exact_then (exact_sign unscanned (codes ",")) (λ _. part_exact)
 

@@ -3,6 +3,15 @@ pub mod BlockExact
 pub mod Built
 pub mod Refusals
 pub mod Quotable
+pub mod Spells
+pub mod SpelledStatements
+pub mod Rebuilt
+pub mod Ends
+pub mod OneReading
+pub mod OneBlock
+pub mod PrintedBack
+pub mod Adding
+pub mod PrintedParts
 pub mod Answering
 pub mod ElementLoop
 pub mod Rests

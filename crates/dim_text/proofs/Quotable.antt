@@ -1,8 +1,9 @@
 -- What tokens give can be written as tokens again.
-use Rattle.std.proofs.Common.{◌≡◌, ◌≤◌, ℕ, ℤ, List, [], ◌∷◌, ◌++◌, length, true, Ok, Err, Option, Some, None, Result, refl, sym, ap, ◌∙◌, subst, inl, inr, ◌&&◌}
+use Rattle.std.proofs.Common.{◌≡◌, ◌≤◌, ◌<◌, ◌+◌, ℕ, ℤ, List, [], ◌∷◌, ◌++◌, length, true, false, Ok, Err, Option, Some, None, Result, refl, sym, ap, ◌∙◌, subst, inl, inr, ◌&&◌, arith, length-append, IfOk, OnOk}
 use Rattle.std.proofs.lemmas.List.Elements.{All-nil, All-cons, All-head, All-tail, All-push, All-take, All-drop}
 use Rattle.std.proofs.Math.Seq.{take-append_seam, drop-append_seam}
 use Rattle.std.specs.List.{All, AllZip}
+use Rattle.cube_lex.specs.Lexed.{IsWellFormed}
 use Rattle.cube_lex.specs.Lexeme.{Lexeme}
 use Rattle.cube_lex.specs.Parts.{IsToken, IsQuoted, token_limit}
 use Rattle.cube_lex.specs.Quoted.{unquoted}
@@ -16,25 +17,33 @@ use Rattle.grammar.specs.Watch.{AllPass, joined, Passes}
 use Rattle.grammar.proofs.Tokens.{when_picks, and_is}
 use Rattle.dim_core.specs.Draft.{Draft, IsFinished, empty_draft, with_element, with_attribute}
 use Rattle.dim_core.specs.Outline.{Element, Outline}
-use Rattle.dim_core.specs.declared.attribute.Attribute.{Attribute}
-use Rattle.dim_core.specs.declared.attribute.NamedAttribute.{NamedAttribute}
 use Rattle.dim_core.specs.declared.fault.DimFault.{DimFault}
 use Rattle.dim_core.specs.Refusal.{refusal_of, finish_refusal_of}
-use Rattle.dim_text.specs.Building.{add, building, element_added, finished}
+use Rattle.grammar.specs.Cursor.{Gives}
+use Rattle.grammar.specs.declared.cursor.Unwatched.{Unwatched}
+use Rattle.grammar.specs.declared.stop.Stop.{Stop}
+use Rattle.grammar.proofs.Begins.{Begins, begins_both}
+use Rattle.grammar.proofs.Top.{read_told}
+use Rattle.dim_text.specs.Building.{add, opened, building, element_added, finished}
 use Rattle.dim_text.specs.Progress.{Progress, Text, IsBuilt}
-use Rattle.dim_text.specs.Statement.{Statement, Head, Leaf, Consolidated, Attribute, End, Close, head, parts, leaf, consolidated, attribute, element, ending, closing, statement}
-use Rattle.dim_text.specs.Writable.{AreTokens, IsQuotable, IsWritable}
+use Rattle.dim_text.specs.Statement.{Statement, Head, Leaf, Consolidated, Attribute, End, Close, head, parts, leaf, consolidated, attribute, element, ending, closing, statement, unit, body}
+use Rattle.dim_text.specs.Reading.{read_head, read_body, is_element_word}
+use Rattle.dim_text.specs.Views.{head_view, GivesText}
+use Rattle.dim_text.specs.declared.fault.Refusal.{Refusal}
+use Rattle.dim_text.proofs.BlockExact.{body_exact}
+use Rattle.dim_text.proofs.ElementExact.{head_exact, end_begins}
+use Rattle.dim_text.specs.Writable.{IsQuotable, IsWritable}
 
 -- Two halves of a list of tokens.
 
-abbrev IsLexeme : Lexeme → Type 0
-IsLexeme t = IsToken t.kind t.piece × (length t.piece ≤ token_limit)
+abbrev pub AreTokens : List Lexeme → Type 0
+AreTokens ts = All IsWellFormed ts
 
 pub first_tokens : (u v : List Lexeme) → AreTokens (u ++ v) → AreTokens u
-first_tokens u v h = subst AreTokens (take-append_seam u v) (All-take IsLexeme (length u) (u ++ v) h)
+first_tokens u v h = subst AreTokens (take-append_seam u v) (All-take IsWellFormed (length u) (u ++ v) h)
 
 pub last_tokens : (u v : List Lexeme) → AreTokens (u ++ v) → AreTokens v
-last_tokens u v h = subst AreTokens (drop-append_seam u v) (All-drop IsLexeme (length u) (u ++ v) h)
+last_tokens u v h = subst AreTokens (drop-append_seam u v) (All-drop IsWellFormed (length u) (u ++ v) h)
 
 -- Each tree that G reads from tokens has P.
 
@@ -47,13 +56,15 @@ keeps_any = record { at = λ u a tokens h. tt }
 keeps_done : {A : Type 0} {P : A → Type 0} {a : A} → P a → Keeps (done a) P
 keeps_done {P = P} p = record { at = λ u b tokens h. subst P (sym h.1) p }
 
-keeps_one : {A : Type 0} {pick : Lexeme → Option A} {P : A → Type 0} → ((t : Lexeme) (a : A) → IsToken t.kind t.piece × (length t.piece ≤ token_limit) → pick t ≡ Some a → P a) → Keeps (one pick) P
-keeps_one tells = record { at = λ u a tokens (t, is, picks). tells t a (All-head IsLexeme t [] (subst AreTokens is tokens)) picks }
+keeps_one : {A : Type 0} {pick : Lexeme → Option A} {P : A → Type 0} → ((t : Lexeme) (a : A) → IsWellFormed t → pick t ≡ Some a → P a) → Keeps (one pick) P
+keeps_one tells = record { at = λ u a tokens (t, is, picks). tells t a (All-head IsWellFormed t [] (subst AreTokens is tokens)) picks }
 
 keeps_both : {A B : Type 0} {G : Grammar Lexeme A} {K : A → Grammar Lexeme B} {P : A → Type 0} {Q : B → Type 0} → Keeps G P → ((a : A) → P a → Keeps (K a) Q) → Keeps (both G K) Q
-keeps_both g k = record { at = λ u b tokens (v, w, a, parts, h, l). (
-  let whole : AreTokens (v ++ w) = subst AreTokens parts tokens in
-  (k a (g.at v a (first_tokens v w whole) h)).at w b (last_tokens v w whole) l) }
+keeps_both g k = record {
+  at = λ u b tokens (v, w, a, parts, h, l). (
+      let whole : AreTokens (v ++ w) = subst AreTokens parts tokens in
+      (k a (g.at v a (first_tokens v w whole) h)).at w b (last_tokens v w whole) l);
+}
 
 keeps_either_at : {A : Type 0} {G H : Grammar Lexeme A} (P : A → Type 0) → Keeps G P → Keeps H P → (u : List Lexeme) (a : A) → AreTokens u → either G H u a → P a
 keeps_either_at P g h u a tokens (inl e) = g.at u a tokens e
@@ -183,3 +194,34 @@ finished_writable draft d w h = record {
   attributes = zip_keeps _ (λ a. IsQuotable a.name × IsQuotable a.text) (λ a. IsQuotable a.name × IsQuotable a.text)
       (λ x y r q. (subst IsQuotable (sym r.1) q.0, subst IsQuotable (sym r.2) q.1)) draft.attributes d.attributes h.attributes w.attributes;
 }
+
+-- What is read of tokens.
+
+-- a head that was read
+pub head_told : (result : Result (ℕ × List ℕ) (Stop Refusal)) (state : Unwatched) (ts left : List Lexeme) → AreTokens ts → Gives head_view result state left (read_head (record {}) ts) → IfOk result (λ x. IsQuotable x.1) × OnOk result (AreTokens left)
+head_told (Ok x) state ts left tokens read =
+    let (text, parts, is) = read_told head_exact (record {}) ts (Head x.0 x.1) state left read in
+    let whole : AreTokens (text ++ left) = subst AreTokens parts tokens in
+    (head_keeps.at text (Head x.0 x.1) (first_tokens text left whole) is.text, last_tokens text left whole)
+head_told (Err stop) state ts left tokens read = (tt, tt)
+
+-- the end of a block has a token
+ending_begins : Begins (unit ending) is_element_word false
+ending_begins = begins_both end_begins
+
+body_some : (u : List Lexeme) (a : Unit {0}) → body u a → 0 < length u
+body_some u a (v, w, x, parts, h, (v2, w2, y, parts2, h2, l)) =
+    let (t, rest, is, _) = ending_begins.at v2 y h2 in
+    omega (arith, ap length parts, length-append v w, ap length parts2, length-append v2 w2, ap length is)
+
+-- what stands behind a head, with a name that can be written
+pub body_told : (line : ℕ) (shown : List ℕ) (result : Result Text (Stop Refusal)) (ts left : List Lexeme) → AreTokens ts → IsQuotable shown → GivesText result left (read_body (opened line shown) ts)
+    → IfOk result (λ text. IsWritable text.dimension) × OnOk result (length left < length ts) × OnOk result (AreTokens left)
+body_told line shown (Ok text) ts left tokens quotable (p, read, built) =
+    let (block, parts, is) = read_told body_exact (opened line shown) ts tt p left read in
+    let whole : AreTokens (block ++ left) = subst AreTokens parts tokens in
+    let some : 0 < length block = body_some block tt is.text in
+    let size : length ts ≡ length block + length left = ap length parts ∙ length-append block left in
+    let draft : IsWritableDraft p.draft = passes_keep (opened line shown) p block (first_tokens block left whole) (empty_writable shown quotable) is.passes in
+    (finished_writable p.draft text.dimension draft built.dimension, omega (arith, some, size), last_tokens block left whole)
+body_told line shown (Err stop) ts left tokens quotable read = (tt, tt, tt)

@@ -5,4 +5,6 @@ pub mod Reading
 pub mod Views
 pub mod Answers
 pub mod Writable
+pub mod Spelled
+pub mod Piece
 pub mod Printed

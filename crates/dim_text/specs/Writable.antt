@@ -2,14 +2,9 @@
 use Rattle.std.specs.Prelude.{ℕ, ◌≤◌, List, length, IsTrue, All}
 use Rattle.std.specs.List.{list_all}
 use Rattle.cube_lex.specs.Bytes.{is_plain}
-use Rattle.cube_lex.specs.Lexeme.{Lexeme}
-use Rattle.cube_lex.specs.Parts.{IsToken, token_limit}
+use Rattle.cube_lex.specs.Parts.{token_limit}
 use Rattle.cube_lex.specs.Quoted.{quoted}
 use Rattle.dim_core.specs.Outline.{Outline}
-
--- each is a token of its kind that isn't too long
-abbrev pub AreTokens : List Lexeme → Type 0
-AreTokens tokens = All (λ t. IsToken t.kind t.piece × (length t.piece ≤ token_limit)) tokens
 
 -- the bytes may stand in a quoted text, which isn't too long for a token
 abbrev pub IsQuotable : List ℕ → Type 0

@@ -1,11 +1,12 @@
-ghost use Rattle.std.specs.Prelude.{◌≡◌, ◌<◌, length, drop, OnOk};
+ghost use Rattle.std.specs.Prelude.{◌≡◌, ◌<◌, length, drop, All, OnOk};
+ghost use Rattle.cube_lex.specs.Lexed.{IsWellFormed};
 ghost use Rattle.grammar.specs.Cursor.{lexemes};
 ghost use Rattle.dim_text.specs.Answers.{Answers};
 ghost use Rattle.dim_text.specs.Building.{nothing, opened};
 ghost use Rattle.dim_text.specs.Progress.{Progress, IsBuilt};
 ghost use Rattle.dim_text.specs.Reading.{read_elements, read_ending, read_closing, read_body, read_block};
 ghost use Rattle.dim_text.specs.Views.{GivesWork, GivesEnd, GivesText, Explains};
-ghost use Rattle.dim_text.specs.Writable.{AreTokens, IsQuotable};
+ghost use Rattle.dim_text.specs.Writable.{IsQuotable};
 
 use crate::element::{element_at, element_comes, head_at};
 use crate::fault::{DimTextCause, DimTextFault, Refusal};
@@ -72,11 +73,11 @@ pub fn body_at(
     head: u32,
     name: Name,
 ) -> Result<DimText, Stop<Refusal>>
-    requires tokens { AreTokens (lexemes cursor.now.tokens.now) }
+    requires tokens { All IsWellFormed (lexemes cursor.now.tokens.now) }
     requires name { IsQuotable name }
     ensures read { GivesText result (lexemes cursor.new.tokens.now) (read_body (opened head name) (lexemes cursor.old.tokens.now)) }
     ensures shorter { OnOk result (length cursor.new.tokens.now < length cursor.old.tokens.now) }
-    ensures rest { OnOk result (AreTokens (lexemes cursor.new.tokens.now)) }
+    ensures rest { OnOk result (All IsWellFormed (lexemes cursor.new.tokens.now)) }
 {
     match statements_at(alloc, cursor, head, name) {
         Ok(block) => Ok(DimText::new(block)),
@@ -86,14 +87,11 @@ pub fn body_at(
 
 /// Reads a block, `DIM name ; { element } END ;`.
 #[tactic(auto, unfolding(crate::specs::Reading::read_block, crate::specs::Reading::read_opening))]
-pub fn block_at(
-    alloc: Global,
-    cursor: &mut Cursor<'_, Unwatched>,
-) -> Result<DimText, Stop<Refusal>>
-    requires { AreTokens (lexemes cursor.now.tokens.now) }
+pub fn block_at(alloc: Global, cursor: &mut Cursor<'_, Unwatched>) -> Result<DimText, Stop<Refusal>>
+    requires { All IsWellFormed (lexemes cursor.now.tokens.now) }
     ensures read { GivesText result (lexemes cursor.new.tokens.now) (read_block nothing (lexemes cursor.old.tokens.now)) }
     ensures shorter { OnOk result (length cursor.new.tokens.now < length cursor.old.tokens.now) }
-    ensures rest { OnOk result (AreTokens (lexemes cursor.new.tokens.now)) }
+    ensures rest { OnOk result (All IsWellFormed (lexemes cursor.new.tokens.now)) }
 {
     let (head, name) = head_at(alloc, cursor)?;
     body_at(alloc, cursor, head, name)
@@ -129,12 +127,14 @@ fn rest_from<'a>(tokens: &'a Tokens<'a>, from: usize) -> &'a [Token<'a>]
     rest
 }
 
-/// Reads the block that begins at token `from`, and gives it with the place of the token after it.
+/// Reads the block that begins at token `from`, and gives it with the place of the token after it. The tokens are those of a
+/// text, as `tokens_until` says of what it gives.
 pub fn read(
     alloc: Global,
     tokens: &Tokens<'_>,
     from: usize,
 ) -> Result<(DimText, usize), DimTextFault>
+    requires { All IsWellFormed tokens.now.lexemes }
     ensures { Answers (drop from tokens.now.lexemes) tokens.now.end_line from result }
 {
     let rest = rest_from(tokens, from);

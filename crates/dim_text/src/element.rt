@@ -1,10 +1,11 @@
-ghost use Rattle.std.specs.Prelude.{◌≡◌, ◌<◌, ◌≤◌, length, IfOk, OnOk, codes};
+ghost use Rattle.std.specs.Prelude.{◌≡◌, ◌<◌, ◌≤◌, length, All, IfOk, OnOk, codes};
+ghost use Rattle.cube_lex.specs.Lexed.{IsWellFormed};
 ghost use Rattle.grammar.specs.Cursor.{lexemes, Reads};
 ghost use Rattle.grammar.specs.Reading.{starts};
 ghost use Rattle.dim_text.specs.Reading as reading;
 ghost use Rattle.dim_text.specs.Statement.{signed};
 ghost use Rattle.dim_text.specs.Views.{element_view, head_view};
-ghost use Rattle.dim_text.specs.Writable.{AreTokens, IsQuotable};
+ghost use Rattle.dim_text.specs.Writable.{IsQuotable};
 
 use crate::fault::Refusal;
 use dim_core::Name;
@@ -21,15 +22,27 @@ pub enum Element {
     Attribute(u32, Name, Name, Vec<u8>),
 }
 
-/// Reads `DIM name ;`.
-#[tactic(auto, unfolding(crate::specs::Reading::read_head))]
+/// Reads the head of a block, `DIM name ;`, and gives its line and its name.
 pub fn head_at(
     alloc: Global,
     cursor: &mut Cursor<'_, Unwatched>,
 ) -> Result<(u32, Name), Stop<Refusal>>
     ensures read { Reads head_view reading.read_head cursor.old result cursor.new }
     ensures shorter { OnOk result (length cursor.new.tokens.now < length cursor.old.tokens.now) }
-    ensures writable { AreTokens (lexemes cursor.old.tokens.now) → IfOk result (λ head. IsQuotable head.1 × AreTokens (lexemes cursor.new.tokens.now)) }
+    // From the tokens of a text comes a name that can be written.
+    ensures quotable { All IsWellFormed (lexemes cursor.old.tokens.now) → IfOk result (λ head. IsQuotable head.1) }
+    ensures rest { All IsWellFormed (lexemes cursor.old.tokens.now) → OnOk result (All IsWellFormed (lexemes cursor.new.tokens.now)) }
+{
+    head_words(alloc, cursor)
+}
+
+#[tactic(auto, unfolding(crate::specs::Reading::read_head))]
+fn head_words(
+    alloc: Global,
+    cursor: &mut Cursor<'_, Unwatched>,
+) -> Result<(u32, Name), Stop<Refusal>>
+    ensures read { Reads head_view reading.read_head cursor.old result cursor.new }
+    ensures shorter { OnOk result (length cursor.new.tokens.now < length cursor.old.tokens.now) }
 {
     let line = word(cursor, b"DIM")?;
     let shown = name(alloc, cursor)?;

@@ -8,6 +8,7 @@
 mod block;
 mod element;
 mod fault;
+mod pieces;
 mod printing;
 mod text;
 mod work;

@@ -1,6 +1,6 @@
 use Rattle.std.proofs.Common.{Option, subst, None}
 use Rattle.dim_core.specs.declared.fault.DimFault.{DimFault}
-use Rattle.dim_core.specs.Refusal.{first_cause, IsAnsweredBy}
+use Rattle.dim_core.specs.Refusal.{IsAnsweredBy}
 use Rattle.dim_core.specs.Draft.{first_bad_attribute, first_loop}
 use Rattle.dim_core.proofs.Answering.{unless_memory, causes_left}
 use Rattle.dim_core.proofs.CallerLemmas.{first_unknown-earlier}

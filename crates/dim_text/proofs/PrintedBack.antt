@@ -1,0 +1,77 @@
+-- What is printed of a dimension is read as the dimension.
+use Rattle.std.proofs.Common.{◌≡◌, ◌≤◌, ◌<◌, ℕ, ℤ, List, [], ◌∷◌, ◌++◌, length, map, Result, Ok, Err, is_ok, OnOk, if◌then◌else◌, refl, sym, ap, ◌∙◌, subst, inl, append-nil}
+use Rattle.std.proofs.lemmas.List.Elements.{All-head, All-tail}
+use Rattle.std.specs.List.{All, AllZip}
+use Rattle.cube_lex.proofs.WrittenTexts.{written-reads}
+use Rattle.cube_lex.specs.Lexeme.{Lexeme}
+use Rattle.cube_lex.specs.Written.{Spelling, spelling_of, IsWritten, Adds}
+use Rattle.dim_name.specs.Name.{is_same_name, place_of}
+use Rattle.dim_core.proofs.Naming.{place_at}
+use Rattle.dim_core.proofs.OwnDefinitions.{written_is}
+use Rattle.dim_core.specs.Draft.{Draft, IsFinished, IsResolved, IsResolvedPart, IsResolvedAttribute}
+use Rattle.dim_core.specs.Outline.{Element, Outline, IsDimension, IsWeight, names_of}
+use Rattle.dim_core.specs.Written.{by_name, written, written_element, written_attribute}
+use Rattle.grammar.specs.Watch.{Passes}
+use Rattle.grammar.proofs.Exact.{passes-append, passes_one}
+use Rattle.dim_text.specs.Building.{add, building, nothing, opened}
+use Rattle.dim_text.specs.Printed.{Builds, IsBlockOf, IsBodyOf, IsTextOf, IsPrinted}
+use Rattle.dim_text.specs.Progress.{Progress}
+use Rattle.dim_text.specs.Spelled.{head_spelled, body_spelled, draft_spelled}
+use Rattle.dim_text.specs.Statement.{Head, head, body, dimension}
+use Rattle.dim_text.proofs.OneBlock.{answer_is}
+use Rattle.dim_text.proofs.Rebuilt.{body_again, unit_of, dimension_again}
+use Rattle.dim_text.proofs.SpelledStatements.{head_spells}
+use Rattle.dim_text.proofs.Spells.{split_at}
+
+-- tokens that build the definitions of a dimension build the dimension
+pub body_of : (d : Outline) → IsDimension d → IsBodyOf d (body_spelled (written d))
+body_of d is line ts e =
+    let again = body_again d is line ts e in
+    record {
+      built = again.built;
+      text = record { text = again.text; passes = again.passes };
+      finished = subst (λ draft. IsFinished draft d) (sym again.draft) (dimension_again d is);
+      only = λ other h. written_is d other is (subst (λ draft. IsFinished draft other) again.draft h);
+    }
+
+pub block_of : (d : Outline) → IsDimension d → IsBlockOf d (draft_spelled (written d))
+block_of d is ts e =
+    let (u, v, parts, front, back) = split_at ts (head_spelled d.name) (body_spelled (written d)) e in
+    let (x, h, (line, same)) = (head_spells 0 d.name is.is_named).at u front in
+    let rest : Builds body (opened line d.name) d v = body_of d is line v back in
+    let added : add nothing x ≡ Ok (opened line d.name) = ap (add nothing) same in
+    record {
+      built = rest.built;
+      text = record {
+        text = (u, v, tt, parts, unit_of u x h, rest.text.text);
+        passes = subst (λ w. Passes building nothing w rest.built) (sym parts)
+            (passes-append building nothing (opened line d.name) rest.built u v (passes_one building nothing (opened line d.name) u (x, inl h, added)) rest.text.passes);
+      };
+      finished = rest.finished;
+      only = rest.only;
+    }
+
+text_of : (d : Outline) → IsDimension d → (bytes : List ℕ) → IsWritten (draft_spelled (written d)) bytes → IsTextOf d bytes
+text_of d is bytes written_so small lexed fault reading =
+    let (same, none) = written-reads (draft_spelled (written d)) bytes written_so small lexed fault reading in
+    (none, λ answer answers. answer_is d lexed.lexemes (block_of d is lexed.lexemes same) lexed.end_line answer answers)
+
+cancel : (old a b : List ℕ) → old ++ a ≡ old ++ b → a ≡ b
+cancel [] a b e = e
+cancel (x ∷ old) a b e = cancel old a b (cc e)
+
+-- where the tokens of a dimension were added
+pub is_printed : (d : Outline) → IsDimension d → (old new : List ℕ) → Adds old new (draft_spelled (written d)) → IsPrinted d old new
+is_printed d is old new (bytes, is_new, written_so) = record {
+  behind = body_spelled (written d);
+  adds = (bytes, is_new, written_so);
+  block = block_of d is;
+  body = body_of d is;
+  reads = λ more also. subst (IsTextOf d) (cancel old bytes more (sym is_new ∙ also)) (text_of d is bytes written_so);
+}
+
+-- what a call that appends the written tokens has printed
+pub printed_told : {T E : Type 0} (r : Result T E) (d : Outline) → IsDimension d → (old new block : List ℕ) → Adds [] block (draft_spelled (written d))
+    → new ≡ (if is_ok r then old ++ block else old) → OnOk r (IsPrinted d old new)
+printed_told (Ok x) d is old new block (bytes, block_is, written_so) e = is_printed d is old new (bytes, e ∙ ap (λ b. old ++ b) block_is, written_so)
+printed_told (Err fault) d is old new block adds e = tt
