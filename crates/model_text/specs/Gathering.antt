@@ -1,8 +1,7 @@
 -- What the pieces of a model text add, one after the other, and what is refused.
 use Rattle.std.specs.Prelude.{ℕ, Bool, ◌==◌, nat_le, nat_eq, List, [], ◌∷◌, ◌++◌, length, Option, Some, None, Result, Ok, Err, if◌then◌else◌}
 use Rattle.std.specs.List.{list_any}
-use Rattle.dim_name.specs.Name.{has_name, place_of}
-use Rattle.model_text.specs.Contents.{cube_names, script_names}
+use Rattle.dim_name.specs.Name.{has_name, is_same_name, place_of}
 use Rattle.model_text.specs.Statement.{Piece, Version, Closing, DimensionWord, CubeWord, ScriptWord, Shown, CubeDimension, CubeEnd}
 use Rattle.model_text.specs.declared.order.OrderLine.{OrderLine}
 use Rattle.model_text.specs.declared.parts.CubeText.{CubeText}
@@ -60,10 +59,10 @@ abbrev pub has_dimension : Parts → List ℕ → Bool
 has_dimension parts shown = has_name parts.names shown
 
 abbrev pub has_cube : Parts → List ℕ → Bool
-has_cube parts shown = has_name (cube_names parts.cubes) shown
+has_cube parts shown = list_any (λ cube. is_same_name shown cube.name) parts.cubes
 
 abbrev pub has_script : Parts → List ℕ → Bool
-has_script parts shown = has_name (script_names parts.scripts) shown
+has_script parts shown = list_any (λ script. is_same_name shown script.name) parts.scripts
 
 -- a statement goes on, unless it is refused on this line for this cause
 abbrev pub unless : Bool → ℕ → ModelTextCause → Parts → Current → Result Given ModelTextFault

@@ -1,5 +1,5 @@
 -- The readers of a model text, in the shape of the code.
-use Rattle.std.specs.Prelude.{ℕ, List, [], ◌∷◌, Option, Some, None, codes, Err}
+use Rattle.std.specs.Prelude.{ℕ, Bool, List, [], ◌∷◌, Option, Some, None, codes, Err}
 use Rattle.cube_lex.specs.Lexeme.{Lexeme}
 use Rattle.grammar.specs.Watch.{unscanned}
 use Rattle.grammar.specs.Reading.{Spent, Read, Reader, gives, take_one, choose, all_of, checked, inside_result, inside, ◌>>=◌, ◌>>◌}
@@ -62,8 +62,15 @@ read_dimension_behind bytes = do
   n ← take_one unscanned (located name)
   gives (CubeDimension n.0 n.1)
 
+unfoldable pub read_rule_file : Plain (Option (ℕ × List ℕ))
+read_rule_file = do
+  line ← take_one unscanned (word (codes "RULES"))
+  bytes ← take_one unscanned file
+  take_one unscanned (sign (codes ";"))
+  gives (Some (line, bytes))
+
 unfoldable pub read_rules : Plain (Option (ℕ × List ℕ))
-read_rules = choose (is_word (codes "RULES")) (do line ← take_one unscanned (word (codes "RULES")); bytes ← take_one unscanned file; take_one unscanned (sign (codes ";")); gives (Some (line, bytes))) (gives None)
+read_rules = choose (is_word (codes "RULES")) read_rule_file (gives None)
 
 unfoldable pub read_rank : Plain (List ℕ × ℕ)
 read_rank = do
@@ -78,11 +85,13 @@ read_next_rank = do take_one unscanned (sign (codes ",")); read_rank
 unfoldable pub read_further_ranks : List ℕ × ℕ → Plain (List (List ℕ × ℕ))
 read_further_ranks first = do rest ← all_of (is_sign (codes ",")) read_next_rank; gives (first ∷ rest)
 
+unfoldable pub read_rank_list : Plain (List (List ℕ × ℕ))
+read_rank_list = do first ← read_rank; read_further_ranks first
+
 unfoldable pub read_listed : List ℕ → Plain OrderWord
 read_listed shown = do
   take_one unscanned (sign (codes "("))
-  first ← read_rank
-  list ← read_further_ranks first
+  list ← read_rank_list
   take_one unscanned (sign (codes ")"))
   gives (words.Ranks shown list)
 
@@ -99,8 +108,12 @@ read_index = do
   shown ← take_one unscanned name
   read_ranks shown
 
+-- whether the token is a number
+abbrev pub is_number : Lexeme → Bool
+is_number t = is_number_kind t.kind
+
 unfoldable pub read_position : Plain OrderWord
-read_position = choose (λ t. is_number_kind t.kind) read_constant read_index
+read_position = choose is_number read_constant read_index
 
 unfoldable pub read_next_position : Plain OrderWord
 read_next_position = do take_one unscanned (sign (codes ",")); read_position
@@ -108,11 +121,13 @@ read_next_position = do take_one unscanned (sign (codes ",")); read_position
 unfoldable pub read_further_positions : OrderWord → Plain (List OrderWord)
 read_further_positions first = do rest ← all_of (is_sign (codes ",")) read_next_position; gives (first ∷ rest)
 
+unfoldable pub read_position_list : Plain (List OrderWord)
+read_position_list = do first ← read_position; read_further_positions first
+
 unfoldable pub read_order_line : Plain (Option (ℕ × OrderLine))
 read_order_line = do
   line ← take_one unscanned (word (codes "ORDER"))
-  first ← read_position
-  list ← read_further_positions first
+  list ← read_position_list
   take_one unscanned (sign (codes ";"))
   gives (Some (line, line_of list))
 
@@ -123,11 +138,11 @@ unfoldable pub read_cube_end : Plain Piece
 read_cube_end = do
   take_one unscanned (sign (codes ")"))
   take_one unscanned (sign (codes ";"))
-  rule_file ← read_rules
-  order_line ← read_order
+  r ← read_rules
+  o ← read_order
   take_one unscanned (word (codes "END"))
   take_one unscanned (sign (codes ";"))
-  gives (CubeEnd rule_file order_line)
+  gives (CubeEnd r o)
 
 -- a reader of pieces outside of bodies
 abbrev pub Gatherer : Type 0

@@ -80,9 +80,17 @@ first_dimension = dimension_behind (codes "(")
 abbrev pub next_dimension : Grammar Lexeme Piece
 next_dimension = dimension_behind (codes ",")
 
+-- "RULES" file ";"
+abbrev pub rule_file : Grammar Lexeme (Option (ℕ × List ℕ))
+rule_file = do
+  line ← one (word (codes "RULES"))
+  bytes ← one file
+  one (sign (codes ";"))
+  done (Some (line, bytes))
+
 -- [ "RULES" file ";" ]
 abbrev pub rules : Grammar Lexeme (Option (ℕ × List ℕ))
-rules = either (do line ← one (word (codes "RULES")); bytes ← one file; one (sign (codes ";")); done (Some (line, bytes))) (done None)
+rules = either rule_file (done None)
 
 -- name whole
 abbrev pub rank : Grammar Lexeme (List ℕ × ℕ)
@@ -91,9 +99,30 @@ rank = do
   n ← one whole
   done (shown, n)
 
+-- "," name whole
+abbrev pub next_rank : Grammar Lexeme (List ℕ × ℕ)
+next_rank = do
+  one (sign (codes ","))
+  rank
+
+-- name whole { "," name whole }
+abbrev pub rank_list : Grammar Lexeme (List (List ℕ × ℕ))
+rank_list = do
+  first ← rank
+  rest ← many next_rank
+  done (first ∷ rest)
+
+-- "(" name whole { "," name whole } ")"
+abbrev pub listed : List ℕ → Grammar Lexeme OrderWord
+listed shown = do
+  one (sign (codes "("))
+  list ← rank_list
+  one (sign (codes ")"))
+  done (words.Ranks shown list)
+
 -- [ "(" name whole { "," name whole } ")" ]
 abbrev pub ranks : List ℕ → Grammar Lexeme OrderWord
-ranks shown = either (do one (sign (codes "(")); first ← rank; rest ← many (do one (sign (codes ",")); rank); one (sign (codes ")")); done (words.Ranks shown (first ∷ rest))) (done (words.Index shown))
+ranks shown = either (listed shown) (done (words.Index shown))
 
 -- whole
 abbrev pub constant : Grammar Lexeme OrderWord
@@ -110,23 +139,44 @@ index = do
 abbrev pub position : Grammar Lexeme OrderWord
 position = either constant index
 
+-- "," position
+abbrev pub next_position : Grammar Lexeme OrderWord
+next_position = do
+  one (sign (codes ","))
+  position
+
+-- position { "," position }
+abbrev pub position_list : Grammar Lexeme (List OrderWord)
+position_list = do
+  first ← position
+  rest ← many next_position
+  done (first ∷ rest)
+
 abbrev pub line_of : List OrderWord → OrderLine
-line_of words = record { words = words }
+line_of list = record { words = list }
+
+-- "ORDER" position { "," position } ";"
+abbrev pub order_line : Grammar Lexeme (Option (ℕ × OrderLine))
+order_line = do
+  line ← one (word (codes "ORDER"))
+  list ← position_list
+  one (sign (codes ";"))
+  done (Some (line, line_of list))
 
 -- [ "ORDER" position { "," position } ";" ]
 abbrev pub order : Grammar Lexeme (Option (ℕ × OrderLine))
-order = either (do line ← one (word (codes "ORDER")); first ← position; rest ← many (do one (sign (codes ",")); position); one (sign (codes ";")); done (Some (line, line_of (first ∷ rest)))) (done None)
+order = either order_line (done None)
 
 -- ")" ";" [ "RULES" file ";" ] [ "ORDER" position { "," position } ";" ] "END" ";"
 abbrev pub cube_end : Grammar Lexeme Piece
 cube_end = do
   one (sign (codes ")"))
   one (sign (codes ";"))
-  rule_file ← rules
-  order_line ← order
+  r ← rules
+  o ← order
   one (word (codes "END"))
   one (sign (codes ";"))
-  done (CubeEnd rule_file order_line)
+  done (CubeEnd r o)
 
 -- file
 abbrev pub script_file : Grammar Lexeme Piece

@@ -1,4 +1,8 @@
+ghost use Rattle.std.specs.Prelude.{◌≡◌};
+ghost use Rattle.model_text.specs.Views.{refused_on};
+
 use dim_core::DimFault;
+use grammar::Stop;
 
 /// Why a model text is refused, and on which line: the first fault in the text. For want of memory the line is 0.
 #[derive(Debug, Drop)]
@@ -25,4 +29,11 @@ pub enum ModelTextCause {
     Dim(DimFault),
     /// Want of memory.
     Memory,
+}
+
+/// Why reading stops at what is refused on this line.
+pub(crate) fn refused(line: u32, cause: ModelTextCause) -> Stop<ModelTextFault>
+    ensures { result ≡ refused_on line cause }
+{
+    Stop::Refused(ModelTextFault { line, cause })
 }

@@ -4,11 +4,16 @@
 //! refuses.
 #![tactic(auto)]
 
+mod dimensions;
 mod fault;
 mod model;
 mod order;
+mod order_line;
 mod parts;
+mod pieces;
 mod reading;
+mod tokens;
+mod work;
 
 pub use fault::{ModelTextCause, ModelTextFault};
 pub use model::ModelText;

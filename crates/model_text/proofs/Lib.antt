@@ -1,0 +1,4 @@
+pub mod Gathered
+pub mod Located
+pub mod PieceExact
+pub mod ModelExact
