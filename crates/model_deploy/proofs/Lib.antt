@@ -1,0 +1,4 @@
+pub mod Elements
+pub mod Firsts
+pub mod Greatest
+pub mod SmallProducts
