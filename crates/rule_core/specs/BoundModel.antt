@@ -6,11 +6,7 @@ use Rattle.dim_core.specs.Outline.{Outline, index_of}
 use Rattle.dim_weights.specs.Coefficients.{coef}
 use Rattle.dim_weights.specs.Table.{IsWeightsOf, leaves_of, greatest_of}
 use Rattle.cube_space.specs.Layout.{Layout, axes, cube_names}
-<<<<<<< HEAD
 use Rattle.cube_space.specs.Cells.{IsSpace, cube_of, elements_of, cell_number}
-=======
-use Rattle.cube_space.specs.Cells.{cube_of, elements_of, cell_number}
->>>>>>> e74bb05a8534e21e320e6ff602147982d252ad17
 use Rattle.cube_space.specs.Radix.{product}
 
 -- a model: its dimensions, and its cubes over them
@@ -33,15 +29,12 @@ AreWeightsOf dimensions weights = AllZip IsWeightsOf dimensions weights
 abbrev pub HasSmallProducts : Layout → Type 0
 HasSmallProducts space = (cube : ℕ) → cube < length space.cubes → weight_product space cube ≤ 1000000000
 
-<<<<<<< HEAD
 -- what a model keeps of its space: it is one, there are the coefficients of each dimension, and no weight product is above a billion
 pub record IsBound (space : Layout) (tables : List (List (List (ℕ × ℤ)))) : Type 0 where
   pub valid : IsSpace space
   pub weights : AreWeightsOf space.dimensions tables
   pub products : HasSmallProducts space
 
-=======
->>>>>>> e74bb05a8534e21e320e6ff602147982d252ad17
 -- how often the elements of a leaf cell count in those of a cell: the product over the dimensions
 abbrev pub coef_product : List Outline → List ℕ → List ℕ → ℤ
 coef_product [] cell leaf = pos 1

@@ -1,4 +1,3 @@
-<<<<<<< HEAD
 ghost use Rattle.std.specs.Prelude.{◌≡◌, ◌<◌, ◌≤◌, true, Some, None, length, map, take, drop, All, IfSome, IsTrue, IsFalse, unsigned_abs};
 ghost use Rattle.cube_space.specs.Layout.{axes_of, sizes_of};
 ghost use Rattle.cube_space.specs.Cells.{IsCell};
@@ -7,13 +6,6 @@ ghost use Rattle.rule_core.specs.BoundModel.{cell_named, elements_named, weight,
 
 use crate::model::Model;
 use cube_space::Space;
-=======
-ghost use Rattle.std.specs.Prelude.{◌≡◌, ◌≤◌, IfSome, unsigned_abs};
-ghost use Rattle.cube_space.specs.Cells.{IsCell};
-ghost use Rattle.rule_core.specs.BoundModel.{cell_named, weight};
-
-use crate::model::Model;
->>>>>>> e74bb05a8534e21e320e6ff602147982d252ad17
 use dim_name::Name;
 
 /// The cell of a cube and of one element of each of its dimensions, in their order, all by name. None where the cube or
@@ -22,7 +14,6 @@ pub fn cell_of(model: &Model, cube: &Name, names: &[Name]) -> Option<u64>
     ensures value { result ≡ cell_named model.now.space cube.now names.now }
     ensures cell { IfSome result (IsCell model.now.space) }
 {
-<<<<<<< HEAD
     let space = model.space();
     let Some(cube) = space.cube_of(cube) else {
         return None;
@@ -54,10 +45,6 @@ fn find_elements(space: &Space, dims: &[u32], names: &[Name], at: &mut [u32; 16]
         }
     }
     true
-=======
-    let _stub = model.stub();
-    unreachable!()
->>>>>>> e74bb05a8534e21e320e6ff602147982d252ad17
 }
 
 /// The weight of a leaf cell in a cell: the product, over the dimensions, of how much its element counts in the cell's.
@@ -68,7 +55,6 @@ pub fn weight(model: &Model, cell: u64, leaf: u64) -> i64
     ensures value { result ≡ weight model.now.space cell leaf }
     ensures size { unsigned_abs result ≤ 1000000000 }
 {
-<<<<<<< HEAD
     let space = model.space();
     let mut at = [0u32; 16];
     let mut below = [0u32; 16];
@@ -99,8 +85,4 @@ fn coefficients(model: &Model, dims: &[u32], at: &[u32], below: &[u32], from: us
         return 0;
     }
     coefficient * coefficients(model, dims, at, below, from + 1)
-=======
-    let _stub = model.stub();
-    unreachable!()
->>>>>>> e74bb05a8534e21e320e6ff602147982d252ad17
 }

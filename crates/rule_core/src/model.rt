@@ -14,21 +14,13 @@ pub struct Model {
 }
 
 impl std::marker::Model for Model {
-<<<<<<< HEAD
     ghost use Rattle.rule_core.specs.BoundModel.{BoundModel, IsBound};
-=======
-    ghost use Rattle.rule_core.specs.BoundModel.{BoundModel};
->>>>>>> e74bb05a8534e21e320e6ff602147982d252ad17
 
     ghost Value = { BoundModel };
 
     ghost view = { λ m. record { space = m.space } };
 
-<<<<<<< HEAD
     ghost invariant = { λ m. IsBound m.space m.weights.items };
-=======
-    ghost invariant = { λ m. ⊥ };
->>>>>>> e74bb05a8534e21e320e6ff602147982d252ad17
 }
 
 impl Model {
@@ -38,14 +30,9 @@ impl Model {
         requires products { HasSmallProducts space }
         ensures { IfOk result (λ model. model ≡ record { space = space }) }
     {
-<<<<<<< HEAD
         // a space says of itself that it is one
         let _cells = space.size();
         Ok(Model { space, weights })
-=======
-        let _ = (space, weights);
-        Err(AllocError)
->>>>>>> e74bb05a8534e21e320e6ff602147982d252ad17
     }
 
     /// Its dimensions and cubes, and the numbers of its cells.
@@ -54,30 +41,13 @@ impl Model {
         ensures valid { IsSpace self.now.space }
         ensures products { HasSmallProducts self.now.space }
     {
-<<<<<<< HEAD
         &self.space
-=======
-        let _n = self.weights.len();
-        unreachable!()
->>>>>>> e74bb05a8534e21e320e6ff602147982d252ad17
     }
 
     /// The coefficients of each dimension.
     pub fn weights(&self) -> &[Weights]
         ensures { AreWeightsOf self.now.space.dimensions result.now }
     {
-<<<<<<< HEAD
         &self.weights
-=======
-        let _n = self.weights.len();
-        unreachable!()
-    }
-
-    pub(crate) fn stub(&self) -> bool
-        ensures { ⊥ }
-    {
-        let _n = self.weights.len();
-        unreachable!()
->>>>>>> e74bb05a8534e21e320e6ff602147982d252ad17
     }
 }
