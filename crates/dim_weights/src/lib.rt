@@ -10,10 +10,12 @@
 #![tactic(auto)]
 
 pub use fault::WeightFault;
+pub use laws::{
+    coefficients_solve, levels_solve, only_coefficients_solve, only_leaves_count, only_levels_solve,
+};
 pub use weights::{MAX_COEFFICIENT, MAX_PAIRS, Weights};
 
 mod fault;
-<<<<<<< HEAD
 mod laws;
 mod levels;
 mod rows;
@@ -21,6 +23,4 @@ mod sums;
 mod table;
 #[cfg(test)]
 mod tests;
-=======
->>>>>>> e74bb05a8534e21e320e6ff602147982d252ad17
 mod weights;

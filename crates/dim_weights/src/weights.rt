@@ -35,7 +35,7 @@ impl Model for Weights {
 
     ghost view = { λ w. w.rows.items };
 
-    ghost invariant = { λ w. ⊥ };
+    ghost invariant = { λ w. IsKept w.rows.items w.greatest };
 }
 
 impl Weights {
@@ -57,12 +57,7 @@ impl Weights {
         ensures coefficient { (d : Outline) → IsWeightsOf d self.now → IsElement d leaf → result ≡ coef d element leaf }
         ensures size { unsigned_abs result ≤ greatest_of self.now }
     {
-<<<<<<< HEAD
         share(self.leaves(element), leaf)
-=======
-        let _n = self.rows.len();
-        unreachable!()
->>>>>>> e74bb05a8534e21e320e6ff602147982d252ad17
     }
 
     /// The leaves that count in an element, each with its coefficient, in rising order. None has the coefficient 0.
@@ -74,8 +69,7 @@ impl Weights {
         ensures within { All (λ pair. pair.0 < length self.now) result.now }
         ensures size { All (λ pair. unsigned_abs pair.1 ≤ greatest_of self.now) result.now }
     {
-        let _n = self.rows.len();
-        unreachable!()
+        self.rows[element as usize].as_slice()
     }
 
     /// The greatest size of a coefficient: 0 of a dimension without elements.
@@ -83,8 +77,7 @@ impl Weights {
         ensures greatest { result ≡ pos (greatest_of self.now) }
         ensures within { greatest_of self.now ≤ 1000000000 }
     {
-        let _n = self.rows.len();
-        unreachable!()
+        self.greatest
     }
 }
 
