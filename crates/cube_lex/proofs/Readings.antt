@@ -1,25 +1,24 @@
 -- The loop over the parts of a text.
-use Rattle.std.proofs.Common.{◌≡◌, ℕ, ◌+◌, ◌-◌, ◌^◌, ◌<◌, ◌≤◌, Bool, true, false, not, List, [], ◌∷◌, ◌++◌, length, take, drop, map, refl, sym, ap, ◌∙◌, subst, arith, add_assoc, append_assoc, append-nil, length-append, length-drop, length-take, take-append-drop, add-zero, zero-add, Some, None, Option, inl, inr, option_to_list, nat_eq, nat_le, eqb, eqb-true, cond}
+use Rattle.std.proofs.Common.{◌≡◌, ℕ, ◌+◌, ◌-◌, ◌^◌, ◌<◌, ◌≤◌, Bool, true, false, not, List, [], ◌∷◌, ◌++◌, length, take, drop, map, refl, sym, ap, ◌∙◌, subst, arith, add_assoc, append_assoc, append-nil, length-append, length-drop, length-take, take-append-drop, add-zero, zero-add, Some, None, Option, inl, inr, option_to_list, nat_eq, nat_le, eqb, eqb-true, cond, All}
 use Rattle.std.proofs.Math.Seq.{take-append_seam}
 use Rattle.std.proofs.lemmas.Bool.{leb-true}
 use Rattle.std.proofs.lemmas.Bool.Decides.{Decides-eqb}
 use Rattle.std.proofs.lemmas.List.{map-append}
-use Rattle.std.proofs.lemmas.List.Elements.{All-push, All-nil}
 use Rattle.std.proofs.lemmas.List.Sums.{sum_by-append, count_by-le-length, sum_by-cons}
 use Rattle.std.proofs.lemmas.Slice.Eq.{starts_is}
 use Rattle.std.specs.List.{list_all, count_by, cons_option, starts_with}
 use Rattle.cube_lex.specs.Bytes.{is_line_end, is_plain, is_quote, line_at}
 use Rattle.cube_lex.specs.Fault.{Stops, place_of}
-use Rattle.cube_lex.specs.Lexed.{lexed_of, TextsAreQuoted}
+use Rattle.cube_lex.specs.Lexed.{lexed_of, IsWellFormed}
 use Rattle.cube_lex.specs.Lexeme.{Lexeme, lexeme_of}
-use Rattle.cube_lex.specs.Parts.{Part, Divides, IsPart, IsQuoted}
+use Rattle.cube_lex.specs.Parts.{Part, Divides, IsPart}
 use Rattle.cube_lex.specs.Quoted.{doubled}
 use Rattle.cube_lex.specs.Reading.{mark_len, lexeme_at, lexemes_among, IsReading, text_limit}
 use Rattle.cube_lex.specs.declared.fault.LexFault.{LexFault}
 use Rattle.cube_lex.specs.declared.fault.LexFault.TheVariants.{BadByte, OpenQuote, TooLong, Memory}
 use Rattle.cube_lex.specs.declared.token.Kind.{Kind}
-use Rattle.cube_lex.specs.declared.token.Kind.TheVariants.{Word, Number, Text, Sign}
 use Rattle.cube_lex.specs.declared.token.Token.{Token}
+use Rattle.cube_lex.proofs.WellFormed.{among_formed}
 use Rattle.cube_lex.proofs.Runs.{both, false-of, weaker}
 
 -- So far the text has these tokens; the rest begins at this offset and on this line.
@@ -27,11 +26,14 @@ pub record Going (text : List ℕ) (tokens : List Token) (at line : ℕ) (rest :
   pub parts : List Part
   pub divided : Divides (drop (mark_len text) text) parts rest
   pub tokens_are : map lexeme_of tokens ≡ lexemes_among text (mark_len text) parts
-  pub texts : TextsAreQuoted tokens
   pub line_is : line ≡ line_at text at
   pub line_small : line ≤ at + 1
   pub front_is : text ≡ take at text ++ rest
   pub at_is : at + length rest ≡ length text
+
+-- so far each token is one of its kind, and isn't too long
+pub going-formed : (text : List ℕ) (tokens : List Token) (at line : ℕ) (rest : List ℕ) → Going text tokens at line rest → All IsWellFormed (map lexeme_of tokens)
+going-formed text tokens at line rest going = subst (All IsWellFormed) (sym going.tokens_are) (among_formed text (mark_len text) going.parts (drop (mark_len text) text) rest going.divided)
 
 -- how many bytes the parts have
 bytes_of : List Part → ℕ
@@ -92,18 +94,11 @@ going-init text = record {
   parts = [];
   divided = refl;
   tokens_are = refl;
-  texts = All-nil _;
   line_is = sym (mark-facts text).1;
   line_small = omega arith;
   front_is = sym (take-append-drop (mark_len text) text);
   at_is = simp length-drop (omega (arith, (mark-facts text).0));
 }
-
-text-quoted : (kind : Kind) (bytes after : List ℕ) → IsPart (Some kind) bytes after → kind ≡ Text → IsQuoted bytes
-text-quoted Word bytes after is e = absurd (cc)
-text-quoted Number bytes after is e = absurd (cc)
-text-quoted Text bytes after is e = is.0.0
-text-quoted Sign bytes after is e = absurd (cc)
 
 -- a part of no kind is passed over, and a token is added
 module _ (text : List ℕ) (tokens : List Token) (at line : ℕ) (rest bytes after : List ℕ) (going : Going text tokens at line rest) (rest-is : rest ≡ bytes ++ after) where
@@ -114,15 +109,14 @@ module _ (text : List ℕ) (tokens : List Token) (at line : ℕ) (rest bytes aft
   lines = line-more text at bytes after (going.front_is ∙ ap (λ tail. take at text ++ tail) rest-is) (omega (arith, going.at_is))
 
   pub going-more : (kind : Option Kind) (more : List Token) → IsPart kind bytes after
-      → map lexeme_of more ≡ map lexeme_of tokens ++ option_to_list (lexeme_at text at (record { kind = kind; bytes = bytes })) → TextsAreQuoted more
+      → map lexeme_of more ≡ map lexeme_of tokens ++ option_to_list (lexeme_at text at (record { kind = kind; bytes = bytes }))
       → Going text more (at + length bytes) (line + count_by is_line_end bytes) after
-  going-more kind more is more-is quoted = record {
+  going-more kind more is more-is = record {
     parts = going.parts ++ record { kind = kind; bytes = bytes } ∷ [];
     divided = divides-more (drop (mark_len text) text) going.parts rest (record { kind = kind; bytes = bytes }) after going.divided rest-is is;
     tokens_are = more-is ∙ ap (λ before. before ++ option_to_list (lexeme_at text at (record { kind = kind; bytes = bytes }))) going.tokens_are
         ∙ ap (λ n. lexemes_among text (mark_len text) going.parts ++ option_to_list (lexeme_at text n (record { kind = kind; bytes = bytes }))) place
         ∙ sym (lexemes-more text (mark_len text) going.parts (record { kind = kind; bytes = bytes }));
-    texts = quoted;
     line_is = ap (λ n. n + count_by is_line_end bytes) going.line_is ∙ sym lines.1;
     line_small = omega (arith, going.line_small, count_by-le-length is_line_end bytes);
     front_is = going.front_is ∙ ap (λ tail. take at text ++ tail) rest-is ∙ sym (append_assoc (take at text) bytes after) ∙ ap (λ front. front ++ after) (sym lines.0);
@@ -132,13 +126,12 @@ module _ (text : List ℕ) (tokens : List Token) (at line : ℕ) (rest bytes aft
     place = omega (arith, part-at)
 
   pub going-blank : IsPart None bytes after → Going text tokens (at + length bytes) (line + count_by is_line_end bytes) after
-  going-blank is = going-more None tokens is (sym (append-nil (map lexeme_of tokens))) going.texts
+  going-blank is = going-more None tokens is (sym (append-nil (map lexeme_of tokens)))
 
   pub going-token : (token : Token) → IsPart (Some token.kind) bytes after → token.piece.now ≡ bytes → token.start ≡ at → token.line ≡ line
       → Going text (tokens ++ token ∷ []) (at + length bytes) (line + count_by is_line_end bytes) after
   going-token token is piece start on = going-more (Some token.kind) (tokens ++ token ∷ []) is
-      (map-append lexeme_of tokens (token ∷ []) ∙ ap (λ lexeme. map lexeme_of tokens ++ lexeme ∷ []) same)
-      (All-push (λ (t : Token). t.kind ≡ Text → IsQuoted t.piece.now) tokens token going.texts (λ text-kind. rw piece (text-quoted token.kind bytes after is text-kind))) where
+      (map-append lexeme_of tokens (token ∷ []) ∙ ap (λ lexeme. map lexeme_of tokens ++ lexeme ∷ []) same) where
         same : lexeme_of token ≡ record { kind = token.kind; piece = bytes; start = at; line = line_at text at }
         same = rw (piece, start, on, going.line_is) refl
 

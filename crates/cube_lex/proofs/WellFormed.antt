@@ -21,7 +21,7 @@ onto_formed : (text : List ℕ) (at : ℕ) (kind : Option Kind) (bytes after : L
 onto_formed text at None bytes after more is rest = rest
 onto_formed text at (Some kind) bytes after more is rest = All-cons IsWellFormed _ more (stands_token kind bytes after is.0, is.1) rest
 
-among_formed : (text : List ℕ) (at : ℕ) (parts : List Part) (body rest : List ℕ) → Divides body parts rest → All IsWellFormed (lexemes_among text at parts)
+pub among_formed : (text : List ℕ) (at : ℕ) (parts : List Part) (body rest : List ℕ) → Divides body parts rest → All IsWellFormed (lexemes_among text at parts)
 among_formed text at [] body rest divided = All-nil IsWellFormed
 among_formed text at (part ∷ parts) body rest (after, is, whole, divided) =
     onto_formed text at part.kind part.bytes after (lexemes_among text (at + length part.bytes) parts) whole (among_formed text (at + length part.bytes) parts after rest divided)

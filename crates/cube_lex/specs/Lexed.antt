@@ -1,8 +1,7 @@
 -- What a text is read as.
-use Rattle.std.specs.Prelude.{◌≡◌, ◌≤◌, ℕ, List, length, map, All}
+use Rattle.std.specs.Prelude.{◌≤◌, ℕ, List, length, map}
 use Rattle.cube_lex.specs.Lexeme.{Lexeme, lexeme_of}
-use Rattle.cube_lex.specs.Parts.{IsQuoted, IsToken, token_limit}
-use Rattle.cube_lex.specs.declared.token.Kind.TheVariants.{Text}
+use Rattle.cube_lex.specs.Parts.{IsToken, token_limit}
 use Rattle.cube_lex.specs.declared.token.Token.{Token}
 
 -- the tokens of a text up to its first fault, and the line of that fault or of the text's end
@@ -12,10 +11,6 @@ pub record Lexed : Type 0 where
 
 abbrev pub lexed_of : List Token → ℕ → Lexed
 lexed_of tokens end_line = record { lexemes = map lexeme_of tokens; end_line = end_line }
-
--- each token that is a quoted text is one
-abbrev pub TextsAreQuoted : List Token → Type 0
-TextsAreQuoted tokens = All (λ token. token.kind ≡ Text → IsQuoted token.piece.now) tokens
 
 -- a token of its kind, which isn't too long; so it can be written as it is
 abbrev pub IsWellFormed : Lexeme → Type 0

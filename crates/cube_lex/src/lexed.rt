@@ -1,4 +1,4 @@
-ghost use Rattle.std.specs.Prelude.{◌≡◌, ◌<◌, ◌↔◌, map, length, IfOk, IsTrue, IsSomeAnd, option_map, slice_get};
+ghost use Rattle.std.specs.Prelude.{◌≡◌, ◌<◌, ◌↔◌, map, All, length, IfOk, IsTrue, IsSomeAnd, option_map, slice_get};
 ghost use Rattle.cube_lex.specs.Quoted.{quoted, unquoted};
 ghost use Rattle.cube_lex.specs.declared.token.Kind.TheVariants.{Text};
 
@@ -15,21 +15,23 @@ pub struct Tokens<'a> {
 }
 
 impl<'a> Model for Tokens<'a> {
-    ghost use Rattle.cube_lex.specs.Lexed.{Lexed, lexed_of, TextsAreQuoted};
+    ghost use Rattle.std.specs.Prelude.{map, All};
+    ghost use Rattle.cube_lex.specs.Lexeme.{lexeme_of};
+    ghost use Rattle.cube_lex.specs.Lexed.{Lexed, lexed_of, IsWellFormed};
 
     ghost Value = { Lexed };
 
     ghost view = { λ t. lexed_of t.tokens.items t.end_line };
 
-    ghost invariant = { λ t. TextsAreQuoted t.tokens.items };
+    ghost invariant = { λ t. All IsWellFormed (map lexeme_of t.tokens.items) };
 }
 
 impl<'a> Tokens<'a> {
     ghost use Rattle.cube_lex.specs.Lexeme.{lexeme_of};
-    ghost use Rattle.cube_lex.specs.Lexed.{lexed_of, TextsAreQuoted};
+    ghost use Rattle.cube_lex.specs.Lexed.{lexed_of, IsWellFormed};
 
     pub(crate) fn new(tokens: Vec<Token<'a>>, end_line: u32) -> Self
-        requires { TextsAreQuoted tokens.items }
+        requires { All IsWellFormed (map lexeme_of tokens.items) }
         ensures { result ≡ lexed_of tokens.entry.items end_line }
     {
         Tokens { tokens, end_line }
@@ -50,7 +52,8 @@ impl<'a> Tokens<'a> {
 
     /// The tokens themselves.
     pub fn as_slice(&self) -> &[Token<'a>]
-        ensures { map lexeme_of result.now ≡ self.now.lexemes }
+        ensures tokens { map lexeme_of result.now ≡ self.now.lexemes }
+        ensures well_formed { All IsWellFormed self.now.lexemes }
     {
         self.tokens.as_slice()
     }

@@ -1,7 +1,7 @@
 -- A block that is read part by part.
 use Rattle.std.proofs.Common.{◌≡◌, ℕ, List, Ok, Err, Result, refl, sym, ap, ◌∙◌, subst}
 use Rattle.cube_lex.specs.Lexeme.{Lexeme}
-use Rattle.grammar.specs.Reading.{bound, both_of, gives, Dead, Refused, Read}
+use Rattle.grammar.specs.Reading.{bound, both_of, gives, Read}
 use Rattle.grammar.specs.declared.cursor.Unwatched.{Unwatched}
 use Rattle.grammar.specs.declared.stop.Stop.{Stop}
 use Rattle.grammar.specs.declared.stop.Stop.TheVariants as stops

@@ -1,6 +1,6 @@
 -- Readers that end: none uses up its turns.
-use Rattle.std.proofs.Common.{◌≡◌, ◌<◌, ℕ, zero, suc, List, [], ◌∷◌, length, Option, Some, None, Result, Ok, Err, Bool, true, false, refl, sym, ap, ◌∙◌, arith, if◌then◌else◌}
-use Rattle.grammar.specs.Reading.{Halt, Dead, Refused, Spent, Read, Reader, gives, taken, take_one, bound, both_of, choose, starts, repeat, all_of, let_through, checked_result, checked}
+use Rattle.std.proofs.Common.{◌≡◌, ◌<◌, ℕ, zero, suc, List, [], ◌∷◌, length, Option, Some, None, Result, Ok, Err, Bool, true, false, refl, arith, if◌then◌else◌}
+use Rattle.grammar.specs.Reading.{Spent, Read, Reader, gives, taken, take_one, bound, both_of, choose, starts, repeat, all_of, let_through, checked_result, checked}
 use Rattle.grammar.proofs.Many.{Shortens}
 
 pub record Ends {T R C A : Type 0} (P : Reader T R C A) : Type 0 where

@@ -1,10 +1,9 @@
 -- A block is read in one way only.
-use Rattle.std.proofs.Common.{◌≡◌, ◌+◌, ℕ, List, [], ◌∷◌, ◌++◌, length, Result, Ok, Err, true, refl, sym, ap, ◌∙◌, subst, append_assoc, append-nil, arith}
+use Rattle.std.proofs.Common.{◌≡◌, ℕ, List, [], ◌∷◌, ◌++◌, length, Result, Ok, Err, true, refl, sym, ap, ◌∙◌, subst, append_assoc, append-nil, arith}
 use Rattle.cube_lex.specs.Lexeme.{Lexeme}
 use Rattle.dim_core.specs.Draft.{IsFinished}
 use Rattle.dim_core.specs.Outline.{Outline}
-use Rattle.grammar.specs.Fault.{IsText}
-use Rattle.grammar.specs.Reading.{Halt, Dead, Refused, Spent, Read}
+use Rattle.grammar.specs.Reading.{Dead, Refused, Spent, Read}
 use Rattle.grammar.specs.Watch.{Passes}
 use Rattle.grammar.proofs.Exact.{Outcome, Agrees}
 use Rattle.grammar.proofs.Many.{shortens}
@@ -12,7 +11,7 @@ use Rattle.dim_text.specs.Answers.{Answers, IsBlock, IsFault}
 use Rattle.dim_text.specs.Building.{add, building, nothing}
 use Rattle.dim_text.specs.Printed.{Builds, IsReadAs}
 use Rattle.dim_text.specs.Progress.{Progress, Text}
-use Rattle.dim_text.specs.Reading.{built, read_elements, read_opening, read_ending, read_closing, read_body, read_block, is_element_word}
+use Rattle.dim_text.specs.Reading.{read_elements, read_opening, read_ending, read_closing, read_body, read_block, is_element_word}
 use Rattle.dim_text.specs.Statement.{dimension}
 use Rattle.dim_text.specs.declared.fault.DimTextCause.{DimTextCause}
 use Rattle.dim_text.specs.declared.fault.DimTextCause.TheVariants as causes

@@ -1,11 +1,11 @@
 -- Tokens are statements in one way only, so they build one thing only.
-use Rattle.std.proofs.Common.{◌≡◌, ◌<◌, ℕ, List, [], ◌∷◌, ◌++◌, length, Ok, Err, Result, true, false, codes, refl, sym, ap, ◌∙◌, subst, inl, inr, append_assoc, append-nil}
+use Rattle.std.proofs.Common.{◌≡◌, List, [], ◌∷◌, ◌++◌, Ok, Err, Result, true, false, codes, refl, sym, ap, ◌∙◌, subst, inl, inr, append_assoc, append-nil}
 use Rattle.cube_lex.specs.Lexeme.{Lexeme}
-use Rattle.grammar.specs.Grammar.{Grammar, Alive, one, either}
+use Rattle.grammar.specs.Grammar.{Grammar, one, either}
 use Rattle.grammar.specs.Fault.{Fails}
-use Rattle.grammar.specs.Reading.{Halt, Dead, Refused, Spent, Read, Reader, choose}
-use Rattle.grammar.specs.Tokens.{sign, word, is_sign, is_word}
-use Rattle.grammar.specs.Watch.{AllPass, joined, Passes, Refuses, unscanned}
+use Rattle.grammar.specs.Reading.{Dead, Refused, Spent, Read, choose}
+use Rattle.grammar.specs.Tokens.{sign, is_sign, is_word}
+use Rattle.grammar.specs.Watch.{AllPass, joined, Passes, Refuses}
 use Rattle.grammar.specs.declared.cursor.Unwatched.{Unwatched}
 use Rattle.grammar.proofs.Begins.{Begins, HasToken, begins_both, begins_either, exact_or, has_token}
 use Rattle.grammar.proofs.Exact.{Exact, Outcome, Agrees, Always}
@@ -14,9 +14,9 @@ use Rattle.grammar.proofs.Tokens.{word_begins, sign_no_word, begins_any}
 use Rattle.dim_text.specs.Building.{add, building}
 use Rattle.dim_text.specs.Progress.{Progress}
 use Rattle.dim_text.specs.Reading.{Plain, read_head, read_minus, read_weight, read_part, read_next_part, read_further, read_parts, read_leaf, read_consolidated, read_attribute, read_element, read_end, read_close, is_element_word}
-use Rattle.dim_text.specs.Statement.{Statement, head, element, ending, closing, statement}
+use Rattle.dim_text.specs.Statement.{Statement, head, element, closing, statement}
 use Rattle.dim_text.specs.declared.fault.Refusal.{Refusal}
-use Rattle.dim_text.proofs.ElementExact.{free, head_exact, element_exact, end_exact, close_exact, element_begins, end_begins, begins_statement, next_part_exact, next_part_begins}
+use Rattle.dim_text.proofs.ElementExact.{free, head_exact, element_exact, end_exact, close_exact, element_begins, end_begins, next_part_exact, next_part_begins}
 use Rattle.dim_text.proofs.Ends.{Ends, ends_gives, ends_one, ends_both, ends_choose, ends_all}
 
 -- The reader of one statement.

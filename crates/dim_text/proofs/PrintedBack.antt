@@ -1,23 +1,17 @@
 -- What is printed of a dimension is read as the dimension.
-use Rattle.std.proofs.Common.{◌≡◌, ◌≤◌, ◌<◌, ℕ, ℤ, List, [], ◌∷◌, ◌++◌, length, map, Result, Ok, Err, is_ok, OnOk, if◌then◌else◌, refl, sym, ap, ◌∙◌, subst, inl, append-nil}
-use Rattle.std.proofs.lemmas.List.Elements.{All-head, All-tail}
-use Rattle.std.specs.List.{All, AllZip}
+use Rattle.std.proofs.Common.{◌≡◌, ℕ, List, [], ◌∷◌, ◌++◌, Result, Ok, Err, is_ok, OnOk, if◌then◌else◌, sym, ap, ◌∙◌, subst, inl}
 use Rattle.cube_lex.proofs.WrittenTexts.{written-reads}
-use Rattle.cube_lex.specs.Lexeme.{Lexeme}
-use Rattle.cube_lex.specs.Written.{Spelling, spelling_of, IsWritten, Adds}
-use Rattle.dim_name.specs.Name.{is_same_name, place_of}
-use Rattle.dim_core.proofs.Naming.{place_at}
+use Rattle.cube_lex.specs.Written.{IsWritten, Adds}
 use Rattle.dim_core.proofs.OwnDefinitions.{written_is}
-use Rattle.dim_core.specs.Draft.{Draft, IsFinished, IsResolved, IsResolvedPart, IsResolvedAttribute}
-use Rattle.dim_core.specs.Outline.{Element, Outline, IsDimension, IsWeight, names_of}
-use Rattle.dim_core.specs.Written.{by_name, written, written_element, written_attribute}
+use Rattle.dim_core.specs.Draft.{IsFinished}
+use Rattle.dim_core.specs.Outline.{Outline, IsDimension}
+use Rattle.dim_core.specs.Written.{written}
 use Rattle.grammar.specs.Watch.{Passes}
 use Rattle.grammar.proofs.Exact.{passes-append, passes_one}
 use Rattle.dim_text.specs.Building.{add, building, nothing, opened}
 use Rattle.dim_text.specs.Printed.{Builds, IsBlockOf, IsBodyOf, IsTextOf, IsPrinted}
-use Rattle.dim_text.specs.Progress.{Progress}
 use Rattle.dim_text.specs.Spelled.{head_spelled, body_spelled, draft_spelled}
-use Rattle.dim_text.specs.Statement.{Head, head, body, dimension}
+use Rattle.dim_text.specs.Statement.{body}
 use Rattle.dim_text.proofs.OneBlock.{answer_is}
 use Rattle.dim_text.proofs.Rebuilt.{body_again, unit_of, dimension_again}
 use Rattle.dim_text.proofs.SpelledStatements.{head_spells}

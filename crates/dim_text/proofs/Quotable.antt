@@ -1,5 +1,5 @@
 -- What tokens give can be written as tokens again.
-use Rattle.std.proofs.Common.{◌≡◌, ◌≤◌, ◌<◌, ◌+◌, ℕ, ℤ, List, [], ◌∷◌, ◌++◌, length, true, false, Ok, Err, Option, Some, None, Result, refl, sym, ap, ◌∙◌, subst, inl, inr, ◌&&◌, arith, length-append, IfOk, OnOk}
+use Rattle.std.proofs.Common.{◌≡◌, ◌≤◌, ◌<◌, ◌+◌, ℕ, ℤ, List, [], ◌∷◌, ◌++◌, length, true, false, Ok, Err, Option, Some, None, Result, sym, ap, ◌∙◌, subst, inl, inr, ◌&&◌, arith, length-append, IfOk, OnOk}
 use Rattle.std.proofs.lemmas.List.Elements.{All-nil, All-cons, All-head, All-tail, All-push, All-take, All-drop}
 use Rattle.std.proofs.Math.Seq.{take-append_seam, drop-append_seam}
 use Rattle.std.specs.List.{All, AllZip}
@@ -11,12 +11,12 @@ use Rattle.cube_lex.specs.declared.token.Kind.{Kind}
 use Rattle.cube_lex.specs.declared.token.Kind.TheVariants as kinds
 use Rattle.cube_lex.proofs.Quotes.{unquoted-quoted}
 use Rattle.dim_name.specs.Name.{is_name}
-use Rattle.grammar.specs.Grammar.{Grammar, done, one, both, either, many}
+use Rattle.grammar.specs.Grammar.{Grammar, done, one, both, either}
 use Rattle.grammar.specs.Tokens.{is_text_kind, name, text}
 use Rattle.grammar.specs.Watch.{AllPass, joined, Passes}
 use Rattle.grammar.proofs.Tokens.{when_picks, and_is}
 use Rattle.dim_core.specs.Draft.{Draft, IsFinished, empty_draft, with_element, with_attribute}
-use Rattle.dim_core.specs.Outline.{Element, Outline}
+use Rattle.dim_core.specs.Outline.{Outline}
 use Rattle.dim_core.specs.declared.fault.DimFault.{DimFault}
 use Rattle.dim_core.specs.Refusal.{refusal_of, finish_refusal_of}
 use Rattle.grammar.specs.Cursor.{Gives}
@@ -25,8 +25,8 @@ use Rattle.grammar.specs.declared.stop.Stop.{Stop}
 use Rattle.grammar.proofs.Begins.{Begins, begins_both}
 use Rattle.grammar.proofs.Top.{read_told}
 use Rattle.dim_text.specs.Building.{add, opened, building, element_added, finished}
-use Rattle.dim_text.specs.Progress.{Progress, Text, IsBuilt}
-use Rattle.dim_text.specs.Statement.{Statement, Head, Leaf, Consolidated, Attribute, End, Close, head, parts, leaf, consolidated, attribute, element, ending, closing, statement, unit, body}
+use Rattle.dim_text.specs.Progress.{Progress, Text}
+use Rattle.dim_text.specs.Statement.{Statement, Head, Leaf, Consolidated, Attribute, End, Close, head, parts, leaf, consolidated, attribute, ending, closing, statement, unit, body}
 use Rattle.dim_text.specs.Reading.{read_head, read_body, is_element_word}
 use Rattle.dim_text.specs.Views.{head_view, GivesText}
 use Rattle.dim_text.specs.declared.fault.Refusal.{Refusal}

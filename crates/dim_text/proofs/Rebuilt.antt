@@ -1,30 +1,29 @@
 -- What is written of a dimension builds it again.
-use Rattle.std.proofs.Common.{◌≡◌, ◌<◌, ◌+◌, ℕ, ℤ, List, [], ◌∷◌, ◌++◌, length, map, take, get_or, Ok, None, refl, sym, ap, ◌∙◌, subst, inl, inr, arith, append_assoc, append-nil, length-append, IsTrue}
+use Rattle.std.proofs.Common.{◌≡◌, ◌<◌, ℕ, ℤ, List, [], ◌∷◌, ◌++◌, length, map, take, get_or, Ok, None, refl, sym, ap, ◌∙◌, subst, inl, inr, arith, append_assoc, append-nil, length-append, IsTrue}
 use Rattle.std.proofs.Math.Seq.{get_or-append_seam, take-append_seam}
 use Rattle.std.proofs.lemmas.List.{get_or-map, length-map, map-append}
-use Rattle.std.proofs.lemmas.List.Elements.{All-nil, All-cons, All-head, All-tail, All-map, All-weaker}
+use Rattle.std.proofs.lemmas.List.Elements.{All-head, All-tail, All-map, All-weaker}
 use Rattle.std.specs.List.{All, AllZip, IsDistinct, flat_map}
 use Rattle.cube_lex.specs.Lexeme.{Lexeme}
-use Rattle.cube_lex.specs.Written.{Spelling, spelling_of}
-use Rattle.dim_name.specs.Name.{is_name, is_same_name, place_of}
+use Rattle.cube_lex.specs.Written.{spelling_of}
+use Rattle.dim_name.specs.Name.{is_name, is_same_name}
 use Rattle.dim_core.proofs.Naming.{place_at}
-use Rattle.dim_core.proofs.OwnDefinitions.{element_accepted, written_finishes, written_is}
-use Rattle.dim_core.specs.Draft.{Draft, IsFinished, IsResolved, IsResolvedPart, IsResolvedAttribute, with_element}
-use Rattle.dim_core.specs.Outline.{Element, Outline, IsDimension, IsWeight, names_of, name_of, components_of, component_lists}
+use Rattle.dim_core.proofs.OwnDefinitions.{element_accepted, written_finishes}
+use Rattle.dim_core.specs.Draft.{Draft, IsFinished, IsResolved, IsResolvedAttribute, with_element}
+use Rattle.dim_core.specs.Outline.{Element, Outline, IsDimension, IsWeight, names_of, name_of, components_of}
 use Rattle.dim_core.specs.Refusal.{refusal_of, finish_refusal_of}
 use Rattle.dim_core.specs.Written.{by_name, written, written_element, written_attribute}
 use Rattle.dim_core.specs.declared.attribute.Attribute as given
 use Rattle.dim_core.specs.declared.attribute.NamedAttribute.{NamedAttribute}
-use Rattle.grammar.specs.Fault.{IsText}
-use Rattle.grammar.specs.Grammar.{Grammar, done, both, many}
+use Rattle.grammar.specs.Grammar.{Grammar, many}
 use Rattle.grammar.specs.Watch.{Passes}
 use Rattle.grammar.proofs.Exact.{passes_nothing, passes-append, passes_one}
-use Rattle.dim_text.specs.Building.{add, building, element_added, finished, opened, nothing}
+use Rattle.dim_text.specs.Building.{add, building, element_added, finished, opened}
 use Rattle.dim_text.specs.Progress.{Progress}
-use Rattle.dim_text.specs.Spelled.{spelled, defining, element_spelled, attribute_spelled, body_spelled, draft_spelled}
-use Rattle.dim_text.specs.Statement.{Statement, Head, Leaf, Consolidated, Attribute, End, Close, head, element, ending, closing, unit, body, dimension}
-use Rattle.dim_text.proofs.Spells.{Spells, split_at, spells_many}
-use Rattle.dim_text.proofs.SpelledStatements.{IsPart, IsSame, on_line, head_spells, defining_spells, attribute_element_spells, ending_spells, closing_spells}
+use Rattle.dim_text.specs.Spelled.{spelled, defining, element_spelled, attribute_spelled, body_spelled}
+use Rattle.dim_text.specs.Statement.{Statement, Attribute, End, Close, element, unit, body}
+use Rattle.dim_text.proofs.Spells.{split_at, spells_many}
+use Rattle.dim_text.proofs.SpelledStatements.{IsPart, IsSame, defining_spells, attribute_element_spells, ending_spells, closing_spells}
 
 -- One statement.
 

@@ -1,5 +1,5 @@
 -- Each statement as it is written is read as that statement again, on its new line.
-use Rattle.std.proofs.Common.{◌≡◌, ◌≤◌, ◌<◌, ◌^◌, ℕ, suc, ℤ, pos, negsuc, unsigned_abs, neg_ℤ, ◌==◌, List, [], ◌∷◌, ◌++◌, true, false, Bool, Option, Some, ◌&&◌, cond, refl, sym, ap, ◌∙◌, subst, nat_lt, codes, decimal, IsTrue, arith}
+use Rattle.std.proofs.Common.{◌≡◌, ◌≤◌, ◌<◌, ◌^◌, ℕ, suc, ℤ, pos, negsuc, neg_ℤ, ◌==◌, List, [], ◌∷◌, true, false, Bool, Option, Some, ◌&&◌, cond, refl, sym, ap, ◌∙◌, nat_lt, codes, decimal, IsTrue, arith}
 use Rattle.std.proofs.lemmas.Bool.{lt-ltb, eqb-true}
 use Rattle.std.proofs.lemmas.Fmt.{decimal_is_IsNumeral}
 use Rattle.std.specs.Char.{is_ascii_digit}
@@ -7,21 +7,17 @@ use Rattle.std.proofs.lemmas.List.Elements.{All-head, All-tail}
 use Rattle.std.specs.List.{All, AllZip, list_all, flat_map}
 use Rattle.std.specs.Str.{bytes_eq, str_eq_ignore_ascii_case, str_to_ascii_lowercase}
 use Rattle.std.specs.Str.Parse.{digits_value}
-use Rattle.cube_lex.specs.Lexeme.{Lexeme}
 use Rattle.cube_lex.specs.Parts.{IsDigits}
-use Rattle.cube_lex.specs.Quoted.{unquoted, quoted}
-use Rattle.cube_lex.specs.Written.{Spelling, spelling_of}
-use Rattle.cube_lex.specs.declared.token.Kind.{Kind}
-use Rattle.cube_lex.specs.declared.token.Kind.TheVariants as kinds
+use Rattle.cube_lex.specs.Quoted.{unquoted}
 use Rattle.cube_lex.proofs.Quotes.{unquoted-quoted}
 use Rattle.cube_lex.proofs.Wholes.{decimal-is_digits}
 use Rattle.dim_name.specs.Name.{is_name}
-use Rattle.grammar.specs.Grammar.{Grammar, done, one, both, many}
-use Rattle.grammar.specs.Tokens.{is_text_kind, is_number_kind, is_sign_kind, is_word_kind, is_whole, sign, word, name, text, whole}
+use Rattle.grammar.specs.Grammar.{done, one, both, many}
+use Rattle.grammar.specs.Tokens.{is_text_kind, is_number_kind, is_sign_kind, is_word_kind, sign, word, name, text, whole}
 use Rattle.grammar.proofs.Tokens.{bytes_eq_self}
 use Rattle.dim_core.specs.Outline.{IsWeight}
 use Rattle.dim_text.specs.Spelled.{word_token, sign_token, text_token, number_token, weight_spelled, part_spelled, next_part_spelled, parts_spelled, spelled, defining}
-use Rattle.dim_text.specs.Statement.{Statement, Head, Leaf, Consolidated, Attribute, End, Close, signed, head, minus, weight, part, parts, leaf, consolidated, attribute, element, ending, closing}
+use Rattle.dim_text.specs.Statement.{Statement, Head, Leaf, Consolidated, Attribute, End, Close, signed, head, weight, part, parts, leaf, consolidated, attribute, element, ending, closing}
 use Rattle.dim_text.proofs.Spells.{Spells, Picks, spells_done, spells_next, spells_both, spells_left, spells_right, spells_made, spells_many}
 
 -- One token.

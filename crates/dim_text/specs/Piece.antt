@@ -1,5 +1,5 @@
 -- Tokens that are to be written.
-use Rattle.std.specs.Prelude.{ℕ, ◌≤◌, List, length, IsTrue, Option, Some}
+use Rattle.std.specs.Prelude.{◌≤◌, length, IsTrue}
 use Rattle.cube_lex.specs.Parts.{IsWord, is_sign}
 use Rattle.cube_lex.specs.Written.{Spelling}
 use Rattle.dim_text.specs.Spelled.{word_token, sign_token, text_token, number_token}

@@ -1,5 +1,5 @@
 -- How a dimension is written, token by token.
-use Rattle.std.specs.Prelude.{ℕ, suc, ℤ, pos, negsuc, ◌==◌, List, [], ◌∷◌, ◌++◌, map, codes, decimal, if◌then◌else◌}
+use Rattle.std.specs.Prelude.{ℕ, suc, ℤ, pos, negsuc, ◌==◌, List, [], ◌∷◌, ◌++◌, codes, decimal, if◌then◌else◌}
 use Rattle.std.specs.List.{flat_map}
 use Rattle.cube_lex.specs.Quoted.{quoted}
 use Rattle.cube_lex.specs.Written.{Spelling}

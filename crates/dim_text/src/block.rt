@@ -120,21 +120,20 @@ fn fault_of(tokens: &[Token<'_>], end_line: u32, stop: Stop<Refusal>) -> DimText
 // The tokens from this place on.
 #[tactic(auto, using(crate::proofs::Rests::rest_is))]
 fn rest_from<'a>(tokens: &'a Tokens<'a>, from: usize) -> &'a [Token<'a>]
-    ensures { lexemes result.now ≡ drop from tokens.now.lexemes }
+    ensures tokens { lexemes result.now ≡ drop from tokens.now.lexemes }
+    ensures well_formed { All IsWellFormed tokens.now.lexemes }
 {
     let all = tokens.as_slice();
     let (_, rest) = all.split_at(from.min(all.len()));
     rest
 }
 
-/// Reads the block that begins at token `from`, and gives it with the place of the token after it. The tokens are those of a
-/// text, as `tokens_until` says of what it gives.
+/// Reads the block that begins at token `from`, and gives it with the place of the token after it.
 pub fn read(
     alloc: Global,
     tokens: &Tokens<'_>,
     from: usize,
 ) -> Result<(DimText, usize), DimTextFault>
-    requires { All IsWellFormed tokens.now.lexemes }
     ensures { Answers (drop from tokens.now.lexemes) tokens.now.end_line from result }
 {
     let rest = rest_from(tokens, from);

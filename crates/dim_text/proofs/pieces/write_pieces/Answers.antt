@@ -1,4 +1,4 @@
-use Rattle.std.proofs.Common.{take, subst, arith, ap, sym, ◌∙◌}
+use Rattle.std.proofs.Common.{subst, ap, ◌∙◌}
 use Rattle.std.proofs.lemmas.List.{take_all}
 use Rattle.cube_lex.specs.Written.{Adds}
 use Rattle.dim_text.proofs.Adding.{single, singles, adds_more}

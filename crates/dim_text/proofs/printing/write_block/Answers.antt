@@ -1,4 +1,4 @@
-use Rattle.std.proofs.Common.{ℕ, List, ◌++◌, subst, ◌∙◌}
+use Rattle.std.proofs.Common.{List, ◌++◌, subst, ◌∙◌}
 use Rattle.std.specs.List.{flat_map}
 use Rattle.cube_lex.specs.Written.{Spelling, Adds}
 use Rattle.dim_core.specs.Draft.{Draft}

@@ -1,4 +1,4 @@
-use Rattle.std.proofs.Common.{◌≡◌, ◌<ℤ◌, ◌≤ℤ◌, pos, unsigned_abs, ◌∷◌, codes, ap, ◌∙◌, arith, rules, w64}
+use Rattle.std.proofs.Common.{◌≡◌, ◌<ℤ◌, ◌≤ℤ◌, pos, unsigned_abs, ◌∷◌, ap, ◌∙◌, arith, rules, w64}
 use Rattle.std.proofs.lemmas.Int.{ints, to_z-of_z}
 use Rattle.dim_text.proofs.Adding.{adds_same}
 use Rattle.dim_text.proofs.PrintedParts.{part_negative, part_one, part_more}

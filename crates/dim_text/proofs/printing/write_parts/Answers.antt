@@ -2,7 +2,7 @@ use Rattle.std.proofs.Common.{◌≡◌, ◌-◌, ℕ, ℤ, pos, List, [], ◌�
 use Rattle.std.proofs.lemmas.List.{take_all}
 use Rattle.std.specs.List.{flat_map}
 use Rattle.cube_lex.specs.Written.{Spelling, Adds}
-use Rattle.dim_core.specs.Outline.{names_of, name_of}
+use Rattle.dim_core.specs.Outline.{names_of}
 use Rattle.dim_core.specs.Written.{by_name}
 use Rattle.dim_text.proofs.Adding.{adds_same, then_adds}
 use Rattle.dim_text.proofs.PrintedParts.{parts_split}

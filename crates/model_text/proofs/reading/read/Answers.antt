@@ -8,7 +8,7 @@ use Rattle.model_text.proofs.reading.read.Goals as goal
 
 pub new-requires : goal.new-requires
 new-requires c =
-    let same : lexemes c.new-cursor.result.tokens.now ≡ c.in-Ok.tokens.lexemes = ap lexemes c.new-cursor.ensures.tokens ∙ c.as_slice.ensures in
+    let same : lexemes c.new-cursor.result.tokens.now ≡ c.in-Ok.tokens.lexemes = ap lexemes c.new-cursor.ensures.tokens ∙ c.as_slice.ensures.tokens in
     rw (c.into_parts-version.ensures.version, c.into_parts-version.ensures.cubes, c.into_parts-version.ensures.scripts)
     ((answer_ok (λ x. x.0.items) (λ x. x.1) c.args.text.now c.in-Ok.tokens c.in-Ok.fault c.model_at-model.result (lexemes c.model_at-model.new.cursor.tokens.now) (c.in-Ok-settled.dims, c.in-Ok-settled.work) c.in-Ok.ensures.found
     (subst (λ ts. GivesBlocks (λ x. x.0.items) (λ x. x.1) c.model_at-model.result (lexemes c.model_at-model.new.cursor.tokens.now) (read_model nothing_seen ts)) same c.model_at-model.ensures.read)
@@ -16,7 +16,7 @@ new-requires c =
 
 pub returns-in-Ok-settled : goal.returns-in-Ok-settled
 returns-in-Ok-settled c =
-    let same : lexemes c.new-cursor.result.tokens.now ≡ c.in-Ok.tokens.lexemes = ap lexemes c.new-cursor.ensures.tokens ∙ c.as_slice.ensures in
+    let same : lexemes c.new-cursor.result.tokens.now ≡ c.in-Ok.tokens.lexemes = ap lexemes c.new-cursor.ensures.tokens ∙ c.as_slice.ensures.tokens in
     rw (c.new.ensures, c.into_parts-version.ensures.version, c.into_parts-version.ensures.cubes, c.into_parts-version.ensures.scripts)
     ((answer_ok (λ x. x.0.items) (λ x. x.1) c.args.text.now c.in-Ok.tokens c.in-Ok.fault c.model_at-model.result (lexemes c.model_at-model.new.cursor.tokens.now) (c.in-Ok-settled.dims, c.in-Ok-settled.work) c.in-Ok.ensures.found
     (subst (λ ts. GivesBlocks (λ x. x.0.items) (λ x. x.1) c.model_at-model.result (lexemes c.model_at-model.new.cursor.tokens.now) (read_model nothing_seen ts)) same c.model_at-model.ensures.read)
@@ -24,7 +24,7 @@ returns-in-Ok-settled c =
 
 pub returns : goal.returns
 returns c =
-    let same : lexemes c.new-cursor.result.tokens.now ≡ c.in-Ok.tokens.lexemes = ap lexemes c.new-cursor.ensures.tokens ∙ c.as_slice.ensures in
+    let same : lexemes c.new-cursor.result.tokens.now ≡ c.in-Ok.tokens.lexemes = ap lexemes c.new-cursor.ensures.tokens ∙ c.as_slice.ensures.tokens in
     rw c.fault_of-in-Err.ensures
     (answer_err (λ x. x.0.items) (λ x. x.1) c.args.text.now c.in-Ok.tokens c.in-Ok.fault c.model_at-model.result (lexemes c.model_at-model.new.cursor.tokens.now) c.in-Err.fault c.in-Ok.ensures.found
     (subst (λ ts. GivesBlocks (λ x. x.0.items) (λ x. x.1) c.model_at-model.result (lexemes c.model_at-model.new.cursor.tokens.now) (read_model nothing_seen ts)) same c.model_at-model.ensures.read)
