@@ -74,17 +74,17 @@ module _ (d : Outline) (e : ℕ) where
           absurd (cc (subst P none h))
       by (suc n) some = first-named (range_with_len 0 (length d.elements)) (omega arith) h
 
+abbrev err_of : (T : Type 0) → WeightFault → Result T WeightFault
+err_of T fault = Err fault
+
 -- the answer names an element only as the refusal
-pub answer-there : {T : Type 0} (d : Outline) (e : ℕ) (result : Result T WeightFault) → result ≡ Err (CoefficientTooLarge e) → IfSome (refusal_of d) (λ fault. (result ≡ Err fault) ⊎ (result ≡ Err Memory))
-    → IfNone (refusal_of d) (IsOkUnless result Memory) → e < length d.elements
-answer-there {T} d e result is refused accepted = by (refusal_of d) refl refused accepted
+pub answer-there : (T : Type 0) (d : Outline) (e : ℕ) (told : WeightFault) → told ≡ CoefficientTooLarge e → IfSome (refusal_of d) (λ fault. (err_of T told ≡ Err fault) ⊎ (err_of T told ≡ Err Memory))
+    → IfNone (refusal_of d) (IsOkUnless (err_of T told) Memory) → e < length d.elements
+answer-there T d e told is refused accepted = by (refusal_of d) refl refused accepted
   where
-    by : (cause : Option WeightFault) → refusal_of d ≡ cause → IfSome cause (λ fault. (result ≡ Err fault) ⊎ (result ≡ Err Memory)) → IfNone cause (IsOkUnless result Memory) → e < length d.elements
-    by (Some fault) same (inl told) none =
+    by : (cause : Option WeightFault) → refusal_of d ≡ cause → IfSome cause (λ fault. (err_of T told ≡ Err fault) ⊎ (err_of T told ≡ Err Memory)) → IfNone cause (IsOkUnless (err_of T told) Memory) → e < length d.elements
+    by (Some fault) same (inl shown) none =
         let named' : fault ≡ CoefficientTooLarge e = cc in
         element-there d e (same ∙ ap Some named')
     by (Some fault) same (inr memory) none = absurd (cc)
-    by None same some okay =
-        let P : Result T WeightFault → Type 0 = λ r. IsOkUnless r Memory in
-        let wrong : CoefficientTooLarge e ≡ Memory = subst P is okay in
-        absurd (cc)
+    by None same some okay = absurd (cc)

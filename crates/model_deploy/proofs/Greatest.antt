@@ -1,12 +1,15 @@
 -- The product of the greatest coefficients of a cube's dimensions.
-use Rattle.std.proofs.Common.{◌≡◌, ℕ, zero, suc, ◌+◌, ◌*◌, ◌<◌, ◌≤◌, ◌⊎◌, inl, inr, max, min, ℤ, List, [], ◌∷◌, length, map, drop, get_or, Option, Some, None, refl, ap, sym, ◌∙◌, subst, arith, slice_get, slice_index_or}
+use Rattle.std.proofs.Common.{◌≡◌, ℕ, zero, suc, ◌+◌, ◌*◌, ◌<◌, ◌≤◌, ◌⊎◌, inl, inr, max, min, ℤ, List, [], ◌∷◌, length, map, drop, get_or, Option, Some, None, refl, ap, sym, ◌∙◌, subst, arith, slice_get, slice_index_or, All}
 use Rattle.std.specs.List.{AllZip, range_with_len, cons_option}
 use Rattle.std.proofs.lemmas.Bool.{cases_lt}
 use Rattle.std.proofs.lemmas.List.{drop_more, drop_all}
 use Rattle.std.proofs.Math.Nat.{min-eq_left, min-eq_right}
 use Rattle.dim_core.specs.Outline.{Outline}
 use Rattle.dim_weights.specs.Table.{IsWeightsOf, leaves_of, greatest_of, greatest_in}
-use Rattle.cube_space.specs.Layout.{axes_of}
+use Rattle.cube_space.specs.Layout.{Layout, axes_of}
+use Rattle.cube_space.specs.Cells.{IsSpace}
+use Rattle.cube_space.specs.declared.shape.CubeShape.{CubeShape}
+use Rattle.std.proofs.lemmas.Option.{get_or_from_slice_get}
 use Rattle.cube_space.specs.Radix.{product}
 use Rattle.rule_core.specs.BoundModel.{greatest_coef}
 
@@ -94,3 +97,12 @@ product-end D dims i so_far top whole h low is =
     let none : product_over D (drop i dims) ≡ 1 = ap (product_over D) (drop_all i dims h) in
     let one : so_far * product_over D (drop i dims) ≡ so_far = rw none (omega arith) in
     sym (min-eq_left low) ∙ ap (λ n. min n top) (sym one) ∙ is
+
+-- a cube names dimensions that are there
+pub dim-there : (space : Layout) (cube : ℕ) (shape : CubeShape) (dims : List ℕ) (i : ℕ) → IsSpace space → cube < length space.cubes → slice_get space.cubes cube ≡ Some shape → dims ≡ shape.dims → i < length dims
+    → get_or dims i 0 < length space.dimensions
+dim-there space cube shape dims i valid h found d low =
+    let P : CubeShape → Type 0 = λ s. All (λ dim. dim < length space.dimensions) s.dims in
+    let own = subst P (get_or_from_slice_get space.cubes cube shape shape found) (valid.layout.in_range cube shape h) in
+    let Q : List ℕ → Type 0 = All (λ dim. dim < length space.dimensions) in
+    (subst Q (sym d) own) i 0 low

@@ -1,4 +1,5 @@
 pub mod Elements
 pub mod Firsts
 pub mod Greatest
+pub mod Layouts
 pub mod SmallProducts

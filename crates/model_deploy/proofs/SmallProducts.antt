@@ -38,7 +38,7 @@ min-large w top m large = by (cases_lt top w)
         omega (arith, e, large)
 
 module _ (lines : List ℕ) (space : Layout) (cube : ℕ) where
-  left : Option DeployFault
+  abbrev left : Option DeployFault
   left = first_refusal (product_refusal lines space) (drop (cube + 1) (range_with_len 0 (length space.cubes)))
 
   here : cube < length space.cubes → cube ≡ get_or (range_with_len 0 (length space.cubes)) cube cube

@@ -27,8 +27,14 @@ fn weights_in(alloc: Global, text: &DimText) -> Result<Weights, DeployFault>
 {
     match Weights::of(alloc, text.dimension()) {
         Ok(weights) => Ok(weights),
-        Err(WeightFault::CoefficientTooLarge(element)) => Err(DeployFault::on(text.line(element), DeployCause::CoefficientTooLarge)),
-        Err(WeightFault::TooManyPairs(count)) => Err(DeployFault::on(text.head(), DeployCause::TooManyPairs(count))),
+        Err(WeightFault::CoefficientTooLarge(element)) => Err(DeployFault::on(
+            text.line(element),
+            DeployCause::CoefficientTooLarge,
+        )),
+        Err(WeightFault::TooManyPairs(count)) => Err(DeployFault::on(
+            text.head(),
+            DeployCause::TooManyPairs(count),
+        )),
         Err(WeightFault::Memory) => Err(DeployFault::memory()),
     }
 }

@@ -71,9 +71,18 @@ pub fn space_of(
 {
     match Space::new(alloc, dims, cubes) {
         Ok(space) => Ok(space),
-        Err(SpaceFault::DimensionCount(cube)) => Err(DeployFault::on(line_of(lines, cube), DeployCause::DimensionCount)),
-        Err(SpaceFault::CubeTooLarge(cube)) => Err(DeployFault::on(line_of(lines, cube), DeployCause::CubeTooLarge)),
-        Err(SpaceFault::ModelTooLarge(cube)) => Err(DeployFault::on(line_of(lines, cube), DeployCause::ModelTooLarge)),
+        Err(SpaceFault::DimensionCount(cube)) => Err(DeployFault::on(
+            line_of(lines, cube),
+            DeployCause::DimensionCount,
+        )),
+        Err(SpaceFault::CubeTooLarge(cube)) => Err(DeployFault::on(
+            line_of(lines, cube),
+            DeployCause::CubeTooLarge,
+        )),
+        Err(SpaceFault::ModelTooLarge(cube)) => Err(DeployFault::on(
+            line_of(lines, cube),
+            DeployCause::ModelTooLarge,
+        )),
         Err(SpaceFault::Memory) => Err(DeployFault::memory()),
     }
 }

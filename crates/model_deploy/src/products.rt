@@ -11,11 +11,7 @@ use dim_weights::Weights;
 pub const MAX_WEIGHT_PRODUCT: u64 = 1_000_000_000;
 
 /// Whether each weight product is small, or else the refusal of the first cube of which it isn't.
-pub fn check_products(
-    space: &Space,
-    weights: &[Weights],
-    lines: &[u32],
-) -> Result<(), DeployFault>
+pub fn check_products(space: &Space, weights: &[Weights], lines: &[u32]) -> Result<(), DeployFault>
     requires { AreWeightsOf space.now.dimensions weights.now }
     ensures small { OnOk result (HasSmallProducts space.now) }
     ensures answered { IsAnsweredBy (products_refusal lines.now space.now) result }

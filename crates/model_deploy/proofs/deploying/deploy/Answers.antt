@@ -1,0 +1,21 @@
+use Rattle.std.proofs.Common.{◌≡◌, ◌∙◌, ap}
+use Rattle.model_deploy.specs.Deployment.{layout_of, cube_lines, dimensions_refusal}
+use Rattle.model_deploy.proofs.Firsts.{unrefused}
+use Rattle.model_deploy.proofs.Layouts.{layout-same, parts-layout, coefficients-refused, cells-refused}
+use Rattle.model_deploy.proofs.deploying.deploy.Goals as goal
+
+pub returns-in_err-weights-clause-answered : goal.returns-in_err-weights-clause-answered
+returns-in_err-weights-clause-answered c =
+    coefficients-refused _ _ c.args.text c.in_err-weights.field-0.0 c.from_residual.result c.from_residual.ensures.1 (rw c.dims.ensures.dims at c.in_err-weights.ensures.answered)
+
+pub space_of-requires : goal.space_of-requires
+space_of-requires c =
+    let same = layout-same c.args.text _ _ _ _ c.in_ok-dimensions.ensures c.into_parts-dims.ensures.dims c.in_ok-shapes.ensures c.into_parts-dims.ensures.cubes in
+    parts-layout c.args.text _ c.into_parts-dims.ensures.valid same
+
+pub returns-in_err-space-clause-answered : goal.returns-in_err-space-clause-answered
+returns-in_err-space-clause-answered c =
+    let same = layout-same c.args.text _ _ _ _ c.in_ok-dimensions.ensures c.into_parts-dims.ensures.dims c.in_ok-shapes.ensures c.into_parts-dims.ensures.cubes in
+    let lines = c.deref-2.ensures.value ∙ c.in_ok-lines.ensures ∙ ap cube_lines (c.deref.ensures.value ∙ c.into_parts-dims.ensures.cubes) in
+    let none = unrefused _ c.in_ok-weights.weights (rw c.dims.ensures.dims at c.in_ok-weights.ensures.answered) in
+    cells-refused _ _ c.args.text c.in_err-space.field-0.0 c.from_residual-in_err-space.result c.from_residual-in_err-space.ensures.1 c.deref-2.result.now _ lines same none c.in_err-space.ensures.answered
