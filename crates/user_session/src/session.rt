@@ -1,4 +1,4 @@
-ghost use Rattle.std.specs.Prelude.{◌≡◌, ◌+◌, ◌<◌, ◌^◌, [], ◌∷◌, ◌++◌, length, IfOk, OnOk};
+ghost use Rattle.std.specs.Prelude.{◌≡◌, ◌+◌, [], ◌∷◌, ◌++◌, length, IfOk, OnOk};
 ghost use Rattle.cell_store.specs.Entries.{after_writes};
 ghost use Rattle.history.specs.History.{IsHistoryOf};
 ghost use Rattle.history.specs.declared.effect.Effect.TheVariants.{Read};
@@ -32,7 +32,6 @@ pub fn serve(
     model: &Model,
     commands: &[PlanCommand],
 ) -> Result<Served, AllocError>
-    requires few { length commands.now < 2 ^ 32 }
     ensures { IfOk result (λ served. IsHistoryOf (effect model.now) after_writes []
         (commands.now ∷ []) (served.told.items ∷ []) served.log.items) }
 {
@@ -68,8 +67,7 @@ impl Session {
         model: &Model,
         command: &PlanCommand,
     ) -> Result<(), AllocError>
-        requires stored { AreCells model.now.space self.old.store }
-        requires few { length self.old.told.items + 1 < 2 ^ 32 }
+        requires { AreCells model.now.space self.old.store }
         ensures answered { OnOk result (IsAnswered (effect model.now self.old.store command.now)
             self.old.told.items self.new.told.items self.old.log.items self.new.log.items self.old.store self.new.store) }
         ensures stored { OnOk result (AreCells model.now.space self.new.store) }
@@ -91,8 +89,7 @@ impl Session {
         text: &CellText,
         number: Money,
     ) -> Result<(), AllocError>
-        requires stored { AreCells model.now.space self.old.store }
-        requires few { length self.old.told.items + 1 < 2 ^ 32 }
+        requires { AreCells model.now.space self.old.store }
         ensures answered { OnOk result (IsAnswered (put_effect model.now self.old.store (named_cell model.now text.now) number)
             self.old.told.items self.new.told.items self.old.log.items self.new.log.items self.old.store self.new.store) }
         ensures stored { OnOk result (AreCells model.now.space self.new.store) }
@@ -118,7 +115,6 @@ impl Session {
         cell: u64,
         number: Money,
     ) -> Result<(), AllocError>
-        requires { length self.old.told.items + 1 < 2 ^ 32 }
         ensures told { OnOk result (self.new.told.items ≡ self.old.told.items ++ record {
           place = length self.old.log.items;
           reply = Reply.Committed 1;
@@ -130,15 +126,26 @@ impl Session {
         } ∷ []) }
         ensures store { OnOk result (self.new.store ≡ store) }
     {
+        let command = self.next_number()?;
         self.tell(Reply::Committed(1))?;
         let writes = ListOf::new(vec![in alloc; (cell, number)]?);
         self.log.push(Entry {
             user: 1,
-            command: self.told.len() as u32,
+            command,
             writes,
         })?;
         self.store = store;
         Ok(())
+    }
+
+    // The number of the command that is answered next, from 1. More than 2^32 don't fit in a text, nor in memory.
+    fn next_number(&self) -> Result<u32, AllocError>
+        ensures { IfOk result (λ number. number ≡ length self.now.told.items + 1) }
+    {
+        match u32::try_from(self.told.len()) {
+            Ok(answered) if answered < u32::MAX => Ok(answered + 1),
+            _ => Err(AllocError),
+        }
     }
 
     // Tells a reply that speaks of the version as it stands.

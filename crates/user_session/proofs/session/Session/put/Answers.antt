@@ -9,5 +9,5 @@ pub returns-in-Ok-clause-stored : goal.returns-in-Ok-clause-stored
 returns-in-Ok-clause-stored c =
     let cell : IsCell c.args.model.now.space c.in-Some.cell = c.in-Some.ensures.cell in
     let after : AreCells c.args.model.now.space (after_writes c.args.self.now.store ((c.in-Some.cell, c.args.number) ∷ [])) =
-    stored_after (λ e. IsCell c.args.model.now.space e.cell) c.args.self.now.store c.in-Some.cell c.args.number c.requires.stored cell in
+    stored_after (λ e. IsCell c.args.model.now.space e.cell) c.args.self.now.store c.in-Some.cell c.args.number c.requires cell in
     stored_by c.commit.result (AreCells c.args.model.now.space) _ _ c.commit.ensures.store (subst (AreCells c.args.model.now.space) (sym c.in-Ok.ensures.written) after)
