@@ -1,0 +1,9 @@
+pub mod Behind
+pub mod UserReaders
+pub mod UserTexts
+pub mod Blocks
+pub mod ModelPieces
+pub mod ModelCuts
+pub mod ModelReads
+pub mod Finished
+pub mod ModelTexts

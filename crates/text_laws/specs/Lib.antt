@@ -1,0 +1,2 @@
+pub mod UserAnswers
+pub mod ModelAnswers
