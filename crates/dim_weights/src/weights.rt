@@ -50,6 +50,13 @@ impl Weights {
         Ok(Weights { rows, greatest })
     }
 
+    /// How many elements there are.
+    pub fn len(&self) -> usize
+        ensures { result ≡ length self.now }
+    {
+        self.rows.len()
+    }
+
     /// How much a leaf counts in an element: 0 also where it isn't a leaf.
     pub fn coef(&self, element: u32, leaf: u32) -> i64
         requires { element < length self.now }
