@@ -27,11 +27,7 @@ pub struct Served {
 }
 
 /// Runs the commands of the one user, one after another, from the empty store.
-pub fn serve(
-    alloc: Global,
-    model: &Model,
-    commands: &[PlanCommand],
-) -> Result<Served, AllocError>
+pub fn serve(alloc: Global, model: &Model, commands: &[PlanCommand]) -> Result<Served, AllocError>
     ensures { IfOk result (λ served. IsHistoryOf (effect model.now) after_writes []
         (commands.now ∷ []) (served.told.items ∷ []) served.log.items) }
 {
