@@ -82,11 +82,18 @@ GET 'Plan' ('Actual', 'Q1', 'Units');",
             Status::Done,
             "user 1\n1 @0 committed 1\n2 @1 committed 1\n3 @2 #OVER\n4 @2 committed 1\n5 @3 9000000000000\nhistory\n0 user 1 command 1 cells 1\n1 user 1 command 2 cells 1\n2 user 1 command 4 cells 1\n",
         ),
-        // A number out of range isn't plain.
+        // A number out of range is no number.
         (
             "PUT 'Plan' ('Actual', 'Jan', 'Units') = 9000000000000.000001;",
             Status::Refused,
-            "refused a.txt: NotPlain\n",
+            "refused a.txt: line 1: Syntax\n",
+        ),
+        // A cell that isn't there, and one where nothing is stored.
+        (
+            "GET 'Plan' ('Actual', 'Apr', 'Units');
+PUT 'Plan' ('Actual', 'Q1', 'Units') = 1;",
+            Status::Done,
+            "user 1\n1 @0 refused UnknownName\n2 @0 rejected NotALeaf\nhistory\n",
         ),
     ];
     for (user, status, text) in rows {

@@ -1,11 +1,9 @@
 -- Each cause has its status.
 use Rattle.std.proofs.Common.{◌≡◌, ℕ, List, [], ◌∷◌, Option, Some, inl, inr, refl, sym, ap, subst, ◌∙◌}
-use Rattle.plain_text.specs.Cube.{Cube}
-use Rattle.plain_text.specs.PlainModel.{IsPlainModel}
-use Rattle.plain_text.specs.PlainUser.{IsPlainUser}
-use Rattle.plain_text.proofs.PlainTexts.{plain_model-one, plain_user-one}
+use Rattle.rule_core.specs.BoundModel.{BoundModel}
+use Rattle.cube_server.specs.Files.{model_judgement, user_judgement}
+use Rattle.cube_server.proofs.Judgements.{one_model_judgement, one_user_judgement}
 use Rattle.cube_server.specs.declared.refusal.Refusal.{Refusal}
-use Rattle.cube_server.specs.declared.refusal.Refusal.TheVariants.{NotPlain}
 use Rattle.cube_server.specs.declared.status.Status.{Status}
 use Rattle.cube_server.specs.declared.status.Status.TheVariants.{Done, Usage, Refused, ReadFault, WriteFault, NoMemory}
 use Rattle.cube_server.specs.Answer.{Ends}
@@ -31,17 +29,17 @@ one_plan words a b p q =
 
 one_model : (words : List (List ℕ)) → IsOne (model_pass words)
 one_model words =
-    let after : Plan → Pass (Plan × Cube) = λ plan. (text plan.model IsPlainModel NotPlain >>= λ model. found (plan, model)) in
+    let after : Plan → Pass (Plan × BoundModel) = λ plan. (text plan.model model_judgement >>= λ model. found (plan, model)) in
     one-bind (words_pass words) after (one-the (IsPlan words) NotWords (one_plan words))
-    (λ plan. one-bind (text plan.model IsPlainModel NotPlain) (λ model. found (plan, model))
-    (one-text plan.model IsPlainModel NotPlain plain_model-one) (λ model. one-found (plan, model)))
+    (λ plan. one-bind (text plan.model model_judgement) (λ model. found (plan, model))
+    (one-text plan.model model_judgement one_model_judgement) (λ model. one-found (plan, model)))
 
 one_run : (words : List (List ℕ)) → IsOne (run_of words)
 one_run words =
-    let after : Plan × Cube → Pass Job = λ before. (text before.0.user (IsPlainUser before.1) NotPlain >>= λ commands. found (job before.1 commands)) in
+    let after : Plan × BoundModel → Pass Job = λ before. (text before.0.user user_judgement >>= λ commands. found (job before.1 commands)) in
     one-bind (model_pass words) after (one_model words)
-    (λ before. one-bind (text before.0.user (IsPlainUser before.1) NotPlain) (λ commands. found (job before.1 commands))
-    (one-text before.0.user (IsPlainUser before.1) NotPlain (plain_user-one before.1)) (λ commands. one-found (job before.1 commands)))
+    (λ before. one-bind (text before.0.user user_judgement) (λ commands. found (job before.1 commands))
+    (one-text before.0.user user_judgement one_user_judgement) (λ commands. one-found (job before.1 commands)))
 
 -- ---- ends of a course
 

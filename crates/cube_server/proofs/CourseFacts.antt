@@ -1,7 +1,6 @@
 -- How a run goes on by one pass, which reads one file and checks its text.
 use Rattle.std.proofs.Common.{◌≡◌, ℕ, List, [], ◌∷◌, None, inl, inr, refl, sym, subst}
-use Rattle.cube_server.specs.declared.refusal.Refusal.{Refusal}
-use Rattle.cube_server.specs.Pass.{Readings, bytes_of, Reads, Pass, found, text, ◌>>=◌}
+use Rattle.cube_server.specs.Pass.{Readings, bytes_of, Reads, Pass, Judgement, found, text, ◌>>=◌}
 use Rattle.cube_server.specs.Course.{Contents, IsCourse, IsReadOnce}
 
 -- the course of a pass is one of the passes that follow it
@@ -18,12 +17,12 @@ IsCourse-read P told name old new turn (inr (bytes, unread, tells, added)) cours
     subst (IsCourse P told) (sym added) (turn unread, tells, course)
 
 -- a pass that reads one file after another pass, and checks its text
-abbrev pub text_after : {A X B : Type 0} → Pass A → (A → List ℕ) → (A → List ℕ → X → Type 0) → Refusal → (A → X → B) → Pass B
-text_after P name StandsFor refusal both = P >>= λ a. (text (name a) (StandsFor a) refusal >>= λ x. found (both a x))
+abbrev pub text_after : {A X B : Type 0} → Pass A → (A → List ℕ) → (A → List ℕ → Judgement X) → (A → X → B) → Pass B
+text_after P name judge both = P >>= λ a. (text (name a) (judge a) >>= λ x. found (both a x))
 
-pub IsCourse-text_after : {A X B : Type 0} (P : Pass A) (name : A → List ℕ) (StandsFor : A → List ℕ → X → Type 0) (refusal : Refusal) (both : A → X → B)
+pub IsCourse-text_after : {A X B : Type 0} (P : Pass A) (name : A → List ℕ) (judge : A → List ℕ → Judgement X) (both : A → X → B)
     → (told : Contents) (old new : Readings) (a : A)
-    → P.finds old a → IsCourse P told old → IsReadOnce told (name a) old new → IsCourse (text_after P name StandsFor refusal both) told new
-IsCourse-text_after {A} {X} {B} P name StandsFor refusal both told old new a p course once =
-    let next : A → Pass B = λ b. (text (name b) (StandsFor b) refusal >>= λ x. found (both b x)) in
+    → P.finds old a → IsCourse P told old → IsReadOnce told (name a) old new → IsCourse (text_after P name judge both) told new
+IsCourse-text_after {A} {X} {B} P name judge both told old new a p course once =
+    let next : A → Pass B = λ b. (text (name b) (judge b) >>= λ x. found (both b x)) in
     IsCourse-read (P >>= next) told (name a) old new (λ unread. inr (a, p, inl (inl (unread, refl)))) once (IsCourse-later P next told old course)

@@ -4,18 +4,15 @@ use Rattle.std.specs.Io.KnownBytes.{Appends}
 use Rattle.cube_server.specs.declared.status.Status.{Status}
 use Rattle.cube_server.specs.declared.status.Status.TheVariants.{Done, Usage, Refused, ReadFault, WriteFault, NoMemory}
 use Rattle.cube_outside.specs.Bytes.{AppendsPart}
-use Rattle.plain_text.specs.PlainModel.{IsPlainModel}
-use Rattle.plain_text.specs.PlainUser.{IsPlainUser}
 use Rattle.cube_server.specs.declared.halt.Halt.{Halt}
 use Rattle.cube_server.specs.declared.halt.Halt.TheVariants as halts
-use Rattle.cube_server.specs.declared.refusal.Refusal.{Refusal}
-use Rattle.cube_server.specs.declared.refusal.Refusal.TheVariants.{NotPlain}
 use Rattle.cube_server.specs.declared.answer.Answer.{Answer}
 use Rattle.cube_server.specs.Answer.{Allows, Answers, Ends, IsOutput, WritesPart, joined}
 use Rattle.cube_server.specs.Course.{IsCourse}
 use Rattle.cube_server.specs.Outside.{Outside, Halts}
-use Rattle.cube_server.specs.Pass.{Readings, NotWords, text}
+use Rattle.cube_server.specs.Pass.{Readings, Judgement, NotWords, text}
 use Rattle.cube_server.specs.Run.{Job, model_pass, run_of}
+use Rattle.cube_server.specs.Files.{model_judgement, user_judgement}
 use Rattle.cube_server.specs.Words.{Plan, IsPlan}
 
 pub Ends-whole : (words : List (List ℕ)) (o : Outside) (old new : Option (List ℕ)) (before after : ℕ) (status : Status) (text : List ℕ)
@@ -27,20 +24,20 @@ Ends-whole words o old new before after ReadFault text allowed whole calm = (rec
 Ends-whole words o old new before after WriteFault text allowed whole calm = absurd allowed
 Ends-whole words o old new before after NoMemory text allowed whole calm = absurd allowed
 
-text_words : {A : Type 0} (name : List ℕ) (StandsFor : List ℕ → A → Type 0) (refusal : Refusal) (readings : Readings)
-    → (text name StandsFor refusal).stops readings NotWords → ⊥
-text_words name StandsFor refusal readings (inl p) = (let never = p.1 in cc)
-text_words name StandsFor refusal readings (inr p) = (let never = p.2.1 in cc)
+text_words : {A : Type 0} (name : List ℕ) (judge : List ℕ → Judgement A) (readings : Readings)
+    → (text name judge).stops readings NotWords → ⊥
+text_words name judge readings (inl p) = (let never = p.1 in cc)
+text_words name judge readings (inr p) = (let never = p.2.2 in cc)
 
 model_words : (words : List (List ℕ)) (readings : Readings) → (model_pass words).stops readings NotWords → (plan : Plan) → ¬ IsPlan words plan
 model_words words readings (inl p) = p.0
-model_words words readings (inr (plan, is, inl p)) = absurd (text_words plan.model IsPlainModel NotPlain readings p)
+model_words words readings (inr (plan, is, inl p)) = absurd (text_words plan.model model_judgement readings p)
 model_words words readings (inr (plan, is, inr p)) = absurd p.2
 
 -- only the words can be at fault for a usage
 pub misfit_words : (words : List (List ℕ)) (readings : Readings) → (run_of words).stops readings NotWords → (plan : Plan) → ¬ IsPlan words plan
 misfit_words words readings (inl p) = model_words words readings p
-misfit_words words readings (inr (before, is, inl p)) = absurd (text_words before.0.user (IsPlainUser before.1) NotPlain readings p)
+misfit_words words readings (inr (before, is, inl p)) = absurd (text_words before.0.user user_judgement readings p)
 misfit_words words readings (inr (before, is, inr p)) = absurd p.2
 
 -- the answer to a run that went no further is allowed

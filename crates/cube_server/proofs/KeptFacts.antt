@@ -3,8 +3,7 @@ use Rattle.std.proofs.Common.{◌≡◌, ℕ, List, ◌∷◌, Option, Some, Non
 use Rattle.std.specs.Option.{option_map}
 use Rattle.std.specs.Str.{bytes_eq}
 use Rattle.std.proofs.lemmas.Slice.Eq.{bytes_eq-Decides}
-use Rattle.cube_server.specs.declared.refusal.Refusal.{Refusal}
-use Rattle.cube_server.specs.Pass.{Readings, bytes_of, Stop, Pass, found, the, text, ◌>>=◌}
+use Rattle.cube_server.specs.Pass.{Readings, bytes_of, Stop, Pass, Judgement, found, the, text, ◌>>=◌}
 use Rattle.cube_server.specs.Course.{Contents, IsReadOnce}
 
 -- every file that was read before was read with the same bytes since
@@ -38,8 +37,8 @@ kept-found a old new b grows p = p
 pub kept-the : {A : Type 0} (Is : A → Type 0) (otherwise : Stop) → IsKept (the Is otherwise)
 kept-the Is otherwise old new a grows p = p
 
-pub kept-text : {A : Type 0} (name : List ℕ) (StandsFor : List ℕ → A → Type 0) (refusal : Refusal) → IsKept (text name StandsFor refusal)
-kept-text name StandsFor refusal old new a grows p = (p.0, grows name p.0 p.1, p.2)
+pub kept-text : {A : Type 0} (name : List ℕ) (judge : List ℕ → Judgement A) → IsKept (text name judge)
+kept-text name judge old new a grows p = (p.0, grows name p.0 p.1, p.2)
 
 pub kept-bind : {A B : Type 0} (P : Pass A) (K : A → Pass B) → IsKept P → ((a : A) → IsKept (K a)) → IsKept (P >>= K)
 kept-bind P K keeps all old new b grows p = (p.0, keeps old new p.0 grows p.1, all p.0 old new b grows p.2)

@@ -2,11 +2,11 @@ mod PassFacts
 mod CourseFacts
 mod ReadingsFacts
 mod RunFacts
-mod Weights
-mod SessionFacts
 mod Pieces
 mod EndFacts
 mod OneCourse
 mod Converses
 mod KeptFacts
 mod HaltFacts
+mod Judgements
+mod UnfitFacts

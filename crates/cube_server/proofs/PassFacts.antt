@@ -1,7 +1,7 @@
 -- A pass comes to one thing over one list of files, and what it has found stays while more files are read.
-use Rattle.std.proofs.Common.{◌≡◌, ℕ, List, inl, inr, sym, ◌∙◌, subst}
+use Rattle.std.proofs.Common.{◌≡◌, ℕ, List, inl, inr, sym, ◌∙◌, ap, subst}
 use Rattle.cube_server.specs.declared.refusal.Refusal.{Refusal}
-use Rattle.cube_server.specs.Pass.{Readings, Stop, Refuses, Pass, found, file, the, ◌>>=◌, text}
+use Rattle.cube_server.specs.Pass.{Readings, Stop, Refuses, Pass, Judgement, found, file, the, judged, ◌>>=◌, text}
 
 -- a pass comes to one thing at most
 pub record IsOne {A : Type 0} (P : Pass A) : Type 0 where
@@ -59,8 +59,21 @@ one-bind P K one ones = record {
   not_both = found_stops P K one ones;
 }
 
-pub one-text : {A : Type 0} (name : List ℕ) (StandsFor : List ℕ → A → Type 0) (refusal : Refusal)
-    → ((bytes : List ℕ) (a b : A) → StandsFor bytes a → StandsFor bytes b → a ≡ b) → IsOne (text name StandsFor refusal)
-one-text name StandsFor refusal one =
-    one-bind (file name) (λ bytes. the (StandsFor bytes) (Refuses name refusal)) (one-file name)
-    (λ bytes. one-the (StandsFor bytes) (Refuses name refusal) (one bytes))
+-- a judgement comes to one thing at most
+pub record IsOneJudgement {A : Type 0} (J : Judgement A) : Type 0 where
+  pub one_thing : (a b : A) → J.stands_for a → J.stands_for b → a ≡ b
+  pub one_refusal : (r s : Refusal) → J.refused_for r → J.refused_for s → r ≡ s
+  pub not_both : (a : A) (r : Refusal) → J.stands_for a → J.refused_for r → ⊥
+
+same_refusal : (name : List ℕ) (r q : Refusal) (s t : Stop) → r ≡ q → s ≡ Refuses name r → t ≡ Refuses name q → s ≡ t
+same_refusal name r q s t same e f = e ∙ ap (Refuses name) same ∙ sym f
+
+pub one-judged : {A : Type 0} (name : List ℕ) (J : Judgement A) → IsOneJudgement J → IsOne (judged name J)
+one-judged name J one = record {
+  one_found = λ readings a b p q. one.one_thing a b p q;
+  one_stop = λ readings s t (r, p, e) (q, k, f). same_refusal name r q s t (one.one_refusal r q p k) e f;
+  not_both = λ readings a s p (r, q, e). one.not_both a r p q;
+}
+
+pub one-text : {A : Type 0} (name : List ℕ) (judge : List ℕ → Judgement A) → ((bytes : List ℕ) → IsOneJudgement (judge bytes)) → IsOne (text name judge)
+one-text name judge one = one-bind (file name) (λ bytes. judged name (judge bytes)) (one-file name) (λ bytes. one-judged name (judge bytes) (one bytes))

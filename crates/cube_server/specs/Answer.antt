@@ -1,5 +1,5 @@
 -- Which text each end of a run allows, and what may have been written.
-use Rattle.std.specs.Prelude.{◌≡◌, ℕ, List, [], ◌⊎◌, Option, map, Vec}
+use Rattle.std.specs.Prelude.{◌≡◌, ℕ, ℤ, List, [], ◌⊎◌, Option, map, Vec}
 use Rattle.std.specs.List.{concat}
 use Rattle.std.specs.Io.KnownBytes.{Appends}
 use Rattle.std.specs.declared.alloc.Global.{Global}
@@ -10,16 +10,16 @@ use Rattle.history.specs.declared.told.Told.{Told}
 use Rattle.history.specs.History.{IsHistoryOf}
 use Rattle.cube_server.specs.declared.halt.Halt.{Halt}
 use Rattle.cube_server.specs.declared.halt.Halt.TheVariants as halts
-use Rattle.cube_server.specs.declared.planning.Stored.{Stored}
 use Rattle.cube_server.specs.declared.refusal.Refusal.{Refusal}
-use Rattle.cube_server.specs.declared.reply.Reply.{Reply}
+use Rattle.cell_store.specs.Entries.{after_writes}
+use Rattle.user_session.specs.Planning.{effect}
+use Rattle.user_session.specs.declared.reply.Reply.{Reply}
 use Rattle.cube_server.specs.declared.status.Status.{Status}
 use Rattle.cube_server.specs.declared.status.Status.TheVariants.{Done, Usage, Refused, ReadFault, WriteFault, NoMemory}
 use Rattle.cube_server.specs.Course.{IsCourse}
 use Rattle.cube_server.specs.Outside.{Outside}
 use Rattle.cube_server.specs.Output.{output, refused_text, unread_text, usage_text}
 use Rattle.cube_server.specs.Pass.{Readings, Reads, Refuses}
-use Rattle.cube_server.specs.Planning.{effect, after_writes}
 use Rattle.cube_server.specs.Run.{Job, run_of}
 use Rattle.cube_server.specs.Words.{Plan, IsPlan}
 
@@ -27,7 +27,7 @@ use Rattle.cube_server.specs.Words.{Plan, IsPlan}
 -- run, each reply on the version at its place
 pub record IsOutput (job : Job) (text : List ℕ) : Type 0 where
   pub told : List (List (Told Reply))
-  pub log : List (Entry (List Stored))
+  pub log : List (Entry (List (ℕ × ℤ)))
   pub history : IsHistoryOf (effect job.model) after_writes [] job.users told log
   pub is_text : text ≡ output told log
 

@@ -1,10 +1,9 @@
 pub mod Pass
 pub mod Course
 pub mod Words
+pub mod Files
 pub mod Run
 pub mod Outside
-pub mod Planning
 pub mod Output
-pub mod Session
 pub mod Status
 pub mod Answer

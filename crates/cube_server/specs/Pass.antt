@@ -50,6 +50,18 @@ abbrev pub ◌>>=◌ : {A B : Type 0} → Pass A → (A → Pass B) → Pass B
   stops = λ readings stop. P.stops readings stop ⊎ ((a : A) × P.finds readings a × (K a).stops readings stop);
 }
 
--- a file is read, and its text stands for this; else the file is refused
-abbrev pub text : {A : Type 0} → List ℕ → (List ℕ → A → Type 0) → Refusal → Pass A
-text name StandsFor refusal = file name >>= λ bytes. the (StandsFor bytes) (Refuses name refusal)
+-- how something that was read is judged: what it stands for, or why it is refused
+pub record Judgement (A : Type 0) : Type 1 where
+  pub stands_for : A → Type 0
+  pub refused_for : Refusal → Type 0
+
+-- what is found is what this file's bytes stand for; else the file is refused
+abbrev pub judged : {A : Type 0} → List ℕ → Judgement A → Pass A
+judged {A} name judgement = record {
+  finds = λ _ a. judgement.stands_for a;
+  stops = λ _ stop. (refusal : Refusal) × judgement.refused_for refusal × (stop ≡ Refuses name refusal);
+}
+
+-- a file is read, and its bytes are judged
+abbrev pub text : {A : Type 0} → List ℕ → (List ℕ → Judgement A) → Pass A
+text name judge = file name >>= λ bytes. judged name (judge bytes)

@@ -1,5 +1,4 @@
-ghost use Rattle.std.specs.Prelude.{◌≡◌, ◌≤◌, length, All, IfOk};
-ghost use Rattle.plain_text.specs.Cube.{IsInside};
+ghost use Rattle.std.specs.Prelude.{◌≡◌, IfOk};
 ghost use Rattle.cube_server.specs.Answer.{IsOutput, Allows, Answers, joined};
 ghost use Rattle.cube_server.specs.Outside.{outside};
 ghost use Rattle.cube_server.specs.Run.{job};
@@ -9,11 +8,11 @@ use crate::halt::Halt;
 use crate::passes::users_pass;
 use crate::print::{print_history, print_refusal, print_unread, print_usage, print_user};
 use crate::readings::Readings;
-use crate::session::serve;
 use crate::status::Status;
 use cube_outside::Files;
-use plain_text::{PlainCommand, PlainModel};
+use rule_core::Model;
 use std::alloc::{AllocError, Global};
+use user_session::{PlanCommand, serve};
 
 /// How a run is to end, and the pieces of its text in the order in which they are written.
 #[derive(Drop)]
@@ -39,9 +38,7 @@ pub(crate) fn answer_of<F: Files>(
 }
 
 // Runs the user.
-fn done(alloc: Global, model: &PlainModel, commands: &[PlainCommand]) -> Result<Answer, AllocError>
-    requires inside { All (IsInside model.now) commands.now }
-    requires few { length commands.now ≤ 1000 }
+fn done(alloc: Global, model: &Model, commands: &[PlanCommand]) -> Result<Answer, AllocError>
     ensures status { IfOk result (λ answer. answer.status ≡ Status.Done) }
     ensures text { IfOk result (λ answer. IsOutput (job model.now commands.now) (joined answer.pieces.items)) }
 {
@@ -63,7 +60,11 @@ fn halted(alloc: Global, missed: &[u8], halt: Halt<'_>) -> Result<Answer, AllocE
         Halt::NotWords => one_piece(alloc, Status::Usage, print_usage(alloc)?),
         Halt::Unread => one_piece(alloc, Status::ReadFault, print_unread(alloc, missed)?),
         Halt::Refused(file, refusal) => {
-            one_piece(alloc, Status::Refused, print_refusal(alloc, file, refusal)?)
+            one_piece(
+                alloc,
+                Status::Refused,
+                print_refusal(alloc, file, &refusal)?,
+            )
         }
         Halt::Memory => Err(AllocError),
     }

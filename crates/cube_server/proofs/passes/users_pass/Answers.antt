@@ -20,14 +20,14 @@ returns-in-Ok-clause-found g c =
     c.model_pass.new.readings c.user_text.new.readings c.in_ok-plan.plan _ c.in_ok-plan.model c.in-Ok.commands
     c.in_ok-plan.ensures.found c.plan.view_is c.user_text.ensures.once c.in-Ok.ensures.found
 
-pub returns-clause-course : goal.returns-clause-course
-returns-clause-course g c =
+pub returns-in-Err-clause-course : goal.returns-in-Err-clause-course
+returns-in-Err-clause-course g c =
     users_course (texts_of c.args.words.now) (g.F.Files.told c.args.files.now) (g.F.Files.told c.model_pass.new.files)
     c.model_pass.new.readings c.user_text.new.readings c.in_ok-plan.plan _ c.in_ok-plan.model
     c.in_ok-plan.ensures.found c.model_pass.ensures.course c.model_pass.ensures.told c.plan.view_is c.user_text.ensures.once
 
-pub returns-clause-halted : goal.returns-clause-halted
-returns-clause-halted g c =
+pub returns-in-Err-clause-halted : goal.returns-in-Err-clause-halted
+returns-in-Err-clause-halted g c =
     users_halted (texts_of c.args.words.now) (g.F.Files.told c.model_pass.new.files)
     c.model_pass.new.readings c.user_text.new.readings c.in_ok-plan.plan _ c.in_ok-plan.model
     (outside g.F.Files.told g.F.Files.faults g.F.Files.missed c.model_pass.new.files c.user_text.new.files)
