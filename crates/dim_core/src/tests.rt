@@ -6,40 +6,12 @@ fn name(alloc: Global, text: &str) -> Result<Name, Fail> {
     Ok(Name::new(alloc, text.as_bytes())?)
 }
 
-#[test]
-fn looks_up_the_elements_of_a_quarter(rt: HostRuntime) -> Result<(), Fail> {
-    let alloc = rt.alloc();
-    let mut builder = Builder::new(alloc, name(alloc, "Month")?)?;
-    builder.leaf(name(alloc, "Jan")?)?;
-    builder.leaf(name(alloc, "Feb")?)?;
-    let duplicate = matches!(builder.leaf(name(alloc, "J AN")?), Err(DimFault::Duplicate));
-    assert!(rt; duplicate);
-    let heavy = vec![in alloc; (name(alloc, "Jan")?, 1_000_001)]?;
-    let refused = matches!(
-        builder.consolidated(name(alloc, "Q1")?, heavy),
-        Err(DimFault::WeightRange)
-    );
-    assert!(rt; refused);
-    let parts = vec![in alloc; (name(alloc, "jan")?, 1), (name(alloc, "FEB")?, -2)]?;
-    builder.consolidated(name(alloc, "Q1")?, parts)?;
-    let month = builder.finish()?;
-    assert_eq!(rt; month.len(), 3);
-    assert_eq!(rt; month.name().shown(), b"Month".as_slice());
-    assert_eq!(rt; month.index_of(&name(alloc, "q 1")?), Some(2));
-    assert_eq!(rt; month.index_of(&name(alloc, "Mar")?), None);
-    assert_eq!(rt; month.name_of(1).shown(), b"Feb".as_slice());
-    assert_eq!(rt; month.components(2), [(0, 1), (1, -2)].as_slice());
-    assert!(rt; month.is_leaf(0));
-    assert!(rt; !month.is_leaf(2));
-    Ok(())
-}
-
-// A dimension of these consolidations, each of one part, and the leaf Leaf.
+// A dimension of the leaf Leaf and these consolidations, each of one part.
 fn chain(alloc: Global, elements: &[(&str, &str)]) -> Result<Builder, Fail> {
     let mut builder = Builder::new(alloc, name(alloc, "Chain")?)?;
     builder.leaf(name(alloc, "Leaf")?)?;
     for (element, part) in elements {
-        let parts = vec![in alloc; (name(alloc, part)?, 1)]?;
+        let parts = vec![in alloc; (name(alloc, part)?, -2)]?;
         builder.consolidated(name(alloc, element)?, parts)?;
     }
     Ok(builder)
@@ -47,10 +19,42 @@ fn chain(alloc: Global, elements: &[(&str, &str)]) -> Result<Builder, Fail> {
 
 #[test]
 fn orders_components_before_what_they_are_components_of(rt: HostRuntime) -> Result<(), Fail> {
-    let chain = chain(rt.alloc(), &[("Year", "Half"), ("Half", "Leaf")])?.finish()?;
+    let alloc = rt.alloc();
+    let chain = chain(alloc, &[("Year", "Half"), ("Half", "leaf")])?.finish()?;
     assert_eq!(rt; chain.len(), 3);
-    assert_eq!(rt; chain.components(1), [(2, 1)].as_slice());
+    assert_eq!(rt; chain.components(1), [(2, -2)].as_slice());
     assert_eq!(rt; chain.order(), [0, 2, 1].as_slice());
+    assert_eq!(rt; chain.index_of(&name(alloc, "h alf")?), Some(2));
+    assert_eq!(rt; chain.index_of(&name(alloc, "Quarter")?), None);
+    Ok(())
+}
+
+#[test]
+fn looks_up_the_elements_of_a_chain(rt: HostRuntime) -> Result<(), Fail> {
+    let chain = chain(rt.alloc(), &[("Year", "Leaf")])?.finish()?;
+    assert_eq!(rt; chain.len(), 2);
+    assert_eq!(rt; chain.name().shown(), b"Chain".as_slice());
+    assert_eq!(rt; chain.name_of(1).shown(), b"Year".as_slice());
+    assert!(rt; chain.is_leaf(0));
+    assert!(rt; !chain.is_leaf(1));
+    Ok(())
+}
+
+#[test]
+fn refuses_a_second_name_and_a_heavy_part(rt: HostRuntime) -> Result<(), Fail> {
+    let alloc = rt.alloc();
+    let mut builder = chain(alloc, &[])?;
+    let duplicate = matches!(
+        builder.leaf(name(alloc, "LE AF")?),
+        Err(DimFault::Duplicate)
+    );
+    assert!(rt; duplicate);
+    let heavy = vec![in alloc; (name(alloc, "Leaf")?, 1_000_001)]?;
+    let refused = matches!(
+        builder.consolidated(name(alloc, "Year")?, heavy),
+        Err(DimFault::WeightRange)
+    );
+    assert!(rt; refused);
     Ok(())
 }
 
@@ -67,7 +71,7 @@ fn names_the_first_element_of_a_loop(rt: HostRuntime) -> Result<(), Fail> {
     Ok(())
 }
 
-// The month January with the texts of these calls.
+// The month January and February with the texts of these calls.
 fn months(alloc: Global, calls: &[(&str, &str, &str)]) -> Result<Builder, Fail> {
     let mut builder = Builder::new(alloc, name(alloc, "Month")?)?;
     for (element, attribute, text) in calls {
@@ -83,41 +87,27 @@ fn months(alloc: Global, calls: &[(&str, &str, &str)]) -> Result<Builder, Fail> 
 }
 
 #[test]
-fn keeps_attributes_and_names_the_first_bad_one(rt: HostRuntime) -> Result<(), Fail> {
+fn keeps_attributes(rt: HostRuntime) -> Result<(), Fail> {
     let alloc = rt.alloc();
-    let good = [
-        ("feb", "Prev", "Jan"),
-        ("Jan", "PREV", ""),
-        ("Feb", "Long", "February"),
-    ];
-    let month = months(alloc, &good)?.finish()?;
-    assert_eq!(rt;
-        month.attribute(1, &name(alloc, "p rev")?),
-        b"Jan".as_slice()
-    );
-    assert_eq!(rt;
-        month.attribute(1, &name(alloc, "Long")?),
-        b"February".as_slice()
-    );
-    assert_eq!(rt; month.attribute(0, &name(alloc, "Long")?), b"".as_slice());
-    assert_eq!(rt; month.attribute(0, &name(alloc, "Short")?), b"".as_slice());
-    assert_eq!(rt; month.attributes().len(), 3);
+    let month = months(alloc, &[("feb", "Prev", "Jan"), ("Jan", "Long", "")])?.finish()?;
+    for (element, attribute, text) in [(1, "p rev", "Jan"), (0, "Prev", ""), (1, "Short", "")] {
+        let attribute = name(alloc, attribute)?;
+        assert_eq!(rt; month.attribute(element, &attribute), text.as_bytes());
+    }
+    assert_eq!(rt; month.attributes().len(), 2);
     assert_eq!(rt; month.attributes()[1].element, 0);
-    assert_eq!(rt; month.attributes()[1].name.shown(), b"PREV".as_slice());
-    assert_eq!(rt;
-        month.attributes()[2].text.as_slice(),
-        b"February".as_slice()
-    );
-    let repeated = months(alloc, &[("Feb", "Prev", "Jan"), ("f e b", "PREV", "Feb")])?;
+    assert_eq!(rt; month.attributes()[1].name.shown(), b"Long".as_slice());
+    Ok(())
+}
+
+#[test]
+fn names_the_first_bad_attribute(rt: HostRuntime) -> Result<(), Fail> {
+    let repeated = months(rt.alloc(), &[("Feb", "Prev", "Jan"), ("f eb", "PREV", "")])?;
     assert!(rt; matches!(repeated.finish(), Err(DimFault::BadAttribute(2))));
     let unknown = months(
-        alloc,
-        &[
-            ("Feb", "Prev", "Jan"),
-            ("Jan", "Prev", ""),
-            ("Mar", "Prev", "Feb"),
-        ],
+        rt.alloc(),
+        &[("Feb", "Prev", "Jan"), ("Mar", "Prev", "Feb")],
     )?;
-    assert!(rt; matches!(unknown.finish(), Err(DimFault::BadAttribute(3))));
+    assert!(rt; matches!(unknown.finish(), Err(DimFault::BadAttribute(2))));
     Ok(())
 }
