@@ -52,13 +52,22 @@ fn fault_in(alloc: Global, text: &[u8]) -> (u32, &'static str) {
 
 #[test]
 fn reads_a_model(rt: HostRuntime) -> Result<(), Fail> {
-    let Ok(model) = read(rt.alloc(), PLAN) else {
-        assert!(rt; false, "the model is refused");
-        return Ok(());
-    };
+    let model = read(rt.alloc(), PLAN)?;
     assert_eq!(rt; model.version(), 1);
     assert_eq!(rt; model.dims().len(), 3);
     assert_eq!(rt; model.dims()[2].head(), 10);
+    assert_eq!(rt; model.scripts().len(), 4);
+    assert_eq!(rt; model.scripts()[3].line, 22);
+    assert_eq!(rt; model.scripts()[3].file.as_slice(), b"spin.ti".as_slice());
+    let (dims, cubes, scripts) = model.into_parts();
+    assert_eq!(rt; (dims.len(), cubes.len(), scripts.len()), (3, 1, 4));
+    Ok(())
+}
+
+#[test]
+fn reads_a_cube(rt: HostRuntime) -> Result<(), Fail> {
+    let model = read(rt.alloc(), PLAN)?;
+    assert_eq!(rt; model.cubes().len(), 1);
     let cube = &model.cubes()[0];
     assert_eq!(rt; cube.line, 15);
     assert_eq!(rt; cube.name.shown(), b"Plan".as_slice());
@@ -70,25 +79,26 @@ fn reads_a_model(rt: HostRuntime) -> Result<(), Fail> {
         }
         None => assert!(rt; false, "no rules"),
     }
-    match &cube.order {
-        Some((line, order)) => {
-            assert_eq!(rt; *line, 17);
-            match order.words.as_slice() {
-                [OrderWord::Index(month), OrderWord::Ranks(measure, ranks)] => {
-                    assert_eq!(rt; month.shown(), b"Month".as_slice());
-                    assert_eq!(rt; measure.shown(), b"Measure".as_slice());
-                    assert_eq!(rt; ranks.as_slice().len(), 4);
-                }
-                _ => assert!(rt; false, "other positions"),
-            }
+    Ok(())
+}
+
+#[test]
+fn reads_an_order(rt: HostRuntime) -> Result<(), Fail> {
+    let model = read(rt.alloc(), PLAN)?;
+    assert_eq!(rt; model.cubes().len(), 1);
+    let Some((line, order)) = &model.cubes()[0].order else {
+        assert!(rt; false, "no order line");
+        return Ok(());
+    };
+    assert_eq!(rt; *line, 17);
+    match order.words.as_slice() {
+        [OrderWord::Index(month), OrderWord::Ranks(measure, ranks)] => {
+            assert_eq!(rt; month.shown(), b"Month".as_slice());
+            assert_eq!(rt; measure.shown(), b"Measure".as_slice());
+            assert_eq!(rt; ranks.as_slice().len(), 4);
         }
-        None => assert!(rt; false, "no order line"),
+        _ => assert!(rt; false, "other positions"),
     }
-    assert_eq!(rt; model.scripts().len(), 4);
-    assert_eq!(rt; model.scripts()[3].line, 22);
-    assert_eq!(rt; model.scripts()[3].file.as_slice(), b"spin.ti".as_slice());
-    let (dims, cubes, scripts) = model.into_parts();
-    assert_eq!(rt; (dims.len(), cubes.len(), scripts.len()), (3, 1, 4));
     Ok(())
 }
 
