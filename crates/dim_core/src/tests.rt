@@ -1,4 +1,4 @@
-use crate::{Builder, DimFault, Name};
+use crate::{Builder, DimFault, Dimension, Name};
 use std::alloc::Global;
 use std::test::Fail;
 
@@ -86,6 +86,33 @@ fn months(alloc: Global, calls: &[(&str, &str, &str)]) -> Result<Builder, Fail> 
     Ok(builder)
 }
 
+// A quarter of both months, named otherwise than they are spelled.
+fn quarter(alloc: Global) -> Result<Dimension, Fail> {
+    let mut builder = months(alloc, &[])?;
+    let parts = vec![in alloc; (name(alloc, "jan")?, 1), (name(alloc, "FEB")?, -2)]?;
+    builder.consolidated(name(alloc, "Q1")?, parts)?;
+    Ok(builder.finish()?)
+}
+
+#[test]
+fn a_consolidation_has_several_parts(rt: HostRuntime) -> Result<(), Fail> {
+    let month = quarter(rt.alloc())?;
+    assert_eq!(rt; month.len(), 3);
+    assert_eq!(rt; month.components(2), [(0, 1), (1, -2)].as_slice());
+    assert_eq!(rt; month.name_of(1).shown(), b"Feb".as_slice());
+    Ok(())
+}
+
+#[test]
+fn looks_up_names_however_they_are_spelled(rt: HostRuntime) -> Result<(), Fail> {
+    let alloc = rt.alloc();
+    let month = quarter(alloc)?;
+    for (text, index) in [("q 1", Some(2)), ("Mar", None)] {
+        assert_eq!(rt; month.index_of(&name(alloc, text)?), index);
+    }
+    Ok(())
+}
+
 #[test]
 fn keeps_attributes(rt: HostRuntime) -> Result<(), Fail> {
     let alloc = rt.alloc();
@@ -97,6 +124,54 @@ fn keeps_attributes(rt: HostRuntime) -> Result<(), Fail> {
     assert_eq!(rt; month.attributes().len(), 2);
     assert_eq!(rt; month.attributes()[1].element, 0);
     assert_eq!(rt; month.attributes()[1].name.shown(), b"Long".as_slice());
+    Ok(())
+}
+
+// Attributes of both months, not in the order of the months.
+fn described(alloc: Global) -> Result<Dimension, Fail> {
+    let calls = [
+        ("feb", "Prev", "Jan"),
+        ("Jan", "PREV", ""),
+        ("Feb", "Long", "February"),
+    ];
+    Ok(months(alloc, &calls)?.finish()?)
+}
+
+#[test]
+fn lists_attributes_in_the_order_of_their_calls(rt: HostRuntime) -> Result<(), Fail> {
+    let month = described(rt.alloc())?;
+    let attributes = month.attributes();
+    assert_eq!(rt; attributes.len(), 3);
+    assert_eq!(rt; attributes[1].element, 0);
+    assert_eq!(rt; attributes[1].name.shown(), b"PREV".as_slice());
+    assert_eq!(rt; attributes[2].text.as_slice(), b"February".as_slice());
+    Ok(())
+}
+
+#[test]
+fn an_element_has_several_attributes(rt: HostRuntime) -> Result<(), Fail> {
+    let alloc = rt.alloc();
+    let month = described(alloc)?;
+    for (element, attribute, text) in [
+        (1, "Prev", "Jan"),
+        (1, "Long", "February"),
+        (0, "Long", ""),
+    ] {
+        let attribute = name(alloc, attribute)?;
+        assert_eq!(rt; month.attribute(element, &attribute), text.as_bytes());
+    }
+    Ok(())
+}
+
+#[test]
+fn counts_attribute_calls_from_one(rt: HostRuntime) -> Result<(), Fail> {
+    let calls = [
+        ("Feb", "Prev", "Jan"),
+        ("Jan", "Prev", ""),
+        ("Mar", "Prev", "Feb"),
+    ];
+    let unknown = months(rt.alloc(), &calls)?;
+    assert!(rt; matches!(unknown.finish(), Err(DimFault::BadAttribute(3))));
     Ok(())
 }
 
