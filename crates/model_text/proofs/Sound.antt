@@ -119,7 +119,7 @@ dimension_then parts line (Some k) (ScriptWhole l n file) there sound due = reco
 name_equiv : IsEquivalence is_same_name
 name_equiv = on_equiv key_of nat_list_eq_equiv
 
-any-map : {X Y : Type 0} (p : Y → Bool) (f : X → Y) (xs : List X) → list_any p (map f xs) ≡ list_any (λ x. p (f x)) xs
+pub any-map : {X Y : Type 0} (p : Y → Bool) (f : X → Y) (xs : List X) → list_any p (map f xs) ≡ list_any (λ x. p (f x)) xs
 any-map p f [] = refl
 any-map p f (x ∷ xs) = ap (λ b. p (f x) || b) (any-map p f xs)
 

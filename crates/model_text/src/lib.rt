@@ -12,6 +12,7 @@ mod order;
 mod order_line;
 mod parts;
 mod pieces;
+mod printing;
 mod reading;
 mod scripts;
 mod tokens;
@@ -21,6 +22,7 @@ pub use fault::{ModelTextCause, ModelTextFault};
 pub use model::ModelText;
 pub use order::{OrderLine, OrderWord};
 pub use parts::{CubeText, ScriptText};
+pub use printing::print;
 pub use reading::read;
 
 #[cfg(test)]
