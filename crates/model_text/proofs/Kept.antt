@@ -1,6 +1,6 @@
 -- What is read of cubes and scripts can be written as tokens again.
 use Rattle.std.proofs.Common.{◌≡◌, ◌<◌, ◌^◌, ℕ, List, [], ◌∷◌, ◌++◌, length, true, Ok, Option, Some, None, IfSome, sym, ap, ◌∙◌, subst, inl, inr, ◌&&◌, arith}
-use Rattle.std.proofs.lemmas.Bool.{ltb-lt}
+use Rattle.std.proofs.lemmas.Bool.{ltb-true}
 use Rattle.std.proofs.lemmas.List.Elements.{All-nil, All-cons, All-head}
 use Rattle.std.specs.List.{All, list_all}
 use Rattle.std.specs.Char.{is_ascii_digit}
@@ -80,7 +80,7 @@ whole_kept = record {
   at = λ u n tokens (t, is, picks). (
       let (both_hold, same) = when_picks (λ (t : Lexeme). is_number_kind t.kind && is_whole t.piece) (λ t. digits_value 10 t.piece) t n picks in
       let (digits, small) = and_is (list_all is_ascii_digit t.piece) _ (and_is (is_number_kind t.kind) (is_whole t.piece) both_hold).1 in
-      subst (λ m. m < 2 ^ 31) same (ltb-lt (digits_value 10 t.piece) (2 ^ 31) small));
+      subst (λ m. m < 2 ^ 31) same (ltb-true (digits_value 10 t.piece) (2 ^ 31) small));
 }
 
 -- The end of a cube.

@@ -11,3 +11,4 @@ pub mod SpelledPieces
 pub mod Going
 pub mod Again
 pub mod PrintedBack
+pub mod Adding

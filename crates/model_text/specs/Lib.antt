@@ -8,3 +8,4 @@ pub mod Views
 pub mod Answers
 pub mod Spelled
 pub mod Printed
+pub mod Tokens

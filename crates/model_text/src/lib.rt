@@ -4,12 +4,14 @@
 //! refuses.
 #![tactic(auto)]
 
+mod cube_printing;
 mod cubes;
 mod dimensions;
 mod fault;
 mod model;
 mod order;
 mod order_line;
+mod order_printing;
 mod parts;
 mod pieces;
 mod printing;
@@ -17,6 +19,7 @@ mod reading;
 mod scripts;
 mod tokens;
 mod work;
+mod writing;
 
 pub use fault::{ModelTextCause, ModelTextFault};
 pub use model::ModelText;
