@@ -12,3 +12,4 @@ pub mod Going
 pub mod Again
 pub mod PrintedBack
 pub mod Adding
+pub mod WrittenParts
