@@ -1,33 +1,31 @@
 -- What is written of a model text is a text again, in which nothing is refused.
-use Rattle.std.proofs.Common.{◌≡◌, ◌<◌, ◌≤◌, ℕ, nat_eq, nat_le, List, [], ◌∷◌, ◌++◌, length, map, get_or, codes, true, false, Bool, Option, Some, None, IfSome, Ok, refl, sym, ap, ◌∙◌, subst, inl, inr, arith, append_assoc, append-nil, length-append, IsTrue}
+use Rattle.std.proofs.Common.{◌≡◌, ◌<◌, ◌≤◌, ℕ, nat_eq, nat_le, List, [], ◌∷◌, ◌++◌, length, map, get_or, codes, true, false, Bool, Option, Some, IfSome, Ok, refl, sym, ap, ◌∙◌, subst, inl, inr, arith, length-append, IsTrue}
 use Rattle.std.proofs.Math.Seq.{get_or-append_seam}
 use Rattle.std.proofs.lemmas.Bool.{lt-leb}
 use Rattle.std.proofs.lemmas.Cmp.{nat_eq_equiv}
-use Rattle.std.proofs.lemmas.List.{get_or_append_left, get_or-map, length-map, map-append}
+use Rattle.std.proofs.lemmas.List.{get_or_append_left, length-map, map-append}
 use Rattle.std.proofs.lemmas.List.Elements.{length_all_zip}
 use Rattle.std.proofs.lemmas.List.Folds.{list_any_none}
 use Rattle.std.proofs.lemmas.Map.Keys.{apart_from_distinct}
 use Rattle.std.specs.Cmp.{IsEquivalence}
 use Rattle.std.specs.List.{All, AllZip, IsDistinct, flat_map, list_any}
 use Rattle.cube_lex.specs.Lexeme.{Lexeme}
-use Rattle.cube_lex.specs.Written.{Spelling, spelling_of}
 use Rattle.dim_name.specs.Name.{is_name, is_same_name, has_name, place_of}
 use Rattle.dim_core.proofs.Naming.{same_names, place_at}
 use Rattle.dim_core.specs.Draft.{IsFinished}
 use Rattle.grammar.specs.Grammar.{many}
 use Rattle.grammar.specs.Tokens.{is_file}
-use Rattle.grammar.specs.Watch.{Passes}
 use Rattle.grammar.proofs.Exact.{passes_one}
 use Rattle.dim_text.specs.Building.{opened}
 use Rattle.dim_text.specs.Printed.{Builds}
 use Rattle.dim_text.specs.Progress.{Progress, Text, IsBuilt}
 use Rattle.dim_text.specs.Spelled.{word_token, sign_token, text_token, head_spelled}
-use Rattle.dim_text.specs.Statement.{unit, body}
-use Rattle.model_text.specs.Contents.{AreDimensions, dimension_names, cube_names, script_names}
-use Rattle.model_text.specs.Gathering.{Current, Nothing, DimensionDue, DimensionOpen, DimensionBody, CubeDue, CubeOpen, ScriptDue, ScriptOpen, ScriptWhole, Parts, Given, at, unless, with_cube, with_script, with_dimension, gathered, dimensions_are_full, cubes_are_full, scripts_are_full, has_dimension, has_cube, has_script}
+use Rattle.dim_text.specs.Statement.{body}
+use Rattle.model_text.specs.Contents.{AreDimensions, cube_names, script_names}
+use Rattle.model_text.specs.Gathering.{Current, Nothing, DimensionDue, DimensionOpen, DimensionBody, CubeDue, CubeOpen, ScriptDue, ScriptOpen, ScriptWhole, Parts, at, unless, with_cube, with_script, with_dimension, gathered, dimensions_are_full, cubes_are_full, scripts_are_full, has_dimension, has_cube, has_script}
 use Rattle.model_text.specs.Printed.{IsSameCube, IsSameScript}
-use Rattle.model_text.specs.Spelled.{Block, IsBlock, block_spelled, texts_of, cube_head_spelled, dimension_spelled, cube_dimensions_spelled, cube_end_spelled, next_dimension_spelled, cube_spelled, script_spelled}
-use Rattle.model_text.specs.Statement.{Piece, Version, Closing, DimensionWord, CubeWord, ScriptWord, Shown, CubeDimension, CubeEnd, piece, closing, naming, dimension_behind, dimension_head, dimension, first_dimension, next_dimension, cube_head, cube_dimensions, cube_end, cube, script}
+use Rattle.model_text.specs.Spelled.{Block, IsBlock, block_spelled, cube_head_spelled, dimension_spelled, cube_dimensions_spelled, cube_end_spelled, next_dimension_spelled, cube_spelled, script_spelled}
+use Rattle.model_text.specs.Statement.{Piece, piece, closing, naming, dimension_behind, dimension_head, dimension, next_dimension, cube_head, cube_dimensions, cube, script}
 use Rattle.model_text.specs.Watching.{Seen, watching}
 use Rattle.model_text.specs.Writable.{IsFileText, IsWritableOrder, IsWritableCube, IsWritableScript}
 use Rattle.model_text.specs.declared.fault.ModelTextCause.{ModelTextCause}
@@ -38,7 +36,7 @@ use Rattle.model_text.specs.declared.parts.ScriptText.{ScriptText}
 use Rattle.model_text.proofs.Going.{Goes, goes_piece, goes_both, goes_unit, goes_as, goes_many}
 use Rattle.model_text.proofs.ModelExact.{naming_into, file_into}
 use Rattle.model_text.proofs.Sound.{any-map}
-use Rattle.model_text.proofs.SpelledPieces.{IsSameBehind, IsEnd, closing_spells, dimension_word_spells, cube_word_spells, script_word_spells, naming_spells, script_file_spells, dimension_behind_spells, cube_end_spells}
+use Rattle.model_text.proofs.SpelledPieces.{IsSameBehind, closing_spells, dimension_word_spells, cube_word_spells, script_word_spells, naming_spells, script_file_spells, dimension_behind_spells, cube_end_spells}
 
 -- Lists.
 

@@ -1,5 +1,5 @@
 -- Tokens that are a text of a grammar wherever they stand, and that pass the watch.
-use Rattle.std.proofs.Common.{◌≡◌, ℕ, List, [], ◌∷◌, ◌++◌, map, Ok, refl, sym, ap, ◌∙◌, subst, inl, append_assoc, append-nil}
+use Rattle.std.proofs.Common.{◌≡◌, List, [], ◌∷◌, ◌++◌, map, Ok, refl, sym, ap, ◌∙◌, subst, inl, append_assoc, append-nil}
 use Rattle.std.specs.List.{flat_map}
 use Rattle.cube_lex.specs.Lexeme.{Lexeme}
 use Rattle.cube_lex.specs.Written.{Spelling, spelling_of}

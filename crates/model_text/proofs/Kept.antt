@@ -1,30 +1,26 @@
 -- What is read of cubes and scripts can be written as tokens again.
-use Rattle.std.proofs.Common.{◌≡◌, ◌<◌, ◌^◌, ℕ, List, [], ◌∷◌, ◌++◌, length, true, Ok, Option, Some, None, IfSome, sym, ap, ◌∙◌, subst, inl, inr, ◌&&◌, arith}
+use Rattle.std.proofs.Common.{◌≡◌, ◌<◌, ◌^◌, ℕ, List, [], ◌∷◌, ◌++◌, length, true, Ok, Option, IfSome, sym, ap, ◌∙◌, subst, inl, inr, ◌&&◌, arith}
 use Rattle.std.proofs.lemmas.Bool.{ltb-true}
-use Rattle.std.proofs.lemmas.List.Elements.{All-nil, All-cons, All-head}
+use Rattle.std.proofs.lemmas.List.Elements.{All-nil, All-cons}
 use Rattle.std.specs.List.{All, list_all}
 use Rattle.std.specs.Char.{is_ascii_digit}
 use Rattle.std.specs.Str.Parse.{digits_value}
-use Rattle.cube_lex.specs.Lexed.{IsWellFormed}
 use Rattle.cube_lex.specs.Lexeme.{Lexeme}
 use Rattle.cube_lex.specs.Quoted.{unquoted}
 use Rattle.dim_name.specs.Name.{is_name}
 use Rattle.grammar.specs.Grammar.{Grammar, done, one, both, either, many}
-use Rattle.grammar.specs.Reading.{Reader}
 use Rattle.grammar.specs.Tokens.{is_text_kind, is_number_kind, is_file, is_whole, name, file, whole}
-use Rattle.grammar.specs.Watch.{Watch}
 use Rattle.grammar.specs.declared.cursor.Unwatched.{Unwatched}
 use Rattle.grammar.proofs.Exact.{Exact}
 use Rattle.grammar.proofs.Tokens.{when_picks, and_is}
 use Rattle.grammar.proofs.Top.{read_told}
 use Rattle.dim_text.proofs.Quotable.{AreTokens, Keeps, first_tokens, last_tokens, text_quotable, name_quotable}
 use Rattle.model_text.specs.Reading.{Plain, read_naming, read_script_file, read_cube_end}
-use Rattle.model_text.specs.Statement.{Piece, Version, Closing, DimensionWord, CubeWord, ScriptWord, Shown, CubeDimension, CubeEnd, located, naming, script_file, rules, rank, next_rank, rank_list, position, next_position, position_list, order, cube_end}
+use Rattle.model_text.specs.Statement.{Piece, Shown, CubeEnd, located, naming, script_file, rules, rank, rank_list, position, position_list, order, cube_end}
 use Rattle.model_text.specs.Writable.{IsNameText, IsFileText, IsWritableRank, IsWritableWord, IsWritableOrder}
 use Rattle.model_text.specs.declared.order.OrderLine.{OrderLine}
-use Rattle.model_text.specs.declared.order.OrderWord.{OrderWord}
 use Rattle.model_text.proofs.ModelExact.{file_is_text}
-use Rattle.model_text.proofs.PieceExact.{free, mapped, located_is, naming_exact, script_file_exact, cube_end_exact}
+use Rattle.model_text.proofs.PieceExact.{free, located_is, naming_exact, script_file_exact, cube_end_exact}
 
 -- Each tree that a grammar reads from tokens has P.
 

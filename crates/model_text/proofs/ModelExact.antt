@@ -1,15 +1,15 @@
 -- The reader of a model text is exact.
-use Rattle.std.proofs.Common.{◌≡◌, ℕ, ◌&&◌, Bool, option_map, length, if◌then◌else◌, append_assoc, append-nil, List, [], ◌∷◌, ◌++◌, Option, Some, None, Result, Ok, Err, true, false, codes, refl, sym, ◌∙◌, ap, subst, inl, inr, ◌⊎◌}
+use Rattle.std.proofs.Common.{◌≡◌, ℕ, ◌&&◌, Bool, option_map, length, if◌then◌else◌, append_assoc, append-nil, List, [], ◌∷◌, ◌++◌, Option, Some, None, Ok, Err, true, false, codes, refl, ◌∙◌, ap, subst, inl, inr, ◌⊎◌}
 use Rattle.std.specs.Str.{str_eq_ignore_ascii_case}
 use Rattle.cube_lex.specs.Lexeme.{Lexeme}
-use Rattle.grammar.specs.Grammar.{Grammar, one, both, many, done, Alive}
-use Rattle.grammar.specs.Watch.{Watch, AllPass, Passes, Within, Refuses, each_text}
-use Rattle.grammar.specs.Reading.{Dead, Refused, Spent, Read, Reader, starts, inside_result}
-use Rattle.grammar.specs.Tokens.{sign, word, text, name, file, is_sign, is_word, is_text_kind, is_file, when}
+use Rattle.grammar.specs.Grammar.{Grammar, both, many}
+use Rattle.grammar.specs.Watch.{Watch, AllPass, Passes, Within, each_text}
+use Rattle.grammar.specs.Reading.{Dead, Refused, Spent, Read, starts, inside_result}
+use Rattle.grammar.specs.Tokens.{text, name, file, is_sign, is_word, is_text_kind, is_file}
 use Rattle.cube_lex.specs.Quoted.{unquoted}
 use Rattle.dim_name.specs.Name.{is_name}
-use Rattle.grammar.proofs.Exact.{Exact, Always, Not, Outcome, Agrees, IsRead, IsStuck, IsStopped, passes_one, passes_nothing, refuses_one, exact_then, exact_both, exact_made, exact_before}
-use Rattle.grammar.proofs.Begins.{Begins, HasToken, begins_both, begins_one, exact_before_next, has_token, starts_text, starts_many, made_is}
+use Rattle.grammar.proofs.Exact.{Exact, Always, Not, Outcome, Agrees, IsStuck, passes_one, passes_nothing, refuses_one, exact_then, exact_both, exact_made, exact_before}
+use Rattle.grammar.proofs.Begins.{Begins, HasToken, begins_both, exact_before_next, has_token, starts_many, made_is}
 use Rattle.grammar.proofs.Many.{Shortens, shortens, exact_rest}
 use Rattle.grammar.proofs.Checked.{exact_checked}
 use Rattle.grammar.proofs.Inside.{IsInside, exact_inside}
@@ -23,8 +23,8 @@ use Rattle.dim_text.proofs.BlockExact.{body_exact}
 use Rattle.model_text.specs.declared.fault.ModelTextFault.{ModelTextFault}
 use Rattle.model_text.specs.Statement.{Piece, located, version, closing, dimension_word, cube_word, script_word, naming, script_file, first_dimension, next_dimension, cube_end, shown_text, piece, dimension_head, dimension, cube_head, cube_dimensions, cube, script, opening, model}
 use Rattle.model_text.specs.Gathering.{Given, gathered}
-use Rattle.model_text.specs.Watching.{Seen, with_given, added, add, head_of, with_block, of_block, BodyPasses, BodyBegins, BodyRefused, watching}
-use Rattle.model_text.specs.Reading.{Plain, Gatherer, gather, outside, body_from, read_version, read_closing, read_dimension_word, read_cube_word, read_script_word, read_naming, read_script_file, read_dimension_behind, read_cube_end, gather_version, gather_closing, gather_dimension_word, gather_cube_word, gather_script_word, gather_naming, gather_script_file, gather_first_dimension, gather_further_dimensions, gather_cube_end, read_opening, read_dimension_head, read_cube_head, read_cube_dimensions, read_cube, read_script, read_cubes, read_scripts, read_dimension_body, read_dimension, read_dimensions, read_model}
+use Rattle.model_text.specs.Watching.{Seen, with_given, added, head_of, with_block, of_block, watching}
+use Rattle.model_text.specs.Reading.{Plain, Gatherer, gather, outside, body_from, read_dimension_behind, gather_version, gather_closing, gather_dimension_word, gather_cube_word, gather_script_word, gather_naming, gather_script_file, gather_first_dimension, gather_further_dimensions, gather_cube_end, read_opening, read_dimension_head, read_cube_head, read_cube_dimensions, read_cube, read_script, read_cubes, read_scripts, read_dimension_body, read_dimension, read_dimensions, read_model}
 use Rattle.model_text.proofs.PieceExact.{free, mapped, located_is_value, version_exact, closing_exact, dimension_word_exact, cube_word_exact, script_word_exact, naming_exact, script_file_exact, dimension_behind_exact, cube_end_exact}
 
 -- Pieces.

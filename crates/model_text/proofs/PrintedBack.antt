@@ -1,26 +1,22 @@
 -- What is written of a model text is read as a text with equal contents, but for lines.
-use Rattle.std.proofs.Common.{◌≡◌, ◌≤◌, ◌==◌, ℕ, List, [], ◌∷◌, ◌++◌, length, map, codes, Option, Some, None, Result, Ok, Err, is_ok, OnOk, if◌then◌else◌, refl, sym, ap, ◌∙◌, subst, inl, arith, IsTrue}
+use Rattle.std.proofs.Common.{◌≡◌, ◌≤◌, ℕ, List, [], ◌∷◌, ◌++◌, length, map, codes, Result, Ok, Err, is_ok, OnOk, if◌then◌else◌, refl, sym, ap, ◌∙◌, subst, inl, arith, IsTrue}
 use Rattle.std.proofs.lemmas.List.{length-map}
 use Rattle.std.proofs.lemmas.List.Elements.{All-map, All-weaker}
 use Rattle.std.specs.List.{All, AllZip, IsDistinct, flat_map}
 use Rattle.cube_lex.proofs.WrittenTexts.{written-reads}
-use Rattle.cube_lex.specs.Lexed.{Lexed}
-use Rattle.cube_lex.specs.Lexeme.{Lexeme}
 use Rattle.cube_lex.specs.Reading.{IsReading}
-use Rattle.cube_lex.specs.Written.{Spelling, spelling_of, IsWritten, Adds}
-use Rattle.cube_lex.specs.declared.fault.LexFault.{LexFault}
+use Rattle.cube_lex.specs.Written.{Spelling, IsWritten, Adds}
 use Rattle.dim_name.specs.Name.{is_name, is_same_name}
-use Rattle.dim_core.specs.Outline.{Outline}
 use Rattle.grammar.specs.Grammar.{many}
 use Rattle.grammar.specs.Whole.{IsWholeText}
-use Rattle.dim_text.specs.Progress.{Text, IsBuilt}
+use Rattle.dim_text.specs.Progress.{IsBuilt}
 use Rattle.dim_text.specs.Spelled.{word_token, sign_token, number_token}
 use Rattle.model_text.specs.Answers.{IsModelText}
 use Rattle.model_text.specs.Contents.{Contents, IsContents, AreDimensions, dimension_names}
 use Rattle.model_text.specs.Gathering.{Nothing, Parts, at, gathered}
 use Rattle.model_text.specs.Printed.{IsSameCube, IsSameScript, AreSameContents, IsTextOf, IsPrinted}
-use Rattle.model_text.specs.Spelled.{Block, IsBlock, AreBlocks, IsSpelled, texts_of, opening_spelled, block_spelled, cube_spelled, script_spelled}
-use Rattle.model_text.specs.Statement.{Piece, Version, opening, dimension, cube, script, model}
+use Rattle.model_text.specs.Spelled.{Block, IsBlock, IsSpelled, texts_of, opening_spelled, block_spelled, cube_spelled, script_spelled}
+use Rattle.model_text.specs.Statement.{Version, opening, dimension, model}
 use Rattle.model_text.specs.Watching.{Seen, no_parts, nothing_seen, watching}
 use Rattle.model_text.specs.declared.parts.CubeText.{CubeText}
 use Rattle.model_text.specs.declared.parts.ScriptText.{ScriptText}

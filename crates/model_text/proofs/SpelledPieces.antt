@@ -1,5 +1,5 @@
 -- Each piece as it is written is read as that piece again, on its new line.
-use Rattle.std.proofs.Common.{◌≡◌, ◌<◌, ◌^◌, ℕ, List, [], ◌∷◌, ◌++◌, true, false, Bool, Option, Some, None, option_map, IfSome, ◌&&◌, cond, refl, sym, ap, ◌∙◌, subst, length, codes, IsTrue, arith}
+use Rattle.std.proofs.Common.{◌≡◌, ◌<◌, ◌^◌, ℕ, List, [], ◌∷◌, ◌++◌, true, false, Bool, Option, Some, None, option_map, IfSome, ◌&&◌, cond, refl, ap, ◌∙◌, length, codes, IsTrue, arith}
 use Rattle.std.proofs.lemmas.List.Elements.{All-head, All-tail}
 use Rattle.std.specs.List.{All, AllZip, flat_map}
 use Rattle.cube_lex.specs.Lexeme.{Lexeme}
@@ -7,14 +7,13 @@ use Rattle.cube_lex.specs.Quoted.{unquoted}
 use Rattle.cube_lex.specs.Written.{Spelling}
 use Rattle.cube_lex.proofs.Quotes.{unquoted-quoted}
 use Rattle.dim_name.specs.Name.{is_name}
-use Rattle.grammar.specs.Grammar.{done, one, both, many}
-use Rattle.grammar.specs.Tokens.{is_text_kind, is_file, sign, word, name, file, whole}
+use Rattle.grammar.specs.Tokens.{is_text_kind, is_file, file}
 use Rattle.dim_text.specs.Spelled.{word_token, sign_token, text_token, number_token}
 use Rattle.dim_text.proofs.Spells.{Spells, Picks, spells_done, spells_next, spells_both, spells_left, spells_right, spells_made, spells_many}
 use Rattle.dim_text.proofs.SpelledStatements.{picks_word, picks_sign, picks_name, picks_whole}
 use Rattle.model_text.specs.Spelled.{dimension_spelled, rules_spelled, rank_spelled, next_rank_spelled, ranks_spelled, position_spelled, next_position_spelled, positions_spelled, order_spelled, ending_spelled, cube_end_spelled}
-use Rattle.model_text.specs.Statement.{Piece, Version, Closing, DimensionWord, CubeWord, ScriptWord, Shown, CubeDimension, CubeEnd, located, line_of, version, closing, dimension_word, cube_word, script_word, naming, script_file, dimension_behind, rule_file, rules, rank, next_rank, rank_list, listed, ranks, constant, index, position, next_position, position_list, order_line, order, cube_end}
-use Rattle.model_text.specs.Writable.{IsNameText, IsFileText, IsWritableRank, IsWritableWord, IsWritableOrder}
+use Rattle.model_text.specs.Statement.{Piece, Version, Closing, DimensionWord, CubeWord, ScriptWord, Shown, CubeDimension, CubeEnd, located, line_of, version, closing, dimension_word, cube_word, script_word, naming, script_file, dimension_behind, rules, rank, next_rank, rank_list, listed, position, next_position, position_list, order, cube_end}
+use Rattle.model_text.specs.Writable.{IsFileText, IsWritableRank, IsWritableWord, IsWritableOrder}
 use Rattle.model_text.specs.declared.order.OrderLine.{OrderLine}
 use Rattle.model_text.specs.declared.order.OrderWord.{OrderWord}
 use Rattle.model_text.specs.declared.order.OrderWord.TheVariants as words

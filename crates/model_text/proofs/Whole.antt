@@ -1,5 +1,5 @@
 -- From what the parts of a model text give to what is answered of its bytes.
-use Rattle.std.proofs.Common.{◌≡◌, ℕ, ◌-◌, ◌≤◌, ◌==◌, if◌then◌else◌, List, [], ◌∷◌, length, drop, Option, Some, None, Bool, true, false, Result, Ok, Err, refl, sym, ◌∙◌, ap, subst, inl, inr}
+use Rattle.std.proofs.Common.{◌≡◌, ℕ, ◌≤◌, ◌==◌, if◌then◌else◌, List, [], ◌∷◌, length, Option, Some, None, Bool, true, false, Result, Ok, Err, refl, sym, ◌∙◌, ap, subst, inl, inr}
 use Rattle.std.specs.List.{All, AllZip, IsDistinct, list_any}
 use Rattle.std.proofs.lemmas.List.{length-map}
 use Rattle.std.specs.Prelude.{nat_eq, IfOk}
@@ -7,27 +7,23 @@ use Rattle.cube_lex.specs.Lexed.{Lexed}
 use Rattle.cube_lex.specs.Lexeme.{Lexeme}
 use Rattle.cube_lex.specs.Reading.{IsReading}
 use Rattle.cube_lex.specs.declared.fault.LexFault.{LexFault}
-use Rattle.grammar.specs.Fault.{IsRefused}
-use Rattle.grammar.specs.Reading.{Dead, Refused, Read, Reader, bound, both_of, inside_result}
-use Rattle.grammar.specs.Watch.{Refuses}
-use Rattle.grammar.specs.Whole.{IsWholeText, IsWholeSyntax, IsWholeRefused, line_of, settled}
+use Rattle.grammar.specs.Reading.{bound, both_of, inside_result}
+use Rattle.grammar.specs.Whole.{IsWholeText, IsWholeRefused, settled}
 use Rattle.grammar.specs.declared.stop.Stop.{Stop}
 use Rattle.grammar.specs.declared.stop.Stop.TheVariants as stops
 use Rattle.grammar.specs.declared.answer.TextFault.{TextFault}
-use Rattle.grammar.specs.declared.answer.TextFault.TheVariants as faults
 use Rattle.grammar.proofs.WholeTexts.{whole_read_told, whole_left_told, whole_stuck_told, whole_refused_told}
 use Rattle.dim_text.specs.Progress.{Progress, Text, IsBuilt}
 use Rattle.dim_name.specs.Name.{is_same_name, place_of}
-use Rattle.model_text.specs.Answers.{IsGathered, IsModelText, IsFault}
+use Rattle.model_text.specs.Answers.{IsModelText, IsFault}
 use Rattle.model_text.specs.Contents.{Contents, IsContents, AreDimensions, dimension_names}
 use Rattle.model_text.specs.Gathering.{Current, Nothing, DimensionDue, CubeDue, ScriptDue, DimensionOpen, CubeOpen, ScriptOpen, DimensionBody, ScriptWhole, Parts, Given, at, refused, unless, dimensions_are_full, cubes_are_full, scripts_are_full, has_dimension, has_cube, has_script, with_shown, with_dimension, gathered}
 use Rattle.model_text.specs.Statement.{Piece, Version, Closing, DimensionWord, CubeWord, ScriptWord, Shown, CubeDimension, CubeEnd, model}
-use Rattle.model_text.specs.Watching.{Seen, with_given, no_parts, nothing_seen, added, add, watching}
-use Rattle.model_text.specs.Reading.{Gatherer, outside, SeenReader, read_opening, read_dimensions, read_cubes, read_scripts, read_model}
+use Rattle.model_text.specs.Watching.{Seen, with_given, no_parts, nothing_seen, added, watching}
+use Rattle.model_text.specs.Reading.{outside, read_opening, read_dimensions, read_cubes, read_scripts, read_model}
 use Rattle.model_text.specs.Views.{Stops, GivesBlocks, seen, fault_from}
 use Rattle.model_text.specs.Writable.{IsWritableCube, IsWritableScript}
 use Rattle.model_text.specs.declared.parts.CubeText.{CubeText}
-use Rattle.model_text.specs.declared.parts.ScriptText.{ScriptText}
 use Rattle.model_text.specs.declared.fault.ModelTextFault.{ModelTextFault}
 use Rattle.model_text.specs.declared.fault.ModelTextCause.{ModelTextCause}
 use Rattle.model_text.specs.declared.fault.ModelTextCause.TheVariants as causes

@@ -1,7 +1,7 @@
 //! Model files: the dimensions, cubes and scripts of a model.
 //!
 //! Read in this order: [`read`], which reads the bytes of a model file; [`ModelText`], what it gives; [`ModelTextFault`], why it
-//! refuses.
+//! refuses; [`print`], which writes a text that reads back.
 #![tactic(auto)]
 
 mod cube_printing;

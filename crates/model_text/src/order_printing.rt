@@ -79,11 +79,7 @@ fn write_listed(
 }
 
 // Writes a position of an order line.
-fn write_position(
-    alloc: Global,
-    out: &mut Vec<u8>,
-    position: &OrderWord,
-) -> Result<(), AllocError>
+fn write_position(alloc: Global, out: &mut Vec<u8>, position: &OrderWord) -> Result<(), AllocError>
     requires { IsWritableWord position.now }
     ensures { OnOk result (Adds out.old.items out.new.items (position_spelled position.now)) }
 {

@@ -59,11 +59,7 @@ fn write_script(alloc: Global, out: &mut Vec<u8>, script: &ScriptText) -> Result
 }
 
 // Writes the scripts.
-fn write_scripts(
-    alloc: Global,
-    out: &mut Vec<u8>,
-    scripts: &[ScriptText],
-) -> Result<(), AllocError>
+fn write_scripts(alloc: Global, out: &mut Vec<u8>, scripts: &[ScriptText]) -> Result<(), AllocError>
     requires { All IsWritableScript scripts.now }
     ensures { OnOk result (Adds out.old.items out.new.items (flat_map script_spelled scripts.now)) }
 {

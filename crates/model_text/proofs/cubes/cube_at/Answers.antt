@@ -1,4 +1,3 @@
-use Rattle.std.proofs.Common.{subst}
 use Rattle.std.specs.List.{All}
 use Rattle.cube_lex.specs.Lexed.{IsWellFormed}
 use Rattle.grammar.specs.Cursor.{lexemes}

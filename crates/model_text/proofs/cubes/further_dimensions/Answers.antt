@@ -14,15 +14,18 @@ pub dimension-init : goal.dimension-init
 dimension-init c = (λ word_line cube. ([], begun_all (is_sign (codes ",")) (gather (read_dimension_behind (codes ","))) _ _), omega arith)
 
 pub dimension-preserved : goal.dimension-preserved
-dimension-preserved c = (λ word_line cube. (
-    let (front, going) = c.dimension.invariant.0 word_line cube in
-    let (piece, read) = rw c.deref.ensures.value at (c.in_ok-number.ensures.read word_line cube) in
-    let pushed = c.in_ok-push.ensures.items in (
-      front ++ piece ∷ [],
-      goes_further going c.dimension-test.ensures
-          (subst (λ ds. gather (read_dimension_behind (codes ",")) (at c.args.work.now (CubeOpen word_line cube c.dimension.dims.items)) (lexemes c.dimension.cursor.tokens.now) ≡ Ok (piece, at c.args.work.now (CubeOpen word_line cube ds), lexemes c.dimension_at.new.cursor.tokens.now)) (sym pushed) read)
-          (next_dimension_shortens _ _ _ _ _ read) refl,
-    )), omega (arith, c.dimension.invariant.1, ap length c.in_ok-push.ensures.items, length-append c.dimension.dims.items (c.in_ok-number.number ∷ [])))
+dimension-preserved c = (
+  λ word_line cube. (
+      let (front, going) = c.dimension.invariant.0 word_line cube in
+      let (piece, read) = rw c.deref.ensures.value at (c.in_ok-number.ensures.read word_line cube) in
+      let pushed = c.in_ok-push.ensures.items in (
+        front ++ piece ∷ [],
+        goes_further going c.dimension-test.ensures
+            (subst (λ ds. gather (read_dimension_behind (codes ",")) (at c.args.work.now (CubeOpen word_line cube c.dimension.dims.items)) (lexemes c.dimension.cursor.tokens.now) ≡ Ok (piece, at c.args.work.now (CubeOpen word_line cube ds), lexemes c.dimension_at.new.cursor.tokens.now)) (sym pushed) read)
+            (next_dimension_shortens _ _ _ _ _ read) refl,
+      )),
+  omega (arith, c.dimension.invariant.1, ap length c.in_ok-push.ensures.items, length-append c.dimension.dims.items (c.in_ok-number.number ∷ [])),
+)
 
 pub returns-in_err-number-clause-read : goal.returns-in_err-number-clause-read
 unfolding gather_further_dimensions

@@ -1,6 +1,4 @@
-use Rattle.std.proofs.Common.{OnOk, subst}
 use Rattle.model_text.proofs.PrintedBack.{printed_told}
-use Rattle.model_text.specs.Printed.{IsPrinted}
 use Rattle.model_text.proofs.printing.print.Goals as goal
 
 pub returns-clause-written : goal.returns-clause-written

@@ -1,4 +1,4 @@
-use Rattle.std.proofs.Common.{◌≡◌, sym, ◌∙◌, ap, subst}
+use Rattle.std.proofs.Common.{◌≡◌, ◌∙◌, ap, subst}
 use Rattle.grammar.specs.Cursor.{lexemes}
 use Rattle.model_text.specs.Reading.{read_model}
 use Rattle.model_text.specs.Views.{GivesBlocks}

@@ -1,7 +1,7 @@
 use Rattle.std.proofs.Common.{take}
 use Rattle.std.specs.List.{flat_map}
 use Rattle.cube_lex.specs.Written.{Adds}
-use Rattle.model_text.proofs.Adding.{single, singles}
+use Rattle.model_text.proofs.Adding.{single}
 use Rattle.model_text.proofs.writing.write_tokens.Given as goal
 
 abbrev pub invariant-loop-token : goal.invariant-loop-token
