@@ -1,7 +1,6 @@
 ghost use Rattle.std.specs.Prelude.{◌≡◌, List, All, OnOk, OnErr};
 ghost use Rattle.std.specs.List.{flat_map};
 ghost use Rattle.cube_lex.specs.Written.{Adds, Spelling};
-ghost use Rattle.model_text.specs.Contents.{IsContents};
 ghost use Rattle.model_text.specs.Printed.{IsPrinted};
 ghost use Rattle.model_text.specs.Spelled.{Block, IsBlock, AreBlocks, IsSpelled, block_spelled, opening_spelled, script_spelled};
 ghost use Rattle.model_text.specs.Writable.{IsWritableScript};
