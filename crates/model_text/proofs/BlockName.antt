@@ -1,8 +1,8 @@
 -- A block keeps the name of its head.
-use Rattle.std.proofs.Common.{◌≡◌, ℕ, zero, suc, List, [], ◌∷◌, Bool, true, false, length, Option, Some, None, Result, Ok, Err, refl, sym, ◌∙◌, ap, subst, inl, inr, if◌then◌else◌}
+use Rattle.std.proofs.Common.{◌≡◌, ℕ, zero, suc, List, [], Bool, true, false, length, Option, Some, None, Ok, Err, refl, sym, ◌∙◌, subst, inl, inr, if◌then◌else◌}
 use Rattle.cube_lex.specs.Lexeme.{Lexeme}
 use Rattle.grammar.specs.Grammar.{Grammar}
-use Rattle.grammar.specs.Reading.{Halt, Read, Reader, bound, gives, let_through, checked_result, repeat, starts}
+use Rattle.grammar.specs.Reading.{Read, Reader, bound, let_through, checked_result, repeat, starts}
 use Rattle.grammar.specs.declared.cursor.Unwatched.{Unwatched}
 use Rattle.grammar.proofs.Exact.{Exact, Always, Outcome}
 use Rattle.dim_core.specs.Refusal.{refusal_of, finish_refusal_of}

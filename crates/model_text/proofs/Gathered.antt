@@ -1,7 +1,7 @@
 -- What is read of a piece, and then gathered.
 use Rattle.std.proofs.Common.{◌≡◌, List, Ok, Err, ◌∙◌, ap}
 use Rattle.cube_lex.specs.Lexeme.{Lexeme}
-use Rattle.grammar.specs.Reading.{Halt, Refused, Read, gives, bound, let_through, checked_result}
+use Rattle.grammar.specs.Reading.{Halt, Refused, gives, bound, let_through, checked_result}
 use Rattle.grammar.specs.declared.cursor.Unwatched.{Unwatched}
 use Rattle.model_text.specs.Statement.{Piece}
 use Rattle.model_text.specs.Gathering.{Given, gathered}

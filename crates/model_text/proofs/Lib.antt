@@ -6,3 +6,10 @@ pub mod Gathered
 pub mod Located
 pub mod PieceExact
 pub mod ModelExact
+pub mod Kept
+pub mod SpelledPieces
+pub mod Going
+pub mod Again
+pub mod PrintedBack
+pub mod Adding
+pub mod WrittenParts

@@ -1,15 +1,15 @@
 -- The reader of a model text is exact.
-use Rattle.std.proofs.Common.{◌≡◌, ℕ, ◌&&◌, Bool, option_map, length, if◌then◌else◌, append_assoc, append-nil, List, [], ◌∷◌, ◌++◌, Option, Some, None, Result, Ok, Err, true, false, codes, refl, sym, ◌∙◌, ap, subst, inl, inr, ◌⊎◌}
+use Rattle.std.proofs.Common.{◌≡◌, ℕ, ◌&&◌, Bool, option_map, length, if◌then◌else◌, append_assoc, append-nil, List, [], ◌∷◌, ◌++◌, Option, Some, None, Ok, Err, true, false, codes, refl, ◌∙◌, ap, subst, inl, inr, ◌⊎◌}
 use Rattle.std.specs.Str.{str_eq_ignore_ascii_case}
 use Rattle.cube_lex.specs.Lexeme.{Lexeme}
-use Rattle.grammar.specs.Grammar.{Grammar, one, both, many, done, Alive}
-use Rattle.grammar.specs.Watch.{Watch, AllPass, Passes, Within, Refuses, each_text}
-use Rattle.grammar.specs.Reading.{Dead, Refused, Spent, Read, Reader, starts, inside_result}
-use Rattle.grammar.specs.Tokens.{sign, word, text, name, file, is_sign, is_word, is_text_kind, is_file, when}
+use Rattle.grammar.specs.Grammar.{Grammar, both, many}
+use Rattle.grammar.specs.Watch.{Watch, AllPass, Passes, Within, each_text}
+use Rattle.grammar.specs.Reading.{Dead, Refused, Spent, Read, starts, inside_result}
+use Rattle.grammar.specs.Tokens.{text, name, file, is_sign, is_word, is_text_kind, is_file}
 use Rattle.cube_lex.specs.Quoted.{unquoted}
 use Rattle.dim_name.specs.Name.{is_name}
-use Rattle.grammar.proofs.Exact.{Exact, Always, Not, Outcome, Agrees, IsRead, IsStuck, IsStopped, passes_one, passes_nothing, refuses_one, exact_then, exact_both, exact_made, exact_before}
-use Rattle.grammar.proofs.Begins.{Begins, HasToken, begins_both, begins_one, exact_before_next, has_token, starts_text, starts_many, made_is}
+use Rattle.grammar.proofs.Exact.{Exact, Always, Not, Outcome, Agrees, IsStuck, passes_one, passes_nothing, refuses_one, exact_then, exact_both, exact_made, exact_before}
+use Rattle.grammar.proofs.Begins.{Begins, HasToken, begins_both, exact_before_next, has_token, starts_many, made_is}
 use Rattle.grammar.proofs.Many.{Shortens, shortens, exact_rest}
 use Rattle.grammar.proofs.Checked.{exact_checked}
 use Rattle.grammar.proofs.Inside.{IsInside, exact_inside}
@@ -23,8 +23,8 @@ use Rattle.dim_text.proofs.BlockExact.{body_exact}
 use Rattle.model_text.specs.declared.fault.ModelTextFault.{ModelTextFault}
 use Rattle.model_text.specs.Statement.{Piece, located, version, closing, dimension_word, cube_word, script_word, naming, script_file, first_dimension, next_dimension, cube_end, shown_text, piece, dimension_head, dimension, cube_head, cube_dimensions, cube, script, opening, model}
 use Rattle.model_text.specs.Gathering.{Given, gathered}
-use Rattle.model_text.specs.Watching.{Seen, with_given, added, add, head_of, with_block, of_block, BodyPasses, BodyBegins, BodyRefused, watching}
-use Rattle.model_text.specs.Reading.{Plain, Gatherer, gather, outside, body_from, read_version, read_closing, read_dimension_word, read_cube_word, read_script_word, read_naming, read_script_file, read_dimension_behind, read_cube_end, gather_version, gather_closing, gather_dimension_word, gather_cube_word, gather_script_word, gather_naming, gather_script_file, gather_first_dimension, gather_further_dimensions, gather_cube_end, read_opening, read_dimension_head, read_cube_head, read_cube_dimensions, read_cube, read_script, read_cubes, read_scripts, read_dimension_body, read_dimension, read_dimensions, read_model}
+use Rattle.model_text.specs.Watching.{Seen, with_given, added, head_of, with_block, of_block, watching}
+use Rattle.model_text.specs.Reading.{Plain, Gatherer, gather, outside, body_from, read_dimension_behind, gather_version, gather_closing, gather_dimension_word, gather_cube_word, gather_script_word, gather_naming, gather_script_file, gather_first_dimension, gather_further_dimensions, gather_cube_end, read_opening, read_dimension_head, read_cube_head, read_cube_dimensions, read_cube, read_script, read_cubes, read_scripts, read_dimension_body, read_dimension, read_dimensions, read_model}
 use Rattle.model_text.proofs.PieceExact.{free, mapped, located_is_value, version_exact, closing_exact, dimension_word_exact, cube_word_exact, script_word_exact, naming_exact, script_file_exact, dimension_behind_exact, cube_end_exact}
 
 -- Pieces.
@@ -47,11 +47,11 @@ pub gathers_dimension_word : Exact pieces (unit dimension_word) (unit dimension_
 unfolding gather_dimension_word
 gathers_dimension_word = exact_made (λ _. tt) (piece_exact (λ u x h. inr (inr (inl h))) (has_token (begins_both (word_begins (codes "DIM") (codes "DIM")))) dimension_word_exact)
 
-gathers_cube_word : Exact pieces (unit cube_word) (unit cube_word) gather_cube_word Always
+pub gathers_cube_word : Exact pieces (unit cube_word) (unit cube_word) gather_cube_word Always
 unfolding gather_cube_word
 gathers_cube_word = exact_made (λ _. tt) (piece_exact (λ u x h. inr (inr (inr (inl h)))) (has_token (begins_both (word_begins (codes "CUBE") (codes "CUBE")))) cube_word_exact)
 
-gathers_script_word : Exact pieces (unit script_word) (unit script_word) gather_script_word Always
+pub gathers_script_word : Exact pieces (unit script_word) (unit script_word) gather_script_word Always
 unfolding gather_script_word
 gathers_script_word = exact_made (λ _. tt) (piece_exact (λ u x h. inr (inr (inr (inr (inl h))))) (has_token (begins_both (word_begins (codes "SCRIPT") (codes "SCRIPT")))) script_word_exact)
 
@@ -62,7 +62,7 @@ name_is_text t shown e =
     let (kind, _) = and_is (is_text_kind t.kind) (is_name (unquoted t.piece)) is in
     ap (λ b. if b then Some (unquoted t.piece) else None) kind ∙ ap (λ x. Some x) same
 
-file_is_text : (t : Lexeme) (shown : List ℕ) → file t ≡ Some shown → text t ≡ Some shown
+pub file_is_text : (t : Lexeme) (shown : List ℕ) → file t ≡ Some shown → text t ≡ Some shown
 file_is_text t shown e =
     let (is, same) = when_picks (λ t. is_text_kind t.kind && is_file (unquoted t.piece)) (λ t. unquoted t.piece) t shown e in
     let (kind, _) = and_is (is_text_kind t.kind) (is_file (unquoted t.piece)) is in
@@ -73,13 +73,13 @@ located_into pick pick' into t x e =
     let (a, picks, same) = mapped (λ a. (t.line, a)) (pick t) x e in
     ap (option_map (λ a. (t.line, a))) (into t a picks) ∙ ap (λ y. Some y) same
 
-naming_into : (u : List Lexeme) (x : Piece) → naming u x → shown_text u x
+pub naming_into : (u : List Lexeme) (x : Piece) → naming u x → shown_text u x
 naming_into u x (v, w, n, parts, (t, is, picks), made) = (v, w, n, parts, (t, is, located_into name text name_is_text t n picks), made)
 
-file_into : (u : List Lexeme) (x : Piece) → script_file u x → shown_text u x
+pub file_into : (u : List Lexeme) (x : Piece) → script_file u x → shown_text u x
 file_into u x (v, w, n, parts, (t, is, picks), made) = (v, w, n, parts, (t, is, located_into file text file_is_text t n picks), made)
 
-gathers_naming : Exact pieces (unit naming) (unit naming) gather_naming Always
+pub gathers_naming : Exact pieces (unit naming) (unit naming) gather_naming Always
 unfolding gather_naming
 gathers_naming = exact_made (λ _. tt) (piece_exact (λ u x h. inr (inr (inr (inr (inr (inl (naming_into u x h))))))) (has_token (begins_both (value_no_word (located_is_value name_is_value) (codes "DIM")))) naming_exact)
 
@@ -115,11 +115,11 @@ pub dimension_head_exact : Exact pieces dimension_head dimension_head read_dimen
 unfolding read_dimension_head
 dimension_head_exact = exact_then gathers_dimension_word (λ _. exact_then gathers_naming (λ _. gathers_closing))
 
-cube_head_exact : Exact pieces cube_head cube_head read_cube_head Always
+pub cube_head_exact : Exact pieces cube_head cube_head read_cube_head Always
 unfolding read_cube_head
 cube_head_exact = exact_then gathers_cube_word (λ _. gathers_naming)
 
-cube_dimensions_exact : Exact pieces cube_dimensions cube_dimensions read_cube_dimensions (Not (is_sign (codes ",")))
+pub cube_dimensions_exact : Exact pieces cube_dimensions cube_dimensions read_cube_dimensions (Not (is_sign (codes ",")))
 unfolding read_cube_dimensions
 cube_dimensions_exact = exact_then gathers_first_dimension (λ _. gathers_further_dimensions)
 
@@ -140,7 +140,7 @@ cube_begins w = begins_both (begins_both (begins_both (begins_both (word_begins 
 pub script_begins : (w : List ℕ) → Begins script (is_word w) (str_eq_ignore_ascii_case (codes "SCRIPT") w)
 script_begins w = begins_both (begins_both (begins_both (word_begins (codes "SCRIPT") w)))
 
-cubes_exact : Exact pieces (unit (many cube)) (unit (many cube)) read_cubes (Not (is_word (codes "CUBE")))
+pub cubes_exact : Exact pieces (unit (many cube)) (unit (many cube)) read_cubes (Not (is_word (codes "CUBE")))
 unfolding read_cubes
 cubes_exact = exact_made (λ _. tt) (exact_rest (is_word (codes "CUBE")) (cube_begins (codes "CUBE")) (cube_begins (codes "CUBE")) cube_exact)
 
@@ -268,7 +268,7 @@ pub dimension_exact : Exact watching dimension dimension read_dimension Always
 unfolding read_dimension
 dimension_exact = exact_then (outside_exact dimension_head_exact) (λ _. dimension_body_exact)
 
-dimensions_exact : Exact watching (unit (many dimension)) (unit (many dimension)) read_dimensions (Not (is_word (codes "DIM")))
+pub dimensions_exact : Exact watching (unit (many dimension)) (unit (many dimension)) read_dimensions (Not (is_word (codes "DIM")))
 unfolding read_dimensions
 dimensions_exact = exact_made (λ _. tt) (exact_rest (is_word (codes "DIM")) (dimension_begins (codes "DIM")) (dimension_begins (codes "DIM")) dimension_exact)
 

@@ -1,27 +1,27 @@
 -- The readers of pieces are exact.
-use Rattle.std.proofs.Common.{◌≡◌, ℕ, zero, suc, ◌<◌, slice_index, arith, ◌&&◌, List, [], ◌∷◌, ◌++◌, Option, Some, None, option_map, Bool, true, false, codes, refl, sym, ◌∙◌, ap, inl, inr, ◌⊎◌, if◌then◌else◌}
-use Rattle.std.specs.Str.{bytes_eq, is_utf8}
+use Rattle.std.proofs.Common.{◌≡◌, ℕ, zero, suc, ◌<◌, slice_index, arith, ◌&&◌, List, [], ◌∷◌, ◌++◌, Option, Some, None, option_map, true, false, codes, refl, ◌∙◌, ap, inl, inr, ◌⊎◌, if◌then◌else◌}
+use Rattle.std.specs.Str.{bytes_eq}
 use Rattle.std.proofs.lemmas.Str.{IsUtf8-from_ascii, is_utf8-from_IsUtf8}
 use Rattle.cube_lex.specs.Lexeme.{Lexeme}
 use Rattle.cube_lex.specs.declared.token.Kind.{Kind}
 use Rattle.cube_lex.specs.declared.token.Kind.TheVariants as kinds
 use Rattle.cube_lex.specs.Quoted.{unquoted}
 use Rattle.grammar.specs.Grammar.{Grammar, one, both, many, done}
-use Rattle.grammar.specs.Watch.{Watch, each_token, unwatched, unscanned}
-use Rattle.grammar.specs.Reading.{starts, take_one}
-use Rattle.grammar.specs.Tokens.{sign, word, whole, name, file, is_sign, is_word, is_text_kind, is_number_kind, is_whole}
+use Rattle.grammar.specs.Watch.{Watch, unwatched, unscanned}
+use Rattle.grammar.specs.Reading.{take_one}
+use Rattle.grammar.specs.Tokens.{sign, whole, name, file, is_sign, is_word, is_text_kind, is_number_kind, is_whole}
 use Rattle.grammar.specs.declared.cursor.Unwatched.{Unwatched}
 use Rattle.dim_name.specs.Name.{is_name}
 use Rattle.std.specs.Str.Parse.{digits_value}
 use Rattle.grammar.proofs.Exact.{Exact, Always, Not, exact_one, exact_gives, exact_then, exact_both, exact_made, exact_before}
-use Rattle.grammar.proofs.Begins.{Begins, begins_one, begins_both, begins_either, begins_behind, exact_or, exact_option, exact_before_next, starts_text, starts_many, made_is}
+use Rattle.grammar.proofs.Begins.{Begins, begins_one, begins_both, begins_behind, exact_or, exact_option, exact_before_next, starts_text, starts_many, made_is}
 use Rattle.grammar.proofs.Many.{Shortens, shortens, exact_all, exact_rest}
-use Rattle.grammar.proofs.Tokens.{IsValue, exact_sign, exact_word, exact_name, exact_whole_number, exact_file, sign_begins, word_begins, word_no_sign, value_no_sign, value_no_word, name_is_value, whole_is_value, file_is_value, when_picks, and_is}
+use Rattle.grammar.proofs.Tokens.{IsValue, exact_sign, exact_word, exact_name, exact_whole_number, exact_file, sign_begins, word_begins, when_picks, and_is}
 use Rattle.model_text.specs.declared.fault.ModelTextFault.{ModelTextFault}
 use Rattle.model_text.specs.declared.order.OrderLine.{OrderLine}
 use Rattle.model_text.specs.declared.order.OrderWord.{OrderWord}
 use Rattle.model_text.specs.declared.order.OrderWord.TheVariants as words
-use Rattle.model_text.specs.Statement.{Piece, Version, Closing, DimensionWord, CubeWord, ScriptWord, Shown, CubeDimension, CubeEnd, located, line_of, version, closing, dimension_word, cube_word, script_word, naming, script_file, dimension_behind, rule_file, rules, rank, next_rank, rank_list, listed, ranks, constant, index, position, next_position, position_list, order_line, order, cube_end}
+use Rattle.model_text.specs.Statement.{Version, Closing, DimensionWord, CubeWord, ScriptWord, Shown, CubeDimension, CubeEnd, located, line_of, version, closing, dimension_word, cube_word, script_word, naming, script_file, dimension_behind, rule_file, rules, rank, next_rank, rank_list, listed, ranks, constant, index, position, next_position, position_list, order_line, order, cube_end}
 use Rattle.model_text.specs.Reading.{read_version, read_closing, read_dimension_word, read_cube_word, read_script_word, read_naming, read_script_file, read_dimension_behind, read_rule_file, read_rules, read_rank, read_next_rank, read_further_ranks, read_rank_list, read_listed, read_ranks, read_constant, read_index, is_number, read_position, read_next_position, read_further_positions, read_position_list, read_order_line, read_order, read_cube_end}
 
 -- nothing watches the parts of a piece

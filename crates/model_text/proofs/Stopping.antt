@@ -5,7 +5,7 @@ use Rattle.cube_lex.specs.Lexeme.{Lexeme}
 use Rattle.cube_lex.specs.Lexed.{IsWellFormed}
 use Rattle.grammar.specs.Grammar.{Grammar}
 use Rattle.grammar.specs.Watch.{Watch}
-use Rattle.grammar.specs.Reading.{Dead, Refused, Read, Reader, gives, bound, inside_result, all_of, starts}
+use Rattle.grammar.specs.Reading.{Read, Reader, gives, bound, inside_result, all_of, starts}
 use Rattle.grammar.specs.Cursor.{Gives}
 use Rattle.grammar.specs.declared.cursor.Unwatched.{Unwatched}
 use Rattle.grammar.specs.declared.stop.Stop.{Stop}
@@ -14,7 +14,7 @@ use Rattle.grammar.proofs.Exact.{Exact}
 use Rattle.grammar.proofs.Loops.{Going, is_stopped}
 use Rattle.grammar.proofs.Top.{read_told}
 use Rattle.dim_text.specs.Building.{opened}
-use Rattle.dim_text.specs.Progress.{Progress, Text, IsBuilt}
+use Rattle.dim_text.specs.Progress.{Progress}
 use Rattle.dim_text.specs.Reading.{read_body}
 use Rattle.dim_text.specs.Views.{GivesText}
 use Rattle.dim_text.specs.declared.fault.Refusal.{Refusal}

@@ -1,5 +1,5 @@
 -- From what the parts of a model text give to what is answered of its bytes.
-use Rattle.std.proofs.Common.{◌≡◌, ℕ, ◌-◌, ◌≤◌, ◌==◌, if◌then◌else◌, List, [], ◌∷◌, length, drop, Option, Some, None, Bool, true, false, Result, Ok, Err, refl, sym, ◌∙◌, ap, subst, inl, inr}
+use Rattle.std.proofs.Common.{◌≡◌, ℕ, ◌≤◌, ◌==◌, if◌then◌else◌, List, [], ◌∷◌, length, Option, Some, None, Bool, true, false, Result, Ok, Err, refl, sym, ◌∙◌, ap, subst, inl, inr}
 use Rattle.std.specs.List.{All, AllZip, IsDistinct, list_any}
 use Rattle.std.proofs.lemmas.List.{length-map}
 use Rattle.std.specs.Prelude.{nat_eq, IfOk}
@@ -7,26 +7,23 @@ use Rattle.cube_lex.specs.Lexed.{Lexed}
 use Rattle.cube_lex.specs.Lexeme.{Lexeme}
 use Rattle.cube_lex.specs.Reading.{IsReading}
 use Rattle.cube_lex.specs.declared.fault.LexFault.{LexFault}
-use Rattle.grammar.specs.Fault.{IsRefused}
-use Rattle.grammar.specs.Reading.{Dead, Refused, Read, Reader, bound, both_of, inside_result}
-use Rattle.grammar.specs.Watch.{Refuses}
-use Rattle.grammar.specs.Whole.{IsWholeText, IsWholeSyntax, IsWholeRefused, line_of, settled}
+use Rattle.grammar.specs.Reading.{bound, both_of, inside_result}
+use Rattle.grammar.specs.Whole.{IsWholeText, IsWholeRefused, settled}
 use Rattle.grammar.specs.declared.stop.Stop.{Stop}
 use Rattle.grammar.specs.declared.stop.Stop.TheVariants as stops
 use Rattle.grammar.specs.declared.answer.TextFault.{TextFault}
-use Rattle.grammar.specs.declared.answer.TextFault.TheVariants as faults
 use Rattle.grammar.proofs.WholeTexts.{whole_read_told, whole_left_told, whole_stuck_told, whole_refused_told}
 use Rattle.dim_text.specs.Progress.{Progress, Text, IsBuilt}
 use Rattle.dim_name.specs.Name.{is_same_name, place_of}
-use Rattle.model_text.specs.Answers.{IsGathered, IsModelText, IsFault}
+use Rattle.model_text.specs.Answers.{IsModelText, IsFault}
 use Rattle.model_text.specs.Contents.{Contents, IsContents, AreDimensions, dimension_names}
 use Rattle.model_text.specs.Gathering.{Current, Nothing, DimensionDue, CubeDue, ScriptDue, DimensionOpen, CubeOpen, ScriptOpen, DimensionBody, ScriptWhole, Parts, Given, at, refused, unless, dimensions_are_full, cubes_are_full, scripts_are_full, has_dimension, has_cube, has_script, with_shown, with_dimension, gathered}
 use Rattle.model_text.specs.Statement.{Piece, Version, Closing, DimensionWord, CubeWord, ScriptWord, Shown, CubeDimension, CubeEnd, model}
-use Rattle.model_text.specs.Watching.{Seen, with_given, no_parts, nothing_seen, added, add, watching}
-use Rattle.model_text.specs.Reading.{Gatherer, outside, SeenReader, read_opening, read_dimensions, read_cubes, read_scripts, read_model}
+use Rattle.model_text.specs.Watching.{Seen, with_given, no_parts, nothing_seen, added, watching}
+use Rattle.model_text.specs.Reading.{outside, read_opening, read_dimensions, read_cubes, read_scripts, read_model}
 use Rattle.model_text.specs.Views.{Stops, GivesBlocks, seen, fault_from}
+use Rattle.model_text.specs.Writable.{IsWritableCube, IsWritableScript}
 use Rattle.model_text.specs.declared.parts.CubeText.{CubeText}
-use Rattle.model_text.specs.declared.parts.ScriptText.{ScriptText}
 use Rattle.model_text.specs.declared.fault.ModelTextFault.{ModelTextFault}
 use Rattle.model_text.specs.declared.fault.ModelTextCause.{ModelTextCause}
 use Rattle.model_text.specs.declared.fault.ModelTextCause.TheVariants as causes
@@ -167,8 +164,12 @@ contents_of bytes dims blocks parts is built = record { seen = seen blocks parts
 names_count : (dims : List Text) (names : List (List ℕ)) → names ≡ dimension_names dims → length names ≡ length dims
 names_count dims names e = ap length e ∙ length-map dims (λ d. d.dimension.name)
 
-pub contents_sound : (bytes : List ℕ) (dims : List Text) (blocks : List Progress) (parts : Parts) → IsWholeText model watching nothing_seen bytes tt (seen blocks parts) → parts.version ≡ 1 → parts.names ≡ dimension_names dims → IsContents (record { version = parts.version; dims = dims; cubes = parts.cubes; scripts = parts.scripts })
-contents_sound bytes dims blocks parts is one names =
+-- the cubes and the scripts can be written
+abbrev pub IsWritable : Parts → Type 0
+IsWritable parts = All IsWritableCube parts.cubes × All IsWritableScript parts.scripts
+
+pub contents_sound : (bytes : List ℕ) (dims : List Text) (blocks : List Progress) (parts : Parts) → IsWholeText model watching nothing_seen bytes tt (seen blocks parts) → parts.version ≡ 1 → parts.names ≡ dimension_names dims → IsWritable parts → IsContents (record { version = parts.version; dims = dims; cubes = parts.cubes; scripts = parts.scripts })
+contents_sound bytes dims blocks parts is one names writable =
     let sound : IsSound parts = passes_sound is.lexed.lexemes (seen blocks parts) is.text.passes in
     let count : length parts.names ≡ length dims = names_count dims parts.names names in
     record {
@@ -180,6 +181,8 @@ contents_sound bytes dims blocks parts is one names =
       cubes = sound.cubes;
       scripts = sound.scripts;
       cube_dims = subst (λ n. All (λ (cube : CubeText). AreDimensions n cube.dims) parts.cubes) count sound.cube_dims;
+      writable_cubes = writable.0;
+      writable_scripts = writable.1;
     }
 
 settled_ok : {X : Type 0} (lexed : Lexed) (fault : Option LexFault) (read : Result X (Stop ModelTextFault)) (left : List Lexeme) (x : X) → ◌≡◌ {A = Result X (TextFault ModelTextFault)} (settled lexed fault read left) (Ok x) → ◌≡◌ {A = Result X (Stop ModelTextFault)} read (Ok x)
@@ -194,14 +197,14 @@ settled_ok lexed fault (Err (stops.Refused f)) left x e = cc
 abbrev contents : Parts → List Text → Contents
 contents parts dims = record { version = parts.version; dims = dims; cubes = parts.cubes; scripts = parts.scripts }
 
-told_contents : (bytes : List ℕ) (dims : List Text) (parts : Parts) → (blocks : List Progress) × IsWholeText model watching nothing_seen bytes tt (seen blocks parts) × AllZip IsBuilt dims blocks → parts.version ≡ 1 → parts.names ≡ dimension_names dims → IsModelText bytes (contents parts dims) × IsContents (contents parts dims)
-told_contents bytes dims parts (blocks, is, built) one names = (contents_of bytes dims blocks parts is built, contents_sound bytes dims blocks parts is one names)
+told_contents : (bytes : List ℕ) (dims : List Text) (parts : Parts) → (blocks : List Progress) × IsWholeText model watching nothing_seen bytes tt (seen blocks parts) × AllZip IsBuilt dims blocks → parts.version ≡ 1 → parts.names ≡ dimension_names dims → IsWritable parts → IsModelText bytes (contents parts dims) × IsContents (contents parts dims)
+told_contents bytes dims parts (blocks, is, built) one names writable = (contents_of bytes dims blocks parts is built, contents_sound bytes dims blocks parts is one names writable)
 
 -- a text was read
-pub answer_ok : {X : Type 0} (dims : X → List Text) (parts : X → Parts) (bytes : List ℕ) (lexed : Lexed) (fault : Option LexFault) (read : Result X (Stop ModelTextFault)) (left : List Lexeme) (x : X) → IsReading bytes lexed fault → GivesBlocks dims parts read left (read_model nothing_seen lexed.lexemes) → IfOk read (λ y. (parts y).version ≡ 1) → IfOk read (λ y. (parts y).names ≡ dimension_names (dims y)) → ◌≡◌ {A = Result X (TextFault ModelTextFault)} (Ok x) (settled lexed fault read left) → IsModelText bytes (contents (parts x) (dims x)) × IsContents (contents (parts x) (dims x))
-answer_ok {X = X} dims parts bytes lexed fault read left x reading given one names e =
+pub answer_ok : {X : Type 0} (dims : X → List Text) (parts : X → Parts) (bytes : List ℕ) (lexed : Lexed) (fault : Option LexFault) (read : Result X (Stop ModelTextFault)) (left : List Lexeme) (x : X) → IsReading bytes lexed fault → GivesBlocks dims parts read left (read_model nothing_seen lexed.lexemes) → IfOk read (λ y. (parts y).version ≡ 1) → IfOk read (λ y. (parts y).names ≡ dimension_names (dims y)) → IsWritable (parts x) → ◌≡◌ {A = Result X (TextFault ModelTextFault)} (Ok x) (settled lexed fault read left) → IsModelText bytes (contents (parts x) (dims x)) × IsContents (contents (parts x) (dims x))
+answer_ok {X = X} dims parts bytes lexed fault read left x reading given one names writable e =
     let same : ◌≡◌ {A = Result X (Stop ModelTextFault)} read (Ok x) = settled_ok lexed fault read left x (sym e) in
-    told_contents bytes (dims x) (parts x) (subst (Told dims parts bytes) (sym e) (told dims parts bytes lexed fault read left reading given)) (subst (λ r. IfOk r (λ y. (parts y).version ≡ 1)) same one) (subst (λ r. IfOk r (λ y. (parts y).names ≡ dimension_names (dims y))) same names)
+    told_contents bytes (dims x) (parts x) (subst (Told dims parts bytes) (sym e) (told dims parts bytes lexed fault read left reading given)) (subst (λ r. IfOk r (λ y. (parts y).version ≡ 1)) same one) (subst (λ r. IfOk r (λ y. (parts y).names ≡ dimension_names (dims y))) same names) writable
 
 -- a text was refused
 pub answer_err : {X : Type 0} (dims : X → List Text) (parts : X → Parts) (bytes : List ℕ) (lexed : Lexed) (fault : Option LexFault) (read : Result X (Stop ModelTextFault)) (left : List Lexeme) (f : TextFault ModelTextFault) → IsReading bytes lexed fault → GivesBlocks dims parts read left (read_model nothing_seen lexed.lexemes) → ◌≡◌ {A = Result X (TextFault ModelTextFault)} (Err f) (settled lexed fault read left) → IsFault bytes (fault_from f).line (fault_from f).cause

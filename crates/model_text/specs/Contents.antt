@@ -5,6 +5,7 @@ use Rattle.dim_name.specs.Name.{is_same_name}
 use Rattle.dim_text.specs.Progress.{Text}
 use Rattle.model_text.specs.declared.parts.CubeText.{CubeText}
 use Rattle.model_text.specs.declared.parts.ScriptText.{ScriptText}
+use Rattle.model_text.specs.Writable.{IsWritableCube, IsWritableScript}
 
 -- its version, and its dimensions, cubes and scripts in their order
 pub record Contents : Type 0 where
@@ -37,3 +38,5 @@ pub record IsContents (contents : Contents) : Type 0 where
   pub cubes : IsDistinct is_same_name (cube_names contents.cubes)
   pub scripts : IsDistinct is_same_name (script_names contents.scripts)
   pub cube_dims : All (λ cube. AreDimensions (length contents.dims) cube.dims) contents.cubes
+  pub writable_cubes : All IsWritableCube contents.cubes
+  pub writable_scripts : All IsWritableScript contents.scripts

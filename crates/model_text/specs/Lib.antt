@@ -1,3 +1,4 @@
+pub mod Writable
 pub mod Contents
 pub mod Statement
 pub mod Gathering
@@ -5,3 +6,6 @@ pub mod Watching
 pub mod Reading
 pub mod Views
 pub mod Answers
+pub mod Spelled
+pub mod Printed
+pub mod Tokens

@@ -1,13 +1,12 @@
 -- The readers of a model text, in the shape of the code.
-use Rattle.std.specs.Prelude.{ℕ, Bool, List, [], ◌∷◌, Option, Some, None, codes, Err}
+use Rattle.std.specs.Prelude.{ℕ, Bool, List, ◌∷◌, Option, Some, None, codes, Err}
 use Rattle.cube_lex.specs.Lexeme.{Lexeme}
 use Rattle.grammar.specs.Watch.{unscanned}
-use Rattle.grammar.specs.Reading.{Spent, Read, Reader, gives, take_one, choose, all_of, checked, inside_result, inside, ◌>>=◌, ◌>>◌}
+use Rattle.grammar.specs.Reading.{Spent, Reader, gives, take_one, choose, all_of, checked, inside_result, inside, ◌>>=◌, ◌>>◌}
 use Rattle.grammar.specs.Tokens.{sign, word, whole, name, file, is_sign, is_word, is_number_kind}
 use Rattle.grammar.specs.declared.cursor.Unwatched.{Unwatched}
 use Rattle.dim_text.specs.Progress.{Progress}
 use Rattle.dim_text.specs.Reading.{read_body}
-use Rattle.dim_text.specs.declared.fault.Refusal.{Refusal}
 use Rattle.model_text.specs.Statement.{Piece, Version, Closing, DimensionWord, CubeWord, ScriptWord, Shown, CubeDimension, CubeEnd, located, line_of}
 use Rattle.model_text.specs.Gathering.{Given, gathered}
 use Rattle.model_text.specs.Watching.{Seen, with_given, head_of, with_block, of_block}

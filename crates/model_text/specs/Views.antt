@@ -10,7 +10,6 @@ use Rattle.grammar.specs.declared.answer.TextFault.TheVariants as faults
 use Rattle.model_text.specs.declared.fault.ModelTextCause.TheVariants as causes
 use Rattle.dim_text.specs.Progress.{Progress, Text, IsBuilt}
 use Rattle.dim_text.specs.declared.fault.Refusal.{Refusal}
-use Rattle.model_text.specs.Contents.{dimension_names}
 use Rattle.model_text.specs.Statement.{Piece}
 use Rattle.model_text.specs.Gathering.{Nothing, Parts, Given, at}
 use Rattle.model_text.specs.Watching.{Seen, of_block}

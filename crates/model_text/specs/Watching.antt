@@ -1,5 +1,5 @@
 -- How a model text is watched: piece by piece, and the body of a dimension statement by statement.
-use Rattle.std.specs.Prelude.{◌≡◌, ℕ, List, [], ◌∷◌, ◌++◌, Option, Some, None, Result, Ok, Err, ◌⊎◌}
+use Rattle.std.specs.Prelude.{◌≡◌, List, [], ◌∷◌, ◌++◌, Option, Some, None, Result, Ok, Err, ◌⊎◌}
 use Rattle.cube_lex.specs.Lexeme.{Lexeme}
 use Rattle.grammar.specs.Grammar.{Alive}
 use Rattle.grammar.specs.Watch.{Watch, Passes, Within, Refuses, each_text}

@@ -1,10 +1,12 @@
-ghost use Rattle.std.specs.Prelude.{◌≡◌, ◌<◌, ℕ, nat_eq, [], ◌∷◌, ◌++◌, List, length, OnOk, IfOk, codes};
+ghost use Rattle.std.specs.Prelude.{◌≡◌, ◌<◌, ◌≤◌, ℕ, nat_eq, [], ◌∷◌, ◌++◌, List, length, OnOk, IfOk, All, codes};
 ghost use Rattle.std.specs.List.{list_any};
+ghost use Rattle.cube_lex.specs.Lexed.{IsWellFormed};
 ghost use Rattle.grammar.specs.Cursor.{lexemes, Reads};
 ghost use Rattle.model_text.specs.Reading as reading;
 ghost use Rattle.model_text.specs.Statement.{CubeDimension};
 ghost use Rattle.model_text.specs.Gathering.{Nothing, CubeDue, CubeOpen, at, gathered};
 ghost use Rattle.model_text.specs.Views.{GivesState, GivesPiece, Gathers, AreSame};
+ghost use Rattle.model_text.specs.Writable.{IsNameText};
 
 use crate::fault::{ModelTextCause, ModelTextFault, refused};
 use crate::order_line::cube_end_at;
@@ -36,7 +38,8 @@ fn new_name_at(
     work: &Work,
     word_line: u32,
 ) -> Result<Name, Stop<ModelTextFault>>
-    ensures { GivesState (λ name. at work.now (CubeOpen word_line name [])) result (lexemes cursor.new.tokens.now) (reading.gather_naming (at work.now (CubeDue word_line)) (lexemes cursor.old.tokens.now)) }
+    ensures read { GivesState (λ name. at work.now (CubeOpen word_line name [])) result (lexemes cursor.new.tokens.now) (reading.gather_naming (at work.now (CubeDue word_line)) (lexemes cursor.old.tokens.now)) }
+    ensures writable { All IsWellFormed (lexemes cursor.old.tokens.now) → IfOk result (λ name. IsNameText name) }
 {
     let (line, name) = name_at(alloc, cursor)?;
     if work.has_cube(&name) {
@@ -52,7 +55,8 @@ fn head_at(
     cursor: &mut Cursor<'_, Unwatched>,
     work: &Work,
 ) -> Result<(u32, Name), Stop<ModelTextFault>>
-    ensures { GivesState (λ head. at work.now (CubeOpen head.0 head.1 [])) result (lexemes cursor.new.tokens.now) (reading.read_cube_head (at work.now Nothing) (lexemes cursor.old.tokens.now)) }
+    ensures read { GivesState (λ head. at work.now (CubeOpen head.0 head.1 [])) result (lexemes cursor.new.tokens.now) (reading.read_cube_head (at work.now Nothing) (lexemes cursor.old.tokens.now)) }
+    ensures writable { All IsWellFormed (lexemes cursor.old.tokens.now) → IfOk result (λ head. IsNameText head.1) }
 {
     let line = line_at(cursor, work)?;
     let name = new_name_at(alloc, cursor, work, line)?;
@@ -111,7 +115,8 @@ fn further_dimensions(
     work: &Work,
     mut dims: Vec<u32>,
 ) -> Result<Vec<u32>, Stop<ModelTextFault>>
-    ensures { (word_line : ℕ) (cube : List ℕ) → GivesState (λ all. at work.now (CubeOpen word_line cube all.items)) result (lexemes cursor.new.tokens.now) (reading.gather_further_dimensions (at work.now (CubeOpen word_line cube dims.items)) (lexemes cursor.old.tokens.now)) }
+    ensures read { (word_line : ℕ) (cube : List ℕ) → GivesState (λ all. at work.now (CubeOpen word_line cube all.items)) result (lexemes cursor.new.tokens.now) (reading.gather_further_dimensions (at work.now (CubeOpen word_line cube dims.items)) (lexemes cursor.old.tokens.now)) }
+    ensures more { IfOk result (λ all. length dims.items ≤ length all.items) }
 {
     'dimension: while sign_comes(cursor, b",") {
         let number = dimension_at(alloc, cursor, work, &dims, b",")?;
@@ -127,7 +132,8 @@ fn dimensions_at(
     cursor: &mut Cursor<'_, Unwatched>,
     work: &Work,
 ) -> Result<Vec<u32>, Stop<ModelTextFault>>
-    ensures { (word_line : ℕ) (cube : List ℕ) → GivesState (λ dims. at work.now (CubeOpen word_line cube dims.items)) result (lexemes cursor.new.tokens.now) (reading.read_cube_dimensions (at work.now (CubeOpen word_line cube [])) (lexemes cursor.old.tokens.now)) }
+    ensures read { (word_line : ℕ) (cube : List ℕ) → GivesState (λ dims. at work.now (CubeOpen word_line cube dims.items)) result (lexemes cursor.new.tokens.now) (reading.read_cube_dimensions (at work.now (CubeOpen word_line cube [])) (lexemes cursor.old.tokens.now)) }
+    ensures some { IfOk result (λ dims. 0 < length dims.items) }
 {
     let first = dimension_at(alloc, cursor, work, &[], b"(")?;
     let dims = alone(alloc, first)?;
@@ -141,6 +147,7 @@ fn cube_at(
     cursor: &mut Cursor<'_, Unwatched>,
     work: &mut Work,
 ) -> Result<(), Stop<ModelTextFault>>
+    requires { All IsWellFormed (lexemes cursor.old.tokens.now) }
     ensures read { GivesState (λ _. at work.new Nothing) result (lexemes cursor.new.tokens.now) (reading.read_cube (at work.old Nothing) (lexemes cursor.old.tokens.now)) }
     ensures same { OnOk result (AreSame work.old work.new) }
 {
@@ -165,6 +172,7 @@ pub fn cubes_at(
     cursor: &mut Cursor<'_, Unwatched>,
     work: &mut Work,
 ) -> Result<(), Stop<ModelTextFault>>
+    requires { All IsWellFormed (lexemes cursor.old.tokens.now) }
     ensures read { GivesState (λ _. at work.new Nothing) result (lexemes cursor.new.tokens.now) (reading.read_cubes (at work.old Nothing) (lexemes cursor.old.tokens.now)) }
     ensures same { OnOk result (AreSame work.old work.new) }
 {

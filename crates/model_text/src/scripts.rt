@@ -1,8 +1,10 @@
-ghost use Rattle.std.specs.Prelude.{◌≡◌, [], OnOk, codes};
+ghost use Rattle.std.specs.Prelude.{◌≡◌, [], OnOk, IfOk, All, codes};
+ghost use Rattle.cube_lex.specs.Lexed.{IsWellFormed};
 ghost use Rattle.grammar.specs.Cursor.{lexemes, Reads};
 ghost use Rattle.model_text.specs.Reading as reading;
 ghost use Rattle.model_text.specs.Gathering.{Nothing, ScriptDue, ScriptOpen, at};
 ghost use Rattle.model_text.specs.Views.{GivesState, AreSame};
+ghost use Rattle.model_text.specs.Writable.{IsNameText};
 
 use crate::fault::{ModelTextCause, ModelTextFault, refused};
 use crate::parts::ScriptText;
@@ -32,7 +34,8 @@ fn new_name_at(
     work: &Work,
     word_line: u32,
 ) -> Result<Name, Stop<ModelTextFault>>
-    ensures { GivesState (λ name. at work.now (ScriptOpen word_line name)) result (lexemes cursor.new.tokens.now) (reading.gather_naming (at work.now (ScriptDue word_line)) (lexemes cursor.old.tokens.now)) }
+    ensures read { GivesState (λ name. at work.now (ScriptOpen word_line name)) result (lexemes cursor.new.tokens.now) (reading.gather_naming (at work.now (ScriptDue word_line)) (lexemes cursor.old.tokens.now)) }
+    ensures writable { All IsWellFormed (lexemes cursor.old.tokens.now) → IfOk result (λ name. IsNameText name) }
 {
     let (line, name) = name_at(alloc, cursor)?;
     if work.has_script(&name) {
@@ -48,6 +51,7 @@ fn script_at(
     cursor: &mut Cursor<'_, Unwatched>,
     work: &mut Work,
 ) -> Result<(), Stop<ModelTextFault>>
+    requires { All IsWellFormed (lexemes cursor.old.tokens.now) }
     ensures read { GivesState (λ _. at work.new Nothing) result (lexemes cursor.new.tokens.now) (reading.read_script (at work.old Nothing) (lexemes cursor.old.tokens.now)) }
     ensures same { OnOk result (AreSame work.old work.new) }
 {
@@ -66,6 +70,7 @@ pub fn scripts_at(
     cursor: &mut Cursor<'_, Unwatched>,
     work: &mut Work,
 ) -> Result<(), Stop<ModelTextFault>>
+    requires { All IsWellFormed (lexemes cursor.old.tokens.now) }
     ensures read { GivesState (λ _. at work.new Nothing) result (lexemes cursor.new.tokens.now) (reading.read_scripts (at work.old Nothing) (lexemes cursor.old.tokens.now)) }
     ensures same { OnOk result (AreSame work.old work.new) }
 {

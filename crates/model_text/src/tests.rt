@@ -157,3 +157,16 @@ fn names_the_first_fault_and_its_line(rt: HostRuntime) {
         assert_eq!(rt; fault_in(rt.alloc(), text), (line, cause));
     }
 }
+
+#[test]
+fn prints_a_model(rt: HostRuntime) -> Result<(), Fail> {
+    let text =
+        b"MODEL 1; DIM 'a'; N 'x'; END; CUBE 'c' ('a'); RULES 'r'; ORDER 2, 'a' ('x' 1); END; SCRIPT 's' 'it''s';";
+    let printed =
+        b"MODEL 1 ; \nDIM 'a' ; \nN 'x' ; \nEND ; \nCUBE 'c' ( 'a' ) ; \nRULES 'r' ; \nORDER 2 , 'a' ( 'x' 1 ) ; \nEND ; \nSCRIPT 's' 'it''s' ; \n";
+    let model = read(rt.alloc(), text)?;
+    let mut out = Vec::new(rt.alloc());
+    print(rt.alloc(), &model, &mut out)?;
+    assert_eq!(rt; out.as_slice(), printed.as_slice());
+    Ok(())
+}

@@ -1,7 +1,8 @@
-ghost use Rattle.std.specs.Prelude.{◌≡◌, ◌<◌, ◌≤◌, [], ◌∷◌, ◌++◌, false, length, OnOk, OnErr, IfSome};
+ghost use Rattle.std.specs.Prelude.{◌≡◌, ◌<◌, ◌≤◌, [], ◌∷◌, ◌++◌, false, length, OnOk, OnErr, IfSome, All};
 ghost use Rattle.dim_name.specs.Name.{place_of};
 ghost use Rattle.model_text.specs.Gathering as gathering;
 ghost use Rattle.model_text.specs.Gathering.{with_cube, with_script};
+ghost use Rattle.model_text.specs.Writable.{IsWritableCube, IsWritableScript};
 
 use crate::parts::{CubeText, ScriptText};
 use dim_name::Name;
@@ -17,7 +18,8 @@ const MAX_CUBES: usize = 64;
 /// The most scripts of a model.
 const MAX_SCRIPTS: usize = 256;
 
-/// What has been read of a model text: its version, the names of its dimensions, its cubes and its scripts.
+/// What has been read of a model text: its version, the names of its dimensions, its cubes and its scripts, which can be written
+/// as they came from tokens.
 #[derive(Drop)]
 pub struct Work {
     version: u32,
@@ -27,14 +29,15 @@ pub struct Work {
 }
 
 impl Model for Work {
-    ghost use Rattle.std.specs.Prelude.{◌≤◌, length};
+    ghost use Rattle.std.specs.Prelude.{◌≤◌, length, All};
     ghost use Rattle.model_text.specs.Gathering.{Parts};
+    ghost use Rattle.model_text.specs.Writable.{IsWritableCube, IsWritableScript};
 
     ghost Value = { Parts };
 
     ghost view = { λ w. record { version = w.version; names = w.names.items; cubes = w.cubes.items; scripts = w.scripts.items } };
 
-    ghost invariant = { λ w. length w.names.items ≤ 256 };
+    ghost invariant = { λ w. (length w.names.items ≤ 256) × All IsWritableCube w.cubes.items × All IsWritableScript w.scripts.items };
 }
 
 // Where a name stands among these.
@@ -124,6 +127,7 @@ impl Work {
 
     /// Takes a further cube.
     pub fn add_cube(&mut self, cube: CubeText) -> Result<(), AllocError>
+        requires { IsWritableCube cube }
         ensures ok { OnOk result (self.new ≡ with_cube self.old cube) }
         ensures err { OnErr result (self.new ≡ self.old) }
     {
@@ -133,6 +137,7 @@ impl Work {
 
     /// Takes a further script.
     pub fn add_script(&mut self, script: ScriptText) -> Result<(), AllocError>
+        requires { IsWritableScript script }
         ensures ok { OnOk result (self.new ≡ with_script self.old script) }
         ensures err { OnErr result (self.new ≡ self.old) }
     {
@@ -145,6 +150,8 @@ impl Work {
         ensures version { result.0 ≡ self.version }
         ensures cubes { result.1.items ≡ self.cubes }
         ensures scripts { result.2.items ≡ self.scripts }
+        ensures writable_cubes { All IsWritableCube self.cubes }
+        ensures writable_scripts { All IsWritableScript self.scripts }
     {
         let Work {
             version,

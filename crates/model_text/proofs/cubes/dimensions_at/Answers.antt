@@ -7,14 +7,14 @@ use Rattle.model_text.specs.Views.{GivesState}
 use Rattle.model_text.proofs.Stopping.{dimensions_behind_first, first_stops}
 use Rattle.model_text.proofs.cubes.dimensions_at.Goals as goal
 
-pub returns-in_err-first : goal.returns-in_err-first
-returns-in_err-first c =
+pub returns-in_err-first-clause-read : goal.returns-in_err-first-clause-read
+returns-in_err-first-clause-read c =
     let p = err_from_is_err_and c.from_residual.result c.from_residual.ensures.1 in
     λ word_line cube. rw (p.1, p.2) (first_stops _ (lexemes c.args.cursor.now.tokens.now) c.in_err-first.field-0.0 (c.in_err-first.ensures.read word_line cube))
 
-pub returns : goal.returns
-returns c = λ word_line cube. (
+pub returns-clause-read : goal.returns-clause-read
+returns-clause-read c = λ word_line cube. (
     let (piece, read) = c.in_ok-first.ensures.read word_line cube in
     subst (GivesState (λ all. at c.args.work.now (CubeOpen word_line cube all.items)) c.further_dimensions.result (lexemes c.further_dimensions.new.cursor.tokens.now))
     (sym (dimensions_behind_first _ _ (lexemes c.args.cursor.now.tokens.now) (lexemes c.dimension_at.new.cursor.tokens.now) piece read ∙ ap (λ ds. gather_further_dimensions (at c.args.work.now (CubeOpen word_line cube ds)) (lexemes c.dimension_at.new.cursor.tokens.now)) (sym c.in_ok-dims.ensures)))
-    (c.further_dimensions.ensures word_line cube))
+    (c.further_dimensions.ensures.read word_line cube))

@@ -1,5 +1,4 @@
-use Rattle.std.proofs.Common.{arith, codes, true}
-use Rattle.grammar.specs.Tokens.{is_sign}
+use Rattle.std.proofs.Common.{arith}
 use Rattle.std.proofs.lemmas.List.{length-map}
 use Rattle.grammar.proofs.Loops.{goes_further}
 use Rattle.model_text.proofs.PieceExact.{next_position_shortens}

@@ -1,6 +1,6 @@
 use Rattle.std.proofs.lemmas.Result.{err_from_is_err_and}
 use Rattle.grammar.specs.Cursor.{lexemes}
-use Rattle.model_text.proofs.ModelExact.{opening_exact}
+use Rattle.model_text.proofs.ModelExact.{opening_exact, dimensions_exact, cubes_exact}
 use Rattle.model_text.proofs.Stopping.{rests}
 use Rattle.model_text.proofs.Whole.{opening_stops, dimensions_stop, cubes_stop, scripts_stop, scripts_read}
 use Rattle.model_text.proofs.reading.model_at.Goals as goal
@@ -34,3 +34,13 @@ pub returns-clause-read : goal.returns-clause-read
 returns-clause-read c =
     let (blocks, read, built) = c.in_ok-dims.ensures.read in
     (blocks, scripts_read (lexemes c.args.cursor.now.tokens.now) (lexemes c.opening_at.new.cursor.tokens.now) (lexemes c.dimensions_at.new.cursor.tokens.now) (lexemes c.cubes_at.new.cursor.tokens.now) _ c.in_ok-work.work c.dimensions_at.new.work c.cubes_at.new.work c.scripts_at.new.work blocks c.in_ok-work.ensures.read read c.in_ok-cubes_at.ensures.read c.in_ok-scripts_at.ensures.read, built)
+
+pub cubes_at-requires : goal.cubes_at-requires
+cubes_at-requires c =
+    let (blocks, read, built) = c.in_ok-dims.ensures.read in
+    rests dimensions_exact _ _ _ _ _ read (rests opening_exact _ _ _ _ _ c.in_ok-work.ensures.read c.requires)
+
+pub scripts_at-requires : goal.scripts_at-requires
+scripts_at-requires c =
+    let (blocks, read, built) = c.in_ok-dims.ensures.read in
+    rests cubes_exact _ _ _ _ _ c.in_ok-cubes_at.ensures.read (rests dimensions_exact _ _ _ _ _ read (rests opening_exact _ _ _ _ _ c.in_ok-work.ensures.read c.requires))

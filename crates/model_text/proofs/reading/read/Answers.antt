@@ -1,4 +1,4 @@
-use Rattle.std.proofs.Common.{◌≡◌, sym, ◌∙◌, ap, subst}
+use Rattle.std.proofs.Common.{◌≡◌, ◌∙◌, ap, subst}
 use Rattle.grammar.specs.Cursor.{lexemes}
 use Rattle.model_text.specs.Reading.{read_model}
 use Rattle.model_text.specs.Views.{GivesBlocks}
@@ -12,7 +12,7 @@ new-requires c =
     rw (c.into_parts-version.ensures.version, c.into_parts-version.ensures.cubes, c.into_parts-version.ensures.scripts)
     ((answer_ok (λ x. x.0.items) (λ x. x.1) c.args.text.now c.in-Ok.tokens c.in-Ok.fault c.model_at-model.result (lexemes c.model_at-model.new.cursor.tokens.now) (c.in-Ok-settled.dims, c.in-Ok-settled.work) c.in-Ok.ensures.found
     (subst (λ ts. GivesBlocks (λ x. x.0.items) (λ x. x.1) c.model_at-model.result (lexemes c.model_at-model.new.cursor.tokens.now) (read_model nothing_seen ts)) same c.model_at-model.ensures.read)
-    c.model_at-model.ensures.version c.model_at-model.ensures.names c.in-Ok-settled.ensures).1)
+    c.model_at-model.ensures.version c.model_at-model.ensures.names (c.into_parts-version.ensures.writable_cubes, c.into_parts-version.ensures.writable_scripts) c.in-Ok-settled.ensures).1)
 
 pub returns-in-Ok-settled : goal.returns-in-Ok-settled
 returns-in-Ok-settled c =
@@ -20,7 +20,7 @@ returns-in-Ok-settled c =
     rw (c.new.ensures, c.into_parts-version.ensures.version, c.into_parts-version.ensures.cubes, c.into_parts-version.ensures.scripts)
     ((answer_ok (λ x. x.0.items) (λ x. x.1) c.args.text.now c.in-Ok.tokens c.in-Ok.fault c.model_at-model.result (lexemes c.model_at-model.new.cursor.tokens.now) (c.in-Ok-settled.dims, c.in-Ok-settled.work) c.in-Ok.ensures.found
     (subst (λ ts. GivesBlocks (λ x. x.0.items) (λ x. x.1) c.model_at-model.result (lexemes c.model_at-model.new.cursor.tokens.now) (read_model nothing_seen ts)) same c.model_at-model.ensures.read)
-    c.model_at-model.ensures.version c.model_at-model.ensures.names c.in-Ok-settled.ensures).0)
+    c.model_at-model.ensures.version c.model_at-model.ensures.names (c.into_parts-version.ensures.writable_cubes, c.into_parts-version.ensures.writable_scripts) c.in-Ok-settled.ensures).0)
 
 pub returns : goal.returns
 returns c =

@@ -1,4 +1,6 @@
 use Rattle.std.proofs.Common.{List, codes, length}
+use Rattle.std.specs.List.{All}
+use Rattle.cube_lex.specs.Lexed.{IsWellFormed}
 use Rattle.grammar.specs.Cursor.{lexemes}
 use Rattle.grammar.specs.Reading.{all_of}
 use Rattle.grammar.specs.Tokens.{is_word}
@@ -12,6 +14,7 @@ abbrev pub invariant-script : goal.invariant-script
 invariant-script l = (front : List (Unit {0}))
     × Going (is_word (codes "SCRIPT")) read_script front (at l.work Nothing) (lexemes l.cursor.tokens.now) (all_of (is_word (codes "SCRIPT")) read_script (at l.fn.work Nothing) (lexemes l.fn.cursor.tokens.now))
     × AreSame l.fn.work l.work
+    × All IsWellFormed (lexemes l.cursor.tokens.now)
 
 abbrev pub decreases-script : goal.decreases-script
 decreases-script l = length l.cursor.tokens.now

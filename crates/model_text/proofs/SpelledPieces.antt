@@ -1,0 +1,142 @@
+-- Each piece as it is written is read as that piece again, on its new line.
+use Rattle.std.proofs.Common.{◌≡◌, ◌<◌, ◌^◌, ℕ, List, [], ◌∷◌, ◌++◌, true, false, Bool, Option, Some, None, option_map, IfSome, ◌&&◌, cond, refl, ap, ◌∙◌, length, codes, IsTrue, arith}
+use Rattle.std.proofs.lemmas.List.Elements.{All-head, All-tail}
+use Rattle.std.specs.List.{All, AllZip, flat_map}
+use Rattle.cube_lex.specs.Lexeme.{Lexeme}
+use Rattle.cube_lex.specs.Quoted.{unquoted}
+use Rattle.cube_lex.specs.Written.{Spelling}
+use Rattle.cube_lex.proofs.Quotes.{unquoted-quoted}
+use Rattle.dim_name.specs.Name.{is_name}
+use Rattle.grammar.specs.Tokens.{is_text_kind, is_file, file}
+use Rattle.dim_text.specs.Spelled.{word_token, sign_token, text_token, number_token}
+use Rattle.dim_text.proofs.Spells.{Spells, Picks, spells_done, spells_next, spells_both, spells_left, spells_right, spells_made, spells_many}
+use Rattle.dim_text.proofs.SpelledStatements.{picks_word, picks_sign, picks_name, picks_whole}
+use Rattle.model_text.specs.Spelled.{dimension_spelled, rules_spelled, rank_spelled, next_rank_spelled, ranks_spelled, position_spelled, next_position_spelled, positions_spelled, order_spelled, ending_spelled, cube_end_spelled}
+use Rattle.model_text.specs.Statement.{Piece, Version, Closing, DimensionWord, CubeWord, ScriptWord, Shown, CubeDimension, CubeEnd, located, line_of, version, closing, dimension_word, cube_word, script_word, naming, script_file, dimension_behind, rules, rank, next_rank, rank_list, listed, position, next_position, position_list, order, cube_end}
+use Rattle.model_text.specs.Writable.{IsFileText, IsWritableRank, IsWritableWord, IsWritableOrder}
+use Rattle.model_text.specs.declared.order.OrderLine.{OrderLine}
+use Rattle.model_text.specs.declared.order.OrderWord.{OrderWord}
+use Rattle.model_text.specs.declared.order.OrderWord.TheVariants as words
+
+-- One token.
+
+if_yes : {A : Type 0} (b : Bool) (a : A) (o : Option A) → b ≡ true → cond b (Some a) o ≡ Some a
+if_yes true a o e = refl
+if_yes false a o e = cc
+
+and_both : (a b : Bool) → a ≡ true → b ≡ true → (a && b) ≡ true
+and_both true b h k = k
+and_both false b h k = cc
+
+picks_file : (bytes : List ℕ) → IsTrue (is_file bytes) → Picks file (text_token bytes) (λ value. value ≡ bytes)
+picks_file bytes is = record {
+  at = λ t e. (
+      let kind : is_text_kind t.kind ≡ true = ap (λ x. is_text_kind x.kind) e in
+      let same : unquoted t.piece ≡ bytes = ap (λ x. unquoted x.piece) e ∙ unquoted-quoted bytes in
+      let filed : is_file (unquoted t.piece) ≡ true = ap is_file same ∙ is in
+      (unquoted t.piece, if_yes _ (unquoted t.piece) _ (and_both _ _ kind filed), same));
+}
+
+-- a token with its line
+picks_located : {A : Type 0} {pick : Lexeme → Option A} {token : Spelling} {P : A → Type 0} → Picks pick token P → Picks (located pick) token (λ x. P x.1)
+picks_located picks = record { at = λ t e. (let (a, takes, p) = picks.at t e in ((t.line, a), ap (option_map (λ x. (t.line, x))) takes, p)) }
+
+-- Pieces of one or two tokens.
+
+-- it is this piece on some line
+abbrev pub IsOnLine : (ℕ → Piece) → Piece → Type 0
+IsOnLine on x = (line : ℕ) × (x ≡ on line)
+
+pub version_spells : (n : ℕ) → n < 2 ^ 31 → Spells version (word_token (codes "MODEL") ∷ number_token n ∷ []) (IsOnLine (λ line. Version line n))
+version_spells n small = spells_next (picks_word (codes "MODEL")) (λ _ _. spells_next (picks_located (picks_whole n small)) (λ x same. spells_done (Version x.0 x.1) (x.0, ap (Version x.0) same)))
+
+pub closing_spells : Spells closing (sign_token (codes ";") ∷ []) (λ x. x ≡ Closing)
+closing_spells = spells_next (picks_sign (codes ";")) (λ _ _. spells_done Closing refl)
+
+pub dimension_word_spells : Spells dimension_word (word_token (codes "DIM") ∷ []) (IsOnLine DimensionWord)
+dimension_word_spells = spells_next (picks_word (codes "DIM")) (λ line _. spells_done (DimensionWord line) (line, refl))
+
+pub cube_word_spells : Spells cube_word (word_token (codes "CUBE") ∷ []) (IsOnLine CubeWord)
+cube_word_spells = spells_next (picks_word (codes "CUBE")) (λ line _. spells_done (CubeWord line) (line, refl))
+
+pub script_word_spells : Spells script_word (word_token (codes "SCRIPT") ∷ []) (IsOnLine ScriptWord)
+script_word_spells = spells_next (picks_word (codes "SCRIPT")) (λ line _. spells_done (ScriptWord line) (line, refl))
+
+pub naming_spells : (shown : List ℕ) → IsTrue (is_name shown) → Spells naming (text_token shown ∷ []) (IsOnLine (λ line. Shown line shown))
+naming_spells shown is = spells_next (picks_located (picks_name shown is)) (λ x same. spells_done (Shown x.0 x.1) (x.0, ap (Shown x.0) same))
+
+pub script_file_spells : (bytes : List ℕ) → IsTrue (is_file bytes) → Spells script_file (text_token bytes ∷ []) (IsOnLine (λ line. Shown line bytes))
+script_file_spells bytes is = spells_next (picks_located (picks_file bytes is)) (λ x same. spells_done (Shown x.0 x.1) (x.0, ap (Shown x.0) same))
+
+pub dimension_behind_spells : (before shown : List ℕ) → IsTrue (is_name shown) → Spells (dimension_behind before) (dimension_spelled before shown) (IsOnLine (λ line. CubeDimension line shown))
+dimension_behind_spells before shown is = spells_next (picks_sign before) (λ _ _. spells_next (picks_located (picks_name shown is)) (λ x same. spells_done (CubeDimension x.0 x.1) (x.0, ap (CubeDimension x.0) same)))
+
+-- The rule file.
+
+-- the same, whatever the lines
+abbrev pub IsSameBehind : {A : Type 0} → Option (ℕ × A) → Option (ℕ × A) → Type 0
+IsSameBehind x y = option_map (λ a. a.1) y ≡ option_map (λ a. a.1) x
+
+rules_spells : (r : Option (ℕ × List ℕ)) → IfSome r (λ x. IsFileText x.1) → Spells rules (rules_spelled r) (IsSameBehind r)
+rules_spells None is = spells_right (spells_done None refl)
+rules_spells (Some r) is = spells_left (spells_next (picks_word (codes "RULES")) (λ line _. spells_next (picks_file r.1 is.0) (λ bytes same. spells_next (picks_sign (codes ";")) (λ _ _. spells_done (Some (line, bytes)) (ap (λ x. Some x) same)))))
+
+-- The order line.
+
+same_list : {A : Type 0} (xs ys : List A) → AllZip (λ x y. y ≡ x) xs ys → ys ≡ xs
+same_list [] [] same = refl
+same_list [] (y ∷ ys) same = absurd same
+same_list (x ∷ xs) [] same = absurd same
+same_list (x ∷ xs) (y ∷ ys) same = ap (λ z. z ∷ ys) same.0 ∙ ap (λ zs. x ∷ zs) (same_list xs ys same.1)
+
+rank_spells : (r : List ℕ × ℕ) → IsWritableRank r → Spells rank (rank_spelled r) (λ x. x ≡ r)
+rank_spells r is = spells_next (picks_name r.0 is.0.0) (λ shown same. spells_next (picks_whole r.1 is.1) (λ n equal. spells_done (shown, n) (ap (λ x. (x, n)) same ∙ ap (λ m. (r.0, m)) equal)))
+
+next_rank_spells : (r : List ℕ × ℕ) → IsWritableRank r → Spells next_rank (next_rank_spelled r) (λ x. x ≡ r)
+next_rank_spells r is = spells_next (picks_sign (codes ",")) (λ _ _. rank_spells r is)
+
+rank_list_spells : (list : List (List ℕ × ℕ)) → 0 < length list → All IsWritableRank list → Spells rank_list (ranks_spelled list) (λ x. x ≡ list)
+rank_list_spells [] some all = absurd (omega (arith, some))
+rank_list_spells (first ∷ rest) some all = spells_both {xs = rank_spelled first} {ys = flat_map next_rank_spelled rest} (rank_spells first (All-head IsWritableRank first rest all))
+    (λ head same. spells_made (λ more. head ∷ more) (spells_many next_rank_spelled IsWritableRank (λ r x. x ≡ r) next_rank_spells rest (All-tail IsWritableRank first rest all))
+    (λ more zip. ap (λ x. x ∷ more) same ∙ ap (λ xs. first ∷ xs) (same_list rest more zip)))
+
+listed_spells : (shown head : List ℕ) (list : List (List ℕ × ℕ)) → head ≡ shown → 0 < length list → All IsWritableRank list
+    → Spells (listed head) (sign_token (codes "(") ∷ (ranks_spelled list ++ sign_token (codes ")") ∷ [])) (λ x. x ≡ words.Ranks shown list)
+listed_spells shown head list same some all = spells_next (picks_sign (codes "(")) (λ _ _. spells_both {xs = ranks_spelled list} {ys = sign_token (codes ")") ∷ []} (rank_list_spells list some all)
+    (λ more equal. spells_next (picks_sign (codes ")")) (λ _ _. spells_done (words.Ranks head more) (ap (λ x. words.Ranks x more) same ∙ ap (words.Ranks shown) equal))))
+
+position_spells : (p : OrderWord) → IsWritableWord p → Spells position (position_spelled p) (λ x. x ≡ p)
+position_spells (words.Constant n) is = spells_left (spells_next (picks_whole n is) (λ m same. spells_done (words.Constant m) (ap words.Constant same)))
+position_spells (words.Index shown) is = spells_right (spells_next (picks_name shown is.0) (λ head same. spells_right (spells_done (words.Index head) (ap words.Index same))))
+position_spells (words.Ranks shown list) is = spells_right (spells_next (picks_name shown is.0.0) (λ head same. spells_left (listed_spells shown head list same is.1 is.2)))
+
+next_position_spells : (p : OrderWord) → IsWritableWord p → Spells next_position (next_position_spelled p) (λ x. x ≡ p)
+next_position_spells p is = spells_next (picks_sign (codes ",")) (λ _ _. position_spells p is)
+
+position_list_spells : (list : List OrderWord) → 0 < length list → All IsWritableWord list → Spells position_list (positions_spelled list) (λ x. x ≡ list)
+position_list_spells [] some all = absurd (omega (arith, some))
+position_list_spells (first ∷ rest) some all = spells_both {xs = position_spelled first} {ys = flat_map next_position_spelled rest} (position_spells first (All-head IsWritableWord first rest all))
+    (λ head same. spells_made (λ more. head ∷ more) (spells_many next_position_spelled IsWritableWord (λ p x. x ≡ p) next_position_spells rest (All-tail IsWritableWord first rest all))
+    (λ more zip. ap (λ x. x ∷ more) same ∙ ap (λ xs. first ∷ xs) (same_list rest more zip)))
+
+order_spells : (o : Option (ℕ × OrderLine)) → IfSome o (λ x. IsWritableOrder x.1) → Spells order (order_spelled o) (IsSameBehind o)
+order_spells None is = spells_right (spells_done None refl)
+order_spells (Some o) is = spells_left (spells_next (picks_word (codes "ORDER")) (λ line _. spells_both {xs = positions_spelled o.1.words} {ys = sign_token (codes ";") ∷ []} (position_list_spells o.1.words is.0 is.1)
+    (λ list same. spells_next (picks_sign (codes ";")) (λ _ _. spells_done (Some (line, line_of list)) (ap (λ x. Some (line_of x)) same)))))
+
+-- The end of a cube.
+
+-- it is that end of a cube, but for its lines
+pub record IsEnd (r : Option (ℕ × List ℕ)) (o : Option (ℕ × OrderLine)) (x : Piece) : Type 0 where
+  pub r_again : Option (ℕ × List ℕ)
+  pub o_again : Option (ℕ × OrderLine)
+  pub is : x ≡ CubeEnd r_again o_again
+  pub r_same : IsSameBehind r r_again
+  pub o_same : IsSameBehind o o_again
+
+pub cube_end_spells : (r : Option (ℕ × List ℕ)) (o : Option (ℕ × OrderLine)) → IfSome r (λ x. IsFileText x.1) → IfSome o (λ x. IsWritableOrder x.1) → Spells cube_end (cube_end_spelled r o) (IsEnd r o)
+cube_end_spells r o r_is o_is = spells_next (picks_sign (codes ")")) (λ _ _. spells_next (picks_sign (codes ";")) (λ _ _. spells_both {xs = rules_spelled r} {ys = order_spelled o ++ ending_spelled} (rules_spells r r_is)
+    (λ r_again r_same. spells_both {xs = order_spelled o} {ys = ending_spelled} (order_spells o o_is)
+    (λ o_again o_same. spells_next (picks_word (codes "END")) (λ _ _. spells_next (picks_sign (codes ";"))
+    (λ _ _. spells_done (CubeEnd r_again o_again) (record { r_again = r_again; o_again = o_again; is = refl; r_same = r_same; o_same = o_same })))))))

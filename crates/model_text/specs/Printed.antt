@@ -1,0 +1,39 @@
+-- What is printed of a model text.
+use Rattle.std.specs.Prelude.{◌≡◌, ℕ, ◌≤◌, List, ◌++◌, length, map, Option, option_map}
+use Rattle.std.specs.List.{AllZip}
+use Rattle.cube_lex.specs.Lexed.{Lexed}
+use Rattle.cube_lex.specs.Reading.{IsReading, text_limit}
+use Rattle.cube_lex.specs.declared.fault.LexFault.{LexFault}
+use Rattle.model_text.specs.Answers.{IsModelText}
+use Rattle.model_text.specs.Contents.{Contents}
+use Rattle.model_text.specs.declared.parts.CubeText.{CubeText}
+use Rattle.model_text.specs.declared.parts.ScriptText.{ScriptText}
+
+-- two cubes are equal, but for their lines
+pub record IsSameCube (x y : CubeText) : Type 0 where
+  pub name : y.name ≡ x.name
+  pub dims : y.dims ≡ x.dims
+  pub rules : option_map (λ rules. rules.1) y.rules ≡ option_map (λ rules. rules.1) x.rules
+  pub order : option_map (λ order. order.1) y.order ≡ option_map (λ order. order.1) x.order
+
+pub record IsSameScript (x y : ScriptText) : Type 0 where
+  pub name : y.name ≡ x.name
+  pub file : y.file ≡ x.file
+
+-- and so are two model texts: they have the same dimensions, and equal cubes and scripts
+pub record AreSameContents (x y : Contents) : Type 0 where
+  pub version : y.version ≡ x.version
+  pub dims : map (λ text. text.dimension) y.dims ≡ map (λ text. text.dimension) x.dims
+  pub cubes : AllZip IsSameCube x.cubes y.cubes
+  pub scripts : AllZip IsSameScript x.scripts y.scripts
+
+-- where the bytes aren't too many for a text, they are read as a model text with equal contents, but for lines
+abbrev pub IsTextOf : Contents → List ℕ → Type 0
+IsTextOf contents bytes = length bytes ≤ text_limit → (lexed : Lexed) (fault : Option LexFault) → IsReading bytes lexed fault
+    → (again : Contents) × IsModelText bytes again × AreSameContents contents again
+
+-- new is old with such a text behind it
+pub record IsPrinted (contents : Contents) (old new : List ℕ) : Type 0 where
+  pub bytes : List ℕ
+  pub behind : new ≡ old ++ bytes
+  pub reads : IsTextOf contents bytes

@@ -1,0 +1,39 @@
+-- What can be written as tokens of a model text.
+use Rattle.std.specs.Prelude.{ℕ, ◌<◌, ◌^◌, List, length, IfSome, IsTrue, All}
+use Rattle.dim_name.specs.Name.{is_name}
+use Rattle.dim_text.specs.Writable.{IsQuotable}
+use Rattle.grammar.specs.Tokens.{is_file}
+use Rattle.model_text.specs.declared.order.OrderLine.{OrderLine}
+use Rattle.model_text.specs.declared.order.OrderWord.{OrderWord}
+use Rattle.model_text.specs.declared.order.OrderWord.TheVariants as words
+use Rattle.model_text.specs.declared.parts.CubeText.{CubeText}
+use Rattle.model_text.specs.declared.parts.ScriptText.{ScriptText}
+
+-- a name, which a quoted text can stand for
+abbrev pub IsNameText : List ℕ → Type 0
+IsNameText shown = IsTrue (is_name shown) × IsQuotable shown
+
+-- what may name a file, which a quoted text can stand for
+abbrev pub IsFileText : List ℕ → Type 0
+IsFileText bytes = IsTrue (is_file bytes) × IsQuotable bytes
+
+abbrev pub IsWritableRank : List ℕ × ℕ → Type 0
+IsWritableRank rank = IsNameText rank.0 × (rank.1 < 2 ^ 31)
+
+abbrev pub IsWritableWord : OrderWord → Type 0
+IsWritableWord (words.Constant n) = n < 2 ^ 31
+IsWritableWord (words.Index shown) = IsNameText shown
+IsWritableWord (words.Ranks shown list) = IsNameText shown × (0 < length list) × All IsWritableRank list
+
+abbrev pub IsWritableOrder : OrderLine → Type 0
+IsWritableOrder order = (0 < length order.words) × All IsWritableWord order.words
+
+pub record IsWritableCube (cube : CubeText) : Type 0 where
+  pub name : IsNameText cube.name
+  pub dims : 0 < length cube.dims
+  pub rules : IfSome cube.rules (λ rules. IsFileText rules.1)
+  pub order : IfSome cube.order (λ order. IsWritableOrder order.1)
+
+pub record IsWritableScript (script : ScriptText) : Type 0 where
+  pub name : IsNameText script.name
+  pub file : IsFileText script.file

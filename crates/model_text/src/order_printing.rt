@@ -1,0 +1,166 @@
+ghost use Rattle.std.specs.Prelude.{◌∷◌, ◌++◌, [], All, IfSome, OnOk, codes};
+ghost use Rattle.std.specs.List.{flat_map};
+ghost use Rattle.cube_lex.specs.Written.{Adds};
+ghost use Rattle.dim_text.specs.Spelled.{word_token, sign_token};
+ghost use Rattle.model_text.specs.Spelled.{rank_spelled, next_rank_spelled, ranks_spelled, position_spelled, next_position_spelled, positions_spelled, order_spelled};
+ghost use Rattle.model_text.specs.Writable.{IsWritableRank, IsWritableWord, IsWritableOrder};
+
+use crate::order::{OrderLine, OrderWord};
+use crate::writing::{Written, write_line, write_tokens};
+use dim_name::Name;
+use std::alloc::{AllocError, Global};
+
+// Writes an element and its rank.
+fn write_rank(alloc: Global, out: &mut Vec<u8>, rank: &(Name, u32)) -> Result<(), AllocError>
+    requires { IsWritableRank rank.now }
+    ensures { OnOk result (Adds out.old.items out.new.items (rank_spelled rank.now)) }
+{
+    let (name, number) = rank;
+    let tokens = [
+        Written::Quoted(name.shown()),
+        Written::Whole(u64::from(*number)),
+    ];
+    write_tokens(alloc, out, &tokens)
+}
+
+// Writes a further element and its rank.
+fn write_next_rank(alloc: Global, out: &mut Vec<u8>, rank: &(Name, u32)) -> Result<(), AllocError>
+    requires { IsWritableRank rank.now }
+    ensures { OnOk result (Adds out.old.items out.new.items (next_rank_spelled rank.now)) }
+{
+    write_tokens(alloc, out, &[Written::Sign(b",")])?;
+    write_rank(alloc, out, rank)
+}
+
+// Writes the ranks behind the first.
+fn write_further_ranks(
+    alloc: Global,
+    out: &mut Vec<u8>,
+    ranks: &[(Name, u32)],
+) -> Result<(), AllocError>
+    requires { All IsWritableRank ranks.now }
+    ensures { OnOk result (Adds out.old.items out.new.items (flat_map next_rank_spelled ranks.now)) }
+{
+    for rank in ranks {
+        write_next_rank(alloc, out, rank)?;
+    }
+    Ok(())
+}
+
+// Writes the ranks of elements.
+fn write_ranks(alloc: Global, out: &mut Vec<u8>, ranks: &[(Name, u32)]) -> Result<(), AllocError>
+    requires { All IsWritableRank ranks.now }
+    ensures { OnOk result (Adds out.old.items out.new.items (ranks_spelled ranks.now)) }
+{
+    let [first, further @ ..] = ranks else {
+        return Ok(());
+    };
+    write_rank(alloc, out, first)?;
+    write_further_ranks(alloc, out, further)
+}
+
+// Writes a dimension and the ranks of its elements.
+fn write_listed(
+    alloc: Global,
+    out: &mut Vec<u8>,
+    name: &Name,
+    ranks: &[(Name, u32)],
+) -> Result<(), AllocError>
+    requires { IsWritableWord (OrderWord.Ranks name.now ranks.now) }
+    ensures { OnOk result (Adds out.old.items out.new.items (position_spelled (OrderWord.Ranks name.now ranks.now))) }
+{
+    write_tokens(
+        alloc,
+        out,
+        &[Written::Quoted(name.shown()), Written::Sign(b"(")],
+    )?;
+    write_ranks(alloc, out, ranks)?;
+    write_tokens(alloc, out, &[Written::Sign(b")")])
+}
+
+// Writes a position of an order line.
+fn write_position(alloc: Global, out: &mut Vec<u8>, position: &OrderWord) -> Result<(), AllocError>
+    requires { IsWritableWord position.now }
+    ensures { OnOk result (Adds out.old.items out.new.items (position_spelled position.now)) }
+{
+    match position {
+        OrderWord::Constant(number) => {
+            write_tokens(alloc, out, &[Written::Whole(u64::from(*number))])
+        }
+        OrderWord::Index(name) => write_tokens(alloc, out, &[Written::Quoted(name.shown())]),
+        OrderWord::Ranks(name, ranks) => write_listed(alloc, out, name, ranks.as_slice()),
+    }
+}
+
+// Writes a further position.
+fn write_next_position(
+    alloc: Global,
+    out: &mut Vec<u8>,
+    position: &OrderWord,
+) -> Result<(), AllocError>
+    requires { IsWritableWord position.now }
+    ensures { OnOk result (Adds out.old.items out.new.items (next_position_spelled position.now)) }
+{
+    write_tokens(alloc, out, &[Written::Sign(b",")])?;
+    write_position(alloc, out, position)
+}
+
+// Writes the positions behind the first.
+fn write_further_positions(
+    alloc: Global,
+    out: &mut Vec<u8>,
+    positions: &[OrderWord],
+) -> Result<(), AllocError>
+    requires { All IsWritableWord positions.now }
+    ensures { OnOk result (Adds out.old.items out.new.items (flat_map next_position_spelled positions.now)) }
+{
+    for position in positions {
+        write_next_position(alloc, out, position)?;
+    }
+    Ok(())
+}
+
+// Writes the positions of an order line.
+fn write_positions(
+    alloc: Global,
+    out: &mut Vec<u8>,
+    positions: &[OrderWord],
+) -> Result<(), AllocError>
+    requires { All IsWritableWord positions.now }
+    ensures { OnOk result (Adds out.old.items out.new.items (positions_spelled positions.now)) }
+{
+    let [first, further @ ..] = positions else {
+        return Ok(());
+    };
+    write_position(alloc, out, first)?;
+    write_further_positions(alloc, out, further)
+}
+
+// Writes the positions behind `ORDER`, and `;`.
+fn write_order_line(
+    alloc: Global,
+    out: &mut Vec<u8>,
+    positions: &[OrderWord],
+) -> Result<(), AllocError>
+    requires { All IsWritableWord positions.now }
+    ensures { OnOk result (Adds out.old.items out.new.items (word_token (codes "ORDER") ∷ (positions_spelled positions.now ++ sign_token (codes ";") ∷ []))) }
+{
+    write_tokens(alloc, out, &[Written::Word(b"ORDER")])?;
+    write_positions(alloc, out, positions)?;
+    write_line(alloc, out, &[Written::Sign(b";")])
+}
+
+/// Writes the order line of a cube, if there is one.
+pub fn write_order(
+    alloc: Global,
+    out: &mut Vec<u8>,
+    order: &Option<(u32, OrderLine)>,
+) -> Result<(), AllocError>
+    requires { IfSome order.now (λ o. IsWritableOrder o.1) }
+    ensures { OnOk result (Adds out.old.items out.new.items (order_spelled order.now)) }
+{
+    match order {
+        Some((_, order)) => write_order_line(alloc, out, order.words.as_slice()),
+        None => Ok(()),
+    }
+}
