@@ -1,18 +1,8 @@
 -- Tokens of a model text that are added one after another.
 use Rattle.std.proofs.Common.{◌≡◌, ◌≤◌, ◌-◌, ℕ, List, [], ◌∷◌, ◌++◌, length, map, take, drop, get_or, sym, ap, ◌∙◌, append-nil, refl, arith}
 use Rattle.std.proofs.lemmas.List.{take_all}
-use Rattle.std.proofs.lemmas.List.Concat.{flat_map_single}
 use Rattle.std.specs.List.{flat_map}
 use Rattle.cube_lex.specs.Written.{Spelling, Adds}
-use Rattle.model_text.specs.Tokens.{token_of}
-use Rattle.model_text.specs.declared.writing.Written.{Written}
-
--- a list of one token
-abbrev pub single : Written → List Spelling
-single token = token_of token ∷ []
-
-pub singles : (tokens : List Written) → flat_map single tokens ≡ map token_of tokens
-singles tokens = flat_map_single token_of tokens
 
 -- the first of a list, and then the rest
 pub first_and_rest : {X : Type 0} (f g : X → List Spelling) (spelled : List X → List Spelling) → ((x : X) (rest : List X) → f x ++ flat_map g rest ≡ spelled (x ∷ rest)) → (xs : List X) (d : X) → 1 ≤ length xs

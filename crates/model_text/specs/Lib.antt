@@ -8,4 +8,3 @@ pub mod Views
 pub mod Answers
 pub mod Spelled
 pub mod Printed
-pub mod Tokens

@@ -9,9 +9,8 @@ ghost use Rattle.model_text.specs.Writable.{IsNameText, IsFileText, IsWritableCu
 use crate::order::OrderLine;
 use crate::order_printing::write_order;
 use crate::parts::CubeText;
-use crate::writing::{Written, write_line, write_tokens};
 use dim_name::Name;
-use dim_text::DimText;
+use dim_text::{DimText, Piece, write_line, write_pieces};
 use lists::ListOf;
 use std::alloc::{AllocError, Global};
 
@@ -37,7 +36,7 @@ fn write_number<'a>(
     ensures { OnOk result (Adds out.old.items out.new.items (dimension_spelled sign.now (get_or (dimension_names dims.now) number []))) }
 {
     let name = dimension_name(dims, number);
-    write_tokens(alloc, out, &[Written::Sign(sign), Written::Quoted(name)])
+    write_pieces(alloc, out, &[Piece::Sign(sign), Piece::Quoted(name)])
 }
 
 // Writes the dimensions of a cube behind the first.
@@ -78,10 +77,10 @@ fn write_head(alloc: Global, out: &mut Vec<u8>, name: &Name) -> Result<(), Alloc
     requires { IsNameText name.now }
     ensures { OnOk result (Adds out.old.items out.new.items (cube_head_spelled name.now)) }
 {
-    write_tokens(
+    write_pieces(
         alloc,
         out,
-        &[Written::Word(b"CUBE"), Written::Quoted(name.shown())],
+        &[Piece::Word(b"CUBE"), Piece::Quoted(name.shown())],
     )
 }
 
@@ -97,9 +96,9 @@ fn write_rules(
     match rules {
         Some((_, file)) => {
             let tokens = [
-                Written::Word(b"RULES"),
-                Written::Quoted(file.as_slice()),
-                Written::Sign(b";"),
+                Piece::Word(b"RULES"),
+                Piece::Quoted(file.as_slice()),
+                Piece::Sign(b";"),
             ];
             write_line(alloc, out, &tokens)
         }
@@ -118,10 +117,10 @@ fn write_end(
     requires order { IfSome order.now (λ o. IsWritableOrder o.1) }
     ensures { OnOk result (Adds out.old.items out.new.items (cube_end_spelled rules.now order.now)) }
 {
-    write_line(alloc, out, &[Written::Sign(b")"), Written::Sign(b";")])?;
+    write_line(alloc, out, &[Piece::Sign(b")"), Piece::Sign(b";")])?;
     write_rules(alloc, out, rules)?;
     write_order(alloc, out, order)?;
-    write_line(alloc, out, &[Written::Word(b"END"), Written::Sign(b";")])
+    write_line(alloc, out, &[Piece::Word(b"END"), Piece::Sign(b";")])
 }
 
 // Writes a cube.

@@ -19,7 +19,6 @@ mod reading;
 mod scripts;
 mod tokens;
 mod work;
-mod writing;
 
 pub use fault::{ModelTextCause, ModelTextFault};
 pub use model::ModelText;

@@ -6,8 +6,8 @@ ghost use Rattle.model_text.specs.Spelled.{rank_spelled, next_rank_spelled, rank
 ghost use Rattle.model_text.specs.Writable.{IsWritableRank, IsWritableWord, IsWritableOrder};
 
 use crate::order::{OrderLine, OrderWord};
-use crate::writing::{Written, write_line, write_tokens};
 use dim_name::Name;
+use dim_text::{Piece, write_line, write_pieces};
 use std::alloc::{AllocError, Global};
 
 // Writes an element and its rank.
@@ -17,10 +17,10 @@ fn write_rank(alloc: Global, out: &mut Vec<u8>, rank: &(Name, u32)) -> Result<()
 {
     let (name, number) = rank;
     let tokens = [
-        Written::Quoted(name.shown()),
-        Written::Whole(u64::from(*number)),
+        Piece::Quoted(name.shown()),
+        Piece::Whole(u64::from(*number)),
     ];
-    write_tokens(alloc, out, &tokens)
+    write_pieces(alloc, out, &tokens)
 }
 
 // Writes a further element and its rank.
@@ -28,7 +28,7 @@ fn write_next_rank(alloc: Global, out: &mut Vec<u8>, rank: &(Name, u32)) -> Resu
     requires { IsWritableRank rank.now }
     ensures { OnOk result (Adds out.old.items out.new.items (next_rank_spelled rank.now)) }
 {
-    write_tokens(alloc, out, &[Written::Sign(b",")])?;
+    write_pieces(alloc, out, &[Piece::Sign(b",")])?;
     write_rank(alloc, out, rank)
 }
 
@@ -69,13 +69,13 @@ fn write_listed(
     requires { IsWritableWord (OrderWord.Ranks name.now ranks.now) }
     ensures { OnOk result (Adds out.old.items out.new.items (position_spelled (OrderWord.Ranks name.now ranks.now))) }
 {
-    write_tokens(
+    write_pieces(
         alloc,
         out,
-        &[Written::Quoted(name.shown()), Written::Sign(b"(")],
+        &[Piece::Quoted(name.shown()), Piece::Sign(b"(")],
     )?;
     write_ranks(alloc, out, ranks)?;
-    write_tokens(alloc, out, &[Written::Sign(b")")])
+    write_pieces(alloc, out, &[Piece::Sign(b")")])
 }
 
 // Writes a position of an order line.
@@ -85,9 +85,9 @@ fn write_position(alloc: Global, out: &mut Vec<u8>, position: &OrderWord) -> Res
 {
     match position {
         OrderWord::Constant(number) => {
-            write_tokens(alloc, out, &[Written::Whole(u64::from(*number))])
+            write_pieces(alloc, out, &[Piece::Whole(u64::from(*number))])
         }
-        OrderWord::Index(name) => write_tokens(alloc, out, &[Written::Quoted(name.shown())]),
+        OrderWord::Index(name) => write_pieces(alloc, out, &[Piece::Quoted(name.shown())]),
         OrderWord::Ranks(name, ranks) => write_listed(alloc, out, name, ranks.as_slice()),
     }
 }
@@ -101,7 +101,7 @@ fn write_next_position(
     requires { IsWritableWord position.now }
     ensures { OnOk result (Adds out.old.items out.new.items (next_position_spelled position.now)) }
 {
-    write_tokens(alloc, out, &[Written::Sign(b",")])?;
+    write_pieces(alloc, out, &[Piece::Sign(b",")])?;
     write_position(alloc, out, position)
 }
 
@@ -145,9 +145,9 @@ fn write_order_line(
     requires { All IsWritableWord positions.now }
     ensures { OnOk result (Adds out.old.items out.new.items (word_token (codes "ORDER") ∷ (positions_spelled positions.now ++ sign_token (codes ";") ∷ []))) }
 {
-    write_tokens(alloc, out, &[Written::Word(b"ORDER")])?;
+    write_pieces(alloc, out, &[Piece::Word(b"ORDER")])?;
     write_positions(alloc, out, positions)?;
-    write_line(alloc, out, &[Written::Sign(b";")])
+    write_line(alloc, out, &[Piece::Sign(b";")])
 }
 
 /// Writes the order line of a cube, if there is one.

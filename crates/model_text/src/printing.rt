@@ -8,8 +8,7 @@ ghost use Rattle.model_text.specs.Writable.{IsWritableScript};
 use crate::cube_printing::write_cubes;
 use crate::model::ModelText;
 use crate::parts::ScriptText;
-use crate::writing::{Written, write_line};
-use dim_text::DimText;
+use dim_text::{DimText, Piece, write_line};
 use std::alloc::{AllocError, Global};
 
 // Writes the first statement.
@@ -17,9 +16,9 @@ fn write_opening(alloc: Global, out: &mut Vec<u8>, version: u32) -> Result<(), A
     ensures { OnOk result (Adds out.old.items out.new.items (opening_spelled version)) }
 {
     let tokens = [
-        Written::Word(b"MODEL"),
-        Written::Whole(u64::from(version)),
-        Written::Sign(b";"),
+        Piece::Word(b"MODEL"),
+        Piece::Whole(u64::from(version)),
+        Piece::Sign(b";"),
     ];
     write_line(alloc, out, &tokens)
 }
@@ -49,10 +48,10 @@ fn write_script(alloc: Global, out: &mut Vec<u8>, script: &ScriptText) -> Result
     ensures { OnOk result (Adds out.old.items out.new.items (script_spelled script.now)) }
 {
     let tokens = [
-        Written::Word(b"SCRIPT"),
-        Written::Quoted(script.name.shown()),
-        Written::Quoted(script.file.as_slice()),
-        Written::Sign(b";"),
+        Piece::Word(b"SCRIPT"),
+        Piece::Quoted(script.name.shown()),
+        Piece::Quoted(script.file.as_slice()),
+        Piece::Sign(b";"),
     ];
     write_line(alloc, out, &tokens)
 }

@@ -7,6 +7,6 @@ use Rattle.model_text.proofs.order_printing.write_listed.Goals as goal
 
 pub returns : goal.returns
 returns c =
-    then_adds c.write_tokens-2.result c.args.out.now.items c.write_tokens.new.out.items c.write_tokens-2.new.out.items (text_token c.args.name.now ∷ sign_token (codes "(") ∷ []) (ranks_spelled c.args.ranks.now ++ sign_token (codes ")") ∷ [])
-    (subst (λ n. Adds c.args.out.now.items c.write_tokens.new.out.items (text_token n ∷ sign_token (codes "(") ∷ [])) c.shown.ensures.value c.in_ok-write_tokens.ensures)
-    (then_adds c.write_tokens-2.result c.write_tokens.new.out.items c.write_ranks.new.out.items c.write_tokens-2.new.out.items (ranks_spelled c.args.ranks.now) (sign_token (codes ")") ∷ []) c.in_ok-write_ranks.ensures c.write_tokens-2.ensures)
+    then_adds c.write_pieces-2.result c.args.out.now.items c.write_pieces.new.out.items c.write_pieces-2.new.out.items (text_token c.args.name.now ∷ sign_token (codes "(") ∷ []) (ranks_spelled c.args.ranks.now ++ sign_token (codes ")") ∷ [])
+    (subst (λ n. Adds c.args.out.now.items c.write_pieces.new.out.items (text_token n ∷ sign_token (codes "(") ∷ [])) c.shown.ensures.value c.in_ok-write_pieces.ensures)
+    (then_adds c.write_pieces-2.result c.write_pieces.new.out.items c.write_ranks.new.out.items c.write_pieces-2.new.out.items (ranks_spelled c.args.ranks.now) (sign_token (codes ")") ∷ []) c.in_ok-write_ranks.ensures c.write_pieces-2.ensures)

@@ -5,4 +5,4 @@ use Rattle.model_text.specs.Spelled.{position_spelled}
 use Rattle.model_text.proofs.order_printing.write_next_position.Goals as goal
 
 pub returns : goal.returns
-returns c = then_adds c.write_position.result c.args.out.now.items c.write_tokens.new.out.items c.write_position.new.out.items (sign_token (codes ",") ∷ []) (position_spelled c.args.position.now) c.in_ok-write_tokens.ensures c.write_position.ensures
+returns c = then_adds c.write_position.result c.args.out.now.items c.write_pieces.new.out.items c.write_position.new.out.items (sign_token (codes ",") ∷ []) (position_spelled c.args.position.now) c.in_ok-write_pieces.ensures c.write_position.ensures

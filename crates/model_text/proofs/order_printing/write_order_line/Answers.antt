@@ -6,5 +6,5 @@ use Rattle.model_text.proofs.order_printing.write_order_line.Goals as goal
 
 pub returns : goal.returns
 returns c =
-    then_adds c.write_line.result c.args.out.now.items c.write_tokens.new.out.items c.write_line.new.out.items (word_token (codes "ORDER") ∷ []) (positions_spelled c.args.positions.now ++ sign_token (codes ";") ∷ []) c.in_ok-write_tokens.ensures
-    (then_adds c.write_line.result c.write_tokens.new.out.items c.write_positions.new.out.items c.write_line.new.out.items (positions_spelled c.args.positions.now) (sign_token (codes ";") ∷ []) c.in_ok-write_positions.ensures c.write_line.ensures)
+    then_adds c.write_line.result c.args.out.now.items c.write_pieces.new.out.items c.write_line.new.out.items (word_token (codes "ORDER") ∷ []) (positions_spelled c.args.positions.now ++ sign_token (codes ";") ∷ []) c.in_ok-write_pieces.ensures
+    (then_adds c.write_line.result c.write_pieces.new.out.items c.write_positions.new.out.items c.write_line.new.out.items (positions_spelled c.args.positions.now) (sign_token (codes ";") ∷ []) c.in_ok-write_positions.ensures c.write_line.ensures)
