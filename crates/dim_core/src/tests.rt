@@ -1,188 +1,241 @@
-use crate::{Builder, DimFault, Dimension, Name};
+use crate::{Attribute, Builder, DimFault, Dimension, Name};
 use std::alloc::Global;
 use std::test::Fail;
 
-fn name(alloc: Global, text: &str) -> Result<Name, Fail> {
-    Ok(Name::new(alloc, text.as_bytes())?)
+// A call of a builder.
+enum Call<'a> {
+    Leaf(&'a str),
+    Consolidated(&'a str, &'a [(&'a str, i64)]),
+    Attribute(&'a str, &'a str, &'a str),
 }
 
-// A dimension of the leaf Leaf and these consolidations, each of one part.
-fn chain(alloc: Global, elements: &[(&str, &str)]) -> Result<Builder, Fail> {
-    let mut builder = Builder::new(alloc, name(alloc, "Chain")?)?;
-    builder.leaf(name(alloc, "Leaf")?)?;
-    for (element, part) in elements {
-        let parts = vec![in alloc; (name(alloc, part)?, -2)]?;
-        builder.consolidated(name(alloc, element)?, parts)?;
+fn name(alloc: Global, text: &str) -> Result<Name, DimFault> {
+    match Name::new(alloc, text.as_bytes()) {
+        Ok(name) => Ok(name),
+        Err(_) => Err(DimFault::Memory),
     }
-    Ok(builder)
 }
 
-#[test]
-fn orders_components_before_what_they_are_components_of(rt: HostRuntime) -> Result<(), Fail> {
-    let alloc = rt.alloc();
-    let chain = chain(alloc, &[("Year", "Half"), ("Half", "leaf")])?.finish()?;
-    assert_eq!(rt; chain.len(), 3);
-    assert_eq!(rt; chain.components(1), [(2, -2)].as_slice());
-    assert_eq!(rt; chain.order(), [0, 2, 1].as_slice());
-    assert_eq!(rt; chain.index_of(&name(alloc, "h alf")?), Some(2));
-    assert_eq!(rt; chain.index_of(&name(alloc, "Quarter")?), None);
+fn parts(alloc: Global, shown: &[(&str, i64)]) -> Result<Vec<(Name, i64)>, DimFault> {
+    let mut parts = Vec::new(alloc);
+    for (part, weight) in shown {
+        parts.push((name(alloc, part)?, *weight))?;
+    }
+    Ok(parts)
+}
+
+fn add_attribute(
+    alloc: Global,
+    builder: &mut Builder,
+    element: &str,
+    attribute: &str,
+    text: &str,
+) -> Result<(), DimFault> {
+    let element = name(alloc, element)?;
+    let attribute = name(alloc, attribute)?;
+    let text = text.as_bytes().to_vec(alloc)?;
+    builder.attribute(element, attribute, text)?;
     Ok(())
 }
 
-#[test]
-fn looks_up_the_elements_of_a_chain(rt: HostRuntime) -> Result<(), Fail> {
-    let chain = chain(rt.alloc(), &[("Year", "Leaf")])?.finish()?;
-    assert_eq!(rt; chain.len(), 2);
-    assert_eq!(rt; chain.name().shown(), b"Chain".as_slice());
-    assert_eq!(rt; chain.name_of(1).shown(), b"Year".as_slice());
-    assert!(rt; chain.is_leaf(0));
-    assert!(rt; !chain.is_leaf(1));
-    Ok(())
+fn make(alloc: Global, builder: &mut Builder, call: &Call<'_>) -> Result<(), DimFault> {
+    match call {
+        Call::Leaf(element) => builder.leaf(name(alloc, element)?),
+        Call::Consolidated(element, shown) => {
+            let parts = parts(alloc, shown)?;
+            builder.consolidated(name(alloc, element)?, parts)
+        }
+        Call::Attribute(element, attribute, text) => {
+            add_attribute(alloc, builder, element, attribute, text)
+        }
+    }
 }
 
-#[test]
-fn refuses_a_second_name_and_a_heavy_part(rt: HostRuntime) -> Result<(), Fail> {
-    let alloc = rt.alloc();
-    let mut builder = chain(alloc, &[])?;
-    let duplicate = matches!(
-        builder.leaf(name(alloc, "LE AF")?),
-        Err(DimFault::Duplicate)
-    );
-    assert!(rt; duplicate);
-    let heavy = vec![in alloc; (name(alloc, "Leaf")?, 1_000_001)]?;
-    let refused = matches!(
-        builder.consolidated(name(alloc, "Year")?, heavy),
-        Err(DimFault::WeightRange)
-    );
-    assert!(rt; refused);
-    Ok(())
-}
-
-#[test]
-fn names_the_first_element_of_a_loop(rt: HostRuntime) -> Result<(), Fail> {
-    // Top stands above the loop of C, B and A
-    let ring = chain(
-        rt.alloc(),
-        &[("Top", "C"), ("C", "B"), ("B", "A"), ("A", "C")],
-    )?;
-    assert!(rt; matches!(ring.finish(), Err(DimFault::Loop(2))));
-    let short = chain(rt.alloc(), &[("Year", "Leaf"), ("Half", "Feb")])?;
-    assert!(rt; matches!(short.finish(), Err(DimFault::UnknownComponent(2))));
-    Ok(())
-}
-
-// The month January and February with the texts of these calls.
-fn months(alloc: Global, calls: &[(&str, &str, &str)]) -> Result<Builder, Fail> {
+// What these calls define.
+fn defined(alloc: Global, calls: &[Call<'_>]) -> Result<Dimension, DimFault> {
     let mut builder = Builder::new(alloc, name(alloc, "Month")?)?;
-    for (element, attribute, text) in calls {
-        builder.attribute(
-            name(alloc, element)?,
-            name(alloc, attribute)?,
-            text.as_bytes().to_vec(alloc)?,
-        )?;
+    for call in calls {
+        make(alloc, &mut builder, call)?;
     }
-    builder.leaf(name(alloc, "Jan")?)?;
-    builder.leaf(name(alloc, "Feb")?)?;
-    Ok(builder)
+    builder.finish()
 }
 
-// A quarter of both months, named otherwise than they are spelled.
-fn quarter(alloc: Global) -> Result<Dimension, Fail> {
-    let mut builder = months(alloc, &[])?;
-    let parts = vec![in alloc; (name(alloc, "jan")?, 1), (name(alloc, "FEB")?, -2)]?;
-    builder.consolidated(name(alloc, "Q1")?, parts)?;
-    Ok(builder.finish()?)
+// Why these calls are refused.
+fn refusal(alloc: Global, calls: &[Call<'_>]) -> (&'static str, u64) {
+    match defined(alloc, calls) {
+        Ok(_) => ("none", 0),
+        Err(DimFault::Duplicate) => ("Duplicate", 0),
+        Err(DimFault::UnknownComponent(element)) => ("UnknownComponent", u64::from(element)),
+        Err(DimFault::Loop(element)) => ("Loop", u64::from(element)),
+        Err(DimFault::WeightRange) => ("WeightRange", 0),
+        Err(DimFault::TooMany) => ("TooMany", 0),
+        Err(DimFault::BadAttribute(call)) => ("BadAttribute", call),
+        Err(DimFault::Memory) => ("Memory", 0),
+    }
 }
 
 #[test]
-fn a_consolidation_has_several_parts(rt: HostRuntime) -> Result<(), Fail> {
-    let month = quarter(rt.alloc())?;
-    assert_eq!(rt; month.len(), 3);
-    assert_eq!(rt; month.components(2), [(0, 1), (1, -2)].as_slice());
-    assert_eq!(rt; month.name_of(1).shown(), b"Feb".as_slice());
-    Ok(())
+fn refuses_what_cannot_be_defined(rt: HostRuntime) {
+    let cases: [(&[Call<'static>], &str, u64); 4] = [
+        (&[Call::Leaf("Leaf"), Call::Leaf("LE AF")], "Duplicate", 0),
+        (
+            &[
+                Call::Leaf("Leaf"),
+                Call::Consolidated("Year", &[("Leaf", 1_000_001)]),
+            ],
+            "WeightRange",
+            0,
+        ),
+        (
+            &[
+                Call::Leaf("Leaf"),
+                Call::Consolidated("Year", &[("Leaf", -2)]),
+                Call::Consolidated("Half", &[("Feb", -2)]),
+            ],
+            "UnknownComponent",
+            2,
+        ),
+        // Top stands above the loop of C, B and A
+        (
+            &[
+                Call::Leaf("Leaf"),
+                Call::Consolidated("Top", &[("C", -2)]),
+                Call::Consolidated("C", &[("B", -2)]),
+                Call::Consolidated("B", &[("A", -2)]),
+                Call::Consolidated("A", &[("C", -2)]),
+            ],
+            "Loop",
+            2,
+        ),
+    ];
+    for (calls, cause, place) in cases {
+        assert_eq!(rt; refusal(rt.alloc(), calls), (cause, place));
+    }
 }
 
 #[test]
-fn looks_up_names_however_they_are_spelled(rt: HostRuntime) -> Result<(), Fail> {
-    let alloc = rt.alloc();
-    let month = quarter(alloc)?;
-    for (text, index) in [("q 1", Some(2)), ("Mar", None)] {
-        assert_eq!(rt; month.index_of(&name(alloc, text)?), index);
+fn names_the_first_bad_attribute_by_its_call(rt: HostRuntime) {
+    let cases: [(&[Call<'static>], u64); 3] = [
+        (
+            &[
+                Call::Attribute("Feb", "Prev", "Jan"),
+                Call::Attribute("f eb", "PREV", ""),
+                Call::Leaf("Feb"),
+            ],
+            2,
+        ),
+        (
+            &[
+                Call::Attribute("Feb", "Prev", "Jan"),
+                Call::Attribute("Mar", "Prev", "Feb"),
+                Call::Leaf("Feb"),
+            ],
+            2,
+        ),
+        (
+            &[
+                Call::Attribute("Feb", "Prev", "Jan"),
+                Call::Attribute("Jan", "Prev", ""),
+                Call::Attribute("Mar", "Prev", "Feb"),
+                Call::Leaf("Jan"),
+                Call::Leaf("Feb"),
+            ],
+            3,
+        ),
+    ];
+    for (calls, call) in cases {
+        assert_eq!(rt; refusal(rt.alloc(), calls), ("BadAttribute", call));
+    }
+}
+
+// Months, of which the last is defined before its parts, with three attributes.
+fn months(alloc: Global) -> Result<Dimension, DimFault> {
+    defined(
+        alloc,
+        &[
+            Call::Attribute("feb", "Prev", "Jan"),
+            Call::Attribute("Jan", "PREV", ""),
+            Call::Attribute("Feb", "Long", "February"),
+            Call::Leaf("Jan"),
+            Call::Leaf("Feb"),
+            Call::Consolidated("Year", &[("Half", -2)]),
+            Call::Consolidated("Half", &[("jan", 1), ("FEB", -2)]),
+        ],
+    )
+}
+
+fn has_element(months: &Dimension, element: u32, shown: &[u8], parts: &[(u32, i64)]) -> bool {
+    element < months.len()
+        && months.name_of(element).shown() == shown
+        && months.is_leaf(element) == parts.is_empty()
+        && months.components(element) == parts
+}
+
+#[test]
+fn keeps_elements_and_an_order_with_components_first(rt: HostRuntime) -> Result<(), Fail> {
+    let months = months(rt.alloc())?;
+    let order: [u32; 4] = [0, 1, 3, 2];
+    assert!(rt; months.len() == 4 && months.name().shown() == b"Month".as_slice());
+    assert!(rt; has_element(&months, 1, b"Feb", &[]));
+    assert!(rt; has_element(&months, 2, b"Year", &[(3, -2)]));
+    assert!(rt; has_element(&months, 3, b"Half", &[(0, 1), (1, -2)]));
+    assert!(rt; months.order() == order.as_slice());
+    Ok(())
+}
+
+fn index(alloc: Global, months: &Dimension, text: &str) -> Result<Option<u32>, DimFault> {
+    Ok(months.index_of(&name(alloc, text)?))
+}
+
+#[test]
+fn finds_elements_however_they_are_spelled(rt: HostRuntime) -> Result<(), Fail> {
+    let months = months(rt.alloc())?;
+    for (text, found) in [("h alf", Some(3)), ("JAN", Some(0)), ("Mar", None)] {
+        assert_eq!(rt; index(rt.alloc(), &months, text)?, found);
     }
     Ok(())
+}
+
+fn is_attribute(attribute: &Attribute, element: u32, shown: &[u8], text: &[u8]) -> bool {
+    attribute.element == element
+        && attribute.name.shown() == shown
+        && attribute.text.as_slice() == text
+}
+
+// Whether these attributes are those of the months, in the order of their calls.
+fn are_listed(attributes: &[Attribute]) -> bool {
+    match attributes {
+        [first, second, third] => {
+            is_attribute(first, 1, b"Prev", b"Jan")
+                && is_attribute(second, 0, b"PREV", b"")
+                && is_attribute(third, 1, b"Long", b"February")
+        }
+        _ => false,
+    }
+}
+
+fn has_text(
+    alloc: Global,
+    months: &Dimension,
+    element: u32,
+    attribute: &str,
+    text: &str,
+) -> Result<bool, DimFault> {
+    Ok(months.attribute(element, &name(alloc, attribute)?) == text.as_bytes())
 }
 
 #[test]
 fn keeps_attributes(rt: HostRuntime) -> Result<(), Fail> {
-    let alloc = rt.alloc();
-    let month = months(alloc, &[("feb", "Prev", "Jan"), ("Jan", "Long", "")])?.finish()?;
-    for (element, attribute, text) in [(1, "p rev", "Jan"), (0, "Prev", ""), (1, "Short", "")] {
-        let attribute = name(alloc, attribute)?;
-        assert_eq!(rt; month.attribute(element, &attribute), text.as_bytes());
-    }
-    assert_eq!(rt; month.attributes().len(), 2);
-    assert_eq!(rt; month.attributes()[1].element, 0);
-    assert_eq!(rt; month.attributes()[1].name.shown(), b"Long".as_slice());
-    Ok(())
-}
-
-// Attributes of both months, not in the order of the months.
-fn described(alloc: Global) -> Result<Dimension, Fail> {
-    let calls = [
-        ("feb", "Prev", "Jan"),
-        ("Jan", "PREV", ""),
-        ("Feb", "Long", "February"),
-    ];
-    Ok(months(alloc, &calls)?.finish()?)
-}
-
-#[test]
-fn lists_attributes_in_the_order_of_their_calls(rt: HostRuntime) -> Result<(), Fail> {
-    let month = described(rt.alloc())?;
-    let attributes = month.attributes();
-    assert_eq!(rt; attributes.len(), 3);
-    assert_eq!(rt; attributes[1].element, 0);
-    assert_eq!(rt; attributes[1].name.shown(), b"PREV".as_slice());
-    assert_eq!(rt; attributes[2].text.as_slice(), b"February".as_slice());
-    Ok(())
-}
-
-#[test]
-fn an_element_has_several_attributes(rt: HostRuntime) -> Result<(), Fail> {
-    let alloc = rt.alloc();
-    let month = described(alloc)?;
+    let months = months(rt.alloc())?;
+    assert!(rt; are_listed(months.attributes()));
     for (element, attribute, text) in [
-        (1, "Prev", "Jan"),
+        (1, "p rev", "Jan"),
         (1, "Long", "February"),
+        (0, "Prev", ""),
         (0, "Long", ""),
+        (1, "Short", ""),
     ] {
-        let attribute = name(alloc, attribute)?;
-        assert_eq!(rt; month.attribute(element, &attribute), text.as_bytes());
+        assert!(rt; has_text(rt.alloc(), &months, element, attribute, text)?);
     }
-    Ok(())
-}
-
-#[test]
-fn counts_attribute_calls_from_one(rt: HostRuntime) -> Result<(), Fail> {
-    let calls = [
-        ("Feb", "Prev", "Jan"),
-        ("Jan", "Prev", ""),
-        ("Mar", "Prev", "Feb"),
-    ];
-    let unknown = months(rt.alloc(), &calls)?;
-    assert!(rt; matches!(unknown.finish(), Err(DimFault::BadAttribute(3))));
-    Ok(())
-}
-
-#[test]
-fn names_the_first_bad_attribute(rt: HostRuntime) -> Result<(), Fail> {
-    let repeated = months(rt.alloc(), &[("Feb", "Prev", "Jan"), ("f eb", "PREV", "")])?;
-    assert!(rt; matches!(repeated.finish(), Err(DimFault::BadAttribute(2))));
-    let unknown = months(
-        rt.alloc(),
-        &[("Feb", "Prev", "Jan"), ("Mar", "Prev", "Feb")],
-    )?;
-    assert!(rt; matches!(unknown.finish(), Err(DimFault::BadAttribute(2))));
     Ok(())
 }
