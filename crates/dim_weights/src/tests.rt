@@ -15,15 +15,6 @@ fn parts(alloc: Global, components: &[(&str, i64)]) -> Result<Vec<(Name, i64)>, 
     Ok(parts)
 }
 
-// A dimension of these elements, each with its components. A leaf has none.
-fn dimension(alloc: Global, elements: &[(&str, &[(&str, i64)])]) -> Result<Dimension, Fail> {
-    let mut builder = Builder::new(alloc, name(alloc, "Account")?)?;
-    for (element, components) in elements {
-        builder.consolidated(name(alloc, element)?, parts(alloc, components)?)?;
-    }
-    Ok(builder.finish()?)
-}
-
 // H1 over Jan and twice Q1, a component that is named twice, and ways that cancel each other.
 fn months(alloc: Global) -> Result<Weights, Fail> {
     let elements: [(&str, &[(&str, i64)]); 6] = [
@@ -34,7 +25,11 @@ fn months(alloc: Global) -> Result<Weights, Fail> {
         ("Twice", &[("Feb", 5), ("Feb", 5)]),
         ("Nothing", &[("Q1", 1), ("Feb", -1), ("Jan", -1)]),
     ];
-    Ok(Weights::of(alloc, &dimension(alloc, &elements)?)?)
+    let mut builder = Builder::new(alloc, name(alloc, "Month")?)?;
+    for (element, components) in elements {
+        builder.consolidated(name(alloc, element)?, parts(alloc, components)?)?;
+    }
+    Ok(Weights::of(alloc, &builder.finish()?)?)
 }
 
 #[test]
@@ -88,7 +83,11 @@ fn billion(alloc: Global, more: i64) -> Result<Dimension, Fail> {
         ("Top", &[("Billion", 1)]),
         ("Billion", &[("Million", 1_000), ("Leaf", more)]),
     ];
-    dimension(alloc, &elements)
+    let mut builder = Builder::new(alloc, name(alloc, "Past")?)?;
+    for (element, components) in elements {
+        builder.consolidated(name(alloc, element)?, parts(alloc, components)?)?;
+    }
+    Ok(builder.finish()?)
 }
 
 #[test]
@@ -109,31 +108,29 @@ fn a_coefficient_above_the_limit_is_refused(rt: HostRuntime) -> Result<(), Fail>
     Ok(())
 }
 
+fn numbered(alloc: Global, text: &str, number: u32) -> Result<Name, Fail> {
+    let text = format!(in alloc; "{text} {number}")?;
+    name(alloc, text.as_str())
+}
+
 // 2,000 leaves and their total.
 fn total(alloc: Global) -> Result<Builder, Fail> {
     let mut builder = Builder::new(alloc, name(alloc, "Wide")?)?;
     let mut leaves = Vec::new(alloc);
     for leaf in 0..2000 {
-        let text = format!(in alloc; "Leaf {leaf}")?;
-        builder.leaf(name(alloc, text.as_str())?)?;
-        leaves.push((name(alloc, text.as_str())?, 1))?;
+        builder.leaf(numbered(alloc, "Leaf", leaf)?)?;
+        leaves.push((numbered(alloc, "Leaf", leaf)?, 1))?;
     }
     builder.consolidated(name(alloc, "Total")?, leaves)?;
     Ok(builder)
 }
 
-// Defines an element of another one alone.
-fn copy(builder: &mut Builder, alloc: Global, element: &str, other: &str) -> Result<(), Fail> {
-    builder.consolidated(name(alloc, element)?, parts(alloc, &[(other, 1)])?)?;
-    Ok(())
-}
-
 // The leaves, their total, and as many copies of it as make four million pairs.
 fn wide(alloc: Global) -> Result<Builder, Fail> {
     let mut builder = total(alloc)?;
-    for number in 0..1998 {
-        let text = format!(in alloc; "Copy {number}")?;
-        copy(&mut builder, alloc, text.as_str(), "Total")?;
+    for copy in 0..1998 {
+        let parts = parts(alloc, &[("Total", 1)])?;
+        builder.consolidated(numbered(alloc, "Copy", copy)?, parts)?;
     }
     Ok(builder)
 }
@@ -149,7 +146,8 @@ fn pairs_go_up_to_a_limit(rt: HostRuntime) -> Result<(), Fail> {
 #[test]
 fn a_pair_above_the_limit_is_refused(rt: HostRuntime) -> Result<(), Fail> {
     let mut builder = wide(rt.alloc())?;
-    copy(&mut builder, rt.alloc(), "More", "Leaf 7")?;
+    let parts = parts(rt.alloc(), &[("Leaf 7", 1)])?;
+    builder.consolidated(name(rt.alloc(), "More")?, parts)?;
     let refused = Weights::of(rt.alloc(), &builder.finish()?);
     assert!(rt; matches!(refused, Err(WeightFault::TooManyPairs(4_000_001))));
     Ok(())

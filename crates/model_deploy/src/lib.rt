@@ -12,3 +12,6 @@ mod products;
 
 pub use deploying::deploy;
 pub use fault::{DeployCause, DeployFault};
+
+#[cfg(test)]
+mod tests;
