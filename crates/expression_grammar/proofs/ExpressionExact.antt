@@ -25,7 +25,7 @@ module _ {A O R C : Type 0} {scan : Scanner R C} {L : Language A O} {primary : P
 
   -- what an expression begins with, by what a primary, `(`, `-` and `~` are
   pub expression_begins : {p : Lexeme → Bool} {b : Bool} → Begins (one (sign (codes "("))) p b → Begins (one (sign (codes "-"))) p b → Begins (one (sign (codes "~"))) p b → ((V T : Grammar Lexeme A) → Begins (primary V T) p b) → (sort : Sort) → Begins (expression L primary sort) p b
-  expression_begins open minus tilde primaries sort = ?
+  expression_begins parenthesis minus tilde primaries sort = ?
 
   pub value_shortens : (k : ℕ) → Shortens (tree_of (read_expression scan L read k wants.Value))
   value_shortens k = ?
