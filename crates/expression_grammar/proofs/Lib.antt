@@ -1,0 +1,3 @@
+pub mod Languages
+pub mod Operators
+pub mod ExpressionExact
