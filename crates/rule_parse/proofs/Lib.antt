@@ -1,0 +1,2 @@
+mod Operators
+mod Keeps
