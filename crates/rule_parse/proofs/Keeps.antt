@@ -1,5 +1,5 @@
 -- No reader leaves more tokens than it was given, and one that begins with a token leaves fewer. So loops end.
-use Rattle.std.proofs.Common.{◌≡◌, ℕ, ◌<◌, ◌≤◌, zero, suc, List, [], ◌∷◌, length, Option, Some, None, Result, Ok, Err, Bool, true, false, refl, arith, if◌then◌else◌}
+use Rattle.std.proofs.Common.{◌≡◌, ℕ, ◌<◌, ◌≤◌, zero, suc, List, [], ◌∷◌, length, Option, Some, None, Result, Ok, Err, Bool, true, false, refl, ap, arith, if◌then◌else◌}
 use Rattle.grammar.specs.Reading.{Read, Reader, gives, taken, take_one, bound, both_of, choose, turn, repeat, all_of, starts}
 
 pub record Keeps {T R C A : Type 0} (P : Reader T R C A) : Type 0 where
@@ -11,15 +11,21 @@ pub record Shortens {T R C A : Type 0} (P : Reader T R C A) : Type 0 where
 pub shorter_keeps : {T R C A : Type 0} {P : Reader T R C A} → Shortens P → Keeps P
 shorter_keeps s = record { at = λ n ts a m rest e. (let fewer = s.at n ts a m rest e in omega (arith, fewer)) }
 
+left_of : {T R C A : Type 0} → Read T R C A → List T
+left_of (Ok x) = x.2
+left_of (Err halt) = []
+
 gives_at : {T R C A : Type 0} (x : A) (n : R) (ts : List T) (a : A) (m : R) (rest : List T) → gives {C = C} x n ts ≡ Ok (a, m, rest) → length rest ≤ length ts
-gives_at x n ts a m rest e = let same : ts ≡ rest = cc e in omega (arith, ap length same)
+unfolding left_of
+gives_at x n ts a m rest e = let same : ts ≡ rest = ap left_of e in omega (arith, ap length same)
 
 pub keeps_gives : {T R C A : Type 0} (x : A) → Keeps {T = T} {R = R} {C = C} (gives x)
 keeps_gives x = record { at = gives_at x }
 
 taken_at : {T R C A : Type 0} (o : Option A) (r : Result R C) (ts : List T) (a : A) (m : R) (rest : List T) → taken o r ts ≡ Ok (a, m, rest) → ts ≡ rest
+unfolding left_of
 taken_at None r ts a m rest e = cc e
-taken_at (Some x) (Ok s) ts a m rest e = cc e
+taken_at (Some x) (Ok s) ts a m rest e = ap left_of e
 taken_at (Some x) (Err cause) ts a m rest e = cc e
 
 one_at : {T R C A : Type 0} (scan : R → T → Result R C) (pick : T → Option A) (n : R) (ts : List T) (a : A) (m : R) (rest : List T) → take_one scan pick n ts ≡ Ok (a, m, rest) → length rest < length ts

@@ -1,2 +1,4 @@
 mod Operators
 mod Keeps
+mod Lengths
+mod Folding

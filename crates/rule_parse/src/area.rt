@@ -1,4 +1,4 @@
-ghost use Rattle.std.specs.Prelude.{[], ◌∷◌, ◌≡◌, ◌<◌, length, OnOk, IfOk};
+ghost use Rattle.std.specs.Prelude.{[], ◌∷◌, ◌≡◌, IfOk};
 ghost use Rattle.grammar.specs.Cursor.{Reads};
 ghost use Rattle.rule_parse.specs.TextReading as reading;
 
@@ -13,8 +13,7 @@ use std::alloc::{AllocError, Global};
 /// Reads a further name, behind its `,`.
 #[tactic(auto, unfolding(crate::specs::TextReading::read_next_name))]
 fn next_name_at(alloc: Global, cursor: &mut Cursor<'_, Counted>) -> Result<Name, Stop<Excess>>
-    ensures read { Reads (λ name. name) reading.read_next_name cursor.old result cursor.new }
-    ensures shorter { OnOk result (length cursor.new.tokens.now < length cursor.old.tokens.now) }
+    ensures { Reads (λ name. name) reading.read_next_name cursor.old result cursor.new }
 {
     sign(cursor, b",")?;
     name(alloc, cursor)

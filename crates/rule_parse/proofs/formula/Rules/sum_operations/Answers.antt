@@ -1,0 +1,27 @@
+use Rattle.std.proofs.Common.{Ok, sym, ◌∙◌, ap, arith}
+use Rattle.std.proofs.lemmas.List.{length-map}
+use Rattle.grammar.specs.Cursor.{lexemes}
+use Rattle.expression_grammar.specs.Reading as expressions
+use Rattle.expression_grammar.specs.Language.{is_operator}
+use Rattle.expression_grammar.specs.declared.sort.Want.TheVariants as wants
+use Rattle.rule_parse.specs.Levels.{table, read_product, read_operation, read_behind}
+use Rattle.rule_parse.specs.declared.operator.Level.TheVariants as levels
+use Rattle.rule_parse.specs.declared.tree.Tree.TheVariants as trees
+use Rattle.rule_parse.proofs.Folding.{begun_folding, folds_further, is_folded}
+use Rattle.rule_parse.proofs.Lengths.{operation_shortens, right_term_keeps}
+use Rattle.rule_parse.proofs.formula.Rules.sum_operations.Goals as goal
+
+pub sum-init : goal.sum-init
+unfolding expressions.read_behind
+sum-init g c = begun_folding (is_operator (table levels.Sum)) (read_operation levels.Sum (read_product c.args.self.now.left wants.Value)) (λ o left right. trees.Binary o left right) c.args.head.0 c.args.head.1 c.args.cursor.now.state (lexemes c.args.cursor.now.tokens.now)
+
+pub sum-preserved : goal.sum-preserved
+sum-preserved g c = folds_further c.sum.invariant c.sum-test.ensures c.in_ok-sum_operation.ensures ((operation_shortens levels.Sum (right_term_keeps c.args.self.now.left)).at _ _ _ _ _ c.in_ok-sum_operation.ensures) c.in_ok-joined.ensures
+
+pub sum-smaller : goal.sum-smaller
+sum-smaller g c =
+    let fewer = (operation_shortens levels.Sum (right_term_keeps c.args.self.now.left)).at _ _ _ _ _ c.in_ok-sum_operation.ensures in
+    omega (arith, simp length-map at fewer)
+
+pub returns : goal.returns
+returns g c = is_folded c.sum.invariant c.sum-test.ensures
