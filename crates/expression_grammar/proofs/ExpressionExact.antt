@@ -33,7 +33,6 @@ module _ {A O : Type 0} (L : Language A O) (primary : Primaries A) where
   back_within h want u (e, sorts.Value) k = k
   back_within h want u (e, sorts.Truth) k = k
 
-
 -- an operand without operations
 no_operations : {A O : Type 0} (joined : O → A → A → A) (table : Table O) (G : Grammar Lexeme A) (u : List Lexeme) (e : A) → G u e → chain joined table G u e
 no_operations joined table G u e h = (u, [], e, sym (append-nil u), h, ([], [], [], refl, refl, (refl, refl)))

@@ -154,5 +154,5 @@ module _ {A R C : Type 0} (scan : Scanner R C) (before : List ℕ) (make : A →
       → Exact (each_token scan) (sorted (changed s (prefixed before make) F) want) (sorted (changed s (prefixed before make) H) want) (choose (is_sign before) (both_of (take_one scan (sign before)) (λ _. both_of Q (λ x. gives (make x.0, s)))) P) S
   exact_prefixed F H s want fit begins e e' = exact_by (into_prefixed F s want fit) (back_prefixed H s want)
       (exact_or (is_sign before) with_sign (record { at = λ u x h. (begins x.1).at u x.0 h.1 }) (exact_then (exact_sign scan before) (λ _. exact_of_sort F H (λ e. (make e, s)) s e)) e') where
-    with_sign : Begins (signed H s) (is_sign before) true
-    with_sign = subst (Begins (signed H s) (is_sign before)) (bytes_eq_self before) (begins_both (sign_begins before before))
+        with_sign : Begins (signed H s) (is_sign before) true
+        with_sign = subst (Begins (signed H s) (is_sign before)) (bytes_eq_self before) (begins_both (sign_begins before before))
