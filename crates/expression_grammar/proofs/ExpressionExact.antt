@@ -1,11 +1,12 @@
 -- The readers of expressions are exact, for each language.
-use Rattle.std.proofs.Common.{ℕ, zero, suc, List, [], ◌++◌, Bool, true, refl, sym, inr, append-nil, codes}
+use Rattle.std.proofs.Common.{ℕ, zero, suc, List, [], ◌++◌, Bool, true, false, refl, sym, inr, append-nil, codes}
 use Rattle.cube_lex.specs.Lexeme.{Lexeme}
 use Rattle.grammar.specs.Grammar.{Grammar, one}
-use Rattle.grammar.specs.Tokens.{sign}
+use Rattle.grammar.specs.Tokens.{sign, is_sign}
 use Rattle.grammar.specs.Watch.{each_token}
 use Rattle.grammar.proofs.Exact.{Exact, Outcome, Agrees, Not, exact_by}
 use Rattle.grammar.proofs.Begins.{Begins}
+use Rattle.grammar.proofs.Tokens.{sign_begins}
 use Rattle.grammar.proofs.Many.{Shortens, shortens}
 use Rattle.expression_grammar.specs.Language.{Table, Language}
 use Rattle.expression_grammar.specs.Expression.{Primaries, chain, within, expression}
@@ -33,6 +34,12 @@ module _ {A O : Type 0} (L : Language A O) (primary : Primaries A) where
   back_within h want u (e, sorts.Value) k = k
   back_within h want u (e, sorts.Truth) k = k
 
+  -- what it begins with, by what `(`, `-`, `~` and the primaries begin with
+  within_begins : {p : Lexeme → Bool} {b : Bool} → Begins (one (sign (codes "("))) p b → Begins (one (sign (codes "-"))) p b → Begins (one (sign (codes "~"))) p b → ((V T : Grammar Lexeme A) → Begins (primary V T) p b) → (h : ℕ) (sort : Sort) → Begins (within L primary h sort) p b
+  within_begins parenthesis minus tilde primaries zero sort = record { at = λ u e h. absurd h }
+  within_begins parenthesis minus tilde primaries (suc h) sorts.Value = disjunctions_begin L primary (within L primary h) parenthesis primaries minus tilde sorts.Value
+  within_begins parenthesis minus tilde primaries (suc h) sorts.Truth = disjunctions_begin L primary (within L primary h) parenthesis primaries minus tilde sorts.Truth
+
 -- an operand without operations
 no_operations : {A O : Type 0} (joined : O → A → A → A) (table : Table O) (G : Grammar Lexeme A) (u : List Lexeme) (e : A) → G u e → chain joined table G u e
 no_operations joined table G u e h = (u, [], e, sym (append-nil u), h, ([], [], [], refl, refl, (refl, refl)))
@@ -58,9 +65,12 @@ module _ {A O R C : Type 0} {scan : Scanner R C} {L : Language A O} {primary : P
   abbrev IsExactWithin : ℕ → ℕ → Want → Type 0
   IsExactWithin k h want = Exact (each_token scan) (sorted (within L primary (suc k)) want) (sorted (within L primary h) want) (read_expression scan L read k want) (Not (goes_on L))
 
+  no_closing : (h : ℕ) (sort : Sort) → Begins (within L primary h sort) (is_sign (codes ")")) false
+  no_closing = within_begins L primary (sign_begins (codes "(") (codes ")")) (sign_begins (codes "-") (codes ")")) (sign_begins (codes "~") (codes ")")) l.no_closing
+
   one_deeper : (k h : ℕ) → ((want : Want) → IsExactWithin k h want) → (want : Want) → IsExactWithin (suc k) (suc h) want
   unfolding read_expression
-  one_deeper k h inner want = exact_by (into_within L primary (suc k) want) (back_within L primary h want) (or_exact l (within L primary (suc k)) (within L primary h) (read_expression scan L read k) inner want)
+  one_deeper k h inner want = exact_by (into_within L primary (suc k) want) (back_within L primary h want) (or_exact l (within L primary (suc k)) (within L primary h) (no_closing h) (read_expression scan L read k) inner want)
 
   exact_within : (k h : ℕ) (want : Want) → IsExactWithin k h want
   unfolding read_expression Outcome Agrees
@@ -91,14 +101,9 @@ module _ {A O R C : Type 0} {scan : Scanner R C} {L : Language A O} {primary : P
   truth_exact k = expression_exact k sorts.Truth
 
 module _ {A O : Type 0} (L : Language A O) (primary : Primaries A) where
-  within_begins : {p : Lexeme → Bool} {b : Bool} → Begins (one (sign (codes "("))) p b → Begins (one (sign (codes "-"))) p b → Begins (one (sign (codes "~"))) p b → ((V T : Grammar Lexeme A) → Begins (primary V T) p b) → (h : ℕ) (sort : Sort) → Begins (within L primary h sort) p b
-  within_begins parenthesis minus tilde primaries zero sort = record { at = λ u e h. absurd h }
-  within_begins parenthesis minus tilde primaries (suc h) sorts.Value = disjunctions_begin L primary (within L primary h) parenthesis primaries minus tilde sorts.Value
-  within_begins parenthesis minus tilde primaries (suc h) sorts.Truth = disjunctions_begin L primary (within L primary h) parenthesis primaries minus tilde sorts.Truth
-
   -- what an expression begins with, by what `(`, `-`, `~` and the primaries begin with
   pub expression_begins : {p : Lexeme → Bool} {b : Bool} → Begins (one (sign (codes "("))) p b → Begins (one (sign (codes "-"))) p b → Begins (one (sign (codes "~"))) p b → ((V T : Grammar Lexeme A) → Begins (primary V T) p b) → (sort : Sort) → Begins (expression L primary sort) p b
-  expression_begins parenthesis minus tilde primaries sort = record { at = λ u e (h, g). (within_begins parenthesis minus tilde primaries h sort).at u e g }
+  expression_begins parenthesis minus tilde primaries sort = record { at = λ u e (h, g). (within_begins L primary parenthesis minus tilde primaries h sort).at u e g }
 
 any_token : {A : Type 0} {G : Grammar Lexeme A} {p : Lexeme → Bool} {b : Bool} → Begins G p b → Begins G (λ _. true) true
 any_token e = record { at = λ u a h. (let (t, v, is, _) = e.at u a h in (t, v, is, refl)) }

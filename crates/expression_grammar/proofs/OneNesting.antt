@@ -101,7 +101,7 @@ module _ {A O R C : Type 0} {scan : Scanner R C} {L : Language A O} {primary : P
   pub relation_filled : is_filled L.relation ≡ true
   relation_filled = tables.relation
 
-  module _ (F H : Sorts A) (inner : Sorted R C A) (exact : (want : Want) → Exact (each_token scan) (sorted F want) (sorted H want) (inner want) (Not (goes_on L))) where
+  module _ (F H : Sorts A) (no_closing : (sort : Sort) → Begins (H sort) (is_sign (codes ")")) false) (inner : Sorted R C A) (exact : (want : Want) → Exact (each_token scan) (sorted F want) (sorted H want) (inner want) (Not (goes_on L))) where
     closing : Begins (one (sign (codes ")"))) (goes_on L) false
     closing = subst (Begins (one (sign (codes ")"))) (goes_on L)) tables.closed (sign_tells (on_expression L) (codes ")"))
 
@@ -110,7 +110,7 @@ module _ {A O R C : Type 0} {scan : Scanner R C} {L : Language A O} {primary : P
     operand_exact want = exact_by (into_operand L primary F want) (back_operand L primary H want)
         (exact_or (is_sign (codes "(")) (begins_both (sign_begins (codes "(") (codes "("))) (begins_both (l.no_parenthesis (H sorts.Value) (H sorts.Truth)))
         (exact_before {S' = Not (is_sign_of on_primary)} (λ _ _. tt) (exact_then (exact_sign scan (codes "(")) (λ _. exact_before_next (exact (inside_parentheses want)) (λ x. exact_then (exact_sign scan (codes ")")) (λ _. exact_gives (each_token scan) x)) (λ x. begins_both closing))))
-        (exact_made (λ e. (e, sorts.Value)) (l.exact (exact_tree scan F H sorts.Value (exact wants.Value)) (exact_tree scan F H sorts.Truth (exact wants.Truth)))))
+        (exact_made (λ e. (e, sorts.Value)) (l.exact (no_closing sorts.Value) (no_closing sorts.Truth) (exact_tree scan F H sorts.Value (exact wants.Value)) (exact_tree scan F H sorts.Truth (exact wants.Truth)))))
 
     signed_exact : (want : Want) → Exact (each_token scan) (sorted (signed L primary F) (inside_parentheses want)) (sorted (signed L primary H) (inside_parentheses want)) (read_signed scan L read inner want) (Not (is_sign_of on_primary))
     unfolding read_signed
