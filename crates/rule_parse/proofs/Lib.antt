@@ -1,2 +1,4 @@
 mod Operators
 mod Keeps
+pub mod ListedExact
+pub mod BracketExact
