@@ -2,3 +2,4 @@ mod Operators
 mod Keeps
 pub mod ListedExact
 pub mod BracketExact
+pub mod AreaExact

@@ -7,7 +7,7 @@ use Rattle.grammar.specs.Reading.{starts, gives, choose, all_of, both_of}
 use Rattle.grammar.specs.Tokens.{sign, is_sign}
 use Rattle.grammar.proofs.Exact.{Exact, Always, Not, exact_gives, exact_then, exact_both, exact_made, exact_choose, exact_by}
 use Rattle.grammar.proofs.Begins.{Begins, begins_both, starts_text, starts_many, made_is}
-use Rattle.grammar.proofs.Many.{exact_all}
+use Rattle.grammar.proofs.Many.{exact_all, exact_rest}
 use Rattle.grammar.proofs.Tokens.{exact_sign, sign_begins}
 use Rattle.rule_parse.specs.Counting.{count, counting}
 use Rattle.rule_parse.specs.Formula.{listed, perhaps_listed}
@@ -40,12 +40,16 @@ listed_exact {G = G} {G' = G'} p comma e f = exact_both e
     (λ first. exact_made (λ rest. first ∷ rest) (exact_all (is_sign (codes ",")) true (next_begins G) (next_begins G') (λ rest stops. stops.comma) (behind_items G' p comma) (exact_then (exact_sign count (codes ",")) (λ _. f))))
     (λ first v list rest h stops. (let (others, more) = made_is (many (next G')) (λ rest. first ∷ rest) v list h in behind_items G' p comma others v rest more stops))
 
+-- the same, where each item ends by itself
+pub listed_whole_exact : {A : Type 0} {F F' G G' : Grammar Lexeme A} {P Q : Plan A} → Exact counting F F' P Always → Exact counting G G' Q Always → Exact counting (listed F G) (listed F' G') (read_listed P Q) (Not (is_sign (codes ",")))
+listed_whole_exact {G = G} {G' = G'} e f = exact_then e (λ first. exact_made (λ rest. first ∷ rest) (exact_rest (is_sign (codes ",")) (next_begins G) (next_begins G') (exact_then (exact_sign count (codes ",")) (λ _. f))))
+
 -- what stands behind a list that may be empty
 pub record Closes (close : List ℕ) (p : Lexeme → Bool) (rest : List Lexeme) : Type 0 where
   pub closing : starts (is_sign close) rest ≡ true
   pub behind : BehindList p rest
 
-swapped : {A : Type 0} (G H : Grammar Lexeme A) (u : List Lexeme) (a : A) → either G H u a → either H G u a
+pub swapped : {A : Type 0} (G H : Grammar Lexeme A) (u : List Lexeme) (a : A) → either G H u a → either H G u a
 swapped G H u a (inl h) = inr h
 swapped G H u a (inr h) = inl h
 
