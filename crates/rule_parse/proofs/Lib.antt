@@ -2,3 +2,6 @@ mod Operators
 mod Keeps
 mod Lengths
 mod Folding
+pub mod ListedExact
+pub mod BracketExact
+pub mod AreaExact
