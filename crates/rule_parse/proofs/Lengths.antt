@@ -61,18 +61,18 @@ dimension_keeps : Keeps read_dimension
 unfolding read_dimension
 dimension_keeps = keeps_choose (shorter_keeps (one_shortens count word_name)) name_keeps
 
-module _ {value truth : Plan Tree} (v : Keeps value) (t : Keeps truth) where
-  pub next_argument_shortens : Shortens (read_next_argument value)
-  unfolding read_next_argument
-  next_argument_shortens = first_shortens (sign_shortens (codes ",")) (λ _. v)
+pub next_argument_shortens : {value : Plan Tree} → Keeps value → Shortens (read_next_argument value)
+unfolding read_next_argument
+next_argument_shortens v = first_shortens (sign_shortens (codes ",")) (λ _. v)
 
+module _ {value truth : Plan Tree} (v : Keeps value) (t : Keeps truth) where
   first_argument_keeps : (function : List ℕ) → Keeps (read_first_argument value truth function)
   unfolding read_first_argument
   first_argument_keeps function = keeps_if (is_if function) t v
 
   arguments_keep : (function : List ℕ) → Keeps (read_arguments value truth function)
   unfolding read_arguments read_further_arguments
-  arguments_keep function = keeps_choose (keeps_gives []) (keeps_both (first_argument_keeps function) (λ first. keeps_both (keeps_all (shorter_keeps next_argument_shortens)) (λ rest. keeps_gives _)))
+  arguments_keep function = keeps_choose (keeps_gives []) (keeps_both (first_argument_keeps function) (λ first. keeps_both (keeps_all (shorter_keeps (next_argument_shortens v))) (λ rest. keeps_gives _)))
 
   call_keeps : (function : List ℕ) → Keeps (read_call value truth function)
   unfolding read_call
@@ -123,14 +123,16 @@ record InnerKeeps (left : ℕ) : Type 0 where
   at : (want : Want) → Keeps (read_inner left want)
 
 value_of_keeps : {left : ℕ} → InnerKeeps left → Keeps (read_value left)
+unfolding read_value
 value_of_keeps inner = keeps_both (inner.at wants.Value) (λ e. keeps_gives _)
 
 truth_of_keeps : {left : ℕ} → InnerKeeps left → Keeps (read_truth left)
+unfolding read_truth
 truth_of_keeps inner = keeps_both (inner.at wants.Truth) (λ e. keeps_gives _)
 
 module _ {left : ℕ} (inner : InnerKeeps left) where
   operand_keeps : (want : Want) → Keeps (read_operand left want)
-  unfolding expressions.read_primary
+  unfolding expressions.read_primary read_value read_truth
   operand_keeps want = keeps_choose (keeps_both (sign_keeps (codes "(")) (λ _. keeps_both (inner.at _) (λ e. keeps_both (sign_keeps (codes ")")) (λ _. keeps_gives e))))
       (keeps_both (primary_keeps (value_of_keeps inner) (truth_of_keeps inner)) (λ e. keeps_gives _))
 

@@ -5,3 +5,4 @@ mod Folding
 pub mod ListedExact
 pub mod BracketExact
 pub mod AreaExact
+mod Stops

@@ -129,10 +129,10 @@ read_primary value truth =
 abbrev pub read_inner : ℕ → Want → Plan (Tree × Sort)
 read_inner left = read_expression count rules_language read_primary left
 
-abbrev pub read_value : ℕ → Plan Tree
+unfoldable pub read_value : ℕ → Plan Tree
 read_value left = tree_of (read_inner left wants.Value)
 
-abbrev pub read_truth : ℕ → Plan Tree
+unfoldable pub read_truth : ℕ → Plan Tree
 read_truth left = tree_of (read_inner left wants.Truth)
 
 -- more than may be one inside the other

@@ -36,6 +36,7 @@ impl<
     }
 
     /// Reads a value inside another formula.
+    #[tactic(auto, unfolding(crate::specs::Reading::read_value))]
     pub fn value_at(&self, cursor: &mut Cursor<'_, Counted>) -> Result<Tree, Stop<Excess>>
         requires { Nests self.now.left (F.pre self.now.formula) (F.post self.now.formula) }
         ensures { Reads (λ tree. tree) (reading.read_value self.now.left) cursor.old result cursor.new }
@@ -45,6 +46,7 @@ impl<
     }
 
     /// Reads a truth inside another formula.
+    #[tactic(auto, unfolding(crate::specs::Reading::read_truth))]
     pub fn truth_at(&self, cursor: &mut Cursor<'_, Counted>) -> Result<Tree, Stop<Excess>>
         requires { Nests self.now.left (F.pre self.now.formula) (F.post self.now.formula) }
         ensures { Reads (λ tree. tree) (reading.read_truth self.now.left) cursor.old result cursor.new }
@@ -80,7 +82,7 @@ fn formula_inside(
 }
 
 /// Reads a whole formula, which is a value.
-#[tactic(auto, unfolding(crate::specs::Reading::read_formula))]
+#[tactic(auto, unfolding(crate::specs::Reading::read_formula, crate::specs::Reading::read_value))]
 pub fn formula_at(alloc: Global, cursor: &mut Cursor<'_, Counted>) -> Result<Tree, Stop<Excess>>
     ensures { Reads (λ tree. tree) reading.read_formula cursor.old result cursor.new }
 {

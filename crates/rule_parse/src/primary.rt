@@ -30,12 +30,12 @@ impl<
     fn first_argument(
         &self,
         cursor: &mut Cursor<'_, Counted>,
-        function: &[u8],
+        function: &ListOf<u8>,
     ) -> Result<Tree, Stop<Excess>>
         requires { Nests self.now.left (F.pre self.now.formula) (F.post self.now.formula) }
         ensures { Reads (λ tree. tree) (reading.read_first_argument (reading.read_value self.now.left) (reading.read_truth self.now.left) function.now) cursor.old result cursor.new }
     {
-        if is_if(function) {
+        if is_if(function.as_slice()) {
             self.truth_at(cursor)
         } else {
             self.value_at(cursor)
@@ -76,7 +76,7 @@ impl<
     fn arguments_at(
         &self,
         cursor: &mut Cursor<'_, Counted>,
-        function: &[u8],
+        function: &ListOf<u8>,
     ) -> Result<Items<Tree>, Stop<Excess>>
         requires { Nests self.now.left (F.pre self.now.formula) (F.post self.now.formula) }
         ensures { Reads (λ arguments. arguments) (reading.read_arguments (reading.read_value self.now.left) (reading.read_truth self.now.left) function.now) cursor.old result cursor.new }
@@ -94,15 +94,15 @@ impl<
     fn call_at(
         &self,
         cursor: &mut Cursor<'_, Counted>,
-        function: Vec<u8>,
+        function: ListOf<u8>,
     ) -> Result<Tree, Stop<Excess>>
         requires { Nests self.now.left (F.pre self.now.formula) (F.post self.now.formula) }
-        ensures { Reads (λ tree. tree) (reading.read_call (reading.read_value self.now.left) (reading.read_truth self.now.left) function.items) cursor.old result cursor.new }
+        ensures { Reads (λ tree. tree) (reading.read_call (reading.read_value self.now.left) (reading.read_truth self.now.left) function) cursor.old result cursor.new }
     {
         sign(cursor, b"(")?;
-        let arguments = self.arguments_at(cursor, function.as_slice())?;
+        let arguments = self.arguments_at(cursor, &function)?;
         sign(cursor, b")")?;
-        Ok(Tree::Call(ListOf::new(function), arguments))
+        Ok(Tree::Call(function, arguments))
     }
 
     /// Reads what stands behind a word that may stand alone, where it's this tree.
@@ -110,11 +110,11 @@ impl<
     fn alone_at(
         &self,
         cursor: &mut Cursor<'_, Counted>,
-        function: Vec<u8>,
+        function: ListOf<u8>,
         tree: Tree,
     ) -> Result<Tree, Stop<Excess>>
         requires { Nests self.now.left (F.pre self.now.formula) (F.post self.now.formula) }
-        ensures { Reads (λ tree. tree) (reading.read_alone (reading.read_value self.now.left) (reading.read_truth self.now.left) function.items tree) cursor.old result cursor.new }
+        ensures { Reads (λ tree. tree) (reading.read_alone (reading.read_value self.now.left) (reading.read_truth self.now.left) function tree) cursor.old result cursor.new }
     {
         if sign_comes(cursor, b"(") {
             self.call_at(cursor, function)
@@ -128,10 +128,10 @@ impl<
     fn behind_word(
         &self,
         cursor: &mut Cursor<'_, Counted>,
-        function: Vec<u8>,
+        function: ListOf<u8>,
     ) -> Result<Tree, Stop<Excess>>
         requires { Nests self.now.left (F.pre self.now.formula) (F.post self.now.formula) }
-        ensures { Reads (λ tree. tree) (reading.read_behind_word (reading.read_value self.now.left) (reading.read_truth self.now.left) function.items) cursor.old result cursor.new }
+        ensures { Reads (λ tree. tree) (reading.read_behind_word (reading.read_value self.now.left) (reading.read_truth self.now.left) function) cursor.old result cursor.new }
     {
         if function.as_slice() == b"STET".as_slice() {
             self.alone_at(cursor, function, Tree::Stet)
@@ -149,7 +149,7 @@ impl<
         ensures { Reads (λ tree. tree) (reading.read_worded (reading.read_value self.now.left) (reading.read_truth self.now.left)) cursor.old result cursor.new }
     {
         let function = capital_word(self.alloc, cursor)?;
-        self.behind_word(cursor, function)
+        self.behind_word(cursor, ListOf::new(function))
     }
 
     /// Reads a primary but for one in parentheses.

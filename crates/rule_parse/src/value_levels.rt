@@ -49,7 +49,7 @@ impl<
     F: Fn(Global, &mut Cursor<'_, Counted>, u32, Want) -> Result<(Tree, Sort), Stop<Excess>>,
 > Rules<F> {
     /// Reads `( formula )`, or another primary.
-    #[tactic(auto, unfolding(expression_grammar::specs::Reading::read_primary))]
+    #[tactic(auto, unfolding(expression_grammar::specs::Reading::read_primary, crate::specs::Reading::read_value, crate::specs::Reading::read_truth))]
     fn operand_at(
         &self,
         cursor: &mut Cursor<'_, Counted>,

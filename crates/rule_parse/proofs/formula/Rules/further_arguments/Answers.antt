@@ -1,10 +1,12 @@
 use Rattle.std.proofs.Common.{[], ◌∷◌, ◌++◌, Ok, codes, sym, ◌∙◌, ap, subst, arith}
 use Rattle.std.proofs.lemmas.List.{length-map}
+use Rattle.std.proofs.lemmas.Result.{err_from_is_err_and}
 use Rattle.grammar.specs.Cursor.{lexemes}
 use Rattle.grammar.specs.Tokens.{is_sign}
 use Rattle.grammar.proofs.Loops.{Going, begun_with, goes_further, is_done}
 use Rattle.rule_parse.specs.Reading.{read_next_argument, read_further_arguments, read_value}
 use Rattle.rule_parse.proofs.Lengths.{next_argument_shortens, value_keeps}
+use Rattle.rule_parse.proofs.Stops.{going_stops}
 use Rattle.rule_parse.proofs.formula.Rules.further_arguments.Goals as goal
 
 pub argument-init : goal.argument-init
@@ -25,3 +27,8 @@ argument-smaller g c =
 pub returns : goal.returns
 unfolding read_further_arguments
 returns g c = is_done c.argument.invariant (sym c.argument-test.ensures) ∙ ap (λ arguments. Ok (arguments, c.argument.cursor.state, lexemes c.argument.cursor.tokens.now)) (sym c.from_vec.ensures)
+
+pub returns-in_err-argument : goal.returns-in_err-argument
+returns-in_err-argument g c =
+    let p = err_from_is_err_and c.from_residual-in_err-argument.result c.from_residual-in_err-argument.ensures.1 in
+    rw (p.1, p.2) (going_stops (λ arguments. arguments) (λ argument. argument) _ _ c.in_err-argument.field-0.0 c.argument.invariant c.argument-test.ensures c.in_err-argument.ensures)
