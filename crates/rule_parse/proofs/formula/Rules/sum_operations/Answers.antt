@@ -30,5 +30,5 @@ returns g c = is_folded c.sum.invariant c.sum-test.ensures
 
 pub returns-in_err-op : goal.returns-in_err-op
 returns-in_err-op g c =
-    let p = err_from_is_err_and c.from_residual-in_err-op.result c.from_residual-in_err-op.ensures.1 in
+    let p = err_from_is_err_and c.from_residual.result c.from_residual.ensures.1 in
     rw (p.1, p.2) (folding_stops_at (λ read. read) (λ operation. operation) _ _ c.in_err-op.field-0.0 c.sum.invariant c.sum-test.ensures c.in_err-op.ensures)
