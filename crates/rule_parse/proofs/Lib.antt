@@ -3,3 +3,5 @@ mod Keeps
 pub mod ListedExact
 pub mod BracketExact
 pub mod AreaExact
+pub mod WordsExact
+pub mod PrimaryExact
