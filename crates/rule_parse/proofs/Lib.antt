@@ -5,3 +5,5 @@ pub mod BracketExact
 pub mod AreaExact
 pub mod WordsExact
 pub mod PrimaryExact
+pub mod FormulaExact
+pub mod FeederExact
