@@ -4,6 +4,9 @@ pub mod ListedExact
 pub mod BracketExact
 pub mod AreaExact
 pub mod WordsExact
+pub mod TokenKinds
 pub mod PrimaryExact
 pub mod FormulaExact
 pub mod FeederExact
+pub mod LookaheadExact
+pub mod WordFirst
