@@ -10,3 +10,5 @@ pub mod FormulaExact
 pub mod FeederExact
 pub mod LookaheadExact
 pub mod WordFirst
+pub mod StatementExact
+pub mod RulesExact
