@@ -12,3 +12,4 @@ pub mod LookaheadExact
 pub mod WordFirst
 pub mod StatementExact
 pub mod RulesExact
+pub mod Answering
