@@ -41,7 +41,7 @@ module _ {A O : Type 0} (L : Language A O) (primary : Primaries A) where
   within_begins parenthesis minus tilde primaries (suc h) sorts.Truth = disjunctions_begin L primary (within L primary h) parenthesis primaries minus tilde sorts.Truth
 
 -- an operand without operations
-no_operations : {A O : Type 0} (joined : O → A → A → A) (table : Table O) (G : Grammar Lexeme A) (u : List Lexeme) (e : A) → G u e → chain joined table G u e
+pub no_operations : {A O : Type 0} (joined : O → A → A → A) (table : Table O) (G : Grammar Lexeme A) (u : List Lexeme) (e : A) → G u e → chain joined table G u e
 no_operations joined table G u e h = (u, [], e, sym (append-nil u), h, ([], [], [], refl, refl, (refl, refl)))
 
 module _ {A O R C : Type 0} {scan : Scanner R C} {L : Language A O} {primary : Primaries A} {read : PrimaryReader R C A} (l : IsLanguage scan L primary read) where
