@@ -12,7 +12,7 @@ use Rattle.expression_grammar.proofs.Languages.{goes_on, IsLanguage}
 use Rattle.expression_grammar.proofs.ExpressionExact.{value_exact, expression_begins}
 use Rattle.rule_parse.specs.Counting.{count, counting}
 use Rattle.rule_parse.specs.Formula.{rules_language, primary, formula}
-use Rattle.rule_parse.specs.Reading.{read_primary, read_formula, most_inside}
+use Rattle.rule_parse.specs.Reading.{read_primary, read_value, read_formula, most_inside}
 use Rattle.rule_parse.proofs.PrimaryExact.{primary_exact, primary_no_sign, number_sample}
 
 pub rules_are_language : IsLanguage count rules_language primary read_primary
@@ -28,5 +28,5 @@ rules_are_language = record {
 }
 
 pub formula_exact : Exact counting formula formula read_formula (Not (goes_on rules_language))
-unfolding read_formula
+unfolding read_formula read_value
 formula_exact = value_exact rules_are_language most_inside
