@@ -1,14 +1,13 @@
 -- The readers of statements are exact.
-use Rattle.std.proofs.Common.{◌≡◌, ℕ, List, [], ◌∷◌, ◌++◌, Option, Some, None, Bool, true, false, ◌&&◌, if◌then◌else◌, codes, refl, sym, ◌∙◌, ap, inl, inr, append-nil, append_assoc}
+use Rattle.std.proofs.Common.{◌≡◌, ℕ, List, [], ◌∷◌, ◌++◌, Some, None, true, false, ◌&&◌, if◌then◌else◌, codes, refl, sym, ◌∙◌, ap, inl, inr, append-nil, append_assoc}
 use Rattle.std.specs.Str.{str_eq_ignore_ascii_case}
 use Rattle.cube_lex.specs.Lexeme.{Lexeme}
 use Rattle.cube_lex.specs.declared.token.Kind.TheVariants as kinds
 use Rattle.grammar.specs.Grammar.{Grammar, one, both, done, either}
-use Rattle.grammar.specs.Reading.{starts}
 use Rattle.grammar.specs.Tokens.{sign, word, is_sign, is_word, is_word_kind, capitals}
 use Rattle.grammar.proofs.Exact.{Exact, Always, Not, exact_gives, exact_then, exact_made}
 use Rattle.grammar.proofs.Begins.{Begins, HasToken, begins_both, has_token, starts_text, made_is, exact_option, exact_before_next}
-use Rattle.grammar.proofs.Tokens.{when_picks, and_is, exact_sign, exact_word, sign_begins, word_begins, sign_no_word}
+use Rattle.grammar.proofs.Tokens.{when_picks, and_is, exact_sign, exact_word, word_begins, sign_no_word}
 use Rattle.expression_grammar.specs.declared.sort.Sort.TheVariants as sorts
 use Rattle.expression_grammar.proofs.Languages.{goes_on}
 use Rattle.expression_grammar.proofs.ExpressionExact.{sign_goes_on, expression_has_token}
@@ -23,7 +22,7 @@ use Rattle.rule_parse.specs.declared.tree.Tree.TheVariants as trees
 use Rattle.rule_parse.proofs.FormulaExact.{rules_are_language, formula_exact}
 use Rattle.rule_parse.proofs.AreaExact.{area_exact, area_begins}
 use Rattle.rule_parse.proofs.WordFirst.{ended_no_part, formula_of_word}
-use Rattle.rule_parse.proofs.LookaheadExact.{Takes, exact_choose_part, no_part}
+use Rattle.rule_parse.proofs.LookaheadExact.{exact_choose_part, no_part}
 
 semicolon : Begins (one (sign (codes ";"))) (goes_on rules_language) false
 semicolon = sign_goes_on rules_language (codes ";")

@@ -10,7 +10,7 @@ use Rattle.grammar.proofs.Exact.{Not}
 use Rattle.grammar.proofs.Begins.{Begins, begins_both, starts_text, starts_many}
 use Rattle.grammar.proofs.Tokens.{and_is, sign_begins}
 use Rattle.expression_grammar.specs.Language.{Table}
-use Rattle.expression_grammar.specs.Expression.{chain, prefixed, operation, enclosed, value_of, within, nothing}
+use Rattle.expression_grammar.specs.Expression.{chain, prefixed, value_of, within, nothing}
 use Rattle.expression_grammar.specs.declared.sort.Sort.TheVariants as sorts
 use Rattle.expression_grammar.proofs.Languages.{is_apart}
 use Rattle.expression_grammar.proofs.Operators.{operation_apart}
