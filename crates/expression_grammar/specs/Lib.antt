@@ -1,0 +1,4 @@
+pub mod Language
+pub mod Expression
+pub mod Reading
+pub mod Limits

@@ -1,0 +1,40 @@
+-- How deep and how long one whole expression may be, token by token.
+use Rattle.std.specs.Prelude.{ℕ, ◌+◌, ◌-◌, nat_lt, Bool, true, false, not, ◌&&◌, ◌||◌, if◌then◌else◌, codes, Option, Some, None}
+use Rattle.cube_lex.specs.Lexeme.{Lexeme}
+use Rattle.grammar.specs.Tokens.{is_sign, is_sign_kind}
+use Rattle.expression_grammar.specs.declared.limits.Limits.{Limits}
+
+-- parentheses that may be open at once
+abbrev pub most_open : ℕ
+most_open = 32
+
+-- primaries of one whole expression, those inside others counted
+abbrev pub most_primaries : ℕ
+most_primaries = 1000
+
+-- before an expression inside so many open parentheses
+abbrev pub begun_within : ℕ → Limits
+begun_within depth = record { depth = depth; primaries = 0; due = true; bracketed = false }
+
+-- a word, a number, a text, `!`, `[` and `(` begin a primary where an operand is due
+abbrev pub may_begin_primary : Lexeme → Bool
+may_begin_primary t = not (is_sign_kind t.kind) || is_sign (codes "!") t || is_sign (codes "[") t || is_sign (codes "(") t
+
+-- whether there is room for one more primary
+abbrev pub begins_primary : Limits → Lexeme → Bool
+begins_primary l t = l.due && may_begin_primary t
+
+abbrev pub has_room : Limits → Lexeme → Bool
+has_room l t = not (begins_primary l t) || nat_lt l.primaries most_primaries
+
+abbrev pub counted : Limits → Lexeme → ℕ
+counted l t = if begins_primary l t then l.primaries + 1 else l.primaries
+
+-- one more token, or none if the expression becomes too deep or too long by it
+abbrev pub scanned : Limits → Lexeme → Option Limits
+scanned l t =
+    if l.bracketed then Some (record l { bracketed = not (is_sign (codes "]") t) })
+    else if not (has_room l t) then None
+    else if is_sign (codes "(") t then (if nat_lt l.depth most_open then Some (record { depth = l.depth + 1; primaries = counted l t; due = true; bracketed = false }) else None)
+    else if is_sign (codes ")") t then Some (record { depth = l.depth - 1; primaries = l.primaries; due = false; bracketed = false })
+    else Some (record { depth = l.depth; primaries = counted l t; due = is_sign_kind t.kind && not (is_sign (codes "!") t || is_sign (codes "[") t); bracketed = is_sign (codes "[") t })

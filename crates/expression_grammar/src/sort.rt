@@ -1,0 +1,17 @@
+/// What an expression is: a value, which is a number or a text, or a truth.
+#[derive(Clone, Copy, Debug, PartialEq, Eq)]
+pub enum Sort {
+    Value,
+    Truth,
+}
+
+/// What an expression may be at a place.
+#[derive(Clone, Copy, Debug, PartialEq, Eq)]
+pub enum Want {
+    /// A value alone.
+    Value,
+    /// A truth alone.
+    Truth,
+    /// Either of them, as behind a `(`.
+    Any,
+}

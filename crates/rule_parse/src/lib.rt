@@ -1,0 +1,29 @@
+//! The rules of a cube, read from their text: statements, feeders, and the formulas in them.
+//!
+//! Read in this order: [`parse`], which reads a whole text; [`RuleText`], what it gives; [`Tree`], a formula; [`RuleFault`], why it
+//! refuses.
+#![tactic(auto)]
+
+mod area;
+mod basic;
+mod bracket;
+mod counted;
+mod fault;
+mod feeder;
+mod formula;
+mod operator;
+mod primary;
+mod rule;
+mod statement;
+mod text;
+mod tree;
+mod truth_levels;
+mod value_levels;
+
+pub use fault::RuleFault;
+pub use rule::{BodyText, EntryText, FeederText, RuleText, StatementText, TargetText};
+pub use text::parse;
+pub use tree::{SimpleText, Tree, TreeOp};
+
+#[cfg(test)]
+mod tests;
