@@ -7,3 +7,4 @@ pub mod ModelCuts
 pub mod ModelReads
 pub mod Finished
 pub mod ModelTexts
+pub mod PrintedModels

@@ -1,2 +1,3 @@
 pub mod UserAnswers
 pub mod ModelAnswers
+pub mod PrintedModels
