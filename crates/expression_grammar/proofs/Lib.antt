@@ -1,0 +1,4 @@
+pub mod PrintedTokens
+pub mod PrintedLimits
+pub mod PrintedLevels
+pub mod PrintedExpressions
