@@ -1,3 +1,6 @@
+pub mod Languages
+pub mod Operators
+pub mod ExpressionExact
 pub mod PrintedTokens
 pub mod PrintedLimits
 pub mod PrintedLevels

@@ -26,25 +26,25 @@ abbrev pub PrimaryReader : Type 0 → Type 0 → Type 0 → Type 0
 PrimaryReader R C A = Reads R C A → Reads R C A → Reads R C A
 
 -- an operator and its right operand, which is read as wanted
-abbrev pub read_operation : {A O R C : Type 0} → Scanner R C → Table O → Reads R C (A × Sort) → Reads R C (O × A)
+unfoldable pub read_operation : {A O R C : Type 0} → Scanner R C → Table O → Reads R C (A × Sort) → Reads R C (O × A)
 read_operation scan table operand = do
   o ← take_one scan (operator table)
   right ← operand
   gives (o, right.0)
 
 -- the operations behind an operand
-abbrev pub read_behind : {A O R C : Type 0} → Scanner R C → (O → A → A → A) → Table O → Reads R C (A × Sort) → A × Sort → Reads R C (A × Sort)
+unfoldable pub read_behind : {A O R C : Type 0} → Scanner R C → (O → A → A → A) → Table O → Reads R C (A × Sort) → A × Sort → Reads R C (A × Sort)
 read_behind scan joined table operand head = do
   rest ← all_of (is_operator table) (read_operation scan table operand)
   gives (from_left joined head.0 rest, head.1)
 
 -- the operations behind a value, or none behind a truth
-abbrev pub behind_value : {A O R C : Type 0} → Scanner R C → (O → A → A → A) → Table O → Reads R C (A × Sort) → A × Sort → Reads R C (A × Sort)
+unfoldable pub behind_value : {A O R C : Type 0} → Scanner R C → (O → A → A → A) → Table O → Reads R C (A × Sort) → A × Sort → Reads R C (A × Sort)
 behind_value scan joined table operand (e, sorts.Value) = read_behind scan joined table operand (e, sorts.Value)
 behind_value scan joined table operand (e, sorts.Truth) = gives (e, sorts.Truth)
 
 -- the operations behind a truth, or none behind a value
-abbrev pub behind_truth : {A O R C : Type 0} → Scanner R C → (O → A → A → A) → Table O → Reads R C (A × Sort) → A × Sort → Reads R C (A × Sort)
+unfoldable pub behind_truth : {A O R C : Type 0} → Scanner R C → (O → A → A → A) → Table O → Reads R C (A × Sort) → A × Sort → Reads R C (A × Sort)
 behind_truth scan joined table operand (e, sorts.Truth) = read_behind scan joined table operand (e, sorts.Truth)
 behind_truth scan joined table operand (e, sorts.Value) = gives (e, sorts.Value)
 
@@ -61,48 +61,48 @@ tree_of read = do
   gives e.0
 
 -- "(" expression ")" or a primary
-abbrev pub read_primary : {A R C : Type 0} → Scanner R C → PrimaryReader R C A → Sorted R C A → Sorted R C A
+unfoldable pub read_primary : {A R C : Type 0} → Scanner R C → PrimaryReader R C A → Sorted R C A → Sorted R C A
 read_primary scan primary inner want = choose (is_sign (codes "("))
     (do take_one scan (sign (codes "(")); e ← inner (inside_parentheses want); take_one scan (sign (codes ")")); gives e)
     (do e ← primary (tree_of (inner wants.Value)) (tree_of (inner wants.Truth)); gives (e, sorts.Value))
 
 -- [ "-" ] primary
-abbrev pub read_signed : {A O R C : Type 0} → Scanner R C → Language A O → PrimaryReader R C A → Sorted R C A → Sorted R C A
+unfoldable pub read_signed : {A O R C : Type 0} → Scanner R C → Language A O → PrimaryReader R C A → Sorted R C A → Sorted R C A
 read_signed scan L primary inner want = choose (is_sign (codes "-"))
     (do take_one scan (sign (codes "-")); e ← read_primary scan primary inner wants.Value; gives (L.negated e.0, sorts.Value))
     (read_primary scan primary inner want)
 
-abbrev pub read_product : {A O R C : Type 0} → Scanner R C → Language A O → PrimaryReader R C A → Sorted R C A → Sorted R C A
+unfoldable pub read_product : {A O R C : Type 0} → Scanner R C → Language A O → PrimaryReader R C A → Sorted R C A → Sorted R C A
 read_product scan L primary inner want = do
   head ← read_signed scan L primary inner want
   behind_value scan L.joined L.product (read_signed scan L primary inner wants.Value) head
 
-abbrev pub read_sum : {A O R C : Type 0} → Scanner R C → Language A O → PrimaryReader R C A → Sorted R C A → Sorted R C A
+unfoldable pub read_sum : {A O R C : Type 0} → Scanner R C → Language A O → PrimaryReader R C A → Sorted R C A → Sorted R C A
 read_sum scan L primary inner want = do
   head ← read_product scan L primary inner want
   behind_value scan L.joined L.sum (read_product scan L primary inner wants.Value) head
 
 -- a comparison's operator and right side, behind its left side
-abbrev pub read_compared : {A O R C : Type 0} → Scanner R C → Language A O → PrimaryReader R C A → Sorted R C A → A → Reads R C (A × Sort)
+unfoldable pub read_compared : {A O R C : Type 0} → Scanner R C → Language A O → PrimaryReader R C A → Sorted R C A → A → Reads R C (A × Sort)
 read_compared scan L primary inner left = do
   o ← take_one scan (operator L.relation)
   right ← read_sum scan L primary inner wants.Value
   gives (L.joined o left right.0, sorts.Truth)
 
 -- what stands behind a value, which may be the left side of a comparison
-abbrev pub behind_left : {A O R C : Type 0} → Scanner R C → Language A O → PrimaryReader R C A → Sorted R C A → Want → A × Sort → Reads R C (A × Sort)
+unfoldable pub behind_left : {A O R C : Type 0} → Scanner R C → Language A O → PrimaryReader R C A → Sorted R C A → Want → A × Sort → Reads R C (A × Sort)
 behind_left scan L primary inner want (e, sorts.Truth) = gives (e, sorts.Truth)
 behind_left scan L primary inner wants.Value (e, sorts.Value) = gives (e, sorts.Value)
 behind_left scan L primary inner wants.Truth (e, sorts.Value) = read_compared scan L primary inner e
 behind_left scan L primary inner wants.Any (e, sorts.Value) = choose (is_operator L.relation) (read_compared scan L primary inner e) (gives (e, sorts.Value))
 
-abbrev pub read_compare : {A O R C : Type 0} → Scanner R C → Language A O → PrimaryReader R C A → Sorted R C A → Sorted R C A
+unfoldable pub read_compare : {A O R C : Type 0} → Scanner R C → Language A O → PrimaryReader R C A → Sorted R C A → Sorted R C A
 read_compare scan L primary inner want = do
   head ← read_sum scan L primary inner want
   behind_left scan L primary inner want head
 
 -- `~` and what it turns
-abbrev pub read_opposite : {A O R C : Type 0} → Scanner R C → Language A O → PrimaryReader R C A → Sorted R C A → Reads R C (A × Sort)
+unfoldable pub read_opposite : {A O R C : Type 0} → Scanner R C → Language A O → PrimaryReader R C A → Sorted R C A → Reads R C (A × Sort)
 read_opposite scan L primary inner = do
   take_one scan (sign (codes "~"))
   e ← read_compare scan L primary inner wants.Truth
@@ -114,17 +114,17 @@ may_be_truth wants.Value = false
 may_be_truth wants.Truth = true
 may_be_truth wants.Any = true
 
-abbrev pub read_not : {A O R C : Type 0} → Scanner R C → Language A O → PrimaryReader R C A → Sorted R C A → Sorted R C A
+unfoldable pub read_not : {A O R C : Type 0} → Scanner R C → Language A O → PrimaryReader R C A → Sorted R C A → Sorted R C A
 read_not scan L primary inner want = if may_be_truth want
     then choose (is_sign (codes "~")) (read_opposite scan L primary inner) (read_compare scan L primary inner want)
     else read_compare scan L primary inner want
 
-abbrev pub read_and : {A O R C : Type 0} → Scanner R C → Language A O → PrimaryReader R C A → Sorted R C A → Sorted R C A
+unfoldable pub read_and : {A O R C : Type 0} → Scanner R C → Language A O → PrimaryReader R C A → Sorted R C A → Sorted R C A
 read_and scan L primary inner want = do
   head ← read_not scan L primary inner want
   behind_truth scan L.joined L.and (read_not scan L primary inner wants.Truth) head
 
-abbrev pub read_or : {A O R C : Type 0} → Scanner R C → Language A O → PrimaryReader R C A → Sorted R C A → Sorted R C A
+unfoldable pub read_or : {A O R C : Type 0} → Scanner R C → Language A O → PrimaryReader R C A → Sorted R C A → Sorted R C A
 read_or scan L primary inner want = do
   head ← read_and scan L primary inner want
   behind_truth scan L.joined L.or (read_and scan L primary inner wants.Truth) head
@@ -133,6 +133,6 @@ abbrev pub spent : {R C A : Type 0} → Reads R C A
 spent s ts = Err Spent
 
 -- an expression with fewer than so many expressions one inside the other
-abbrev pub read_expression : {A O R C : Type 0} → Scanner R C → Language A O → PrimaryReader R C A → ℕ → Sorted R C A
+unfoldable pub read_expression : {A O R C : Type 0} → Scanner R C → Language A O → PrimaryReader R C A → ℕ → Sorted R C A
 read_expression scan L primary zero want = spent
 read_expression scan L primary (suc k) want = read_or scan L primary (read_expression scan L primary k) want
