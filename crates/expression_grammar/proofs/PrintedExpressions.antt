@@ -8,7 +8,7 @@ use Rattle.expression_grammar.specs.Expression.{chain, prefixed, enclosed, Prima
 use Rattle.expression_grammar.specs.Language.{Table, operator, Language}
 use Rattle.expression_grammar.specs.Spelled.{sign_token}
 use Rattle.expression_grammar.proofs.PrintedTokens.{Spells, Picks, spells_both, spells_next, spells_made, spells_in}
-use Rattle.expression_grammar.proofs.PrintedLimits.{Counting, Shorter, IsWrittenOperator, shorter_joined}
+use Rattle.expression_grammar.proofs.PrintedLimits.{Counting, Shorter, IsWrittenSign, shorter_joined}
 use Rattle.expression_grammar.proofs.PrintedLevels.{Writing, Ladder, IsLadder, IsInner, rung, shown, whole_again}
 
 -- Grammars that have the texts of others.
@@ -67,8 +67,8 @@ pub record IsCompared {A O : Type 0} (C : Counting) (W : Writing A O) (L : Langu
   pub rank : (t : Lexeme) (o : O) → operator L.relation t ≡ Some o → (a b : A) → W.rank (L.joined o a b) ≡ 3
   pub bare : (t : Lexeme) (o : O) → operator L.relation t ≡ Some o → (a b : A) → W.bare (L.joined o a b) ≡ W.bare a ++ sign_token (W.sign o) ∷ W.bare b
   pub picks : (t : Lexeme) (o : O) → operator L.relation t ≡ Some o → Picks (operator L.relation) (sign_token (W.sign o)) o
-  pub read : (t : Lexeme) (o : O) → operator L.relation t ≡ Some o → C.IsOperator t
-  pub written : (t : Lexeme) (o : O) → operator L.relation t ≡ Some o → IsWrittenOperator C (W.sign o)
+  pub read : (t : Lexeme) (o : O) → operator L.relation t ≡ Some o → C.Joins t
+  pub written : (t : Lexeme) (o : O) → operator L.relation t ≡ Some o → IsWrittenSign C.Joins (W.sign o)
 
 -- what is known of texts of a grammar, where they are written again
 pub record IsWrittenAgain {A O : Type 0} (C : Counting) (W : Writing A O) (G : Grammar Lexeme A) : Type 0 where

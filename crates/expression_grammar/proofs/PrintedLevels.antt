@@ -10,7 +10,7 @@ use Rattle.expression_grammar.specs.Expression.{from_left, operation, chain, pre
 use Rattle.expression_grammar.specs.Language.{Table, operator}
 use Rattle.expression_grammar.specs.Spelled.{sign_token, in_parentheses, placed}
 use Rattle.expression_grammar.proofs.PrintedTokens.{Spells, Picks, spells_next, spells_made, spells_left, spells_in, spells_enclosed, picks_sign, chain_of_one, chain_more, split_at, split_next}
-use Rattle.expression_grammar.proofs.PrintedLimits.{Counting, Shorter, IsWrittenOperator, shorter_joined, shorter_prefixed, shorter_without, shorter_enclosed}
+use Rattle.expression_grammar.proofs.PrintedLimits.{Counting, Shorter, IsWrittenSign, shorter_joined, shorter_prefixed, shorter_without, shorter_enclosed}
 
 -- how trees are written: how tightly the root of one binds, its tokens without parentheses round it, and the sign of an operator
 pub record Writing (A O : Type 0) : Type 0 where
@@ -27,15 +27,15 @@ pub record IsJoined {A O : Type 0} (C : Counting) (W : Writing A O) (joined : O 
   pub rank : (t : Lexeme) (o : O) → operator table t ≡ Some o → (a b : A) → W.rank (joined o a b) ≡ level
   pub bare : (t : Lexeme) (o : O) → operator table t ≡ Some o → (a b : A) → W.bare (joined o a b) ≡ at_level W level a ++ sign_token (W.sign o) ∷ at_level W (level + 1) b
   pub picks : (t : Lexeme) (o : O) → operator table t ≡ Some o → Picks (operator table) (sign_token (W.sign o)) o
-  pub read : (t : Lexeme) (o : O) → operator table t ≡ Some o → C.IsOperator t
-  pub written : (t : Lexeme) (o : O) → operator table t ≡ Some o → IsWrittenOperator C (W.sign o)
+  pub read : (t : Lexeme) (o : O) → operator table t ≡ Some o → C.Joins t
+  pub written : (t : Lexeme) (o : O) → operator table t ≡ Some o → IsWrittenSign C.Joins (W.sign o)
 
 -- a sign before a tree, which stands before what is no operation
 pub record IsPrefixed {A O : Type 0} (C : Counting) (W : Writing A O) (before : List ℕ) (make : A → A) : Type 0 where
   pub rank : (e : A) → W.rank (make e) ≡ 2
   pub bare : (e : A) → W.bare (make e) ≡ sign_token before ∷ at_level W 3 e
-  pub read : (t : Lexeme) → is_sign before t ≡ true → C.IsOperator t
-  pub written : IsWrittenOperator C before
+  pub read : (t : Lexeme) → is_sign before t ≡ true → C.Precedes t
+  pub written : IsWrittenSign C.Precedes before
 
 -- a sort of trees: its operators, and the sign before
 pub record Ladder (A O : Type 0) : Type 0 where

@@ -20,10 +20,11 @@ pub record Counting : Type 1 where
   -- before an operand, and behind one, where so many parentheses are open and so many primaries have begun
   pub due : ℕ → ℕ → State
   pub behind : ℕ → ℕ → State
-  -- signs that are operators
-  pub IsOperator : Lexeme → Type 0
-  pub before_operand : (t : Lexeme) (d p : ℕ) → base ≤ d → IsOperator t → step (due d p) t ≡ Some (due d p)
-  pub behind_operand : (t : Lexeme) (d p : ℕ) → base ≤ d → IsOperator t → step (behind d p) t ≡ Some (due d p)
+  -- signs that stand before an operand, and signs that stand between two
+  pub Precedes : Lexeme → Type 0
+  pub Joins : Lexeme → Type 0
+  pub before_operand : (t : Lexeme) (d p : ℕ) → base ≤ d → Precedes t → step (due d p) t ≡ Some (due d p)
+  pub behind_operand : (t : Lexeme) (d p : ℕ) → base ≤ d → Joins t → step (behind d p) t ≡ Some (due d p)
   pub opens : (t : Lexeme) (d p : ℕ) → base ≤ d → is_sign (codes "(") t ≡ true → step (due d p) t ≡ opened due d p
   pub closes : (t : Lexeme) (d p : ℕ) → base ≤ d → is_sign (codes ")") t ≡ true → step (behind (d + 1) p) t ≡ Some (behind d p)
 
@@ -40,8 +41,8 @@ pub goes_through : {S : Type 0} (step : S → Lexeme → Option S) (u v : List L
 goes_through step [] v s r g = (s, refl, g)
 goes_through step (t ∷ u) v s r (n, first, g) = let (m, h, k) = goes_through step u v n r g in (m, (n, first, h), k)
 
-some_is : {A : Type 0} (x y : A) → ◌≡◌ {A = Option A} (Some x) (Some y) → x ≡ y
-some_is x y e = cc
+pub some_is : {A : Type 0} (x y : A) → ◌≡◌ {A = Option A} (Some x) (Some y) → x ≡ y
+pub some_is x y e = cc
 
 -- The tokens lead behind an operand wherever u does, from no more parentheses and primaries to no more primaries, and no parenthesis stays open.
 pub record Fits (C : Counting) (ts u : List Lexeme) : Type 0 where
@@ -52,8 +53,8 @@ pub record Shorter (C : Counting) (tokens : List Spelling) (u : List Lexeme) : T
   pub at : (ts : List Lexeme) → map spelling_of ts ≡ tokens → Fits C ts u
 
 -- an operator between
-fits_joined : (C : Counting) (ts ws u v : List Lexeme) (s t : Lexeme) → C.IsOperator s → C.IsOperator t → Fits C ts u → Fits C ws v → Fits C (ts ++ s ∷ ws) (u ++ t ∷ v)
-fits_joined C ts ws u v s t is-s is-t f g = record {
+pub fits_joined : (C : Counting) (ts ws u v : List Lexeme) (s t : Lexeme) → C.Joins s → C.Joins t → Fits C ts u → Fits C ws v → Fits C (ts ++ s ∷ ws) (u ++ t ∷ v)
+pub fits_joined C ts ws u v s t is-s is-t f g = record {
   at = λ d e p q base deep long r goes. (
       let (a, left, (b, taken, right)) = goes_through C.step u (t ∷ v) (C.due e q) r goes in
       let (m, n, a-is, before, less) = f.at d e p q base deep long a left in
@@ -63,8 +64,8 @@ fits_joined C ts ws u v s t is-s is-t f g = record {
 }
 
 -- an operator before
-fits_prefixed : (C : Counting) (ts u : List Lexeme) (s t : Lexeme) → C.IsOperator s → C.IsOperator t → Fits C ts u → Fits C (s ∷ ts) (t ∷ u)
-fits_prefixed C ts u s t is-s is-t f = record {
+pub fits_prefixed : (C : Counting) (ts u : List Lexeme) (s t : Lexeme) → C.Precedes s → C.Precedes t → Fits C ts u → Fits C (s ∷ ts) (t ∷ u)
+pub fits_prefixed C ts u s t is-s is-t f = record {
   at = λ d e p q base deep long r (a, taken, goes). (
       let same : a ≡ C.due e q = some_is a (C.due e q) (sym taken ∙ C.before_operand t e q (omega (arith, base, deep)) is-t) in
       let (m, n, r-is, after, less) = f.at d e p q base deep long r (subst (λ x. Goes C.step x u r) same goes) in
@@ -90,8 +91,8 @@ inside C u x y e q r base opening (a, taken, goes) =
     (few, shallow, (m, subst (λ s. Goes C.step s u m) a-is within, closed ∙ ap Some (sym last)))
 
 -- parentheses that are left out
-fits_without : (C : Counting) (ts u : List Lexeme) (x y : Lexeme) → is_sign (codes "(") x ≡ true → is_sign (codes ")") y ≡ true → Fits C ts u → Fits C ts (x ∷ (u ++ y ∷ []))
-fits_without C ts u x y opening closing f = record {
+pub fits_without : (C : Counting) (ts u : List Lexeme) (x y : Lexeme) → is_sign (codes "(") x ≡ true → is_sign (codes ")") y ≡ true → Fits C ts u → Fits C ts (x ∷ (u ++ y ∷ []))
+pub fits_without C ts u x y opening closing f = record {
   at = λ d e p q base deep long r goes. (
       let above : C.base ≤ e = omega (arith, base, deep) in
       let (few, shallow, (a, within, closed)) = inside C u x y e q r above opening goes in
@@ -101,9 +102,9 @@ fits_without C ts u x y opening closing f = record {
 }
 
 -- parentheses that are kept
-fits_enclosed : (C : Counting) (ts u : List Lexeme) (v w x y : Lexeme) → is_sign (codes "(") v ≡ true → is_sign (codes ")") w ≡ true → is_sign (codes "(") x ≡ true → is_sign (codes ")") y ≡ true
+pub fits_enclosed : (C : Counting) (ts u : List Lexeme) (v w x y : Lexeme) → is_sign (codes "(") v ≡ true → is_sign (codes ")") w ≡ true → is_sign (codes "(") x ≡ true → is_sign (codes ")") y ≡ true
     → Fits C ts u → Fits C (v ∷ (ts ++ w ∷ [])) (x ∷ (u ++ y ∷ []))
-fits_enclosed C ts u v w x y opens closes opening closing f = record {
+pub fits_enclosed C ts u v w x y opens closes opening closing f = record {
   at = λ d e p q base deep long r goes. (
       let above : C.base ≤ e = omega (arith, base, deep) in
       let (few, shallow, (a, within, closed)) = inside C u x y e q r above opening goes in
@@ -116,11 +117,11 @@ fits_enclosed C ts u v w x y opens closes opening closing f = record {
 
 -- The same of written tokens.
 
--- a written sign is an operator wherever it stands
-pub record IsWrittenOperator (C : Counting) (s : List ℕ) : Type 0 where
-  pub at : (t : Lexeme) → spelling_of t ≡ sign_token s → C.IsOperator t
+-- a written sign is one of P wherever it stands
+pub record IsWrittenSign (P : Lexeme → Type 0) (s : List ℕ) : Type 0 where
+  pub at : (t : Lexeme) → spelling_of t ≡ sign_token s → P t
 
-pub shorter_joined : {C : Counting} {xs ys : List Spelling} {u v : List Lexeme} (s : List ℕ) (t : Lexeme) → IsWrittenOperator C s → C.IsOperator t → Shorter C xs u → Shorter C ys v → Shorter C (xs ++ sign_token s ∷ ys) (u ++ t ∷ v)
+pub shorter_joined : {C : Counting} {xs ys : List Spelling} {u v : List Lexeme} (s : List ℕ) (t : Lexeme) → IsWrittenSign C.Joins s → C.Joins t → Shorter C xs u → Shorter C ys v → Shorter C (xs ++ sign_token s ∷ ys) (u ++ t ∷ v)
 shorter_joined {C = C} {xs = xs} {ys = ys} {u = u} {v = v} s t is-s is-t f g = record {
   at = λ ts e. (
       let (a, rest, parts, front, back) = split_at ts xs (sign_token s ∷ ys) e in
@@ -128,7 +129,7 @@ shorter_joined {C = C} {xs = xs} {ys = ys} {u = u} {v = v} s t is-s is-t f g = r
       subst (λ l. Fits C l (u ++ t ∷ v)) (sym (parts ∙ ap (λ l. a ++ l) is)) (fits_joined C a b u v x t (is-s.at x first) is-t (f.at a front) (g.at b last)));
 }
 
-pub shorter_prefixed : {C : Counting} {xs : List Spelling} {u : List Lexeme} (s : List ℕ) (t : Lexeme) → IsWrittenOperator C s → C.IsOperator t → Shorter C xs u → Shorter C (sign_token s ∷ xs) (t ∷ u)
+pub shorter_prefixed : {C : Counting} {xs : List Spelling} {u : List Lexeme} (s : List ℕ) (t : Lexeme) → IsWrittenSign C.Precedes s → C.Precedes t → Shorter C xs u → Shorter C (sign_token s ∷ xs) (t ∷ u)
 shorter_prefixed {C = C} {xs = xs} {u = u} s t is-s is-t f = record {
   at = λ ts e. (
       let (x, b, is, first, last) = split_next ts (sign_token s) xs e in
