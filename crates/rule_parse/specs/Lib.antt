@@ -1,3 +1,4 @@
+pub mod Spelled
 pub mod Formula
 pub mod RuleText
 pub mod Counting
