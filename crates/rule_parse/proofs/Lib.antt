@@ -1,1 +1,3 @@
 pub mod PrintedTrees
+pub mod PrintedCounting
+pub mod PrintedWords
