@@ -1,3 +1,4 @@
 pub mod PrintedTrees
 pub mod PrintedCounting
 pub mod PrintedWords
+pub mod PrintedBrackets
