@@ -2,3 +2,4 @@ pub mod PrintedTrees
 pub mod PrintedCounting
 pub mod PrintedWords
 pub mod PrintedBrackets
+pub mod PrintedPrimaries
