@@ -3,3 +3,5 @@ pub mod PrintedCounting
 pub mod PrintedWords
 pub mod PrintedBrackets
 pub mod PrintedPrimaries
+pub mod PrintedOperators
+pub mod PrintedFormulas
