@@ -5,3 +5,4 @@ pub mod PrintedBrackets
 pub mod PrintedPrimaries
 pub mod PrintedOperators
 pub mod PrintedFormulas
+pub mod PrintedCalls

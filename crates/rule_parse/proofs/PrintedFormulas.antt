@@ -40,10 +40,10 @@ arguments_written (first ∷ rest) = ap (λ l. (written first).tokens ++ l) (fur
 
 module _ (place : Limits → Place) (base : ℕ) (is : IsPlace place base) (c : Counted) where
 
-  record IsSimple (G : Grammar Lexeme Tree) : Type 0 where
-    rank : (u : List Lexeme) (e : Tree) → G u e → (written e).rank ≡ 3
-    text : (u : List Lexeme) (e : Tree) → G u e → Spells G (tree_spelled e) e
-    once : (u : List Lexeme) (e : Tree) → G u e → Once place base is c u
+  pub record IsSimple (G : Grammar Lexeme Tree) : Type 0 where
+    pub rank : (u : List Lexeme) (e : Tree) → G u e → (written e).rank ≡ 3
+    pub text : (u : List Lexeme) (e : Tree) → G u e → Spells G (tree_spelled e) e
+    pub once : (u : List Lexeme) (e : Tree) → G u e → Once place base is c u
 
   -- a tree that is made of one token
   one_token : {A : Type 0} (pick : Lexeme → Option A) (make : A → Tree) (token : A → Spelling) → ((a : A) → (written (make a)).rank ≡ 3) → ((a : A) → tree_spelled (make a) ≡ token a ∷ []) → ((t : Lexeme) (a : A) → pick t ≡ Some a → (is_sign_kind t.kind ≡ false) × Picks pick (token a) a)
@@ -57,15 +57,15 @@ module _ (place : Limits → Place) (base : ℕ) (is : IsPlace place base) (c : 
         subst (Once place base is c) (sym (parts ∙ ap (λ l. v ++ l) nothing ∙ append-nil v ∙ is-t)) (once_word place base is c t (takes t a picks).0);
   }
 
-  simple_number : IsSimple number
+  pub simple_number : IsSimple number
   simple_number = one_token money (λ z. trees.Number z) _ (λ z. ap (λ w. w.rank) (written_number z)) (λ z. ap (λ w. w.tokens) (written_number z))
       (λ t z picks. (let (kind, within) = money_picks t z picks in (number_no_sign t.kind kind, picks_money z within)))
 
-  simple_quoted : IsSimple quoted
+  pub simple_quoted : IsSimple quoted
   simple_quoted = one_token text (λ b. trees.Text b) _ (λ b. ap (λ w. w.rank) (written_text b)) (λ b. ap (λ w. w.tokens) (written_text b))
       (λ t b picks. (let (kind, _) = when_picks (λ (t : Lexeme). is_text_kind t.kind) (λ t. unquoted t.piece) t b picks in (text_no_sign t.kind kind, picks_text b)))
 
-  keyword : (w : List ℕ) (tree : Tree) → (written tree).rank ≡ 3 → tree_spelled tree ≡ word_token w ∷ [] → IsSimple (both (one (word w)) (λ _. done tree))
+  pub keyword : (w : List ℕ) (tree : Tree) → (written tree).rank ≡ 3 → tree_spelled tree ≡ word_token w ∷ [] → IsSimple (both (one (word w)) (λ _. done tree))
   keyword w tree rank tokens = record {
     rank = λ u e (v, x, a, parts, h, (nothing, is-e)). ap (λ y. (written y).rank) is-e ∙ rank;
     text = λ u e (v, x, a, parts, h, (nothing, is-e)).
@@ -77,7 +77,7 @@ module _ (place : Limits → Place) (base : ℕ) (is : IsPlace place base) (c : 
         subst (Once place base is c) (sym (parts ∙ ap (λ l. v ++ l) nothing ∙ append-nil v ∙ is-t)) (once_word place base is c t (word_no_sign t.kind kind)));
   }
 
-  simple_reference : IsSimple reference
+  pub simple_reference : IsSimple reference
   simple_reference = record {
     rank = λ u e (v, x, list, parts, h, (nothing, is-e)). ap (λ y. (written y).rank) is-e ∙ ap (λ w. w.rank) (written_bracket list);
     text = λ u e (v, x, list, parts, h, (nothing, is-e)).
@@ -102,7 +102,7 @@ module _ (place : Limits → Place) (base : ℕ) (is : IsPlace place base) (c : 
   current_spells dim named true = spells_left (spells_one (picks_word_name dim named))
   current_spells dim named false = spells_right (spells_one (picks_name dim named))
 
-  simple_current : IsSimple current
+  pub simple_current : IsSimple current
   simple_current = record {
     rank = λ u e (v, x, _, parts, h, (y, z, dim, further, g, (nothing, is-e))). ap (λ y. (written y).rank) is-e ∙ ap (λ w. w.rank) (written_current dim);
     text = λ u e (v, x, _, parts, h, (y, z, dim, further, g, (nothing, is-e))).
@@ -116,7 +116,7 @@ module _ (place : Limits → Place) (base : ℕ) (is : IsPlace place base) (c : 
         subst (Once place base is c) (sym (parts ∙ ap (λ l. l ++ x) is-s ∙ ap (λ l. s ∷ l) rest)) (once_marked place base is c s t mark kind));
   }
 
-  simple_or : (G H : Grammar Lexeme Tree) → IsSimple G → IsSimple H → IsSimple (either G H)
+  pub simple_or : (G H : Grammar Lexeme Tree) → IsSimple G → IsSimple H → IsSimple (either G H)
   simple_or G H g h = record { rank = rank; text = text; once = once } where
     rank : (u : List Lexeme) (e : Tree) → either G H u e → (written e).rank ≡ 3
     rank u e (inl x) = g.rank u e x
@@ -133,5 +133,5 @@ module _ (place : Limits → Place) (base : ℕ) (is : IsPlace place base) (c : 
   simple_short : (G : Grammar Lexeme Tree) → IsSimple G → (u : List Lexeme) (e : Tree) → G u e → Shorter (formula_counting place base is c) (tree_spelled e) u
   simple_short G g u e h = record { at = λ ts same. fits_once place base is c ts u (g.once ts e ((g.text u e h).at ts same)) (g.once u e h) }
 
-  simple_again : (G : Grammar Lexeme Tree) → IsSimple G → IsWrittenAgain (formula_counting place base is c) rules_writing G
+  pub simple_again : (G : Grammar Lexeme Tree) → IsSimple G → IsWrittenAgain (formula_counting place base is c) rules_writing G
   simple_again G g = record { text = g.text; short = simple_short G g }
