@@ -6,3 +6,4 @@ pub mod PrintedPrimaries
 pub mod PrintedOperators
 pub mod PrintedFormulas
 pub mod PrintedCalls
+pub mod PrintedStatements
