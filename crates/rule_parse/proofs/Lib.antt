@@ -7,3 +7,4 @@ pub mod PrintedOperators
 pub mod PrintedFormulas
 pub mod PrintedCalls
 pub mod PrintedStatements
+pub mod PrintedPlaces

@@ -18,7 +18,7 @@ use Rattle.cube_lex.specs.Written.{Spelling, spelling_of}
 use Rattle.cube_lex.proofs.Quotes.{unquoted-quoted}
 use Rattle.dim_name.specs.Name.{is_name}
 use Rattle.grammar.specs.Grammar.{Grammar, done, one, both, either, many}
-use Rattle.grammar.specs.Tokens.{is_word_kind, is_text_kind, is_number_kind, is_sign_kind, capitals, sign, word, name, text, money, capital_word}
+use Rattle.grammar.specs.Tokens.{is_word_kind, is_text_kind, is_number_kind, is_sign_kind, is_word, capitals, sign, word, name, text, money, capital_word}
 use Rattle.grammar.proofs.Tokens.{when_picks, and_is, bytes_eq_self}
 use Rattle.expression_grammar.specs.Spelled.{sign_token}
 use Rattle.expression_grammar.proofs.PrintedTokens.{split_at, split_next, none_written, Spells, Picks, spells_done, spells_one, spells_both, spells_next, spells_made, spells_left, spells_right, picks_sign}
@@ -35,14 +35,18 @@ and_both : (a b : Bool) → a ≡ true → b ≡ true → (a && b) ≡ true
 and_both true b h k = k
 and_both false b h k = cc
 
+pub is_written_word : (w : List ℕ) (t : Lexeme) → spelling_of t ≡ word_token w → is_word w t ≡ true
+is_written_word w t e =
+    let kind : is_word_kind t.kind ≡ true = ap (λ s. is_word_kind s.kind) e in
+    let piece : str_eq_ignore_ascii_case t.piece w ≡ true = ap (λ s. str_eq_ignore_ascii_case s.piece w) e ∙ bytes_eq_self (str_to_ascii_lowercase w) in
+    and_both _ _ kind piece
+
 -- a word whose line isn't asked for
 pub spells_word : {A : Type 0} {K : ℕ → Grammar Lexeme A} {ys : List Spelling} {b : A} (w : List ℕ) → ((line : ℕ) → Spells (K line) ys b) → Spells (both (one (word w)) K) (word_token w ∷ ys) b
 spells_word {ys = ys} w k = record {
   at = λ ts e. (
       let (t, v, is, first, rest) = split_next ts (word_token w) ys e in
-      let kind : is_word_kind t.kind ≡ true = ap (λ s. is_word_kind s.kind) first in
-      let piece : str_eq_ignore_ascii_case t.piece w ≡ true = ap (λ s. str_eq_ignore_ascii_case s.piece w) first ∙ bytes_eq_self (str_to_ascii_lowercase w) in
-      (t ∷ [], v, t.line, is, (t, refl, if_yes _ t.line _ (and_both _ _ kind piece)), (k t.line).at v rest));
+      (t ∷ [], v, t.line, is, (t, refl, if_yes _ t.line _ (is_written_word w t first)), (k t.line).at v rest));
 }
 
 pub picks_text : (bytes : List ℕ) → Picks text (text_token bytes) bytes
