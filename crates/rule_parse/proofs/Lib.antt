@@ -8,3 +8,4 @@ pub mod PrintedFormulas
 pub mod PrintedCalls
 pub mod PrintedStatements
 pub mod PrintedPlaces
+pub mod PrintedRules
