@@ -42,7 +42,7 @@ goes_through step [] v s r g = (s, refl, g)
 goes_through step (t ∷ u) v s r (n, first, g) = let (m, h, k) = goes_through step u v n r g in (m, (n, first, h), k)
 
 pub some_is : {A : Type 0} (x y : A) → ◌≡◌ {A = Option A} (Some x) (Some y) → x ≡ y
-pub some_is x y e = cc
+some_is x y e = cc
 
 -- The tokens lead behind an operand wherever u does, from no more parentheses and primaries to no more primaries, and no parenthesis stays open.
 pub record Fits (C : Counting) (ts u : List Lexeme) : Type 0 where
@@ -54,7 +54,7 @@ pub record Shorter (C : Counting) (tokens : List Spelling) (u : List Lexeme) : T
 
 -- an operator between
 pub fits_joined : (C : Counting) (ts ws u v : List Lexeme) (s t : Lexeme) → C.Joins s → C.Joins t → Fits C ts u → Fits C ws v → Fits C (ts ++ s ∷ ws) (u ++ t ∷ v)
-pub fits_joined C ts ws u v s t is-s is-t f g = record {
+fits_joined C ts ws u v s t is-s is-t f g = record {
   at = λ d e p q base deep long r goes. (
       let (a, left, (b, taken, right)) = goes_through C.step u (t ∷ v) (C.due e q) r goes in
       let (m, n, a-is, before, less) = f.at d e p q base deep long a left in
@@ -65,7 +65,7 @@ pub fits_joined C ts ws u v s t is-s is-t f g = record {
 
 -- an operator before
 pub fits_prefixed : (C : Counting) (ts u : List Lexeme) (s t : Lexeme) → C.Precedes s → C.Precedes t → Fits C ts u → Fits C (s ∷ ts) (t ∷ u)
-pub fits_prefixed C ts u s t is-s is-t f = record {
+fits_prefixed C ts u s t is-s is-t f = record {
   at = λ d e p q base deep long r (a, taken, goes). (
       let same : a ≡ C.due e q = some_is a (C.due e q) (sym taken ∙ C.before_operand t e q (omega (arith, base, deep)) is-t) in
       let (m, n, r-is, after, less) = f.at d e p q base deep long r (subst (λ x. Goes C.step x u r) same goes) in
@@ -92,7 +92,7 @@ inside C u x y e q r base opening (a, taken, goes) =
 
 -- parentheses that are left out
 pub fits_without : (C : Counting) (ts u : List Lexeme) (x y : Lexeme) → is_sign (codes "(") x ≡ true → is_sign (codes ")") y ≡ true → Fits C ts u → Fits C ts (x ∷ (u ++ y ∷ []))
-pub fits_without C ts u x y opening closing f = record {
+fits_without C ts u x y opening closing f = record {
   at = λ d e p q base deep long r goes. (
       let above : C.base ≤ e = omega (arith, base, deep) in
       let (few, shallow, (a, within, closed)) = inside C u x y e q r above opening goes in
@@ -104,7 +104,7 @@ pub fits_without C ts u x y opening closing f = record {
 -- parentheses that are kept
 pub fits_enclosed : (C : Counting) (ts u : List Lexeme) (v w x y : Lexeme) → is_sign (codes "(") v ≡ true → is_sign (codes ")") w ≡ true → is_sign (codes "(") x ≡ true → is_sign (codes ")") y ≡ true
     → Fits C ts u → Fits C (v ∷ (ts ++ w ∷ [])) (x ∷ (u ++ y ∷ []))
-pub fits_enclosed C ts u v w x y opens closes opening closing f = record {
+fits_enclosed C ts u v w x y opens closes opening closing f = record {
   at = λ d e p q base deep long r goes. (
       let above : C.base ≤ e = omega (arith, base, deep) in
       let (few, shallow, (a, within, closed)) = inside C u x y e q r above opening goes in

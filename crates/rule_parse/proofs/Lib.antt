@@ -9,3 +9,4 @@ pub mod PrintedCalls
 pub mod PrintedStatements
 pub mod PrintedPlaces
 pub mod PrintedRules
+pub mod WrittenParts

@@ -1,3 +1,5 @@
+pub mod Separated
+pub mod Writable
 pub mod Spelled
 pub mod Formula
 pub mod RuleText

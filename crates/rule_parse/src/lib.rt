@@ -6,8 +6,10 @@
 
 mod counted;
 mod fault;
+mod tree_printing;
 mod rule;
 mod tree;
+mod writing;
 
 pub use fault::RuleFault;
 pub use rule::{BodyText, EntryText, FeederText, RuleText, StatementText, TargetText};
