@@ -67,10 +67,11 @@ are_apart L = is_apart on_primary L.product && (is_apart (on_product L) L.sum &&
 pub record IsLanguage {A O R C : Type 0} (scan : Scanner R C) (L : Language A O) (primary : Primaries A) (read : PrimaryReader R C A) : Type 1 where
   pub filled : are_filled L ≡ true
   pub apart : are_apart L ≡ true
-  -- primaries are exact, if the values and the truths inside them are
-  pub exact : {V V' T T' : Grammar Lexeme A} {P Q : Reads R C A} → Exact (each_token scan) V V' P (Not (goes_on L)) → Exact (each_token scan) T T' Q (Not (goes_on L)) → Exact (each_token scan) (primary V T) (primary V' T') (read P Q) (Not (is_sign (codes "(")))
+  -- primaries are exact, if the values and the truths inside them are, and begin with no `)`
+  pub exact : {V V' T T' : Grammar Lexeme A} {P Q : Reads R C A} → Begins V' (is_sign (codes ")")) false → Begins T' (is_sign (codes ")")) false → Exact (each_token scan) V V' P (Not (goes_on L)) → Exact (each_token scan) T T' Q (Not (goes_on L)) → Exact (each_token scan) (primary V T) (primary V' T') (read P Q) (Not (is_sign (codes "(")))
   -- a primary begins with none of these signs
   pub no_parenthesis : (V T : Grammar Lexeme A) → Begins (primary V T) (is_sign (codes "(")) false
+  pub no_closing : (V T : Grammar Lexeme A) → Begins (primary V T) (is_sign (codes ")")) false
   pub no_minus : (V T : Grammar Lexeme A) → Begins (primary V T) (is_sign (codes "-")) false
   pub no_tilde : (V T : Grammar Lexeme A) → Begins (primary V T) (is_sign (codes "~")) false
   -- there is one with nothing inside it

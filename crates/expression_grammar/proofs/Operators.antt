@@ -1,5 +1,5 @@
 -- What tables of operators tell of a token.
-use Rattle.std.proofs.Common.{◌≡◌, ℕ, List, [], ◌∷◌, Option, Some, None, Bool, true, false, ◌&&◌, ◌||◌, not, if◌then◌else◌, refl, sym, ◌∙◌, ap}
+use Rattle.std.proofs.Common.{◌≡◌, ℕ, List, [], ◌∷◌, Some, Bool, true, false, ◌&&◌, ◌||◌, not, if◌then◌else◌, refl, ◌∙◌, ap}
 use Rattle.std.specs.List.{list_any}
 use Rattle.std.specs.Str.{bytes_eq}
 use Rattle.std.proofs.lemmas.Slice.Eq.{bytes_eq-Decides}
@@ -74,9 +74,11 @@ apart_tells signs table t o apart e =
     let (kind, bytes) = operator_sign table t o e in
     ap (λ b. b && signs t.piece) kind ∙ none_of signs table t.piece apart bytes
 
--- what an operation begins with
+pub operator_begins : {O : Type 0} (table : Table O) → Begins (one (operator table)) (is_operator table) true
+operator_begins table = begins_one (operator table) (is_operator table) true (picked_is_operator table)
+
 pub operation_begins : {O A : Type 0} (table : Table O) (G : Grammar Lexeme A) → Begins (operation table G) (is_operator table) true
-operation_begins table G = begins_both (begins_one (operator table) (is_operator table) true (picked_is_operator table))
+operation_begins table G = begins_both (operator_begins table)
 
 pub operator_apart : {O : Type 0} (signs : List ℕ → Bool) (table : Table O) → is_apart signs table ≡ true → Begins (one (operator table)) (is_sign_of signs) false
 operator_apart signs table apart = begins_one (operator table) (is_sign_of signs) false (λ t o e. apart_tells signs table t o apart e)

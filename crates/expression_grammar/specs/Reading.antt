@@ -1,6 +1,6 @@
 -- The readers of expressions, in the shape of the code. What an expression may be at a place is told before it is read, and its
 -- sort is told with its tree.
-use Rattle.std.specs.Prelude.{ℕ, zero, suc, Bool, true, false, List, Err, Result, codes, if◌then◌else◌}
+use Rattle.std.specs.Prelude.{ℕ, zero, suc, Bool, true, false, Err, Result, codes, if◌then◌else◌}
 use Rattle.cube_lex.specs.Lexeme.{Lexeme}
 use Rattle.grammar.specs.Reading.{Reader, Spent, gives, take_one, choose, all_of, ◌>>=◌, ◌>>◌}
 use Rattle.grammar.specs.Tokens.{sign, is_sign}

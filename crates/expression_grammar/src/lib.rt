@@ -10,3 +10,6 @@ mod sort;
 
 pub use limits::Limits;
 pub use sort::{Sort, Want};
+
+#[cfg(test)]
+mod tests;

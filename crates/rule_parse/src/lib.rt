@@ -4,13 +4,28 @@
 //! refuses.
 #![tactic(auto)]
 
+mod area;
+mod basic;
+mod bracket;
 mod counted;
 mod fault;
 mod tree_printing;
+mod feeder;
+mod formula;
+mod operator;
+mod primary;
 mod rule;
+mod statement;
+mod text;
 mod tree;
 mod writing;
+mod truth_levels;
+mod value_levels;
 
 pub use fault::RuleFault;
 pub use rule::{BodyText, EntryText, FeederText, RuleText, StatementText, TargetText};
+pub use text::parse;
 pub use tree::{SimpleText, Tree, TreeOp};
+
+#[cfg(test)]
+mod tests;

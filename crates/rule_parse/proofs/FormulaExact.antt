@@ -1,0 +1,32 @@
+-- The operators and primaries of rules are a language of expressions, so the reader of formulas is exact.
+use Rattle.std.proofs.Common.{ℕ, List, false, codes, refl}
+use Rattle.cube_lex.specs.Lexeme.{Lexeme}
+use Rattle.grammar.specs.Grammar.{one}
+use Rattle.grammar.specs.Tokens.{sign, is_sign}
+use Rattle.grammar.proofs.Exact.{Exact, Not}
+use Rattle.grammar.proofs.Begins.{Begins}
+use Rattle.grammar.proofs.Tokens.{sign_begins}
+use Rattle.expression_grammar.specs.Expression.{nothing}
+use Rattle.expression_grammar.specs.declared.sort.Sort.TheVariants as sorts
+use Rattle.expression_grammar.proofs.Languages.{goes_on, IsLanguage}
+use Rattle.expression_grammar.proofs.ExpressionExact.{value_exact, expression_begins}
+use Rattle.rule_parse.specs.Counting.{count, counting}
+use Rattle.rule_parse.specs.Formula.{rules_language, primary, formula}
+use Rattle.rule_parse.specs.Reading.{read_primary, read_value, read_formula, most_inside}
+use Rattle.rule_parse.proofs.PrimaryExact.{primary_exact, primary_no_sign, number_sample}
+
+pub rules_are_language : IsLanguage count rules_language primary read_primary
+rules_are_language = record {
+  filled = refl;
+  apart = refl;
+  exact = λ no_value no_truth value truth. primary_exact no_value no_truth value truth;
+  no_parenthesis = λ V T. primary_no_sign V T (codes "(") (sign_begins (codes "!") (codes "(")) (sign_begins (codes "[") (codes "("));
+  no_closing = λ V T. primary_no_sign V T (codes ")") (sign_begins (codes "!") (codes ")")) (sign_begins (codes "[") (codes ")"));
+  no_minus = λ V T. primary_no_sign V T (codes "-") (sign_begins (codes "!") (codes "-")) (sign_begins (codes "[") (codes "-"));
+  no_tilde = λ V T. primary_no_sign V T (codes "~") (sign_begins (codes "!") (codes "~")) (sign_begins (codes "[") (codes "~"));
+  sample = number_sample nothing nothing;
+}
+
+pub formula_exact : Exact counting formula formula read_formula (Not (goes_on rules_language))
+unfolding read_formula read_value
+formula_exact = value_exact rules_are_language most_inside
