@@ -28,3 +28,5 @@ pub mod WordFirst
 pub mod StatementExact
 pub mod RulesExact
 pub mod Answering
+pub mod WritableTrees
+pub mod TreeWeights

@@ -1,3 +1,4 @@
+pub mod Printed
 pub mod Separated
 pub mod Writable
 pub mod Spelled

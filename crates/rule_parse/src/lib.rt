@@ -14,6 +14,7 @@ mod feeder;
 mod formula;
 mod operator;
 mod primary;
+mod printing;
 mod rule;
 mod statement;
 mod text;
@@ -23,6 +24,7 @@ mod truth_levels;
 mod value_levels;
 
 pub use fault::RuleFault;
+pub use printing::print;
 pub use rule::{BodyText, EntryText, FeederText, RuleText, StatementText, TargetText};
 pub use text::parse;
 pub use tree::{SimpleText, Tree, TreeOp};

@@ -56,14 +56,22 @@ fn is_word_byte(byte: u8) -> bool
     byte.is_ascii_alphanumeric() || byte == b'_'
 }
 
+// Whether all may stand in words.
+fn are_word_bytes(bytes: &[u8]) -> bool
+    ensures { result ≡ list_all Bytes.is_word_byte bytes.now }
+{
+    bytes.iter().all(|byte| is_word_byte(*byte))
+}
+
 // Whether the bytes are a word.
 fn is_word_text(bytes: &[u8]) -> bool
     ensures { result ≡ is_word_text bytes.now }
 {
-    match bytes {
-        [] => false,
-        [first, rest @ ..] => starts_word(*first) && rest.iter().all(|byte| is_word_byte(*byte)),
+    if bytes.is_empty() {
+        return false;
     }
+    let (_, rest) = bytes.split_at(1);
+    starts_word(bytes[0]) && are_word_bytes(rest)
 }
 
 /// Writes the dimension behind a `!`.
