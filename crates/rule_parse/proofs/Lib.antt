@@ -30,3 +30,6 @@ pub mod RulesExact
 pub mod Answering
 pub mod WritableTrees
 pub mod TreeWeights
+pub mod Formed
+pub mod Kept
+pub mod PrintedText

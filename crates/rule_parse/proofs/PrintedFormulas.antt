@@ -59,7 +59,7 @@ module _ (place : Limits → Place) (base : ℕ) (is : IsPlace place base) (c : 
 
   pub simple_number : IsSimple number
   simple_number = one_token money (λ z. trees.Number z) _ (λ z. ap (λ w. w.rank) (written_number z)) (λ z. ap (λ w. w.tokens) (written_number z))
-      (λ t z picks. (let (kind, within) = money_picks t z picks in (number_no_sign t.kind kind, picks_money z within)))
+      (λ t z picks. (let (kind, within, _) = money_picks t z picks in (number_no_sign t.kind kind, picks_money z within)))
 
   pub simple_quoted : IsSimple quoted
   simple_quoted = one_token text (λ b. trees.Text b) _ (λ b. ap (λ w. w.rank) (written_text b)) (λ b. ap (λ w. w.tokens) (written_text b))

@@ -88,18 +88,18 @@ picks_capitals bytes function is = record {
 }
 
 -- what money picks is in range
-reading_is : (o : Option ℤ) (z : ℤ) → result_ok (reading_of o) ≡ Some z → is_in_range z ≡ true
+reading_is : (o : Option ℤ) (z : ℤ) → result_ok (reading_of o) ≡ Some z → (is_in_range z ≡ true) × (o ≡ Some z)
 reading_is None z e = cc
 reading_is (Some y) z e = in_range (is_in_range y) refl e where
-  in_range : (b : Bool) → is_in_range y ≡ b → result_ok {E = NumberFault} (if b then Ok y else Err TooLarge) ≡ Some z → is_in_range z ≡ true
-  in_range true is e = let same : y ≡ z = cc in subst (λ x. is_in_range x ≡ true) same is
+  in_range : (b : Bool) → is_in_range y ≡ b → result_ok {E = NumberFault} (if b then Ok y else Err TooLarge) ≡ Some z → (is_in_range z ≡ true) × (◌≡◌ {A = Option ℤ} (Some y) (Some z))
+  in_range true is e = let same : y ≡ z = cc in (subst (λ x. is_in_range x ≡ true) same is, ap Some same)
   in_range false is e = cc
 
-money_is : (t : Lexeme) (z : ℤ) (b : Bool) → is_number_kind t.kind ≡ b → (if b then result_ok (reading_of (number_of t.piece)) else None) ≡ Some z → (is_number_kind t.kind ≡ true) × (is_in_range z ≡ true)
-money_is t z true kind e = (kind, reading_is (number_of t.piece) z e)
+money_is : (t : Lexeme) (z : ℤ) (b : Bool) → is_number_kind t.kind ≡ b → (if b then result_ok (reading_of (number_of t.piece)) else None) ≡ Some z → (is_number_kind t.kind ≡ true) × (is_in_range z ≡ true) × (number_of t.piece ≡ Some z)
+money_is t z true kind e = let (within, says) = reading_is (number_of t.piece) z e in (kind, within, says)
 money_is t z false kind e = cc
 
-pub money_picks : (t : Lexeme) (z : ℤ) → money t ≡ Some z → (is_number_kind t.kind ≡ true) × (is_in_range z ≡ true)
+pub money_picks : (t : Lexeme) (z : ℤ) → money t ≡ Some z → (is_number_kind t.kind ≡ true) × (is_in_range z ≡ true) × (number_of t.piece ≡ Some z)
 money_picks t z e = money_is t z (is_number_kind t.kind) refl e
 
 pub picks_money : (z : ℤ) → is_in_range z ≡ true → Picks money (number_token z) z

@@ -22,7 +22,8 @@ use Rattle.cube_lex.specs.Quoted.{quoted}
 use Rattle.cube_lex.specs.Written.{Spelling, Adds}
 use Rattle.expression_grammar.specs.Spelled.{sign_token}
 use Rattle.rule_parse.specs.Separated.{separator}
-use Rattle.rule_parse.specs.Spelled.{is_word_text, next_spelled, listed_spelled}
+use Rattle.rule_parse.specs.Spelled.{is_word_text, next_spelled, listed_spelled, name_spelled, elements_spelled, word_token, feeder_spelled, feeders_spelled}
+use Rattle.rule_parse.specs.declared.rule.FeederText.{FeederText}
 use Rattle.rule_parse.specs.Writable.{is_quotable, is_short_word}
 
 -- Tokens that may be written.
@@ -139,8 +140,29 @@ adds_item f old a b c xs i x within is before comma item =
     subst (Adds old c) more (adds-both old a c (listed_spelled f (take i xs)) (separator i ++ f x) before (adds-both a b c (separator i) (f x) comma item))
 
 -- one more item of a list without signs between
-pub adds_more : {X : Type 0} (f : X → List Spelling) (old between new : List ℕ) (xs : List X) (i : ℕ) (d : X) → i < length xs → Adds old between (flat_map f (take i xs)) → Adds between new (f (get_or xs i d)) → Adds old new (flat_map f (take (i + 1) xs))
-adds_more f old between new xs i d within first second =
-    let same : flat_map f (take (i + 1) xs) ≡ flat_map f (take i xs) ++ f (get_or xs i d) =
-    ap (flat_map f) (take_more xs i d within) ∙ flat_map-append f (take i xs) (get_or xs i d ∷ []) ∙ ap (λ l. flat_map f (take i xs) ++ l) (append-nil (f (get_or xs i d))) in
-    subst (Adds old new) (sym same) (adds-both old between new (flat_map f (take i xs)) (f (get_or xs i d)) first second)
+pub adds_more : {X : Type 0} (f : X → List Spelling) (old between new : List ℕ) (xs : List X) (i : ℕ) (x : X) → i < length xs → x ≡ get_or xs i x → Adds old between (flat_map f (take i xs)) → Adds between new (f x) → Adds old new (flat_map f (take (i + 1) xs))
+adds_more f old between new xs i x within is first second =
+    let same : flat_map f (take i xs) ++ f x ≡ flat_map f (take (i + 1) xs) =
+    ap (λ y. flat_map f (take i xs) ++ f y) is
+    ∙ sym (ap (flat_map f) (take_more xs i x within) ∙ flat_map-append f (take i xs) (get_or xs i x ∷ []) ∙ ap (λ l. flat_map f (take i xs) ++ l) (append-nil (f (get_or xs i x)))) in
+    subst (Adds old new) same (adds-both old between new (flat_map f (take i xs)) (f x) first second)
+
+-- nothing that is a token, behind tokens
+pub then_ends : {T E : Type 0} (r : Result T E) (old between new : List ℕ) (xs : List Spelling) → Adds old between xs → OnOk r (Adds between new []) → OnOk r (Adds old new xs)
+then_ends (Ok x) old between new xs first second = subst (Adds old new) (append-nil xs) (adds-both old between new xs [] first second)
+then_ends (Err e) old between new xs first second = tt
+
+-- one element of an area, and several
+pub one_element : (list : List (List ℕ)) (x : List ℕ) → 1 ≤ length list → length list ≤ 1 → x ≡ get_or list 0 x → elements_spelled list ≡ name_spelled x
+one_element [] x some few is = absurd (omega (arith, some))
+one_element (element ∷ []) x some few is = ap name_spelled (sym is)
+one_element (element ∷ second ∷ rest) x some few is = absurd (omega (arith, few))
+
+pub several_elements : (list : List (List ℕ)) → 2 ≤ length list → sign_token (codes "{") ∷ (listed_spelled name_spelled list ++ sign_token (codes "}") ∷ []) ≡ elements_spelled list
+several_elements [] many = absurd (omega (arith, many))
+several_elements (element ∷ []) many = absurd (omega (arith, many))
+several_elements (first ∷ second ∷ rest) many = refl
+
+pub some_feeders : (list : List FeederText) → (list ≡ [] → ⊥) → word_token (codes "FEEDERS") ∷ sign_token (codes ";") ∷ flat_map feeder_spelled list ≡ feeders_spelled list
+some_feeders [] some = absurd (some refl)
+some_feeders (first ∷ rest) some = refl
