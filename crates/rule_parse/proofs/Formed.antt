@@ -3,8 +3,8 @@ use Rattle.std.proofs.Common.{◌≡◌, ◌≤◌, ◌<◌, ◌+◌, ◌==◌, 
 use Rattle.std.proofs.lemmas.Bool.{leb-true, le-leb, and_parts, and_from, or_cases, eqb-true, agree_below, agree_below_at}
 use Rattle.std.proofs.lemmas.Bool.Decides.{nat_tests}
 use Rattle.std.proofs.lemmas.List.Elements.{All-head, All-tail}
-use Rattle.std.specs.Char.{is_in_range, is_ascii_digit, to_ascii_uppercase}
-use Rattle.std.specs.Int.{is_negative}
+use Rattle.std.specs.Char.{is_ascii_digit, to_ascii_uppercase}
+use Rattle.std.specs.Int.{is_in_range, is_negative}
 use Rattle.std.specs.List.{list_all, flat_map}
 use Rattle.std.specs.Result.{result_ok}
 use Rattle.std.specs.Str.Parse.{starts_with_minus}
@@ -81,10 +81,10 @@ keeps_many {G = G} p g = record { at = λ u list formed h. keeps_many_at G p g l
 
 longer : (bytes : List ℕ) → length bytes ≤ length (doubled bytes)
 longer [] = omega arith
-longer (b ∷ bytes) = by (is_quote b) where
-  by : (q : Bool) → length (b ∷ bytes) ≤ length ((if q then b ∷ b ∷ [] else b ∷ []) ++ doubled bytes)
-  by true = omega (arith, longer bytes)
-  by false = omega (arith, longer bytes)
+longer (b ∷ bytes) = by (is_quote b) (longer bytes) where
+  by : (q : Bool) → length bytes ≤ length (doubled bytes) → length (b ∷ bytes) ≤ length ((if q then b ∷ b ∷ [] else b ∷ []) ++ doubled bytes)
+  by true below = omega (arith, below)
+  by false below = omega (arith, below)
 
 shorter : (bytes : List ℕ) → length bytes ≤ length (quoted bytes)
 shorter bytes = omega (arith, longer bytes, length-append (doubled bytes) (39 ∷ []))

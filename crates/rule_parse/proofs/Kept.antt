@@ -16,7 +16,7 @@ use Rattle.expression_grammar.specs.Expression.{from_left, operation, chain, pre
 use Rattle.expression_grammar.specs.Language.{Table}
 use Rattle.expression_grammar.specs.declared.sort.Sort.{Sort}
 use Rattle.expression_grammar.specs.declared.sort.Sort.TheVariants as sorts
-use Rattle.rule_parse.specs.Formula.{rules_language, primary, formula, number, quoted, word_name, current, reference, stet, continue, bracket, simple, dimension, first_argument, is_if, call, listed, perhaps_listed}
+use Rattle.rule_parse.specs.Formula.{ors, ands, sums, products, rules_language, primary, formula, number, quoted, word_name, current, reference, stet, continue, bracket, simple, dimension, first_argument, is_if, call, listed, perhaps_listed}
 use Rattle.rule_parse.specs.RuleText.{elements, entry, area, ended, part, leaf_first, cons_first, body, statement, database, target, feeder, skipcheck, feeders, rules}
 use Rattle.rule_parse.specs.Writable.{is_quotable, is_short_word, is_marked, is_writable_dimension, is_writable_simple, is_writable, is_writable_entry, is_writable_body, is_writable_statement, is_writable_target, is_writable_feeder, are_writable}
 use Rattle.rule_parse.specs.declared.rule.BodyText.{BodyText}
@@ -117,13 +117,20 @@ keeps_enclosed : (G : Grammar Lexeme Tree) → Keeps G Written → Keeps (enclos
 keeps_enclosed G g = keeps_both keeps_any (λ _ _. keeps_both g (λ e is. keeps_both keeps_any (λ _ _. keeps_done is)))
 
 keeps_value : (V T : Grammar Lexeme Tree) → Keeps V Written → Keeps T Written → Keeps (value_of rules_language primary V T) Written
-keeps_value V T v t = keeps_chain _ _ (keeps_chain _ _ (keeps_prefixed (codes "-") (λ e. trees.Minus e) (λ e is. writable_minus e ∙ is) _ (keeps_either (keeps_enclosed V v) (keeps_primary V T v t))))
+keeps_value V T v t =
+    let signed : Grammar Lexeme Tree = prefixed (codes "-") (λ e. trees.Minus e) (either (enclosed V) (primary V T)) in
+    keeps_chain sums (chain (λ o left right. trees.Binary o left right) products signed)
+    (keeps_chain products signed (keeps_prefixed (codes "-") (λ e. trees.Minus e) (λ e is. writable_minus e ∙ is) (either (enclosed V) (primary V T)) (keeps_either (keeps_enclosed V v) (keeps_primary V T v t))))
 
 keeps_comparison : (V : Grammar Lexeme Tree) → Keeps V Written → Keeps (comparison rules_language V) Written
 keeps_comparison V v = keeps_both v (λ left is. keeps_both keeps_any (λ o _. keeps_both v (λ right also. keeps_done (joined_written o left right is also))))
 
 keeps_truth : (V T : Grammar Lexeme Tree) → Keeps V Written → Keeps T Written → Keeps (truth_of rules_language primary V T) Written
-keeps_truth V T v t = keeps_chain _ _ (keeps_chain _ _ (keeps_prefixed (codes "~") (λ e. trees.Not e) (λ e is. writable_not e ∙ is) _ (keeps_either (keeps_enclosed T t) (keeps_comparison (value_of rules_language primary V T) (keeps_value V T v t)))))
+keeps_truth V T v t =
+    let atom : Grammar Lexeme Tree = either (enclosed T) (comparison rules_language (value_of rules_language primary V T)) in
+    let turned : Grammar Lexeme Tree = prefixed (codes "~") (λ e. trees.Not e) atom in
+    keeps_chain ors (chain (λ o left right. trees.Binary o left right) ands turned)
+    (keeps_chain ands turned (keeps_prefixed (codes "~") (λ e. trees.Not e) (λ e is. writable_not e ∙ is) atom (keeps_either (keeps_enclosed T t) (keeps_comparison (value_of rules_language primary V T) (keeps_value V T v t)))))
 
 keeps_within : (h : ℕ) (sort : Sort) → Keeps (within rules_language primary h sort) Written
 keeps_within zero sort = record { at = λ u e formed h. absurd (none sort u e h) } where
