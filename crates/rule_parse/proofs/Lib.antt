@@ -33,3 +33,4 @@ pub mod TreeWeights
 pub mod Formed
 pub mod Kept
 pub mod PrintedText
+pub mod Spines

@@ -1,3 +1,4 @@
+pub mod Spine
 pub mod Printed
 pub mod Separated
 pub mod Writable

@@ -1,9 +1,10 @@
-ghost use Rattle.std.specs.Prelude.{◌≡◌, ◌∷◌, [], ◌++◌, IsTrue, OnOk, codes};
+ghost use Rattle.std.specs.Prelude.{◌≡◌, ◌<◌, ◌∷◌, [], ◌++◌, IsTrue, IfOk, OnOk, codes};
 ghost use Rattle.std.specs.List.{list_all};
 ghost use Rattle.cube_lex.specs.Parts as parts;
 ghost use Rattle.cube_lex.specs.Written.{Adds};
 ghost use Rattle.expression_grammar.specs.Spelled.{sign_token};
 ghost use Rattle.rule_parse.specs.Spelled as spelled;
+ghost use Rattle.rule_parse.specs.Spine.{Spine};
 ghost use Rattle.rule_parse.specs.Spelled.{written, written_at, tree_spelled, listed_spelled, word_token};
 ghost use Rattle.rule_parse.specs.Writable.{is_writable, is_short_word};
 
@@ -128,11 +129,53 @@ pub fn write_tree(alloc: Global, out: &mut Vec<u8>, tree: &Tree) -> Result<(), A
             write_placed(alloc, out, inner.get(), 3)
         }
         Tree::Binary(op, left, right) => {
-            write_placed(alloc, out, left.get(), left_level(*op))?;
+            write_left(alloc, out, left.get(), left_level(*op))?;
             write_operator(out, *op)?;
             write_placed(alloc, out, right.get(), right_level(*op))
         }
     }
+}
+
+// The operations of a level that stand inside one another on the left, from the outermost on, and what they begin with.
+fn operations_of(
+    alloc: Global,
+    tree: &Tree,
+    level: u8,
+) -> Result<(&Tree, Vec<(TreeOp, &Tree)>), AllocError>
+    ensures { IfOk result (λ found. Spine level tree.now found.1.items found.0.now) }
+{
+    let mut operations = Vec::new(alloc);
+    let mut head = tree;
+    'down: while let Tree::Binary(op, left, right) = head {
+        if rank_of(*op) != level {
+            break;
+        }
+        operations.push((*op, right.get()))?;
+        head = left.get();
+    }
+    Ok((head, operations))
+}
+
+// Writes the left side of an operator, which must bind as tightly as the level. Its operations are written from the innermost
+// on, one after another, since a formula may have a thousand of them.
+#[cycle(trees)]
+fn write_left(
+    alloc: Global,
+    out: &mut Vec<u8>,
+    tree: &Tree,
+    level: u8,
+) -> Result<(), AllocError>
+    requires writable { IsTrue (is_writable tree.now) }
+    requires level { level < 2 }
+    ensures { OnOk result (Adds out.old.items out.new.items (written_at level (written tree.now))) }
+{
+    let (head, mut operations) = operations_of(alloc, tree, level)?;
+    write_placed(alloc, out, head, level)?;
+    'up: while let Some((op, right)) = operations.pop() {
+        write_operator(out, op)?;
+        write_placed(alloc, out, right, right_level(op))?;
+    }
+    Ok(())
 }
 
 // Writes a function and its arguments.

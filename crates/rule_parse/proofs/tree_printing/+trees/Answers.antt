@@ -1,14 +1,17 @@
-use Rattle.std.proofs.Common.{rules, ◌≡◌, ◌≤◌, ◌<◌, ◌+◌, ℕ, List, [], ◌∷◌, ◌++◌, true, codes, OnOk, if◌then◌else◌, sym, ap, ◌∙◌, subst}
+use Rattle.std.proofs.Common.{rules, ◌≡◌, ◌≤◌, ◌<◌, ◌+◌, ℕ, List, [], ◌∷◌, ◌++◌, true, codes, OnOk, if◌then◌else◌, sym, ap, ◌∙◌, subst, arith}
 use Rattle.std.proofs.lemmas.Bool.{lt-ltb}
 use Rattle.std.proofs.lemmas.List.{take_all}
+use Rattle.cube_lex.proofs.WrittenTexts.{adds-both}
 use Rattle.cube_lex.specs.Written.{Spelling, Adds}
 use Rattle.expression_grammar.specs.Spelled.{sign_token, in_parentheses}
 use Rattle.rule_parse.proofs.PrintedTrees.{written_number, written_text, written_current, written_bracket, written_stet, written_continue, written_call, written_minus, written_not, written_binary}
 use Rattle.rule_parse.proofs.PrintedFormulas.{arguments_written}
 use Rattle.rule_parse.proofs.TreeWeights.{weight, weights, weight_call, weight_minus, weight_not, weight_binary, weight_one}
+use Rattle.rule_parse.proofs.Spines.{none_left, spine_less, spine_weight, spine_writable, left_small, operation_at}
 use Rattle.rule_parse.proofs.WritableTrees.{number_is, text_is, current_is, bracket_is, call_is, minus_is, not_is, binary_is}
 use Rattle.rule_parse.proofs.WrittenParts.{then_adds, adds_same, adds_item, one_passes}
 use Rattle.rule_parse.specs.Spelled.{Written, written, written_at, word_token, number_token, text_token, current_token, bracket_spelled, listed_spelled, tree_spelled, left_level, right_level, sign_of}
+use Rattle.rule_parse.specs.Spine.{Spine}
 use Rattle.rule_parse.specs.Writable.{is_writable, is_quotable, is_marked, is_short_word, is_writable_simple}
 use Rattle.std.specs.List.{list_all}
 use Rattle.rule_parse.specs.declared.tree.Tree.{Tree}
@@ -61,11 +64,6 @@ write_tree-write_placed-requires-in-Not t c =
 
 pub write_tree-write_placed-requires-in-Binary : goal.write_tree-write_placed-requires-in-Binary
 write_tree-write_placed-requires-in-Binary t c = 
-    let parts : weight c.args.tree.now ≡ 1 + (weight c.get-in-Binary.result.now + weight c.in-Binary.right) = weight_binary c.args.tree.now c.in-Binary.op c.in-Binary.left c.in-Binary.right c.in-Binary.is ∙ ap (λ e. 1 + (weight e + weight c.in-Binary.right)) (sym c.get-in-Binary.ensures) in
-    (search rules, subst (λ e. is_writable e ≡ true) (sym c.get-in-Binary.ensures) (binary_is c.args.tree.now c.in-Binary.op c.in-Binary.left c.in-Binary.right c.requires c.in-Binary.is).0)
-
-pub write_tree-write_placed-requires-in-Binary-2 : goal.write_tree-write_placed-requires-in-Binary-2
-write_tree-write_placed-requires-in-Binary-2 t c = 
     let parts : weight c.args.tree.now ≡ 1 + (weight c.in-Binary.left + weight c.get-in-Binary-2.result.now) = weight_binary c.args.tree.now c.in-Binary.op c.in-Binary.left c.in-Binary.right c.in-Binary.is ∙ ap (λ e. 1 + (weight c.in-Binary.left + weight e)) (sym c.get-in-Binary-2.ensures) in
     (search rules, subst (λ e. is_writable e ≡ true) (sym c.get-in-Binary-2.ensures) (binary_is c.args.tree.now c.in-Binary.op c.in-Binary.left c.in-Binary.right c.requires c.in-Binary.is).1)
 
@@ -135,15 +133,15 @@ write_tree-returns-in_ok-write_operator-in-Binary t c =
     let right : List Spelling = written_at (right_level c.in-Binary.op) (written c.in-Binary.right) in
     let operator : Spelling = sign_token (sign_of c.in-Binary.op) in
     let same : left ++ operator ∷ right ≡ tree_spelled c.args.tree.now = sym (ap tree_spelled c.in-Binary.is ∙ ap (λ w. w.tokens) (written_binary c.in-Binary.op c.in-Binary.left c.in-Binary.right)) in
-    let first : Adds c.args.out.now.items c.write_placed-in-Binary.new.out.items left =
-    subst (λ n. Adds c.args.out.now.items c.write_placed-in-Binary.new.out.items (written_at n (written c.in-Binary.left))) c.left_level.ensures
-    (subst (λ e. Adds c.args.out.now.items c.write_placed-in-Binary.new.out.items (written_at c.left_level.result (written e))) c.get-in-Binary.ensures c.in_ok-write_placed-in-Binary.ensures) in
-    let last : OnOk c.write_placed-in-Binary-2.result (Adds c.write_operator.new.out.items c.write_placed-in-Binary-2.new.out.items right) =
-    subst (λ n. OnOk c.write_placed-in-Binary-2.result (Adds c.write_operator.new.out.items c.write_placed-in-Binary-2.new.out.items (written_at n (written c.in-Binary.right)))) c.right_level.ensures
-    (subst (λ e. OnOk c.write_placed-in-Binary-2.result (Adds c.write_operator.new.out.items c.write_placed-in-Binary-2.new.out.items (written_at c.right_level.result (written e)))) c.get-in-Binary-2.ensures c.write_placed-in-Binary-2.ensures) in
-    adds_same c.write_placed-in-Binary-2.result c.args.out.now.items c.write_placed-in-Binary-2.new.out.items (left ++ operator ∷ right) (tree_spelled c.args.tree.now) same
-    (then_adds c.write_placed-in-Binary-2.result c.args.out.now.items c.write_placed-in-Binary.new.out.items c.write_placed-in-Binary-2.new.out.items left (operator ∷ right) first
-    (then_adds c.write_placed-in-Binary-2.result c.write_placed-in-Binary.new.out.items c.write_operator.new.out.items c.write_placed-in-Binary-2.new.out.items (operator ∷ []) right c.in_ok-write_operator-in-Binary.ensures last))
+    let first : Adds c.args.out.now.items c.write_left.new.out.items left =
+    subst (λ n. Adds c.args.out.now.items c.write_left.new.out.items (written_at n (written c.in-Binary.left))) c.left_level.ensures
+    (subst (λ e. Adds c.args.out.now.items c.write_left.new.out.items (written_at c.left_level.result (written e))) c.get-in-Binary.ensures c.in_ok-write_left-in-Binary.ensures) in
+    let last : OnOk c.write_placed-in-Binary.result (Adds c.write_operator.new.out.items c.write_placed-in-Binary.new.out.items right) =
+    subst (λ n. OnOk c.write_placed-in-Binary.result (Adds c.write_operator.new.out.items c.write_placed-in-Binary.new.out.items (written_at n (written c.in-Binary.right)))) c.right_level.ensures
+    (subst (λ e. OnOk c.write_placed-in-Binary.result (Adds c.write_operator.new.out.items c.write_placed-in-Binary.new.out.items (written_at c.right_level.result (written e)))) c.get-in-Binary-2.ensures c.write_placed-in-Binary.ensures) in
+    adds_same c.write_placed-in-Binary.result c.args.out.now.items c.write_placed-in-Binary.new.out.items (left ++ operator ∷ right) (tree_spelled c.args.tree.now) same
+    (then_adds c.write_placed-in-Binary.result c.args.out.now.items c.write_left.new.out.items c.write_placed-in-Binary.new.out.items left (operator ∷ right) first
+    (then_adds c.write_placed-in-Binary.result c.write_left.new.out.items c.write_operator.new.out.items c.write_placed-in-Binary.new.out.items (operator ∷ []) right c.in_ok-write_operator-in-Binary.ensures last))
 
 pub write_trees-loop-index-preserved : goal.write_trees-loop-index-preserved
 write_trees-loop-index-preserved t c = adds_item tree_spelled c.args.out.now.items c.loop-index.out.items c.write_separator.new.out.items c.write_tree.new.out.items c.args.trees.now c.loop-index.index c.index-trees-index.result c.loop-index-test.true c.index-trees-index.is
@@ -156,3 +154,46 @@ write_trees-write_tree-requires t c =
 
 pub write_trees-returns : goal.write_trees-returns
 write_trees-returns t c = subst (Adds c.args.out.now.items c.loop-index.out.items) (ap (listed_spelled tree_spelled) (take_all c.loop-index.index c.args.trees.now c.loop-index-test.false)) c.loop-index.invariant
+
+pub write_tree-write_left-requires : goal.write_tree-write_left-requires
+write_tree-write_left-requires t c =
+    let parts : weight c.args.tree.now ≡ 1 + (weight c.get-in-Binary.result.now + weight c.in-Binary.right) = weight_binary c.args.tree.now c.in-Binary.op c.in-Binary.left c.in-Binary.right c.in-Binary.is ∙ ap (λ e. 1 + (weight e + weight c.in-Binary.right)) (sym c.get-in-Binary.ensures) in
+    (search rules, (subst (λ e. is_writable e ≡ true) (sym c.get-in-Binary.ensures) (binary_is c.args.tree.now c.in-Binary.op c.in-Binary.left c.in-Binary.right c.requires c.in-Binary.is).0, subst (λ n. n < 2) (sym c.left_level.ensures) (left_small c.in-Binary.op)))
+
+pub write_left-write_placed-requires : goal.write_left-write_placed-requires
+write_left-write_placed-requires t c =
+    let lighter : weight c.in_ok-head.head.now ≤ weight c.args.tree.now = spine_weight c.args.level c.in_ok-head.operations.items c.args.tree.now c.in_ok-head.head.now c.in_ok-head.ensures in
+    (search rules, spine_writable c.args.level c.in_ok-head.operations.items c.args.tree.now c.in_ok-head.head.now c.in_ok-head.ensures c.requires.writable)
+
+pub write_left-up-init : goal.write_left-up-init
+write_left-up-init t c = (c.in_ok-head.head.now, c.in_ok-head.ensures, c.in_ok-write_placed.ensures)
+
+pub write_left-write_placed-requires-in-Some : goal.write_left-write_placed-requires-in-Some
+write_left-write_placed-requires-in-Some t c =
+    let (head, spine, before) = c.up.invariant in
+    let whole : Spine c.args.level c.args.tree.now (c.pop.new.self.items ++ (c.in-Some.op, c.in-Some.right) ∷ []) head = subst (λ l. Spine c.args.level c.args.tree.now l head) c.in-Some.ensures.items spine in
+    let (above, rest, is, rank) = spine_less c.args.level c.pop.new.self.items c.args.tree.now head c.in-Some.op c.in-Some.right whole in
+    let lighter : weight above ≤ weight c.args.tree.now = spine_weight c.args.level c.pop.new.self.items c.args.tree.now above rest in
+    let parts : weight above ≡ 1 + (weight head + weight c.in-Some.right.now) = weight_binary above c.in-Some.op head c.in-Some.right.now is in
+    let writable : is_writable above ≡ true = spine_writable c.args.level c.pop.new.self.items c.args.tree.now above rest c.requires.writable in
+    (search rules, (binary_is above c.in-Some.op head c.in-Some.right.now writable is).1)
+
+pub write_left-up-preserved : goal.write_left-up-preserved
+write_left-up-preserved t c =
+    let (head, spine, before) = c.up.invariant in
+    let whole : Spine c.args.level c.args.tree.now (c.pop.new.self.items ++ (c.in-Some.op, c.in-Some.right) ∷ []) head = subst (λ l. Spine c.args.level c.args.tree.now l head) c.in-Some.ensures.items spine in
+    let (above, rest, is, rank) = spine_less c.args.level c.pop.new.self.items c.args.tree.now head c.in-Some.op c.in-Some.right whole in
+    let right : List Spelling = written_at (right_level c.in-Some.op) (written c.in-Some.right.now) in
+    let last : Adds c.write_operator.new.out.items c.write_placed-in-Some.new.out.items right =
+    subst (λ n. Adds c.write_operator.new.out.items c.write_placed-in-Some.new.out.items (written_at n (written c.in-Some.right.now))) c.right_level.ensures c.in_ok-write_placed-2.ensures in
+    let all : Adds c.args.out.now.items c.write_placed-in-Some.new.out.items (written_at c.args.level (written head) ++ sign_token (sign_of c.in-Some.op) ∷ right) =
+    adds-both c.args.out.now.items c.up.out.items c.write_placed-in-Some.new.out.items (written_at c.args.level (written head)) (sign_token (sign_of c.in-Some.op) ∷ right) before
+    (adds-both c.up.out.items c.write_operator.new.out.items c.write_placed-in-Some.new.out.items (sign_token (sign_of c.in-Some.op) ∷ []) right c.in_ok-write_operator.ensures last) in
+    (above, rest, subst (Adds c.args.out.now.items c.write_placed-in-Some.new.out.items) (operation_at c.args.level above head c.in-Some.right.now c.in-Some.op c.requires.level is rank) all)
+
+pub write_left-returns : goal.write_left-returns
+write_left-returns t c =
+    let (head, spine, before) = c.up.invariant in
+    let none : c.up.operations.items ≡ [] = none_left c.up.operations.items (omega (arith, c.up.operations.ok.0, c.in_default.ensures.cases.0)) in
+    let same : head ≡ c.args.tree.now = subst (λ l. Spine c.args.level c.args.tree.now l head) none spine in
+    subst (λ e. Adds c.args.out.now.items c.up.out.items (written_at c.args.level (written e))) same before
