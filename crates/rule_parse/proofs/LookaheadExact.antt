@@ -1,6 +1,6 @@
 -- A choice by the next two tokens, a word and `:`, is exact. What begins with the word takes it in both cases before it's decided, so
 -- that it depends on no more than the next token after what was read.
-use Rattle.std.proofs.Common.{◌≡◌, ℕ, List, [], ◌∷◌, ◌++◌, length, Some, Result, Ok, Err, Bool, true, false, ◌&&◌, if◌then◌else◌, codes, refl, sym, ◌∙◌, ap, subst, inl, inr, append-nil}
+use Rattle.std.proofs.Common.{◌≡◌, ℕ, List, [], ◌∷◌, ◌++◌, length, Ok, Err, Bool, true, false, ◌&&◌, if◌then◌else◌, codes, refl, sym, ◌∙◌, ap, subst, inl, inr, append-nil}
 use Rattle.cube_lex.specs.Lexeme.{Lexeme}
 use Rattle.grammar.specs.Grammar.{Grammar, either}
 use Rattle.grammar.specs.Reading.{Dead, Refused, Spent, Read, first, starts}
