@@ -1,5 +1,5 @@
 -- The readers of areas are exact.
-use Rattle.std.proofs.Common.{◌≡◌, ℕ, List, [], ◌∷◌, ◌++◌, Option, Some, None, true, false, codes, refl, sym, ◌∙◌, ap, subst, inl, inr, append-nil, append_assoc}
+use Rattle.std.proofs.Common.{ℕ, List, [], ◌∷◌, ◌++◌, Option, Some, None, true, false, codes, refl, sym, ◌∙◌, ap, subst, inl, inr, append-nil, append_assoc}
 use Rattle.cube_lex.specs.Lexeme.{Lexeme}
 use Rattle.grammar.specs.Grammar.{Grammar, one, both, done, either}
 use Rattle.grammar.specs.Tokens.{sign, name, is_sign}
@@ -7,7 +7,7 @@ use Rattle.grammar.proofs.Exact.{Exact, Always, Not, exact_gives, exact_then, ex
 use Rattle.grammar.proofs.Begins.{Begins, begins_both, begins_either, exact_or, exact_option, exact_before_next}
 use Rattle.grammar.proofs.Tokens.{exact_sign, exact_name, sign_begins, value_no_sign, name_is_value}
 use Rattle.rule_parse.specs.Counting.{count, counting}
-use Rattle.rule_parse.specs.Formula.{dimension, listed, perhaps_listed}
+use Rattle.rule_parse.specs.Formula.{listed, perhaps_listed}
 use Rattle.rule_parse.specs.RuleText.{elements, entry, area}
 use Rattle.rule_parse.specs.TextReading.{read_next_name, read_further_names, read_names, read_braced, read_alone, read_elements, read_behind_first, read_entry, read_next_entry, read_further_entries, read_entries, read_area}
 use Rattle.rule_parse.specs.declared.rule.EntryText.{EntryText}

@@ -1,8 +1,7 @@
 -- The readers of feeders are exact.
-use Rattle.std.proofs.Common.{ℕ, List, true, false, codes, refl}
-use Rattle.cube_lex.specs.Lexeme.{Lexeme}
-use Rattle.grammar.specs.Grammar.{Grammar, one, both, done}
-use Rattle.grammar.specs.Tokens.{sign, is_sign}
+use Rattle.std.proofs.Common.{true, codes, refl}
+use Rattle.grammar.specs.Grammar.{done}
+use Rattle.grammar.specs.Tokens.{is_sign}
 use Rattle.grammar.proofs.Exact.{Exact, Always, exact_gives, exact_then, exact_both, exact_made}
 use Rattle.grammar.proofs.Begins.{Begins, begins_both, exact_or, exact_before_next}
 use Rattle.grammar.proofs.Tokens.{exact_sign, exact_word, sign_begins, word_no_sign}

@@ -1,15 +1,10 @@
 -- The operators and primaries of rules are a language of expressions, so the reader of formulas is exact.
-use Rattle.std.proofs.Common.{ℕ, List, false, codes, refl}
-use Rattle.cube_lex.specs.Lexeme.{Lexeme}
-use Rattle.grammar.specs.Grammar.{one}
-use Rattle.grammar.specs.Tokens.{sign, is_sign}
+use Rattle.std.proofs.Common.{codes, refl}
 use Rattle.grammar.proofs.Exact.{Exact, Not}
-use Rattle.grammar.proofs.Begins.{Begins}
 use Rattle.grammar.proofs.Tokens.{sign_begins}
 use Rattle.expression_grammar.specs.Expression.{nothing}
-use Rattle.expression_grammar.specs.declared.sort.Sort.TheVariants as sorts
 use Rattle.expression_grammar.proofs.Languages.{goes_on, IsLanguage}
-use Rattle.expression_grammar.proofs.ExpressionExact.{value_exact, expression_begins}
+use Rattle.expression_grammar.proofs.ExpressionExact.{value_exact}
 use Rattle.rule_parse.specs.Counting.{count, counting}
 use Rattle.rule_parse.specs.Formula.{rules_language, primary, formula}
 use Rattle.rule_parse.specs.Reading.{read_primary, read_value, read_formula, most_inside}

@@ -1,6 +1,6 @@
 -- No reader leaves more tokens than it was given, and one that begins with a token leaves fewer. So loops end.
 use Rattle.std.proofs.Common.{◌≡◌, ℕ, ◌<◌, ◌≤◌, zero, suc, List, [], ◌∷◌, length, Option, Some, None, Result, Ok, Err, Bool, true, false, refl, ap, arith, if◌then◌else◌}
-use Rattle.grammar.specs.Reading.{Read, Reader, gives, taken, take_one, bound, both_of, choose, turn, repeat, all_of, starts}
+use Rattle.grammar.specs.Reading.{Read, Reader, gives, taken, take_one, bound, both_of, choose, repeat, all_of, starts}
 
 pub record Keeps {T R C A : Type 0} (P : Reader T R C A) : Type 0 where
   pub at : (n : R) (ts : List T) (a : A) (m : R) (rest : List T) → P n ts ≡ Ok (a, m, rest) → length rest ≤ length ts

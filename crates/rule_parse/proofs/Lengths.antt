@@ -1,8 +1,8 @@
 -- The readers of a rule text leave no more tokens than they were given.
-use Rattle.std.proofs.Common.{◌≡◌, ℕ, ◌≤◌, zero, suc, List, [], ◌∷◌, length, Ok, Bool, true, false, codes, if◌then◌else◌}
+use Rattle.std.proofs.Common.{◌≡◌, ℕ, ◌≤◌, zero, suc, List, [], length, Ok, Bool, true, false, codes, if◌then◌else◌}
 use Rattle.std.specs.Str.{bytes_eq}
 use Rattle.cube_lex.specs.Lexeme.{Lexeme}
-use Rattle.grammar.specs.Reading.{Reader, gives, take_one, both_of}
+use Rattle.grammar.specs.Reading.{take_one}
 use Rattle.grammar.specs.Tokens.{sign, word, name, text, money, capital_word}
 use Rattle.expression_grammar.specs.Language.{operator}
 use Rattle.expression_grammar.specs.Reading as expressions

@@ -1,5 +1,5 @@
 -- The readers of lists are exact: an item, and then a `,` and an item as long as they come.
-use Rattle.std.proofs.Common.{◌≡◌, ℕ, List, [], ◌∷◌, ◌++◌, Bool, true, false, codes, ◌∙◌, ap, inl, inr, ◌⊎◌}
+use Rattle.std.proofs.Common.{◌≡◌, ℕ, List, [], ◌∷◌, ◌++◌, Bool, true, false, codes, ◌∙◌, ap, inl, inr}
 use Rattle.std.specs.Str.{bytes_eq}
 use Rattle.cube_lex.specs.Lexeme.{Lexeme}
 use Rattle.grammar.specs.Grammar.{Grammar, one, both, done, either, many}
@@ -60,8 +60,8 @@ perhaps_listed_exact {A = A} {F = F} {F' = F'} {G = G} {G' = G'} close p comma o
     (exact_choose {S = Always} {S' = BehindList p} {S'' = Closes close p} (is_sign close) (exact_gives counting []) (listed_exact p comma e f)
     (λ u a rest nothing stops. (ap (λ x. starts (is_sign close) (x ++ rest)) nothing.0 ∙ stops.closing, tt))
     (λ u a rest h stops. (starts_text begins u a rest h, stops.behind))) where
-  begins : Begins (listed F' G') (is_sign close) false
-  begins = begins_both opens
+      begins : Begins (listed F' G') (is_sign close) false
+      begins = begins_both opens
 
 -- what stands behind the list is the sign that closes it
 pub close_tells : {B : Type 0} (close : List ℕ) (K : Grammar Lexeme B) (p : Lexeme → Bool) (b : Bool) → Begins (one (sign close)) p b → Begins (both (one (sign close)) (λ _. K)) p b

@@ -1,6 +1,6 @@
 -- A choice by the next two tokens, a word and `:`, is exact. What begins with the word takes it in both cases before it's decided, so
 -- that it depends on no more than the next token after what was read.
-use Rattle.std.proofs.Common.{◌≡◌, ℕ, List, [], ◌∷◌, ◌++◌, length, Some, Result, Ok, Err, Bool, true, false, ◌&&◌, if◌then◌else◌, codes, refl, sym, ◌∙◌, ap, subst, inl, inr, append-nil}
+use Rattle.std.proofs.Common.{◌≡◌, ℕ, List, [], ◌∷◌, ◌++◌, length, Ok, Err, Bool, true, false, ◌&&◌, if◌then◌else◌, codes, refl, sym, ◌∙◌, ap, subst, inl, inr, append-nil}
 use Rattle.cube_lex.specs.Lexeme.{Lexeme}
 use Rattle.grammar.specs.Grammar.{Grammar, either}
 use Rattle.grammar.specs.Reading.{Dead, Refused, Spent, Read, first, starts}
@@ -37,9 +37,12 @@ GoesOnWith P t = (n : Counted) → (v : List Lexeme) × ((left : ℕ) → P n (t
 -- since there is a text that begins with it
 goes_on_with : {A : Type 0} {G : Grammar Lexeme A} {P : Plan A} {S : List Lexeme → Type 0} → Exact counting G G P S → S [] → (t : Lexeme) (v : List Lexeme) (a : A) → G (t ∷ v) a → GoesOnWith P t
 unfolding Agrees
-goes_on_with {P = P} e nothing t v a h = λ n. (v, λ left stuck.
-    let agreed : Agrees {R = Counted} {C = Excess} a [] (P n ((t ∷ v) ++ [])) = e.complete n (t ∷ v) a [] h nothing in
-    subst (Agrees {R = Counted} {C = Excess} a []) (ap (P n) (append-nil (t ∷ v)) ∙ stuck) agreed)
+goes_on_with {P = P} e nothing t v a h = λ n. (
+  v,
+  λ left stuck.
+      let agreed : Agrees {R = Counted} {C = Excess} a [] (P n ((t ∷ v) ++ [])) = e.complete n (t ∷ v) a [] h nothing in
+      subst (Agrees {R = Counted} {C = Excess} a []) (ap (P n) (append-nil (t ∷ v)) ∙ stuck) agreed,
+)
 
 not_stuck : {A : Type 0} (mark : List ℕ) (P : Plan A) → ((t : Lexeme) → is_word mark t ≡ true → GoesOnWith P t) → (n : Counted) (rest : List Lexeme) → ((other : List Lexeme) → first other ≡ first rest → P n other ≡ Err (Dead (length other))) → starts (is_word mark) rest ≡ true → ⊥
 not_stuck mark P going n [] alone comes = cc comes

@@ -1,5 +1,5 @@
 -- Whether a token is an operator of a table.
-use Rattle.std.proofs.Common.{◌≡◌, ℕ, List, [], ◌∷◌, Option, Some, None, Bool, true, false, if◌then◌else◌, ◌||◌, refl, sym, ◌∙◌, ap}
+use Rattle.std.proofs.Common.{◌≡◌, [], ◌∷◌, Option, Some, Bool, true, false, if◌then◌else◌, ◌||◌, refl}
 use Rattle.std.specs.Option.{is_some}
 use Rattle.cube_lex.specs.Lexeme.{Lexeme}
 use Rattle.grammar.specs.Tokens.{is_sign}

@@ -1,20 +1,15 @@
 -- The readers of primaries are exact, if those of the values and truths inside them are.
-use Rattle.std.proofs.Common.{◌≡◌, ℕ, ℤ, List, [], ◌∷◌, ◌++◌, Option, Some, None, Bool, true, false, ◌&&◌, if◌then◌else◌, codes, refl, sym, ◌∙◌, ap, subst, inl, inr, append-nil}
-use Rattle.std.specs.Result.{result_ok}
+use Rattle.std.proofs.Common.{◌≡◌, ℕ, List, [], ◌∷◌, ◌++◌, Bool, true, false, ◌&&◌, if◌then◌else◌, codes, refl, sym, ◌∙◌, ap, subst, inl, inr}
 use Rattle.std.specs.Str.{bytes_eq}
-use Rattle.cube_fixed.specs.Text.{number_of, reading_of}
 use Rattle.cube_lex.specs.Lexeme.{Lexeme}
-use Rattle.cube_lex.specs.Quoted.{unquoted}
-use Rattle.cube_lex.specs.declared.token.Kind.{Kind}
 use Rattle.cube_lex.specs.declared.token.Kind.TheVariants as kinds
-use Rattle.dim_name.specs.Name.{is_name}
 use Rattle.grammar.specs.Grammar.{Grammar, one, both, done, either}
 use Rattle.grammar.specs.Reading.{Reader, take_one, choose}
-use Rattle.grammar.specs.Tokens.{sign, word, capital_word, text, name, money, is_sign, is_sign_kind, is_word_kind, is_text_kind, is_number_kind, is_word, capitals}
+use Rattle.grammar.specs.Tokens.{sign, capital_word, name, is_sign, is_sign_kind, is_word_kind, is_text_kind, is_number_kind}
 use Rattle.grammar.specs.Watch.{Watch}
 use Rattle.grammar.proofs.Exact.{Exact, Always, Not, exact_one, exact_gives, exact_then, exact_both, exact_made, exact_before, exact_by}
-use Rattle.grammar.proofs.Begins.{Begins, begins_one, begins_both, begins_either, exact_or, exact_option}
-use Rattle.grammar.proofs.Tokens.{when_picks, and_is, exact_sign, exact_name, exact_text, exact_money, exact_capital_word, sign_begins, value_no_sign, words_no_sign, text_is_value, money_is_value, capital_word_takes_words}
+use Rattle.grammar.proofs.Begins.{Begins, begins_both, begins_either, exact_or, exact_option}
+use Rattle.grammar.proofs.Tokens.{exact_sign, exact_name, exact_text, exact_money, exact_capital_word, sign_begins, value_no_sign, text_is_value, money_is_value}
 use Rattle.expression_grammar.proofs.Languages.{goes_on}
 use Rattle.expression_grammar.proofs.ExpressionExact.{sign_goes_on}
 use Rattle.rule_parse.specs.Counting.{count, counting}
@@ -113,7 +108,7 @@ module _ (V T : Grammar Lexeme Tree) where
   worded_no_sign : (b : List ℕ) → Begins worded (is_sign b) false
   worded_no_sign b = record { at = λ u x h. (let (t, v, is, kind) = worded_has_kind u x h in (t, v, is, ap (λ k. is_sign_kind k && bytes_eq t.piece b) kind)) }
 
-  -- what begins with none of these
+  -- what a primary begins with, by what each of its forms begins with
   primary_tells : (p : Lexeme → Bool) (b : Bool) → Begins number p b → Begins quoted p b → Begins current p b → Begins reference p b → Begins worded p b → Begins (primary V T) p b
   primary_tells p b n q c r w = begins_either n (begins_either q (begins_either c (begins_either r w)))
 

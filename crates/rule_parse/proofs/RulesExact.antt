@@ -1,7 +1,7 @@
 -- The reader of rule texts is exact.
-use Rattle.std.proofs.Common.{◌≡◌, List, [], ◌++◌, Bool, true, false, codes, refl, ◌∙◌, ap, inl, inr, append_assoc}
+use Rattle.std.proofs.Common.{List, [], ◌++◌, Bool, true, false, codes, ◌∙◌, ap, inl, inr, append_assoc}
 use Rattle.cube_lex.specs.Lexeme.{Lexeme}
-use Rattle.grammar.specs.Grammar.{Grammar, one, both, done, either, many}
+use Rattle.grammar.specs.Grammar.{Grammar, one, both, done, many}
 use Rattle.grammar.specs.Reading.{starts}
 use Rattle.grammar.specs.Tokens.{sign, word, is_sign, is_word}
 use Rattle.grammar.proofs.Exact.{Exact, Always, Not, exact_gives, exact_then, exact_both, exact_made, exact_choose}

@@ -10,7 +10,7 @@ use Rattle.grammar.proofs.Exact.{Not}
 use Rattle.grammar.proofs.Begins.{Begins, begins_both, starts_text, starts_many}
 use Rattle.grammar.proofs.Tokens.{and_is, sign_begins}
 use Rattle.expression_grammar.specs.Language.{Table}
-use Rattle.expression_grammar.specs.Expression.{chain, prefixed, operation, enclosed, value_of, within, nothing}
+use Rattle.expression_grammar.specs.Expression.{chain, prefixed, value_of, within, nothing}
 use Rattle.expression_grammar.specs.declared.sort.Sort.TheVariants as sorts
 use Rattle.expression_grammar.proofs.Languages.{is_apart}
 use Rattle.expression_grammar.proofs.Operators.{operation_apart}
@@ -111,7 +111,7 @@ ended_no_part mark u a rest (f, w, tree, parts, h, l) =
 
 -- A formula that begins with this word: a call with no arguments.
 
-abbrev sign_of : List ℕ → Lexeme
+abbrev pub sign_of : List ℕ → Lexeme
 sign_of piece = record { kind = kinds.Sign; piece = piece; start = 0; line = 0 }
 
 pub formula_of_word : (t : Lexeme) → is_word_kind t.kind ≡ true → formula (t ∷ sign_of (codes "(") ∷ sign_of (codes ")") ∷ []) (trees.Call (capitals t.piece) [])

@@ -1,5 +1,5 @@
 -- A word in capitals is one word where its letters are that word's, in either case.
-use Rattle.std.proofs.Common.{◌≡◌, ℕ, List, [], ◌∷◌, map, Option, Some, None, Bool, true, false, ◌&&◌, if◌then◌else◌, refl, sym, ◌∙◌, ap, arith}
+use Rattle.std.proofs.Common.{◌≡◌, ℕ, List, [], ◌∷◌, Some, None, true, ◌&&◌, if◌then◌else◌, refl, sym, ◌∙◌, ap, arith}
 use Rattle.std.specs.Char.{to_ascii_uppercase, to_ascii_lowercase}
 use Rattle.std.specs.Str.{bytes_eq, str_eq_ignore_ascii_case, str_to_ascii_lowercase}
 use Rattle.std.proofs.lemmas.Bool.Decides.{nat_tests}

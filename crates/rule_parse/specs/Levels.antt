@@ -4,7 +4,6 @@ use Rattle.expression_grammar.specs.Language.{Table}
 use Rattle.expression_grammar.specs.Reading as expressions
 use Rattle.expression_grammar.specs.declared.sort.Sort.{Sort}
 use Rattle.expression_grammar.specs.declared.sort.Want.{Want}
-use Rattle.expression_grammar.specs.declared.sort.Want.TheVariants as wants
 use Rattle.rule_parse.specs.Counting.{count}
 use Rattle.rule_parse.specs.Formula.{ors, ands, relations, sums, products, rules_language}
 use Rattle.rule_parse.specs.Reading.{Plan, read_primary, read_inner}

@@ -1,10 +1,9 @@
 -- The readers of a rule text, in the shape of the code.
-use Rattle.std.specs.Prelude.{ℕ, Bool, true, false, List, [], ◌∷◌, Option, Some, None, codes, bytes_eq, if◌then◌else◌}
+use Rattle.std.specs.Prelude.{ℕ, Bool, List, [], ◌∷◌, Some, None, codes, bytes_eq, if◌then◌else◌}
 use Rattle.cube_lex.specs.Lexeme.{Lexeme}
 use Rattle.grammar.specs.Reading.{Reader, gives, take_one, choose, all_of, ◌>>=◌, ◌>>◌}
-use Rattle.grammar.specs.Tokens.{sign, word, name, text, money, capital_word, is_sign, is_word, is_text_kind, is_number_kind, is_word_kind}
-use Rattle.expression_grammar.specs.Reading.{Sorted, PrimaryReader, read_expression, tree_of}
-use Rattle.expression_grammar.specs.Reading as expressions
+use Rattle.grammar.specs.Tokens.{sign, word, name, text, money, capital_word, is_sign, is_text_kind, is_number_kind, is_word_kind}
+use Rattle.expression_grammar.specs.Reading.{read_expression, tree_of}
 use Rattle.expression_grammar.specs.declared.sort.Sort.{Sort}
 use Rattle.expression_grammar.specs.declared.sort.Want.{Want}
 use Rattle.expression_grammar.specs.declared.sort.Want.TheVariants as wants
@@ -12,7 +11,6 @@ use Rattle.rule_parse.specs.Counting.{count}
 use Rattle.rule_parse.specs.Formula.{word_name, is_if, rules_language}
 use Rattle.rule_parse.specs.declared.counted.Counted.{Counted}
 use Rattle.rule_parse.specs.declared.fault.Excess.{Excess}
-use Rattle.rule_parse.specs.declared.rule.EntryText.{EntryText}
 use Rattle.rule_parse.specs.declared.tree.SimpleText.{SimpleText}
 use Rattle.rule_parse.specs.declared.tree.Tree.{Tree}
 use Rattle.rule_parse.specs.declared.tree.Tree.TheVariants as trees

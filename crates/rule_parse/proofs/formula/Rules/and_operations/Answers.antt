@@ -1,11 +1,11 @@
-use Rattle.std.proofs.Common.{Ok, sym, ◌∙◌, ap, arith}
+use Rattle.std.proofs.Common.{arith}
 use Rattle.std.proofs.lemmas.List.{length-map}
 use Rattle.std.proofs.lemmas.Result.{err_from_is_err_and}
 use Rattle.grammar.specs.Cursor.{lexemes}
 use Rattle.expression_grammar.specs.Reading as expressions
 use Rattle.expression_grammar.specs.Language.{is_operator}
 use Rattle.expression_grammar.specs.declared.sort.Want.TheVariants as wants
-use Rattle.rule_parse.specs.Levels.{table, read_not, read_operation, read_behind}
+use Rattle.rule_parse.specs.Levels.{table, read_not, read_operation}
 use Rattle.rule_parse.specs.declared.operator.Level.TheVariants as levels
 use Rattle.rule_parse.specs.declared.tree.Tree.TheVariants as trees
 use Rattle.rule_parse.proofs.Folding.{begun_folding, folds_further, is_folded}
