@@ -1,7 +1,7 @@
 //! The rules of a cube, read from their text: statements, feeders, and the formulas in them.
 //!
 //! Read in this order: [`parse`], which reads a whole text; [`RuleText`], what it gives; [`Tree`], a formula; [`RuleFault`], why it
-//! refuses.
+//! refuses; [`print`], which writes a text that reads back.
 #![tactic(auto)]
 
 mod area;
@@ -9,7 +9,6 @@ mod basic;
 mod bracket;
 mod counted;
 mod fault;
-mod tree_printing;
 mod feeder;
 mod formula;
 mod operator;
@@ -19,9 +18,10 @@ mod rule;
 mod statement;
 mod text;
 mod tree;
-mod writing;
+mod tree_printing;
 mod truth_levels;
 mod value_levels;
+mod writing;
 
 pub use fault::RuleFault;
 pub use printing::print;
@@ -29,5 +29,7 @@ pub use rule::{BodyText, EntryText, FeederText, RuleText, StatementText, TargetT
 pub use text::parse;
 pub use tree::{SimpleText, Tree, TreeOp};
 
+#[cfg(test)]
+mod printing_tests;
 #[cfg(test)]
 mod tests;
