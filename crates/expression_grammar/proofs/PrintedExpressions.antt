@@ -47,7 +47,6 @@ includes_prefixed : {A : Type 0} {G H : Grammar Lexeme A} (before : List ℕ) (m
 includes_prefixed before make g = includes_either (includes_both includes_same (λ _. includes_both g (λ _. includes_same))) g
 
 module _ {A O : Type 0} (L : Ladder A O) (inner atom inner' atom' : Grammar Lexeme A) (i : Includes inner inner') (a : Includes atom atom') where
-
   pub includes_rung : (level : ℕ) → Includes (rung L inner atom level) (rung L inner' atom' level)
   includes_rung zero = includes_chain L.joined L.loose (includes_chain L.joined L.tight (includes_prefixed L.before L.make (includes_either (includes_enclosed i) a)))
   includes_rung (suc zero) = includes_chain L.joined L.tight (includes_prefixed L.before L.make (includes_either (includes_enclosed i) a))
@@ -88,7 +87,6 @@ pub record IsWriting {A O : Type 0} (C : Counting) (W : Writing A O) (L : Langua
   pub primaries : IsPrimary C W primary
 
 module _ {A O : Type 0} (C : Counting) (W : Writing A O) (L : Language A O) (primary : Primaries A) (is : IsWriting C W L primary) where
-
   -- values and truths of this level, by the expressions inside them
   value_at : Grammar Lexeme A → Grammar Lexeme A → ℕ → Grammar Lexeme A
   value_at V T = rung (values L) V (primary V T)
@@ -121,10 +119,11 @@ module _ {A O : Type 0} (C : Counting) (W : Writing A O) (L : Language A O) (pri
       let bare : W.bare e ≡ W.bare left ++ sign_token (W.sign o) ∷ W.bare right = ap W.bare is-e ∙ is.compared.bare t o takes left right in
       let text : Spells (comparison L V) (W.bare left ++ sign_token (W.sign o) ∷ W.bare right) (L.joined o left right) =
       spells_both (again.text a left g) (spells_next (is.compared.picks t o takes) (spells_made (L.joined o left) (again.text f right h))) in
-      let short : Shorter C (W.bare left ++ sign_token (W.sign o) ∷ W.bare right) (a ++ t ∷ f) = shorter_joined (W.sign o) t (is.compared.written t o takes) (is.compared.read t o takes) (again.short a left g) (again.short f right h) in
-      (ap W.rank is-e ∙ is.compared.rank t o takes left right,
-          subst (λ y. Spells (comparison L V) (W.bare e) y) (sym is-e) (subst (λ l. Spells (comparison L V) l (L.joined o left right)) (sym bare) text),
-          subst (λ l. Shorter C (W.bare e) l) (sym whole) (subst (λ l. Shorter C l (a ++ t ∷ f)) (sym bare) short))
+      let short : Shorter C (W.bare left ++ sign_token (W.sign o) ∷ W.bare right) (a ++ t ∷ f) = shorter_joined (W.sign o) t (is.compared.written t o takes) (is.compared.read t o takes) (again.short a left g) (again.short f right h) in (
+        ap W.rank is-e ∙ is.compared.rank t o takes left right,
+        subst (λ y. Spells (comparison L V) (W.bare e) y) (sym is-e) (subst (λ l. Spells (comparison L V) l (L.joined o left right)) (sym bare) text),
+        subst (λ l. Shorter C (W.bare e) l) (sym whole) (subst (λ l. Shorter C l (a ++ t ∷ f)) (sym bare) short),
+      )
 
   -- what is known of the expressions inside others: they are written again as such, and at their own level, as the others are
   record IsInside (V T V' T' : Grammar Lexeme A) : Type 0 where

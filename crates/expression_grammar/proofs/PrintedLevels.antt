@@ -58,7 +58,6 @@ rung L inner atom (suc (suc zero)) = prefixed L.before L.make (either (enclosed 
 rung L inner atom (suc (suc (suc _))) = either (enclosed inner) atom
 
 module _ {A O : Type 0} (L : Ladder A O) (inner atom : Grammar Lexeme A) where
-
   one_down : (level : ℕ) (ts : List Lexeme) (e : A) → rung L inner atom (suc level) ts e → rung L inner atom level ts e
   one_down zero ts e h = chain_of_one L.joined L.loose (rung L inner atom 1) ts e h
   one_down (suc zero) ts e h = chain_of_one L.joined L.tight (rung L inner atom 2) ts e h
@@ -111,7 +110,6 @@ pub record IsInner {A O : Type 0} (C : Counting) (W : Writing A O) (L : Ladder A
   pub short : (u : List Lexeme) (e : A) → atom u e → Shorter C (W.bare e) u
 
 module _ {A O : Type 0} (C : Counting) (W : Writing A O) (L : Ladder A O) (is : IsLadder C W L) (inner atom : Grammar Lexeme A) where
-
   weaker : (level : ℕ) (u : List Lexeme) (e : A) → (level + 1 ≤ W.rank e) ⊎ Enclosed C W inner u e → (level ≤ W.rank e) ⊎ Enclosed C W inner u e
   weaker level u e (inl le) = inl (omega (arith, le))
   weaker level u e (inr h) = inr h
@@ -182,7 +180,6 @@ module _ {A O : Type 0} (C : Counting) (W : Writing A O) (L : Ladder A O) (is : 
   -- Level by level.
 
   module _ (known : IsInner C W L inner atom) where
-
     enclosed_or_not : (u ts : List Lexeme) (x y : Lexeme) (e : A) → is_sign (codes "(") x ≡ true → is_sign (codes ")") y ≡ true → u ≡ x ∷ (ts ++ y ∷ []) → inner ts e → (looser : Bool) → nat_lt (W.rank e) 3 ≡ looser → Shown C W L inner atom 3 u e
     enclosed_or_not u ts x y e opening closing parts h looser test =
         let (b, text) = known.inside ts e h in

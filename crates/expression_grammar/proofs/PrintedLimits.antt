@@ -146,5 +146,5 @@ shorter_enclosed {C = C} {xs = xs} {u = u} x y opening closing f = record {
       let (a, last, parts, front, ends) = split_at rest xs (sign_token (codes ")") ∷ []) back in
       let (w, none, end, second, nothing) = split_next last (sign_token (codes ")")) [] ends in
       subst (λ l. Fits C l (x ∷ (u ++ y ∷ []))) (sym (is ∙ ap (λ l. v ∷ l) (parts ∙ ap (λ l. a ++ l) (end ∙ ap (λ l. w ∷ l) (none_written none nothing)))))
-          (fits_enclosed C a u v w x y (is_written_sign (codes "(") v first) (is_written_sign (codes ")") w second) opening closing (f.at a front)));
+      (fits_enclosed C a u v w x y (is_written_sign (codes "(") v first) (is_written_sign (codes ")") w second) opening closing (f.at a front)));
 }

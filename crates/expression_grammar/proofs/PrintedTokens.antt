@@ -115,6 +115,11 @@ pub chain_more : {A O : Type 0} (joined : O → A → A → A) (table : Table O)
     → chain joined table operand (u ++ t ∷ v) (joined o e x)
 chain_more joined table operand u v e x t o (a, b, head, parts, h, (c, d, list, further, more, (nothing, is))) takes g =
     let longer : many (operation table operand) (c ++ t ∷ v) (list ++ (o, x) ∷ []) = many_more (operation table operand) list c (t ∷ v) (o, x) more (t ∷ [], v, o, refl, (t, refl, takes), (v, [], x, sym (append-nil v), g, (refl, refl))) in
-    let rest : b ≡ c = further ∙ ap (λ l. c ++ l) nothing ∙ append-nil c in
-    (a, c ++ t ∷ v, head, ap (λ l. l ++ t ∷ v) (parts ∙ ap (λ l. a ++ l) rest) ∙ append_assoc a c (t ∷ v), h,
-        (c ++ t ∷ v, [], list ++ (o, x) ∷ [], sym (append-nil (c ++ t ∷ v)), longer, (refl, ap (λ y. joined o y x) is ∙ sym (left_more joined head list o x))))
+    let rest : b ≡ c = further ∙ ap (λ l. c ++ l) nothing ∙ append-nil c in (
+      a,
+      c ++ t ∷ v,
+      head,
+      ap (λ l. l ++ t ∷ v) (parts ∙ ap (λ l. a ++ l) rest) ∙ append_assoc a c (t ∷ v),
+      h,
+      (c ++ t ∷ v, [], list ++ (o, x) ∷ [], sym (append-nil (c ++ t ∷ v)), longer, (refl, ap (λ y. joined o y x) is ∙ sym (left_more joined head list o x))),
+    )

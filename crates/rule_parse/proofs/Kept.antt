@@ -72,11 +72,11 @@ keeps_current : Keeps current Written
 keeps_current = keeps_both keeps_any (λ _ _. keeps_both
     (keeps_either {P = λ dim. is_marked dim ≡ true}
     (keeps_one (λ t dim formed picks. (
-        let (both_hold, same) = when_picks (λ (t : Lexeme). is_word_kind t.kind && is_name t.piece) (λ t. t.piece) t dim picks in
-        formed_word_name t dim formed (and_is (is_word_kind t.kind) (is_name t.piece) both_hold).0 same)))
+    let (both_hold, same) = when_picks (λ (t : Lexeme). is_word_kind t.kind && is_name t.piece) (λ t. t.piece) t dim picks in
+    formed_word_name t dim formed (and_is (is_word_kind t.kind) (is_name t.piece) both_hold).0 same)))
     (keeps_one (λ t dim formed picks. (
-        let (both_hold, same) = when_picks (λ (t : Lexeme). is_text_kind t.kind && is_name (unquoted t.piece)) (λ t. unquoted t.piece) t dim picks in
-        formed_marked t dim formed (and_is (is_text_kind t.kind) (is_name (unquoted t.piece)) both_hold).0 same))))
+    let (both_hold, same) = when_picks (λ (t : Lexeme). is_text_kind t.kind && is_name (unquoted t.piece)) (λ t. unquoted t.piece) t dim picks in
+    formed_marked t dim formed (and_is (is_text_kind t.kind) (is_name (unquoted t.piece)) both_hold).0 same))))
     (λ dim is. keeps_done (writable_current dim ∙ is)))
 
 keeps_reference : Keeps reference Written

@@ -39,7 +39,7 @@ simple_again u s (v, w, dim, parts, h, (x, y, element, further, g, (nothing, is)
 pub bracket_again : (u : List Lexeme) (simples : List SimpleText) → bracket u simples → Spells bracket (bracket_spelled simples) simples
 bracket_again u simples (v, w, _, parts, opening, (x, y, list, further, h, (a, b, _, ends, closing, (nothing, is)))) =
     subst (λ l. Spells bracket (bracket_spelled l) l) (sym is)
-        (spells_next (picks_sign (codes "[")) (spells_both (perhaps_again simple simple simple_spelled simple_again simple_again x list h) (spells_next (picks_sign (codes "]")) (spells_done list))))
+    (spells_next (picks_sign (codes "[")) (spells_both (perhaps_again simple simple simple_spelled simple_again simple_again x list h) (spells_next (picks_sign (codes "]")) (spells_done list))))
 
 braces_again : (list : List (List ℕ)) (u : List Lexeme) → listed (one name) (one name) u list → Spells elements (elements_spelled list) list
 braces_again [] u (v, w, first, parts, h, (x, y, rest, further, more, (nothing, is))) = cc
@@ -62,7 +62,7 @@ entry_again u e (v, w, dim, parts, h, (x, y, all, further, g, (nothing, is))) =
 pub area_again : (u : List Lexeme) (entries : List EntryText) → area u entries → Spells area (area_spelled entries) entries
 area_again u entries (v, w, _, parts, opening, (x, y, list, further, h, (a, b, _, ends, closing, (nothing, is)))) =
     subst (λ l. Spells area (area_spelled l) l) (sym is)
-        (spells_next (picks_sign (codes "[")) (spells_both (perhaps_again entry entry entry_spelled entry_again entry_again x list h) (spells_next (picks_sign (codes "]")) (spells_done list))))
+    (spells_next (picks_sign (codes "[")) (spells_both (perhaps_again entry entry entry_spelled entry_again entry_again x list h) (spells_next (picks_sign (codes "]")) (spells_done list))))
 
 -- Between the brackets.
 
@@ -107,13 +107,16 @@ calm_many g = record { at = λ u list. calm_many_at g list u }
 
 calm_sign : (s : List ℕ) → bytes_eq s (codes ";") ≡ false → bytes_eq s (codes "]") ≡ false → bytes_eq s (codes "=") ≡ false → bytes_eq s (codes "=>") ≡ false → bytes_eq s (codes "(") ≡ false → Calm (one (sign s))
 calm_sign s semicolon closing equal arrow opening = record {
-  at = λ u a (t, is, takes). subst AreCalm (sym is) (record {
-    semicolon = sign_tells s (codes ";") t a takes ∙ semicolon;
-    closing = sign_tells s (codes "]") t a takes ∙ closing;
-    equal = sign_tells s (codes "=") t a takes ∙ equal;
-    arrow = sign_tells s (codes "=>") t a takes ∙ arrow;
-    opening = sign_tells s (codes "(") t a takes ∙ opening;
-  }, tt);
+  at = λ u a (t, is, takes). subst AreCalm (sym is) (
+    record {
+      semicolon = sign_tells s (codes ";") t a takes ∙ semicolon;
+      closing = sign_tells s (codes "]") t a takes ∙ closing;
+      equal = sign_tells s (codes "=") t a takes ∙ equal;
+      arrow = sign_tells s (codes "=>") t a takes ∙ arrow;
+      opening = sign_tells s (codes "(") t a takes ∙ opening;
+    },
+    tt,
+  );
 }
 
 text_no_sign : (k : Kind) (b : Bool) → is_text_kind k ≡ true → (is_sign_kind k && b) ≡ false
@@ -127,13 +130,16 @@ calm_name = record {
   at = λ u a (t, is, picks). (
       let (both_hold, same) = when_picks (λ (t : Lexeme). is_text_kind t.kind && is_name (unquoted t.piece)) (λ t. unquoted t.piece) t a picks in
       let (kind, _) = and_is (is_text_kind t.kind) (is_name (unquoted t.piece)) both_hold in
-      subst AreCalm (sym is) (record {
-        semicolon = text_no_sign t.kind _ kind;
-        closing = text_no_sign t.kind _ kind;
-        equal = text_no_sign t.kind _ kind;
-        arrow = text_no_sign t.kind _ kind;
-        opening = text_no_sign t.kind _ kind;
-      }, tt));
+      subst AreCalm (sym is) (
+        record {
+          semicolon = text_no_sign t.kind _ kind;
+          closing = text_no_sign t.kind _ kind;
+          equal = text_no_sign t.kind _ kind;
+          arrow = text_no_sign t.kind _ kind;
+          opening = text_no_sign t.kind _ kind;
+        },
+        tt,
+      ));
 }
 
 calm_listed : {A : Type 0} {F G : Grammar Lexeme A} → Calm F → Calm G → Calm (listed F G)

@@ -37,7 +37,7 @@ includes_first false V T V' T' v t = v
 pub primary_includes : (V T V' T' : Grammar Lexeme Tree) → Includes V V' → Includes T T' → Includes (primary V T) (primary V' T')
 primary_includes V T V' T' v t = includes_either includes_same (includes_either includes_same (includes_either includes_same (includes_either includes_same (includes_either includes_same (includes_either includes_same
     (includes_both includes_same (λ function. includes_both includes_same
-    (λ _. includes_both (includes_either (includes_listed (includes_first (is_if function) V T V' T' v t) v) includes_same) (λ arguments. includes_same))))))))) 
+    (λ _. includes_both (includes_either (includes_listed (includes_first (is_if function) V T V' T' v t) v) includes_same) (λ arguments. includes_same)))))))))
 
 -- the parts of a call
 record IsCall (V T : Grammar Lexeme Tree) (u : List Lexeme) (e : Tree) : Type 0 where
@@ -64,9 +64,19 @@ call_is V T u e (v, w, function, parts, (t, is-t, picks), (x, y, _, further, (s,
     let inside : y ≡ a ++ r ∷ [] = more ∙ ap (λ l. a ++ l) last in
     let behind : w ≡ s ∷ (a ++ r ∷ []) = further ∙ ap (λ l. l ++ y) is-s ∙ ap (λ l. s ∷ l) inside in
     record {
-      word = t; opening = s; inner = a; closing = r; function = function; arguments = arguments;
+      word = t;
+      opening = s;
+      inner = a;
+      closing = r;
+      function = function;
+      arguments = arguments;
       parts = parts ∙ ap (λ l. l ++ w) is-t ∙ ap (λ l. t ∷ l) behind;
-      kind = kind; capital = capital; opens = opens; listed_so = h; closes = closes; tree = is-e;
+      kind = kind;
+      capital = capital;
+      opens = opens;
+      listed_so = h;
+      closes = closes;
+      tree = is-e;
     }
 
 call_tokens : List ℕ → List Tree → List Spelling
@@ -77,7 +87,6 @@ unfolding call_tokens
 call_spelled e function arguments is = ap tree_spelled is ∙ ap (λ w. w.tokens) (written_call function arguments) ∙ ap (λ l. word_token function ∷ sign_token (codes "(") ∷ (l ++ sign_token (codes ")") ∷ [])) (arguments_written arguments)
 
 module _ (place : Limits → Place) (base : ℕ) (is : IsPlace place base) (c : Counted) where
-
   first_again : (V T : Grammar Lexeme Tree) → IsWrittenAgain (formula_counting place base is c) rules_writing V → IsWrittenAgain (formula_counting place base is c) rules_writing T → (b : Bool) → IsWrittenAgain (formula_counting place base is c) rules_writing (first_argument b V T)
   first_again V T v t true = t
   first_again V T v t false = v
@@ -95,7 +104,7 @@ module _ (place : Limits → Place) (base : ℕ) (is : IsPlace place base) (c : 
       let first : t ∷ g ≡ a = sym (ends ∙ ap (λ l. l ++ g) is-t) in
       let all : Shorter I ((xs ++ sign_token (codes ",") ∷ tree_spelled e) ++ flat_map (next_spelled tree_spelled) rest) ((u ++ t ∷ g) ++ b) = further_short V again rest (xs ++ sign_token (codes ",") ∷ tree_spelled e) (u ++ t ∷ g) b longer more in
       subst (λ l. Shorter I l (u ++ v)) (append_assoc xs (sign_token (codes ",") ∷ tree_spelled e) (flat_map (next_spelled tree_spelled) rest))
-          (subst (λ l. Shorter I ((xs ++ sign_token (codes ",") ∷ tree_spelled e) ++ flat_map (next_spelled tree_spelled) rest) l) (append_assoc u (t ∷ g) b ∙ ap (λ l. u ++ (l ++ b)) first ∙ ap (λ l. u ++ l) (sym parts)) all)
+      (subst (λ l. Shorter I ((xs ++ sign_token (codes ",") ∷ tree_spelled e) ++ flat_map (next_spelled tree_spelled) rest) l) (append_assoc u (t ∷ g) b ∙ ap (λ l. u ++ (l ++ b)) first ∙ ap (λ l. u ++ l) (sym parts)) all)
 
   listed_short : (F V : Grammar Lexeme Tree) → IsWrittenAgain (formula_counting place base is c) rules_writing F → IsWrittenAgain (formula_counting place base is c) rules_writing V → (u : List Lexeme) (list : List Tree) → listed F V u list
       → Shorter (inside_counting place base is c) (listed_spelled tree_spelled list) u
@@ -117,14 +126,14 @@ module _ (place : Limits → Place) (base : ℕ) (is : IsPlace place base) (c : 
         let (t, none, is-last, t-is, nothing) = split_next last (sign_token (codes ")")) [] ends in
         let whole : ts ≡ v ∷ s ∷ (a ++ t ∷ []) = is-ts ∙ ap (λ l. v ∷ l) (is-rest ∙ ap (λ l. s ∷ l) (parts ∙ ap (λ l. a ++ l) (is-last ∙ ap (λ l. t ∷ l) (none_written none nothing)))) in
         subst (λ l. Fits (formula_counting place base is c) l (w ∷ x ∷ (inner ++ y ∷ []))) (sym whole)
-            (fits_so a v s t front (word_no_sign v.kind (ap (λ k. is_word_kind k.kind) v-is)) (is_written_sign (codes "(") s s-is) (is_written_sign (codes ")") t t-is) short));
+        (fits_so a v s t front (word_no_sign v.kind (ap (λ k. is_word_kind k.kind) v-is)) (is_written_sign (codes "(") s s-is) (is_written_sign (codes ")") t t-is) short));
   } where
     fits_so : (a : List Lexeme) (v s t : Lexeme) → map spelling_of a ≡ xs → is_sign_kind v.kind ≡ false → is_sign (codes "(") s ≡ true → is_sign (codes ")") t ≡ true → ((xs ≡ []) × (inner ≡ [])) ⊎ Shorter (inside_counting place base is c) xs inner
         → Fits (formula_counting place base is c) (v ∷ s ∷ (a ++ t ∷ [])) (w ∷ x ∷ (inner ++ y ∷ []))
     fits_so a v s t front v-kind s-is t-is (inl (no_tokens, no_inner)) =
         let none : a ≡ [] = none_written a (front ∙ no_tokens) in
         subst (λ l. Fits (formula_counting place base is c) (v ∷ s ∷ (l ++ t ∷ [])) (w ∷ x ∷ (inner ++ y ∷ []))) (sym none)
-            (subst (λ l. Fits (formula_counting place base is c) (v ∷ s ∷ t ∷ []) (w ∷ x ∷ (l ++ y ∷ []))) (sym no_inner) (fits_empty_call place base is c v s t w x y v-kind s-is t-is (word_no_sign w.kind kind) opens closes))
+        (subst (λ l. Fits (formula_counting place base is c) (v ∷ s ∷ t ∷ []) (w ∷ x ∷ (l ++ y ∷ []))) (sym no_inner) (fits_empty_call place base is c v s t w x y v-kind s-is t-is (word_no_sign w.kind kind) opens closes))
     fits_so a v s t front v-kind s-is t-is (inr shorter) = fits_call place base is c a inner v s t w x y v-kind s-is t-is (word_no_sign w.kind kind) opens closes (shorter.at a front)
 
   perhaps_short : (F V : Grammar Lexeme Tree) → IsWrittenAgain (formula_counting place base is c) rules_writing F → IsWrittenAgain (formula_counting place base is c) rules_writing V → (u : List Lexeme) (list : List Tree) → perhaps_listed F V u list
@@ -139,14 +148,14 @@ module _ (place : Limits → Place) (base : ℕ) (is : IsPlace place base) (c : 
         let k : IsCall V T u e = call_is V T u e h in
         let first : IsWrittenAgain (formula_counting place base is c) rules_writing (first_argument (is_if k.function) V T) = first_again V T v t (is_if k.function) in
         subst (λ y. Spells (call V T) (tree_spelled e) y) (sym k.tree) (subst (λ l. Spells (call V T) l (trees.Call k.function k.arguments)) (sym (call_spelled e k.function k.arguments k.tree))
-            (spells_next (picks_capitals k.word.piece k.function k.capital) (spells_next (picks_sign (codes "("))
-                (spells_both (perhaps_again (first_argument (is_if k.function) V T) V tree_spelled first.text v.text k.inner k.arguments k.listed_so)
-                    (spells_next (picks_sign (codes ")")) (spells_done (trees.Call k.function k.arguments))))))));
+        (spells_next (picks_capitals k.word.piece k.function k.capital) (spells_next (picks_sign (codes "("))
+        (spells_both (perhaps_again (first_argument (is_if k.function) V T) V tree_spelled first.text v.text k.inner k.arguments k.listed_so)
+        (spells_next (picks_sign (codes ")")) (spells_done (trees.Call k.function k.arguments))))))));
     short = λ u e h. (
         let k : IsCall V T u e = call_is V T u e h in
         let first : IsWrittenAgain (formula_counting place base is c) rules_writing (first_argument (is_if k.function) V T) = first_again V T v t (is_if k.function) in
         subst (λ l. Shorter (formula_counting place base is c) (tree_spelled e) l) (sym k.parts) (subst (λ l. Shorter (formula_counting place base is c) l (k.word ∷ k.opening ∷ (k.inner ++ k.closing ∷ []))) (sym (call_spelled e k.function k.arguments k.tree))
-            (call_short k.function (listed_spelled tree_spelled k.arguments) k.inner k.word k.opening k.closing k.kind k.opens k.closes (perhaps_short (first_argument (is_if k.function) V T) V first v k.inner k.arguments k.listed_so))));
+        (call_short k.function (listed_spelled tree_spelled k.arguments) k.inner k.word k.opening k.closing k.kind k.opens k.closes (perhaps_short (first_argument (is_if k.function) V T) V first v k.inner k.arguments k.listed_so))));
   }
 
   again_or : (G H : Grammar Lexeme Tree) → IsWrittenAgain (formula_counting place base is c) rules_writing G → IsWrittenAgain (formula_counting place base is c) rules_writing H → IsWrittenAgain (formula_counting place base is c) rules_writing (either G H)

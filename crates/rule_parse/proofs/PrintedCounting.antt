@@ -34,11 +34,11 @@ pub sign_literal : (s : List ℕ) (t : Lexeme) → is_sign s t ≡ true → t �
 sign_literal s t is =
     let (kind, bytes) = and_is (is_sign_kind t.kind) (bytes_eq t.piece s) is in
     ap (λ k. literal k t.piece t) (sign_kind t.kind kind) ∙ ap (λ b. literal kinds.Sign b t) ((bytes_eq-Decides t.piece s).0 bytes) where
-  sign_kind : (k : Kind) → is_sign_kind k ≡ true → k ≡ kinds.Sign
-  sign_kind kinds.Word e = cc
-  sign_kind kinds.Number e = cc
-  sign_kind kinds.Text e = cc
-  sign_kind kinds.Sign e = refl
+      sign_kind : (k : Kind) → is_sign_kind k ≡ true → k ≡ kinds.Sign
+      sign_kind kinds.Word e = cc
+      sign_kind kinds.Number e = cc
+      sign_kind kinds.Text e = cc
+      sign_kind kinds.Sign e = refl
 
 -- a sign that is none of those that parentheses, brackets, lists and formulas end or begin with
 pub record IsQuiet (t : Lexeme) : Type 0 where
@@ -150,7 +150,6 @@ abbrev pub bracketed_in : (Limits → Place) → Counted → ℕ → ℕ → Cou
 bracketed_in place c d p = record c { place = place (limits d p false true) }
 
 module _ (place : Limits → Place) (base : ℕ) (is : IsPlace place base) (c : Counted) where
-
   pub quiet_steps : (t : Lexeme) (d p : ℕ) (due : Bool) → IsQuiet t → step (record c { place = place (limits d p due false) }) t ≡ Some (due_in place c d p)
   quiet_steps t d p due q = steps_within place base is c (limits d p due false) t (quiet_not t (codes ";") q.kind q.semicolon)
       (inr (quiet_not t (codes ":") q.kind q.colon, inr (quiet_not t (codes ",") q.kind q.comma, quiet_not t (codes ")") q.kind q.closing)))

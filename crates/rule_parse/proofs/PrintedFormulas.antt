@@ -39,7 +39,6 @@ arguments_written (first ∷ rest) = ap (λ l. (written first).tokens ++ l) (fur
 -- Primaries with nothing counted inside them.
 
 module _ (place : Limits → Place) (base : ℕ) (is : IsPlace place base) (c : Counted) where
-
   pub record IsSimple (G : Grammar Lexeme Tree) : Type 0 where
     pub rank : (u : List Lexeme) (e : Tree) → G u e → (written e).rank ≡ 3
     pub text : (u : List Lexeme) (e : Tree) → G u e → Spells G (tree_spelled e) e
@@ -52,7 +51,7 @@ module _ (place : Limits → Place) (base : ℕ) (is : IsPlace place base) (c : 
     rank = λ u e (v, w, a, parts, (t, is-t, picks), (nothing, is-e)). ap (λ y. (written y).rank) is-e ∙ rank a;
     text = λ u e (v, w, a, parts, (t, is-t, picks), (nothing, is-e)).
         subst (λ y. Spells (both (one pick) (λ a. done (make a))) (tree_spelled y) y) (sym is-e)
-            (subst (λ l. Spells (both (one pick) (λ a. done (make a))) l (make a)) (sym (tokens a)) (spells_made make (spells_one (takes t a picks).1)));
+        (subst (λ l. Spells (both (one pick) (λ a. done (make a))) l (make a)) (sym (tokens a)) (spells_made make (spells_one (takes t a picks).1)));
     once = λ u e (v, w, a, parts, (t, is-t, picks), (nothing, is-e)).
         subst (Once place base is c) (sym (parts ∙ ap (λ l. v ++ l) nothing ∙ append-nil v ∙ is-t)) (once_word place base is c t (takes t a picks).0);
   }
@@ -70,7 +69,7 @@ module _ (place : Limits → Place) (base : ℕ) (is : IsPlace place base) (c : 
     rank = λ u e (v, x, a, parts, h, (nothing, is-e)). ap (λ y. (written y).rank) is-e ∙ rank;
     text = λ u e (v, x, a, parts, h, (nothing, is-e)).
         subst (λ y. Spells (both (one (word w)) (λ _. done tree)) (tree_spelled y) y) (sym is-e)
-            (subst (λ l. Spells (both (one (word w)) (λ _. done tree)) l tree) (sym tokens) (spells_word w (λ _. spells_done tree)));
+        (subst (λ l. Spells (both (one (word w)) (λ _. done tree)) l tree) (sym tokens) (spells_word w (λ _. spells_done tree)));
     once = λ u e (v, x, a, parts, (t, is-t, takes), (nothing, is-e)). (
         let (word_is, _) = when_picks (is_word w) (λ t. t.line) t a takes in
         let (kind, _) = and_is (is_word_kind t.kind) _ word_is in
@@ -82,7 +81,7 @@ module _ (place : Limits → Place) (base : ℕ) (is : IsPlace place base) (c : 
     rank = λ u e (v, x, list, parts, h, (nothing, is-e)). ap (λ y. (written y).rank) is-e ∙ ap (λ w. w.rank) (written_bracket list);
     text = λ u e (v, x, list, parts, h, (nothing, is-e)).
         subst (λ y. Spells reference (tree_spelled y) y) (sym is-e)
-            (subst (λ l. Spells reference l (trees.Bracket list)) (sym (ap (λ w. w.tokens) (written_bracket list))) (spells_made (λ l. trees.Bracket l) (bracket_again v list h)));
+        (subst (λ l. Spells reference l (trees.Bracket list)) (sym (ap (λ w. w.tokens) (written_bracket list))) (spells_made (λ l. trees.Bracket l) (bracket_again v list h)));
     once = λ u e (v, x, list, parts, h, (nothing, is-e)).
         subst (Once place base is c) (sym (parts ∙ ap (λ l. v ++ l) nothing ∙ append-nil v)) (once_bracketed place base is c v (bracket_is v list h));
   }
@@ -107,8 +106,8 @@ module _ (place : Limits → Place) (base : ℕ) (is : IsPlace place base) (c : 
     rank = λ u e (v, x, _, parts, h, (y, z, dim, further, g, (nothing, is-e))). ap (λ y. (written y).rank) is-e ∙ ap (λ w. w.rank) (written_current dim);
     text = λ u e (v, x, _, parts, h, (y, z, dim, further, g, (nothing, is-e))).
         subst (λ y. Spells current (tree_spelled y) y) (sym is-e)
-            (subst (λ l. Spells current l (trees.Current dim)) (sym (ap (λ w. w.tokens) (written_current dim)))
-                (spells_next (picks_sign (codes "!")) (spells_made (λ d. trees.Current d) (current_spells dim (dimension_named y dim g).0 (is_word_text dim)))));
+        (subst (λ l. Spells current l (trees.Current dim)) (sym (ap (λ w. w.tokens) (written_current dim)))
+        (spells_next (picks_sign (codes "!")) (spells_made (λ d. trees.Current d) (current_spells dim (dimension_named y dim g).0 (is_word_text dim)))));
     once = λ u e (v, x, a, parts, (s, is-s, takes), (y, z, dim, further, g, (nothing, is-e))). (
         let (mark, _) = when_picks (is_sign (codes "!")) (λ _. tt) s a takes in
         let (t, is-t, kind) = (dimension_named y dim g).1 in

@@ -77,8 +77,10 @@ sum_entries = (
 product_entries : Entries products 1 1 2
 product_entries = (
   entry_of products 1 1 2 (codes "*") ops.Mul refl refl refl refl (λ t. refl) (quiet_of (codes "*") refl refl refl refl refl refl refl),
-  (entry_of products 1 1 2 (codes "/") ops.Div refl refl refl refl (λ t. refl) (quiet_of (codes "/") refl refl refl refl refl refl refl),
-      (entry_of products 1 1 2 (codes "\\") ops.DivSafe refl refl refl refl (λ t. refl) (quiet_of (codes "\\") refl refl refl refl refl refl refl), tt)),
+  (
+    entry_of products 1 1 2 (codes "/") ops.Div refl refl refl refl (λ t. refl) (quiet_of (codes "/") refl refl refl refl refl refl refl),
+    (entry_of products 1 1 2 (codes "\\") ops.DivSafe refl refl refl refl (λ t. refl) (quiet_of (codes "\\") refl refl refl refl refl refl refl), tt),
+  ),
 )
 
 relation_entry : (s : List ℕ) (o : TreeOp) → rank_of o ≡ 3 → left_level o ≡ 0 → right_level o ≡ 0 → sign_of o ≡ s → ((t : Lexeme) → operator relations (literal kinds.Sign s t) ≡ Some o) → ((t : Lexeme) → IsQuiet (literal kinds.Sign s t)) → Entry relations 3 0 0 s o
@@ -87,11 +89,19 @@ relation_entry = entry_of relations 3 0 0
 relation_entries : Entries relations 3 0 0
 relation_entries = (
   relation_entry (codes "=") ops.Equal refl refl refl refl (λ t. refl) (quiet_of (codes "=") refl refl refl refl refl refl refl),
-  (relation_entry (codes "<>") ops.Unequal refl refl refl refl (λ t. refl) (quiet_of (codes "<>") refl refl refl refl refl refl refl),
-      (relation_entry (codes "<") ops.Less refl refl refl refl (λ t. refl) (quiet_of (codes "<") refl refl refl refl refl refl refl),
-          (relation_entry (codes ">") ops.Greater refl refl refl refl (λ t. refl) (quiet_of (codes ">") refl refl refl refl refl refl refl),
-              (relation_entry (codes "<=") ops.AtMost refl refl refl refl (λ t. refl) (quiet_of (codes "<=") refl refl refl refl refl refl refl),
-                  (relation_entry (codes ">=") ops.AtLeast refl refl refl refl (λ t. refl) (quiet_of (codes ">=") refl refl refl refl refl refl refl), tt))))),
+  (
+    relation_entry (codes "<>") ops.Unequal refl refl refl refl (λ t. refl) (quiet_of (codes "<>") refl refl refl refl refl refl refl),
+    (
+      relation_entry (codes "<") ops.Less refl refl refl refl (λ t. refl) (quiet_of (codes "<") refl refl refl refl refl refl refl),
+      (
+        relation_entry (codes ">") ops.Greater refl refl refl refl (λ t. refl) (quiet_of (codes ">") refl refl refl refl refl refl refl),
+        (
+          relation_entry (codes "<=") ops.AtMost refl refl refl refl (λ t. refl) (quiet_of (codes "<=") refl refl refl refl refl refl refl),
+          (relation_entry (codes ">=") ops.AtLeast refl refl refl refl (λ t. refl) (quiet_of (codes ">=") refl refl refl refl refl refl refl), tt),
+        ),
+      ),
+    ),
+  ),
 )
 
 -- a token that is the sign of an entry, or is written so
@@ -133,7 +143,6 @@ pub anywhere : (w : Written) → written_at 0 w ≡ w.tokens
 anywhere w = ap (λ b. if b then in_parentheses w.tokens else w.tokens) (le-ltb w.rank 0 (omega arith))
 
 module _ (place : Limits → Place) (base : ℕ) (is : IsPlace place base) (c : Counted) where
-
   joins : (table : Table TreeOp) (level : ℕ) → Entries table level level (level + 1) → IsJoined (formula_counting place base is c) rules_writing (λ o left right. trees.Binary o left right) table level
   joins table level all = record {
     rank = ranks_in table level level (level + 1) all;

@@ -103,7 +103,7 @@ closed_into p stays ts t c r calm closing goes =
 closed_from : (p : Place) → Stays p → (ts : List Lexeme) (t : Lexeme) (c : Counted) → AreCalm ts → is_sign (codes "]") t ≡ true → Goes step (record c { place = p }) (ts ++ t ∷ []) (record c { place = p })
 closed_from p stays ts t c calm closing =
     goes_on step ts (t ∷ []) (record c { place = p }) (record c { place = p }) (record c { place = p }) (calm_from p stays ts c calm)
-        (record c { place = p }, ap (step (record c { place = p })) (sign_literal (codes "]") t closing) ∙ stays.closes c t, refl)
+    (record c { place = p }, ap (step (record c { place = p })) (sign_literal (codes "]") t closing) ∙ stays.closes c t, refl)
 
 -- what a `[` does is the same wherever it stands
 abbrev OpensAlike : Place → Place → Type 0
@@ -167,7 +167,8 @@ follows_formula place base is q s ends u e t h is-t = record {
       let (i, j, m-is, before, less) = (((formula_again place base is c).short u e h).at a front).at base base 0 0 (omega arith) (omega arith) (omega arith) m (subst (λ y. Goes step y u m) at_here within) in
       let k-is : k ≡ record c { place = q } = some_is k (record c { place = q }) (sym ended ∙ ap (λ y. step y t) m-is ∙ ap (step (behind_in place c base j)) (sign_literal s t is-t) ∙ ends c j t) in
       let after : Goes step (behind_in place c base i) (x ∷ []) r = (k, ap (step (behind_in place c base i)) (sign_literal s x (is_written_sign s x x-is)) ∙ ends c i x ∙ ap Some (sym k-is), r-is) in
-      let whole : ts ≡ a ++ x ∷ [] = parts ∙ ap (λ l. a ++ l) (last-is ∙ ap (λ l. x ∷ l) (none_written none nothing)) in
-      (subst (λ l. Goes step c l r) (sym whole) (subst (λ y. Goes step y (a ++ x ∷ []) r) (sym at_here) (goes_on step a (x ∷ []) (record c { place = place (begun_within base) }) (behind_in place c base i) r before after)),
-          ap (λ y. y.place) (r-is ∙ k-is)));
+      let whole : ts ≡ a ++ x ∷ [] = parts ∙ ap (λ l. a ++ l) (last-is ∙ ap (λ l. x ∷ l) (none_written none nothing)) in (
+        subst (λ l. Goes step c l r) (sym whole) (subst (λ y. Goes step y (a ++ x ∷ []) r) (sym at_here) (goes_on step a (x ∷ []) (record c { place = place (begun_within base) }) (behind_in place c base i) r before after)),
+        ap (λ y. y.place) (r-is ∙ k-is),
+      ));
 }

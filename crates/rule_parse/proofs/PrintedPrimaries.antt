@@ -48,7 +48,6 @@ shallow_is : {S : Type 0} (d : ℕ) (s : S) → d < most_open → if_shallow d s
 shallow_is d s shallow = rw (lt-ltb d most_open shallow) refl
 
 module _ (place : Limits → Place) (base : ℕ) (is : IsPlace place base) (c : Counted) where
-
   -- these tokens are one primary, with nothing counted inside it
   pub record Once (ts : List Lexeme) : Type 0 where
     pub into : (d q : ℕ) (r : Counted) → Goes step (due_in place c d q) ts r → (q < most_primaries) × (r ≡ behind_in place c d (q + 1))
@@ -136,9 +135,11 @@ module _ (place : Limits → Place) (base : ℕ) (is : IsPlace place base) (c : 
 
   pub call_from : (w s : Lexeme) (ts : List Lexeme) (d p : ℕ) (r : Counted) → is_sign_kind w.kind ≡ false → is_sign (codes "(") s ≡ true → p < most_primaries → d < most_open → Goes step (due_in place c (d + 1) (p + 1)) ts r
       → Goes step (due_in place c d p) (w ∷ s ∷ ts) r
-  call_from w s ts d p r kind opens few shallow goes =
-      (behind_in place c d (p + 1), word_step place base is c w d p kind ∙ room_is p (behind_in place c d (p + 1)) few,
-          (due_in place c (d + 1) (p + 1), call_step place base is c s d (p + 1) opens ∙ shallow_is d (due_in place c (d + 1) (p + 1)) shallow, goes))
+  call_from w s ts d p r kind opens few shallow goes = (
+    behind_in place c d (p + 1),
+    word_step place base is c w d p kind ∙ room_is p (behind_in place c d (p + 1)) few,
+    (due_in place c (d + 1) (p + 1), call_step place base is c s d (p + 1) opens ∙ shallow_is d (due_in place c (d + 1) (p + 1)) shallow, goes),
+  )
 
   -- a call with arguments
   pub fits_call : (ts u : List Lexeme) (v s t w x y : Lexeme) → is_sign_kind v.kind ≡ false → is_sign (codes "(") s ≡ true → is_sign (codes ")") t ≡ true → is_sign_kind w.kind ≡ false → is_sign (codes "(") x ≡ true → is_sign (codes ")") y ≡ true
@@ -149,11 +150,14 @@ module _ (place : Limits → Place) (base : ℕ) (is : IsPlace place base) (c : 
         let (a, within, (b, ended, same)) = goes_through step u (y ∷ []) (due_in place c (e + 1) (q + 1)) r inner in
         let (m, n, a-is, after, less) = f.at (d + 1) (e + 1) (p + 1) (q + 1) (omega (arith, above)) (omega (arith, deep)) (omega (arith, long)) a within in
         let b-is : b ≡ behind_in place c e n = some_is b (behind_in place c e n) (sym ended ∙ ap (λ k. step k y) a-is ∙ closes_step place base is c y e n false (omega (arith, above, deep)) y-is) in
-        let last : Goes step (behind_in place c (d + 1) m) (t ∷ []) (behind_in place c d m) = (behind_in place c d m, closes_step place base is c t d m false above t-is, refl) in
-        (m, n, same ∙ b-is,
-            call_from v s (ts ++ t ∷ []) d p (behind_in place c d m) v-kind s-is (omega (arith, few, long)) (omega (arith, shallow, deep))
-                (goes_on step ts (t ∷ []) (due_in place c (d + 1) (p + 1)) (behind_in place c (d + 1) m) (behind_in place c d m) after last),
-            less));
+        let last : Goes step (behind_in place c (d + 1) m) (t ∷ []) (behind_in place c d m) = (behind_in place c d m, closes_step place base is c t d m false above t-is, refl) in (
+          m,
+          n,
+          same ∙ b-is,
+          call_from v s (ts ++ t ∷ []) d p (behind_in place c d m) v-kind s-is (omega (arith, few, long)) (omega (arith, shallow, deep))
+              (goes_on step ts (t ∷ []) (due_in place c (d + 1) (p + 1)) (behind_in place c (d + 1) m) (behind_in place c d m) after last),
+          less,
+        ));
   }
 
   -- a call without arguments
@@ -162,8 +166,11 @@ module _ (place : Limits → Place) (base : ℕ) (is : IsPlace place base) (c : 
   fits_empty_call v s t w x y v-kind s-is t-is w-kind x-is y-is = record {
     at = λ d e p q above deep long r goes. (
         let (few, shallow, (b, ended, same)) = call_into w x (y ∷ []) e q r w-kind x-is goes in
-        let b-is : b ≡ behind_in place c e (q + 1) = some_is b (behind_in place c e (q + 1)) (sym ended ∙ closes_step place base is c y e (q + 1) true (omega (arith, above, deep)) y-is) in
-        (p + 1, q + 1, same ∙ b-is,
-            call_from v s (t ∷ []) d p (behind_in place c d (p + 1)) v-kind s-is (omega (arith, few, long)) (omega (arith, shallow, deep)) (behind_in place c d (p + 1), closes_step place base is c t d (p + 1) true above t-is, refl),
-            omega (arith, long)));
+        let b-is : b ≡ behind_in place c e (q + 1) = some_is b (behind_in place c e (q + 1)) (sym ended ∙ closes_step place base is c y e (q + 1) true (omega (arith, above, deep)) y-is) in (
+          p + 1,
+          q + 1,
+          same ∙ b-is,
+          call_from v s (t ∷ []) d p (behind_in place c d (p + 1)) v-kind s-is (omega (arith, few, long)) (omega (arith, shallow, deep)) (behind_in place c d (p + 1), closes_step place base is c t d (p + 1) true above t-is, refl),
+          omega (arith, long),
+        ));
   }

@@ -130,14 +130,14 @@ follows_ended u e (v, w, tree, parts, h, (x, y, a, further, (t, is-t, takes), (n
     let (semicolon, _) = when_picks (is_sign (codes ";")) (λ _. tt) t a takes in
     let whole : u ≡ v ++ t ∷ [] = parts ∙ ap (λ l. v ++ l) (further ∙ ap (λ l. x ++ l) nothing ∙ append-nil x ∙ is-t) in
     subst (λ e. Follows (places.Formula (begun_within 0)) places.Between (ended_spelled e) u) (sym is)
-        (told whole (follows_formula places.Formula 0 formula_place places.Between (codes ";") formula_semicolon v tree t h semicolon))
+    (told whole (follows_formula places.Formula 0 formula_place places.Between (codes ";") formula_semicolon v tree t h semicolon))
 
 -- a part behind `=`, and one behind another part
 first_part : (mark : List ℕ) (u : List Lexeme) (e : Tree) → part mark u e → Follows (places.Formula (begun_within 0)) places.Between (part_spelled mark e) u
 first_part mark u e (v, w, a, parts, h, (x, y, b, further, colon, g)) =
     let marked : Follows (places.Formula (begun_within 0)) (places.Formula (limits 0 1 false false)) (word_token mark ∷ []) v =
     the_word mark (places.Formula (begun_within 0)) (places.Formula (limits 0 1 false false)) (λ c. record c { place = places.Formula (limits 0 1 false false) }) (λ c. refl)
-        (λ c x is. (let (kind, _) = and_is (is_word_kind x.kind) (str_eq_ignore_ascii_case x.piece mark) is in word_step places.Formula 0 formula_place c x 0 0 (word_no_sign x.kind kind))) v a h in
+    (λ c x is. (let (kind, _) = and_is (is_word_kind x.kind) (str_eq_ignore_ascii_case x.piece mark) is in word_step places.Formula 0 formula_place c x 0 0 (word_no_sign x.kind kind))) v a h in
     told parts (follows_both marked (told further (follows_both (the_sign (codes ":") (places.Formula (limits 0 1 false false)) (places.Formula (begun_within 0)) mark_colon x b colon) (follows_ended y e g))))
 
 second_part : (mark : List ℕ) → str_eq_ignore_ascii_case mark (codes "FEEDERS") ≡ false → (u : List Lexeme) (e : Tree) → part mark u e → Follows places.Between places.Between (part_spelled mark e) u
@@ -148,12 +148,12 @@ second_part mark other u e (v, w, a, parts, h, (x, y, b, further, colon, g)) =
 follows_body : (u : List Lexeme) (b : BodyText) → body u b → Follows (places.Formula (begun_within 0)) places.Between (body_spelled b) u
 follows_body u b (inl (v, w, leaf, parts, h, inl (x, y, cons, further, g, (nothing, is)))) =
     subst (λ b. Follows (places.Formula (begun_within 0)) places.Between (body_spelled b) u) (sym is)
-        (told parts (follows_both (first_part (codes "N") v leaf h) (told (further ∙ ap (λ l. x ++ l) nothing ∙ append-nil x) (second_part (codes "C") refl x cons g))))
+    (told parts (follows_both (first_part (codes "N") v leaf h) (told (further ∙ ap (λ l. x ++ l) nothing ∙ append-nil x) (second_part (codes "C") refl x cons g))))
 follows_body u b (inl (v, w, leaf, parts, h, inr (nothing, is))) =
     subst (λ b. Follows (places.Formula (begun_within 0)) places.Between (body_spelled b) u) (sym is) (told (parts ∙ ap (λ l. v ++ l) nothing ∙ append-nil v) (first_part (codes "N") v leaf h))
 follows_body u b (inr (inl (v, w, cons, parts, h, inl (x, y, leaf, further, g, (nothing, is))))) =
     subst (λ b. Follows (places.Formula (begun_within 0)) places.Between (body_spelled b) u) (sym is)
-        (told parts (follows_both (first_part (codes "C") v cons h) (told (further ∙ ap (λ l. x ++ l) nothing ∙ append-nil x) (second_part (codes "N") refl x leaf g))))
+    (told parts (follows_both (first_part (codes "C") v cons h) (told (further ∙ ap (λ l. x ++ l) nothing ∙ append-nil x) (second_part (codes "N") refl x leaf g))))
 follows_body u b (inr (inl (v, w, cons, parts, h, inr (nothing, is)))) =
     subst (λ b. Follows (places.Formula (begun_within 0)) places.Between (body_spelled b) u) (sym is) (told (parts ∙ ap (λ l. v ++ l) nothing ∙ append-nil v) (first_part (codes "C") v cons h))
 follows_body u b (inr (inr (v, w, tree, parts, h, (nothing, is)))) =
@@ -162,8 +162,8 @@ follows_body u b (inr (inr (v, w, tree, parts, h, (nothing, is)))) =
 follows_statement : (u : List Lexeme) (s : StatementText) → statement u s → Follows places.Between places.Between (statement_spelled s) u
 follows_statement u s (v, w, cells, parts, h, (x, y, b, further, equal, (f, g, given, more, k, (nothing, is)))) =
     subst (λ s. Follows places.Between places.Between (statement_spelled s) u) (sym is)
-        (told parts (follows_both (follows_area v cells h) (told further (follows_both (the_sign (codes "=") places.Area (places.Formula (begun_within 0)) area_equal x b equal)
-            (told (more ∙ ap (λ l. f ++ l) nothing ∙ append-nil f) (follows_body f given k))))))
+    (told parts (follows_both (follows_area v cells h) (told further (follows_both (the_sign (codes "=") places.Area (places.Formula (begun_within 0)) area_equal x b equal)
+    (told (more ∙ ap (λ l. f ++ l) nothing ∙ append-nil f) (follows_body f given k))))))
 
 -- Feeders.
 
@@ -175,14 +175,14 @@ follows_arguments : (rest : List Tree) (e : Tree) (u v : List Lexeme) (t : Lexem
     → Follows (places.Argument (begun_within 1)) places.Targets ((tree_spelled e ++ flat_map (next_spelled tree_spelled) rest) ++ sign_token (codes ")") ∷ []) ((u ++ v) ++ t ∷ [])
 follows_arguments [] e u v t h none closing =
     subst (λ l. Follows (places.Argument (begun_within 1)) places.Targets (l ++ sign_token (codes ")") ∷ []) ((u ++ v) ++ t ∷ [])) (sym (append-nil (tree_spelled e)))
-        (told (ap (λ l. l ++ t ∷ []) (ap (λ l. u ++ l) none ∙ append-nil u)) (follows_formula places.Argument 1 argument_place places.Targets (codes ")") argument_closing u e t h closing))
+    (told (ap (λ l. l ++ t ∷ []) (ap (λ l. u ++ l) none ∙ append-nil u)) (follows_formula places.Argument 1 argument_place places.Targets (codes ")") argument_closing u e t h closing))
 follows_arguments (x ∷ rest) e u v t h (a, b, parts, (f, g, o, ends, (s, is-s, takes), k), more) closing =
     let (comma, _) = when_picks (is_sign (codes ",")) (λ _. tt) s o takes in
     let first : a ≡ s ∷ g = ends ∙ ap (λ l. l ++ g) is-s in
     let whole : (u ++ v) ++ t ∷ [] ≡ (u ++ s ∷ []) ++ ((g ++ b) ++ t ∷ []) = ap (λ l. (u ++ l) ++ t ∷ []) (parts ∙ ap (λ l. l ++ b) first) ∙ regroup u (g ++ b) (t ∷ []) s in
     subst (λ l. Follows (places.Argument (begun_within 1)) places.Targets l ((u ++ v) ++ t ∷ []))
-        (sym (regroup (tree_spelled e) (tree_spelled x ++ flat_map (next_spelled tree_spelled) rest) (sign_token (codes ")") ∷ []) (sign_token (codes ","))))
-        (told whole (follows_both (follows_formula places.Argument 1 argument_place (places.Argument (begun_within 1)) (codes ",") argument_comma u e s h comma) (follows_arguments rest x g b t k more closing)))
+    (sym (regroup (tree_spelled e) (tree_spelled x ++ flat_map (next_spelled tree_spelled) rest) (sign_token (codes ")") ∷ []) (sign_token (codes ","))))
+    (told whole (follows_both (follows_formula places.Argument 1 argument_place (places.Argument (begun_within 1)) (codes ",") argument_comma u e s h comma) (follows_arguments rest x g b t k more closing)))
 
 follows_target : (u : List Lexeme) (t : TargetText) → target u t → Follows places.Targets places.Targets (target_spelled t) u
 follows_target u t (inl (v, w, simples, parts, h, (nothing, is))) =
@@ -191,8 +191,8 @@ follows_target u t (inr (v, w, a, parts, named, (x, y, b, further, opens, (f, g,
     let (closing, _) = when_picks (is_sign (codes ")")) (λ _. tt) r q takes in
     let inner : y ≡ (h ++ m) ++ r ∷ [] = more ∙ ap (λ l. l ++ g) (begun ∙ ap (λ l. h ++ l) (on ∙ ap (λ l. m ++ l) no_more ∙ append-nil m)) ∙ ap (λ l. (h ++ m) ++ l) (ends ∙ ap (λ l. o ++ l) nothing ∙ append-nil o ∙ is-r) in
     subst (λ t. Follows places.Targets places.Targets (target_spelled t) u) (sym (is ∙ ap (λ l. targets.Db l) all))
-        (told parts (follows_both (the_word (codes "DB") places.Targets places.Targets (λ c. record c { place = places.Targets }) (λ c. refl) (targets_word (codes "DB")) v a named)
-            (told further (follows_both (the_sign (codes "(") places.Targets (places.Argument (begun_within 1)) targets_opening x b opens) (told inner (follows_arguments rest e h m r k items closing))))))
+    (told parts (follows_both (the_word (codes "DB") places.Targets places.Targets (λ c. record c { place = places.Targets }) (λ c. refl) (targets_word (codes "DB")) v a named)
+    (told further (follows_both (the_sign (codes "(") places.Targets (places.Argument (begun_within 1)) targets_opening x b opens) (told inner (follows_arguments rest e h m r k items closing))))))
 
 next_target : (u : List Lexeme) (t : TargetText) → both (one (sign (codes ","))) (λ _. target) u t → Follows places.Targets places.Targets (next_spelled target_spelled t) u
 next_target u t (v, w, a, parts, comma, h) = told parts (follows_both (the_sign (codes ",") places.Targets places.Targets targets_comma v a comma) (follows_target w t h))
@@ -200,22 +200,22 @@ next_target u t (v, w, a, parts, comma, h) = told parts (follows_both (the_sign 
 follows_targets : (u : List Lexeme) (list : List TargetText) → listed target target u list → Follows places.Targets places.Targets (listed_spelled target_spelled list) u
 follows_targets u list (v, w, first, parts, h, (x, y, rest, further, more, (nothing, is))) =
     subst (λ l. Follows places.Targets places.Targets (listed_spelled target_spelled l) u) (sym is)
-        (told (parts ∙ ap (λ l. v ++ l) (further ∙ ap (λ l. x ++ l) nothing ∙ append-nil x))
-            (follows_both (follows_target v first h) (follows_many places.Targets (both (one (sign (codes ","))) (λ _. target)) (next_spelled target_spelled) next_target rest x more)))
+    (told (parts ∙ ap (λ l. v ++ l) (further ∙ ap (λ l. x ++ l) nothing ∙ append-nil x))
+    (follows_both (follows_target v first h) (follows_many places.Targets (both (one (sign (codes ","))) (λ _. target)) (next_spelled target_spelled) next_target rest x more)))
 
 follows_feeder : (u : List Lexeme) (f : FeederText) → feeder u f → Follows places.Between places.Between (feeder_spelled f) u
 follows_feeder u f (v, w, cells, parts, h, (x, y, a, further, arrow, (b, c, fed, more, g, (d, e, o, ends, semicolon, (nothing, is))))) =
     subst (λ f. Follows places.Between places.Between (feeder_spelled f) u) (sym is)
-        (told parts (follows_both (follows_area v cells h) (told further (follows_both (the_sign (codes "=>") places.Area places.Targets area_arrow x a arrow)
-            (told more (follows_both (follows_targets b fed g) (told (ends ∙ ap (λ l. d ++ l) nothing ∙ append-nil d) (the_sign (codes ";") places.Targets places.Between targets_semicolon d o semicolon))))))))
+    (told parts (follows_both (follows_area v cells h) (told further (follows_both (the_sign (codes "=>") places.Area places.Targets area_arrow x a arrow)
+    (told more (follows_both (follows_targets b fed g) (told (ends ∙ ap (λ l. d ++ l) nothing ∙ append-nil d) (the_sign (codes ";") places.Targets places.Between targets_semicolon d o semicolon))))))))
 
 -- Whole texts.
 
 follows_skipcheck : (u : List Lexeme) (b : Bool) → skipcheck u b → Follows places.Between places.Between (skipcheck_spelled b) u
 follows_skipcheck u b (inl (v, w, a, parts, named, (x, y, o, further, semicolon, (nothing, is)))) =
     subst (λ b. Follows places.Between places.Between (skipcheck_spelled b) u) (sym is)
-        (told parts (follows_both (the_word (codes "SKIPCHECK") places.Between places.Between (λ c. record c { place = places.Between }) (λ c. refl) (between_word (codes "SKIPCHECK") refl) v a named)
-            (told (further ∙ ap (λ l. x ++ l) nothing ∙ append-nil x) (the_sign (codes ";") places.Between places.Between between_semicolon x o semicolon))))
+    (told parts (follows_both (the_word (codes "SKIPCHECK") places.Between places.Between (λ c. record c { place = places.Between }) (λ c. refl) (between_word (codes "SKIPCHECK") refl) v a named)
+    (told (further ∙ ap (λ l. x ++ l) nothing ∙ append-nil x) (the_sign (codes ";") places.Between places.Between between_semicolon x o semicolon))))
 follows_skipcheck u b (inr (nothing, is)) = subst (λ b. Follows places.Between places.Between (skipcheck_spelled b) u) (sym is) (told nothing follows_none)
 
 -- the last part of a text: from between statements the tokens lead somewhere, where u does
@@ -232,7 +232,7 @@ ends_feeders : (list : List FeederText) (u : List Lexeme) → feeders u list →
 ends_feeders [] u h = ends_nothing u
 ends_feeders (first ∷ rest) u (inl (v, w, a, parts, named, (x, y, o, further, semicolon, h))) =
     ends_of (told parts (follows_both (the_word (codes "FEEDERS") places.Between places.Between (λ c. record c { feeding = true; place = places.Between }) (λ c. refl) feeders_word v a named)
-        (told further (follows_both (the_sign (codes ";") places.Between places.Between between_semicolon x o semicolon) (follows_many places.Between feeder feeder_spelled follows_feeder (first ∷ rest) y h)))))
+    (told further (follows_both (the_sign (codes ";") places.Between places.Between between_semicolon x o semicolon) (follows_many places.Between feeder feeder_spelled follows_feeder (first ∷ rest) y h)))))
 ends_feeders (first ∷ rest) u (inr (nothing, is)) = cc
 
 ends_behind : (xs ys : List Spelling) (u v : List Lexeme) → Follows places.Between places.Between xs u → Ends ys v → Ends (xs ++ ys) (u ++ v)
@@ -249,5 +249,5 @@ pub rules_end : (u : List Lexeme) (text : RuleText) → rules u text → Ends (r
 rules_end u text (v, w, skips, parts, h, (x, y, statements, further, g, (a, b, feeding, more, k, (nothing, is)))) =
     let last : y ≡ a = more ∙ ap (λ l. a ++ l) nothing ∙ append-nil a in
     subst (λ text. Ends (rules_spelled text) u) (sym is) (subst (λ l. Ends (skipcheck_spelled skips ++ (flat_map statement_spelled statements ++ feeders_spelled feeding)) l) (sym (parts ∙ ap (λ l. v ++ l) (further ∙ ap (λ l. x ++ l) last)))
-        (ends_behind (skipcheck_spelled skips) (flat_map statement_spelled statements ++ feeders_spelled feeding) v (x ++ a) (follows_skipcheck v skips h)
-            (ends_behind (flat_map statement_spelled statements) (feeders_spelled feeding) x a (follows_many places.Between statement statement_spelled follows_statement statements x g) (ends_feeders feeding a k))))
+    (ends_behind (skipcheck_spelled skips) (flat_map statement_spelled statements ++ feeders_spelled feeding) v (x ++ a) (follows_skipcheck v skips h)
+    (ends_behind (flat_map statement_spelled statements) (feeders_spelled feeding) x a (follows_many places.Between statement statement_spelled follows_statement statements x g) (ends_feeders feeding a k))))

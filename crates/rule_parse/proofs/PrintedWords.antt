@@ -127,7 +127,7 @@ pub listed_again : {A : Type 0} (F G : Grammar Lexeme A) (f : A → List Spellin
     → (u : List Lexeme) (list : List A) → listed F G u list → Spells (listed F G) (listed_spelled f list) list
 listed_again {A = A} F G f begins each u list (v, w, first, parts, h, (x, y, rest, further, more, (nothing, is))) =
     subst (λ l. Spells (listed F G) (listed_spelled f l) l) (sym is)
-        (spells_both (begins v first h) (spells_made (λ l. first ∷ l) (many_again (both (one (sign (codes ","))) (λ _. G)) (next_spelled f) (comma_again G f each) rest x more)))
+    (spells_both (begins v first h) (spells_made (λ l. first ∷ l) (many_again (both (one (sign (codes ","))) (λ _. G)) (next_spelled f) (comma_again G f each) rest x more)))
 
 pub perhaps_again : {A : Type 0} (F G : Grammar Lexeme A) (f : A → List Spelling) → ((u : List Lexeme) (a : A) → F u a → Spells F (f a) a) → ((u : List Lexeme) (a : A) → G u a → Spells G (f a) a)
     → (u : List Lexeme) (list : List A) → perhaps_listed F G u list → Spells (perhaps_listed F G) (listed_spelled f list) list

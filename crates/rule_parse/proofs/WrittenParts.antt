@@ -88,9 +88,10 @@ number_text w zero below small =
 number_text w (suc n) below small =
     let some : 0 < suc n = omega arith in
     let text : fraction_text (suc n) ≡ 46 ∷ decimals 6 (suc n) = fraction_text-pos (suc n) some in
-    let (digits, short) = decimals_are 6 (suc n) small in
-    (inr (decimal w, decimals 6 (suc n), decimal-is_digits w below, digits_of (decimals 6 (suc n)) (starts 6 (suc n) small some) digits, ap (λ xs. decimal w ++ xs) text),
-        omega (arith, length-append (decimal w) (fraction_text (suc n)), ap length text, short))
+    let (digits, short) = decimals_are 6 (suc n) small in (
+      inr (decimal w, decimals 6 (suc n), decimal-is_digits w below, digits_of (decimals 6 (suc n)) (starts 6 (suc n) small some) digits, ap (λ xs. decimal w ++ xs) text),
+      omega (arith, length-append (decimal w) (fraction_text (suc n)), ap length text, short),
+    )
 
 printed_number : (n : ℕ) → n ≤ limit → IsNumber (printed (Num (pos n))) × (length (printed (Num (pos n))) ≤ token_limit)
 unfolding printed

@@ -134,11 +134,7 @@ fn write_statements(
     Ok(())
 }
 
-fn write_target(
-    alloc: Global,
-    out: &mut Vec<u8>,
-    target: &TargetText,
-) -> Result<(), AllocError>
+fn write_target(alloc: Global, out: &mut Vec<u8>, target: &TargetText) -> Result<(), AllocError>
     requires { IsTrue (is_writable_target target.now) }
     ensures { OnOk result (Adds out.old.items out.new.items (target_spelled target.now)) }
 {
@@ -153,11 +149,7 @@ fn write_target(
     }
 }
 
-fn write_targets(
-    alloc: Global,
-    out: &mut Vec<u8>,
-    targets: &[TargetText],
-) -> Result<(), AllocError>
+fn write_targets(alloc: Global, out: &mut Vec<u8>, targets: &[TargetText]) -> Result<(), AllocError>
     requires { IsTrue (list_all is_writable_target targets.now) }
     ensures { OnOk result (Adds out.old.items out.new.items (listed_spelled target_spelled targets.now)) }
 {
@@ -169,11 +161,7 @@ fn write_targets(
 }
 
 // Writes a feeder on a line of its own.
-fn write_feeder(
-    alloc: Global,
-    out: &mut Vec<u8>,
-    feeder: &FeederText,
-) -> Result<(), AllocError>
+fn write_feeder(alloc: Global, out: &mut Vec<u8>, feeder: &FeederText) -> Result<(), AllocError>
     requires { IsTrue (is_writable_feeder feeder.now) }
     ensures { OnOk result (Adds out.old.items out.new.items (feeder_spelled feeder.now)) }
 {
@@ -212,11 +200,7 @@ fn write_skipcheck(out: &mut Vec<u8>, skipcheck: bool) -> Result<(), AllocError>
 }
 
 // Writes the feeders behind their word, if there are any.
-fn write_feeders(
-    alloc: Global,
-    out: &mut Vec<u8>,
-    feeders: &[FeederText],
-) -> Result<(), AllocError>
+fn write_feeders(alloc: Global, out: &mut Vec<u8>, feeders: &[FeederText]) -> Result<(), AllocError>
     requires { IsTrue (list_all is_writable_feeder feeders.now) }
     ensures { OnOk result (Adds out.old.items out.new.items (feeders_spelled feeders.now)) }
 {

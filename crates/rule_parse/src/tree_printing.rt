@@ -83,12 +83,7 @@ fn rank(tree: &Tree) -> u8
 
 // Writes a formula, in parentheses where it binds less tightly than it must.
 #[cycle(trees)]
-fn write_placed(
-    alloc: Global,
-    out: &mut Vec<u8>,
-    tree: &Tree,
-    level: u8,
-) -> Result<(), AllocError>
+fn write_placed(alloc: Global, out: &mut Vec<u8>, tree: &Tree, level: u8) -> Result<(), AllocError>
     requires { IsTrue (is_writable tree.now) }
     ensures { OnOk result (Adds out.old.items out.new.items (written_at level (written tree.now))) }
 {
@@ -159,12 +154,7 @@ fn operations_of(
 // Writes the left side of an operator, which must bind as tightly as the level. Its operations are written from the innermost
 // on, one after another, since a formula may have a thousand of them.
 #[cycle(trees)]
-fn write_left(
-    alloc: Global,
-    out: &mut Vec<u8>,
-    tree: &Tree,
-    level: u8,
-) -> Result<(), AllocError>
+fn write_left(alloc: Global, out: &mut Vec<u8>, tree: &Tree, level: u8) -> Result<(), AllocError>
     requires writable { IsTrue (is_writable tree.now) }
     requires level { level < 2 }
     ensures { OnOk result (Adds out.old.items out.new.items (written_at level (written tree.now))) }

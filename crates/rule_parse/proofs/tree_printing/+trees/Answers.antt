@@ -18,7 +18,7 @@ use Rattle.rule_parse.specs.declared.tree.Tree.{Tree}
 use Rattle.rule_parse.proofs.tree_printing.+trees.Goals as goal
 
 pub write_call-returns : goal.write_call-returns
-write_call-returns t c = 
+write_call-returns t c =
     let arguments : List Spelling = listed_spelled tree_spelled c.args.arguments.now in
     let end : List Spelling = sign_token (codes ")") ∷ [] in
     then_adds c.write_sign-2.result c.args.out.now.items c.write_short_word.new.out.items c.write_sign-2.new.out.items (word_token c.args.function.now ∷ []) (sign_token (codes "(") ∷ (arguments ++ end)) c.in_ok-write_short_word.ensures
@@ -26,7 +26,7 @@ write_call-returns t c =
     (then_adds c.write_sign-2.result c.write_sign.new.out.items c.write_trees.new.out.items c.write_sign-2.new.out.items arguments end c.in_ok-write_trees.ensures c.write_sign-2.ensures.ok))
 
 pub write_placed-returns-in_ok-write_tree : goal.write_placed-returns-in_ok-write_tree
-write_placed-returns-in_ok-write_tree t c = 
+write_placed-returns-in_ok-write_tree t c =
     let w : Written = written c.args.tree.now in
     let looser : w.rank < c.args.level = subst (λ n. n < c.args.level) c.rank.ensures c.if-rank-level.true in
     let same : in_parentheses w.tokens ≡ written_at c.args.level w = sym (ap (λ b. if b then in_parentheses w.tokens else w.tokens) (lt-ltb w.rank c.args.level looser)) in
@@ -47,65 +47,65 @@ pub write_tree-write_bracket-requires : goal.write_tree-write_bracket-requires
 write_tree-write_bracket-requires t c = subst (λ l. list_all is_writable_simple l ≡ true) (sym c.as_slice-in-Bracket.ensures) (bracket_is c.args.tree.now c.in-Bracket.simples c.requires c.in-Bracket.is)
 
 pub write_tree-write_call-requires : goal.write_tree-write_call-requires
-write_tree-write_call-requires t c = 
+write_tree-write_call-requires t c =
     let (word, all) = call_is c.args.tree.now c.in-Call.function c.in-Call.arguments c.requires c.in-Call.is in
     let parts : weight c.args.tree.now ≡ 1 + weights c.as_slice-in-Call-2.result.now = weight_call c.args.tree.now c.in-Call.function c.in-Call.arguments c.in-Call.is ∙ ap (λ l. 1 + weights l) (sym c.as_slice-in-Call-2.ensures) in
     (search rules, (subst (λ b. is_short_word b ≡ true) (sym c.as_slice-in-Call.ensures) word, subst (λ l. list_all is_writable l ≡ true) (sym c.as_slice-in-Call-2.ensures) all))
 
 pub write_tree-write_placed-requires : goal.write_tree-write_placed-requires
-write_tree-write_placed-requires t c = 
+write_tree-write_placed-requires t c =
     let parts : weight c.args.tree.now ≡ 1 + weight c.get.result.now = weight_minus c.args.tree.now c.in-Minus.inner c.in-Minus.is ∙ ap (λ e. 1 + weight e) (sym c.get.ensures) in
     (search rules, subst (λ e. is_writable e ≡ true) (sym c.get.ensures) (minus_is c.args.tree.now c.in-Minus.inner c.requires c.in-Minus.is))
 
 pub write_tree-write_placed-requires-in-Not : goal.write_tree-write_placed-requires-in-Not
-write_tree-write_placed-requires-in-Not t c = 
+write_tree-write_placed-requires-in-Not t c =
     let parts : weight c.args.tree.now ≡ 1 + weight c.get-in-Not.result.now = weight_not c.args.tree.now c.in-Not.inner c.in-Not.is ∙ ap (λ e. 1 + weight e) (sym c.get-in-Not.ensures) in
     (search rules, subst (λ e. is_writable e ≡ true) (sym c.get-in-Not.ensures) (not_is c.args.tree.now c.in-Not.inner c.requires c.in-Not.is))
 
 pub write_tree-write_placed-requires-in-Binary : goal.write_tree-write_placed-requires-in-Binary
-write_tree-write_placed-requires-in-Binary t c = 
+write_tree-write_placed-requires-in-Binary t c =
     let parts : weight c.args.tree.now ≡ 1 + (weight c.in-Binary.left + weight c.get-in-Binary-2.result.now) = weight_binary c.args.tree.now c.in-Binary.op c.in-Binary.left c.in-Binary.right c.in-Binary.is ∙ ap (λ e. 1 + (weight c.in-Binary.left + weight e)) (sym c.get-in-Binary-2.ensures) in
     (search rules, subst (λ e. is_writable e ≡ true) (sym c.get-in-Binary-2.ensures) (binary_is c.args.tree.now c.in-Binary.op c.in-Binary.left c.in-Binary.right c.requires c.in-Binary.is).1)
 
 pub write_tree-returns-in-Number : goal.write_tree-returns-in-Number
-write_tree-returns-in-Number t c = 
+write_tree-returns-in-Number t c =
     let same : number_token c.in-Number.money ∷ [] ≡ tree_spelled c.args.tree.now = sym (ap tree_spelled c.in-Number.is ∙ ap (λ w. w.tokens) (written_number c.in-Number.money)) in
     adds_same c.write_money.result c.args.out.now.items c.write_money.new.out.items (number_token c.in-Number.money ∷ []) (tree_spelled c.args.tree.now) same
     (c.write_money.ensures)
 
 pub write_tree-returns-in-Text : goal.write_tree-returns-in-Text
-write_tree-returns-in-Text t c = 
+write_tree-returns-in-Text t c =
     let same : text_token c.in-Text.bytes ∷ [] ≡ tree_spelled c.args.tree.now = sym (ap tree_spelled c.in-Text.is ∙ ap (λ w. w.tokens) (written_text c.in-Text.bytes)) in
     adds_same c.write_text.result c.args.out.now.items c.write_text.new.out.items (text_token c.in-Text.bytes ∷ []) (tree_spelled c.args.tree.now) same
     (subst (λ b. OnOk c.write_text.result (Adds c.args.out.now.items c.write_text.new.out.items (text_token b ∷ []))) c.as_slice.ensures c.write_text.ensures)
 
 pub write_tree-returns-in_ok-write_sign-in-Current : goal.write_tree-returns-in_ok-write_sign-in-Current
-write_tree-returns-in_ok-write_sign-in-Current t c = 
+write_tree-returns-in_ok-write_sign-in-Current t c =
     let same : sign_token (codes "!") ∷ current_token c.in-Current.dim ∷ [] ≡ tree_spelled c.args.tree.now = sym (ap tree_spelled c.in-Current.is ∙ ap (λ w. w.tokens) (written_current c.in-Current.dim)) in
     adds_same c.write_current.result c.args.out.now.items c.write_current.new.out.items (sign_token (codes "!") ∷ current_token c.in-Current.dim ∷ []) (tree_spelled c.args.tree.now) same
     (then_adds c.write_current.result c.args.out.now.items c.write_sign.new.out.items c.write_current.new.out.items (sign_token (codes "!") ∷ []) (current_token c.in-Current.dim ∷ []) c.in_ok-write_sign-in-Current.ensures.ok
     (subst (λ b. OnOk c.write_current.result (Adds c.write_sign.new.out.items c.write_current.new.out.items (current_token b ∷ []))) c.shown.ensures.value c.write_current.ensures))
 
 pub write_tree-returns-in-Bracket : goal.write_tree-returns-in-Bracket
-write_tree-returns-in-Bracket t c = 
+write_tree-returns-in-Bracket t c =
     let same : bracket_spelled c.in-Bracket.simples ≡ tree_spelled c.args.tree.now = sym (ap tree_spelled c.in-Bracket.is ∙ ap (λ w. w.tokens) (written_bracket c.in-Bracket.simples)) in
     adds_same c.write_bracket.result c.args.out.now.items c.write_bracket.new.out.items (bracket_spelled c.in-Bracket.simples) (tree_spelled c.args.tree.now) same
     (subst (λ l. OnOk c.write_bracket.result (Adds c.args.out.now.items c.write_bracket.new.out.items (bracket_spelled l))) c.as_slice-in-Bracket.ensures c.write_bracket.ensures)
 
 pub write_tree-returns-in-Stet : goal.write_tree-returns-in-Stet
-write_tree-returns-in-Stet t c = 
+write_tree-returns-in-Stet t c =
     let same : word_token (codes "STET") ∷ [] ≡ tree_spelled c.args.tree.now = sym (ap tree_spelled c.in-Stet.is ∙ ap (λ w. w.tokens) written_stet) in
     adds_same c.write_word.result c.args.out.now.items c.write_word.new.out.items (word_token (codes "STET") ∷ []) (tree_spelled c.args.tree.now) same
     (c.write_word.ensures.ok)
 
 pub write_tree-returns-in-Continue : goal.write_tree-returns-in-Continue
-write_tree-returns-in-Continue t c = 
+write_tree-returns-in-Continue t c =
     let same : word_token (codes "CONTINUE") ∷ [] ≡ tree_spelled c.args.tree.now = sym (ap tree_spelled c.in-Continue.is ∙ ap (λ w. w.tokens) written_continue) in
     adds_same c.write_word-in-Continue.result c.args.out.now.items c.write_word-in-Continue.new.out.items (word_token (codes "CONTINUE") ∷ []) (tree_spelled c.args.tree.now) same
     (c.write_word-in-Continue.ensures.ok)
 
 pub write_tree-returns-in-Call : goal.write_tree-returns-in-Call
-write_tree-returns-in-Call t c = 
+write_tree-returns-in-Call t c =
     let tokens : List ℕ → List Tree → List Spelling = λ f l. word_token f ∷ sign_token (codes "(") ∷ (listed_spelled tree_spelled l ++ sign_token (codes ")") ∷ []) in
     let same : tokens c.in-Call.function c.in-Call.arguments ≡ tree_spelled c.args.tree.now =
     sym (ap tree_spelled c.in-Call.is ∙ ap (λ w. w.tokens) (written_call c.in-Call.function c.in-Call.arguments) ∙ ap (λ l. word_token c.in-Call.function ∷ sign_token (codes "(") ∷ (l ++ sign_token (codes ")") ∷ [])) (arguments_written c.in-Call.arguments)) in
@@ -114,21 +114,21 @@ write_tree-returns-in-Call t c =
     (subst (λ f. OnOk c.write_call.result (Adds c.args.out.now.items c.write_call.new.out.items (tokens f c.as_slice-in-Call-2.result.now))) c.as_slice-in-Call.ensures c.write_call.ensures))
 
 pub write_tree-returns-in_ok-write_sign-in-Minus : goal.write_tree-returns-in_ok-write_sign-in-Minus
-write_tree-returns-in_ok-write_sign-in-Minus t c = 
+write_tree-returns-in_ok-write_sign-in-Minus t c =
     let same : sign_token (codes "-") ∷ written_at 3 (written c.in-Minus.inner) ≡ tree_spelled c.args.tree.now = sym (ap tree_spelled c.in-Minus.is ∙ ap (λ w. w.tokens) (written_minus c.in-Minus.inner)) in
     adds_same c.write_placed.result c.args.out.now.items c.write_placed.new.out.items (sign_token (codes "-") ∷ written_at 3 (written c.in-Minus.inner)) (tree_spelled c.args.tree.now) same
     (then_adds c.write_placed.result c.args.out.now.items c.write_sign-in-Minus.new.out.items c.write_placed.new.out.items (sign_token (codes "-") ∷ []) (written_at 3 (written c.in-Minus.inner)) c.in_ok-write_sign-in-Minus.ensures.ok
     (subst (λ e. OnOk c.write_placed.result (Adds c.write_sign-in-Minus.new.out.items c.write_placed.new.out.items (written_at 3 (written e)))) c.get.ensures c.write_placed.ensures))
 
 pub write_tree-returns-in_ok-write_sign-in-Not : goal.write_tree-returns-in_ok-write_sign-in-Not
-write_tree-returns-in_ok-write_sign-in-Not t c = 
+write_tree-returns-in_ok-write_sign-in-Not t c =
     let same : sign_token (codes "~") ∷ written_at 3 (written c.in-Not.inner) ≡ tree_spelled c.args.tree.now = sym (ap tree_spelled c.in-Not.is ∙ ap (λ w. w.tokens) (written_not c.in-Not.inner)) in
     adds_same c.write_placed-in-Not.result c.args.out.now.items c.write_placed-in-Not.new.out.items (sign_token (codes "~") ∷ written_at 3 (written c.in-Not.inner)) (tree_spelled c.args.tree.now) same
     (then_adds c.write_placed-in-Not.result c.args.out.now.items c.write_sign-in-Not.new.out.items c.write_placed-in-Not.new.out.items (sign_token (codes "~") ∷ []) (written_at 3 (written c.in-Not.inner)) c.in_ok-write_sign-in-Not.ensures.ok
     (subst (λ e. OnOk c.write_placed-in-Not.result (Adds c.write_sign-in-Not.new.out.items c.write_placed-in-Not.new.out.items (written_at 3 (written e)))) c.get-in-Not.ensures c.write_placed-in-Not.ensures))
 
 pub write_tree-returns-in_ok-write_operator-in-Binary : goal.write_tree-returns-in_ok-write_operator-in-Binary
-write_tree-returns-in_ok-write_operator-in-Binary t c = 
+write_tree-returns-in_ok-write_operator-in-Binary t c =
     let left : List Spelling = written_at (left_level c.in-Binary.op) (written c.in-Binary.left) in
     let right : List Spelling = written_at (right_level c.in-Binary.op) (written c.in-Binary.right) in
     let operator : Spelling = sign_token (sign_of c.in-Binary.op) in
@@ -148,7 +148,7 @@ write_trees-loop-index-preserved t c = adds_item tree_spelled c.args.out.now.ite
     c.loop-index.invariant c.in_ok-write_separator.ensures c.in_ok-write_tree.ensures
 
 pub write_trees-write_tree-requires : goal.write_trees-write_tree-requires
-write_trees-write_tree-requires t c = 
+write_trees-write_tree-requires t c =
     let within : weight c.index-trees-index.result ≤ weights c.args.trees.now = weight_one c.args.trees.now c.loop-index.index c.index-trees-index.result c.loop-index-test.true c.index-trees-index.is in
     (search rules, one_passes is_writable c.args.trees.now c.loop-index.index c.index-trees-index.result c.loop-index-test.true c.index-trees-index.is c.requires)
 
