@@ -5,3 +5,7 @@ pub mod Parts
 pub mod Comparing
 pub mod OneNesting
 pub mod ExpressionExact
+pub mod PrintedTokens
+pub mod PrintedLimits
+pub mod PrintedLevels
+pub mod PrintedExpressions

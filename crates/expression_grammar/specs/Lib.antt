@@ -2,3 +2,4 @@ pub mod Language
 pub mod Expression
 pub mod Reading
 pub mod Limits
+pub mod Spelled

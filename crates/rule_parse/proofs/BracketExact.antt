@@ -14,26 +14,28 @@ use Rattle.rule_parse.proofs.ListedExact.{Closes, perhaps_listed_exact, closed_l
 
 -- An optional dimension. A name comes first in both cases.
 
--- `name :`
+-- `:`
 abbrev pub colon : Grammar Lexeme (Unit {0})
 colon = one (sign (codes ":"))
 
+-- `name :` before a text of K
 pub with_dimension : {B : Type 0} (K : Option (List ℕ) → Grammar Lexeme B) (v w : List Lexeme) (first : List ℕ) (y z : List Lexeme) (x : Unit {0}) (b : B) → one name v first → w ≡ y ++ z → colon y x → K (Some first) z b → both dimension K (v ++ w) b
 with_dimension K v w first y z x b h parts c k = (v ++ y, z, Some first, ap (λ l. v ++ l) parts ∙ sym (append_assoc v y z), inl (v, y, first, refl, h, (y, [], x, sym (append-nil y), c, (refl, refl))), k)
 
+-- a text of K alone
 pub no_dimension : {B : Type 0} (K : Option (List ℕ) → Grammar Lexeme B) (u : List Lexeme) (b : B) → K None u b → both dimension K u b
 no_dimension K u b k = ([], u, None, refl, inr (refl, refl), k)
 
 pub dimension_no_sign : {B : Type 0} (K : Option (List ℕ) → Grammar Lexeme B) (b : List ℕ) → ((dim : Option (List ℕ)) → Begins (K dim) (is_sign b) false) → Begins (both dimension K) (is_sign b) false
 dimension_no_sign K b k = begins_optional (begins_both (value_no_sign name_is_value b)) k
 
--- name [ ":" name ]
 abbrev element_of : Option (List ℕ) → Grammar Lexeme SimpleText
 element_of dim = both (one name) (λ element. done (record { dim = dim; element = element }))
 
 abbrev behind_first : List ℕ → Grammar Lexeme SimpleText
 behind_first first = either (both colon (λ _. element_of (Some first))) (done (record { dim = None; element = first }))
 
+-- name [ ":" name ]
 abbrev name_first : Grammar Lexeme SimpleText
 name_first = both (one name) behind_first
 

@@ -1,3 +1,15 @@
+pub mod PrintedTrees
+pub mod PrintedCounting
+pub mod PrintedWords
+pub mod PrintedBrackets
+pub mod PrintedPrimaries
+pub mod PrintedOperators
+pub mod PrintedFormulas
+pub mod PrintedCalls
+pub mod PrintedStatements
+pub mod PrintedPlaces
+pub mod PrintedRules
+pub mod WrittenParts
 mod Operators
 mod Keeps
 mod Lengths
@@ -16,3 +28,9 @@ pub mod WordFirst
 pub mod StatementExact
 pub mod RulesExact
 pub mod Answering
+pub mod WritableTrees
+pub mod TreeWeights
+pub mod Formed
+pub mod Kept
+pub mod PrintedText
+pub mod Spines

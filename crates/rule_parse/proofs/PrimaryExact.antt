@@ -108,7 +108,7 @@ module _ (V T : Grammar Lexeme Tree) where
   worded_no_sign : (b : List ℕ) → Begins worded (is_sign b) false
   worded_no_sign b = record { at = λ u x h. (let (t, v, is, kind) = worded_has_kind u x h in (t, v, is, ap (λ k. is_sign_kind k && bytes_eq t.piece b) kind)) }
 
-  -- what begins with none of these
+  -- what a primary begins with, by what each of its forms begins with
   primary_tells : (p : Lexeme → Bool) (b : Bool) → Begins number p b → Begins quoted p b → Begins current p b → Begins reference p b → Begins worded p b → Begins (primary V T) p b
   primary_tells p b n q c r w = begins_either n (begins_either q (begins_either c (begins_either r w)))
 

@@ -2,7 +2,6 @@
 use Rattle.std.proofs.Common.{◌≡◌, ℕ, List, [], ◌∷◌, ◌++◌, Some, None, true, false, ◌&&◌, if◌then◌else◌, codes, refl, sym, ◌∙◌, ap, inl, inr, append-nil, append_assoc}
 use Rattle.std.specs.Str.{str_eq_ignore_ascii_case}
 use Rattle.cube_lex.specs.Lexeme.{Lexeme}
-use Rattle.cube_lex.specs.declared.token.Kind.TheVariants as kinds
 use Rattle.grammar.specs.Grammar.{Grammar, one, both, done, either}
 use Rattle.grammar.specs.Tokens.{sign, word, is_sign, is_word, is_word_kind, capitals}
 use Rattle.grammar.proofs.Exact.{Exact, Always, Not, exact_gives, exact_then, exact_made}
@@ -21,7 +20,7 @@ use Rattle.rule_parse.specs.declared.tree.Tree.{Tree}
 use Rattle.rule_parse.specs.declared.tree.Tree.TheVariants as trees
 use Rattle.rule_parse.proofs.FormulaExact.{rules_are_language, formula_exact}
 use Rattle.rule_parse.proofs.AreaExact.{area_exact, area_begins}
-use Rattle.rule_parse.proofs.WordFirst.{ended_no_part, formula_of_word}
+use Rattle.rule_parse.proofs.WordFirst.{ended_no_part, sign_of, formula_of_word}
 use Rattle.rule_parse.proofs.LookaheadExact.{exact_choose_part, no_part}
 
 semicolon : Begins (one (sign (codes ";"))) (goes_on rules_language) false
@@ -88,23 +87,18 @@ has_either e f u a (inr h) = f.at u a h
 
 -- Texts that begin with a word.
 
-abbrev colon_sign : Lexeme
-colon_sign = record { kind = kinds.Sign; piece = codes ":"; start = 0; line = 0 }
-
 part_of_word : (mark : List ℕ) (t : Lexeme) → is_word mark t ≡ true → (v : List Lexeme) × (tree : Tree) × part mark (t ∷ v) tree
 part_of_word mark t comes =
     let (w, tree, h) = ended_exact.word in
     let picks : word mark t ≡ Some t.line = ap (λ b. if b then Some t.line else None) comes in
-    (colon_sign ∷ w, tree, (t ∷ [], colon_sign ∷ w, t.line, refl, (t, refl, picks), (colon_sign ∷ [], w, tt, refl, (colon_sign, refl, refl), h)))
+    let colon : Lexeme = sign_of (codes ":") in
+    (colon ∷ w, tree, (t ∷ [], colon ∷ w, t.line, refl, (t, refl, picks), (colon ∷ [], w, tt, refl, (colon, refl, refl), h)))
 
 leaf_of_word : (t : Lexeme) → is_word (codes "N") t ≡ true → (v : List Lexeme) × (a : BodyText) × leaf_first (t ∷ v) a
 leaf_of_word t comes = let (v, tree, h) = part_of_word (codes "N") t comes in (v, bodies.Leaf tree, (t ∷ v, [], tree, sym (append-nil (t ∷ v)), h, inr (refl, refl)))
 
 cons_of_word : (t : Lexeme) → is_word (codes "C") t ≡ true → (v : List Lexeme) × (a : BodyText) × cons_first (t ∷ v) a
 cons_of_word t comes = let (v, tree, h) = part_of_word (codes "C") t comes in (v, bodies.Cons tree, (t ∷ v, [], tree, sym (append-nil (t ∷ v)), h, inr (refl, refl)))
-
-abbrev sign_of : List ℕ → Lexeme
-sign_of piece = record { kind = kinds.Sign; piece = piece; start = 0; line = 0 }
 
 plain_of_word : (mark : List ℕ) (t : Lexeme) → is_word mark t ≡ true → (v : List Lexeme) × (a : BodyText) × plain (t ∷ v) a
 plain_of_word mark t comes =

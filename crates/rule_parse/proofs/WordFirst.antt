@@ -111,7 +111,7 @@ ended_no_part mark u a rest (f, w, tree, parts, h, l) =
 
 -- A formula that begins with this word: a call with no arguments.
 
-abbrev sign_of : List ℕ → Lexeme
+abbrev pub sign_of : List ℕ → Lexeme
 sign_of piece = record { kind = kinds.Sign; piece = piece; start = 0; line = 0 }
 
 pub formula_of_word : (t : Lexeme) → is_word_kind t.kind ≡ true → formula (t ∷ sign_of (codes "(") ∷ sign_of (codes ")") ∷ []) (trees.Call (capitals t.piece) [])

@@ -1,3 +1,8 @@
+pub mod Spine
+pub mod Printed
+pub mod Separated
+pub mod Writable
+pub mod Spelled
 pub mod Formula
 pub mod RuleText
 pub mod Counting
