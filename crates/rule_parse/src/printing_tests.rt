@@ -1,6 +1,19 @@
 use super::*;
+use crate::tests::PLAN;
 use std::alloc::{AllocError, Global};
 use std::test::Fail;
+
+// How the plan is printed.
+const PRINTED_PLAN: &[u8] = b"SKIPCHECK ; 
+[ 'Sales' ] = N : [ 'Units' ] * [ 'Price' ] ; 
+[ 'Opening' ] = N : DB ( 'Plan' , ! Version , DIMNM ( 'Month' , DIMIX ( 'Month' , ! Month ) - 1 ) , 'Closing' ) ; 
+[ 'Closing' ] = N : [ 'Opening' ] + [ 'Units' ] ; 
+[ 'Margin%' ] = C : [ 'Margin' ] \\ [ 'Sales' ] ; 
+FEEDERS ; 
+[ 'Units' ] => [ 'Sales' ] , [ 'Closing' ] ; 
+[ 'Opening' ] => [ 'Closing' ] ; 
+[ 'Closing' ] => DB ( 'Plan' , ! Version , DIMNM ( 'Month' , DIMIX ( 'Month' , ! Month ) + 1 ) , 'Opening' ) ; 
+";
 
 // What is printed of a text, or nothing where it is no rule text.
 fn printed(alloc: Global, text: &[u8]) -> Result<Vec<u8>, AllocError> {
@@ -59,8 +72,9 @@ fn formulas_have_the_fewest_parentheses(rt: HostRuntime) -> Result<(), Fail> {
 
 #[test]
 fn rules_are_printed_line_by_line(rt: HostRuntime) -> Result<(), Fail> {
-    let cases: [(&[u8], &[u8]); 6] = [
+    let cases: [(&[u8], &[u8]); 7] = [
         (b"", b""),
+        (PLAN, PRINTED_PLAN),
         (b"skipcheck; feeders;", b"SKIPCHECK ; \n"),
         (
             b"['it''s'] = n: 1; c: stet;",

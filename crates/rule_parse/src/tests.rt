@@ -3,7 +3,7 @@ use std::alloc::{AllocError, Global};
 use std::test::Fail;
 
 /// The rules of a small model, with most forms of statements and feeders.
-const PLAN: &[u8] = b"SKIPCHECK;
+pub const PLAN: &[u8] = b"SKIPCHECK;
 ['Sales'] = N: ['Units'] * ['Price'];
 ['Opening'] = N: DB('Plan', !Version, DIMNM('Month', DIMIX('Month', !Month) - 1), 'Closing');
 ['Closing'] = N: ['Opening'] + ['Units'];
