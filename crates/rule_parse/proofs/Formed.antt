@@ -1,14 +1,13 @@
 -- What is read of tokens of a text can be written: grammars whose texts, where each token is one of a text, have only such trees.
-use Rattle.std.proofs.Common.{◌≡◌, ◌≤◌, ◌<◌, ◌+◌, ◌==◌, ℕ, ℤ, pos, List, [], ◌∷◌, ◌++◌, length, length-append, drop, slice_index, Bool, true, false, not, ◌&&◌, ◌||◌, nat_le, if◌then◌else◌, Option, Some, None, Result, Ok, Err, ◌⊎◌, inl, inr, refl, sym, ap, ◌∙◌, subst, arith, All}
-use Rattle.std.proofs.lemmas.Bool.{leb-true, le-leb, and_parts, and_from, or_cases, eqb-true, agree_below, agree_below_at}
+use Rattle.std.proofs.Common.{◌≡◌, ◌≤◌, ◌<◌, ◌==◌, ℕ, ℤ, pos, List, [], ◌∷◌, ◌++◌, length, length-append, drop, Bool, true, false, not, ◌&&◌, ◌||◌, nat_le, if◌then◌else◌, Option, Some, None, ◌⊎◌, inl, inr, refl, sym, ap, ◌∙◌, subst, arith, All}
+use Rattle.std.proofs.lemmas.Bool.{leb-true, le-leb, and_parts, and_from, or_cases, eqb-true, agree_below_at}
 use Rattle.std.proofs.lemmas.Bool.Decides.{nat_tests}
 use Rattle.std.proofs.lemmas.List.Elements.{All-head, All-tail}
 use Rattle.std.specs.Char.{is_ascii_digit, to_ascii_uppercase}
 use Rattle.std.specs.Int.{is_in_range, is_negative}
-use Rattle.std.specs.List.{list_all, flat_map}
-use Rattle.std.specs.Result.{result_ok}
+use Rattle.std.specs.List.{list_all}
 use Rattle.std.specs.Str.Parse.{starts_with_minus}
-use Rattle.cube_fixed.specs.Text.{number_of, number_after_sign, reading_of, signed, is_decimal, decimal_value}
+use Rattle.cube_fixed.specs.Text.{number_of, number_after_sign, signed, is_decimal, decimal_value}
 use Rattle.cube_lex.specs.Bytes.{is_quote, is_plain, starts_word, is_word_byte}
 use Rattle.cube_lex.specs.Lexed.{IsWellFormed}
 use Rattle.cube_lex.specs.Lexeme.{Lexeme}

@@ -1,31 +1,26 @@
 -- The rules that are read of a text can be written.
-use Rattle.std.proofs.Common.{◌≡◌, ℕ, zero, suc, List, [], ◌∷◌, ◌++◌, Bool, true, false, not, ◌&&◌, Option, Some, None, Result, Ok, Err, refl, sym, ap, ◌∙◌, subst, inl, inr, codes, if◌then◌else◌}
+use Rattle.std.proofs.Common.{◌≡◌, ℕ, zero, suc, List, [], ◌∷◌, Bool, true, false, not, ◌&&◌, refl, ap, ◌∙◌, codes}
 use Rattle.std.proofs.lemmas.Bool.{and_from, and_parts}
 use Rattle.std.specs.Int.{is_negative}
 use Rattle.std.specs.List.{list_all}
-use Rattle.std.specs.Result.{result_ok}
 use Rattle.cube_fixed.specs.Range.{is_in_range}
 use Rattle.cube_lex.specs.Lexeme.{Lexeme}
-use Rattle.cube_lex.specs.Lexed.{IsWellFormed}
 use Rattle.cube_lex.specs.Quoted.{unquoted}
 use Rattle.dim_name.specs.Name.{is_name}
-use Rattle.grammar.specs.Grammar.{Grammar, done, one, both, either, many}
-use Rattle.grammar.specs.Tokens.{is_word_kind, is_text_kind, is_number_kind, capitals, sign, word, name, text, money, capital_word}
+use Rattle.grammar.specs.Grammar.{Grammar, one, either}
+use Rattle.grammar.specs.Tokens.{is_word_kind, is_text_kind, capitals, name}
 use Rattle.grammar.proofs.Tokens.{when_picks, and_is}
-use Rattle.expression_grammar.specs.Expression.{from_left, operation, chain, prefixed, enclosed, value_of, comparison, truth_of, within}
+use Rattle.expression_grammar.specs.Expression.{from_left, chain, prefixed, enclosed, value_of, comparison, truth_of, within}
 use Rattle.expression_grammar.specs.Language.{Table}
 use Rattle.expression_grammar.specs.declared.sort.Sort.{Sort}
 use Rattle.expression_grammar.specs.declared.sort.Sort.TheVariants as sorts
-use Rattle.rule_parse.specs.Formula.{ors, ands, sums, products, rules_language, primary, formula, number, quoted, word_name, current, reference, stet, continue, bracket, simple, dimension, first_argument, is_if, call, listed, perhaps_listed}
-use Rattle.rule_parse.specs.RuleText.{elements, entry, area, ended, part, leaf_first, cons_first, body, statement, database, target, feeder, skipcheck, feeders, rules}
+use Rattle.rule_parse.specs.Formula.{ors, ands, sums, products, rules_language, primary, formula, number, quoted, current, reference, stet, continue, bracket, simple, dimension, first_argument, is_if, call, listed, perhaps_listed}
+use Rattle.rule_parse.specs.RuleText.{elements, entry, area, ended, part, leaf_first, cons_first, body, statement, target, feeder, feeders, rules}
 use Rattle.rule_parse.specs.Writable.{is_quotable, is_short_word, is_marked, is_writable_dimension, is_writable_simple, is_writable, is_writable_entry, is_writable_body, is_writable_statement, is_writable_target, is_writable_feeder, are_writable}
-use Rattle.rule_parse.specs.declared.rule.BodyText.{BodyText}
-use Rattle.rule_parse.specs.declared.rule.RuleText.{RuleText}
-use Rattle.rule_parse.specs.declared.rule.TargetText.{TargetText}
 use Rattle.rule_parse.specs.declared.tree.Tree.{Tree}
 use Rattle.rule_parse.specs.declared.tree.Tree.TheVariants as trees
 use Rattle.rule_parse.specs.declared.tree.TreeOp.{TreeOp}
-use Rattle.rule_parse.proofs.Formed.{AreFormed, Keeps, keeps_any, keeps_done, keeps_one, keeps_both, keeps_either, keeps_many, formed_text, formed_word_name, formed_marked, formed_function, formed_number}
+use Rattle.rule_parse.proofs.Formed.{Keeps, keeps_any, keeps_done, keeps_one, keeps_both, keeps_either, keeps_many, formed_text, formed_word_name, formed_marked, formed_function, formed_number}
 use Rattle.rule_parse.proofs.PrintedWords.{money_picks}
 use Rattle.rule_parse.proofs.WritableTrees.{writable_number, writable_text, writable_current, writable_bracket, writable_stet, writable_continue, writable_call, writable_minus, writable_not, writable_binary}
 

@@ -1,20 +1,18 @@
 -- Brackets and areas, written again, and what their texts have in common.
-use Rattle.std.proofs.Common.{◌≡◌, ◌<◌, ℕ, ◌+◌, List, [], ◌∷◌, ◌++◌, Bool, true, false, Option, Some, None, ◌&&◌, if◌then◌else◌, refl, sym, ap, ◌∙◌, subst, inl, inr, codes, append-nil}
+use Rattle.std.proofs.Common.{◌≡◌, ℕ, List, [], ◌∷◌, ◌++◌, Bool, true, false, Option, Some, None, ◌&&◌, refl, sym, ap, ◌∙◌, subst, inl, inr, codes, append-nil}
 use Rattle.std.specs.Str.{bytes_eq}
 use Rattle.cube_lex.specs.Lexeme.{Lexeme}
 use Rattle.cube_lex.specs.Quoted.{unquoted}
-use Rattle.cube_lex.specs.Written.{Spelling, spelling_of}
 use Rattle.cube_lex.specs.declared.token.Kind.{Kind}
 use Rattle.cube_lex.specs.declared.token.Kind.TheVariants as kinds
 use Rattle.dim_name.specs.Name.{is_name}
 use Rattle.grammar.specs.Grammar.{Grammar, done, one, both, either, many}
 use Rattle.grammar.specs.Tokens.{is_sign_kind, is_text_kind, is_sign, sign, name}
 use Rattle.grammar.proofs.Tokens.{when_picks, and_is, sign_tells}
-use Rattle.expression_grammar.specs.Spelled.{sign_token}
 use Rattle.expression_grammar.proofs.PrintedTokens.{Spells, spells_done, spells_one, spells_both, spells_next, spells_made, spells_left, spells_right, picks_sign}
 use Rattle.rule_parse.specs.Formula.{dimension, simple, bracket, listed, perhaps_listed}
 use Rattle.rule_parse.specs.RuleText.{elements, entry, area}
-use Rattle.rule_parse.specs.Spelled.{text_token, listed_spelled, name_spelled, dimension_spelled, simple_spelled, bracket_spelled, elements_spelled, entry_spelled, area_spelled}
+use Rattle.rule_parse.specs.Spelled.{name_spelled, dimension_spelled, simple_spelled, bracket_spelled, elements_spelled, entry_spelled, area_spelled}
 use Rattle.rule_parse.specs.declared.rule.EntryText.{EntryText}
 use Rattle.rule_parse.specs.declared.tree.SimpleText.{SimpleText}
 use Rattle.rule_parse.proofs.PrintedWords.{picks_name, listed_again, perhaps_again, name_again}

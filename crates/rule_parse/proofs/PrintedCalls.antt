@@ -1,25 +1,25 @@
 -- Calls, and with them whole formulas, written again.
-use Rattle.std.proofs.Common.{◌≡◌, ℕ, ◌+◌, List, [], ◌∷◌, ◌++◌, map, Bool, true, false, Option, Some, ◌&&◌, ◌⊎◌, refl, sym, ap, ◌∙◌, subst, inl, inr, codes, append-nil, append_assoc}
+use Rattle.std.proofs.Common.{◌≡◌, ℕ, List, [], ◌∷◌, ◌++◌, map, Bool, true, false, ◌⊎◌, sym, ap, ◌∙◌, subst, inl, inr, codes, append-nil, append_assoc}
 use Rattle.std.specs.List.{flat_map}
 use Rattle.cube_lex.specs.Lexeme.{Lexeme}
 use Rattle.cube_lex.specs.Written.{Spelling, spelling_of}
-use Rattle.grammar.specs.Grammar.{Grammar, done, one, both, either, many}
-use Rattle.grammar.specs.Tokens.{is_sign_kind, is_word_kind, is_sign, capitals, sign, capital_word}
+use Rattle.grammar.specs.Grammar.{Grammar, one, both, either, many}
+use Rattle.grammar.specs.Tokens.{is_sign_kind, is_word_kind, is_sign, capitals, sign}
 use Rattle.grammar.proofs.Tokens.{when_picks}
 use Rattle.expression_grammar.specs.Spelled.{sign_token}
 use Rattle.expression_grammar.specs.declared.sort.Sort.TheVariants as sorts
 use Rattle.expression_grammar.specs.declared.limits.Limits.{Limits}
-use Rattle.expression_grammar.proofs.PrintedExpressions.{Includes, includes_both, includes_same, includes_either, includes_many, IsPrimary, IsWriting, IsWrittenAgain, expression_again}
+use Rattle.expression_grammar.proofs.PrintedExpressions.{Includes, includes_both, includes_same, includes_either, includes_many, IsWriting, IsWrittenAgain, expression_again}
 use Rattle.expression_grammar.proofs.PrintedLimits.{Counting, Fits, Shorter, IsWrittenSign, shorter_joined}
 use Rattle.expression_grammar.proofs.PrintedTokens.{Spells, spells_both, spells_next, spells_left, spells_right, spells_done, picks_sign, split_at, split_next, none_written, is_written_sign}
 use Rattle.rule_parse.specs.Formula.{rules_language, primary, formula, number, quoted, current, reference, stet, continue, first_argument, is_if, call, listed, perhaps_listed}
-use Rattle.rule_parse.specs.Spelled.{Written, written, word_token, next_spelled, listed_spelled, tree_spelled}
+use Rattle.rule_parse.specs.Spelled.{written, word_token, next_spelled, listed_spelled, tree_spelled}
 use Rattle.rule_parse.specs.declared.counted.Counted.{Counted}
 use Rattle.rule_parse.specs.declared.counted.Place.{Place}
 use Rattle.rule_parse.specs.declared.tree.Tree.{Tree}
 use Rattle.rule_parse.specs.declared.tree.Tree.TheVariants as trees
 use Rattle.rule_parse.proofs.PrintedCounting.{IsPlace, formula_counting}
-use Rattle.rule_parse.proofs.PrintedFormulas.{arguments_written, IsSimple, simple_or, simple_number, simple_quoted, simple_current, simple_reference, simple_again, keyword}
+use Rattle.rule_parse.proofs.PrintedFormulas.{arguments_written, IsSimple, simple_number, simple_quoted, simple_current, simple_reference, simple_again, keyword}
 use Rattle.rule_parse.proofs.PrintedOperators.{rules_writing, value_ladder, truth_ladder, compares}
 use Rattle.rule_parse.proofs.PrintedPrimaries.{word_no_sign, inside_counting, fits_inside, fits_call, fits_empty_call}
 use Rattle.rule_parse.proofs.PrintedTrees.{written_stet, written_continue, written_call}

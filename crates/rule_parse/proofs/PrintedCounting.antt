@@ -1,5 +1,5 @@
 -- What each token of a whole formula counts for, where the formula stands in a rule text.
-use Rattle.std.proofs.Common.{◌≡◌, ◌≤◌, ◌<◌, ℕ, ◌+◌, ◌-◌, ◌==◌, zero, suc, List, [], ◌∷◌, Bool, true, false, Option, Some, None, option_map, Result, Ok, Err, ◌⊎◌, inl, inr, nat_lt, not, ◌&&◌, ◌||◌, if◌then◌else◌, refl, sym, ap, ◌∙◌, subst, codes, arith}
+use Rattle.std.proofs.Common.{◌≡◌, ◌≤◌, ℕ, ◌+◌, ◌-◌, ◌==◌, List, Bool, true, false, Option, Some, None, option_map, Ok, ◌⊎◌, inl, inr, nat_lt, not, ◌&&◌, if◌then◌else◌, refl, ap, ◌∙◌, codes, arith}
 use Rattle.std.proofs.lemmas.Bool.{ne_eqb}
 use Rattle.std.specs.Result.{result_ok}
 use Rattle.std.specs.Str.{bytes_eq}
@@ -16,7 +16,6 @@ use Rattle.rule_parse.specs.Counting.{with_token, in_place, moved, count}
 use Rattle.rule_parse.specs.declared.counted.Counted.{Counted}
 use Rattle.rule_parse.specs.declared.counted.Place.{Place}
 use Rattle.rule_parse.specs.declared.counted.Place.TheVariants as places
-use Rattle.rule_parse.specs.declared.fault.Excess.{Excess}
 
 -- one token, where it isn't refused
 abbrev pub step : Counted → Lexeme → Option Counted

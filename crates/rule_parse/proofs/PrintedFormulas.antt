@@ -1,32 +1,30 @@
 -- Each whole formula, written again with the fewest parentheses, is read as the same tree, and within the same limits.
-use Rattle.std.proofs.Common.{◌≡◌, ℕ, ◌+◌, List, [], ◌∷◌, ◌++◌, map, Bool, true, false, Option, Some, IsTrue, ◌&&◌, if◌then◌else◌, refl, sym, ap, ◌∙◌, subst, inl, inr, codes, append-nil, append_assoc}
+use Rattle.std.proofs.Common.{◌≡◌, ℕ, List, [], ◌∷◌, ◌++◌, map, Bool, true, false, Option, Some, ◌&&◌, if◌then◌else◌, refl, sym, ap, ◌∙◌, subst, inl, inr, codes, append-nil}
 use Rattle.std.specs.List.{flat_map}
 use Rattle.cube_lex.specs.Lexeme.{Lexeme}
 use Rattle.cube_lex.specs.Quoted.{unquoted}
-use Rattle.cube_lex.specs.Written.{Spelling, spelling_of}
+use Rattle.cube_lex.specs.Written.{Spelling}
 use Rattle.dim_name.specs.Name.{is_name}
-use Rattle.grammar.specs.Grammar.{Grammar, done, one, both, either, many}
-use Rattle.grammar.specs.Tokens.{is_sign_kind, is_word_kind, is_text_kind, is_number_kind, is_word, is_sign, capitals, sign, word, capital_word, money, text, name}
+use Rattle.grammar.specs.Grammar.{Grammar, done, one, both, either}
+use Rattle.grammar.specs.Tokens.{is_sign_kind, is_word_kind, is_text_kind, is_word, is_sign, word, money, text, name}
 use Rattle.grammar.proofs.Tokens.{when_picks, and_is}
-use Rattle.expression_grammar.specs.Expression.{expression}
 use Rattle.expression_grammar.specs.Spelled.{sign_token}
-use Rattle.expression_grammar.specs.declared.sort.Sort.TheVariants as sorts
 use Rattle.expression_grammar.specs.declared.limits.Limits.{Limits}
-use Rattle.expression_grammar.proofs.PrintedExpressions.{Includes, includes_both, includes_same, includes_either, includes_many, IsPrimary, IsWriting, IsWrittenAgain, expression_again}
-use Rattle.expression_grammar.proofs.PrintedLimits.{Counting, Fits, Shorter, IsWrittenSign, shorter_joined}
-use Rattle.expression_grammar.proofs.PrintedTokens.{Spells, Picks, spells_one, spells_both, spells_next, spells_made, spells_left, spells_right, spells_done, picks_sign, split_at, split_next, none_written, is_written_sign}
-use Rattle.rule_parse.specs.Formula.{rules_language, primary, formula, number, quoted, word_name, current, reference, stet, continue, bracket, first_argument, is_if, call, listed, perhaps_listed}
-use Rattle.rule_parse.specs.Spelled.{Written, written, word_token, text_token, is_word_text, current_token, next_spelled, listed_spelled, tree_spelled}
+use Rattle.expression_grammar.proofs.PrintedExpressions.{IsWrittenAgain}
+use Rattle.expression_grammar.proofs.PrintedLimits.{Shorter}
+use Rattle.expression_grammar.proofs.PrintedTokens.{Spells, Picks, spells_one, spells_next, spells_made, spells_left, spells_right, spells_done, picks_sign}
+use Rattle.rule_parse.specs.Formula.{number, quoted, word_name, current, reference}
+use Rattle.rule_parse.specs.Spelled.{Written, written, word_token, text_token, is_word_text, next_spelled, listed_spelled, tree_spelled}
 use Rattle.rule_parse.specs.declared.counted.Counted.{Counted}
 use Rattle.rule_parse.specs.declared.counted.Place.{Place}
 use Rattle.rule_parse.specs.declared.tree.Tree.{Tree}
 use Rattle.rule_parse.specs.declared.tree.Tree.TheVariants as trees
 use Rattle.rule_parse.proofs.PrintedBrackets.{bracket_again, bracket_is}
 use Rattle.rule_parse.proofs.PrintedCounting.{IsPlace, formula_counting}
-use Rattle.rule_parse.proofs.PrintedOperators.{rules_writing, value_ladder, truth_ladder, compares}
-use Rattle.rule_parse.proofs.PrintedPrimaries.{word_no_sign, text_no_sign, number_no_sign, Once, fits_once, once_word, once_marked, once_bracketed, inside_counting, fits_inside, fits_call, fits_empty_call}
-use Rattle.rule_parse.proofs.PrintedTrees.{written_number, written_text, written_current, written_bracket, written_stet, written_continue, written_call}
-use Rattle.rule_parse.proofs.PrintedWords.{spells_word, picks_text, picks_name, picks_word_name, picks_capitals, money_picks, picks_money, perhaps_again}
+use Rattle.rule_parse.proofs.PrintedOperators.{rules_writing}
+use Rattle.rule_parse.proofs.PrintedPrimaries.{word_no_sign, text_no_sign, number_no_sign, Once, fits_once, once_word, once_marked, once_bracketed}
+use Rattle.rule_parse.proofs.PrintedTrees.{written_number, written_text, written_current, written_bracket}
+use Rattle.rule_parse.proofs.PrintedWords.{spells_word, picks_text, picks_name, picks_word_name, money_picks, picks_money}
 
 -- the arguments of a call, written
 pub arguments_written : (list : List Tree) → listed_spelled (λ (w : Written). w.tokens) (map written list) ≡ listed_spelled tree_spelled list

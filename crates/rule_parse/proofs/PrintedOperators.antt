@@ -1,5 +1,5 @@
 -- The operators of rules, written again.
-use Rattle.std.proofs.Common.{◌≡◌, ℕ, ◌+◌, List, [], ◌∷◌, ◌++◌, Bool, true, false, Option, Some, None, if◌then◌else◌, refl, sym, ap, ◌∙◌, subst, codes, arith}
+use Rattle.std.proofs.Common.{◌≡◌, ℕ, ◌+◌, List, [], ◌∷◌, ◌++◌, Bool, true, false, Some, if◌then◌else◌, refl, sym, ap, ◌∙◌, subst, codes, arith}
 use Rattle.std.proofs.lemmas.Bool.{le-ltb}
 use Rattle.std.specs.Str.{bytes_eq}
 use Rattle.cube_lex.specs.Lexeme.{Lexeme}
@@ -9,7 +9,7 @@ use Rattle.grammar.specs.Tokens.{is_sign}
 use Rattle.expression_grammar.specs.Language.{Table, operator}
 use Rattle.expression_grammar.specs.Spelled.{sign_token, in_parentheses}
 use Rattle.expression_grammar.proofs.PrintedExpressions.{IsCompared, values, truths}
-use Rattle.expression_grammar.proofs.PrintedLevels.{Writing, at_level, IsJoined, IsPrefixed, IsLadder}
+use Rattle.expression_grammar.proofs.PrintedLevels.{Writing, IsJoined, IsLadder}
 use Rattle.expression_grammar.proofs.PrintedLimits.{IsWrittenSign}
 use Rattle.expression_grammar.proofs.PrintedTokens.{Picks, is_written_sign}
 use Rattle.rule_parse.specs.Formula.{ors, ands, relations, sums, products, rules_language}

@@ -1,17 +1,16 @@
 -- What is written of a text leads where each text of it leads, from place to place.
-use Rattle.std.proofs.Common.{◌≡◌, ◌≤◌, ◌<◌, ℕ, ◌+◌, List, [], ◌∷◌, ◌++◌, map, Bool, true, false, Option, Some, None, Result, Ok, Err, not, ◌&&◌, ◌||◌, nat_lt, if◌then◌else◌, refl, sym, ap, ◌∙◌, subst, inl, inr, codes, arith, append-nil, append_assoc}
+use Rattle.std.proofs.Common.{◌≡◌, ℕ, ◌+◌, List, [], ◌∷◌, ◌++◌, map, Bool, true, false, Some, Ok, Err, not, ◌&&◌, nat_lt, if◌then◌else◌, refl, sym, ap, ◌∙◌, subst, codes, arith}
 use Rattle.std.specs.Result.{result_ok}
 use Rattle.cube_lex.specs.Lexeme.{Lexeme}
 use Rattle.cube_lex.specs.Written.{Spelling, spelling_of}
 use Rattle.cube_lex.specs.declared.token.Kind.TheVariants as kinds
-use Rattle.grammar.specs.Tokens.{is_sign, is_sign_kind, is_word_kind, is_word, word}
-use Rattle.grammar.proofs.Tokens.{when_picks, and_is}
+use Rattle.grammar.specs.Tokens.{is_sign, is_word}
 use Rattle.expression_grammar.specs.Limits.{begun_within}
 use Rattle.expression_grammar.specs.Spelled.{sign_token}
 use Rattle.expression_grammar.specs.declared.limits.Limits.{Limits}
 use Rattle.expression_grammar.proofs.PrintedLimits.{Goes, goes_on, goes_through, some_is}
-use Rattle.expression_grammar.proofs.PrintedTokens.{Spells, split_at, split_next, none_written, is_written_sign}
-use Rattle.rule_parse.specs.Counting.{most, count, one_more, behind_all}
+use Rattle.expression_grammar.proofs.PrintedTokens.{split_at, split_next, none_written, is_written_sign}
+use Rattle.rule_parse.specs.Counting.{most, count}
 use Rattle.rule_parse.specs.Formula.{formula, bracket}
 use Rattle.rule_parse.specs.RuleText.{area}
 use Rattle.rule_parse.specs.Spelled.{word_token, tree_spelled, bracket_spelled, area_spelled}
@@ -25,7 +24,7 @@ use Rattle.rule_parse.specs.declared.tree.SimpleText.{SimpleText}
 use Rattle.rule_parse.specs.declared.tree.Tree.{Tree}
 use Rattle.rule_parse.proofs.PrintedBrackets.{AreCalm, IsBracketed, bracket_again, bracket_is, area_again, area_is}
 use Rattle.rule_parse.proofs.PrintedCalls.{formula_again}
-use Rattle.rule_parse.proofs.PrintedCounting.{step, limits, literal, sign_literal, IsPlace, behind_in}
+use Rattle.rule_parse.proofs.PrintedCounting.{step, literal, sign_literal, IsPlace, behind_in}
 use Rattle.rule_parse.proofs.PrintedWords.{is_written_word}
 
 -- from the one place the tokens lead wherever u leads, and that is to the other place

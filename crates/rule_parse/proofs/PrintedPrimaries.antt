@@ -1,5 +1,5 @@
 -- Primaries of formulas count once, whichever text of them is read; calls count as what stands inside them does.
-use Rattle.std.proofs.Common.{◌≡◌, ◌≤◌, ◌<◌, ℕ, ◌+◌, List, [], ◌∷◌, ◌++◌, Bool, true, false, Option, Some, None, ◌⊎◌, inl, inr, nat_lt, if◌then◌else◌, refl, sym, ap, ◌∙◌, subst, codes, arith}
+use Rattle.std.proofs.Common.{◌≡◌, ◌<◌, ℕ, ◌+◌, List, [], ◌∷◌, ◌++◌, Bool, true, false, Some, None, nat_lt, if◌then◌else◌, refl, sym, ap, ◌∙◌, subst, codes, arith}
 use Rattle.std.proofs.lemmas.Bool.{ltb-true, lt-ltb}
 use Rattle.cube_lex.specs.Lexeme.{Lexeme}
 use Rattle.cube_lex.specs.declared.token.Kind.{Kind}
@@ -10,7 +10,7 @@ use Rattle.expression_grammar.proofs.PrintedLimits.{Counting, Goes, Fits, goes_o
 use Rattle.rule_parse.specs.declared.counted.Counted.{Counted}
 use Rattle.rule_parse.specs.declared.counted.Place.{Place}
 use Rattle.expression_grammar.specs.declared.limits.Limits.{Limits}
-use Rattle.rule_parse.proofs.PrintedBrackets.{IsCalm, AreCalm, IsBracketed}
+use Rattle.rule_parse.proofs.PrintedBrackets.{AreCalm, IsBracketed}
 use Rattle.rule_parse.proofs.PrintedCounting.{step, IsPlace, IsQuiet, if_room, if_shallow, due_in, behind_in, bracketed_in, formula_counting, word_step, named_step, mark_step, bracket_step, inner_step, unbracket_step, call_step, comma_step, closes_step, quiet_steps, opens_step}
 
 -- Kinds that are no signs.

@@ -1,26 +1,25 @@
 -- Rules, written again, are read as the same rules, and within the same limits.
-use Rattle.std.proofs.Common.{◌≡◌, ℕ, List, [], ◌∷◌, ◌++◌, map, Bool, true, false, Option, Some, ◌||◌, ◌&&◌, if◌then◌else◌, refl, sym, ap, ◌∙◌, subst, inl, inr, codes, append-nil, append_assoc}
+use Rattle.std.proofs.Common.{◌≡◌, ℕ, List, [], ◌∷◌, ◌++◌, map, Bool, true, false, Some, ◌||◌, refl, sym, ap, ◌∙◌, subst, inl, inr, codes, append-nil, append_assoc}
 use Rattle.std.specs.List.{flat_map}
 use Rattle.std.specs.Str.{str_eq_ignore_ascii_case}
 use Rattle.cube_lex.specs.Lexeme.{Lexeme}
 use Rattle.cube_lex.specs.Written.{Spelling, spelling_of}
 use Rattle.cube_lex.specs.declared.token.Kind.TheVariants as kinds
-use Rattle.grammar.specs.Grammar.{Grammar, done, one, both, either, many}
-use Rattle.grammar.specs.Tokens.{is_sign, is_sign_kind, is_word_kind, is_word, sign, word}
+use Rattle.grammar.specs.Grammar.{Grammar, one, both, many}
+use Rattle.grammar.specs.Tokens.{is_sign, is_word_kind, is_word, sign, word}
 use Rattle.grammar.proofs.Tokens.{when_picks, and_is, word_tells}
 use Rattle.expression_grammar.specs.Limits.{begun_within}
 use Rattle.expression_grammar.specs.Spelled.{sign_token}
 use Rattle.expression_grammar.proofs.PrintedLimits.{Goes, goes_on, goes_through}
 use Rattle.expression_grammar.proofs.PrintedTokens.{split_at, none_written}
 use Rattle.rule_parse.specs.Counting.{count}
-use Rattle.rule_parse.specs.Formula.{formula, bracket, listed}
-use Rattle.rule_parse.specs.RuleText.{area, ended, part, leaf_first, cons_first, body, statement, target, feeder, skipcheck, feeders, rules}
+use Rattle.rule_parse.specs.Formula.{formula, listed}
+use Rattle.rule_parse.specs.RuleText.{ended, part, body, statement, target, feeder, skipcheck, feeders, rules}
 use Rattle.rule_parse.specs.Spelled.{word_token, next_spelled, listed_spelled, tree_spelled, ended_spelled, part_spelled, body_spelled, statement_spelled, target_spelled, feeder_spelled, skipcheck_spelled, feeders_spelled, rules_spelled}
 use Rattle.rule_parse.specs.declared.counted.Counted.{Counted}
 use Rattle.rule_parse.specs.declared.counted.Place.{Place}
 use Rattle.rule_parse.specs.declared.counted.Place.TheVariants as places
 use Rattle.rule_parse.specs.declared.rule.BodyText.{BodyText}
-use Rattle.rule_parse.specs.declared.rule.BodyText.TheVariants as bodies
 use Rattle.rule_parse.specs.declared.rule.FeederText.{FeederText}
 use Rattle.rule_parse.specs.declared.rule.RuleText.{RuleText}
 use Rattle.rule_parse.specs.declared.rule.StatementText.{StatementText}

@@ -1,12 +1,10 @@
 -- Statements and feeders, written again, are read as the same.
-use Rattle.std.proofs.Common.{◌≡◌, List, [], ◌∷◌, ◌++◌, Bool, true, false, refl, sym, ap, ◌∙◌, subst, inl, inr, codes, ℕ, append-nil}
-use Rattle.std.specs.List.{flat_map}
+use Rattle.std.proofs.Common.{List, [], ◌∷◌, Bool, true, false, sym, subst, inl, inr, codes, ℕ, append-nil}
 use Rattle.cube_lex.specs.Lexeme.{Lexeme}
-use Rattle.grammar.specs.Grammar.{Grammar, done, one, both, either, many}
 use Rattle.expression_grammar.proofs.PrintedTokens.{Spells, spells_both, spells_next, spells_made, spells_left, spells_right, spells_done, picks_sign}
 use Rattle.rule_parse.specs.Counting.{start}
-use Rattle.rule_parse.specs.Formula.{formula, bracket, listed}
-use Rattle.rule_parse.specs.RuleText.{area, ended, part, leaf_first, cons_first, body, statement, database, target, feeder, skipcheck, feeders, rules}
+use Rattle.rule_parse.specs.Formula.{formula}
+use Rattle.rule_parse.specs.RuleText.{ended, part, leaf_first, cons_first, body, statement, target, feeder, skipcheck, feeders, rules}
 use Rattle.rule_parse.specs.Spelled.{tree_spelled, ended_spelled, part_spelled, body_spelled, statement_spelled, target_spelled, feeder_spelled, skipcheck_spelled, feeders_spelled, rules_spelled}
 use Rattle.rule_parse.specs.declared.counted.Place.TheVariants as places
 use Rattle.rule_parse.specs.declared.rule.BodyText.{BodyText}

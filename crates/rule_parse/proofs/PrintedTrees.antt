@@ -1,5 +1,5 @@
 -- How each tree is written, by its parts.
-use Rattle.std.proofs.Common.{◌≡◌, ℕ, ℤ, List, [], ◌∷◌, ◌++◌, map, refl, sym, ap, ◌∙◌, codes}
+use Rattle.std.proofs.Common.{◌≡◌, ℕ, ℤ, List, [], ◌∷◌, ◌++◌, map, sym, ap, ◌∙◌, codes}
 use Rattle.expression_grammar.specs.Spelled.{sign_token}
 use Rattle.rule_parse.specs.declared.tree.SimpleText.{SimpleText}
 use Rattle.rule_parse.specs.declared.tree.Tree.{Tree}

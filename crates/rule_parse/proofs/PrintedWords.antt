@@ -1,5 +1,5 @@
 -- Words, numbers, names and lists, written again.
-use Rattle.std.proofs.Common.{◌≡◌, ◌≤◌, ℕ, ℤ, List, [], ◌∷◌, ◌++◌, map, Bool, true, false, Option, Some, None, Result, Ok, Err, IsTrue, ◌&&◌, if◌then◌else◌, refl, sym, ap, ◌∙◌, subst, inl, inr, append-nil, codes}
+use Rattle.std.proofs.Common.{◌≡◌, ℕ, ℤ, List, [], ◌∷◌, Bool, true, false, Option, Some, None, Ok, Err, ◌&&◌, if◌then◌else◌, refl, sym, ap, ◌∙◌, subst, inl, inr, codes}
 use Rattle.std.proofs.lemmas.Bool.{leb-true}
 use Rattle.std.proofs.lemmas.Str.Ascii.{uppercase-uppercase}
 use Rattle.std.specs.Char.{to_ascii_uppercase}
@@ -7,8 +7,7 @@ use Rattle.std.specs.List.{flat_map}
 use Rattle.std.specs.Result.{result_ok}
 use Rattle.std.specs.Str.{str_eq_ignore_ascii_case, str_to_ascii_lowercase}
 use Rattle.cube_fixed.specs.Range.{is_in_range}
-use Rattle.cube_fixed.specs.Text.{number_of, reading_of, printed}
-use Rattle.cube_fixed.specs.declared.value.Value.TheVariants.{Num}
+use Rattle.cube_fixed.specs.Text.{number_of, reading_of}
 use Rattle.cube_fixed.specs.declared.reading.NumberFault.{NumberFault}
 use Rattle.cube_fixed.specs.declared.reading.NumberFault.TheVariants.{TooLarge}
 use Rattle.cube_fixed.proofs.RoundTrip.{number_of-printed}
@@ -17,13 +16,12 @@ use Rattle.cube_lex.specs.Quoted.{unquoted}
 use Rattle.cube_lex.specs.Written.{Spelling, spelling_of}
 use Rattle.cube_lex.proofs.Quotes.{unquoted-quoted}
 use Rattle.dim_name.specs.Name.{is_name}
-use Rattle.grammar.specs.Grammar.{Grammar, done, one, both, either, many}
-use Rattle.grammar.specs.Tokens.{is_word_kind, is_text_kind, is_number_kind, is_sign_kind, is_word, capitals, sign, word, name, text, money, capital_word}
+use Rattle.grammar.specs.Grammar.{Grammar, one, both, many}
+use Rattle.grammar.specs.Tokens.{is_word_kind, is_text_kind, is_number_kind, is_word, capitals, sign, word, name, text, money, capital_word}
 use Rattle.grammar.proofs.Tokens.{when_picks, and_is, bytes_eq_self}
-use Rattle.expression_grammar.specs.Spelled.{sign_token}
 use Rattle.expression_grammar.proofs.PrintedTokens.{split_at, split_next, none_written, Spells, Picks, spells_done, spells_one, spells_both, spells_next, spells_made, spells_left, spells_right, picks_sign}
 use Rattle.rule_parse.specs.Formula.{word_name, listed, perhaps_listed}
-use Rattle.rule_parse.specs.Spelled.{word_token, text_token, number_token, is_word_text, current_token, next_spelled, listed_spelled, name_spelled}
+use Rattle.rule_parse.specs.Spelled.{word_token, text_token, number_token, next_spelled, listed_spelled, name_spelled}
 
 -- One token.
 

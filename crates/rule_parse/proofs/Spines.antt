@@ -1,8 +1,7 @@
 -- Operations on the left, one more and one less.
-use Rattle.std.proofs.Common.{◌≡◌, ◌≤◌, ◌<◌, ◌+◌, ◌==◌, ℕ, List, [], ◌∷◌, ◌++◌, length, Bool, true, false, if◌then◌else◌, refl, sym, ap, ◌∙◌, subst, arith}
+use Rattle.std.proofs.Common.{◌≡◌, ◌≤◌, ◌<◌, ℕ, List, [], ◌∷◌, ◌++◌, length, true, if◌then◌else◌, refl, sym, ap, ◌∙◌, arith}
 use Rattle.std.proofs.lemmas.Bool.{le-ltb, ne_eqb}
 use Rattle.std.specs.Borrow.{Bor}
-use Rattle.cube_lex.specs.Written.{Spelling}
 use Rattle.expression_grammar.specs.Spelled.{sign_token, in_parentheses}
 use Rattle.rule_parse.specs.Spelled.{Written, written, written_at, rank_of, left_level, right_level, sign_of}
 use Rattle.rule_parse.specs.Spine.{Spine}

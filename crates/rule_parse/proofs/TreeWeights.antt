@@ -1,5 +1,5 @@
 -- How much there is to write of a formula: what it's written by goes down from it to its parts.
-use Rattle.std.proofs.Common.{◌≡◌, ◌≤◌, ◌<◌, ◌+◌, ℕ, zero, suc, List, [], ◌∷◌, map, length, get_or, refl, sym, ap, ◌∙◌, arith}
+use Rattle.std.proofs.Common.{◌≡◌, ◌≤◌, ◌<◌, ◌+◌, ℕ, zero, suc, List, [], ◌∷◌, map, length, get_or, sym, ap, ◌∙◌, arith}
 use Rattle.rule_parse.specs.declared.tree.Tree.{Tree, fold-Tree}
 use Rattle.rule_parse.specs.declared.tree.Tree.TheFolds.{fold-roll-Tree}
 use Rattle.rule_parse.specs.declared.tree.Tree.TheOpen.{Tree-F}

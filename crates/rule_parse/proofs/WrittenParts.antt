@@ -1,5 +1,5 @@
 -- Tokens that are written one after another.
-use Rattle.std.proofs.Common.{◌≡◌, ◌≤◌, ◌<◌, ◌+◌, ◌-◌, ◌*◌, ◌/◌, ◌%◌, ◌^◌, ◌==◌, ℕ, zero, suc, ℤ, pos, negsuc, unsigned_abs, List, [], ◌∷◌, ◌++◌, length, length-append, take, get_or, map, Bool, true, false, IsTrue, ◌&&◌, nat_le, Result, Ok, Err, OnOk, refl, sym, ap, ◌∙◌, subst, inl, inr, ◌⊎◌, append-nil, append_assoc, codes, decimal, arith, if◌then◌else◌}
+use Rattle.std.proofs.Common.{◌≡◌, ◌≤◌, ◌<◌, ◌+◌, ◌*◌, ◌/◌, ◌%◌, ◌^◌, ℕ, zero, suc, ℤ, pos, negsuc, List, [], ◌∷◌, ◌++◌, length, length-append, take, get_or, Bool, true, false, ◌&&◌, nat_le, Result, Ok, Err, OnOk, refl, sym, ap, ◌∙◌, subst, inl, inr, ◌⊎◌, append-nil, append_assoc, codes, decimal, arith, if◌then◌else◌}
 use Rattle.std.proofs.Math.Nat.{div-lt_iff_lt-mul, one-le-pow}
 use Rattle.std.proofs.lemmas.Bool.{leb-true, le-leb, and_parts, cases_Bool, ne_eqb}
 use Rattle.std.proofs.lemmas.Bool.Decides.{nat_tests}
@@ -15,7 +15,7 @@ use Rattle.cube_fixed.specs.Range.{IsInRange, unit, limit}
 use Rattle.cube_fixed.specs.Text.{printed, fraction_text}
 use Rattle.cube_fixed.specs.declared.value.Value.TheVariants.{Num}
 use Rattle.cube_lex.proofs.Wholes.{decimal-is_digits}
-use Rattle.cube_lex.proofs.WrittenTexts.{adds-none, adds-both}
+use Rattle.cube_lex.proofs.WrittenTexts.{adds-both}
 use Rattle.cube_lex.specs.Bytes.{is_plain, starts_word, is_word_byte}
 use Rattle.cube_lex.specs.Parts.{IsWord, IsDigits, IsNumber, token_limit}
 use Rattle.cube_lex.specs.Quoted.{quoted}

@@ -1,5 +1,5 @@
 -- Which rules can be written: those whose names, texts and words fit in tokens. What is read from tokens is so.
-use Rattle.std.specs.Prelude.{ℕ, nat_le, ℤ, Bool, true, not, ◌&&◌, List, [], ◌∷◌, length, Option, Some, None, if◌then◌else◌}
+use Rattle.std.specs.Prelude.{ℕ, nat_le, Bool, true, not, ◌&&◌, List, length, Option, Some, None, if◌then◌else◌}
 use Rattle.std.specs.Int.{is_negative}
 use Rattle.std.specs.List.{list_all}
 use Rattle.cube_fixed.specs.Range.{is_in_range}

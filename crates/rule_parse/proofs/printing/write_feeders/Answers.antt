@@ -1,4 +1,4 @@
-use Rattle.std.proofs.Common.{◌≡◌, ◌==◌, List, [], ◌∷◌, ◌++◌, length, true, codes, ap, ◌∙◌, append-nil, subst}
+use Rattle.std.proofs.Common.{◌≡◌, ◌==◌, List, [], ◌∷◌, ◌++◌, length, true, codes, ap, ◌∙◌}
 use Rattle.std.specs.List.{flat_map}
 use Rattle.cube_lex.proofs.WrittenTexts.{adds-both}
 use Rattle.cube_lex.specs.Written.{Spelling, Adds}

@@ -1,4 +1,4 @@
-use Rattle.std.proofs.Common.{List, [], ◌∷◌, ◌++◌, codes, subst}
+use Rattle.std.proofs.Common.{List, [], ◌∷◌, codes, subst}
 use Rattle.cube_lex.proofs.WrittenTexts.{adds-both}
 use Rattle.cube_lex.specs.Written.{Spelling, Adds}
 use Rattle.expression_grammar.specs.Spelled.{sign_token}

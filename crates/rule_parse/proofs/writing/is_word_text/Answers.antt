@@ -1,4 +1,4 @@
-use Rattle.std.proofs.Common.{◌≡◌, ◌==◌, [], true, length, ◌&&◌, get_or, drop, refl, sym, ap, ◌∙◌}
+use Rattle.std.proofs.Common.{◌≡◌, ◌==◌, true, length, ◌&&◌, get_or, refl, sym, ap, ◌∙◌}
 use Rattle.std.specs.List.{list_all}
 use Rattle.cube_lex.specs.Bytes.{starts_word, is_word_byte}
 use Rattle.rule_parse.proofs.WritableTrees.{word_parts}

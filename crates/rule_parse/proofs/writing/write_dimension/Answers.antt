@@ -1,4 +1,4 @@
-use Rattle.std.proofs.Common.{[], ◌∷◌, ◌++◌, codes, sym, ap, subst}
+use Rattle.std.proofs.Common.{[], ◌∷◌, codes, sym, ap, subst}
 use Rattle.cube_lex.specs.Written.{Adds}
 use Rattle.expression_grammar.specs.Spelled.{sign_token}
 use Rattle.rule_parse.proofs.WrittenParts.{then_adds, adds_same}

@@ -1,4 +1,4 @@
-use Rattle.std.proofs.Common.{◌≡◌, ◌≤◌, ◌++◌, ℕ, List, length, sym, ap, ◌∙◌, subst}
+use Rattle.std.proofs.Common.{◌≡◌, ◌≤◌, ◌++◌, length, sym, ap, ◌∙◌, subst}
 use Rattle.cube_fixed.specs.Range.{IsInRange}
 use Rattle.cube_fixed.specs.Text.{printed}
 use Rattle.cube_fixed.specs.declared.value.Value.TheVariants.{Num}
