@@ -176,6 +176,7 @@ fn keeps_elements_and_an_order_with_components_first(rt: HostRuntime) -> Result<
     let months = months(rt.alloc())?;
     let order: [u32; 4] = [0, 1, 3, 2];
     assert!(rt; months.len() == 4 && months.name().shown() == b"Month".as_slice());
+    assert!(rt; has_element(&months, 0, b"Jan", &[]));
     assert!(rt; has_element(&months, 1, b"Feb", &[]));
     assert!(rt; has_element(&months, 2, b"Year", &[(3, -2)]));
     assert!(rt; has_element(&months, 3, b"Half", &[(0, 1), (1, -2)]));
