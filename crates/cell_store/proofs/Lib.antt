@@ -1,7 +1,13 @@
 mod Splits
 pub mod Rising
-mod EntryCells
+mod InOrder
+mod Runs
+mod Edits
+mod LastWrites
+mod Parts
+mod PageSteps
+mod GroupSteps
 mod NextCells
 mod Numbers
-mod Writes
-mod Sorting
+mod Stores
+mod Sets

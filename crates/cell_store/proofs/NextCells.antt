@@ -1,21 +1,11 @@
 -- The first cell, and the first entry, at or above a cell.
 use Rattle.std.proofs.Common.{◌≡◌, ℕ, zero, suc, ◌<◌, ◌↔◌, true, false, IsTrue, None, Some, List, [], ◌∷◌, length, find, Contains, get_or, refl, ap, subst, eqb, leb, eq-eqb, inl, inr, arith}
-use Rattle.std.specs.List.{slice_get}
 use Rattle.std.specs.Option.{option_map}
 use Rattle.std.proofs.lemmas.Bool.Decides.{nat_tests, leb_tells, Decides-eqb}
 use Rattle.cell_store.specs.declared.entry.Entry.{Entry}
 use Rattle.cell_store.specs.Cells.{next_from}
-use Rattle.cell_store.specs.Entries.{cells_of, at_least}
+use Rattle.cell_store.specs.Entries.{cells_of}
 use Rattle.cell_store.proofs.Rising.{AllAbove, Rises}
-
--- the first of the entries at or above a cell
-pub first_at_least : (es : List Entry) (k : ℕ) → slice_get (at_least es k) 0 ≡ find (λ e. leb k e.cell) es
-first_at_least [] k = refl
-first_at_least (e ∷ es) k =
-    elim (leb_tells k e.cell) [
-      | inl t ↦ rw t.0 refl
-      | inr t ↦ rw t.0 (first_at_least es k)
-    ]
 
 -- the cell of the first entry is the first cell
 pub next_of_entries : (es : List Entry) (k : ℕ) → next_from (cells_of es) k ≡ option_map (λ e. e.cell) (find (λ e. leb k e.cell) es)

@@ -1,5 +1,6 @@
 -- Stored cells with their numbers, as a list.
-use Rattle.std.specs.Prelude.{◌≢◌, ℕ, ◌==◌, nat_lt, nat_le, ℤ, pos, Option, List, [], ◌∷◌, ◌++◌, map, filter, find, fold, All, if◌then◌else◌}
+use Rattle.std.specs.Prelude.{◌≢◌, ℕ, ◌==◌, nat_lt, nat_le, ℤ, pos, Option, if◌then◌else◌}
+use Rattle.std.specs.Prelude.{List, [], ◌∷◌, ◌++◌, map, filter, find, fold, All}
 use Rattle.std.specs.Ordering.{int_eq}
 use Rattle.std.specs.List.Sorted.{IsStrictlyIncreasing}
 use Rattle.cell_store.specs.declared.entry.Entry.{Entry}
@@ -12,6 +13,10 @@ cells_of entries = map (λ entry. entry.cell) entries
 pub record IsStore (entries : List Entry) : Type 0 where
   pub rising : IsStrictlyIncreasing (cells_of entries)
   pub no_zeros : All (λ entry. entry.number ≢ pos 0) entries
+
+-- the most entries of a store
+abbrev pub most_cells : ℕ
+most_cells = 1000000
 
 -- the number of a cell, which is 0 where no entry has the cell
 abbrev pub number_at : List Entry → ℕ → ℤ
@@ -28,10 +33,6 @@ below entries cell = filter (λ entry. nat_lt entry.cell cell) entries
 
 abbrev pub above : List Entry → ℕ → List Entry
 above entries cell = filter (λ entry. nat_lt cell entry.cell) entries
-
--- the entries of the cells at or above this one
-abbrev pub at_least : List Entry → ℕ → List Entry
-at_least entries cell = filter (λ entry. nat_le cell entry.cell) entries
 
 -- the entry of a cell that holds this number: none for 0
 abbrev pub kept_of : ℕ → ℤ → List Entry

@@ -3,21 +3,28 @@
 //! - [`Store`] is the list of its entries by cell. It is never changed in place: [`Store::apply`] gives the store after
 //!   some writes, and the old one stays as it is.
 //! - [`Entry`] is a stored cell with its number.
-//! - [`CellSet`] is what a walk over cells needs of a set of them. A store is one.
+//! - [`CellSet`] is what a walk over cells needs of a set of them. A store is one, and a [`PageSet`] another.
+//! - Both keep what they hold in pages, which versions share: a new version makes only those that its writes change.
 //!
-//! Contracts see a store as its list of entries, in rising order of cells and without zeros, and cite `specs/`.
+//! Contracts see a store as its list of entries, in rising order of cells and without zeros, and a set as the list of
+//! its cells. They cite the definitions at the top of `specs/`; how both stand in pages is said in `specs/Private/`.
 #![tactic(auto)]
 
 pub use cells::CellSet;
 pub use entry::Entry;
 pub use fault::StoreFault;
+pub use set::PageSet;
 pub use store::{MAX_CELLS, Store};
 
 mod cells;
 mod entry;
 mod fault;
-mod merge;
+mod group;
+mod groups;
+mod order;
+mod pages;
 mod places;
+mod run;
+mod set;
 mod store;
-#[cfg(test)]
-mod tests;
+mod writes;

@@ -1,40 +1,48 @@
 ghost use Rattle.std.specs.Prelude.{◌≡◌, ◌≤◌, length, take, drop};
-ghost use Rattle.std.specs.List.Sorted.{IsStrictlyIncreasing};
-ghost use Rattle.cell_store.specs.Entries.{cells_of, below, at_least, above};
+ghost use Rattle.cell_store.specs.Private.Order.{IsRising, below_by, at_least_by, up_to_by, above_by, first_from};
 
-use crate::entry::Entry;
+use crate::order::Placed;
 
-/// How many entries lie below the cell. They are the first ones.
-pub fn count_below(entries: &[Entry], cell: u64) -> usize
-    requires { IsStrictlyIncreasing (cells_of entries.now) }
-    ensures within { result ≤ length entries.now }
-    ensures front { take result entries.now ≡ below entries.now cell }
-    ensures back { drop result entries.now ≡ at_least entries.now cell }
+/// How many items lie below the cell. They are the first ones.
+pub fn count_below<T: Placed>(items: &[T], cell: u64) -> usize
+    requires { IsRising T.cell items.now }
+    ensures within { result ≤ length items.now }
+    ensures front { take result items.now ≡ below_by T.cell items.now cell }
+    ensures back { drop result items.now ≡ at_least_by T.cell items.now cell }
 {
-    entries.partition_point(|entry| entry.cell < cell)
+    items.partition_point(|item| item.cell() < cell)
 }
 
-/// The entries at or above the cell.
-pub fn at_least(entries: &[Entry], cell: u64) -> &[Entry]
-    requires { IsStrictlyIncreasing (cells_of entries.now) }
-    ensures { result.now ≡ at_least entries.now cell }
+/// How many items lie at or below the cell.
+pub fn count_up_to<T: Placed>(items: &[T], cell: u64) -> usize
+    requires { IsRising T.cell items.now }
+    ensures within { result ≤ length items.now }
+    ensures front { take result items.now ≡ up_to_by T.cell items.now cell }
+    ensures back { drop result items.now ≡ above_by T.cell items.now cell }
 {
-    &entries[count_below(entries, cell)..]
+    items.partition_point(|item| item.cell() <= cell)
 }
 
-/// The entries above the cell.
-pub fn above(entries: &[Entry], cell: u64) -> &[Entry]
-    requires { IsStrictlyIncreasing (cells_of entries.now) }
-    ensures { result.now ≡ above entries.now cell }
+/// The items at or above the cell.
+pub fn at_least<T: Placed>(items: &[T], cell: u64) -> &[T]
+    requires { IsRising T.cell items.now }
+    ensures { result.now ≡ at_least_by T.cell items.now cell }
 {
-    &entries[count_up_to(entries, cell)..]
+    &items[count_below(items, cell)..]
 }
 
-// How many entries lie at or below the cell.
-fn count_up_to(entries: &[Entry], cell: u64) -> usize
-    requires { IsStrictlyIncreasing (cells_of entries.now) }
-    ensures within { result ≤ length entries.now }
-    ensures back { drop result entries.now ≡ above entries.now cell }
+/// The items above the cell.
+pub fn above<T: Placed>(items: &[T], cell: u64) -> &[T]
+    requires { IsRising T.cell items.now }
+    ensures { result.now ≡ above_by T.cell items.now cell }
 {
-    entries.partition_point(|entry| entry.cell <= cell)
+    &items[count_up_to(items, cell)..]
+}
+
+/// The first item at or above the cell.
+pub fn first_at_least<T: Placed + Copy>(items: &[T], cell: u64) -> Option<T>
+    requires { IsRising T.cell items.now }
+    ensures { result ≡ first_from T.cell items.now cell }
+{
+    at_least(items, cell).first().copied()
 }

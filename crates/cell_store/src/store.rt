@@ -1,13 +1,15 @@
-ghost use Rattle.std.specs.Prelude.{◌≡◌, ℕ, ◌<◌, ◌≤◌, ◌⊎◌, [], Err, length, IfOk, IsOkUnless};
-ghost use Rattle.cell_store.specs.Entries.{IsStore, number_at, entry_from, after_writes};
+ghost use Rattle.std.specs.Prelude.{◌≡◌, ℕ, ◌<◌, ◌≤◌, ◌⊎◌, [], Err, length, map, IfOk, IsOkUnless};
+ghost use Rattle.cell_store.specs.Entries.{IsStore, most_cells, number_at, entry_from, after_writes};
+ghost use Rattle.cell_store.specs.Private.Entries.{cell_of, entry_of};
+ghost use Rattle.cell_store.specs.Private.Groups.{all_entries, AreGrouped};
 
 use crate::cells::CellSet;
 use crate::entry::Entry;
 use crate::fault::StoreFault;
-use crate::merge::changed;
-use crate::places::at_least;
+use crate::groups::Groups;
+use crate::writes::last_writes;
 use cube_fixed::Money;
-use std::alloc::Global;
+use std::alloc::{AllocError, Global};
 use std::marker::Model;
 
 /// The most cells of a store.
@@ -16,20 +18,22 @@ pub const MAX_CELLS: usize = 1_000_000;
 /// The stored cells with their numbers. A cell that isn't stored has the number 0.
 #[derive(Debug, Drop)]
 pub struct Store {
-    entries: Vec<Entry>,
+    groups: Groups<Entry>,
+    len: usize,
 }
 
 impl Model for Store {
-    ghost use Rattle.std.specs.Prelude.{List, ◌≤◌, length};
+    ghost use Rattle.std.specs.Prelude.{List};
     ghost use Rattle.cell_store.specs.declared.entry.Entry.{Entry};
-    ghost use Rattle.cell_store.specs.declared.store.TheConstants.{MAX_CELLS};
-    ghost use Rattle.cell_store.specs.Entries.{IsStore};
 
     ghost Value = { List Entry };
 
-    ghost view = { λ s. s.entries.items };
+    ghost use Rattle.cell_store.specs.Private.Groups.{all_entries};
+    ghost use Rattle.cell_store.specs.Private.Stores.{IsKept};
 
-    ghost invariant = { λ s. IsStore s.entries.items × (length s.entries.items ≤ MAX_CELLS) };
+    ghost view = { λ s. all_entries s.groups };
+
+    ghost invariant = { λ s. IsKept s.groups s.len };
 }
 
 impl Store {
@@ -38,17 +42,18 @@ impl Store {
         ensures { result ≡ [] }
     {
         Store {
-            entries: Vec::new(alloc),
+            groups: Groups::new(alloc),
+            len: 0,
         }
     }
 
     /// How many cells are stored.
     pub fn len(&self) -> u64
         ensures len { result ≡ length self.now }
-        ensures within { result ≤ MAX_CELLS }
+        ensures within { result ≤ most_cells }
         ensures valid { IsStore self.now }
     {
-        self.entries.len() as u64
+        self.len as u64
     }
 
     /// The number of a cell: 0 where it isn't stored.
@@ -66,23 +71,51 @@ impl Store {
         ensures next { result ≡ entry_from self.now cell }
         ensures valid { IsStore self.now }
     {
-        at_least(&self.entries, cell).first().copied()
+        self.groups.first_from(cell)
     }
 
     /// The store after these writes, in their order: a later write of a cell wins, and a written 0 takes the cell out.
     pub fn apply(&self, alloc: Global, writes: &[(u64, Money)]) -> Result<Store, StoreFault>
         ensures written { IfOk result (λ store. store ≡ after_writes self.now writes.now) }
-        ensures within { length (after_writes self.now writes.now) ≤ MAX_CELLS → IsOkUnless result StoreFault.Memory }
+        ensures within { length (after_writes self.now writes.now) ≤ most_cells → IsOkUnless result StoreFault.Memory }
 
         // past the limit the count is told, and nothing else but want of memory
-        ensures past { MAX_CELLS < length (after_writes self.now writes.now) → (result ≡ Err (StoreFault.StoreLimit (length (after_writes self.now writes.now)))) ⊎ (result ≡ Err StoreFault.Memory) }
+        ensures past { most_cells < length (after_writes self.now writes.now) →
+            (result ≡ Err (StoreFault.StoreLimit (length (after_writes self.now writes.now))))
+            ⊎ (result ≡ Err StoreFault.Memory) }
     {
-        let entries = changed(alloc, &self.entries, writes)?;
-        if entries.len() > MAX_CELLS {
-            return Err(StoreFault::StoreLimit(entries.len() as u64));
+        let groups = self.changed(alloc, writes)?;
+        let len = groups.count()?;
+        if len > MAX_CELLS {
+            return Err(StoreFault::StoreLimit(len as u64));
         }
-        Ok(Store { entries })
+        Ok(Store { groups, len })
     }
+
+    // The entries after these writes, in groups.
+    fn changed(&self, alloc: Global, writes: &[(u64, Money)]) -> Result<Groups<Entry>, AllocError>
+        ensures entries { IfOk result (λ groups. all_entries groups ≡ after_writes self.now writes.now) }
+        ensures stored { IfOk result (λ groups. IsStore (all_entries groups)) }
+        ensures sized { IfOk result (λ groups. AreGrouped cell_of groups) }
+    {
+        let entries = entries_of_writes(alloc, writes)?;
+        let last = last_writes(alloc, &entries)?;
+        let groups = self.groups.changed(alloc, &last)?;
+        Ok(groups)
+    }
+}
+
+// The writes as entries. One that takes its cell out has the number 0.
+fn entries_of_writes(alloc: Global, writes: &[(u64, Money)]) -> Result<Vec<Entry>, AllocError>
+    ensures { IfOk result (λ entries. entries.items ≡ map entry_of writes.now) }
+{
+    writes
+        .iter()
+        .map(|write| Entry {
+            cell: write.0,
+            number: write.1,
+        })
+        .collect(alloc)
 }
 
 impl CellSet for Store {

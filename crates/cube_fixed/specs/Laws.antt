@@ -1,6 +1,7 @@
 -- What 0 gives in the operations that take it alone.
 use Rattle.std.specs.Prelude.{◌≡◌}
-use Rattle.cube_fixed.specs.Arithmetic.{zero_value, sum_of, difference_of, opposite_of, greater_of, lesser_of, rounded, floor_of, size_of, sign_of}
+use Rattle.cube_fixed.specs.Arithmetic.{zero_value, sum_of, difference_of, opposite_of, greater_of, lesser_of, rounded}
+use Rattle.cube_fixed.specs.Arithmetic.{floor_of, size_of, sign_of}
 
 -- 0 + 0, 0 - 0, MAX and MIN of 0 and 0
 pub record PairOfZerosGivesZero : Type 0 where

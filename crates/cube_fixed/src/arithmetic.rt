@@ -1,5 +1,6 @@
 ghost use Rattle.std.specs.Prelude.{◌≡◌};
-ghost use Rattle.cube_fixed.specs.Arithmetic.{sum_of, difference_of, product_of, greater_of, lesser_of, rounded, floor_of, size_of, sign_of, order_of};
+ghost use Rattle.cube_fixed.specs.Arithmetic.{sum_of, difference_of, product_of, greater_of, lesser_of, rounded};
+ghost use Rattle.cube_fixed.specs.Arithmetic.{floor_of, size_of, sign_of, order_of};
 
 use crate::rounding::{MILLIONTHS_PER_UNIT, exact_product, fitted, nearest_signed};
 use crate::value::Value;

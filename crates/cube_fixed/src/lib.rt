@@ -29,7 +29,5 @@ mod printing;
 mod reading;
 mod rounding;
 mod steps;
-#[cfg(test)]
-mod tests;
 mod total;
 mod value;

@@ -5,7 +5,8 @@ ghost use Rattle.std.specs.Char.{is_ascii_digit};
 ghost use Rattle.std.specs.Str.Parse.{digits_value};
 ghost use Rattle.cube_fixed.specs.declared.value.Value.TheVariants.{Num};
 ghost use Rattle.cube_fixed.specs.Range.{unit, limit, IsInRange};
-ghost use Rattle.cube_fixed.specs.Text.{is_digits, is_point, is_decimal, decimals_value, decimal_value, number_after_sign, number_of, printed, reading_of};
+ghost use Rattle.cube_fixed.specs.Text.{is_digits, is_point, is_decimal, decimals_value, decimal_value};
+ghost use Rattle.cube_fixed.specs.Text.{number_after_sign, number_of, printed, reading_of};
 
 use crate::money::{LIMIT, Money, UNIT};
 

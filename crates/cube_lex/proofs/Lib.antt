@@ -10,3 +10,4 @@ pub mod Unique
 pub mod WrittenTexts
 pub mod Wholes
 pub mod WellFormed
+pub mod Spaced

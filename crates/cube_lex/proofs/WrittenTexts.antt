@@ -7,11 +7,12 @@ use Rattle.std.proofs.lemmas.Slice.Eq.{starts_is}
 use Rattle.std.specs.Char.{is_ascii_digit}
 use Rattle.std.specs.List.{list_all, list_any, Contains, cons_option, starts_with}
 use Rattle.std.specs.Option.{option_map}
-use Rattle.cube_lex.specs.Bytes.{Begins, is_white, is_quote, starts_word, is_word_byte}
+use Rattle.cube_lex.specs.Bytes.{line_at, Begins, is_white, is_quote, starts_word, is_word_byte}
 use Rattle.cube_lex.specs.Lexed.{Lexed}
 use Rattle.cube_lex.specs.Parts.{Part, Divides, IsLongest, IsToken, IsWord, IsNumber, IsDigits, IsQuoted, Stands, signs, is_sign, token_limit}
 use Rattle.cube_lex.specs.Reading.{mark_len, lexeme_at, lexemes_among, IsRead, IsReading, text_limit}
-use Rattle.cube_lex.specs.Written.{Spelling, spelling_of, IsWritten, Adds}
+use Rattle.cube_lex.specs.Written.{Spelling, spelling_of, IsWritten, Adds, HasReading}
+use Rattle.cube_lex.specs.Fault.{place_of}
 use Rattle.cube_lex.specs.declared.fault.LexFault.{LexFault}
 use Rattle.cube_lex.specs.declared.token.Kind.{Kind}
 use Rattle.cube_lex.specs.declared.token.Kind.TheVariants.{Word, Number, Text, Sign}
@@ -200,6 +201,20 @@ written-reads words text written small lexed fault is =
     (parts.0, [], subst (λ n. Divides (drop n text) parts.0 []) (sym no_mark_is) parts.1, refl, refl) in
     let same : (lexed.lexemes ≡ lexemes_among text (mark_len text) parts.0) × (fault ≡ None) = read-only text lexed.lexemes (lexemes_among text (mark_len text) parts.0) fault None (is.within small) built in
     (ap (map spelling_of) same.0 ∙ spelled-lexemes text (mark_len text) parts.0 ∙ parts.2, same.1)
+
+-- and there is such a reading
+pub written-reading : (words : List Spelling) (text : List ℕ) → IsWritten words text → length text ≤ text_limit → HasReading words text
+written-reading words text written small =
+    let parts = written-parts words text [] written refl in
+    let no_mark_is : mark_len text ≡ 0 = written-no_mark words text written in (
+      record { lexemes = lexemes_among text (mark_len text) parts.0; end_line = line_at text (place_of text None) },
+      record {
+        oversize = λ large. absurd (omega (arith, large, small));
+        within = λ _. (parts.0, [], subst (λ n. Divides (drop n text) parts.0 []) (sym no_mark_is) parts.1, refl, refl);
+        end = refl;
+      },
+      spelled-lexemes text (mark_len text) parts.0 ∙ parts.2,
+    )
 
 -- more white space in front
 written-behind_white : (words : List Spelling) (white bytes : List ℕ) → list_all is_white white ≡ true → IsWritten words bytes → IsWritten words (white ++ bytes)

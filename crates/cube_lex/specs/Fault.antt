@@ -10,7 +10,9 @@ use Rattle.cube_lex.specs.declared.fault.LexFault.TheVariants.{BadByte, OpenQuot
 
 -- white space, a comment or a token
 abbrev pub BeginsPart : List ℕ → Type 0
-BeginsPart rest = (bytes after : List ℕ) × (rest ≡ bytes ++ after) × (IsSpace bytes ⊎ IsComment bytes ⊎ ((kind : Kind) × IsToken kind bytes))
+BeginsPart rest =
+    (bytes after : List ℕ) × (rest ≡ bytes ++ after) × (IsSpace bytes ⊎ IsComment bytes ⊎ ((kind : Kind)
+    × IsToken kind bytes))
 
 -- There is a byte, and no part and no quoted text begins with it.
 pub record BeginsNothing (rest : List ℕ) : Type 0 where
@@ -46,10 +48,12 @@ pub record BeginsLongToken (rest : List ℕ) : Type 0 where
   pub stands : Stands kind piece after
   pub long : token_limit < length piece
 
--- The rest of a text, which begins at the offset `at`, begins with no part, for this cause; with none, the text is at its end.
+-- The rest of a text, which begins at the offset `at`, begins with no part, for this cause; with none, the text is at
+-- its end.
 abbrev pub Stops : ℕ → List ℕ → Option LexFault → Type 0
 Stops at rest None = rest ≡ []
-Stops at rest (Some (BadByte place)) = (BeginsNothing rest × (place ≡ at)) ⊎ ((len : ℕ) × HasForbiddenByte rest len × (place ≡ at + len))
+Stops at rest (Some (BadByte place)) =
+    (BeginsNothing rest × (place ≡ at)) ⊎ ((len : ℕ) × HasForbiddenByte rest len × (place ≡ at + len))
 Stops at rest (Some (OpenQuote place)) = IsOpenQuote rest × (place ≡ at)
 Stops at rest (Some (TooLong place)) = BeginsLongToken rest × (place ≡ at)
 Stops at rest (Some Memory) = ⊥

@@ -7,3 +7,4 @@ pub mod Parts
 pub mod Quoted
 pub mod Reading
 pub mod Written
+pub mod Piece

@@ -1,5 +1,7 @@
 -- The parts of a text: tokens, white space and comments, each as long as can be.
-use Rattle.std.specs.Prelude.{◌≡◌, ℕ, ◌≤◌, ◌⊎◌, not, IsTrue, List, [], ◌∷◌, ◌++◌, length, codes, bytes_eq, Bool, Contains, Option, Some, None}
+use Rattle.std.specs.Prelude.{◌≡◌, ℕ, ◌≤◌, ◌⊎◌, not, IsTrue, List, [], ◌∷◌, ◌++◌, length, codes, bytes_eq, Bool}
+use Rattle.std.specs.Prelude.{Contains}
+use Rattle.std.specs.Prelude.{Option, Some, None}
 use Rattle.std.specs.Char.{is_ascii_digit}
 use Rattle.std.specs.List.{list_all, list_any}
 use Rattle.cube_lex.specs.Bytes.{Begins, is_white, is_line_end, is_quote, is_plain, starts_word, is_word_byte}
@@ -19,7 +21,8 @@ IsDigits (b ∷ bs) = IsTrue (list_all is_ascii_digit (b ∷ bs))
 
 -- A number is digits, and optionally a point and digits.
 abbrev pub IsNumber : List ℕ → Type 0
-IsNumber bytes = IsDigits bytes ⊎ ((whole fraction : List ℕ) × IsDigits whole × IsDigits fraction × (bytes ≡ whole ++ 46 ∷ fraction))
+IsNumber bytes = IsDigits bytes
+    ⊎ ((whole fraction : List ℕ) × IsDigits whole × IsDigits fraction × (bytes ≡ whole ++ 46 ∷ fraction))
 
 -- A quoted text is some bytes that may stand there, quoted.
 abbrev pub IsQuoted : List ℕ → Type 0
@@ -52,7 +55,8 @@ IsComment (b ∷ bs) = (b ≡ 35) × IsTrue (list_all (λ c. not (is_line_end c)
 
 -- the bytes are one of these, and nothing longer that begins here is
 abbrev pub IsLongest : (List ℕ → Type 0) → List ℕ → List ℕ → Type 0
-IsLongest Is bytes rest = Is bytes × ((longer more : List ℕ) → Is longer → longer ++ more ≡ bytes ++ rest → length longer ≤ length bytes)
+IsLongest Is bytes rest = Is bytes
+    × ((longer more : List ℕ) → Is longer → longer ++ more ≡ bytes ++ rest → length longer ≤ length bytes)
 
 -- A token of the kind stands before the rest. Quotes are paired from the left, so no quote follows a quoted text.
 abbrev pub Stands : Kind → List ℕ → List ℕ → Type 0
@@ -78,4 +82,5 @@ IsPart (Some kind) bytes rest = Stands kind bytes rest × (length bytes ≤ toke
 -- the text is these parts, one after another, and then the rest
 abbrev pub Divides : List ℕ → List Part → List ℕ → Type 0
 Divides text [] rest = text ≡ rest
-Divides text (part ∷ parts) rest = (after : List ℕ) × (text ≡ part.bytes ++ after) × IsPart part.kind part.bytes after × Divides after parts rest
+Divides text (part ∷ parts) rest =
+    (after : List ℕ) × (text ≡ part.bytes ++ after) × IsPart part.kind part.bytes after × Divides after parts rest

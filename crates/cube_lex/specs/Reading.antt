@@ -1,5 +1,6 @@
 -- Reading a text: its tokens in order, and the first place where it can't be read on.
-use Rattle.std.specs.Prelude.{◌≡◌, ℕ, ◌+◌, ◌-◌, ◌^◌, ◌<◌, ◌≤◌, List, [], ◌∷◌, length, Option, Some, option_map, drop, nat_eq, if◌then◌else◌}
+use Rattle.std.specs.Prelude.{◌≡◌, ℕ, ◌+◌, ◌-◌, ◌^◌, ◌<◌, ◌≤◌, List, [], ◌∷◌, length, Option, Some, option_map}
+use Rattle.std.specs.Prelude.{drop, nat_eq, if◌then◌else◌}
 use Rattle.std.specs.List.{cons_option, starts_with}
 use Rattle.cube_lex.specs.Bytes.{line_at}
 use Rattle.cube_lex.specs.Fault.{Stops, place_of}
@@ -19,14 +20,17 @@ mark_len text = if starts_with nat_eq text (0xEF ∷ 0xBB ∷ 0xBF ∷ []) then 
 
 -- the token that a part of the text at the offset `at` is, if it is one
 abbrev pub lexeme_at : List ℕ → ℕ → Part → Option Lexeme
-lexeme_at text at part = option_map (λ kind. record { kind = kind; piece = part.bytes; start = at; line = line_at text at }) part.kind
+lexeme_at text at part =
+    option_map (λ kind. record { kind = kind; piece = part.bytes; start = at; line = line_at text at }) part.kind
 
 -- the tokens among parts of the text that begin at the offset `at`
 abbrev pub lexemes_among : List ℕ → ℕ → List Part → List Lexeme
 lexemes_among text at [] = []
-lexemes_among text at (part ∷ parts) = cons_option (lexeme_at text at part) (lexemes_among text (at + length part.bytes) parts)
+lexemes_among text at (part ∷ parts) =
+    cons_option (lexeme_at text at part) (lexemes_among text (at + length part.bytes) parts)
 
--- Behind the mark, the text is parts and then a rest at which it stops for this cause; the tokens are those among the parts.
+-- Behind the mark, the text is parts and then a rest at which it stops for this cause; the tokens are those among the
+-- parts.
 abbrev pub IsRead : List ℕ → List Lexeme → Option LexFault → Type 0
 IsRead text tokens fault = (parts : List Part) × (rest : List ℕ)
     × Divides (drop (mark_len text) text) parts rest

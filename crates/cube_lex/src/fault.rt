@@ -10,7 +10,8 @@ pub enum LexFault {
     BadByte(usize),
     /// The quoted text that begins here is still open at the text's end.
     OpenQuote(usize),
-    /// The token that begins here has more than 1,024 bytes, or the text has more than 2^30 bytes and this is offset 2^30.
+    /// The token that begins here has more than 1,024 bytes, or the text has more than 2^30 bytes and this is offset
+    /// 2^30.
     TooLong(usize),
     Memory,
 }

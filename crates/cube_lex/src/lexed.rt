@@ -105,8 +105,10 @@ impl<'a> Tokens<'a> {
     /// The bytes that a quoted text stands for: without the outer quotes, each doubled quote being one.
     pub fn text(&self, alloc: Global, i: usize) -> Result<Vec<u8>, AllocError>
         requires { IsSomeAnd (slice_get self.now.lexemes i) (λ token. token.kind ≡ Text) }
-        ensures value { IfOk result (λ bytes. IsSomeAnd (slice_get self.now.lexemes i) (λ token. bytes.items ≡ unquoted token.piece)) }
-        ensures written { IfOk result (λ bytes. IsSomeAnd (slice_get self.now.lexemes i) (λ token. token.piece ≡ quoted bytes.items)) }
+        ensures value { IfOk result (λ bytes.
+            IsSomeAnd (slice_get self.now.lexemes i) (λ token. bytes.items ≡ unquoted token.piece)) }
+        ensures written { IfOk result (λ bytes.
+            IsSomeAnd (slice_get self.now.lexemes i) (λ token. token.piece ≡ quoted bytes.items)) }
     {
         unquoted(alloc, self.tokens[i].piece)
     }

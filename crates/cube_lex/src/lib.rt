@@ -4,6 +4,7 @@
 mod fault;
 mod front;
 mod lexed;
+mod pieces;
 mod quoted;
 mod reading;
 mod signs;
@@ -12,13 +13,11 @@ mod writing;
 
 pub use fault::LexFault;
 pub use lexed::Tokens;
+pub use pieces::{Piece, write_line, write_pieces};
 pub use quoted::unquoted;
 pub use reading::{tokens, tokens_until};
 pub use token::{Kind, Token};
 pub use writing::{
-    what_is_written_is_read, write_line_end, write_number, write_quoted, write_sign, write_whole,
-    write_word,
+    what_is_written_has_a_reading, what_is_written_is_read, write_line_end, write_number,
+    write_quoted, write_sign, write_whole, write_word,
 };
-
-#[cfg(test)]
-mod tests;

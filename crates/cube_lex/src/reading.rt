@@ -1,4 +1,5 @@
-ghost use Rattle.std.specs.Prelude.{◌≡◌, ◌≢◌, ◌⊎◌, ℕ, ◌<◌, ◌≤◌, ◌^◌, length, IfOk, IfErr, Ok, Err, Some, None, Option, count_by, MatchResult, All};
+ghost use Rattle.std.specs.Prelude.{◌≡◌, ◌≢◌, ◌⊎◌, ℕ, ◌<◌, ◌≤◌, ◌^◌, length, IfOk, IfErr, Ok, Err, Some, None, Option};
+ghost use Rattle.std.specs.Prelude.{count_by, MatchResult, All};
 ghost use Rattle.cube_lex.specs.Bytes.{is_line_end};
 ghost use Rattle.cube_lex.specs.Lexed.{Lexed, IsWellFormed};
 ghost use Rattle.cube_lex.specs.Reading.{IsReading, mark_len};
@@ -65,7 +66,8 @@ pub fn tokens_until(
     ensures found { IfOk result (λ read. IsReading text.now read.0 read.1) }
     ensures well_formed { IfOk result (λ read. All IsWellFormed read.0.lexemes) }
     // A text is read as one thing only, so this is it.
-    ensures only { (lexed : Lexed) (fault : Option LexFault) → IsReading text.now lexed fault → IfOk result (λ read. (read.0 ≡ lexed) × (read.1 ≡ fault)) }
+    ensures only { (lexed : Lexed) (fault : Option LexFault) → IsReading text.now lexed fault
+        → IfOk result (λ read. (read.0 ≡ lexed) × (read.1 ≡ fault)) }
 {
     if text.len() > TEXT_LIMIT {
         let (within, _) = text.split_at(TEXT_LIMIT);
@@ -82,7 +84,8 @@ pub fn tokens(alloc: Global, text: &[u8]) -> Result<Tokens<'_>, LexFault>
     ensures fault { IfErr result (λ fault. fault ≢ Memory → (lexed : Lexed) × IsReading text.now lexed (Some fault)) }
     // A text is read as one thing only, so one without fault is never refused but for want of memory.
     ensures only { (lexed : Lexed) (fault : Option LexFault) → IsReading text.now lexed fault
-        → MatchResult result (λ tokens. (tokens ≡ lexed) × (fault ≡ None)) (λ cause. (cause ≡ Memory) ⊎ (fault ≡ Some cause)) }
+        → MatchResult result (λ tokens. (tokens ≡ lexed) × (fault ≡ None))
+        (λ cause. (cause ≡ Memory) ⊎ (fault ≡ Some cause)) }
 {
     let (tokens, fault) = tokens_until(alloc, text)?;
     match fault {

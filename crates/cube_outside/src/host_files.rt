@@ -1,4 +1,4 @@
-ghost use Rattle.std.specs.Prelude.{◌≡◌, ◌*◌, ◌<◌, ◌≤◌, ◌+◌, [], None, IfOk, vec_len};
+ghost use Rattle.std.specs.Prelude.{◌≡◌, ◌*◌, ◌<◌, ◌≤◌, ◌+◌, [], None, IfOk, vec_len, map};
 ghost use Rattle.std.specs.Bool.{OnTrue, OnFalse};
 
 use crate::files::{FileFault, Files};
@@ -9,27 +9,30 @@ use std::io::Read;
 /// How many bytes of a file are asked for at once.
 pub const CHUNK: usize = 8192;
 
-/// How many times a file is asked for bytes at most. Each time but the last gives at least one byte; a file that has more
-/// to give after these is a fault.
+/// How many times a file is asked for bytes at most. Each time but the last gives at least one byte; a file that has
+/// more to give after these is a fault.
 pub const MOST_TURNS: u64 = 1 << 32;
 
-/// The files of the system. They tell no content.
+/// The files of the system. Nothing is known of what they hold.
 #[derive(Drop)]
 pub struct HostFiles<'a, R> {
     rt: &'a R,
     count: u64,
     missed: Vec<u8>,
+    asked: Vec<Vec<u8>>,
 }
 
 impl<'a, R: std::rt::Files> HostFiles<'a, R> {
     pub fn new(alloc: Global, rt: &'a R) -> HostFiles<'a, R>
         ensures faults { ⟦<HostFiles<'a, R> as Files>⟧.faults result ≡ 0 }
         ensures missed { ⟦<HostFiles<'a, R> as Files>⟧.missed result ≡ [] }
+        ensures asked { ⟦<HostFiles<'a, R> as Files>⟧.asked result ≡ [] }
     {
         HostFiles {
             rt,
             count: 0,
             missed: Vec::new(alloc),
+            asked: Vec::new(alloc),
         }
     }
 
@@ -67,15 +70,19 @@ fn read_more<F: Read>(file: &mut F, bytes: &mut Vec<u8>) -> Result<bool, FileFau
 }
 
 impl<R: std::rt::Files> Files for HostFiles<'_, R> {
-    ghost told = { λ _. None };
+    ghost known = { λ _. None };
 
     ghost faults = { λ files. files.count };
 
     ghost missed = { λ files. files.missed.items };
 
+    ghost asked = { λ files. map (λ name. name.items) files.asked.items };
+
     fn read(&mut self, alloc: Global, name: &str) -> Result<Vec<u8>, FileFault> {
         // The name is kept before the file is opened, so that a failure can always be told.
         let missed = Vec::from_slice(alloc, name.as_bytes())?;
+        let asked = Vec::from_slice(alloc, name.as_bytes())?;
+        self.asked.insert(0, asked)?;
         let outcome = self.read_whole(alloc, name);
         if let Err(FileFault::Failed) = outcome {
             self.count = self.count.saturating_add(1);
@@ -90,32 +97,5 @@ impl<R: std::rt::Files> Files for HostFiles<'_, R> {
 
     fn missed(&self) -> &[u8] {
         &self.missed
-    }
-}
-
-#[cfg(test)]
-mod tests {
-    use super::*;
-    use std::process;
-    use std::test::Fail;
-
-    #[test]
-    fn reads_a_file_whole_and_counts_one_that_is_missing(rt: HostRuntime) -> Result<(), Fail> {
-        let alloc = rt.alloc();
-        let text = vec![in alloc; b'x'; 3 * CHUNK + 7]?;
-        let path = format!(in alloc; "/tmp/cube_outside_{}", process::id(rt.process()))?;
-        fs::write(&rt, path.as_str(), text.as_slice())?;
-        let mut files = HostFiles::new(alloc, &rt);
-        let read = files.read(alloc, path.as_str());
-        fs::remove_file(&rt, path.as_str())?;
-        assert_eq!(rt; read?.as_slice(), text.as_slice());
-        assert_eq!(rt; files.faults(), 0);
-        assert_eq!(rt;
-            files.read(alloc, path.as_str()).err(),
-            Some(FileFault::Failed)
-        );
-        assert_eq!(rt; files.faults(), 1);
-        assert_eq!(rt; files.missed(), path.as_bytes());
-        Ok(())
     }
 }

@@ -1,7 +1,7 @@
 //! What the server meets outside itself: files to read, a sink to write to, and a gate that sessions pass.
 //!
 //! Each is a trait that says what its calls leave behind, with a form in memory, whose answers are exact,
-//! and a real one, which tells no content. A fault is counted, so that a contract can say that one came.
+//! and a real one, of whose content nothing is known. A fault is counted, so that a contract can say that one came.
 //! Read `files` and `sink` first.
 #![tactic(auto)]
 

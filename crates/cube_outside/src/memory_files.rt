@@ -1,9 +1,10 @@
-ghost use Rattle.std.specs.Prelude.{◌≡◌, ◌≢◌, ℕ, ◌⊎◌, List, [], ◌∷◌, ◌++◌, Some, None, OnOk, OnErr, IfOk, IsErrOf, Contains, find};
+ghost use Rattle.std.specs.Prelude.{◌≡◌, ◌≢◌, ℕ, ◌⊎◌, List, [], ◌∷◌, ◌++◌, Some, None, OnOk, OnErr, IfOk, IsErrOf};
+ghost use Rattle.std.specs.Prelude.{Contains, find, map};
 ghost use Rattle.std.specs.Option.{option_copied};
 ghost use Rattle.std.specs.Str.{bytes_eq};
 ghost use Rattle.cube_outside.specs.Counts.{one_more, Rose};
 ghost use Rattle.cube_outside.specs.NamedBytes.{bytes_named};
-ghost use Rattle.cube_outside.specs.declared.files.FileFault.TheVariants.{Failed};
+ghost use Rattle.cube_outside.specs.declared.files.FileFault.TheVariants.{Failed, Memory};
 
 use crate::files::{FileFault, Files};
 use std::alloc::{AllocError, Global};
@@ -21,6 +22,8 @@ pub struct MemoryFiles {
     pub count: u64,
     /// The name of the last that failed.
     pub missed: Vec<u8>,
+    /// The name that each read asked for, the last one first.
+    pub asked: Vec<Vec<u8>>,
 }
 
 impl MemoryFiles {
@@ -31,6 +34,7 @@ impl MemoryFiles {
         ensures calls { result.calls ≡ 0 }
         ensures faults { result.count ≡ 0 }
         ensures missed { result.missed.items ≡ [] }
+        ensures asked { result.asked.items ≡ [] }
     {
         MemoryFiles {
             pairs: Vec::new(alloc),
@@ -38,6 +42,7 @@ impl MemoryFiles {
             calls: 0,
             count: 0,
             missed: Vec::new(alloc),
+            asked: Vec::new(alloc),
         }
     }
 
@@ -51,6 +56,7 @@ impl MemoryFiles {
         ensures calls { self.new.calls ≡ self.old.calls }
         ensures faults { self.new.count ≡ self.old.count }
         ensures missed { self.new.missed ≡ self.old.missed }
+        ensures asked { self.new.asked ≡ self.old.asked }
     {
         let alloc = *self.pairs.allocator();
         let pair = (
@@ -69,6 +75,7 @@ impl MemoryFiles {
         ensures calls { self.new.calls ≡ self.old.calls }
         ensures faults { self.new.count ≡ self.old.count }
         ensures missed { self.new.missed ≡ self.old.missed }
+        ensures asked { self.new.asked ≡ self.old.asked }
     {
         self.failing.push(call)?;
         Ok(())
@@ -83,6 +90,7 @@ impl MemoryFiles {
         ensures pairs { self.new.pairs ≡ self.old.pairs }
         ensures failing { self.new.failing ≡ self.old.failing }
         ensures calls { self.new.calls ≡ self.old.calls }
+        ensures asked { self.new.asked ≡ self.old.asked }
     {
         let Ok(missed) = Vec::from_slice(alloc, name.as_bytes()) else {
             return FileFault::Memory;
@@ -103,11 +111,13 @@ impl MemoryFiles {
 }
 
 impl Files for MemoryFiles {
-    ghost told = { λ files. Some (bytes_named files.pairs.items) };
+    ghost known = { λ files. Some (bytes_named files.pairs.items) };
 
     ghost faults = { λ files. files.count };
 
     ghost missed = { λ files. files.missed.items };
+
+    ghost asked = { λ files. map (λ name. name.items) files.asked.items };
 
     /// Fails exactly at a name that no pair has and at a call that was given to `fail_at`, want of memory aside.
     fn read(&mut self, alloc: Global, name: &str) -> Result<Vec<u8>, FileFault>
@@ -122,15 +132,21 @@ impl Files for MemoryFiles {
             Contains self.old.failing.items self.new.calls ⊎ (bytes_named self.old.pairs.items name.now ≡ None) }
         ensures failed { IsErrOf result Failed → self.new.count ≡ one_more self.old.count }
         ensures name { IsErrOf result Failed → self.new.missed.items ≡ name.now }
-        ensures calm { IsErrOf result Failed
+        ensures no_read_failed { IsErrOf result Failed
             ⊎ (self.new.count ≡ self.old.count) × (self.new.missed ≡ self.old.missed) }
 
         // What the trait says.
-        ensures told { Some (bytes_named self.new.pairs.items) ≡ Some (bytes_named self.old.pairs.items) }
+        ensures known { Some (bytes_named self.new.pairs.items) ≡ Some (bytes_named self.old.pairs.items) }
         ensures bytes { IfOk result (λ bytes. bytes_named self.old.pairs.items name.now ≡ Some bytes.items) }
         ensures rose { IsErrOf result Failed → Rose self.old.count self.new.count }
+        ensures asked { (map (λ name. name.items) self.new.asked.items
+            ≡ name.now ∷ map (λ name. name.items) self.old.asked.items)
+            ⊎ IsErrOf result Memory
+            × (map (λ name. name.items) self.new.asked.items ≡ map (λ name. name.items) self.old.asked.items) }
     {
         self.calls = self.calls.saturating_add(1);
+        let asked = Vec::from_slice(alloc, name.as_bytes())?;
+        self.asked.insert(0, asked)?;
         if self.failing.contains(&self.calls) {
             return Err(self.fail(alloc, name));
         }
@@ -146,40 +162,5 @@ impl Files for MemoryFiles {
 
     fn missed(&self) -> &[u8] {
         &self.missed
-    }
-}
-
-#[cfg(test)]
-mod tests {
-    use super::*;
-    use std::test::Fail;
-
-    #[test]
-    fn reads_what_was_put_and_fails_where_it_was_told_to(rt: HostRuntime) -> Result<(), Fail> {
-        let alloc = rt.alloc();
-        let mut files = MemoryFiles::new(alloc);
-        files.put("model.txt", b"MODEL 1;")?;
-        files.put("a.txt", b"old")?;
-        files.put("a.txt", b"new")?;
-        files.fail_at(3)?;
-        let calls: [(&str, Option<&[u8]>, &[u8]); 5] = [
-            ("model.txt", Some(b"MODEL 1;"), b""),
-            ("a.txt", Some(b"new"), b""),
-            ("a.txt", None, b"a.txt"),
-            ("a.txt", Some(b"new"), b"a.txt"),
-            ("b.txt", None, b"b.txt"),
-        ];
-        for (name, bytes, missed) in calls {
-            match files.read(alloc, name) {
-                Ok(read) => assert_eq!(rt; Some(read.as_slice()), bytes, "reading {name}"),
-                Err(fault) => {
-                    assert_eq!(rt; fault, FileFault::Failed);
-                    assert!(rt; bytes.is_none(), "reading {name}");
-                }
-            }
-            assert_eq!(rt; files.missed(), missed);
-        }
-        assert_eq!(rt; files.faults(), 2);
-        Ok(())
     }
 }

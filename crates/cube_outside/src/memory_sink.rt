@@ -1,4 +1,5 @@
-ghost use Rattle.std.specs.Prelude.{◌≡◌, ℕ, ◌⊎◌, List, [], ◌∷◌, ◌++◌, Some, None, OnOk, OnErr, IsErrOf, IsSomeAnd, take};
+ghost use Rattle.std.specs.Prelude.{◌≡◌, ℕ, ◌⊎◌, List, [], ◌∷◌, ◌++◌, Some, None, OnOk, OnErr, IsErrOf, IsSomeAnd};
+ghost use Rattle.std.specs.Prelude.{take};
 ghost use Rattle.std.specs.Io.KnownBytes.{Appends};
 ghost use Rattle.cube_outside.specs.Bytes.{AppendsPart};
 ghost use Rattle.cube_outside.specs.Counts.{one_more, Rose};
@@ -86,7 +87,7 @@ impl Sink for MemorySink {
             AppendsPart (Some self.old.bytes.items) (Some self.new.bytes.items) piece.now }
         ensures nothing { IsErrOf result Memory → Appends (Some self.old.bytes.items) (Some self.new.bytes.items) [] }
         ensures failed { IsErrOf result Failed → Rose self.old.count self.new.count }
-        ensures calm { IsErrOf result Failed ⊎ (self.new.count ≡ self.old.count) }
+        ensures no_write_failed { IsErrOf result Failed ⊎ (self.new.count ≡ self.old.count) }
     {
         self.calls = self.calls.saturating_add(1);
         let Some(keep) = self.kept(self.calls) else {
@@ -101,31 +102,5 @@ impl Sink for MemorySink {
 
     fn faults(&self) -> u64 {
         self.count
-    }
-}
-
-#[cfg(test)]
-mod tests {
-    use super::*;
-    use std::test::Fail;
-
-    #[test]
-    fn keeps_what_was_written_and_the_part_of_a_failed_piece(rt: HostRuntime) -> Result<(), Fail> {
-        let mut sink = MemorySink::new(rt.alloc());
-        sink.fail_at(2, 3)?;
-        sink.fail_at(4, 99)?;
-        let calls: [(&[u8], Result<(), SinkFault>, u64); 5] = [
-            (b"one ", Ok(()), 0),
-            (b"twofold", Err(SinkFault::Failed), 1),
-            (b" three", Ok(()), 1),
-            (b" four", Err(SinkFault::Failed), 2),
-            (b"", Ok(()), 2),
-        ];
-        for (piece, outcome, faults) in calls {
-            assert_eq!(rt; sink.write(piece), outcome);
-            assert_eq!(rt; sink.faults(), faults);
-        }
-        assert_eq!(rt; sink.bytes(), b"one two three four".as_slice());
-        Ok(())
     }
 }

@@ -33,7 +33,7 @@ impl<T: Drop> From<AllocFailed<T>> for SinkFault {
 
 /// A stream of bytes that is written piece by piece.
 pub trait Sink {
-    /// The bytes written so far, where they are told.
+    /// The bytes written so far, where they are known.
     ghost written: { Self → Option (List ℕ) };
 
     /// How many writes have failed. The count stands still at its last value.
@@ -45,7 +45,7 @@ pub trait Sink {
         ensures part { IsErrOf result Failed → AppendsPart (written self.old) (written self.new) piece.now }
         ensures nothing { IsErrOf result Memory → Appends (written self.old) (written self.new) [] }
         ensures failed { IsErrOf result Failed → Rose (faults self.old) (faults self.new) }
-        ensures calm { IsErrOf result Failed ⊎ (faults self.new ≡ faults self.old) };
+        ensures no_write_failed { IsErrOf result Failed ⊎ (faults self.new ≡ faults self.old) };
 
     fn faults(&self) -> u64
         ensures { result ≡ faults self.now };

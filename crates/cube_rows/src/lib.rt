@@ -1,7 +1,18 @@
-//! Tests across the crates: whole runs over files and a sink in memory.
+//! Small tests of public calls that neither `text_cases` nor `run_cases` reaches: that they succeed with ample memory,
+//! and give what was worked out outside the program.
 #![tactic(auto)]
 
 #[cfg(test)]
-mod models;
+mod outside;
 #[cfg(test)]
-mod runs;
+mod parts;
+#[cfg(test)]
+mod sets;
+#[cfg(test)]
+mod three_months;
+#[cfg(test)]
+mod versions;
+#[cfg(test)]
+mod watch;
+#[cfg(test)]
+mod zero_test;

@@ -1,19 +1,24 @@
 -- How a run ends whose text was written whole.
-use Rattle.std.proofs.Common.{◌≡◌, ℕ, List, Option, Result, Ok, Err, IfOk, inl, inr, subst}
+use Rattle.std.proofs.Common.{◌≡◌, ℕ, List, [], ◌∷◌, ◌++◌, Option, Result, Ok, Err, IfOk, IfErr, inl, inr, refl, subst}
 use Rattle.std.specs.Io.KnownBytes.{Appends}
-use Rattle.cube_server.specs.declared.status.Status.{Status}
-use Rattle.cube_server.specs.declared.status.Status.TheVariants.{Done, Usage, Refused, ReadFault, WriteFault, NoMemory}
 use Rattle.cube_outside.specs.Bytes.{AppendsPart}
+use Rattle.cube_server.specs.declared.answer.Answer.{Answer}
 use Rattle.cube_server.specs.declared.halt.Halt.{Halt}
 use Rattle.cube_server.specs.declared.halt.Halt.TheVariants as halts
-use Rattle.cube_server.specs.declared.answer.Answer.{Answer}
-use Rattle.cube_server.specs.Answer.{Allows, Answers, Ends, IsOutput, WritesPart, joined}
+use Rattle.cube_server.specs.declared.job.Job.{Job}
+use Rattle.cube_server.specs.declared.status.Status.{Status}
+use Rattle.cube_server.specs.declared.status.Status.TheVariants.{Done, Usage, Refused, ReadFault, WriteFault, NoMemory}
+use Rattle.cube_server.specs.Answer.{Allows, IsOutput, WritesPart}
 use Rattle.cube_server.specs.Course.{IsCourse}
-use Rattle.cube_server.specs.Outside.{Outside, Halts}
-use Rattle.cube_server.specs.Pass.{Readings, Judgement, NotWords, text}
-use Rattle.cube_server.specs.Run.{Job, model_pass, run_of}
-use Rattle.cube_server.specs.Files.{model_judgement, user_judgement}
-use Rattle.cube_server.specs.Words.{Plan, IsPlan}
+use Rattle.cube_server.specs.Models.{model_judgement}
+use Rattle.cube_server.specs.Users.{users_judgement}
+use Rattle.cube_server.specs.Outside.{Outside}
+use Rattle.cube_server.specs.Pass.{Readings, Judgement, NotWords, Reads, Pass, file, files, judged, ◌>>=◌}
+use Rattle.cube_server.specs.Run.{plan_pass, run_of}
+use Rattle.cube_server.specs.Words.{Plan, Run, IsPlan}
+use Rattle.cube_server.specs.Inside.Ending.{Answers, Ends, joined}
+use Rattle.cube_server.specs.Inside.Halting.{Comes}
+use Rattle.cube_server.proofs.Going.{course-of}
 
 pub Ends-whole : (words : List (List ℕ)) (o : Outside) (old new : Option (List ℕ)) (before after : ℕ) (status : Status) (text : List ℕ)
     → Allows words o status text → Appends old new text → after ≡ before → Ends words o old new before after status
@@ -24,50 +29,94 @@ Ends-whole words o old new before after ReadFault text allowed whole calm = (rec
 Ends-whole words o old new before after WriteFault text allowed whole calm = absurd allowed
 Ends-whole words o old new before after NoMemory text allowed whole calm = absurd allowed
 
-text_words : {A : Type 0} (name : List ℕ) (judge : List ℕ → Judgement A) (readings : Readings)
-    → (text name judge).stops readings NotWords → ⊥
-text_words name judge readings (inl p) = (let never = p.1 in cc)
-text_words name judge readings (inr p) = (let never = p.2.2 in cc)
+no_words_file : (name : List ℕ) (readings : Readings) → (file name).stops readings NotWords → ⊥
+no_words_file name readings stops = (let never : NotWords ≡ Reads name = stops.1 in cc)
 
-model_words : (words : List (List ℕ)) (readings : Readings) → (model_pass words).stops readings NotWords → (plan : Plan) → ¬ IsPlan words plan
-model_words words readings (inl p) = p.0
-model_words words readings (inr (plan, is, inl p)) = absurd (text_words plan.model model_judgement readings p)
-model_words words readings (inr (plan, is, inr p)) = absurd p.2
+no_words_files : (names : List (List ℕ)) (readings : Readings) → (files names).stops readings NotWords → ⊥
+no_words_files [] readings stops = stops
+no_words_files (name ∷ more) readings (inl stops) = no_words_file name readings stops
+no_words_files (name ∷ more) readings (inr (first, is, inl stops)) = no_words_files more readings stops
+no_words_files (name ∷ more) readings (inr (first, is, inr stops)) = stops.2
 
--- only the words can be at fault for a usage
+no_words_judged : {A : Type 0} (J : Judgement A) (readings : Readings) → (judged J).stops readings NotWords → ⊥
+no_words_judged J readings stops = (let never = stops.2 in cc)
+
+no_words_plan : (plan : Plan) (readings : Readings) → (plan_pass plan).stops readings NotWords → ⊥
+no_words_plan (Run model users) readings (inl (inl stops)) = no_words_file model readings stops
+no_words_plan (Run model users) readings (inl (inr (source, is, stops))) = no_words_judged (model_judgement source) readings stops
+no_words_plan (Run model users) readings (inr (bound, is, inl (inl stops))) = no_words_files users readings stops
+no_words_plan (Run model users) readings (inr (bound, is, inl (inr (sources, at, stops)))) = no_words_judged (users_judgement sources) readings stops
+no_words_plan (Run model users) readings (inr (bound, is, inr stops)) = stops.2
+
+-- only the words can be at fault for a usage, and then no file is asked for
 pub misfit_words : (words : List (List ℕ)) (readings : Readings) → (run_of words).stops readings NotWords → (plan : Plan) → ¬ IsPlan words plan
-misfit_words words readings (inl p) = model_words words readings p
-misfit_words words readings (inr (before, is, inl p)) = absurd (text_words before.0.user user_judgement readings p)
-misfit_words words readings (inr (before, is, inr p)) = absurd p.2
+misfit_words words readings (inl stops) = stops.0
+misfit_words words readings (inr (plan, is, stops)) = absurd (no_words_plan plan readings stops)
+
+no_course : (words : List (List ℕ)) (readings : Readings) → ((plan : Plan) → ¬ IsPlan words plan) → (name : List ℕ) → (run_of words).stops readings (Reads name) → ⊥
+no_course words readings misfit name (inl stops) = (let never : Reads name ≡ NotWords = stops.1 in cc)
+no_course words readings misfit name (inr (plan, is, stops)) = misfit plan is
+
+none_read : (words : List (List ℕ)) (o : Outside) (readings : Readings) → ((plan : Plan) → ¬ IsPlan words plan) → IsCourse (run_of words) o.known readings → readings ≡ []
+none_read words o [] misfit course = refl
+none_read words o (reading ∷ older) misfit course = absurd (no_course words older misfit reading.0 course.0)
 
 -- the answer to a run that went no further is allowed
 pub Allows-halted : (words : List (List ℕ)) (o : Outside) (readings : Readings) (halt : Halt) (status : Status) (written : List ℕ)
-    → IsCourse (run_of words) o.told readings → Halts (run_of words) readings o halt → Answers halt o.missed status written → Allows words o status written
-Allows-halted words o readings halts.NotWords status written course halted answer =
-    rw answer.0 (record { misfit = misfit_words words readings halted.0; calm = halted.1; is_text = answer.1 })
-Allows-halted words o readings halts.Unread status written course halted answer =
-    rw answer.0 (record { readings = readings; course = course; turn = halted.0; rose = halted.1; is_text = answer.1 })
-Allows-halted words o readings (halts.Refused file refusal) status written course halted answer =
-    rw answer.0 (record { readings = readings; file = file.now; refusal = refusal; course = course; refused = halted.0; calm = halted.1; is_text = answer.1 })
-Allows-halted words o readings halts.Memory status written course halted answer = absurd answer
+    → Comes (run_of words) o [] readings (Err halt) → Answers halt o.missed status written → Allows words o status written
+Allows-halted words o readings halts.NotWords status written came answer =
+    let misfit = misfit_words words readings came.1.0 in
+    let none = none_read words o readings misfit (course-of (run_of words) o.known readings came.0) in
+    let asked = rw none at (came.1.2 o.asked_before refl) in
+    rw answer.0 (record { misfit = misfit; no_read_failed = came.1.1; asked = asked; is_text = answer.1 })
+Allows-halted words o readings halts.Unread status written came answer =
+    rw answer.0 (record {
+      readings = readings;
+      course = course-of (run_of words) o.known readings came.0;
+      turn = came.1.0;
+      rose = came.1.1;
+      asked = came.1.2 o.asked_before refl;
+      is_text = answer.1;
+    })
+Allows-halted words o readings (halts.Refused refusal) status written came answer =
+    rw answer.0 (record {
+      readings = readings;
+      refusal = refusal;
+      course = course-of (run_of words) o.known readings came.0;
+      refused = came.1.0;
+      no_read_failed = came.1.1;
+      asked = came.1.2 o.asked_before refl;
+      is_text = answer.1;
+    })
+Allows-halted words o readings halts.Memory status written came answer = absurd answer
 
-pub Allows-result : {E : Type 0} (result : Result Answer E) (words : List (List ℕ)) (o : Outside) (readings : Readings) (halt : Halt) (missed : List ℕ)
-    → IsCourse (run_of words) o.told readings → Halts (run_of words) readings o halt → missed ≡ o.missed
+pub Allows-result : {E : Type 0} (result : Result Answer E) (words : List (List ℕ)) (o : Outside) (first readings : Readings) (halt : Halt) (missed : List ℕ)
+    → first ≡ [] → Comes (run_of words) o first readings (Err halt) → missed ≡ o.missed
     → IfOk result (λ answer. Answers halt missed answer.status (joined answer.pieces.items))
     → IfOk result (λ answer. Allows words o answer.status (joined answer.pieces.items))
-Allows-result (Ok answer) words o readings halt missed course halted same is =
-    Allows-halted words o readings halt answer.status (joined answer.pieces.items) course halted
+Allows-result (Ok answer) words o first readings halt missed none came same is =
+    Allows-halted words o readings halt answer.status (joined answer.pieces.items)
+    (subst (λ l. Comes (run_of words) o l readings (Err halt)) none came)
     (subst (λ name. Answers halt name answer.status (joined answer.pieces.items)) same is)
-Allows-result (Err e) words o readings halt missed course halted same is = tt
+Allows-result (Err e) words o first readings halt missed none came same is = tt
 
 -- a run that was served ends as it is to
-pub Allows-done : {E : Type 0} (result : Result Answer E) (words : List (List ℕ)) (o : Outside) (readings : Readings) (done : Job)
-    → IsCourse (run_of words) o.told readings → (run_of words).finds readings done → o.after ≡ o.before
-    → IfOk result (λ answer. answer.status ≡ Done) → IfOk result (λ answer. IsOutput done (joined answer.pieces.items))
+pub Allows-done : {E : Type 0} (result : Result Answer E) (words : List (List ℕ)) (o : Outside) (first readings : Readings) (job : Job)
+    → first ≡ [] → Comes (run_of words) o first readings (Ok job)
+    → IfOk result (λ answer. answer.status ≡ Done) → IfOk result (λ answer. IsOutput job (joined answer.pieces.items))
     → IfOk result (λ answer. Allows words o answer.status (joined answer.pieces.items))
-Allows-done (Ok answer) words o readings done course accepted calm is_done output =
-    rw is_done (record { readings = readings; job = done; course = course; accepted = accepted; calm = calm; output = output })
-Allows-done (Err e) words o readings done course accepted calm is_done output = tt
+Allows-done (Ok answer) words o first readings job none began is_done output =
+    let came = subst (λ l. Comes (run_of words) o l readings (Ok job)) none began in
+    rw is_done (record {
+      readings = readings;
+      job = job;
+      course = course-of (run_of words) o.known readings came.0.0;
+      accepted = came.1;
+      no_read_failed = came.0.1;
+      asked = came.0.2 o.asked_before refl;
+      output = output;
+    })
+Allows-done (Err e) words o first readings job none began is_done output = tt
 
 -- what was written of a text that is allowed
 pub WritesPart-of : (words : List (List ℕ)) (o : Outside) (old new : Option (List ℕ)) (status : Status) (text : List ℕ)

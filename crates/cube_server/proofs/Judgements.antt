@@ -1,72 +1,124 @@
--- A file's bytes are judged to be one thing.
-use Rattle.std.proofs.Common.{◌≡◌, ◌≢◌, ℕ, List, Option, Some, None, ◌⊎◌, inl, inr, sym, ◌∙◌, ap, subst}
+-- What was read is judged to be one thing.
+use Rattle.std.proofs.Common.{◌≡◌, ◌≢◌, ℕ, ◌+◌, List, [], ◌∷◌, length, map, Option, Some, None, ◌⊎◌, inl, inr, refl, sym, ◌∙◌, ap, subst}
 use Rattle.rule_core.specs.BoundModel.{BoundModel}
 use Rattle.user_session.specs.declared.command.PlanCommand.{PlanCommand}
 use Rattle.user_text.specs.declared.command.UserCommand.{UserCommand}
 use Rattle.user_text.specs.declared.fault.UserFault.{UserFault}
+use Rattle.user_text.specs.declared.fault.UserFault.TheVariants as user_faults
 use Rattle.model_text.specs.Contents.{Contents}
 use Rattle.model_text.specs.declared.fault.ModelTextFault.{ModelTextFault}
+use Rattle.model_text.specs.declared.fault.ModelTextCause.{ModelTextCause}
+use Rattle.model_text.specs.declared.fault.ModelTextCause.TheVariants as text_causes
 use Rattle.model_deploy.specs.Deployment.{layout_of}
 use Rattle.text_laws.specs.UserAnswers.{OneUserAnswer}
 use Rattle.text_laws.specs.ModelAnswers.{OneModelAnswer}
 use Rattle.text_laws.proofs.UserTexts.{user_texts}
 use Rattle.text_laws.proofs.ModelTexts.{model_texts}
 use Rattle.cube_server.specs.declared.refusal.Refusal.{Refusal}
-use Rattle.cube_server.specs.declared.refusal.Refusal.TheVariants as refusals
-use Rattle.cube_server.specs.Files.{IsModel, IsModelFault, IsRefusedModel, model_judgement, model_refusal, IsUserText, IsPlan, IsUserFault, IsUnbuiltText, user_judgement, unbuilt_command, plan_commands}
+use Rattle.cube_server.specs.Pass.{Source}
+use Rattle.cube_server.specs.Refusals.{text_refusal, user_refusal}
+use Rattle.cube_server.specs.Models.{IsModel, IsModelFault, model_judgement, model_refusal}
+use Rattle.cube_server.specs.Users.{IsUserText, AreUserTexts, IsUserFault, IsFirstFault, AreUsers, AreUnbuilt, users_judgement, unbuilt_command, plan_commands}
 use Rattle.cube_server.proofs.PassFacts.{IsOneJudgement}
 
--- ---- a user file
+-- ---- user files
 
-module _ (bytes : List ℕ) where
-  one_list : (x y : List UserCommand) → IsUserText bytes x → IsUserText bytes y → x ≡ y
-  one_list x y p q = (user_texts bytes 0).one_list x y (p.counted, p.whole) (q.counted, q.whole)
+no_memory : (file : List ℕ) (fault : UserFault) (refusal : Refusal) → user_refusal file fault ≡ Some refusal → fault ≢ user_faults.Memory
+no_memory file fault refusal is memory = (let clash : None ≡ Some refusal = rw memory at is in cc)
 
-  one_plan : (x y : List PlanCommand) → IsPlan bytes x → IsPlan bytes y → x ≡ y
-  one_plan x y p q = p.is ∙ ap plan_commands (one_list p.commands q.commands p.text q.text) ∙ sym q.is
+module _ (before : ℕ) (source : Source) where
+  one_list : (x y : List UserCommand) → IsUserText before source.1 x → IsUserText before source.1 y → x ≡ y
+  one_list x y p q = (user_texts source.1 before).one_list x y p q
 
-  no_fault_of_text : (x : List UserCommand) (f : UserFault) → IsUserText bytes x → IsUserFault bytes f → ⊥
-  no_fault_of_text x f p q = (user_texts bytes 0).not_both x f q.known (p.counted, p.whole) q.first
-
-  one_user_refusal : (r s : Refusal) → (user_judgement bytes).refused_for r → (user_judgement bytes).refused_for s → r ≡ s
-  one_user_refusal r s (inl (f, p, e)) (inl (g, q, h)) = e ∙ ap refusals.User ((user_texts bytes 0).one_fault f g p.known q.known p.first q.first) ∙ sym h
-  one_user_refusal r s (inl (f, p, e)) (inr (line, q, h)) = absurd (no_fault_of_text q.commands f q.text p)
-  one_user_refusal r s (inr (line, p, e)) (inl (g, q, h)) = absurd (no_fault_of_text p.commands g p.text q)
-  one_user_refusal r s (inr (k, p, e)) (inr (l, q, h)) =
-      let same : Some k ≡ Some l = sym p.unbuilt ∙ ap unbuilt_command (one_list p.commands q.commands p.text q.text) ∙ q.unbuilt in
-      let line : k ≡ l = cc in
-      e ∙ ap refusals.Unbuilt line ∙ sym h
-
-  not_both_user : (x : List PlanCommand) (r : Refusal) → IsPlan bytes x → (user_judgement bytes).refused_for r → ⊥
-  not_both_user x r p (inl (f, q, e)) = no_fault_of_text p.commands f p.text q
-  not_both_user x r p (inr (line, q, e)) =
-      let clash : None ≡ Some line = sym p.built ∙ ap unbuilt_command (one_list p.commands q.commands p.text q.text) ∙ q.unbuilt in
+  one_fault : (r s : Refusal) → IsUserFault before source r → IsUserFault before source s → r ≡ s
+  one_fault r s p q =
+      let same : p.fault ≡ q.fault =
+      (user_texts source.1 before).one_fault p.fault q.fault (no_memory source.0 p.fault r p.is) (no_memory source.0 q.fault s q.is) p.first q.first in
+      let both : Some r ≡ Some s = sym p.is ∙ ap (user_refusal source.0) same ∙ q.is in
       cc
 
-pub one_user_judgement : (bytes : List ℕ) → IsOneJudgement (user_judgement bytes)
-one_user_judgement bytes = record { one_thing = one_plan bytes; one_refusal = one_user_refusal bytes; not_both = not_both_user bytes }
+  no_fault_of_text : (x : List UserCommand) (r : Refusal) → IsUserText before source.1 x → IsUserFault before source r → ⊥
+  no_fault_of_text x r p q = (user_texts source.1 before).not_both x q.fault (no_memory source.0 q.fault r q.is) p q.first
+
+one_texts : (before : ℕ) (sources : List Source) (x y : List (List UserCommand)) → AreUserTexts before sources x → AreUserTexts before sources y → x ≡ y
+one_texts before [] [] [] p q = refl
+one_texts before [] [] (y ∷ ys) p q = absurd q
+one_texts before [] (x ∷ xs) y p q = absurd p
+one_texts before (source ∷ more) [] y p q = absurd p
+one_texts before (source ∷ more) (x ∷ xs) [] p q = absurd q
+one_texts before (source ∷ more) (x ∷ xs) (y ∷ ys) p q =
+    let same = one_list before source x y p.0 q.0 in
+    let rest = one_texts (before + length y) more xs ys (subst (λ l. AreUserTexts (before + length l) more xs) same p.1) q.1 in
+    cc
+
+one_first : (before : ℕ) (sources : List Source) (r s : Refusal) → IsFirstFault before sources r → IsFirstFault before sources s → r ≡ s
+one_first before [] r s p q = absurd p
+one_first before (source ∷ more) r s (inl p) (inl q) = one_fault before source r s p q
+one_first before (source ∷ more) r s (inl p) (inr (y, is, q)) = absurd (no_fault_of_text before source y r is p)
+one_first before (source ∷ more) r s (inr (x, is, p)) (inl q) = absurd (no_fault_of_text before source x s is q)
+one_first before (source ∷ more) r s (inr (x, is, p)) (inr (y, at, q)) =
+    let same = one_list before source x y is at in
+    one_first (before + length y) more r s (subst (λ l. IsFirstFault (before + length l) more r) same p) q
+
+no_first : (before : ℕ) (sources : List Source) (x : List (List UserCommand)) (r : Refusal) → AreUserTexts before sources x → IsFirstFault before sources r → ⊥
+no_first before [] x r p q = q
+no_first before (source ∷ more) [] r p q = p
+no_first before (source ∷ more) (x ∷ xs) r p (inl q) = no_fault_of_text before source x r p.0 q
+no_first before (source ∷ more) (x ∷ xs) r p (inr (y, is, q)) =
+    let same = one_list before source y x is p.0 in
+    no_first (before + length x) more xs r p.1 (subst (λ l. IsFirstFault (before + length l) more r) same q)
+
+module _ (sources : List Source) where
+  one_users : (x y : List (List PlanCommand)) → AreUsers sources x → AreUsers sources y → x ≡ y
+  one_users x y p q = p.are ∙ ap (map plan_commands) (one_texts 0 sources p.commands q.commands p.texts q.texts) ∙ sym q.are
+
+  one_users_refusal : (r s : Refusal) → (users_judgement sources).refused_for r → (users_judgement sources).refused_for s → r ≡ s
+  one_users_refusal r s (inl p) (inl q) = one_first 0 sources r s p q
+  one_users_refusal r s (inl p) (inr q) = absurd (no_first 0 sources q.commands r q.texts p)
+  one_users_refusal r s (inr p) (inl q) = absurd (no_first 0 sources p.commands s p.texts q)
+  one_users_refusal r s (inr p) (inr q) =
+      let both : Some r ≡ Some s = sym p.unbuilt ∙ ap (unbuilt_command sources) (one_texts 0 sources p.commands q.commands p.texts q.texts) ∙ q.unbuilt in
+      cc
+
+  not_both_users : (x : List (List PlanCommand)) (r : Refusal) → AreUsers sources x → (users_judgement sources).refused_for r → ⊥
+  not_both_users x r p (inl q) = no_first 0 sources p.commands r p.texts q
+  not_both_users x r p (inr q) =
+      let clash : None ≡ Some r = sym p.built ∙ ap (unbuilt_command sources) (one_texts 0 sources p.commands q.commands p.texts q.texts) ∙ q.unbuilt in
+      cc
+
+pub one_users_judgement : (sources : List Source) → IsOneJudgement (users_judgement sources)
+one_users_judgement sources = record { one_thing = one_users sources; one_refusal = one_users_refusal sources; not_both = not_both_users sources }
 
 -- ---- the model file
 
-module _ (bytes : List ℕ) where
-  one_model : (x y : BoundModel) → IsModel bytes x → IsModel bytes y → x ≡ y
+no_want : (file : List ℕ) (fault : ModelTextFault) (refusal : Refusal) → text_refusal file fault ≡ Some refusal → fault.cause ≢ text_causes.Memory
+no_want file fault refusal is memory = (let clash : None ≡ Some refusal = rw memory at is in cc)
+
+module _ (source : Source) where
+  one_model : (x y : BoundModel) → IsModel source.1 x → IsModel source.1 y → x ≡ y
   one_model x y p q =
       let model : Contents → BoundModel = λ c. record { space = layout_of c } in
-      p.is ∙ ap model ((model_texts bytes).one_contents p.contents q.contents p.text q.text) ∙ sym q.is
+      p.is ∙ ap model ((model_texts source.1).one_contents p.contents q.contents p.text q.text) ∙ sym q.is
 
-  one_model_refusal : (r s : Refusal) → (model_judgement bytes).refused_for r → (model_judgement bytes).refused_for s → r ≡ s
-  one_model_refusal r s (inl (f, p, e)) (inl (g, q, h)) = e ∙ ap refusals.Model ((model_texts bytes).one_fault f g p.known q.known p.first q.first) ∙ sym h
-  one_model_refusal r s (inl (f, p, e)) (inr q) = absurd ((model_texts bytes).not_both q.contents f p.known q.text p.first)
-  one_model_refusal r s (inr p) (inl (g, q, h)) = absurd ((model_texts bytes).not_both p.contents g q.known p.text q.first)
+  one_model_refusal : (r s : Refusal) → (model_judgement source).refused_for r → (model_judgement source).refused_for s → r ≡ s
+  one_model_refusal r s (inl p) (inl q) =
+      let same : p.fault ≡ q.fault =
+      (model_texts source.1).one_fault p.fault q.fault (no_want source.0 p.fault r p.is) (no_want source.0 q.fault s q.is) p.first q.first in
+      let both : Some r ≡ Some s = sym p.is ∙ ap (text_refusal source.0) same ∙ q.is in
+      cc
+  one_model_refusal r s (inl p) (inr q) = absurd ((model_texts source.1).not_both q.contents p.fault (no_want source.0 p.fault r p.is) q.text p.first)
+  one_model_refusal r s (inr p) (inl q) = absurd ((model_texts source.1).not_both p.contents q.fault (no_want source.0 q.fault s q.is) p.text q.first)
   one_model_refusal r s (inr p) (inr q) =
-      let same : Some r ≡ Some s = sym p.refused ∙ ap model_refusal ((model_texts bytes).one_contents p.contents q.contents p.text q.text) ∙ q.refused in
+      let both : Some r ≡ Some s = sym p.refused ∙ ap (model_refusal source.0) ((model_texts source.1).one_contents p.contents q.contents p.text q.text) ∙ q.refused in
       cc
 
-  not_both_model : (x : BoundModel) (r : Refusal) → IsModel bytes x → (model_judgement bytes).refused_for r → ⊥
-  not_both_model x r p (inl (f, q, e)) = (model_texts bytes).not_both p.contents f q.known p.text q.first
+  not_both_model : (x : BoundModel) (r : Refusal) → IsModel source.1 x → (model_judgement source).refused_for r → ⊥
+  not_both_model x r p (inl q) = (model_texts source.1).not_both p.contents q.fault (no_want source.0 q.fault r q.is) p.text q.first
   not_both_model x r p (inr q) =
-      let clash : None ≡ Some r = sym p.served ∙ ap model_refusal ((model_texts bytes).one_contents p.contents q.contents p.text q.text) ∙ q.refused in
+      let same = (model_texts source.1).one_contents p.contents q.contents p.text q.text in
+      let refused : model_refusal source.0 p.contents ≡ Some r = ap (model_refusal source.0) same ∙ q.refused in
+      let clash : None ≡ Some r = rw (p.built, p.deployed) at refused in
       cc
 
-pub one_model_judgement : (bytes : List ℕ) → IsOneJudgement (model_judgement bytes)
-one_model_judgement bytes = record { one_thing = one_model bytes; one_refusal = one_model_refusal bytes; not_both = not_both_model bytes }
+pub one_model_judgement : (source : Source) → IsOneJudgement (model_judgement source)
+one_model_judgement source = record { one_thing = one_model source; one_refusal = one_model_refusal source; not_both = not_both_model source }

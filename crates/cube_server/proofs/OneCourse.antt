@@ -3,13 +3,7 @@ use Rattle.std.proofs.Common.{◌≡◌, ℕ, ◌<◌, List, [], ◌∷◌, leng
 use Rattle.std.proofs.lemmas.Bool.{cases_lt}
 use Rattle.cube_server.specs.Pass.{Readings, Reads, Pass}
 use Rattle.cube_server.specs.Course.{IsCourse}
-use Rattle.cube_server.proofs.PassFacts.{IsOne}
-
-same_reading : (x y : List ℕ × List ℕ) → x.0 ≡ y.0 → x.1 ≡ y.1 → x ≡ y
-same_reading x y names bytes =
-    let first : List ℕ → List ℕ × List ℕ = λ name. (name, x.1) in
-    let second : List ℕ → List ℕ × List ℕ = λ l. (y.0, l) in
-    ap first names ∙ ap second bytes
+use Rattle.cube_server.proofs.PassFacts.{IsOne, same_source}
 
 module _ {A : Type 0} (run : Pass A) (one : IsOne run) (map : List ℕ → Option (List ℕ)) where
   -- two courses of as many files are one
@@ -23,7 +17,7 @@ module _ {A : Type 0} (run : Pass A) (one : IsOne run) (map : List ℕ → Optio
       let name : x.0 ≡ y.0 = cc in
       let told : Some x.1 ≡ Some y.1 = sym p.1 ∙ ap map name ∙ q.1 in
       let bytes : x.1 ≡ y.1 = cc in
-      let reading : x ≡ y = same_reading x y name bytes in
+      let reading : x ≡ y = same_source x y name bytes in
       cc
 
   -- after the shorter of two courses there is a file to be read

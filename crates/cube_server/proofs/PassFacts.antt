@@ -1,7 +1,7 @@
 -- A pass comes to one thing over one list of files, and what it has found stays while more files are read.
-use Rattle.std.proofs.Common.{◌≡◌, ℕ, List, inl, inr, sym, ◌∙◌, ap, subst}
+use Rattle.std.proofs.Common.{◌≡◌, ℕ, List, [], ◌∷◌, Some, None, inl, inr, sym, ◌∙◌, ap, subst}
 use Rattle.cube_server.specs.declared.refusal.Refusal.{Refusal}
-use Rattle.cube_server.specs.Pass.{Readings, Stop, Refuses, Pass, Judgement, found, file, the, judged, ◌>>=◌, text}
+use Rattle.cube_server.specs.Pass.{Source, Readings, Stop, Refuses, Pass, Judgement, found, file, files, the, judged, ◌>>=◌}
 
 -- a pass comes to one thing at most
 pub record IsOne {A : Type 0} (P : Pass A) : Type 0 where
@@ -16,11 +16,20 @@ one-found a = record {
   not_both = λ readings b s p q. q;
 }
 
+pub same_source : (x y : Source) → x.0 ≡ y.0 → x.1 ≡ y.1 → x ≡ y
+same_source x y names bytes =
+    let first : List ℕ → Source = λ name. (name, x.1) in
+    let second : List ℕ → Source = λ l. (y.0, l) in
+    ap first names ∙ ap second bytes
+
 pub one-file : (name : List ℕ) → IsOne (file name)
 one-file name = record {
-  one_found = λ readings b c p q. cc;
+  one_found = λ readings b c p q.
+      let told : Some b.1 ≡ Some c.1 = sym p.0 ∙ q.0 in
+      let bytes : b.1 ≡ c.1 = cc in
+      same_source b c (p.1 ∙ sym q.1) bytes;
   one_stop = λ readings s t p q. p.1 ∙ sym q.1;
-  not_both = λ readings b s p q. (let e = q.0 in cc);
+  not_both = λ readings b s p q. (let e : Some b.1 ≡ None = sym p.0 ∙ q.0 in cc);
 }
 
 pub one-the : {A : Type 0} (Is : A → Type 0) (otherwise : Stop) → ((a b : A) → Is a → Is b → a ≡ b) → IsOne (the Is otherwise)
@@ -65,15 +74,18 @@ pub record IsOneJudgement {A : Type 0} (J : Judgement A) : Type 0 where
   pub one_refusal : (r s : Refusal) → J.refused_for r → J.refused_for s → r ≡ s
   pub not_both : (a : A) (r : Refusal) → J.stands_for a → J.refused_for r → ⊥
 
-same_refusal : (name : List ℕ) (r q : Refusal) (s t : Stop) → r ≡ q → s ≡ Refuses name r → t ≡ Refuses name q → s ≡ t
-same_refusal name r q s t same e f = e ∙ ap (Refuses name) same ∙ sym f
+same_refusal : (r q : Refusal) (s t : Stop) → r ≡ q → s ≡ Refuses r → t ≡ Refuses q → s ≡ t
+same_refusal r q s t same e f = e ∙ ap Refuses same ∙ sym f
 
-pub one-judged : {A : Type 0} (name : List ℕ) (J : Judgement A) → IsOneJudgement J → IsOne (judged name J)
-one-judged name J one = record {
+pub one-judged : {A : Type 0} (J : Judgement A) → IsOneJudgement J → IsOne (judged J)
+one-judged J one = record {
   one_found = λ readings a b p q. one.one_thing a b p q;
-  one_stop = λ readings s t (r, p, e) (q, k, f). same_refusal name r q s t (one.one_refusal r q p k) e f;
+  one_stop = λ readings s t (r, p, e) (q, k, f). same_refusal r q s t (one.one_refusal r q p k) e f;
   not_both = λ readings a s p (r, q, e). one.not_both a r p q;
 }
 
-pub one-text : {A : Type 0} (name : List ℕ) (judge : List ℕ → Judgement A) → ((bytes : List ℕ) → IsOneJudgement (judge bytes)) → IsOne (text name judge)
-one-text name judge one = one-bind (file name) (λ bytes. judged name (judge bytes)) (one-file name) (λ bytes. one-judged name (judge bytes) (one bytes))
+pub one-files : (names : List (List ℕ)) → IsOne (files names)
+one-files [] = one-found []
+one-files (name ∷ more) =
+    one-bind (file name) (λ first. files more >>= λ rest. found (first ∷ rest)) (one-file name)
+    (λ first. one-bind (files more) (λ rest. found (first ∷ rest)) (one-files more) (λ rest. one-found (first ∷ rest)))

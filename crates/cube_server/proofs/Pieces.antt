@@ -1,5 +1,5 @@
 -- Pieces of a text, written one after another.
-use Rattle.std.proofs.Common.{◌≡◌, ℕ, ◌+◌, ◌<◌, List, [], ◌∷◌, ◌++◌, length, get_or, take, drop, drop-cons, take-append-drop, add-one, append_assoc, append-nil, Option, Ok, Err, IsErrOf, ◌⊎◌, inl, inr, refl, sym, ap, ◌∙◌, subst, Vec}
+use Rattle.std.proofs.Common.{◌≡◌, ℕ, ℤ, ◌+◌, ◌<◌, List, [], ◌∷◌, ◌++◌, length, get_or, take, drop, drop-cons, take-append-drop, add-one, append_assoc, append-nil, Option, Ok, Err, IsErrOf, ◌⊎◌, inl, inr, refl, sym, ap, ◌∙◌, subst, Vec}
 use Rattle.std.proofs.lemmas.List.{take_more}
 use Rattle.std.specs.Io.KnownBytes.{Appends}
 use Rattle.std.proofs.KnownBytes.{Appends-trans}
@@ -7,7 +7,10 @@ use Rattle.std.specs.declared.alloc.Global.{Global}
 use Rattle.cube_outside.specs.Bytes.{AppendsPart}
 use Rattle.cube_outside.specs.declared.sink.SinkFault.{SinkFault}
 use Rattle.cube_outside.specs.declared.sink.SinkFault.TheVariants.{Failed, Memory}
-use Rattle.cube_server.specs.Answer.{joined}
+use Rattle.history.specs.declared.entry.Entry.{Entry}
+use Rattle.history.specs.declared.told.Told.{Told}
+use Rattle.cube_server.specs.Inside.Ending.{joined}
+use Rattle.cube_server.specs.Output.{numbered, user_text, users_text, history_text, output}
 
 joined-append : (xs ys : List (Vec ℕ Global)) → joined (xs ++ ys) ≡ joined xs ++ joined ys
 joined-append [] ys = refl
@@ -63,3 +66,20 @@ AppendsPart-piece old mid new pieces i piece below is so_far now =
 pub still : (u : Unit {0}) (old new : ℕ) → IsErrOf {T = Unit {0}} (Ok u) Failed ⊎ (new ≡ old) → new ≡ old
 still u old new (inl failed) = cc
 still u old new (inr same) = same
+
+pub joined-push : (pieces : List (Vec ℕ Global)) (piece : Vec ℕ Global) → joined (pieces ++ piece ∷ []) ≡ joined pieces ++ piece.items
+joined-push pieces piece = joined-append pieces (piece ∷ []) ∙ ap (λ l. joined pieces ++ l) (append-nil piece.items)
+
+-- the text of one user more
+pub numbered-piece : (told : List (List (Told (List ℕ)))) (i : ℕ) (one : List (Told (List ℕ))) (pieces later : List (Vec ℕ Global)) (piece : Vec ℕ Global)
+    → drop i told ≡ one ∷ drop (i + 1) told → later ≡ pieces ++ piece ∷ [] → piece.items ≡ user_text (i + 1) one
+    → joined pieces ++ numbered user_text (i + 1) (drop i told) ≡ users_text told
+    → joined later ++ numbered user_text (i + 1 + 1) (drop (i + 1) told) ≡ users_text told
+numbered-piece told i one pieces later piece next pushed is so_far =
+    let before : joined pieces ++ (user_text (i + 1) one ++ numbered user_text (i + 1 + 1) (drop (i + 1) told)) ≡ users_text told = rw next at so_far in
+    rw (pushed, joined-push pieces piece, is, append_assoc (joined pieces) (user_text (i + 1) one) (numbered user_text (i + 1 + 1) (drop (i + 1) told))) before
+
+-- the texts of all users, and the history behind them
+pub output-joined : (told : List (List (Told (List ℕ)))) (log : List (Entry (List (ℕ × ℤ)))) (pieces later : List (Vec ℕ Global)) (piece : Vec ℕ Global)
+    → later ≡ pieces ++ piece ∷ [] → joined pieces ≡ users_text told → piece.items ≡ history_text log → joined later ≡ output told log
+output-joined told log pieces later piece pushed users is = rw (pushed, joined-push pieces piece, users, is) refl

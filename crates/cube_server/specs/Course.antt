@@ -1,22 +1,21 @@
 -- The course of a run: which files it has read, each at its turn.
-use Rattle.std.specs.Prelude.{◌≡◌, ℕ, List, [], ◌∷◌, Option, Some, None, IfSome, ◌⊎◌}
-use Rattle.cube_server.specs.Pass.{Readings, bytes_of, Reads, Pass}
+use Rattle.std.specs.Prelude.{◌≡◌, ℕ, List, [], ◌∷◌, map, Option, Some, IfSome}
+use Rattle.cube_server.specs.Pass.{Readings, Reads, Pass}
 
--- the bytes under each name, where the files tell them
+-- the bytes under each name, where the files are known
 abbrev pub Contents : Type 0
 Contents = Option (List ℕ → Option (List ℕ))
 
--- this name has these bytes, where that is told
+-- this name has these bytes, where that is known
 abbrev pub Tells : Contents → List ℕ → List ℕ → Type 0
-Tells told name bytes = IfSome told (λ map. map name ≡ Some bytes)
+Tells known name bytes = IfSome known (λ content. content name ≡ Some bytes)
 
--- each of the files was read when it was its turn, and gave what the files tell
+-- each of the files was read when it was its turn, and gave what the files hold
 abbrev pub IsCourse : {A : Type 0} → Pass A → Contents → Readings → Type 0
-IsCourse run told [] = Unit {0}
-IsCourse run told (reading ∷ older) =
-    run.stops older (Reads reading.0) × Tells told reading.0 reading.1 × IsCourse run told older
+IsCourse run known [] = Unit {0}
+IsCourse run known (reading ∷ older) =
+    run.stops older (Reads reading.0) × Tells known reading.0 reading.1 × IsCourse run known older
 
--- the file of this name was there already, or it was read now
-abbrev pub IsReadOnce : Contents → List ℕ → Readings → Readings → Type 0
-IsReadOnce told name old new =
-    (new ≡ old) ⊎ ((bytes : List ℕ) × (bytes_of old name ≡ None) × Tells told name bytes × (new ≡ (name, bytes) ∷ old))
+-- the names of the files that were read, the last one first
+abbrev pub names_of : Readings → List (List ℕ)
+names_of readings = map (λ reading. reading.0) readings

@@ -1,9 +1,12 @@
 pub mod Pass
 pub mod Course
 pub mod Words
-pub mod Files
+pub mod Refusals
+pub mod Models
+pub mod Users
 pub mod Run
 pub mod Outside
 pub mod Output
 pub mod Status
 pub mod Answer
+pub mod Inside

@@ -1,38 +1,33 @@
 -- The passes of a run, in order.
-use Rattle.std.specs.Prelude.{◌≡◌, ℕ, List, [], ◌∷◌}
+use Rattle.std.specs.Prelude.{ℕ, List}
 use Rattle.rule_core.specs.BoundModel.{BoundModel}
 use Rattle.user_session.specs.declared.command.PlanCommand.{PlanCommand}
-use Rattle.cube_server.specs.Files.{model_judgement, user_judgement}
-use Rattle.cube_server.specs.Pass.{Pass, NotWords, found, the, text, ◌>>=◌}
-use Rattle.cube_server.specs.Words.{Plan, IsPlan}
-
--- what is to be done by a run that isn't refused: the model, and the commands of each user
-pub record Job : Type 0 where
-  pub model : BoundModel
-  pub users : List (List PlanCommand)
-
--- one user's job
-abbrev pub job : BoundModel → List PlanCommand → Job
-job model commands = record { model = model; users = commands ∷ [] }
-
--- the words are in the grammar
-abbrev pub words_pass : List (List ℕ) → Pass Plan
-words_pass words = the (IsPlan words) NotWords
+use Rattle.cube_server.specs.declared.job.Job.{Job}
+use Rattle.cube_server.specs.declared.job.Job.TheVariants.{Serve}
+use Rattle.cube_server.specs.Models.{model_judgement}
+use Rattle.cube_server.specs.Users.{users_judgement}
+use Rattle.cube_server.specs.Pass.{Pass, NotWords, found, the, file, files, judged, ◌>>=◌}
+use Rattle.cube_server.specs.Words.{Plan, Run, IsPlan}
 
 -- the model file is read, and is a model
-abbrev pub model_pass : List (List ℕ) → Pass (Plan × BoundModel)
-model_pass words = do
-  plan ← words_pass words
-  model ← text plan.model model_judgement
-  found (plan, model)
+abbrev pub model_pass : List ℕ → Pass BoundModel
+model_pass name = do
+  source ← file name
+  judged (model_judgement source)
 
--- the user file is read, and is a user's commands
-abbrev pub users_pass : List (List ℕ) → Pass Job
-users_pass words = do
-  before ← model_pass words
-  commands ← text before.0.user user_judgement
-  found (job before.1 commands)
+-- all user files are read, and are users' commands
+abbrev pub users_pass : List (List ℕ) → Pass (List (List PlanCommand))
+users_pass names = do
+  sources ← files names
+  judged (users_judgement sources)
 
--- all passes
+-- the passes of each plan
+abbrev pub plan_pass : Plan → Pass Job
+plan_pass (Run model users) = do
+  bound ← model_pass model
+  commands ← users_pass users
+  found (Serve bound commands)
+
+-- the words are in the grammar, and then their plan is carried out
 abbrev pub run_of : List (List ℕ) → Pass Job
-run_of words = users_pass words
+run_of words = the (IsPlan words) NotWords >>= plan_pass

@@ -1,18 +1,21 @@
 ghost use Rattle.std.specs.Prelude.{◌≡◌, IfOk};
-ghost use Rattle.cube_server.specs.Answer.{IsOutput, Allows, Answers, joined};
+ghost use Rattle.cube_server.specs.Answer.{IsOutput, Allows};
+ghost use Rattle.cube_server.specs.Inside.Ending.{Answers, joined};
 ghost use Rattle.cube_server.specs.Outside.{outside};
-ghost use Rattle.cube_server.specs.Run.{job};
+ghost use Rattle.cube_server.specs.Output.{users_text};
 ghost use Rattle.cube_server.specs.Words.{texts_of};
 
 use crate::halt::Halt;
-use crate::passes::users_pass;
+use crate::job::Job;
+use crate::passes::run_passes;
 use crate::print::{print_history, print_refusal, print_unread, print_usage, print_user};
 use crate::readings::Readings;
 use crate::status::Status;
 use cube_outside::Files;
-use rule_core::Model;
+use history::Told;
+use lists::ListOf;
 use std::alloc::{AllocError, Global};
-use user_session::{PlanCommand, serve};
+use user_session::{ReplyText, serve};
 
 /// How a run is to end, and the pieces of its text in the order in which they are written.
 #[derive(Drop)]
@@ -28,23 +31,23 @@ pub(crate) fn answer_of<F: Files>(
     files: &mut F,
 ) -> Result<Answer, AllocError>
     ensures { IfOk result (λ answer. Allows (texts_of words.now)
-        (outside F.told F.faults F.missed files.old files.new) answer.status (joined answer.pieces.items)) }
+        (outside F.known F.faults F.missed F.asked files.old files.new) answer.status (joined answer.pieces.items)) }
 {
     let mut readings = Readings::new(alloc);
-    match users_pass(alloc, words, files, &mut readings) {
-        Ok((model, commands)) => done(alloc, &model, commands.as_slice()),
+    match run_passes(alloc, words, files, &mut readings) {
+        Ok(job) => done(alloc, &job),
         Err(halt) => halted(alloc, files.missed(), halt),
     }
 }
 
-// Runs the user.
-fn done(alloc: Global, model: &Model, commands: &[PlanCommand]) -> Result<Answer, AllocError>
+// Runs the users.
+fn done(alloc: Global, job: &Job) -> Result<Answer, AllocError>
     ensures status { IfOk result (λ answer. answer.status ≡ Status.Done) }
-    ensures text { IfOk result (λ answer. IsOutput (job model.now commands.now) (joined answer.pieces.items)) }
+    ensures text { IfOk result (λ answer. IsOutput job.now (joined answer.pieces.items)) }
 {
-    let served = serve(alloc, model, commands)?;
-    let mut pieces = Vec::new(alloc);
-    pieces.push(print_user(alloc, 1, &served.told)?)?;
+    let Job::Serve(model, users) = job;
+    let served = serve(alloc, model, users.as_slice())?;
+    let mut pieces = print_users(alloc, &served.told)?;
     pieces.push(print_history(alloc, &served.log)?)?;
     Ok(Answer {
         status: Status::Done,
@@ -52,19 +55,26 @@ fn done(alloc: Global, model: &Model, commands: &[PlanCommand]) -> Result<Answer
     })
 }
 
+// The text of each user.
+fn print_users(alloc: Global, told: &[ListOf<Told<ReplyText>>]) -> Result<Vec<Vec<u8>>, AllocError>
+    ensures { IfOk result (λ pieces. joined pieces.items ≡ users_text told.now) }
+{
+    let mut pieces = Vec::new(alloc);
+    for (index, of_user) in told.iter().enumerate() {
+        pieces.push(print_user(alloc, index + 1, of_user.as_slice())?)?;
+    }
+    Ok(pieces)
+}
+
 // Says why the run went no further.
-fn halted(alloc: Global, missed: &[u8], halt: Halt<'_>) -> Result<Answer, AllocError>
-    ensures { IfOk result (λ answer. Answers halt.entry missed.now answer.status (joined answer.pieces.items)) }
+fn halted(alloc: Global, missed: &[u8], halt: Halt) -> Result<Answer, AllocError>
+    ensures { IfOk result (λ answer. Answers halt missed.now answer.status (joined answer.pieces.items)) }
 {
     match halt {
         Halt::NotWords => one_piece(alloc, Status::Usage, print_usage(alloc)?),
         Halt::Unread => one_piece(alloc, Status::ReadFault, print_unread(alloc, missed)?),
-        Halt::Refused(file, refusal) => {
-            one_piece(
-                alloc,
-                Status::Refused,
-                print_refusal(alloc, file, &refusal)?,
-            )
+        Halt::Refused(refusal) => {
+            one_piece(alloc, Status::Refused, print_refusal(alloc, &refusal)?)
         }
         Halt::Memory => Err(AllocError),
     }

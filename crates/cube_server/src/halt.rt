@@ -2,19 +2,19 @@ use crate::refusal::Refusal;
 use cube_outside::FileFault;
 use std::alloc::{AllocError, AllocFailed};
 
-/// Why a pass went no further.
+/// Why a run goes no further.
 #[derive(Debug, Drop)]
-pub(crate) enum Halt<'a> {
+pub(crate) enum Halt {
     /// The words aren't in the grammar.
     NotWords,
     /// A file couldn't be read. The files know its name.
     Unread,
-    /// The text of this file is refused.
-    Refused(&'a str, Refusal),
+    /// A file is refused.
+    Refused(Refusal),
     Memory,
 }
 
-impl From<AllocError> for Halt<'_> {
+impl From<AllocError> for Halt {
     ghost use Rattle.std.specs.Prelude.{◌≡◌};
     ghost use Rattle.cube_server.specs.declared.halt.Halt.TheVariants.{Memory};
 
@@ -25,7 +25,7 @@ impl From<AllocError> for Halt<'_> {
     }
 }
 
-impl<T: Drop> From<AllocFailed<T>> for Halt<'_> {
+impl<T: Drop> From<AllocFailed<T>> for Halt {
     ghost use Rattle.std.specs.Prelude.{◌≡◌};
     ghost use Rattle.cube_server.specs.declared.halt.Halt.TheVariants.{Memory};
 
@@ -36,9 +36,9 @@ impl<T: Drop> From<AllocFailed<T>> for Halt<'_> {
     }
 }
 
-impl From<FileFault> for Halt<'_> {
+impl From<FileFault> for Halt {
     ghost use Rattle.std.specs.Prelude.{◌≡◌};
-    ghost use Rattle.cube_server.specs.Outside.{unread};
+    ghost use Rattle.cube_server.specs.Inside.Halting.{unread};
 
     ghost from_gives = { λ fault halt. halt ≡ unread fault };
 

@@ -1,21 +1,17 @@
-ghost use Rattle.std.specs.Prelude.{◌≡◌, ◌++◌, IfOk, OnOk, length};
-ghost use Rattle.cube_server.specs.Output.{reason_text, reply_text, told_line, user_text, entry_line, history_text, dim_cause_text, model_cause_text, deploy_cause_text, user_cause_text, user_line, cause_text, line_of, refused_text, unread_text, usage_text};
+ghost use Rattle.std.specs.Prelude.{◌≡◌, ◌++◌, IfOk, OnOk, length, string_bytes};
+ghost use Rattle.cube_server.specs.Output.{told_line, user_text, entry_line, history_text, cause_text, place_text};
+ghost use Rattle.cube_server.specs.Output.{refused_text, unread_text, usage_text};
 
-use crate::refusal::Refusal;
-use cube_fixed::print;
-use dim_core::DimFault;
+use crate::refusal::{Cause, Place, Refusal};
 use history::{Entry, Told};
-use model_deploy::DeployCause;
-use model_text::ModelTextCause;
 use std::alloc::{AllocError, Global};
-use user_session::{Reason, Reply, Writes};
-use user_text::UserFault;
+use user_session::{ReplyText, Writes};
 
 /// The text of a user: the line `user U` and a line for each command.
 pub(crate) fn print_user(
     alloc: Global,
-    user: u32,
-    told: &[Told<Reply>],
+    user: usize,
+    told: &[Told<ReplyText>],
 ) -> Result<Vec<u8>, AllocError>
     ensures { IfOk result (λ text. text.items ≡ user_text user told.now) }
 {
@@ -31,45 +27,15 @@ fn print_told(
     alloc: Global,
     text: &mut Vec<u8>,
     number: usize,
-    told: &Told<Reply>,
+    told: &Told<ReplyText>,
 ) -> Result<(), AllocError>
     ensures { OnOk result (text.new.items ≡ text.old.items ++ told_line number told.now) }
 {
     let place = told.place;
     text.extend_from_slice(format!(in alloc; "{number} @{place} ")?.as_bytes())?;
-    print_reply(alloc, text, told.reply)?;
+    text.extend_from_slice(told.reply.as_slice())?;
     text.push(b'\n')?;
     Ok(())
-}
-
-fn print_reply(alloc: Global, text: &mut Vec<u8>, reply: Reply) -> Result<(), AllocError>
-    ensures { OnOk result (text.new.items ≡ text.old.items ++ reply_text reply) }
-{
-    match reply {
-        Reply::Committed(cells) => {
-            text.extend_from_slice(format!(in alloc; "committed {cells}")?.as_bytes())
-        }
-        Reply::Rejected(reason) => print_reason(text, b"rejected ", reason),
-        Reply::Found(value) => print(alloc, value, text),
-        Reply::Refused(reason) => print_reason(text, b"refused ", reason),
-    }
-}
-
-fn print_reason(text: &mut Vec<u8>, word: &[u8], reason: Reason) -> Result<(), AllocError>
-    ensures { OnOk result (text.new.items ≡ text.old.items ++ (word.now ++ reason_text reason)) }
-{
-    text.extend_from_slice(word)?;
-    text.extend_from_slice(reason_name(reason).as_bytes())
-}
-
-fn reason_name(reason: Reason) -> &'static str
-    ensures { result.now ≡ reason_text reason }
-{
-    match reason {
-        Reason::UnknownName => "UnknownName",
-        Reason::NotALeaf => "NotALeaf",
-        Reason::StoreLimit => "StoreLimit",
-    }
 }
 
 /// The history: the line `history` and a line for each entry.
@@ -106,109 +72,55 @@ fn cells_of(entry: &Entry<Writes>) -> usize
     entry.writes.as_slice().len()
 }
 
-/// The line `refused FILE: line L: CAUSE`.
-pub(crate) fn print_refusal(
-    alloc: Global,
-    file: &str,
-    refusal: &Refusal,
-) -> Result<Vec<u8>, AllocError>
-    ensures { IfOk result (λ text. text.items ≡ refused_text file.now refusal.now) }
+/// The line `refused FILE: PLACE: CAUSE`.
+pub(crate) fn print_refusal(alloc: Global, refusal: &Refusal) -> Result<Vec<u8>, AllocError>
+    ensures { IfOk result (λ text. text.items ≡ refused_text refusal.now) }
 {
-    let line = line_of(refusal);
-    let mut text = format!(in alloc; "refused {file}: line {line}: ")?.into_bytes();
-    print_cause(alloc, &mut text, refusal)?;
+    let mut text = Vec::from_slice(alloc, b"refused ")?;
+    text.extend_from_slice(refusal.file.as_slice())?;
+    text.extend_from_slice(b": ")?;
+    text.extend_from_slice(place_name(alloc, refusal.at)?.as_bytes())?;
+    text.extend_from_slice(b": ")?;
+    print_cause(alloc, &mut text, refusal.cause)?;
     text.push(b'\n')?;
     Ok(text)
 }
 
-fn line_of(refusal: &Refusal) -> u32
-    ensures { result ≡ line_of refusal.now }
+fn place_name(alloc: Global, at: Place) -> Result<String, AllocError>
+    ensures { IfOk result (λ text. string_bytes text ≡ place_text at) }
 {
-    match refusal {
-        Refusal::Model(fault) => fault.line,
-        Refusal::Deploy(fault) => fault.line,
-        Refusal::User(fault) => user_line(fault),
-        Refusal::Unbuilt(line) => *line,
+    match at {
+        Place::Line(line) => format!(in alloc; "line {line}"),
+        Place::Statement(statement) => format!(in alloc; "statement {statement}"),
+        Place::Feeder(feeder) => format!(in alloc; "feeder {feeder}"),
     }
 }
 
-fn user_line(fault: &UserFault) -> u32
-    ensures { result ≡ user_line fault.now }
+// The name of a cause, and its number where it has one.
+fn print_cause(alloc: Global, text: &mut Vec<u8>, cause: Cause) -> Result<(), AllocError>
+    ensures { OnOk result (text.new.items ≡ text.old.items ++ cause_text cause) }
 {
-    match fault {
-        UserFault::Syntax(line) => *line,
-        UserFault::TooMany(line) => *line,
-        UserFault::Memory => 0,
-    }
-}
-
-fn print_cause(alloc: Global, text: &mut Vec<u8>, refusal: &Refusal) -> Result<(), AllocError>
-    ensures { OnOk result (text.new.items ≡ text.old.items ++ cause_text refusal.now) }
-{
-    match refusal {
-        Refusal::Model(fault) => text.extend_from_slice(model_cause(&fault.cause).as_bytes()),
-        Refusal::Deploy(fault) => print_deploy_cause(alloc, text, &fault.cause),
-        Refusal::User(fault) => text.extend_from_slice(user_cause(fault).as_bytes()),
-        Refusal::Unbuilt(_) => text.extend_from_slice(b"Unbuilt"),
-    }
-}
-
-fn model_cause(cause: &ModelTextCause) -> &'static str
-    ensures { result.now ≡ model_cause_text cause.now }
-{
-    match cause {
-        ModelTextCause::Syntax => "Syntax",
-        ModelTextCause::WrongVersion => "WrongVersion",
-        ModelTextCause::Duplicate => "Duplicate",
-        ModelTextCause::UnknownName => "UnknownName",
-        ModelTextCause::TooMany => "TooMany",
-        ModelTextCause::Dim(fault) => dim_cause(fault),
-        ModelTextCause::Memory => "",
-    }
-}
-
-fn dim_cause(fault: &DimFault) -> &'static str
-    ensures { result.now ≡ dim_cause_text fault.now }
-{
-    match fault {
-        DimFault::Duplicate => "Duplicate",
-        DimFault::UnknownComponent(_) => "UnknownComponent",
-        DimFault::Loop(_) => "Loop",
-        DimFault::WeightRange => "WeightRange",
-        DimFault::TooMany => "TooMany",
-        DimFault::BadAttribute(_) => "BadAttribute",
-        DimFault::Memory => "",
-    }
-}
-
-fn print_deploy_cause(
-    alloc: Global,
-    text: &mut Vec<u8>,
-    cause: &DeployCause,
-) -> Result<(), AllocError>
-    ensures { OnOk result (text.new.items ≡ text.old.items ++ deploy_cause_text cause.now) }
-{
-    match cause {
-        DeployCause::TooManyPairs(count) => {
-            text.extend_from_slice(format!(in alloc; "TooManyPairs {count}")?.as_bytes())
+    let name = match cause {
+        Cause::TooManyPairs(count) => {
+            return text.extend_from_slice(format!(in alloc; "TooManyPairs {count}")?.as_bytes());
         }
-        DeployCause::CoefficientTooLarge => text.extend_from_slice(b"CoefficientTooLarge"),
-        DeployCause::DimensionCount => text.extend_from_slice(b"DimensionCount"),
-        DeployCause::CubeTooLarge => text.extend_from_slice(b"CubeTooLarge"),
-        DeployCause::ModelTooLarge => text.extend_from_slice(b"ModelTooLarge"),
-        DeployCause::WeightProduct => text.extend_from_slice(b"WeightProduct"),
-        DeployCause::Memory => Ok(()),
-    }
-}
-
-fn user_cause(fault: &UserFault) -> &'static str
-    ensures { result.now ≡ user_cause_text fault.now }
-{
-    match fault {
-        UserFault::Syntax(_) => "Syntax",
-        UserFault::TooMany(_) => "TooMany",
-        UserFault::Memory => "",
-    }
+        Cause::Syntax => "Syntax",
+        Cause::WrongVersion => "WrongVersion",
+        Cause::Duplicate => "Duplicate",
+        Cause::UnknownName => "UnknownName",
+        Cause::TooMany => "TooMany",
+        Cause::UnknownComponent => "UnknownComponent",
+        Cause::Loop => "Loop",
+        Cause::WeightRange => "WeightRange",
+        Cause::BadAttribute => "BadAttribute",
+        Cause::CoefficientTooLarge => "CoefficientTooLarge",
+        Cause::DimensionCount => "DimensionCount",
+        Cause::CubeTooLarge => "CubeTooLarge",
+        Cause::ModelTooLarge => "ModelTooLarge",
+        Cause::WeightProduct => "WeightProduct",
+        Cause::Unbuilt => "Unbuilt",
+    };
+    text.extend_from_slice(name.as_bytes())
 }
 
 /// The line `cannot read FILE`.

@@ -1,13 +1,43 @@
-ghost use Rattle.std.specs.Prelude.{◌≡◌, [], Some, None, find, IsSome, OnOk, OnErr, IsErrOf, ◌⊎◌};
+ghost use Rattle.std.specs.Prelude.{◌≡◌, [], find, List, IfOk, IsSome, OnOk, OnErr, IsErrOf, ◌⊎◌, ◌∷◌};
 ghost use Rattle.std.specs.Option.{option_copied};
 ghost use Rattle.std.specs.Str.{bytes_eq};
 ghost use Rattle.cube_outside.specs.Counts.{Rose};
-ghost use Rattle.cube_server.specs.Course.{IsReadOnce};
-ghost use Rattle.cube_server.specs.Pass.{bytes_of};
+ghost use Rattle.cube_server.specs.Inside.Reading.{IsReadOnce};
+ghost use Rattle.cube_server.specs.Pass.{bytes_of, file, files, Source as SourceOf};
+ghost use Rattle.cube_server.specs.Words.{texts_of};
 
 use cube_outside::{FileFault, Files};
-use std::alloc::Global;
+use std::alloc::{AllocError, Global};
 use std::marker::Model;
+
+/// A file that was read, as it is judged: its name and its bytes.
+#[derive(Debug, Drop)]
+pub(crate) struct Source<'a> {
+    name: &'a str,
+    bytes: &'a [u8],
+}
+
+impl<'a> Model for Source<'a> {
+    ghost use Rattle.std.specs.Prelude.{ℕ, List};
+
+    ghost Value = { List ℕ × List ℕ };
+
+    ghost view = { λ source. (source.name.now, source.bytes.now) };
+}
+
+impl<'a> Source<'a> {
+    pub(crate) fn name(&self) -> &str
+        ensures { result.now ≡ self.now.0 }
+    {
+        self.name
+    }
+
+    pub(crate) fn bytes(&self) -> &[u8]
+        ensures { result.now ≡ self.now.1 }
+    {
+        self.bytes
+    }
+}
 
 /// A file that was read.
 #[derive(Drop)]
@@ -39,14 +69,41 @@ impl Readings {
         }
     }
 
-    /// The bytes that were read under this name.
-    pub(crate) fn bytes(&self, name: &str) -> Option<&[u8]>
+    // The bytes that were read under this name.
+    fn bytes(&self, name: &str) -> Option<&[u8]>
         ensures { option_copied result ≡ bytes_of self.now name.now }
     {
         match find_in(&self.files, name) {
             Some(reading) => Some(reading.bytes.as_slice()),
             None => None,
         }
+    }
+
+    /// The file of this name, which was read.
+    pub(crate) fn source<'a>(&'a self, name: &'a str) -> Source<'a>
+        requires { IsSome (bytes_of self.now name.now) }
+        ensures { (file name.now).finds self.now result }
+    {
+        Source {
+            name,
+            bytes: self.bytes(name).unwrap(),
+        }
+    }
+
+    /// The files of these names, all of which were read.
+    pub(crate) fn sources<'a>(
+        &'a self,
+        alloc: Global,
+        names: &'a [String],
+    ) -> Result<Vec<Source<'a>>, AllocError>
+        requires { (all : List SourceOf) × (files (texts_of names.now)).finds self.now all }
+        ensures { IfOk result (λ all. (files (texts_of names.now)).finds self.now all.items) }
+    {
+        let mut all = Vec::new(alloc);
+        for name in names {
+            all.push(self.source(name.as_str()))?;
+        }
+        Ok(all)
     }
 
     /// Reads the file of this name, unless it was read before.
@@ -56,13 +113,14 @@ impl Readings {
         files: &mut F,
         name: &str,
     ) -> Result<(), FileFault>
-        ensures known { OnOk result (IsSome (bytes_of self.new name.now)) }
-        ensures once { OnOk result (IsReadOnce (F.told files.old) name.now self.old self.new) }
+        ensures once { OnOk result (IsReadOnce (F.known files.old) name.now self.old self.new
+            (F.asked files.old) (F.asked files.new)) }
         ensures unread { OnErr result ((bytes_of self.old name.now ≡ None) × (self.new ≡ self.old)) }
-        ensures told { F.told files.new ≡ F.told files.old }
-        ensures failed { IsErrOf result FileFault.Failed →
-            Rose (F.faults files.old) (F.faults files.new) × (F.missed files.new ≡ name.now) }
-        ensures calm { IsErrOf result FileFault.Failed ⊎ (F.faults files.new ≡ F.faults files.old) }
+        ensures known { F.known files.new ≡ F.known files.old }
+        ensures failed { IsErrOf result FileFault.Failed → Rose (F.faults files.old) (F.faults files.new) }
+        ensures missed { IsErrOf result FileFault.Failed → F.missed files.new ≡ name.now }
+        ensures asked { IsErrOf result FileFault.Failed → F.asked files.new ≡ name.now ∷ F.asked files.old }
+        ensures no_read_failed { IsErrOf result FileFault.Failed ⊎ (F.faults files.new ≡ F.faults files.old) }
     {
         if self.bytes(name).is_some() {
             return Ok(());

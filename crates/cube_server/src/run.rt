@@ -1,4 +1,4 @@
-ghost use Rattle.cube_server.specs.Answer.{Ends};
+ghost use Rattle.cube_server.specs.Inside.Ending.{Ends};
 ghost use Rattle.cube_server.specs.Outside.{outside};
 ghost use Rattle.cube_server.specs.Words.{texts_of};
 
@@ -15,7 +15,7 @@ pub(crate) fn run<F: Files, S: Sink>(
     files: &mut F,
     out: &mut S,
 ) -> Status
-    ensures { Ends (texts_of words.now) (outside F.told F.faults F.missed files.old files.new)
+    ensures { Ends (texts_of words.now) (outside F.known F.faults F.missed F.asked files.old files.new)
         (S.written out.old) (S.written out.new) (S.faults out.old) (S.faults out.new) result }
 {
     let Ok(answer) = answer_of(alloc, words, files) else {

@@ -1,4 +1,4 @@
-ghost use Rattle.std.specs.Prelude.{◌≡◌, ℕ, List, [], ◌∷◌, Some, ◌<◌, ◌⊎◌};
+ghost use Rattle.std.specs.Prelude.{◌≡◌, [], ◌∷◌, Some, ◌<◌, ◌⊎◌};
 ghost use Rattle.std.specs.Io.KnownBytes.{Appends};
 ghost use Rattle.cube_outside.specs.Counts.{Rose};
 ghost use Rattle.cube_server.specs.Answer.{IsDone, IsUsage, IsRefused, IsReadFault, Writes, WritesPart};
@@ -6,25 +6,28 @@ ghost use Rattle.cube_server.specs.Course.{IsCourse};
 ghost use Rattle.cube_server.specs.Outside.{outside};
 ghost use Rattle.cube_server.specs.Pass.{Readings};
 ghost use Rattle.cube_server.specs.Pass.{Refuses};
-ghost use Rattle.cube_server.specs.Run.{Job, run_of};
+ghost use Rattle.cube_server.specs.Run.{run_of};
 ghost use Rattle.cube_server.specs.Status.{IsOneOf};
 ghost use Rattle.cube_server.specs.Words.{Plan, IsPlan, texts_of};
+ghost use Rattle.cube_server.specs.declared.job.Job.{Job};
 ghost use Rattle.cube_server.specs.declared.refusal.Refusal.{Refusal};
-ghost use Rattle.cube_server.specs.declared.status.Status.TheVariants.{Done, Usage, Refused, ReadFault, WriteFault, NoMemory};
+ghost use Rattle.cube_server.specs.declared.status.Status.TheVariants.{Done, Usage, Refused, ReadFault, WriteFault};
+ghost use Rattle.cube_server.specs.declared.status.Status.TheVariants.{NoMemory};
 
 use crate::run::run;
 use crate::status::Status;
 use cube_outside::{Files, Gate, Sink};
-use std::sync::Wait;
-use std::thread::Threads;
+use std::alloc::Global;
 
 /// Reads the model and the users' commands that the words name, runs the users, and writes what they were told and the
 /// history.
 ///
-/// The words are those after the program's own name. Nothing is written before all users are done. Want of memory may
-/// take the place of any other end.
-pub fn run_cubes<R: Threads + Wait + AllocGlobal + Sync, F: Files, S: Sink, G: Gate + Sync>(
-    rt: &R,
+/// The words are those after the program's own name: a model file and 1 to 16 user files. The model is read and judged
+/// first; then all user files are read in order, and judged in order. A name that was read isn't read again. Nothing
+/// is written before all users are done; then each user's text is one write, and the history is the last. Want of
+/// memory may take the place of any other end. Users run one after another, and nobody passes the gate yet.
+pub fn run_cubes<F: Files, S: Sink, G: Gate + Sync>(
+    alloc: Global,
     words: &[String],
     files: &mut F,
     out: &mut S,
@@ -32,18 +35,18 @@ pub fn run_cubes<R: Threads + Wait + AllocGlobal + Sync, F: Files, S: Sink, G: G
 ) -> Status
     // What each status says, of the text that was written and of the files.
     ensures done { result ≡ Done → Writes (IsDone (texts_of words.now)
-        (outside F.told F.faults F.missed files.old files.new)) (S.written out.old) (S.written out.new) }
+        (outside F.known F.faults F.missed F.asked files.old files.new)) (S.written out.old) (S.written out.new) }
     ensures usage { result ≡ Usage → Writes (IsUsage (texts_of words.now)
-        (outside F.told F.faults F.missed files.old files.new)) (S.written out.old) (S.written out.new) }
+        (outside F.known F.faults F.missed F.asked files.old files.new)) (S.written out.old) (S.written out.new) }
     ensures refused { result ≡ Refused → Writes (IsRefused (texts_of words.now)
-        (outside F.told F.faults F.missed files.old files.new)) (S.written out.old) (S.written out.new) }
+        (outside F.known F.faults F.missed F.asked files.old files.new)) (S.written out.old) (S.written out.new) }
     ensures read_fault { result ≡ ReadFault → Writes (IsReadFault (texts_of words.now)
-        (outside F.told F.faults F.missed files.old files.new)) (S.written out.old) (S.written out.new) }
+        (outside F.known F.faults F.missed F.asked files.old files.new)) (S.written out.old) (S.written out.new) }
     ensures write_fault { result ≡ WriteFault → WritesPart (texts_of words.now)
-        (outside F.told F.faults F.missed files.old files.new) (S.written out.old) (S.written out.new)
+        (outside F.known F.faults F.missed F.asked files.old files.new) (S.written out.old) (S.written out.new)
         × Rose (S.faults out.old) (S.faults out.new) }
     ensures no_memory { result ≡ NoMemory → Appends (S.written out.old) (S.written out.new) []
-        ⊎ WritesPart (texts_of words.now) (outside F.told F.faults F.missed files.old files.new)
+        ⊎ WritesPart (texts_of words.now) (outside F.known F.faults F.missed F.asked files.old files.new)
         (S.written out.old) (S.written out.new) }
 
     // Which status each cause has, want of memory aside.
@@ -53,14 +56,14 @@ pub fn run_cubes<R: Threads + Wait + AllocGlobal + Sync, F: Files, S: Sink, G: G
     ensures no_write_failed { (result ≡ WriteFault) ⊎ (S.faults out.new ≡ S.faults out.old) }
     ensures off_the_grammar { ((plan : Plan) → ¬ IsPlan (texts_of words.now) plan) →
         IsOneOf (Usage ∷ WriteFault ∷ NoMemory ∷ []) result }
-    ensures a_pass_refuses { (map : _) (readings : Readings) (file : List ℕ) (refusal : Refusal) →
-        F.told files.old ≡ Some map → IsCourse (run_of (texts_of words.now)) (Some map) readings →
-        (run_of (texts_of words.now)).stops readings (Refuses file refusal) →
+    ensures a_pass_refuses { (content : _) (readings : Readings) (refusal : Refusal) →
+        F.known files.old ≡ Some content → IsCourse (run_of (texts_of words.now)) (Some content) readings →
+        (run_of (texts_of words.now)).stops readings (Refuses refusal) →
         IsOneOf (Refused ∷ ReadFault ∷ WriteFault ∷ NoMemory ∷ []) result }
-    ensures nothing_refused { (map : _) (readings : Readings) (job : Job) →
-        F.told files.old ≡ Some map → IsCourse (run_of (texts_of words.now)) (Some map) readings →
+    ensures nothing_refused { (content : _) (readings : Readings) (job : Job) →
+        F.known files.old ≡ Some content → IsCourse (run_of (texts_of words.now)) (Some content) readings →
         (run_of (texts_of words.now)).finds readings job →
         IsOneOf (Done ∷ ReadFault ∷ WriteFault ∷ NoMemory ∷ []) result }
 {
-    run(rt.alloc(), words, files, out)
+    run(alloc, words, files, out)
 }

@@ -1,38 +1,53 @@
 ghost use Rattle.std.specs.Prelude.{◌≡◌, MatchOption};
+ghost use Rattle.std.specs.List.{list_all};
 ghost use Rattle.cube_server.specs.Words.{texts_of, names_a_file, Plan as PlanOf, IsPlan};
 
 use std::marker::Model;
 
-/// The files that the words name.
+/// The most users of one run.
+pub const MOST_USERS: usize = 16;
+
+/// The files that the words name: the model's, and each user's.
 #[derive(Debug, Drop)]
 pub(crate) struct Plan<'a> {
     pub(crate) model: &'a str,
-    pub(crate) user: &'a str,
+    pub(crate) users: &'a [String],
 }
 
 impl<'a> Model for Plan<'a> {
-    ghost use Rattle.cube_server.specs.Words.{Plan as PlanOf};
+    ghost use Rattle.cube_server.specs.Words.{Plan as PlanOf, Run, texts_of};
 
     ghost Value = { PlanOf };
 
-    ghost view = { λ plan. record { model = plan.model.now; user = plan.user.now } };
+    ghost view = { λ plan. Run plan.model.now (texts_of plan.users.now) };
 }
 
-/// The files that the words name, where these are in the grammar MODEL USER.
+/// The files that the words name, where these are in the grammar MODEL USER {USER}.
 pub(crate) fn plan_of(words: &[String]) -> Option<Plan<'_>>
     ensures { MatchOption result ((plan : PlanOf) → ¬ IsPlan (texts_of words.now) plan)
         (λ plan. IsPlan (texts_of words.now) plan) }
 {
-    let [model, user] = words else {
+    let [model, users @ ..] = words else {
         return None;
     };
-    if !names_a_file(model.as_str()) || !names_a_file(user.as_str()) {
+    if users.is_empty() || users.len() > MOST_USERS || !name_files(words) {
         return None;
     }
     Some(Plan {
         model: model.as_str(),
-        user: user.as_str(),
+        users,
     })
+}
+
+fn name_files(words: &[String]) -> bool
+    ensures { result ≡ list_all names_a_file (texts_of words.now) }
+{
+    for word in words {
+        if !names_a_file(word.as_str()) {
+            return false;
+        }
+    }
+    true
 }
 
 fn names_a_file(word: &str) -> bool

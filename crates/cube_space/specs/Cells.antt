@@ -1,5 +1,6 @@
 -- The cells of a space and their numbers.
-use Rattle.std.specs.Prelude.{ℕ, zero, suc, ◌+◌, ◌<◌, ◌≤◌, ◌^◌, ◌==◌, Bool, ◌&&◌, nat_lt, Option, Some, None, List, [], map, length, All, slice_index_or, if◌then◌else◌}
+use Rattle.std.specs.Prelude.{ℕ, zero, suc, ◌+◌, ◌<◌, ◌≤◌, ◌^◌, ◌==◌, Bool, ◌&&◌, nat_lt, Option, Some, None, List, []}
+use Rattle.std.specs.Prelude.{map, length, All, slice_index_or, if◌then◌else◌}
 use Rattle.std.specs.List.{flat_map, range_with_len, list_all, zip}
 use Rattle.dim_core.specs.Outline.{Outline, IsDimension, components_of}
 use Rattle.cube_space.specs.Radix.{product, are_digits, all_digits, number_of}
@@ -53,7 +54,8 @@ is_place layout cube elements = nat_lt cube (length layout.cubes) && are_digits 
 
 -- the number of the cell of this cube and these elements, or None where there is no such cell
 unfoldable pub cell_number : Layout → ℕ → List ℕ → Option ℕ
-cell_number layout cube elements = if is_place layout cube elements then Some (first_cell layout cube + number_of (sizes layout cube) elements) else None
+cell_number layout cube elements = if is_place layout cube elements
+    then Some (first_cell layout cube + number_of (sizes layout cube) elements) else None
 
 -- whether an element is a leaf, which has no components
 abbrev pub is_leaf : Outline → ℕ → Bool

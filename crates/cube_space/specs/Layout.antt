@@ -37,7 +37,8 @@ dimension_names layout = map (λ dimension. dimension.name) layout.dimensions
 abbrev pub cube_names : Layout → List (List ℕ)
 cube_names layout = map (λ shape. shape.name) layout.cubes
 
--- the numbers of dimensions are in range and differ within a cube, and no two dimensions and no two cubes have the same name
+-- the numbers of dimensions are in range and differ within a cube, and no two dimensions and no two cubes have the same
+-- name
 pub record IsLayout (layout : Layout) : Type 0 where
   pub few_dimensions : length layout.dimensions < 2 ^ 32
   pub few_cubes : length layout.cubes < 2 ^ 32

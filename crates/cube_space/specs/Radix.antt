@@ -16,7 +16,8 @@ are_digits (size ∷ sizes) (digit ∷ digits) = nat_lt digit size && are_digits
 -- all lists of digits for these sizes, in the order in which the last digit runs fastest
 abbrev pub all_digits : List ℕ → List (List ℕ)
 all_digits [] = [] ∷ []
-all_digits (size ∷ sizes) = flat_map (λ digit. map (λ digits. digit ∷ digits) (all_digits sizes)) (range_with_len 0 size)
+all_digits (size ∷ sizes) = flat_map (λ digit. map (λ digits. digit
+    ∷ digits) (all_digits sizes)) (range_with_len 0 size)
 
 -- the number that the digits write: the last counts ones, and each counts as much as all combinations of those after it
 abbrev pub number_of : List ℕ → List ℕ → ℕ

@@ -1,10 +1,11 @@
 //! The cells of a model: its dimensions, its cubes over them, and a number for each cell.
 //!
-//! Read in this order: [`CubeShape`], which dimensions a cube has; [`Space`], which is made of dimensions and shapes and
-//! turns the place of a cell (its cube, and one element of each dimension) into its number and back; [`SpaceFault`], why
-//! dimensions and shapes are no space.
+//! Read in this order: [`CubeShape`], which dimensions a cube has; [`Space`], which is made of dimensions and shapes
+//! and turns the place of a cell (its cube, and one element of each dimension) into its number and back;
+//! [`SpaceFault`], why dimensions and shapes are no space.
 //!
-//! Contracts see a space as a `Layout`, the list of its dimensions and the list of its shapes, and cite `specs/Cells.antt`.
+//! Contracts see a space as a `Layout`, the list of its dimensions and the list of its shapes, and cite
+//! `specs/Cells.antt`.
 #![tactic(auto)]
 
 mod digits;
@@ -19,8 +20,3 @@ mod space;
 pub use fault::SpaceFault;
 pub use shape::CubeShape;
 pub use space::{MAX_CELLS, MAX_DIMENSIONS, MIN_DIMENSIONS, Space};
-
-#[cfg(test)]
-mod allowed;
-#[cfg(test)]
-mod tests;

@@ -25,7 +25,10 @@ pub fn runs(
     cubes: &[CubeShape],
 ) -> Result<Vec<Run>, SpaceFault>
     requires { IsLayout (record { dimensions = dimensions.now; cubes = cubes.now }) }
-    ensures numbered { IfOk result (λ runs. IsNumbered (record { dimensions = dimensions.now; cubes = cubes.now }) runs.items) }
+    ensures numbered { IfOk result (λ runs. IsNumbered (record {
+      dimensions = dimensions.now;
+      cubes = cubes.now;
+    }) runs.items) }
     ensures answered { IsAnsweredBy (refusal_of (record { dimensions = dimensions.now; cubes = cubes.now })) result }
 {
     let counts = element_counts(alloc, dimensions)?;
@@ -50,7 +53,8 @@ fn run_from(
     requires in_range { All (λ dim. dim < length counts.now) dims.now }
     requires before { first ≤ 2 ^ 62 }
     ensures run { IfOk result (λ run. IsRunFrom (map (slice_index counts.now) dims.now) first run) }
-    ensures answered { IsAnsweredBy (fault_of cube (length dims.now) (product (map (slice_index counts.now) dims.now)) first) result }
+    ensures answered { IsAnsweredBy (fault_of cube (length dims.now) (product (map
+        (slice_index counts.now) dims.now)) first) result }
 {
     if dims.len() < MIN_DIMENSIONS || dims.len() > MAX_DIMENSIONS {
         return Err(SpaceFault::DimensionCount(cube));

@@ -1,7 +1,8 @@
 ghost use Rattle.std.specs.Prelude.{◌≡◌, suc, ◌<◌, ◌≤◌, ◌++◌, length, drop, IfOk, IfSome, slice_get};
 ghost use Rattle.dim_name.specs.Name.{place_of};
 ghost use Rattle.cube_space.specs.Layout.{IsLayout, cube_names, dimension_names};
-ghost use Rattle.cube_space.specs.Cells.{IsSpace, IsCell, all_cells, size_of, first_cell, cell_count, cell_number, cube_of, elements_of, is_leaf_cell};
+ghost use Rattle.cube_space.specs.Cells.{IsSpace, IsCell, all_cells, size_of, first_cell, cell_count, cell_number};
+ghost use Rattle.cube_space.specs.Cells.{cube_of, elements_of, is_leaf_cell};
 ghost use Rattle.cube_space.specs.Refusal.{refusal_of, IsAnsweredBy};
 
 use crate::digits::{are_digits, number_of, write_digits};
@@ -23,8 +24,8 @@ pub const MAX_DIMENSIONS: usize = 16;
 /// The most cells of all cubes together.
 pub const MAX_CELLS: u64 = 1 << 62;
 
-/// The dimensions and the cubes of a model, with a number for each cell. The numbers are one run per cube, in the order of
-/// the cubes; within a cube the last dimension runs fastest.
+/// The dimensions and the cubes of a model, with a number for each cell. The numbers are one run per cube, in the order
+/// of the cubes; within a cube the last dimension runs fastest.
 #[derive(Drop)]
 pub struct Space {
     dimensions: Vec<Dimension>,
@@ -40,12 +41,16 @@ impl Model for Space {
 
     ghost view = { λ s. record { dimensions = s.dimensions.items; cubes = s.cubes.items } };
 
-    ghost invariant = { λ s. IsNumbered (record { dimensions = s.dimensions.items; cubes = s.cubes.items }) s.runs.items };
+    ghost invariant = { λ s. IsNumbered (record {
+      dimensions = s.dimensions.items;
+      cubes = s.cubes.items;
+    }) s.runs.items };
 }
 
 impl Space {
     /// A space of these dimensions and cubes. The first cube with a fault is named, with its first cause in this order:
-    /// it hasn't 2 to 16 dimensions, it has more than 2^62 cells, the cubes up to it have more than 2^62 cells together.
+    /// it hasn't 2 to 16 dimensions, it has more than 2^62 cells, the cubes up to it have more than 2^62 cells
+    /// together.
     pub fn new(
         alloc: Global,
         dims: Vec<Dimension>,

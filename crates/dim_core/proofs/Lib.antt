@@ -5,6 +5,7 @@ pub mod Elements
 pub mod Definitions
 pub mod InOrder
 pub mod Keys
+pub mod LevelLaws
 pub mod Naming
 pub mod OwnDefinitions
 pub mod Resolving

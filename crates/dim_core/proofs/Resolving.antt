@@ -10,7 +10,8 @@ use Rattle.dim_core.specs.declared.attribute.Attribute.{Attribute}
 use Rattle.dim_core.specs.declared.attribute.NamedAttribute.{NamedAttribute}
 use Rattle.dim_name.specs.Name.{is_name, is_same_name}
 use Rattle.dim_core.specs.Draft.{IsResolved, has_weights, are_known, by_index, first_unknown, first_bad_among, first_bad_attribute, first_loop, IsFinished, IsResolvedAttribute}
-use Rattle.dim_core.specs.Kept.{IsKept, IsStored, AreNamed, AreAttributed}
+use Rattle.dim_core.specs.Private.Kept.{IsKept, IsStored, AreNamed, AreAttributed}
+use Rattle.dim_order.specs.Levels.{AreLevels}
 use Rattle.dim_order.specs.Loops.{IsOrder, ArePartsWithin, first_on_loop}
 use Rattle.dim_core.specs.Outline.{Element, elements_of, IsWeight, is_same_attribute, IsDimension, names_of, component_lists}
 use Rattle.dim_order.proofs.Places.{none_passes}
@@ -78,9 +79,9 @@ finished_elements names (s ∷ shown) (l ∷ ls) [] r = elim r [ ]
 finished_elements names (s ∷ shown) (l ∷ ls) (c ∷ cs) r = ((refl, r.0), finished_elements names shown ls cs r.1)
 
 -- the fields of a builder, with its components by index and an order, are those of a dimension
-pub resolved_stored : (names : List (List ℕ)) (lists : List (List (List ℕ × ℤ))) (count : ℕ) (resolved : List (List (ℕ × ℤ))) (order : List ℕ)
-    → IsKept names lists count → AllZip (IsResolved names) lists resolved → IsOrder resolved order → IsStored names resolved order
-resolved_stored names lists count resolved order kept r ordered =
+pub resolved_stored : (names : List (List ℕ)) (lists : List (List (List ℕ × ℤ))) (count : ℕ) (resolved : List (List (ℕ × ℤ))) (order levels : List ℕ)
+    → IsKept names lists count → AllZip (IsResolved names) lists resolved → IsOrder resolved order → AreLevels resolved levels → IsStored names resolved order levels
+resolved_stored names lists count resolved order levels kept r ordered leveled =
     let total = sum_by-resolved names lists resolved r ∙ sym kept.counted in
     record {
       paired = AllZip-long (IsResolved names) lists resolved r ∙ kept.paired;
@@ -89,6 +90,7 @@ resolved_stored names lists count resolved order kept r ordered =
       few_components = rw total kept.few_components;
       parts = resolved_parts_at names lists resolved r kept.weights;
       ordered = ordered;
+      leveled = leveled;
     }
 
 elements_named : {C : Type 0} (names : List (List ℕ)) (lists : List (List (C × ℤ))) → All (λ n. IsTrue (is_name n)) names → All (λ e. IsTrue (is_name e.name)) (elements_of names lists)
@@ -99,9 +101,9 @@ elements_named (name ∷ names) (l ∷ lists) h =
     (All-head (λ n. IsTrue (is_name n)) name names h) (elements_named names lists (All-tail (λ n. IsTrue (is_name n)) name names h))
 
 -- the fields of a dimension are seen as one
-pub stored_dimension : (of : List ℕ) (names : List (List ℕ)) (lists : List (List (ℕ × ℤ))) (order : List ℕ) (attributes : List Attribute) → IsStored names lists order → AreAttributed of names attributes
+pub stored_dimension : (of : List ℕ) (names : List (List ℕ)) (lists : List (List (ℕ × ℤ))) (order levels : List ℕ) (attributes : List Attribute) → IsStored names lists order levels → AreAttributed of names attributes
     → IsDimension (record { name = of; elements = elements_of names lists; attributes = attributes })
-stored_dimension of names lists order attributes stored attributed =
+stored_dimension of names lists order levels attributes stored attributed =
     let counted = length-elements_of names lists stored.paired in
     let listed = component_lists-elements_of names lists stored.paired in
     let D : List (List ℕ) → Type 0 = IsDistinct is_same_name in

@@ -1,5 +1,5 @@
 pub mod Draft
-pub mod Kept
 pub mod Outline
 pub mod Refusal
 pub mod Written
+pub mod Private

@@ -1,8 +1,10 @@
 -- Why a definition, or a whole dimension, is refused.
 use Rattle.std.specs.Prelude.{◌≡◌, ◌⊎◌, ⊤, ℕ, ℤ, List, Option, Some, None, Result, Ok, Err, not, length, if◌then◌else◌}
 use Rattle.dim_core.specs.declared.fault.DimFault.{DimFault}
-use Rattle.dim_core.specs.declared.fault.DimFault.TheVariants.{Duplicate, UnknownComponent, BadAttribute, Loop, WeightRange, TooMany, Memory}
-use Rattle.dim_core.specs.Draft.{Draft, is_defined, has_weights, is_too_many, first_unknown, first_bad_attribute, first_loop}
+use Rattle.dim_core.specs.declared.fault.DimFault.TheVariants.{Duplicate, UnknownComponent, BadAttribute, Loop}
+use Rattle.dim_core.specs.declared.fault.DimFault.TheVariants.{WeightRange, TooMany, Memory}
+use Rattle.dim_core.specs.Draft.{Draft, is_defined, has_weights, is_too_many, first_unknown, first_bad_attribute}
+use Rattle.dim_core.specs.Draft.{first_loop}
 
 -- the first cause, in this order: the name is there, a weight is out of range, a limit would be passed
 abbrev pub refusal_of : Draft → List ℕ → List (List ℕ × ℤ) → Option DimFault

@@ -24,7 +24,7 @@ impl Model for Attributes {
     ghost use Rattle.std.specs.Prelude.{List};
     ghost use Rattle.std.specs.List.{AllZip};
     ghost use Rattle.dim_core.specs.declared.attribute.Attribute.{Attribute};
-    ghost use Rattle.dim_core.specs.Kept.{IsKeyOf};
+    ghost use Rattle.dim_core.specs.Private.Kept.{IsKeyOf};
 
     ghost Value = { List Attribute };
 
@@ -88,7 +88,8 @@ impl Attributes {
 // The place of a name, which is added where it isn't there.
 fn number_of(alloc: Global, names: &mut IndexSet<Name>, name: &Name) -> Result<usize, AllocError>
     ensures number { IfOk result (λ number. place_of names.new.keys name.now ≡ Some number) }
-    ensures kept { (other : List ℕ) (number : ℕ) → place_of names.old.keys other ≡ Some number → place_of names.new.keys other ≡ Some number }
+    ensures kept { (other : List ℕ) (number : ℕ) → place_of names.old.keys other ≡ Some number
+        → place_of names.new.keys other ≡ Some number }
 {
     if let Some(number) = names.get_index_of(name) {
         return Ok(number);

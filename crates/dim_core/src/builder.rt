@@ -1,5 +1,8 @@
-ghost use Rattle.std.specs.Prelude.{◌≡◌, ◌<◌, ◌^◌, [], None, length, option_map, IfOk, IfSome, IfNone, OnOk, OnErr, IsOkUnless, IsTrue};
-ghost use Rattle.dim_core.specs.Draft.{empty_draft, with_element, with_attribute, is_defined, has_weights, is_too_many, first_unknown, first_bad_attribute, first_loop, HasEarlierComponents, IsFinished};
+ghost use Rattle.std.specs.Prelude.{◌≡◌, ◌<◌, ◌^◌, [], None, length, option_map, IfOk, IfSome, IfNone, OnOk, OnErr};
+ghost use Rattle.std.specs.Prelude.{IsOkUnless, IsTrue};
+ghost use Rattle.dim_core.specs.Draft.{empty_draft, with_element, with_attribute, is_defined, has_weights, is_too_many};
+ghost use Rattle.dim_core.specs.Draft.{first_unknown, first_bad_attribute, first_loop, HasEarlierComponents};
+ghost use Rattle.dim_core.specs.Draft.{IsFinished};
 ghost use Rattle.dim_core.specs.Refusal.{refusal_of, first_cause, finish_refusal_of, IsAnsweredBy};
 ghost use Rattle.dim_order.specs.Loops.{IsOrder, ArePartsWithin, first_on_loop};
 
@@ -7,7 +10,7 @@ use crate::attribute::NamedAttribute;
 use crate::components::NamedComponents;
 use crate::resolve::{first_unknown, resolve_all, resolve_attributes};
 use crate::{DimFault, Dimension, Name};
-use dim_order::{Components, first_on_loop, order_of};
+use dim_order::{Components, first_on_loop, levels_of, order_of};
 use indexmap::IndexSet;
 use lists::ListOf;
 use std::alloc::{AllocError, Global};
@@ -36,13 +39,18 @@ pub struct Builder {
 impl Model for Builder {
     ghost use Rattle.dim_core.specs.Draft.{Draft};
     ghost use Rattle.dim_core.specs.Outline.{elements_of};
-    ghost use Rattle.dim_core.specs.Kept.{IsKept, AreNamed};
+    ghost use Rattle.dim_core.specs.Private.Kept.{IsKept, AreNamed};
 
     ghost Value = { Draft };
 
-    ghost view = { λ b. record { name = b.name; elements = elements_of b.names.keys b.components.items; attributes = b.attributes.items } };
+    ghost view = { λ b. record {
+      name = b.name;
+      elements = elements_of b.names.keys b.components.items;
+      attributes = b.attributes.items;
+    } };
 
-    ghost invariant = { λ b. IsKept b.names.keys b.components.items b.component_count × AreNamed b.name b.names.keys b.attributes.items };
+    ghost invariant = { λ b. IsKept b.names.keys b.components.items b.component_count
+        × AreNamed b.name b.names.keys b.attributes.items };
 }
 
 impl Builder {
@@ -92,8 +100,8 @@ impl Builder {
         Ok(())
     }
 
-    /// Gives an element a text under the name of an attribute. The element may be defined later. `finish` tells whether it
-    /// is, and whether a call repeats the element and attribute of an earlier one.
+    /// Gives an element a text under the name of an attribute. The element may be defined later. `finish` tells whether
+    /// it is, and whether a call repeats the element and attribute of an earlier one.
     pub fn attribute(
         &mut self,
         element: Name,
@@ -140,12 +148,13 @@ impl Builder {
         self.names.len() == MAX_ELEMENTS || MAX_COMPONENTS - self.component_count < further
     }
 
-    /// The dimension of the elements defined so far, with their attributes. Components may be defined after what they are
-    /// components of.
+    /// The dimension of the elements defined so far, with their attributes. Components may be defined after what they
+    /// are components of.
     pub fn finish(self) -> Result<Dimension, DimFault>
         ensures finished { IfOk result (λ dimension. IsFinished self dimension) }
         ensures answered { IsAnsweredBy (finish_refusal_of self) result }
-        ensures earlier { HasEarlierComponents self → first_bad_attribute self ≡ None → IsOkUnless result DimFault.Memory }
+        ensures earlier { HasEarlierComponents self → first_bad_attribute self ≡ None
+            → IsOkUnless result DimFault.Memory }
     {
         if let Some(element) = self.first_unknown() {
             return Err(DimFault::UnknownComponent(element));
@@ -183,7 +192,10 @@ impl Builder {
         };
         let resolved = resolve_all(alloc, &names, &components)?;
         match order_or_loop(alloc, &resolved) {
-            Ok(order) => Ok(Dimension::new(name, names, resolved, order, described)),
+            Ok(order) => {
+                let levels = levels_of(alloc, &resolved, &order)?;
+                Ok(Dimension::new(name, names, resolved, order, levels, described))
+            }
             Err(fault) => Err(fault),
         }
     }

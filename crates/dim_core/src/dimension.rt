@@ -1,7 +1,9 @@
 ghost use Rattle.std.specs.Prelude.{◌≡◌, ◌↔◌, ◌<◌, ◌≤◌, [], length, IsTrue};
+ghost use Rattle.dim_order.specs.Levels.{AreLevels};
 ghost use Rattle.dim_order.specs.Loops.{IsOrder};
-ghost use Rattle.dim_core.specs.Kept.{IsStored, AreAttributed};
-ghost use Rattle.dim_core.specs.Outline.{component_lists, name_of, components_of, index_of, attribute_of, elements_of, IsDimension};
+ghost use Rattle.dim_core.specs.Private.Kept.{IsStored, AreAttributed};
+ghost use Rattle.dim_core.specs.Outline.{component_lists, name_of, components_of, index_of, attribute_of, elements_of};
+ghost use Rattle.dim_core.specs.Outline.{IsDimension, level};
 
 use crate::Name;
 use crate::attribute::Attribute;
@@ -17,18 +19,24 @@ pub struct Dimension {
     names: IndexSet<Name>,
     components: Vec<Components>,
     order: Vec<u32>,
+    levels: Vec<u32>,
     attributes: Attributes,
 }
 
 impl Model for Dimension {
     ghost use Rattle.dim_core.specs.Outline.{Outline, elements_of};
-    ghost use Rattle.dim_core.specs.Kept.{IsStored, AreAttributed};
+    ghost use Rattle.dim_core.specs.Private.Kept.{IsStored, AreAttributed};
 
     ghost Value = { Outline };
 
-    ghost view = { λ d. record { name = d.name; elements = elements_of d.names.keys d.components.items; attributes = d.attributes } };
+    ghost view = { λ d. record {
+      name = d.name;
+      elements = elements_of d.names.keys d.components.items;
+      attributes = d.attributes;
+    } };
 
-    ghost invariant = { λ d. IsStored d.names.keys d.components.items d.order.items × AreAttributed d.name d.names.keys d.attributes };
+    ghost invariant = { λ d. IsStored d.names.keys d.components.items d.order.items d.levels.items
+        × AreAttributed d.name d.names.keys d.attributes };
 }
 
 impl Dimension {
@@ -37,17 +45,23 @@ impl Dimension {
         names: IndexSet<Name>,
         components: Vec<Components>,
         order: Vec<u32>,
+        levels: Vec<u32>,
         attributes: Attributes,
     ) -> Dimension
-        requires stored { IsStored names.keys components.items order.items }
+        requires stored { IsStored names.keys components.items order.items levels.items }
         requires attributed { AreAttributed name names.keys attributes }
-        ensures { result ≡ record { name = name; elements = elements_of names.keys components.items; attributes = attributes } }
+        ensures { result ≡ record {
+          name = name;
+          elements = elements_of names.keys components.items;
+          attributes = attributes;
+        } }
     {
         Dimension {
             name,
             names,
             components,
             order,
+            levels,
             attributes,
         }
     }
@@ -120,5 +134,21 @@ impl Dimension {
         ensures { IsOrder (component_lists self.now.elements) result.now }
     {
         &self.order
+    }
+
+    /// The level of an element: 0 of a leaf, and otherwise one more than the greatest level of a component.
+    pub fn level(&self, element: u32) -> u32
+        requires { element < length self.now.elements }
+        ensures level { result ≡ level self.now element }
+        ensures below { result < length self.now.elements }
+    {
+        self.levels[element as usize]
+    }
+
+    /// The levels of all elements, by index.
+    pub fn levels(&self) -> &[u32]
+        ensures { AreLevels (component_lists self.now.elements) result.now }
+    {
+        &self.levels
     }
 }

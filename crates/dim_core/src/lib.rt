@@ -19,7 +19,6 @@ pub use builder::{Builder, MAX_COMPONENTS, MAX_ELEMENTS, MAX_WEIGHT};
 pub use dim_name::{Name, NameFault};
 pub use dimension::Dimension;
 pub use fault::DimFault;
-pub use laws::laws_of_own_definitions;
-
-#[cfg(test)]
-mod tests;
+pub use laws::{
+    components_have_smaller_levels, laws_of_own_definitions, levels_solve, only_levels_solve,
+};

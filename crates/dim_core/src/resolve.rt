@@ -1,9 +1,10 @@
-ghost use Rattle.std.specs.Prelude.{◌≡◌, ◌<◌, ◌≤◌, true, List, [], ◌∷◌, ◌++◌, length, IfSome, not, position, option_map, IfOk, All, IsTrue};
+ghost use Rattle.std.specs.Prelude.{◌≡◌, ◌<◌, ◌≤◌, true, List, [], ◌∷◌, ◌++◌, length, IfSome, not, position};
+ghost use Rattle.std.specs.Prelude.{option_map, IfOk, All, IsTrue};
 ghost use Rattle.std.specs.List.{AllZip, IsDistinct};
 ghost use Rattle.dim_core.specs.declared.attribute.NamedAttribute.{NamedAttribute};
 ghost use Rattle.dim_core.specs.declared.fault.DimFault.TheVariants.{BadAttribute};
 ghost use Rattle.dim_core.specs.Draft.{are_known, is_bad_attribute, first_bad_among, IsResolved, IsResolvedAttribute};
-ghost use Rattle.dim_core.specs.Outline.{is_same_attribute};
+ghost use Rattle.dim_core.specs.Outline.{is_same_attribute, most_elements};
 ghost use Rattle.dim_core.specs.Refusal.{IsAnsweredBy};
 
 use crate::attribute::{Attribute, NamedAttribute};
@@ -36,7 +37,7 @@ pub fn resolve_all(
     names: &IndexSet<Name>,
     lists: &[NamedComponents],
 ) -> Result<Vec<Components>, AllocError>
-    requires few { length names.now.keys ≤ 100000 }
+    requires few { length names.now.keys ≤ most_elements }
     requires known { All (λ parts. IsTrue (are_known names.now.keys parts)) lists.now }
     ensures { IfOk result (λ resolved. AllZip (IsResolved names.now.keys) lists.now resolved.items) }
 {
@@ -52,7 +53,7 @@ fn resolve(
     names: &IndexSet<Name>,
     parts: &[(Name, i64)],
 ) -> Result<Components, AllocError>
-    requires few { length names.now.keys ≤ 100000 }
+    requires few { length names.now.keys ≤ most_elements }
     requires known { IsTrue (are_known names.now.keys parts.now) }
     ensures { IfOk result (λ resolved. IsResolved names.now.keys parts.now resolved) }
 {
@@ -64,14 +65,14 @@ fn resolve(
     Ok(Components::new(resolved))
 }
 
-/// The attributes of these calls, or the number of the first bad call: its element isn't among the names, or it repeats a
-/// call before it.
+/// The attributes of these calls, or the number of the first bad call: its element isn't among the names, or it repeats
+/// a call before it.
 pub fn resolve_attributes(
     alloc: Global,
     names: &IndexSet<Name>,
     calls: Vec<NamedAttribute>,
 ) -> Result<Attributes, DimFault>
-    requires few { length names.now.keys ≤ 100000 }
+    requires few { length names.now.keys ≤ most_elements }
     ensures resolved { IfOk result (λ resolved. AllZip (IsResolvedAttribute names.now.keys) calls.items resolved) }
     ensures once { IfOk result (λ resolved. IsDistinct is_same_attribute resolved) }
     ensures answered { IsAnsweredBy (option_map BadAttribute (first_bad_among names.now.keys calls.items)) result }
@@ -93,10 +94,15 @@ fn add_call(
     call: NamedAttribute,
     resolved: &mut Attributes,
 ) -> Result<bool, AllocError>
-    requires few { length names.now.keys ≤ 100000 }
-    ensures bad { IfOk result (λ added. (before : List NamedAttribute) → AllZip (IsResolvedAttribute names.now.keys) before resolved.old → added ≡ not (is_bad_attribute names.now.keys before call)) }
-    ensures added { IfOk result (λ added. added ≡ true → (before : List NamedAttribute) → AllZip (IsResolvedAttribute names.now.keys) before resolved.old → AllZip (IsResolvedAttribute names.now.keys) (before ++ call ∷ []) resolved.new) }
-    ensures once { IfOk result (λ added. added ≡ true → IsDistinct is_same_attribute resolved.old → IsDistinct is_same_attribute resolved.new) }
+    requires few { length names.now.keys ≤ most_elements }
+    ensures bad { IfOk result (λ added. (before : List NamedAttribute)
+        → AllZip (IsResolvedAttribute names.now.keys) before resolved.old
+        → added ≡ not (is_bad_attribute names.now.keys before call)) }
+    ensures added { IfOk result (λ added. added ≡ true → (before : List NamedAttribute)
+        → AllZip (IsResolvedAttribute names.now.keys) before resolved.old
+        → AllZip (IsResolvedAttribute names.now.keys) (before ++ call ∷ []) resolved.new) }
+    ensures once { IfOk result (λ added. added ≡ true → IsDistinct is_same_attribute resolved.old
+        → IsDistinct is_same_attribute resolved.new) }
 {
     let NamedAttribute {
         element,

@@ -4,6 +4,3 @@
 mod name;
 
 pub use name::{Name, NameFault};
-
-#[cfg(test)]
-mod tests;

@@ -1,5 +1,8 @@
+pub mod Depths
 pub mod GrowthLemmas
+pub mod LevelFacts
 pub mod LoopLemmas
+pub mod Maxima
 pub mod Places
 pub mod Tests
 pub mod Walks

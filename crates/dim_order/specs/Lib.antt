@@ -1,3 +1,4 @@
-pub mod Growth
+pub mod Levels
 pub mod Loops
 pub mod Members
+pub mod Private

@@ -1,10 +1,11 @@
 ghost use Rattle.std.specs.Prelude.{◌≡◌, ◌<◌, ◌⊎◌, ◌^◌, ◌==◌, ◌||◌, ℕ, length, IfOk, OnOk};
 ghost use Rattle.std.specs.List.{list_all, list_any};
 ghost use Rattle.dim_order.specs.Members.{is_among};
-ghost use Rattle.dim_order.specs.Growth.{is_ready, IsGrown, IsSettled, AreSettled};
+ghost use Rattle.dim_order.specs.Private.Growth.{is_ready, IsGrown, IsSettled, AreSettled};
 
 use crate::Components;
 use crate::joining::Joining;
+use crate::likely::likely_order;
 use crate::members::Members;
 use std::alloc::{AllocError, Global};
 
@@ -15,6 +16,8 @@ pub fn grow(alloc: Global, joining: Joining, lists: &[Components]) -> Result<Mem
     ensures settled { IfOk result (λ members. AreSettled joining lists.now members.list) }
 {
     let mut members = Members::new(alloc, lists.len())?;
+    let likely = likely_order(alloc, joining, lists)?;
+    visit_each(joining, lists, &likely, &mut members)?;
     for round in 0..lists.len() + 1 {
         let before = members.len();
         visit_all(joining, lists, &mut members)?;
@@ -23,6 +26,27 @@ pub fn grow(alloc: Global, joining: Joining, lists: &[Components]) -> Result<Mem
         }
     }
     unreachable!()
+}
+
+// Lets those of these elements join, in turn, that can.
+fn visit_each(
+    joining: Joining,
+    lists: &[Components],
+    elements: &[u32],
+    members: &mut Members,
+) -> Result<(), AllocError>
+    requires few { length lists.now < 2 ^ 32 }
+    requires room { members.old.room ≡ length lists.now }
+    requires grown { IsGrown joining lists.now members.old.list }
+    ensures room { members.new.room ≡ length lists.now }
+    ensures grown { IsGrown joining lists.now members.new.list }
+{
+    'elements: for element in elements {
+        if (*element as usize) < lists.len() {
+            visit(joining, lists, *element, members)?;
+        }
+    }
+    Ok(())
 }
 
 fn visit_all(
@@ -35,7 +59,8 @@ fn visit_all(
     requires grown { IsGrown joining lists.now members.old.list }
     ensures room { members.new.room ≡ length lists.now }
     ensures grown { IsGrown joining lists.now members.new.list }
-    ensures visited { OnOk result ((length members.old.list < length members.new.list) ⊎ (members.new.list ≡ members.old.list) × AreSettled joining lists.now members.new.list) }
+    ensures visited { OnOk result ((length members.old.list < length members.new.list)
+        ⊎ (members.new.list ≡ members.old.list) × AreSettled joining lists.now members.new.list) }
 {
     for element in 0..lists.len() {
         visit(joining, lists, element as u32, members)?;
@@ -54,7 +79,8 @@ fn visit(
     requires grown { IsGrown joining lists.now members.old.list }
     ensures room { members.new.room ≡ length lists.now }
     ensures grown { IsGrown joining lists.now members.new.list }
-    ensures visited { OnOk result ((length members.old.list < length members.new.list) ⊎ (members.new.list ≡ members.old.list) × IsSettled joining lists.now members.new.list element) }
+    ensures visited { OnOk result ((length members.old.list < length members.new.list)
+        ⊎ (members.new.list ≡ members.old.list) × IsSettled joining lists.now members.new.list element) }
 {
     if members.has(element) {
         return Ok(());

@@ -4,10 +4,13 @@
 mod components;
 mod growth;
 mod joining;
+mod levels;
+mod likely;
 mod loops;
 mod members;
 mod order;
 
 pub use components::Components;
+pub use levels::levels_of;
 pub use loops::first_on_loop;
 pub use order::order_of;

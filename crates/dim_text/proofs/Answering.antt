@@ -5,19 +5,20 @@ use Rattle.cube_lex.specs.Lexeme.{Lexeme, lexeme_of}
 use Rattle.cube_lex.specs.declared.token.Token.{Token}
 use Rattle.grammar.specs.Cursor.{lexemes}
 use Rattle.grammar.specs.Fault.{line_at, IsSyntax, IsRefused}
-use Rattle.grammar.specs.Reading.{Dead, Refused}
+use Rattle.grammar.specs.Reading.{Unexpected, Refused}
 use Rattle.grammar.specs.Tokens.{is_word}
 use Rattle.grammar.specs.declared.stop.Stop.{Stop}
 use Rattle.grammar.specs.declared.stop.Stop.TheVariants as stops
 use Rattle.grammar.proofs.Begins.{Begins, begins_both}
 use Rattle.grammar.proofs.Tokens.{word_begins}
 use Rattle.grammar.proofs.Top.{read_told, stuck_told, refused_told}
-use Rattle.dim_text.specs.Answers.{IsBlock, IsFault}
+use Rattle.grammar.proofs.Exact.{Agrees}
+use Rattle.dim_text.specs.Answers.{IsBlock, BeginsNoBlock, IsFault}
 use Rattle.dim_text.specs.Building.{building, nothing}
 use Rattle.dim_text.specs.Progress.{Progress, Text, IsBuilt}
-use Rattle.dim_text.specs.Reading.{read_block}
+use Rattle.dim_text.specs.Readers.Reading.{read_block}
 use Rattle.dim_text.specs.Statement.{dimension}
-use Rattle.dim_text.specs.Views.{GivesText, Explains}
+use Rattle.dim_text.specs.Readers.Views.{GivesText, Explains}
 use Rattle.dim_text.specs.declared.fault.DimTextFault.{DimTextFault}
 use Rattle.dim_text.specs.declared.fault.Refusal.{Refusal}
 use Rattle.dim_text.proofs.BlockExact.{block_exact}
@@ -47,14 +48,22 @@ block_at_told all from given left text same (p, read, built) =
     let size : length (lexemes left) ≡ length left = length-map left lexeme_of in
     (subst (λ n. n ≤ length all) size fewer, subst (λ n. IsBlock (drop from all) from text (length all - n)) size is)
 
+-- tokens that begin with a block aren't stuck
+no_block : (ts : List Lexeme) (n : ℕ) → read_block nothing ts ≡ Err (Unexpected n) → BeginsNoBlock ts
+unfolding Agrees
+no_block ts n stuck block rest parts is =
+    let agreed : Agrees {R = Progress} {C = Refusal} tt rest (read_block nothing (block ++ rest)) = block_exact.complete nothing block tt rest is tt in
+    subst (Agrees {R = Progress} {C = Refusal} tt rest) (ap (read_block nothing) (sym parts) ∙ stuck) agreed
+
 pub fault_told : (ts : List Lexeme) (given left : List Token) (end_line : ℕ) (stop : Stop Refusal) (fault : DimTextFault) → lexemes given ≡ ts → GivesText (Err stop) (lexemes left) (read_block nothing (lexemes given)) → Explains given end_line stop fault → IsFault ts end_line fault.line fault.cause
 fault_told ts given left end_line stops.Memory fault same read told = subst (IsFault ts end_line fault.line) (sym told.1) told.0
-fault_told ts given left end_line (stops.Dead n) fault same read told =
-    let is : IsSyntax (λ t. t.line) dimension building nothing ts end_line (line_at (λ t. t.line) end_line (drop (length ts - n) ts)) = stuck_told block_exact tt (λ t. t.line) end_line nothing ts n (subst (λ x. read_block nothing x ≡ Err (Dead n)) same read) in
+fault_told ts given left end_line (stops.Unexpected n) fault same read told =
+    let stuck : read_block nothing ts ≡ Err (Unexpected n) = subst (λ x. read_block nothing x ≡ Err (Unexpected n)) same read in
+    let is : IsSyntax (λ t. t.line) dimension building nothing ts end_line (line_at (λ t. t.line) end_line (drop (length ts - n) ts)) = stuck_told block_exact tt (λ t. t.line) end_line nothing ts n stuck in
     let dropped : lexemes (drop (length given - n) given) ≡ drop (length given - n) (lexemes given) = sym (drop-map lexeme_of (length given - n) given) in
     let size : length given ≡ length (lexemes given) = sym (length-map given lexeme_of) in
     let place : fault.line ≡ line_at (λ t. t.line) end_line (drop (length ts - n) ts) = told.0 ∙ ap (line_at (λ t. t.line) end_line) (dropped ∙ ap (λ k. drop (k - n) (lexemes given)) size ∙ ap (λ x. drop (length x - n) x) same) in
-    subst (IsFault ts end_line fault.line) (sym told.1) (subst (IsSyntax (λ t. t.line) dimension building nothing ts end_line) (sym place) is)
+    subst (IsFault ts end_line fault.line) (sym told.1) (no_block ts n stuck, subst (IsSyntax (λ t. t.line) dimension building nothing ts end_line) (sym place) is)
 fault_told ts given left end_line (stops.Refused refusal) fault same read told =
     let is : IsRefused dimension building nothing ts refusal = refused_told block_exact nothing ts refusal (subst (λ x. read_block nothing x ≡ Err (Refused refusal)) same read) in
     let place : refusal ≡ record { line = fault.line; fault = refusal.fault } = ap (λ n. record { line = n; fault = refusal.fault }) (sym told.0) in

@@ -9,7 +9,7 @@ use Rattle.grammar.proofs.Checked.{exact_checked}
 use Rattle.grammar.proofs.Tokens.{sign_begins}
 use Rattle.dim_text.specs.Statement.{Statement, unit, head, element, ending, closing, statement, body, dimension}
 use Rattle.dim_text.specs.Building.{add, building}
-use Rattle.dim_text.specs.Reading.{Plain, built, read_head, read_element, read_elements, read_end, read_close, read_opening, read_ending, read_closing, read_body, read_block, is_element_word}
+use Rattle.dim_text.specs.Readers.Reading.{Plain, built, read_head, read_element, read_elements, read_end, read_close, read_opening, read_ending, read_closing, read_body, read_block, is_element_word}
 use Rattle.dim_text.proofs.ElementExact.{free, head_exact, element_exact, end_exact, close_exact, element_begins, end_begins, begins_statement}
 
 -- a statement that is built in

@@ -7,25 +7,25 @@ use Rattle.grammar.specs.declared.stop.Stop.{Stop}
 use Rattle.grammar.specs.declared.stop.Stop.TheVariants as stops
 use Rattle.dim_text.specs.Building.{opened, nothing}
 use Rattle.dim_text.specs.Progress.{Progress, Text}
-use Rattle.dim_text.specs.Reading.{read_head, read_opening, read_elements, read_ending, read_closing, read_body, read_block}
+use Rattle.dim_text.specs.Readers.Reading.{read_head, read_opening, read_elements, read_ending, read_closing, read_body, read_block}
 use Rattle.dim_text.specs.Statement.{Head}
-use Rattle.dim_text.specs.Views.{GivesEnd, GivesText}
+use Rattle.dim_text.specs.Readers.Views.{GivesEnd, GivesText}
 use Rattle.dim_text.specs.declared.fault.Refusal.{Refusal}
 use Rattle.dim_text.proofs.Built.{built_ok}
 
 gives_text : (result : Result Text (Stop Refusal)) (p : Progress) (left : List Lexeme) (read : Read Lexeme Progress Refusal (Unit {0})) → GivesEnd result p left read → GivesText result left read
 gives_text (Ok text) p left read h = (p, h.0, h.1)
 gives_text (Err stops.Memory) p left read h = tt
-gives_text (Err (stops.Dead n)) p left read h = h
+gives_text (Err (stops.Unexpected n)) p left read h = h
 gives_text (Err (stops.Refused cause)) p left read h = h
 
 -- the elements, `END` and the last `;`
-pub body_parts : (result : Result Text (Stop Refusal)) (start work : Progress) (ts mid last left : List Lexeme) → read_elements start ts ≡ Ok (tt, work, mid) → read_ending work mid ≡ Ok (tt, work, last)
-    → GivesEnd result work left (read_closing work last) → GivesText result left (read_body start ts)
+pub body_parts : (result : Result Text (Stop Refusal)) (start partial : Progress) (ts mid last left : List Lexeme) → read_elements start ts ≡ Ok (tt, partial, mid) → read_ending partial mid ≡ Ok (tt, partial, last)
+    → GivesEnd result partial left (read_closing partial last) → GivesText result left (read_body start ts)
 unfolding read_body
-body_parts result start work ts mid last left elements ending closing =
-    let chain : read_body start ts ≡ read_closing work last = ap (λ r. bound r (λ _. both_of read_ending (λ _. read_closing))) elements ∙ ap (λ r. bound r (λ _. read_closing)) ending in
-    subst (GivesText result left) (sym chain) (gives_text result work left (read_closing work last) closing)
+body_parts result start partial ts mid last left elements ending closing =
+    let chain : read_body start ts ≡ read_closing partial last = ap (λ r. bound r (λ _. both_of read_ending (λ _. read_closing))) elements ∙ ap (λ r. bound r (λ _. read_closing)) ending in
+    subst (GivesText result left) (sym chain) (gives_text result partial left (read_closing partial last) closing)
 
 -- the head, and what stands behind it
 pub block_parts : (result : Result Text (Stop Refusal)) (line : ℕ) (shown : List ℕ) (state : Unwatched) (ts mid left : List Lexeme) → read_head (record {}) ts ≡ Ok (Head line shown, state, mid)

@@ -1,13 +1,12 @@
 pub mod ElementExact
 pub mod BlockExact
 pub mod Built
+pub mod Builds
 pub mod BlockParts
 pub mod Refusals
 pub mod Quotable
-pub mod Spells
 pub mod SpelledStatements
 pub mod Rebuilt
-pub mod Ends
 pub mod OneReading
 pub mod OneBlock
 pub mod PrintedBack

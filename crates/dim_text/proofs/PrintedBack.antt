@@ -1,7 +1,8 @@
 -- What is printed of a dimension is read as the dimension.
 use Rattle.std.proofs.Common.{◌≡◌, ℕ, List, [], ◌∷◌, ◌++◌, Result, Ok, Err, is_ok, OnOk, if◌then◌else◌, sym, ap, ◌∙◌, subst, inl}
-use Rattle.cube_lex.proofs.WrittenTexts.{written-reads}
-use Rattle.cube_lex.specs.Written.{IsWritten, Adds}
+use Rattle.std.proofs.lemmas.List.{append_cancel_left}
+use Rattle.cube_lex.proofs.WrittenTexts.{written-reading}
+use Rattle.cube_lex.specs.Written.{IsWritten, Writes}
 use Rattle.dim_core.proofs.OwnDefinitions.{written_is}
 use Rattle.dim_core.specs.Draft.{IsFinished}
 use Rattle.dim_core.specs.Outline.{Outline, IsDimension}
@@ -9,13 +10,14 @@ use Rattle.dim_core.specs.Written.{written}
 use Rattle.grammar.specs.Watch.{Passes}
 use Rattle.grammar.proofs.Exact.{passes-append, passes_one}
 use Rattle.dim_text.specs.Building.{add, building, nothing, opened}
-use Rattle.dim_text.specs.Printed.{Builds, IsBlockOf, IsBodyOf, IsTextOf, IsPrinted}
+use Rattle.dim_text.specs.Printed.{IsTextOf, IsPrinted}
+use Rattle.dim_text.proofs.Builds.{Builds, IsBlockOf, IsBodyOf}
 use Rattle.dim_text.specs.Spelled.{head_spelled, body_spelled, draft_spelled}
 use Rattle.dim_text.specs.Statement.{body}
 use Rattle.dim_text.proofs.OneBlock.{answer_is}
 use Rattle.dim_text.proofs.Rebuilt.{body_again, unit_of, dimension_again}
 use Rattle.dim_text.proofs.SpelledStatements.{head_spells}
-use Rattle.dim_text.proofs.Spells.{split_at}
+use Rattle.grammar.proofs.Spells.{split_at}
 
 -- tokens that build the definitions of a dimension build the dimension
 pub body_of : (d : Outline) → IsDimension d → IsBodyOf d (body_spelled (written d))
@@ -46,26 +48,17 @@ block_of d is ts e =
     }
 
 text_of : (d : Outline) → IsDimension d → (bytes : List ℕ) → IsWritten (draft_spelled (written d)) bytes → IsTextOf d bytes
-text_of d is bytes written_so small lexed fault reading =
-    let (same, none) = written-reads (draft_spelled (written d)) bytes written_so small lexed fault reading in
-    (none, λ answer answers. answer_is d lexed.lexemes (block_of d is lexed.lexemes same) lexed.end_line answer answers)
-
-cancel : (old a b : List ℕ) → old ++ a ≡ old ++ b → a ≡ b
-cancel [] a b e = e
-cancel (x ∷ old) a b e = cancel old a b (cc e)
-
--- where the tokens of a dimension were added
-pub is_printed : (d : Outline) → IsDimension d → (old new : List ℕ) → Adds old new (draft_spelled (written d)) → IsPrinted d old new
-is_printed d is old new (bytes, is_new, written_so) = record {
-  behind = body_spelled (written d);
-  adds = (bytes, is_new, written_so);
-  block = block_of d is;
-  body = body_of d is;
-  reads = λ more also. subst (IsTextOf d) (cancel old bytes more (sym is_new ∙ also)) (text_of d is bytes written_so);
-}
+text_of d is bytes written_so small =
+    let (lexed, reading, same) = written-reading (draft_spelled (written d)) bytes written_so small in
+    (lexed, reading, λ answer answers. answer_is d lexed.lexemes (block_of d is lexed.lexemes same) lexed.end_line answer answers)
 
 -- what a call that appends the written tokens has printed
-pub printed_told : {T E : Type 0} (r : Result T E) (d : Outline) → IsDimension d → (old new block : List ℕ) → Adds [] block (draft_spelled (written d))
+pub printed_told : {T E : Type 0} (r : Result T E) (d : Outline) → IsDimension d → (old new block : List ℕ) → Writes [] block (draft_spelled (written d))
     → new ≡ (if is_ok r then old ++ block else old) → OnOk r (IsPrinted d old new)
-printed_told (Ok x) d is old new block (bytes, block_is, written_so) e = is_printed d is old new (bytes, e ∙ ap (λ b. old ++ b) block_is, written_so)
+printed_told (Ok x) d is old new block (bytes, block_is, written_so, short) e =
+    let behind : new ≡ old ++ bytes = e ∙ ap (λ b. old ++ b) block_is in
+    record {
+      tokens = (bytes, behind, written_so, short);
+      reads = λ more also. subst (IsTextOf d) (append_cancel_left old bytes more (sym behind ∙ also)) (text_of d is bytes written_so);
+    }
 printed_told (Err fault) d is old new block adds e = tt

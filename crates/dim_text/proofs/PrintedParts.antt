@@ -7,24 +7,26 @@ use Rattle.cube_lex.specs.Written.{Spelling}
 use Rattle.dim_core.specs.Outline.{Element, Outline, names_of, name_of, components_of}
 use Rattle.dim_core.specs.Written.{by_name, written, written_element, written_attribute}
 use Rattle.dim_core.specs.declared.attribute.Attribute.{Attribute}
-use Rattle.dim_text.specs.Spelled.{word_token, sign_token, text_token, number_token, weight_spelled, part_spelled, next_part_spelled, parts_spelled, spelled, defining, element_spelled, attribute_spelled}
-use Rattle.dim_text.specs.Writable.{IsQuotable, IsWritable}
+use Rattle.cube_lex.specs.Written.{word_token, sign_token, text_token}
+use Rattle.dim_text.specs.Spelled.{whole_token, weight_spelled, part_spelled, next_part_spelled, parts_spelled, spelled, defining, element_spelled, attribute_spelled}
+use Rattle.cube_lex.specs.Written.{IsQuotable}
+use Rattle.dim_text.specs.Writable.{IsWritable}
 
 -- a component with a weight below 0
 pub part_negative : (sign name : List ℕ) (w : ℤ) (n : ℕ) → n ≡ unsigned_abs w → w <ℤ pos 0
-    → sign_token sign ∷ text_token name ∷ sign_token (codes "*") ∷ sign_token (codes "-") ∷ number_token n ∷ [] ≡ sign_token sign ∷ part_spelled (name, w)
+    → sign_token sign ∷ text_token name ∷ sign_token (codes "*") ∷ sign_token (codes "-") ∷ whole_token n ∷ [] ≡ sign_token sign ∷ part_spelled (name, w)
 part_negative sign name (pos m) n size below = absurd (omega (arith, ints, below))
-part_negative sign name (negsuc m) n size below = ap (λ k. sign_token sign ∷ text_token name ∷ sign_token (codes "*") ∷ sign_token (codes "-") ∷ number_token k ∷ []) size
+part_negative sign name (negsuc m) n size below = ap (λ k. sign_token sign ∷ text_token name ∷ sign_token (codes "*") ∷ sign_token (codes "-") ∷ whole_token k ∷ []) size
 
-weight_more : (m : ℕ) → (m ≡ 1 → ⊥) → sign_token (codes "*") ∷ number_token m ∷ [] ≡ weight_spelled (pos m)
+weight_more : (m : ℕ) → (m ≡ 1 → ⊥) → sign_token (codes "*") ∷ whole_token m ∷ [] ≡ weight_spelled (pos m)
 weight_more m other = rw (ne_eqb m 1 other) refl
 
 -- with a weight from 0 on, but 1
 pub part_more : (sign name : List ℕ) (w : ℤ) (n : ℕ) → n ≡ unsigned_abs w → pos 0 ≤ℤ w → (n ≡ 1 → ⊥)
-    → sign_token sign ∷ text_token name ∷ sign_token (codes "*") ∷ number_token n ∷ [] ≡ sign_token sign ∷ part_spelled (name, w)
+    → sign_token sign ∷ text_token name ∷ sign_token (codes "*") ∷ whole_token n ∷ [] ≡ sign_token sign ∷ part_spelled (name, w)
 part_more sign name (pos m) n size above other =
     let same : n ≡ m = size in
-    ap (λ k. sign_token sign ∷ text_token name ∷ sign_token (codes "*") ∷ number_token k ∷ []) same
+    ap (λ k. sign_token sign ∷ text_token name ∷ sign_token (codes "*") ∷ whole_token k ∷ []) same
     ∙ ap (λ l. sign_token sign ∷ text_token name ∷ l) (weight_more m (λ one. other (same ∙ one)))
 part_more sign name (negsuc m) n size above other = absurd (omega (arith, ints, above))
 

@@ -1,7 +1,6 @@
 -- What tokens give can be written as tokens again.
 use Rattle.std.proofs.Common.{◌≡◌, ◌≤◌, ◌<◌, ◌+◌, ℕ, ℤ, List, [], ◌∷◌, ◌++◌, length, true, false, Ok, Err, Option, Some, None, Result, sym, ap, ◌∙◌, subst, inl, inr, ◌&&◌, arith, length-append, IfOk, OnOk}
 use Rattle.std.proofs.lemmas.List.Elements.{All-nil, All-cons, All-head, All-tail, All-push, All-take, All-drop}
-use Rattle.std.proofs.Math.Seq.{take-append_seam, drop-append_seam}
 use Rattle.std.specs.List.{All, AllZip}
 use Rattle.cube_lex.specs.Lexed.{IsWellFormed}
 use Rattle.cube_lex.specs.Lexeme.{Lexeme}
@@ -19,59 +18,21 @@ use Rattle.dim_core.specs.Draft.{Draft, IsFinished, empty_draft, with_element, w
 use Rattle.dim_core.specs.Outline.{Outline}
 use Rattle.dim_core.specs.declared.fault.DimFault.{DimFault}
 use Rattle.dim_core.specs.Refusal.{refusal_of, finish_refusal_of}
-use Rattle.grammar.specs.Cursor.{Gives}
 use Rattle.grammar.specs.declared.cursor.Unwatched.{Unwatched}
 use Rattle.grammar.specs.declared.stop.Stop.{Stop}
+use Rattle.grammar.proofs.Kept.{AreTokens, first_tokens, last_tokens, Keeps, keeps_any, keeps_done, keeps_one, keeps_both, keeps_either}
 use Rattle.grammar.proofs.Begins.{Begins, begins_both}
 use Rattle.grammar.proofs.Top.{read_told}
 use Rattle.dim_text.specs.Building.{add, opened, building, element_added, finished}
 use Rattle.dim_text.specs.Progress.{Progress, Text}
 use Rattle.dim_text.specs.Statement.{Statement, Head, Leaf, Consolidated, Attribute, End, Close, head, parts, leaf, consolidated, attribute, ending, closing, statement, unit, body}
-use Rattle.dim_text.specs.Reading.{read_head, read_body, is_element_word}
-use Rattle.dim_text.specs.Views.{head_view, GivesText}
+use Rattle.dim_text.specs.Readers.Reading.{read_head, read_body, is_element_word}
+use Rattle.dim_text.specs.Readers.Views.{GivesText}
 use Rattle.dim_text.specs.declared.fault.Refusal.{Refusal}
 use Rattle.dim_text.proofs.BlockExact.{body_exact}
 use Rattle.dim_text.proofs.ElementExact.{head_exact, end_begins}
-use Rattle.dim_text.specs.Writable.{IsQuotable, IsWritable}
-
--- Two halves of a list of tokens.
-
-abbrev pub AreTokens : List Lexeme → Type 0
-AreTokens ts = All IsWellFormed ts
-
-pub first_tokens : (u v : List Lexeme) → AreTokens (u ++ v) → AreTokens u
-first_tokens u v h = subst AreTokens (take-append_seam u v) (All-take IsWellFormed (length u) (u ++ v) h)
-
-pub last_tokens : (u v : List Lexeme) → AreTokens (u ++ v) → AreTokens v
-last_tokens u v h = subst AreTokens (drop-append_seam u v) (All-drop IsWellFormed (length u) (u ++ v) h)
-
--- Each tree that G reads from tokens has P.
-
-pub record Keeps {A : Type 0} (G : Grammar Lexeme A) (P : A → Type 0) : Type 0 where
-  pub at : (u : List Lexeme) (a : A) → AreTokens u → G u a → P a
-
-keeps_any : {A : Type 0} {G : Grammar Lexeme A} → Keeps G (λ _. Unit {0})
-keeps_any = record { at = λ u a tokens h. tt }
-
-keeps_done : {A : Type 0} {P : A → Type 0} {a : A} → P a → Keeps (done a) P
-keeps_done {P = P} p = record { at = λ u b tokens h. subst P (sym h.1) p }
-
-keeps_one : {A : Type 0} {pick : Lexeme → Option A} {P : A → Type 0} → ((t : Lexeme) (a : A) → IsWellFormed t → pick t ≡ Some a → P a) → Keeps (one pick) P
-keeps_one tells = record { at = λ u a tokens (t, is, picks). tells t a (All-head IsWellFormed t [] (subst AreTokens is tokens)) picks }
-
-keeps_both : {A B : Type 0} {G : Grammar Lexeme A} {K : A → Grammar Lexeme B} {P : A → Type 0} {Q : B → Type 0} → Keeps G P → ((a : A) → P a → Keeps (K a) Q) → Keeps (both G K) Q
-keeps_both g k = record {
-  at = λ u b tokens (v, w, a, parts, h, l). (
-      let whole : AreTokens (v ++ w) = subst AreTokens parts tokens in
-      (k a (g.at v a (first_tokens v w whole) h)).at w b (last_tokens v w whole) l);
-}
-
-keeps_either_at : {A : Type 0} {G H : Grammar Lexeme A} (P : A → Type 0) → Keeps G P → Keeps H P → (u : List Lexeme) (a : A) → AreTokens u → either G H u a → P a
-keeps_either_at P g h u a tokens (inl e) = g.at u a tokens e
-keeps_either_at P g h u a tokens (inr e) = h.at u a tokens e
-
-keeps_either : {A : Type 0} {G H : Grammar Lexeme A} {P : A → Type 0} → Keeps G P → Keeps H P → Keeps (either G H) P
-keeps_either {P = P} g h = record { at = keeps_either_at P g h }
+use Rattle.cube_lex.specs.Written.{IsQuotable}
+use Rattle.dim_text.specs.Writable.{IsWritable}
 
 -- Texts and names.
 
@@ -198,12 +159,11 @@ finished_writable draft d w h = record {
 -- What is read of tokens.
 
 -- a head that was read
-pub head_told : (result : Result (ℕ × List ℕ) (Stop Refusal)) (state : Unwatched) (ts left : List Lexeme) → AreTokens ts → Gives head_view result state left (read_head (record {}) ts) → IfOk result (λ x. IsQuotable x.1) × OnOk result (AreTokens left)
-head_told (Ok x) state ts left tokens read =
-    let (text, parts, is) = read_told head_exact (record {}) ts (Head x.0 x.1) state left read in
+pub head_told : (line : ℕ) (shown : List ℕ) (state : Unwatched) (ts left : List Lexeme) → AreTokens ts → read_head (record {}) ts ≡ Ok (Head line shown, state, left) → IsQuotable shown × AreTokens left
+head_told line shown state ts left tokens read =
+    let (text, parts, is) = read_told head_exact (record {}) ts (Head line shown) state left read in
     let whole : AreTokens (text ++ left) = subst AreTokens parts tokens in
-    (head_keeps.at text (Head x.0 x.1) (first_tokens text left whole) is.text, last_tokens text left whole)
-head_told (Err stop) state ts left tokens read = (tt, tt)
+    (head_keeps.at text (Head line shown) (first_tokens text left whole) is.text, last_tokens text left whole)
 
 -- the end of a block has a token
 ending_begins : Begins (unit ending) is_element_word false

@@ -22,7 +22,7 @@ use Rattle.dim_text.specs.Building.{add, building, element_added, finished, open
 use Rattle.dim_text.specs.Progress.{Progress}
 use Rattle.dim_text.specs.Spelled.{spelled, defining, element_spelled, attribute_spelled, body_spelled}
 use Rattle.dim_text.specs.Statement.{Statement, Attribute, End, Close, element, unit, body}
-use Rattle.dim_text.proofs.Spells.{split_at, spells_many}
+use Rattle.grammar.proofs.Spells.{split_at, spells_many}
 use Rattle.dim_text.proofs.SpelledStatements.{IsPart, IsSame, defining_spells, attribute_element_spells, ending_spells, closing_spells}
 
 -- One statement.

@@ -16,9 +16,10 @@ use Rattle.grammar.specs.Grammar.{done, one, both, many}
 use Rattle.grammar.specs.Tokens.{is_text_kind, is_number_kind, is_sign_kind, is_word_kind, sign, word, name, text, whole}
 use Rattle.grammar.proofs.Tokens.{bytes_eq_self}
 use Rattle.dim_core.specs.Outline.{IsWeight}
-use Rattle.dim_text.specs.Spelled.{word_token, sign_token, text_token, number_token, weight_spelled, part_spelled, next_part_spelled, parts_spelled, spelled, defining}
+use Rattle.cube_lex.specs.Written.{word_token, sign_token, text_token}
+use Rattle.dim_text.specs.Spelled.{whole_token, weight_spelled, part_spelled, next_part_spelled, parts_spelled, spelled, defining}
 use Rattle.dim_text.specs.Statement.{Statement, Head, Leaf, Consolidated, Attribute, End, Close, signed, head, weight, part, parts, leaf, consolidated, attribute, element, ending, closing}
-use Rattle.dim_text.proofs.Spells.{Spells, Picks, spells_done, spells_next, spells_both, spells_left, spells_right, spells_made, spells_many}
+use Rattle.grammar.proofs.Spells.{Spells, Picks, spells_done, spells_next, spells_both, spells_left, spells_right, spells_made, spells_many}
 
 -- One token.
 
@@ -66,7 +67,7 @@ digits_pass : (bytes : List ℕ) → IsDigits bytes → list_all is_ascii_digit 
 digits_pass [] is = absurd is
 digits_pass (b ∷ bs) is = is
 
-pub picks_whole : (n : ℕ) → n < 2 ^ 31 → Picks whole (number_token n) (λ value. value ≡ n)
+pub picks_whole : (n : ℕ) → n < 2 ^ 31 → Picks whole (whole_token n) (λ value. value ≡ n)
 picks_whole n small = record {
   at = λ t e. (
       let wide : n < 2 ^ 64 = omega arith in
@@ -82,7 +83,7 @@ picks_whole n small = record {
 small_weight : (n : ℕ) → n ≤ 1000000 → n < 2 ^ 31
 small_weight n h = omega arith
 
-one_or_more : (n : ℕ) → n ≤ 1000000 → (b : Bool) → (n == 1) ≡ b → Spells weight (cond b [] (sign_token (codes "*") ∷ number_token n ∷ [])) (λ w. w ≡ pos n)
+one_or_more : (n : ℕ) → n ≤ 1000000 → (b : Bool) → (n == 1) ≡ b → Spells weight (cond b [] (sign_token (codes "*") ∷ whole_token n ∷ [])) (λ w. w ≡ pos n)
 one_or_more n small true e = spells_right (spells_done (pos 1) (ap pos (sym (eqb-true n 1 e))))
 one_or_more n small false e = spells_left (spells_next (picks_sign (codes "*")) (λ _ _. spells_both {xs = []} {P = λ b. b ≡ false} (spells_right (spells_done false refl))
     (λ negative plus. spells_next (picks_whole n (small_weight n small)) (λ m same. spells_done (signed negative m) (ap (λ b. signed b m) plus ∙ ap pos same)))))

@@ -9,7 +9,8 @@ use Rattle.dim_text.specs.declared.fault.DimTextFault.{DimTextFault}
 use Rattle.dim_text.specs.declared.fault.DimTextCause.{DimTextCause}
 use Rattle.dim_text.specs.declared.fault.DimTextCause.TheVariants as causes
 
--- the first tokens are a block, whose statements build this text; the rest begins at this place, where the tokens begin at from
+-- the first tokens are a block, whose statements build this text; the rest begins at this place, where the tokens begin
+-- at from
 pub record IsBlock (tokens : List Lexeme) (from : ℕ) (text : Text) (next : ℕ) : Type 0 where
   pub block : List Lexeme
   pub rest : List Lexeme
@@ -19,10 +20,16 @@ pub record IsBlock (tokens : List Lexeme) (from : ℕ) (text : Text) (next : ℕ
   pub text_of : IsText dimension building nothing block tt built
   pub is_built : IsBuilt text built
 
+-- no front part of the tokens is a block
+abbrev pub BeginsNoBlock : List Lexeme → Type 0
+BeginsNoBlock tokens = (block rest : List Lexeme) → tokens ≡ block ++ rest → dimension block tt → ⊥
+
 -- this is the first fault, on this line
 abbrev pub IsFault : List Lexeme → ℕ → ℕ → DimTextCause → Type 0
-IsFault tokens end_line line causes.Syntax = IsSyntax (λ t. t.line) dimension building nothing tokens end_line line
-IsFault tokens end_line line (causes.Dim fault) = IsRefused dimension building nothing tokens (record { line = line; fault = fault })
+IsFault tokens end_line line causes.Syntax =
+    BeginsNoBlock tokens × IsSyntax (λ t. t.line) dimension building nothing tokens end_line line
+IsFault tokens end_line line (causes.Dim fault) =
+    IsRefused dimension building nothing tokens (record { line = line; fault = fault })
 IsFault tokens end_line line causes.Memory = line ≡ 0
 
 abbrev pub Answers : List Lexeme → ℕ → ℕ → Result (Text × ℕ) DimTextFault → Type 0

@@ -18,7 +18,8 @@ opened line shown = record { head = line; draft = empty_draft shown; lines = [];
 abbrev pub nothing : Progress
 nothing = opened 0 []
 
--- the line of the statement that a fault of the whole dimension names, among the lines of the elements and of the attributes
+-- the line of the statement that a fault of the whole dimension names, among the lines of the elements and of the
+-- attributes
 abbrev pub line_of : List ℕ → List ℕ → DimFault → ℕ
 line_of lines attribute_lines (faults.UnknownComponent element) = slice_index lines element
 line_of lines attribute_lines (faults.BadAttribute at) = slice_index attribute_lines (at - 1)
@@ -26,7 +27,8 @@ line_of lines attribute_lines (faults.Loop element) = slice_index lines element
 line_of lines attribute_lines _ = 0
 
 abbrev pub element_added : Progress → ℕ → List ℕ → List (List ℕ × ℤ) → Option DimFault → Result Progress Refusal
-element_added p line shown components None = Ok (record p { draft = with_element p.draft shown components; lines = p.lines ++ line ∷ [] })
+element_added p line shown components None =
+    Ok (record p { draft = with_element p.draft shown components; lines = p.lines ++ line ∷ [] })
 element_added p line shown components (Some fault) = Err (record { line = line; fault = fault })
 
 abbrev pub finished : Progress → Option DimFault → Result Progress Refusal
@@ -37,8 +39,12 @@ finished p (Some fault) = Err (record { line = line_of p.lines p.attribute_lines
 abbrev pub add : Progress → Statement → Result Progress Refusal
 add p (Head line shown) = Ok (opened line shown)
 add p (Leaf line shown) = element_added p line shown [] (refusal_of p.draft shown [])
-add p (Consolidated line shown components) = element_added p line shown components (refusal_of p.draft shown components)
-add p (Attribute line shown called value) = Ok (record p { draft = with_attribute p.draft shown called value; attribute_lines = p.attribute_lines ++ line ∷ [] })
+add p (Consolidated line shown components) =
+    element_added p line shown components (refusal_of p.draft shown components)
+add p (Attribute line shown called value) = Ok (record p {
+  draft = with_attribute p.draft shown called value;
+  attribute_lines = p.attribute_lines ++ line ∷ [];
+})
 add p (End line) = finished p (finish_refusal_of p.draft)
 add p Close = Ok p
 

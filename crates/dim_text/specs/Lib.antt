@@ -1,10 +1,8 @@
 pub mod Progress
 pub mod Statement
 pub mod Building
-pub mod Reading
-pub mod Views
 pub mod Answers
 pub mod Writable
 pub mod Spelled
-pub mod Piece
 pub mod Printed
+pub mod Readers

@@ -1,31 +1,19 @@
 -- How a dimension is written, token by token.
 use Rattle.std.specs.Prelude.{ℕ, suc, ℤ, pos, negsuc, ◌==◌, List, [], ◌∷◌, ◌++◌, codes, decimal, if◌then◌else◌}
 use Rattle.std.specs.List.{flat_map}
-use Rattle.cube_lex.specs.Quoted.{quoted}
-use Rattle.cube_lex.specs.Written.{Spelling}
-use Rattle.cube_lex.specs.declared.token.Kind.TheVariants as kinds
+use Rattle.cube_lex.specs.Written.{Spelling, word_token, sign_token, text_token, number_token}
 use Rattle.dim_core.specs.Draft.{Draft}
 use Rattle.dim_core.specs.Outline.{Element}
 use Rattle.dim_core.specs.declared.attribute.NamedAttribute.{NamedAttribute}
 use Rattle.dim_text.specs.Statement.{Statement, Head, Leaf, Consolidated, Attribute, End, Close}
 
-abbrev pub word_token : List ℕ → Spelling
-word_token word = record { kind = kinds.Word; piece = word }
-
-abbrev pub sign_token : List ℕ → Spelling
-sign_token sign = record { kind = kinds.Sign; piece = sign }
-
--- the bytes in quotes
-abbrev pub text_token : List ℕ → Spelling
-text_token bytes = record { kind = kinds.Text; piece = quoted bytes }
-
-abbrev pub number_token : ℕ → Spelling
-number_token n = record { kind = kinds.Number; piece = decimal n }
+abbrev pub whole_token : ℕ → Spelling
+whole_token n = number_token (decimal n)
 
 -- a weight of 1 isn't written
 abbrev pub weight_spelled : ℤ → List Spelling
-weight_spelled (pos n) = if n == 1 then [] else sign_token (codes "*") ∷ number_token n ∷ []
-weight_spelled (negsuc n) = sign_token (codes "*") ∷ sign_token (codes "-") ∷ number_token (suc n) ∷ []
+weight_spelled (pos n) = if n == 1 then [] else sign_token (codes "*") ∷ whole_token n ∷ []
+weight_spelled (negsuc n) = sign_token (codes "*") ∷ sign_token (codes "-") ∷ whole_token (suc n) ∷ []
 
 abbrev pub part_spelled : List ℕ × ℤ → List Spelling
 part_spelled part = text_token part.0 ∷ weight_spelled part.1
@@ -40,9 +28,11 @@ parts_spelled (first ∷ rest) = sign_token (codes ":") ∷ (part_spelled first 
 abbrev pub spelled : Statement → List Spelling
 spelled (Head line shown) = word_token (codes "DIM") ∷ text_token shown ∷ sign_token (codes ";") ∷ []
 spelled (Leaf line shown) = word_token (codes "N") ∷ text_token shown ∷ sign_token (codes ";") ∷ []
-spelled (Consolidated line shown components) = word_token (codes "C") ∷ text_token shown ∷ (parts_spelled components ++ sign_token (codes ";") ∷ [])
+spelled (Consolidated line shown components) =
+    word_token (codes "C") ∷ text_token shown ∷ (parts_spelled components ++ sign_token (codes ";") ∷ [])
 spelled (Attribute line shown called value) =
-    word_token (codes "A") ∷ text_token shown ∷ text_token called ∷ sign_token (codes "=") ∷ text_token value ∷ sign_token (codes ";") ∷ []
+    word_token (codes "A") ∷ text_token shown ∷ text_token called ∷ sign_token (codes "=")
+    ∷ text_token value ∷ sign_token (codes ";") ∷ []
 spelled (End line) = word_token (codes "END") ∷ []
 spelled Close = sign_token (codes ";") ∷ []
 
@@ -59,7 +49,9 @@ attribute_spelled a = spelled (Attribute 0 a.element a.name a.text)
 
 -- the elements, the attributes and the end
 abbrev pub body_spelled : Draft → List Spelling
-body_spelled draft = flat_map element_spelled draft.elements ++ (flat_map attribute_spelled draft.attributes ++ (spelled (End 0) ++ spelled Close))
+body_spelled draft =
+    flat_map element_spelled draft.elements
+    ++ (flat_map attribute_spelled draft.attributes ++ (spelled (End 0) ++ spelled Close))
 
 abbrev pub head_spelled : List ℕ → List Spelling
 head_spelled shown = spelled (Head 0 shown)

@@ -2,6 +2,7 @@
 use Rattle.std.specs.Prelude.{ℕ, ℤ, pos, neg_ℤ, List, [], ◌∷◌, Bool, true, false, codes}
 use Rattle.cube_lex.specs.Lexeme.{Lexeme}
 use Rattle.grammar.specs.Grammar.{Grammar, done, one, either, many, ◌>>=◌, ◌>>◌}
+use Rattle.grammar.specs.Lists.{minus, listed}
 use Rattle.grammar.specs.Tokens.{sign, word, whole, name, text}
 
 -- a statement, with the line of its first word
@@ -29,10 +30,6 @@ head = do
   one (sign (codes ";"))
   done (Head line shown)
 
--- [ "-" ]
-abbrev pub minus : Grammar Lexeme Bool
-minus = either (do one (sign (codes "-")); done true) (done false)
-
 -- [ "*" [ "-" ] whole ]
 abbrev pub weight : Grammar Lexeme ℤ
 weight = either (do one (sign (codes "*")); negative ← minus; n ← one whole; done (signed negative n)) (done (pos 1))
@@ -46,7 +43,11 @@ part = do
 
 -- [ ":" part { "," part } ]
 abbrev pub parts : Grammar Lexeme (List (List ℕ × ℤ))
-parts = either (do one (sign (codes ":")); first ← part; rest ← many (do one (sign (codes ",")); part); done (first ∷ rest)) (done [])
+parts = either
+    (do
+      one (sign (codes ":"))
+      listed part part)
+    (done [])
 
 -- "N" name ";"
 abbrev pub leaf : Grammar Lexeme Statement

@@ -4,65 +4,69 @@ ghost use Rattle.grammar.specs.Cursor.{lexemes};
 ghost use Rattle.dim_text.specs.Answers.{Answers};
 ghost use Rattle.dim_text.specs.Building.{nothing, opened};
 ghost use Rattle.dim_text.specs.Progress.{Progress, IsBuilt};
-ghost use Rattle.dim_text.specs.Reading.{read_elements, read_ending, read_closing, read_body, read_block};
-ghost use Rattle.dim_text.specs.Views.{GivesWork, GivesEnd, GivesText, Explains};
-ghost use Rattle.dim_text.specs.Writable.{IsQuotable};
+ghost use Rattle.dim_text.specs.Readers.Reading.{read_elements, read_ending, read_closing, read_body, read_block};
+ghost use Rattle.dim_text.specs.Readers.Views.{GivesPartial, GivesEnd, GivesText, Explains, ahead};
+ghost use Rattle.cube_lex.specs.Written.{IsQuotable};
 
 use crate::element::{element_at, element_comes, head_at};
 use crate::fault::{DimTextCause, DimTextFault, Refusal};
+use crate::partial::PartialBlock;
 use crate::text::{Block, DimText};
-use crate::work::Work;
 use cube_lex::{Token, Tokens};
 use dim_core::Name;
 use grammar::{Cursor, Stop, Unwatched, line_left, sign, word};
 use std::alloc::Global;
 
 // Reads the elements.
-#[tactic(auto, unfolding(crate::specs::Reading::read_elements))]
+#[tactic(auto, unfolding(crate::specs::Readers::Reading::read_elements))]
 fn elements_at(
     alloc: Global,
     cursor: &mut Cursor<'_, Unwatched>,
-    mut work: Work,
-) -> Result<Work, Stop<Refusal>>
-    ensures { GivesWork result (lexemes cursor.new.tokens.now) (read_elements work (lexemes cursor.old.tokens.now)) }
+    mut block: PartialBlock,
+) -> Result<PartialBlock, Stop<Refusal>>
+    ensures { GivesPartial result (ahead cursor.new) (read_elements block (ahead cursor.old)) }
 {
     'element: while element_comes(cursor) {
         let element = element_at(alloc, cursor)?;
-        work.add(element)?;
+        block.add(element)?;
     }
-    Ok(work)
+    Ok(block)
 }
 
 // Reads `END`.
-#[tactic(auto, unfolding(crate::specs::Reading::read_ending, crate::specs::Reading::read_end))]
-fn ending_at(cursor: &mut Cursor<'_, Unwatched>, work: Work) -> Result<Block, Stop<Refusal>>
-    ensures { GivesEnd result work (lexemes cursor.new.tokens.now) (read_ending work (lexemes cursor.old.tokens.now)) }
+#[tactic(auto, unfolding(crate::specs::Readers::Reading::read_ending, crate::specs::Readers::Reading::read_end))]
+fn ending_at(
+    cursor: &mut Cursor<'_, Unwatched>,
+    block: PartialBlock,
+) -> Result<Block, Stop<Refusal>>
+    ensures { GivesEnd result block (ahead cursor.new) (read_ending block (ahead cursor.old)) }
 {
     word(cursor, b"END")?;
-    work.finish()
+    block.finish()
 }
 
 // Reads the last `;`.
-#[tactic(auto, unfolding(crate::specs::Reading::read_closing, crate::specs::Reading::read_close))]
+#[tactic(auto, unfolding(crate::specs::Readers::Reading::read_closing, crate::specs::Readers::Reading::read_close))]
 fn closing_at(cursor: &mut Cursor<'_, Unwatched>, block: Block) -> Result<Block, Stop<Refusal>>
-    ensures { (p : Progress) → IsBuilt block p → GivesEnd result p (lexemes cursor.new.tokens.now) (read_closing p (lexemes cursor.old.tokens.now)) }
+    ensures { (p : Progress) → IsBuilt block p
+        → GivesEnd result p (ahead cursor.new) (read_closing p (ahead cursor.old)) }
 {
     sign(cursor, b";")?;
     Ok(block)
 }
 
 // Reads what stands behind the head.
-#[tactic(auto, unfolding(crate::specs::Reading::read_body))]
+#[tactic(auto, unfolding(crate::specs::Readers::Reading::read_body))]
 fn statements_at(
     alloc: Global,
     cursor: &mut Cursor<'_, Unwatched>,
     head: u32,
     name: Name,
 ) -> Result<Block, Stop<Refusal>>
-    ensures { GivesText result (lexemes cursor.new.tokens.now) (read_body (opened head name) (lexemes cursor.old.tokens.now)) }
+    ensures { GivesText result (ahead cursor.new) (read_body (opened head name) (ahead cursor.old)) }
 {
-    let work = elements_at(alloc, cursor, Work::new(alloc, head, name)?)?;
-    let block = ending_at(cursor, work)?;
+    let partial = elements_at(alloc, cursor, PartialBlock::new(alloc, head, name)?)?;
+    let block = ending_at(cursor, partial)?;
     closing_at(cursor, block)
 }
 
@@ -73,11 +77,11 @@ pub fn body_at(
     head: u32,
     name: Name,
 ) -> Result<DimText, Stop<Refusal>>
-    requires tokens { All IsWellFormed (lexemes cursor.now.tokens.now) }
+    requires tokens { All IsWellFormed (ahead cursor.now) }
     requires name { IsQuotable name }
-    ensures read { GivesText result (lexemes cursor.new.tokens.now) (read_body (opened head name) (lexemes cursor.old.tokens.now)) }
+    ensures read { GivesText result (ahead cursor.new) (read_body (opened head name) (ahead cursor.old)) }
     ensures shorter { OnOk result (length cursor.new.tokens.now < length cursor.old.tokens.now) }
-    ensures rest { OnOk result (All IsWellFormed (lexemes cursor.new.tokens.now)) }
+    ensures rest { OnOk result (All IsWellFormed (ahead cursor.new)) }
 {
     match statements_at(alloc, cursor, head, name) {
         Ok(block) => Ok(DimText::new(block)),
@@ -85,13 +89,11 @@ pub fn body_at(
     }
 }
 
-/// Reads a block, `DIM name ; { element } END ;`.
-#[tactic(auto, unfolding(crate::specs::Reading::read_block, crate::specs::Reading::read_opening))]
-pub fn block_at(alloc: Global, cursor: &mut Cursor<'_, Unwatched>) -> Result<DimText, Stop<Refusal>>
-    requires { All IsWellFormed (lexemes cursor.now.tokens.now) }
-    ensures read { GivesText result (lexemes cursor.new.tokens.now) (read_block nothing (lexemes cursor.old.tokens.now)) }
-    ensures shorter { OnOk result (length cursor.new.tokens.now < length cursor.old.tokens.now) }
-    ensures rest { OnOk result (All IsWellFormed (lexemes cursor.new.tokens.now)) }
+// Reads a block, `DIM name ; { element } END ;`.
+#[tactic(auto, unfolding(crate::specs::Readers::Reading::read_block, crate::specs::Readers::Reading::read_opening))]
+fn block_at(alloc: Global, cursor: &mut Cursor<'_, Unwatched>) -> Result<DimText, Stop<Refusal>>
+    requires { All IsWellFormed (ahead cursor.now) }
+    ensures { GivesText result (ahead cursor.new) (read_block nothing (ahead cursor.old)) }
 {
     let (head, name) = head_at(alloc, cursor)?;
     body_at(alloc, cursor, head, name)
@@ -106,7 +108,7 @@ fn fault_of(tokens: &[Token<'_>], end_line: u32, stop: Stop<Refusal>) -> DimText
             line: 0,
             cause: DimTextCause::Memory,
         },
-        Stop::Dead(left) => DimTextFault {
+        Stop::Unexpected(left) => DimTextFault {
             line: line_left(tokens, end_line, left),
             cause: DimTextCause::Syntax,
         },

@@ -1,15 +1,16 @@
-ghost use Rattle.std.specs.Prelude.{◌≡◌, ◌<◌, ◌≤◌, length, All, IfOk, OnOk, codes};
-ghost use Rattle.cube_lex.specs.Lexed.{IsWellFormed};
+ghost use Rattle.std.specs.Prelude.{◌≡◌, codes};
 ghost use Rattle.grammar.specs.Cursor.{lexemes, Reads};
 ghost use Rattle.grammar.specs.Reading.{starts};
-ghost use Rattle.dim_text.specs.Reading as reading;
+ghost use Rattle.dim_text.specs.Readers.Reading as reading;
 ghost use Rattle.dim_text.specs.Statement.{signed};
-ghost use Rattle.dim_text.specs.Views.{element_view, head_view};
-ghost use Rattle.dim_text.specs.Writable.{IsQuotable};
+ghost use Rattle.dim_text.specs.Readers.Views.{element_view, head_view};
 
 use crate::fault::Refusal;
 use dim_core::Name;
-use grammar::{Cursor, Stop, Unwatched, name, sign, sign_comes, text, whole, word, word_comes};
+use grammar::{
+    Cursor, Item, Stop, Unwatched, listed, minus, name, sign, sign_comes, text, whole, word,
+    word_comes,
+};
 use std::alloc::Global;
 
 /// A statement of a block, with the line of its first word.
@@ -23,45 +24,17 @@ pub enum Element {
 }
 
 /// Reads the head of a block, `DIM name ;`, and gives its line and its name.
+#[tactic(auto, unfolding(crate::specs::Readers::Reading::read_head))]
 pub fn head_at(
     alloc: Global,
     cursor: &mut Cursor<'_, Unwatched>,
 ) -> Result<(u32, Name), Stop<Refusal>>
-    ensures read { Reads head_view reading.read_head cursor.old result cursor.new }
-    ensures shorter { OnOk result (length cursor.new.tokens.now < length cursor.old.tokens.now) }
-    // From the tokens of a text comes a name that can be written.
-    ensures quotable { All IsWellFormed (lexemes cursor.old.tokens.now) → IfOk result (λ head. IsQuotable head.1) }
-    ensures rest { All IsWellFormed (lexemes cursor.old.tokens.now) → OnOk result (All IsWellFormed (lexemes cursor.new.tokens.now)) }
-{
-    head_words(alloc, cursor)
-}
-
-#[tactic(auto, unfolding(crate::specs::Reading::read_head))]
-fn head_words(
-    alloc: Global,
-    cursor: &mut Cursor<'_, Unwatched>,
-) -> Result<(u32, Name), Stop<Refusal>>
-    ensures read { Reads head_view reading.read_head cursor.old result cursor.new }
-    ensures shorter { OnOk result (length cursor.new.tokens.now < length cursor.old.tokens.now) }
+    ensures { Reads head_view reading.read_head cursor.old result cursor.new }
 {
     let line = word(cursor, b"DIM")?;
     let shown = name(alloc, cursor)?;
     sign(cursor, b";")?;
     Ok((line, shown))
-}
-
-/// Reads an optional `-`.
-#[tactic(auto, unfolding(crate::specs::Reading::read_minus))]
-fn minus_at(cursor: &mut Cursor<'_, Unwatched>) -> Result<bool, Stop<Refusal>>
-    ensures read { Reads (λ negative. negative) reading.read_minus cursor.old result cursor.new }
-    ensures no_longer { OnOk result (length cursor.new.tokens.now ≤ length cursor.old.tokens.now) }
-{
-    if sign_comes(cursor, b"-") {
-        sign(cursor, b"-")?;
-        Ok(true)
-    } else {
-        Ok(false)
-    }
 }
 
 fn signed(negative: bool, n: u32) -> i64
@@ -75,14 +48,13 @@ fn signed(negative: bool, n: u32) -> i64
 }
 
 /// Reads an optional `*` with its weight. A weight that isn't given is 1.
-#[tactic(auto, unfolding(crate::specs::Reading::read_weight))]
+#[tactic(auto, unfolding(crate::specs::Readers::Reading::read_weight))]
 fn weight_at(cursor: &mut Cursor<'_, Unwatched>) -> Result<i64, Stop<Refusal>>
-    ensures read { Reads (λ weight. weight) reading.read_weight cursor.old result cursor.new }
-    ensures no_longer { OnOk result (length cursor.new.tokens.now ≤ length cursor.old.tokens.now) }
+    ensures { Reads (λ weight. weight) reading.read_weight cursor.old result cursor.new }
 {
     if sign_comes(cursor, b"*") {
         sign(cursor, b"*")?;
-        let negative = minus_at(cursor)?;
+        let negative = minus(cursor)?;
         let n = whole(cursor)?;
         Ok(signed(negative, n))
     } else {
@@ -91,49 +63,29 @@ fn weight_at(cursor: &mut Cursor<'_, Unwatched>) -> Result<i64, Stop<Refusal>>
 }
 
 /// Reads a component with its weight.
-#[tactic(auto, unfolding(crate::specs::Reading::read_part))]
-fn part_at(alloc: Global, cursor: &mut Cursor<'_, Unwatched>) -> Result<(Name, i64), Stop<Refusal>>
-    ensures read { Reads (λ part. part) reading.read_part cursor.old result cursor.new }
-    ensures shorter { OnOk result (length cursor.new.tokens.now < length cursor.old.tokens.now) }
-{
-    let shown = name(alloc, cursor)?;
-    let weight = weight_at(cursor)?;
-    Ok((shown, weight))
-}
+struct Part;
 
-/// Reads a further component, behind its `,`.
-#[tactic(auto, unfolding(crate::specs::Reading::read_next_part))]
-fn next_part_at(
-    alloc: Global,
-    cursor: &mut Cursor<'_, Unwatched>,
-) -> Result<(Name, i64), Stop<Refusal>>
-    ensures read { Reads (λ part. part) reading.read_next_part cursor.old result cursor.new }
-    ensures shorter { OnOk result (length cursor.new.tokens.now < length cursor.old.tokens.now) }
-{
-    sign(cursor, b",")?;
-    part_at(alloc, cursor)
-}
+impl Item<(Name, i64), Refusal, Unwatched> for Part {
+    ghost use Rattle.dim_text.specs.Readers.Reading.{read_part};
 
-/// Reads the components behind the first.
-#[tactic(auto, unfolding(crate::specs::Reading::read_further))]
-fn further_parts(
-    alloc: Global,
-    cursor: &mut Cursor<'_, Unwatched>,
-    first: (Name, i64),
-) -> Result<Vec<(Name, i64)>, Stop<Refusal>>
-    ensures { Reads (λ parts. parts.items) (reading.read_further first) cursor.old result cursor.new }
-{
-    let mut parts = Vec::new(alloc);
-    parts.push(first)?;
-    'part: while sign_comes(cursor, b",") {
-        let part = next_part_at(alloc, cursor)?;
-        parts.push(part)?;
+    ghost may_read = { λ _. Unit {0} };
+
+    ghost reads = { λ _. read_part };
+
+    #[tactic(auto, unfolding(crate::specs::Readers::Reading::read_part))]
+    fn read(
+        &self,
+        alloc: Global,
+        cursor: &mut Cursor<'_, Unwatched>,
+    ) -> Result<(Name, i64), Stop<Refusal>> {
+        let shown = name(alloc, cursor)?;
+        let weight = weight_at(cursor)?;
+        Ok((shown, weight))
     }
-    Ok(parts)
 }
 
 /// Reads the components of an element, if there are any.
-#[tactic(auto, unfolding(crate::specs::Reading::read_parts))]
+#[tactic(auto, unfolding(crate::specs::Readers::Reading::read_parts))]
 fn parts_at(
     alloc: Global,
     cursor: &mut Cursor<'_, Unwatched>,
@@ -142,15 +94,15 @@ fn parts_at(
 {
     if sign_comes(cursor, b":") {
         sign(cursor, b":")?;
-        let first = part_at(alloc, cursor)?;
-        further_parts(alloc, cursor, first)
+        let parts = listed(alloc, cursor, &Part)?;
+        Ok(parts.into_vec())
     } else {
         Ok(Vec::new(alloc))
     }
 }
 
 /// Reads `N name ;`.
-#[tactic(auto, unfolding(crate::specs::Reading::read_leaf))]
+#[tactic(auto, unfolding(crate::specs::Readers::Reading::read_leaf))]
 fn leaf_at(alloc: Global, cursor: &mut Cursor<'_, Unwatched>) -> Result<Element, Stop<Refusal>>
     ensures { Reads element_view reading.read_leaf cursor.old result cursor.new }
 {
@@ -161,7 +113,7 @@ fn leaf_at(alloc: Global, cursor: &mut Cursor<'_, Unwatched>) -> Result<Element,
 }
 
 /// Reads `C name [ : part { , part } ] ;`.
-#[tactic(auto, unfolding(crate::specs::Reading::read_consolidated))]
+#[tactic(auto, unfolding(crate::specs::Readers::Reading::read_consolidated))]
 fn consolidated_at(
     alloc: Global,
     cursor: &mut Cursor<'_, Unwatched>,
@@ -176,7 +128,7 @@ fn consolidated_at(
 }
 
 /// Reads `A name name = Text ;`.
-#[tactic(auto, unfolding(crate::specs::Reading::read_attribute))]
+#[tactic(auto, unfolding(crate::specs::Readers::Reading::read_attribute))]
 fn attribute_at(alloc: Global, cursor: &mut Cursor<'_, Unwatched>) -> Result<Element, Stop<Refusal>>
     ensures { Reads element_view reading.read_attribute cursor.old result cursor.new }
 {
@@ -197,7 +149,7 @@ pub fn element_comes(cursor: &Cursor<'_, Unwatched>) -> bool
 }
 
 /// Reads an element's statement.
-#[tactic(auto, unfolding(crate::specs::Reading::read_element))]
+#[tactic(auto, unfolding(crate::specs::Readers::Reading::read_element))]
 pub fn element_at(
     alloc: Global,
     cursor: &mut Cursor<'_, Unwatched>,

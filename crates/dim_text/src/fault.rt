@@ -10,11 +10,11 @@ pub struct DimTextFault {
 /// The cause of a refusal.
 #[derive(Debug, Drop)]
 pub enum DimTextCause {
-    /// The line has the first token with which the tokens so far begin no block; where all tokens begin one but are none, it is
-    /// the line of the text's end.
+    /// No front part of the tokens is a block. The line has the first token with which the tokens so far begin no
+    /// block; where all tokens begin one but are none, it is the line of the text's end.
     Syntax,
-    /// A statement that the dimension doesn't take, on the line of its first word. Where the whole dimension is refused it is the
-    /// line of the element that is named. It holds no want of memory.
+    /// A statement that the dimension doesn't take, on the line of its first word. Where the whole dimension is refused
+    /// it is the line of the element that is named. It holds no want of memory.
     Dim(DimFault),
     /// Want of memory.
     Memory,

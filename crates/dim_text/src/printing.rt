@@ -1,15 +1,18 @@
 ghost use Rattle.std.specs.Prelude.{◌≡◌, ◌++◌, ◌∷◌, [], ◌<◌, ℕ, length, All, IsTrue, OnOk, OnErr, codes};
 ghost use Rattle.std.specs.List.{flat_map};
 ghost use Rattle.cube_lex.specs.Parts.{is_sign};
-ghost use Rattle.cube_lex.specs.Written.{Adds};
+ghost use Rattle.cube_lex.specs.Written.{Spaces, Writes};
 ghost use Rattle.dim_core.specs.Outline.{IsDimension, names_of, name_of, components_of};
 ghost use Rattle.dim_core.specs.Written.{by_name, written, written_attribute};
 ghost use Rattle.dim_text.specs.Printed.{IsPrinted};
-ghost use Rattle.dim_text.specs.Spelled.{sign_token, part_spelled, next_part_spelled, parts_spelled, spelled, defining, element_spelled, attribute_spelled, draft_spelled};
-ghost use Rattle.dim_text.specs.Writable.{IsQuotable, IsWritable};
+ghost use Rattle.cube_lex.specs.Written.{sign_token};
+ghost use Rattle.dim_text.specs.Spelled.{part_spelled, next_part_spelled, parts_spelled};
+ghost use Rattle.dim_text.specs.Spelled.{spelled, defining, element_spelled, attribute_spelled, draft_spelled};
+ghost use Rattle.cube_lex.specs.Written.{IsQuotable};
+ghost use Rattle.dim_text.specs.Writable.{IsWritable};
 
-use crate::pieces::{Piece, write_line, write_pieces};
 use crate::text::DimText;
+use cube_lex::{Piece, write_line, write_pieces};
 use dim_core::{Attribute, Dimension};
 use std::alloc::{AllocError, Global};
 
@@ -34,7 +37,8 @@ fn write_part<'a>(
     requires writable { IsWritable dimension.now }
     requires sign { IsTrue (is_sign sign.now) }
     requires within { part.now.0 < length dimension.now.elements }
-    ensures { OnOk result (Adds out.old.items out.new.items (sign_token sign.now ∷ part_spelled (name_of dimension.now part.now.0, part.now.1))) }
+    ensures { OnOk result (Spaces out.old.items out.new.items
+        (sign_token sign.now ∷ part_spelled (name_of dimension.now part.now.0, part.now.1))) }
 {
     let name = shown_of(dimension, part.0);
     let weight = part.1;
@@ -70,7 +74,8 @@ fn write_further(
 ) -> Result<(), AllocError>
     requires writable { IsWritable dimension.now }
     requires within { All (λ c. c.0 < length dimension.now.elements) parts.now }
-    ensures { OnOk result (Adds out.old.items out.new.items (flat_map next_part_spelled (by_name (names_of dimension.now.elements) parts.now))) }
+    ensures { OnOk result (Spaces out.old.items out.new.items
+        (flat_map next_part_spelled (by_name (names_of dimension.now.elements) parts.now))) }
 {
     for part in parts {
         write_part(alloc, out, dimension, b",", part)?;
@@ -87,7 +92,8 @@ fn write_parts(
 ) -> Result<(), AllocError>
     requires writable { IsWritable dimension.now }
     requires within { All (λ c. c.0 < length dimension.now.elements) parts.now }
-    ensures { OnOk result (Adds out.old.items out.new.items (parts_spelled (by_name (names_of dimension.now.elements) parts.now))) }
+    ensures { OnOk result (Spaces out.old.items out.new.items
+        (parts_spelled (by_name (names_of dimension.now.elements) parts.now))) }
 {
     let [first, further @ ..] = parts else {
         return Ok(());
@@ -106,7 +112,9 @@ fn write_element(
     requires valid { IsDimension dimension.now }
     requires writable { IsWritable dimension.now }
     requires within { element < length dimension.now.elements }
-    ensures { OnOk result (Adds out.old.items out.new.items (spelled (defining (name_of dimension.now element) (by_name (names_of dimension.now.elements) (components_of dimension.now element))))) }
+    ensures { OnOk result (Writes out.old.items out.new.items
+        (spelled (defining (name_of dimension.now element)
+        (by_name (names_of dimension.now.elements) (components_of dimension.now element))))) }
 {
     let name = shown_of(dimension, element);
     if dimension.is_leaf(element) {
@@ -125,7 +133,8 @@ fn write_element(
 fn write_elements(alloc: Global, out: &mut Vec<u8>, dimension: &Dimension) -> Result<(), AllocError>
     requires valid { IsDimension dimension.now }
     requires writable { IsWritable dimension.now }
-    ensures { OnOk result (Adds out.old.items out.new.items (flat_map element_spelled (written dimension.now).elements)) }
+    ensures { OnOk result (Writes out.old.items out.new.items
+        (flat_map element_spelled (written dimension.now).elements)) }
 {
     for element in 0..dimension.len() {
         write_element(alloc, out, dimension, element)?;
@@ -144,7 +153,8 @@ fn write_attribute<'a>(
     requires within { attribute.now.element < length dimension.now.elements }
     requires name { IsQuotable attribute.now.name }
     requires text { IsQuotable attribute.now.text }
-    ensures { OnOk result (Adds out.old.items out.new.items (attribute_spelled (written_attribute (names_of dimension.now.elements) attribute.now))) }
+    ensures { OnOk result (Writes out.old.items out.new.items
+        (attribute_spelled (written_attribute (names_of dimension.now.elements) attribute.now))) }
 {
     let pieces = [
         Piece::Word(b"A"),
@@ -165,7 +175,8 @@ fn write_attributes(
 ) -> Result<(), AllocError>
     requires valid { IsDimension dimension.now }
     requires writable { IsWritable dimension.now }
-    ensures { OnOk result (Adds out.old.items out.new.items (flat_map attribute_spelled (written dimension.now).attributes)) }
+    ensures { OnOk result (Writes out.old.items out.new.items
+        (flat_map attribute_spelled (written dimension.now).attributes)) }
 {
     for attribute in dimension.attributes() {
         write_attribute(alloc, out, dimension, attribute)?;
@@ -177,7 +188,7 @@ fn write_attributes(
 fn write_block(alloc: Global, out: &mut Vec<u8>, dimension: &Dimension) -> Result<(), AllocError>
     requires valid { IsDimension dimension.now }
     requires writable { IsWritable dimension.now }
-    ensures { OnOk result (Adds out.old.items out.new.items (draft_spelled (written dimension.now))) }
+    ensures { OnOk result (Writes out.old.items out.new.items (draft_spelled (written dimension.now))) }
 {
     let name = dimension.name().shown();
     write_line(
@@ -190,8 +201,8 @@ fn write_block(alloc: Global, out: &mut Vec<u8>, dimension: &Dimension) -> Resul
     write_line(alloc, out, &[Piece::Word(b"END"), Piece::Sign(b";")])
 }
 
-/// Writes a block that reads back to an equal dimension: its head, a line for each element by index, a line for each attribute
-/// in the order of the statements, and its end. Names stand as they were written. A refusal changes nothing.
+/// Writes a block that reads back to an equal dimension: its head, a line for each element by index, a line for each
+/// attribute in the order of the statements, and its end. Names stand as they were written. A refusal changes nothing.
 pub fn print(alloc: Global, text: &DimText, out: &mut Vec<u8>) -> Result<(), AllocError>
     ensures written { OnOk result (IsPrinted text.now.dimension out.old.items out.new.items) }
     ensures unchanged { OnErr result (out.new.items ≡ out.old.items) }

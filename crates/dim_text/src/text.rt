@@ -35,8 +35,8 @@ impl Block {
     }
 }
 
-/// A dimension as it stands in a model file: with the lines of its head and of its elements' statements. Its names and texts
-/// can be written as tokens, as they came from tokens.
+/// A dimension as it stands in a model file: with the lines of its head and of its elements' statements. Its names and
+/// texts can be written as tokens, as they came from tokens.
 #[derive(Drop)]
 pub struct DimText {
     block: Block,

@@ -1,18 +1,18 @@
 -- A stable sort by level gives the elements level by level.
-use Rattle.std.proofs.Common.{◌≡◌, ◌≢◌, ◌⊎◌, inl, inr, ℕ, zero, suc, ◌+◌, ◌<◌, ◌≤◌, Bool, true, false, cond, not, ◌&&◌, eqb, List, [], ◌∷◌, ◌++◌, length, get_or, filter, refl, ap, sym, ◌∙◌, subst, add-one, arith, All, Contains, slice_index}
+use Rattle.std.proofs.Common.{◌≡◌, ℕ, zero, suc, ◌+◌, ◌<◌, ◌≤◌, Bool, true, false, cond, not, ◌&&◌, eqb, List, [], ◌∷◌, ◌++◌, length, get_or, filter, refl, ap, sym, ◌∙◌, subst, arith, All, Contains, slice_index}
 use Rattle.std.specs.List.{range_with_len, flat_map}
 use Rattle.std.specs.List.Sorted.{IsNonDecreasingBy, ties}
 use Rattle.std.specs.Ordering.{nat_cmp, is_lt}
-use Rattle.std.proofs.lemmas.Bool.{eqb-true, eq-eqb}
+use Rattle.std.proofs.lemmas.Bool.{eqb-true}
 use Rattle.std.proofs.lemmas.Bool.Decides.{nat_tests}
 use Rattle.std.proofs.lemmas.List.Elements.{filter_agree, All-head, All-tail}
 use Rattle.std.proofs.lemmas.List.FromFn.{length-range_with_len, get_or-range_with_len}
 use Rattle.std.proofs.lemmas.List.Sorted.{All-permutation, Contains-permutation, length_permutation}
-use Rattle.dim_core.specs.Outline.{Outline, IsDimension}
-use Rattle.dim_weights.specs.Coefficients.{IsElement, level}
-use Rattle.dim_weights.specs.Refusal.{by_level, of_level}
-use Rattle.dim_weights.specs.Levels.{AreLevels, IsSortedByLevel, IsByLevel}
-use Rattle.dim_weights.proofs.Equations.{level-below}
+use Rattle.dim_core.specs.Outline.{Outline, IsDimension, IsElement, component_lists, level}
+use Rattle.dim_weights.specs.Refusal.{of_level}
+use Rattle.dim_order.specs.Levels.{AreLevels}
+use Rattle.dim_weights.specs.Private.Levels.{IsSortedByLevel, IsByLevel}
+use Rattle.dim_core.proofs.LevelLaws.{length-component_lists, levels-below}
 
 range-push-from : (n a : ℕ) → range_with_len a (suc n) ≡ range_with_len a n ++ (a + n) ∷ []
 range-push-from zero a = let e : a + 0 ≡ a = omega arith in rw e refl
@@ -126,29 +126,32 @@ range-within n k d within =
 range-contains : (n k : ℕ) → k < n → Contains (range_with_len 0 n) k
 range-contains n k low = (k, omega (arith, length-range_with_len 0 n), omega (arith, get_or-range_with_len 0 n k k low))
 
-module _ (d : Outline) (dim : IsDimension d) (levels ys : List ℕ) (are : AreLevels d levels) (sorted : IsSortedByLevel levels (range_with_len 0 (length d.elements)) ys) where
+module _ (d : Outline) (dim : IsDimension d) (levels ys : List ℕ) (are : AreLevels (component_lists d.elements) levels) (sorted : IsSortedByLevel levels (range_with_len 0 (length d.elements)) ys) where
   inside : All (IsElement d) ys
   inside = All-permutation (IsElement d) (range_with_len 0 (length d.elements)) ys sorted.moved (range-within (length d.elements))
+
+  level-at : (x : ℕ) → IsElement d x → slice_index levels x ≡ level d x
+  level-at x here = are.each x (omega (arith, here, length-component_lists d))
 
   keys-below : All (λ x. slice_index levels x < 0 + length d.elements) ys
   keys-below k e within =
       let here = inside k e within in
-      let same = are.each (get_or ys k e) here in
-      let low = level-below d dim (get_or ys k e) here in
+      let same = level-at (get_or ys k e) here in
+      let low = levels-below d dim (get_or ys k e) here in
       omega arith
 
   of-level : (k : ℕ) → of_key (slice_index levels) (range_with_len 0 (length d.elements)) k ≡ of_level d k
   of-level k =
       filter-agree-all (λ x. eqb (slice_index levels x) k) (λ x. eqb (level d x) k) (range_with_len 0 (length d.elements))
-      (λ i e within. ap (λ (n : ℕ). eqb n k) (are.each (get_or (range_with_len 0 (length d.elements)) i e) (range-within (length d.elements) i e within)))
+      (λ i e within. ap (λ (n : ℕ). eqb n k) (level-at (get_or (range_with_len 0 (length d.elements)) i e) (range-within (length d.elements) i e within)))
 
   pub IsByLevel-sorted : IsByLevel d ys
   IsByLevel-sorted = record {
     is = splits (slice_index levels) (length d.elements) 0 ys (Ascends-from (slice_index levels) ys sorted.rising) keys-below
         ∙ flat_map-agree (of_key (slice_index levels) ys) (of_level d) (length d.elements) 0 (λ k le. at-key (slice_index levels) (range_with_len 0 (length d.elements)) ys sorted.stable k ∙ of-level k);
     rising = λ i j e le within.
-        let one = are.each (get_or ys i e) (inside i e (omega arith)) in
-        let two = are.each (get_or ys j e) (inside j e within) in
+        let one = level-at (get_or ys i e) (inside i e (omega arith)) in
+        let two = level-at (get_or ys j e) (inside j e within) in
         let up = sorted.rising i j e le within in
         omega arith;
     within = inside;

@@ -2,7 +2,7 @@ pub mod Building
 pub mod ByLevel
 pub mod Equations
 pub mod Marks
-pub mod Maxima
+pub mod MergedSums
 pub mod Pairs
 pub mod MadeRows
 pub mod Searches

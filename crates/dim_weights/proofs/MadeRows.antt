@@ -1,24 +1,27 @@
 -- Rows that are made, element by element.
-use Rattle.std.proofs.Common.{◌≡◌, ◌≢◌, ◌⊎◌, inl, inr, ℕ, zero, suc, ◌+◌, ◌<◌, ◌≤◌, max, Bool, true, false, cond, eqb, ℤ, List, [], ◌∷◌, ◌++◌, length, take, get_or, set, refl, ap, sym, ◌∙◌, subst, arith, All, Contains, Option, Some, None, Result, Ok, Err, IfSome, IfNone, IsOkUnless, slice_index}
+use Rattle.std.proofs.Common.{◌≡◌, ◌≢◌, ◌⊎◌, inl, inr, ℕ, zero, suc, ◌+◌, ◌<◌, ◌≤◌, Bool, true, false, eqb, ℤ, List, [], ◌∷◌, ◌++◌, length, take, get_or, set, refl, ap, sym, ◌∙◌, subst, arith, All, Option, Some, None, Result, Ok, Err, IfSome, IfNone, IsOkUnless}
 use Rattle.std.specs.List.{range_with_len, list_all}
 use Rattle.std.proofs.Math.ListN.{length-set}
 use Rattle.std.proofs.lemmas.Bool.{eqb-true, eq-eqb, cases_lt}
-use Rattle.std.proofs.lemmas.List.{get_or-set_same, get_or-set_other, get_or_past, get_or_append_left}
+use Rattle.std.proofs.lemmas.List.{get_or-set_same, get_or-set_other}
 use Rattle.std.proofs.lemmas.List.Sums.{sum_by_more, get_or-le-sum_by, list_all-from_AllPass}
 use Rattle.dim_core.specs.Outline.{Outline, IsDimension, components_of, component_lists}
 use Rattle.dim_order.specs.Members.{is_among}
+use Rattle.dim_order.proofs.Depths.{among-front}
 use Rattle.dim_order.proofs.Places.{get_or_within}
+use Rattle.dim_core.proofs.LevelLaws.{length-component_lists, component-lower}
 use Rattle.dim_weights.specs.declared.fault.WeightFault.{WeightFault}
 use Rattle.dim_weights.specs.declared.fault.WeightFault.TheVariants.{Memory}
-use Rattle.dim_weights.specs.Coefficients.{IsElement, level_over, level, coef}
+use Rattle.dim_core.specs.Outline.{IsElement, level}
+use Rattle.dim_weights.specs.Coefficients.{coef}
 use Rattle.dim_weights.specs.Table.{leaves_in, leaves_of, share, greatest_in, IsWeightsOf}
 use Rattle.dim_weights.specs.Refusal.{fault_of, fault_at, first_fault, refusal_of, pair_count}
-use Rattle.dim_weights.specs.Sums.{IsRow, AreRows}
-use Rattle.dim_weights.specs.Rows.{Rows, AreParts, pairs_over, counted_over, with_row, AreRowsOf, IsBuilding}
-use Rattle.dim_weights.specs.Levels.{IsByLevel}
+use Rattle.dim_weights.specs.Private.Sums.{IsRow, AreRows}
+use Rattle.dim_weights.specs.Private.Rows.{Rows, AreParts, pairs_over, counted_over, with_row, AreRowsOf, IsBuilding}
+use Rattle.dim_weights.specs.Private.Levels.{IsByLevel}
 use Rattle.dim_weights.proofs.Pairs.{agree-range, share-range, within-range, rises-range, rising-RisesFrom}
-use Rattle.dim_weights.proofs.Equations.{level-solves, coef-from, length-component_lists}
-use Rattle.dim_weights.proofs.Building.{among-front, among-more}
+use Rattle.dim_weights.proofs.Equations.{coef-from}
+use Rattle.dim_weights.proofs.Building.{among-more}
 
 -- what the fields keep
 pub IsRow-made : (n : ℕ) (rows : List (List (ℕ × ℤ))) (element : ℕ) (parts pairs : List (ℕ × ℤ)) → pairs ≡ pairs_over n rows element parts → greatest_in pairs ≤ 1000000000 → length pairs ≤ 4000000 → IsRow n pairs
@@ -72,11 +75,6 @@ AreParts-of d dim element here =
     record { within = dim.parts element; few = omega (arith, dim.few_components, some) }
 
 -- components come at a lower level, so they come before
-level-over-at : (f : ℕ → ℕ) (parts : List (ℕ × ℤ)) (k : ℕ) (e : ℕ × ℤ) → k < length parts → f (get_or parts k e).0 < level_over f parts
-level-over-at f [] k e within = absurd (omega arith)
-level-over-at f (p ∷ parts) zero e within = omega arith
-level-over-at f (p ∷ parts) (suc k) e within = let rest = level-over-at f parts k e (omega arith) in omega arith
-
 module _ (d : Outline) (dim : IsDimension d) (elements : List ℕ) (by : IsByLevel d elements) where
   pub components-before : (i : ℕ) → i < length elements → list_all (λ part. is_among (take i elements) part.0) (components_of d (get_or elements i 0)) ≡ true
   components-before i within = list_all-from_AllPass (λ part. is_among (take i elements) part.0) (components_of d (get_or elements i 0)) before
@@ -91,8 +89,7 @@ module _ (d : Outline) (dim : IsDimension d) (elements : List ℕ) (by : IsByLev
           let inside : (get_or (components_of d (get_or elements i 0)) k e).0 < length d.elements = (dim.parts (get_or elements i 0) k e there).0 in
           let place = by.each (get_or (components_of d (get_or elements i 0)) k e).0 inside in
           let at : get_or elements place.0 0 ≡ (get_or (components_of d (get_or elements i 0)) k e).0 = get_or_within elements place.0 0 _ place.1 ∙ place.2 in
-          let lower = level-over-at (level d) (components_of d (get_or elements i 0)) k e there in
-          let same = level-solves d dim (get_or elements i 0) here in
+          let lower = component-lower d dim (get_or elements i 0) here k e there in
           decide (get_or (components_of d (get_or elements i 0)) k e).0 place.0 at place.1 (omega arith) (cases_lt place.0 i)
         where
           decide : (part j : ℕ) → get_or elements j 0 ≡ part → j < length elements → level d part < level d (get_or elements i 0) → (j < i) ⊎ (i ≤ j) → is_among (take i elements) part ≡ true

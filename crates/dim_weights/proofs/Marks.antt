@@ -1,16 +1,15 @@
 -- Marked leaves, and sums that are set back to 0.
-use Rattle.std.proofs.Common.{◌≡◌, ◌≢◌, ◌⊎◌, inl, inr, ℕ, zero, suc, ◌+◌, ◌<◌, ◌≤◌, Bool, true, false, cond, eqb, ℤ, pos, unsigned_abs, List, [], ◌∷◌, ◌++◌, length, get_or, set, refl, ap, sym, ◌∙◌, arith, All, count_by, ◌||◌, SomeIndex}
+use Rattle.std.proofs.Common.{◌≡◌, ◌≢◌, ◌⊎◌, inl, inr, ℕ, ◌<◌, ◌≤◌, Bool, true, false, cond, eqb, ℤ, pos, unsigned_abs, List, [], ◌∷◌, ◌++◌, length, get_or, set, refl, ap, sym, ◌∙◌, arith, All, count_by, SomeIndex}
 use Rattle.std.specs.List.{range_with_len, list_any}
 use Rattle.std.specs.List.Sorted.{IsPermutation, IsNonDecreasing}
 use Rattle.std.proofs.Math.ListN.{length-set}
 use Rattle.std.proofs.lemmas.Bool.{eqb-true, eq-eqb, cases_lt}
-use Rattle.std.proofs.lemmas.Bool.Decides.{nat_tests}
 use Rattle.std.proofs.lemmas.List.{get_or-set_same, get_or-set_other, get_or_past}
 use Rattle.std.proofs.lemmas.List.Sorted.{sum_by-IsPermutation}
 use Rattle.std.proofs.lemmas.List.Sums.{sum_by-cons, sum_by_push, get_or-le-sum_by}
 use Rattle.dim_order.proofs.Tests.{neither}
 use Rattle.dim_weights.specs.Table.{nonzero_among, greatest_in}
-use Rattle.dim_weights.specs.Sums.{sum_at, AreZero, IsTouched, ArePut}
+use Rattle.dim_weights.specs.Private.Sums.{sum_at, AreZero, IsTouched, ArePut}
 use Rattle.dim_weights.proofs.Pairs.{differ, greatest-range}
 use Rattle.dim_weights.proofs.Touched.{AscendsFrom-sorted, nonzero_among-touched}
 

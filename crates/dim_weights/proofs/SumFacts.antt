@@ -1,24 +1,15 @@
 -- Sums by leaf.
-use Rattle.std.proofs.Common.{◌≡◌, ◌≢◌, ◌⊎◌, inl, inr, ℕ, zero, suc, ◌+◌, ◌*◌, ◌<◌, ◌≤◌, ◌^◌, min, Bool, true, false, cond, eqb, ℤ, pos, ◌+ℤ◌, ◌*ℤ◌, unsigned_abs, List, [], ◌∷◌, ◌++◌, length, take, get_or, set, map, refl, ap, sym, ◌∙◌, subst, arith, All, count_by, ◌||◌, length-take, SomeIndex}
-use Rattle.std.specs.List.{range_with_len, list_any}
-use Rattle.std.specs.List.Sorted.{IsPermutation, IsNonDecreasing}
+use Rattle.std.proofs.Common.{◌≡◌, ◌≢◌, ℕ, suc, ◌+◌, ◌*◌, ◌<◌, ◌≤◌, ◌^◌, min, Bool, true, false, cond, eqb, ℤ, pos, ◌+ℤ◌, ◌*ℤ◌, unsigned_abs, List, [], ◌∷◌, ◌++◌, length, take, get_or, set, refl, ap, sym, ◌∙◌, subst, arith, length-take}
 use Rattle.std.proofs.Math.Nat.{mul-le-mul}
-use Rattle.std.proofs.Math.ListN.{length-set}
 use Rattle.std.proofs.lemmas.Bool.{eqb-true, eq-eqb}
-use Rattle.std.proofs.lemmas.Bool.Decides.{nat_tests}
 use Rattle.std.proofs.lemmas.Int.{ints, unsigned_abs-mul}
 use Rattle.std.proofs.lemmas.List.{get_or-take, get_or-set_same, get_or-set_other, take_more}
 use borrow.Author.Differences.{up, down}
-use Rattle.std.proofs.lemmas.List.Sorted.{sum_by-IsPermutation}
-use Rattle.std.proofs.lemmas.List.Sums.{sum_by-cons, sum_by_push, get_or-le-sum_by}
-use Rattle.dim_core.specs.Outline.{IsWeight}
-use Rattle.dim_order.proofs.Tests.{neither}
 use Rattle.dim_weights.specs.Coefficients.{weighted_sum}
-use Rattle.dim_weights.specs.Table.{nonzero_among, share, greatest_in, leaves_in}
-use Rattle.dim_weights.specs.Rows.{AreParts, counted_over}
-use Rattle.dim_weights.specs.Sums.{sum_at, AreZero, IsTouched, IsRow, AreRows, AreWithin, ArePut}
-use Rattle.dim_weights.proofs.Pairs.{differ, share-push, share-size, greatest_in-take, greatest-range}
-use Rattle.dim_weights.proofs.Touched.{AscendsFrom-sorted, nonzero_among-touched}
+use Rattle.dim_weights.specs.Table.{share, greatest_in, leaves_in}
+use Rattle.dim_weights.specs.Private.Rows.{AreMerged, counted_over, most_merged_weight}
+use Rattle.dim_weights.specs.Private.Sums.{sum_at, AreZero, IsRow, AreRows, AreWithin}
+use Rattle.dim_weights.proofs.Pairs.{share-push, share-size, greatest_in-take}
 
 times-plus : (w s c : ℤ) → w *ℤ (s +ℤ c) ≡ (w *ℤ s) +ℤ (w *ℤ c)
 times-plus w s c =
@@ -75,13 +66,13 @@ share-bound-take n row i leaf is =
     let small = is.small in
     row-bound (take i row) leaf (omega arith) (omega (arith, length-take i row, is.few))
 
-pub times-bound : (w c : ℤ) (m : ℕ) → IsWeight w → unsigned_abs c ≤ m → unsigned_abs (w *ℤ c) ≤ 1000000 * m
+pub times-bound : (w c : ℤ) (m : ℕ) → unsigned_abs w ≤ most_merged_weight → unsigned_abs c ≤ m → unsigned_abs (w *ℤ c) ≤ 1000000000000 * m
 times-bound w c m weight small =
     let size = unsigned_abs-mul w c in
-    let all = mul-le-mul {n₁ = unsigned_abs w} {m₁ = unsigned_abs c} {n₂ = 1000000} {m₂ = m} weight small in
+    let all = mul-le-mul {n₁ = unsigned_abs w} {m₁ = unsigned_abs c} {n₂ = 1000000000000} {m₂ = m} weight small in
     omega arith
 
-pub row-fits : (n : ℕ) (sums first : List ℤ) (row : List (ℕ × ℤ)) (w c : ℤ) (i leaf : ℕ) → IsRow n row → IsWeight w → AreWithin (10 ^ 28) first → unsigned_abs c ≤ 1000000000
+pub row-fits : (n : ℕ) (sums first : List ℤ) (row : List (ℕ × ℤ)) (w c : ℤ) (i leaf : ℕ) → IsRow n row → unsigned_abs w ≤ most_merged_weight → AreWithin (10 ^ 34) first → unsigned_abs c ≤ 1000000000
     → sum_at sums leaf ≡ sum_at first leaf +ℤ (w *ℤ share (take i row) leaf) → unsigned_abs (sum_at sums leaf +ℤ (w *ℤ c)) < 170141183460469231731687303715884105728
 row-fits n sums first row w c i leaf is weight room small before =
     let share_size = times-bound w (share (take i row) leaf) 4000000000000000 weight (share-bound-take n row i leaf is) in
@@ -97,8 +88,8 @@ pub weighted_sum-push : (f : ℕ → ℤ) (parts : List (ℕ × ℤ)) (p : ℕ �
 weighted_sum-push f [] p = omega (arith, ints)
 weighted_sum-push f (q ∷ parts) p = let rest = weighted_sum-push f parts p in omega (arith, ints)
 
-pub weighted_sum-size : (f : ℕ → ℤ) (m : ℕ) → ((x : ℕ) → unsigned_abs (f x) ≤ m) → (parts : List (ℕ × ℤ)) → ((k : ℕ) (d : ℕ × ℤ) → k < length parts → IsWeight (get_or parts k d).1)
-    → unsigned_abs (weighted_sum f parts) ≤ length parts * (1000000 * m)
+pub weighted_sum-size : (f : ℕ → ℤ) (m : ℕ) → ((x : ℕ) → unsigned_abs (f x) ≤ m) → (parts : List (ℕ × ℤ)) → ((k : ℕ) (d : ℕ × ℤ) → k < length parts → unsigned_abs (get_or parts k d).1 ≤ most_merged_weight)
+    → unsigned_abs (weighted_sum f parts) ≤ length parts * (1000000000000 * m)
 weighted_sum-size f m small [] weights = omega arith
 weighted_sum-size f m small (p ∷ parts) weights =
     let rest = weighted_sum-size f m small parts (λ k d within. weights (suc k) d (omega arith)) in
@@ -107,17 +98,17 @@ weighted_sum-size f m small (p ∷ parts) weights =
     omega arith
 
 -- the sums after some components
-pub parts-room : (n : ℕ) (rows : List (List (ℕ × ℤ))) (parts : List (ℕ × ℤ)) (i leaf : ℕ) → AreRows n rows → AreParts n parts
-    → unsigned_abs (weighted_sum (λ part. share (leaves_in rows part) leaf) (take i parts)) ≤ 10000000000000000000000000000
+pub parts-room : (n : ℕ) (rows : List (List (ℕ × ℤ))) (parts : List (ℕ × ℤ)) (i leaf : ℕ) → AreRows n rows → AreMerged n parts
+    → unsigned_abs (weighted_sum (λ part. share (leaves_in rows part) leaf) (take i parts)) ≤ 10000000000000000000000000000000000
 parts-room n rows parts i leaf are is =
     let size = weighted_sum-size (λ part. share (leaves_in rows part) leaf) 4000000000000000 (λ x. share-bound n (leaves_in rows x) leaf (are x)) (take i parts)
     (λ k d within.
     let long : k < min i (length parts) = rw length-take at within in
     let same : get_or (take i parts) k d ≡ get_or parts k d = get_or-take i parts k d (omega arith) in
-    let P : ℕ × ℤ → Type 0 = λ p. IsWeight p.1 in
-    subst P (sym same) (is.within k d (omega arith)).1) in
+    let P : ℕ × ℤ → Type 0 = λ p. unsigned_abs p.1 ≤ most_merged_weight in
+    subst P (sym same) (is.small k d (omega arith))) in
     let few : length (take i parts) ≤ 1000000 = omega (arith, length-take i parts, is.few) in
-    let all = mul-le-mul {n₁ = length (take i parts)} {m₁ = 4000000000000000000000} {n₂ = 1000000} {m₂ = 4000000000000000000000} few (omega arith) in
+    let all = mul-le-mul {n₁ = length (take i parts)} {m₁ = 4000000000000000000000000000} {n₂ = 1000000} {m₂ = 4000000000000000000000000000} few (omega arith) in
     omega arith
 
 pub parts-step : (f : ℕ → ℤ) (parts : List (ℕ × ℤ)) (i : ℕ) (old new : ℤ) → i < length parts → old ≡ weighted_sum f (take i parts)

@@ -1,5 +1,5 @@
 -- Tables of pairs.
-use Rattle.std.proofs.Common.{◌≡◌, ℕ, zero, suc, ◌<◌, ◌≤◌, max, ℤ, List, [], ◌∷◌, ◌++◌, length, take, get_or, unsigned_abs, All, refl, ap, ◌+◌, ◌∙◌, arith}
+use Rattle.std.proofs.Common.{◌≡◌, ℕ, zero, suc, ◌<◌, ◌≤◌, max, ℤ, List, [], ◌∷◌, ◌++◌, length, take, get_or, unsigned_abs, All, ap, ◌+◌, ◌∙◌, arith}
 use Rattle.std.proofs.lemmas.List.{take_more}
 use Rattle.dim_weights.specs.Table.{leaves_in, greatest_in, greatest_of}
 use Rattle.dim_weights.proofs.Pairs.{greatest_in-at}

@@ -1,12 +1,12 @@
 -- The leaves that were touched are all that can have another sum than 0.
-use Rattle.std.proofs.Common.{◌≡◌, ◌≢◌, ℕ, zero, suc, ◌+◌, ◌<◌, ◌≤◌, Bool, true, false, cond, eqb, ℤ, pos, List, [], ◌∷◌, length, get_or, refl, ap, sym, ◌∙◌, arith, All, count_by}
+use Rattle.std.proofs.Common.{◌≡◌, ℕ, zero, suc, ◌+◌, ◌<◌, ◌≤◌, Bool, true, false, cond, eqb, ℤ, pos, List, [], ◌∷◌, get_or, refl, ap, sym, ◌∙◌, arith, All, count_by}
 use Rattle.std.specs.List.{range_with_len}
 use Rattle.std.specs.List.Sorted.{IsNonDecreasing}
-use Rattle.std.proofs.lemmas.Bool.{eqb-true, eq-eqb}
+use Rattle.std.proofs.lemmas.Bool.{eqb-true}
 use Rattle.std.proofs.lemmas.Bool.Decides.{nat_tests}
 use Rattle.std.proofs.lemmas.List.Elements.{All-tail, All-head}
 use Rattle.std.proofs.lemmas.List.Sums.{sum_by-cons}
-use Rattle.dim_weights.specs.Table.{is_nonzero, nonzero_among}
+use Rattle.dim_weights.specs.Table.{nonzero_among}
 use Rattle.dim_weights.proofs.Pairs.{skip-zero}
 
 -- the numbers don't fall, by recursion, from this one on

@@ -1,11 +1,13 @@
 -- Why a dimension has no table of coefficients.
-use Rattle.std.specs.Prelude.{ℕ, ℤ, ◌+◌, ◌==◌, nat_lt, List, [], ◌∷◌, length, filter, take, sum_by, slice_index, Option, Some, None, if◌then◌else◌}
+use Rattle.std.specs.Prelude.{ℕ, ℤ, ◌+◌, ◌==◌, nat_lt, List, [], ◌∷◌, length, filter, take, sum_by, slice_index, Option}
+use Rattle.std.specs.Prelude.{Some, None, if◌then◌else◌}
 use Rattle.std.specs.List.{range_with_len, flat_map}
 use Rattle.dim_core.specs.Outline.{Outline}
 use Rattle.dim_weights.specs.declared.fault.WeightFault.{WeightFault}
 use Rattle.dim_weights.specs.declared.fault.WeightFault.TheVariants.{CoefficientTooLarge, TooManyPairs}
-use Rattle.dim_weights.specs.Coefficients.{level}
+use Rattle.dim_core.specs.Outline.{level}
 use Rattle.dim_weights.specs.Table.{leaves_of, greatest_in}
+use Rattle.dim_weights.specs.Coefficients.{most_coefficient, most_pairs}
 
 -- the elements of a level, by index
 abbrev pub of_level : Outline → ℕ → List ℕ
@@ -19,12 +21,12 @@ by_level d = flat_map (of_level d) (range_with_len 0 (length d.elements))
 abbrev pub pair_count : Outline → List ℕ → ℕ
 pair_count d elements = sum_by (λ element. length (leaves_of d element)) elements
 
--- what is wrong with an element of these leaves, where so many pairs are up to and including it: it has a coefficient above
--- a billion in size, or else the pairs are more than four million
+-- what is wrong with an element of these leaves, where so many pairs are up to and including it: it has a coefficient
+-- above a billion in size, or else the pairs are more than four million
 abbrev pub fault_of : ℕ → List (ℕ × ℤ) → ℕ → Option WeightFault
 fault_of element leaves count =
-    if nat_lt 1000000000 (greatest_in leaves) then Some (CoefficientTooLarge element)
-    else if nat_lt 4000000 count then Some (TooManyPairs count)
+    if nat_lt most_coefficient (greatest_in leaves) then Some (CoefficientTooLarge element)
+    else if nat_lt most_pairs count then Some (TooManyPairs count)
     else None
 
 -- what is wrong at this place of a list of elements

@@ -1,9 +1,11 @@
 -- Coefficients as lists of pairs.
-use Rattle.std.specs.Prelude.{◌≡◌, ℕ, zero, suc, max, ◌==◌, Bool, true, false, ℤ, pos, negsuc, ◌+ℤ◌, List, [], ◌∷◌, length, map, filter, unsigned_abs, slice_index_or, if◌then◌else◌}
+use Rattle.std.specs.Prelude.{◌≡◌, ℕ, zero, suc, max, ◌==◌, Bool, true, false, ℤ, pos, negsuc, ◌+ℤ◌, List, [], ◌∷◌}
+use Rattle.std.specs.Prelude.{length, map, filter, unsigned_abs, slice_index_or, if◌then◌else◌}
 use Rattle.std.specs.List.{range_with_len}
 use Rattle.std.specs.List.Sorted.{IsStrictlyIncreasing}
 use Rattle.dim_core.specs.Outline.{Outline}
-use Rattle.dim_weights.specs.Coefficients.{IsElement, coef}
+use Rattle.dim_core.specs.Outline.{IsElement}
+use Rattle.dim_weights.specs.Coefficients.{coef}
 
 abbrev pub is_nonzero : ℤ → Bool
 is_nonzero (pos zero) = false

@@ -1,17 +1,20 @@
 ghost use Rattle.std.specs.Prelude.{◌≡◌, ◌≢◌, ℕ, ℤ, pos, []};
 ghost use Rattle.equations.specs.Equations.{Solves};
 ghost use Rattle.dim_core.specs.Outline.{Outline, IsDimension, components_of};
-ghost use Rattle.dim_weights.specs.Coefficients.{IsElement, coef_side, coef, level_side, level};
+ghost use Rattle.dim_core.specs.Outline.{IsElement};
+ghost use Rattle.dim_weights.specs.Coefficients.{coef_side, coef};
 
-/// The coefficients of a leaf solve its equations: in a leaf only it itself counts, once, and in another element it counts
-/// the sum over the components of the weight times what it counts there.
+/// The coefficients of a leaf solve its equations: in a leaf only it itself counts, once, and in another element it
+/// counts the sum over the components of the weight times what it counts there.
 pub fn coefficients_solve()
-    ensures { (d : Outline) → IsDimension d → (leaf : ℕ) → Solves (IsElement d) (coef_side d leaf) (λ element. coef d element leaf) }
+    ensures { (d : Outline) → IsDimension d → (leaf : ℕ)
+        → Solves (IsElement d) (coef_side d leaf) (λ element. coef d element leaf) }
 {}
 
 /// Nothing else does.
 pub fn only_coefficients_solve()
-    ensures { (d : Outline) → IsDimension d → (leaf : ℕ) → (table : ℕ → ℤ) → Solves (IsElement d) (coef_side d leaf) table
+    ensures { (d : Outline) → IsDimension d → (leaf : ℕ) → (table : ℕ → ℤ)
+        → Solves (IsElement d) (coef_side d leaf) table
         → (element : ℕ) → IsElement d element → table element ≡ coef d element leaf }
 {}
 
@@ -19,15 +22,4 @@ pub fn only_coefficients_solve()
 pub fn only_leaves_count()
     ensures { (d : Outline) → IsDimension d → (leaf : ℕ) → components_of d leaf ≢ []
         → (element : ℕ) → IsElement d element → coef d element leaf ≡ pos 0 }
-{}
-
-/// The levels solve their equations: a leaf has level 0, another element one more than the greatest level of a component.
-pub fn levels_solve()
-    ensures { (d : Outline) → IsDimension d → Solves (IsElement d) (level_side d) (level d) }
-{}
-
-/// Nothing else does.
-pub fn only_levels_solve()
-    ensures { (d : Outline) → IsDimension d → (table : ℕ → ℕ) → Solves (IsElement d) (level_side d) table
-        → (element : ℕ) → IsElement d element → table element ≡ level d element }
 {}

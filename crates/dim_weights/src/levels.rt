@@ -1,7 +1,6 @@
-ghost use Rattle.std.specs.Prelude.{◌≡◌, ◌<◌, ◌≤◌, All, IfOk, OnOk, length, slice_index};
+ghost use Rattle.std.specs.Prelude.{◌≡◌, IfOk, OnOk, slice_index};
 ghost use Rattle.std.specs.List.{range_with_len};
-ghost use Rattle.dim_weights.specs.Coefficients.{level_over};
-ghost use Rattle.dim_weights.specs.Levels.{AreLevels, IsByLevel, IsSortedByLevel};
+ghost use Rattle.dim_weights.specs.Private.Levels.{IsByLevel, IsSortedByLevel};
 
 use dim_core::Dimension;
 use std::alloc::{AllocError, Global};
@@ -10,9 +9,8 @@ use std::alloc::{AllocError, Global};
 pub fn elements_by_level(alloc: Global, dimension: &Dimension) -> Result<Vec<u32>, AllocError>
     ensures { IfOk result (λ elements. IsByLevel dimension.now elements.items) }
 {
-    let levels = levels_of(alloc, dimension)?;
     let mut elements = elements_below(alloc, dimension.len())?;
-    sort_by_level(&levels, &mut elements)?;
+    sort_by_level(dimension.levels(), &mut elements)?;
     Ok(elements)
 }
 
@@ -38,30 +36,4 @@ fn level_at(levels: &[u32], element: u32) -> u32
     ensures { result ≡ slice_index levels.now element }
 {
     levels.get(element as usize).copied().unwrap_or(0)
-}
-
-// The level of each element, by index.
-fn levels_of(alloc: Global, dimension: &Dimension) -> Result<Vec<u32>, AllocError>
-    ensures { IfOk result (λ levels. AreLevels dimension.now levels.items) }
-{
-    let mut levels = vec![in alloc; 0; dimension.len() as usize]?;
-    let order = dimension.order();
-    for element in order {
-        let above = level_over(dimension.components(*element), &levels);
-        levels[*element as usize] = above;
-    }
-    Ok(levels)
-}
-
-// One more than the greatest level of these components, or 0 without any.
-fn level_over(parts: &[(u32, i64)], levels: &[u32]) -> u32
-    requires within { All (λ part. part.0 < length levels.now) parts.now }
-    requires small { All (λ level. level ≤ 100000) levels.now }
-    ensures { result ≡ level_over (slice_index levels.now) parts.now }
-{
-    let mut greatest = 0;
-    for part in parts {
-        greatest = greatest.max(levels[part.0 as usize] + 1);
-    }
-    greatest
 }

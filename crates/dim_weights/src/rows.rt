@@ -1,10 +1,12 @@
-ghost use Rattle.std.specs.Prelude.{◌≡◌, ℕ, ◌+◌, ◌*◌, ◌^◌, ◌<◌, ◌≤◌, ◌+ℤ◌, ◌*ℤ◌, All, length, unsigned_abs, IfOk, OnOk, IfSome, IfNone};
-ghost use Rattle.dim_core.specs.Outline.{IsWeight};
+ghost use Rattle.std.specs.Prelude.{◌≡◌, ℕ, ◌+◌, ◌*◌, ◌^◌, ◌<◌, ◌≤◌, ◌+ℤ◌, ◌*ℤ◌, All, length, unsigned_abs, IfOk, OnOk};
+ghost use Rattle.std.specs.Prelude.{IfSome, IfNone};
 ghost use Rattle.dim_weights.specs.Coefficients.{weighted_sum};
 ghost use Rattle.dim_weights.specs.Table.{leaves_in, share, greatest_in};
-ghost use Rattle.dim_weights.specs.Sums.{sum_at, AreZero, AreRows, IsRow, AreWithin};
-ghost use Rattle.dim_weights.specs.Rows.{pairs_over, counted_over, AreParts};
+ghost use Rattle.dim_weights.specs.Private.Sums.{sum_at, AreZero, AreRows, IsRow, AreWithin};
+ghost use Rattle.dim_weights.specs.Private.Rows.{pairs_over, counted_over, AreMerged, AreParts, most_merged_weight};
+ghost use Rattle.dim_weights.specs.Coefficients.{most_coefficient};
 
+use crate::merged::merged;
 use crate::sums::Sums;
 use lists::ListOf;
 use std::alloc::{AllocError, Global};
@@ -23,18 +25,21 @@ pub fn pairs_over(
     requires whole { length rows.now ≡ length sums.old }
     requires within { element < length sums.old }
     requires parts { AreParts (length sums.old) parts.now }
-    ensures pairs { IfOk result (λ found. IfSome found (λ pairs. pairs.items ≡ pairs_over (length sums.old) rows.now element parts.now)) }
-    ensures small { IfOk result (λ found. IfSome found (λ pairs. greatest_in pairs.items ≤ 1000000000)) }
-    ensures large { IfOk result (λ found. IfNone found (1000000000 < greatest_in (pairs_over (length sums.old) rows.now element parts.now))) }
+    ensures pairs { IfOk result (λ found. IfSome found
+        (λ pairs. pairs.items ≡ pairs_over (length sums.old) rows.now element parts.now)) }
+    ensures small { IfOk result (λ found. IfSome found (λ pairs. greatest_in pairs.items ≤ most_coefficient)) }
+    ensures large { IfOk result (λ found. IfNone found (most_coefficient < greatest_in (pairs_over
+        (length sums.old) rows.now element parts.now))) }
     ensures zero { IfOk result (λ found. IfSome found (λ _. AreZero sums.new)) }
     ensures length { length sums.new ≡ length sums.old }
 {
-    add_element(sums, rows, element, parts)?;
+    add_element(alloc, sums, rows, element, parts)?;
     sums.take_pairs(alloc)
 }
 
 // Adds what each leaf counts in the element: a leaf counts in itself alone.
 fn add_element(
+    alloc: Global,
     sums: &mut Sums,
     rows: &[ListOf<(u32, i64)>],
     element: u32,
@@ -51,7 +56,8 @@ fn add_element(
     if parts.is_empty() {
         sums.add(element, 1)
     } else {
-        add_parts(sums, rows, parts)
+        let parts = merged(alloc, parts)?;
+        add_parts(sums, rows, &parts)
     }
 }
 
@@ -64,8 +70,9 @@ fn add_parts(
     requires zero { AreZero sums.old }
     requires rows { AreRows (length sums.old) rows.now }
     requires whole { length rows.now ≡ length sums.old }
-    requires parts { AreParts (length sums.old) parts.now }
-    ensures added { OnOk result ((leaf : ℕ) → sum_at sums.new leaf ≡ weighted_sum (λ part. share (leaves_in rows.now part) leaf) parts.now) }
+    requires parts { AreMerged (length sums.old) parts.now }
+    ensures added { OnOk result ((leaf : ℕ)
+        → sum_at sums.new leaf ≡ weighted_sum (λ part. share (leaves_in rows.now part) leaf) parts.now) }
     ensures length { length sums.new ≡ length sums.old }
 {
     for (part, weight) in parts {
@@ -77,9 +84,10 @@ fn add_parts(
 // Adds a row times a weight.
 fn add_row(sums: &mut Sums, row: &[(u32, i64)], weight: i64) -> Result<(), AllocError>
     requires row { IsRow (length sums.old) row.now }
-    requires weight { IsWeight weight }
-    requires room { AreWithin (10 ^ 28) sums.old }
-    ensures added { OnOk result ((leaf : ℕ) → sum_at sums.new leaf ≡ sum_at sums.old leaf +ℤ (weight *ℤ share row.now leaf)) }
+    requires weight { unsigned_abs weight ≤ most_merged_weight }
+    requires room { AreWithin (10 ^ 34) sums.old }
+    ensures added { OnOk result ((leaf : ℕ)
+        → sum_at sums.new leaf ≡ sum_at sums.old leaf +ℤ (weight *ℤ share row.now leaf)) }
     ensures length { length sums.new ≡ length sums.old }
 {
     for (leaf, coefficient) in row {

@@ -1,15 +1,17 @@
-ghost use Rattle.std.specs.Prelude.{◌≡◌, ◌<◌, ◌≤◌, ◌^◌, ◌+ℤ◌, pos, true, false, [], ◌∷◌, ◌++◌, All, length, slice_index_or, slice_set, unsigned_abs, if◌then◌else◌, IfOk, OnOk, OnErr, IfSome, IfNone, SomeIndex};
-ghost use Rattle.std.specs.List.{range_with_len};
+ghost use Rattle.std.specs.Prelude.{◌≡◌, ◌<◌, ◌≤◌, ◌^◌, ◌+ℤ◌, pos, true, false, [], ◌∷◌, ◌++◌, All, length};
+ghost use Rattle.std.specs.Prelude.{slice_index_or, slice_set, unsigned_abs, if◌then◌else◌, IfOk, OnOk, OnErr, IfSome};
+ghost use Rattle.std.specs.Prelude.{IfNone, SomeIndex};
 ghost use Rattle.std.specs.List.Sorted.{IsStrictlyIncreasing};
 ghost use Rattle.dim_weights.specs.Table.{nonzero_among, greatest_in};
-ghost use Rattle.dim_weights.specs.Sums.{sum_at, nonzero_pair, AreZero, ArePut};
+ghost use Rattle.dim_weights.specs.Private.Sums.{sum_at, nonzero_pair, nonzero_sums, AreZero, ArePut};
+ghost use Rattle.dim_weights.specs.Coefficients.{most_coefficient};
 
 use crate::weights::MAX_COEFFICIENT;
 use std::alloc::{AllocError, Global};
 use std::marker::Model;
 
-/// A sum for each leaf. To read them and to set them back to 0 costs only as much as there are leaves that something was
-/// added to.
+/// A sum for each leaf. To read them and to set them back to 0 costs only as much as there are leaves that something
+/// was added to.
 #[derive(Drop)]
 pub struct Sums {
     sums: Vec<i128>,
@@ -19,7 +21,7 @@ pub struct Sums {
 
 impl Model for Sums {
     ghost use Rattle.std.specs.Prelude.{ℤ, List};
-    ghost use Rattle.dim_weights.specs.Sums.{IsTouched};
+    ghost use Rattle.dim_weights.specs.Private.Sums.{IsTouched};
 
     ghost Value = { List ℤ };
 
@@ -56,9 +58,9 @@ impl Sums {
     /// The leaves with a sum other than 0, each with it, in rising order, or None where a sum is above
     /// [`MAX_COEFFICIENT`] in size. With an answer other than None all sums are 0 again.
     pub fn take_pairs(&mut self, alloc: Global) -> Result<Option<Vec<(u32, i64)>>, AllocError>
-        ensures pairs { IfOk result (λ found. IfSome found (λ pairs. pairs.items ≡ nonzero_among (sum_at self.old) (range_with_len 0 (length self.old)))) }
-        ensures small { IfOk result (λ found. IfSome found (λ pairs. greatest_in pairs.items ≤ 1000000000)) }
-        ensures large { IfOk result (λ found. IfNone found (1000000000 < greatest_in (nonzero_among (sum_at self.old) (range_with_len 0 (length self.old))))) }
+        ensures pairs { IfOk result (λ found. IfSome found (λ pairs. pairs.items ≡ nonzero_sums self.old)) }
+        ensures small { IfOk result (λ found. IfSome found (λ pairs. greatest_in pairs.items ≤ most_coefficient)) }
+        ensures large { IfOk result (λ found. IfNone found (most_coefficient < greatest_in (nonzero_sums self.old))) }
         ensures zero { IfOk result (λ found. IfSome found (λ _. AreZero self.new)) }
         ensures length { length self.new ≡ length self.old }
     {
@@ -71,9 +73,9 @@ impl Sums {
 
     // The pairs, and no sum changes.
     fn pairs(&mut self, alloc: Global) -> Result<Option<Vec<(u32, i64)>>, AllocError>
-        ensures pairs { IfOk result (λ found. IfSome found (λ pairs. pairs.items ≡ nonzero_among (sum_at self.old) (range_with_len 0 (length self.old)))) }
-        ensures small { IfOk result (λ found. IfSome found (λ pairs. greatest_in pairs.items ≤ 1000000000)) }
-        ensures large { IfOk result (λ found. IfNone found (1000000000 < greatest_in (nonzero_among (sum_at self.old) (range_with_len 0 (length self.old))))) }
+        ensures pairs { IfOk result (λ found. IfSome found (λ pairs. pairs.items ≡ nonzero_sums self.old)) }
+        ensures small { IfOk result (λ found. IfSome found (λ pairs. greatest_in pairs.items ≤ most_coefficient)) }
+        ensures large { IfOk result (λ found. IfNone found (most_coefficient < greatest_in (nonzero_sums self.old))) }
         ensures unchanged { self.new ≡ self.old }
     {
         self.touched.sort()?;
@@ -93,7 +95,8 @@ impl Sums {
 fn mark(leaf: u32, marked: &mut Vec<bool>, touched: &mut Vec<u32>) -> Result<(), AllocError>
     requires { leaf < length marked.old.items }
     ensures marked { OnOk result (marked.new.items ≡ slice_set marked.old.items leaf true) }
-    ensures touched { OnOk result (touched.new.items ≡ (if slice_index_or marked.old.items leaf false then touched.old.items else touched.old.items ++ leaf ∷ [])) }
+    ensures touched { OnOk result (touched.new.items ≡ (if slice_index_or marked.old.items leaf false
+        then touched.old.items else touched.old.items ++ leaf ∷ [])) }
     ensures unchanged { OnErr result ((marked.new.items ≡ marked.old.items) × (touched.new.items ≡ touched.old.items)) }
 {
     let place = leaf as usize;
@@ -111,9 +114,11 @@ fn pairs_of(
     sums: &[i128],
 ) -> Result<Option<Vec<(u32, i64)>>, AllocError>
     requires { All (λ leaf. leaf < length sums.now) leaves.now }
-    ensures pairs { IfOk result (λ found. IfSome found (λ pairs. pairs.items ≡ nonzero_among (sum_at sums.now) leaves.now)) }
-    ensures small { IfOk result (λ found. IfSome found (λ pairs. greatest_in pairs.items ≤ 1000000000)) }
-    ensures large { IfOk result (λ found. IfNone found (SomeIndex sums.now (λ leaf. 1000000000 < unsigned_abs (sum_at sums.now leaf)))) }
+    ensures pairs { IfOk result (λ found. IfSome found
+        (λ pairs. pairs.items ≡ nonzero_among (sum_at sums.now) leaves.now)) }
+    ensures small { IfOk result (λ found. IfSome found (λ pairs. greatest_in pairs.items ≤ most_coefficient)) }
+    ensures large { IfOk result (λ found. IfNone found (SomeIndex sums.now
+        (λ leaf. most_coefficient < unsigned_abs (sum_at sums.now leaf)))) }
 {
     let mut pairs = Vec::new(alloc);
     for leaf in leaves {
@@ -127,7 +132,7 @@ fn pairs_of(
 }
 
 fn push_nonzero(pairs: &mut Vec<(u32, i64)>, leaf: u32, sum: i128) -> Result<(), AllocError>
-    requires { unsigned_abs sum ≤ 1000000000 }
+    requires { unsigned_abs sum ≤ most_coefficient }
     ensures { OnOk result (pairs.new.items ≡ pairs.old.items ++ nonzero_pair leaf sum) }
 {
     if sum != 0 {

@@ -1,10 +1,12 @@
-ghost use Rattle.std.specs.Prelude.{◌≡◌, ℕ, ◌+◌, ◌<◌, ◌≤◌, ◌⊎◌, pos, [], Err, length, IfOk, OnOk, IfSome, IfNone, IsOkUnless};
-ghost use Rattle.dim_core.specs.Outline.{IsDimension, components_of};
-ghost use Rattle.dim_weights.specs.Coefficients.{IsElement};
+ghost use Rattle.std.specs.Prelude.{◌≡◌, ℕ, ◌+◌, ◌<◌, ◌≤◌, ◌⊎◌, pos, [], Err, length, IfOk, OnOk, IfSome, IfNone};
+ghost use Rattle.std.specs.Prelude.{IsOkUnless};
+ghost use Rattle.dim_core.specs.Outline.{IsDimension};
+ghost use Rattle.dim_core.specs.Outline.{IsElement};
 ghost use Rattle.dim_weights.specs.Table.{leaves_in, greatest_of, greatest_in};
 ghost use Rattle.dim_weights.specs.Refusal.{fault_of};
-ghost use Rattle.dim_weights.specs.Sums.{AreRows, AreZero};
-ghost use Rattle.dim_weights.specs.Rows.{pairs_over, with_row};
+ghost use Rattle.dim_weights.specs.Private.Sums.{AreRows, AreZero};
+ghost use Rattle.dim_weights.specs.Private.Rows.{pairs_over, row_of, with_row};
+ghost use Rattle.dim_weights.specs.Coefficients.{most_coefficient};
 
 use crate::fault::WeightFault;
 use crate::rows::pairs_over;
@@ -24,7 +26,7 @@ pub struct TableBuilder {
 }
 
 impl Model for TableBuilder {
-    ghost use Rattle.dim_weights.specs.Rows.{Rows, IsBuilding};
+    ghost use Rattle.dim_weights.specs.Private.Rows.{Rows, IsBuilding};
 
     ghost Value = { Rows };
 
@@ -62,9 +64,12 @@ impl TableBuilder {
         requires sums { length sums.old ≡ length dimension.now.elements }
         requires zero { AreZero sums.old }
         requires within { IsElement dimension.now element }
-        ensures refused { let pairs = pairs_over (length dimension.now.elements) self.old.rows element (components_of dimension.now element) in IfSome (fault_of element pairs (self.old.count + length pairs)) (λ fault. (result ≡ Err fault) ⊎ (result ≡ Err WeightFault.Memory)) }
-        ensures accepted { let pairs = pairs_over (length dimension.now.elements) self.old.rows element (components_of dimension.now element) in IfNone (fault_of element pairs (self.old.count + length pairs)) (IsOkUnless result WeightFault.Memory) }
-        ensures added { let pairs = pairs_over (length dimension.now.elements) self.old.rows element (components_of dimension.now element) in OnOk result (self.new ≡ with_row self.old element pairs) }
+        ensures refused { IfSome (fault_of element (row_of dimension.now self.old element)
+            (self.old.count + length (row_of dimension.now self.old element)))
+            (λ fault. (result ≡ Err fault) ⊎ (result ≡ Err WeightFault.Memory)) }
+        ensures accepted { IfNone (fault_of element (row_of dimension.now self.old element)
+            (self.old.count + length (row_of dimension.now self.old element))) (IsOkUnless result WeightFault.Memory) }
+        ensures added { OnOk result (self.new ≡ with_row self.old element (row_of dimension.now self.old element)) }
         ensures zero { OnOk result (AreZero sums.new) }
         ensures sums { length sums.new ≡ length sums.old }
     {
@@ -95,7 +100,7 @@ impl TableBuilder {
 pub fn greatest_of(rows: &[ListOf<(u32, i64)>]) -> i64
     requires { AreRows (length rows.now) rows.now }
     ensures value { result ≡ pos (greatest_of rows.now) }
-    ensures within { greatest_of rows.now ≤ 1000000000 }
+    ensures within { greatest_of rows.now ≤ most_coefficient }
 {
     let mut greatest = 0;
     for row in rows {
@@ -105,7 +110,7 @@ pub fn greatest_of(rows: &[ListOf<(u32, i64)>]) -> i64
 }
 
 fn greatest_in(pairs: &[(u32, i64)]) -> u64
-    requires { greatest_in pairs.now ≤ 1000000000 }
+    requires { greatest_in pairs.now ≤ most_coefficient }
     ensures { result ≡ greatest_in pairs.now }
 {
     let mut greatest = 0;

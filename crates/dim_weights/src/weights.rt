@@ -1,9 +1,12 @@
-ghost use Rattle.std.specs.Prelude.{◌≡◌, ℕ, ◌<◌, ◌≤◌, ◌⊎◌, Err, pos, length, unsigned_abs, All, IfOk, IfSome, IfNone, IsOkUnless};
+ghost use Rattle.std.specs.Prelude.{◌≡◌, ℕ, ◌<◌, ◌≤◌, ◌⊎◌, Err, pos, length, unsigned_abs, All, IfOk, IfSome, IfNone};
+ghost use Rattle.std.specs.Prelude.{IsOkUnless};
 ghost use Rattle.dim_core.specs.Outline.{Outline};
-ghost use Rattle.dim_weights.specs.Coefficients.{IsElement, coef};
+ghost use Rattle.dim_core.specs.Outline.{IsElement};
+ghost use Rattle.dim_weights.specs.Coefficients.{coef};
 ghost use Rattle.dim_weights.specs.Table.{IsWeightsOf, leaves_in, leaves_of, share, greatest_of, IsRising};
 ghost use Rattle.dim_weights.specs.Refusal.{refusal_of};
-ghost use Rattle.dim_weights.specs.Sums.{AreRows};
+ghost use Rattle.dim_weights.specs.Private.Sums.{AreRows};
+ghost use Rattle.dim_weights.specs.Coefficients.{most_coefficient};
 
 use crate::fault::WeightFault;
 use crate::levels::elements_by_level;
@@ -29,7 +32,7 @@ pub struct Weights {
 
 impl Model for Weights {
     ghost use Rattle.std.specs.Prelude.{ℕ, ℤ, List};
-    ghost use Rattle.dim_weights.specs.Kept.{IsKept};
+    ghost use Rattle.dim_weights.specs.Private.Kept.{IsKept};
 
     ghost Value = { List (List (ℕ × ℤ)) };
 
@@ -42,7 +45,8 @@ impl Weights {
     /// The coefficients of a dimension.
     pub fn of(alloc: Global, dimension: &Dimension) -> Result<Weights, WeightFault>
         ensures weights { IfOk result (λ weights. IsWeightsOf dimension.now weights) }
-        ensures refused { IfSome (refusal_of dimension.now) (λ fault. (result ≡ Err fault) ⊎ (result ≡ Err WeightFault.Memory)) }
+        ensures refused { IfSome (refusal_of dimension.now) (λ fault. (result ≡ Err fault)
+            ⊎ (result ≡ Err WeightFault.Memory)) }
         ensures accepted { IfNone (refusal_of dimension.now) (IsOkUnless result WeightFault.Memory) }
     {
         let rows = rows_of(alloc, dimension)?;
@@ -82,7 +86,7 @@ impl Weights {
     /// The greatest size of a coefficient: 0 of a dimension without elements.
     pub fn greatest(&self) -> i64
         ensures greatest { result ≡ pos (greatest_of self.now) }
-        ensures within { greatest_of self.now ≤ 1000000000 }
+        ensures within { greatest_of self.now ≤ most_coefficient }
     {
         self.greatest
     }
@@ -103,7 +107,8 @@ fn share(pairs: &[(u32, i64)], leaf: u32) -> i64
 fn rows_of(alloc: Global, dimension: &Dimension) -> Result<Vec<ListOf<(u32, i64)>>, WeightFault>
     ensures weights { IfOk result (λ rows. IsWeightsOf dimension.now rows.items) }
     ensures valid { IfOk result (λ rows. AreRows (length rows.items) rows.items) }
-    ensures refused { IfSome (refusal_of dimension.now) (λ fault. (result ≡ Err fault) ⊎ (result ≡ Err WeightFault.Memory)) }
+    ensures refused { IfSome (refusal_of dimension.now) (λ fault. (result ≡ Err fault)
+        ⊎ (result ≡ Err WeightFault.Memory)) }
     ensures accepted { IfNone (refusal_of dimension.now) (IsOkUnless result WeightFault.Memory) }
 {
     let elements = elements_by_level(alloc, dimension)?;

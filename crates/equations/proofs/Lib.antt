@@ -1,1 +1,1 @@
-pub mod SettledFacts
+pub mod RoundsFacts

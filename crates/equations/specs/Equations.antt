@@ -1,6 +1,6 @@
--- Equations over a space of cells. Each cell has one: its value is its right side, which may read the values of other cells.
--- A table is a value for each cell, `C → V`. The right sides are one function `right` of a table and a cell, and `In` says
--- which cells belong to the space.
+-- Equations over a space of cells. Each cell has one: its value is its right side, which may read the values of other
+-- cells. A table is a value for each cell, `C → V`. The right sides are one function `right` of a table and a cell, and
+-- `In` says which cells belong to the space.
 use Rattle.std.specs.Prelude.{◌≡◌, ℕ, zero, suc, ◌<◌, Bool, true}
 
 -- the right sides are grounded: each reads a table only at cells of the space that lie less deep
@@ -12,14 +12,15 @@ IsGrounded {C} {V} In depth right =
 abbrev pub Solves : {C V : Type 0} → (C → Type 0) → ((C → V) → C → V) → (C → V) → Type 0
 Solves {C} In right table = (c : C) → In c → table c ≡ right table c
 
--- the table after so many rounds: at first each cell has the value `none`, and in a round each takes the value of its right side
+-- the table after so many rounds: at first each cell has the value `none`, and in a round each takes the value of its
+-- right side
 abbrev pub round : {C V : Type 0} → V → ((C → V) → C → V) → ℕ → C → V
 round none right zero c = none
 round none right (suc n) c = right (round none right n) c
 
 -- the table where each cell has the value that it takes in the last of its own number of rounds
-abbrev pub settled : {C V : Type 0} → V → ((C → V) → C → V) → (C → ℕ) → C → V
-settled none right rounds c = round none right (rounds c) c
+abbrev pub table_by_rounds : {C V : Type 0} → V → ((C → V) → C → V) → (C → ℕ) → C → V
+table_by_rounds none right rounds c = round none right (rounds c) c
 
 -- each cell of the space has more rounds than its depth
 abbrev pub Outlasts : {C : Type 0} → (C → Type 0) → (C → ℕ) → (C → ℕ) → Type 0

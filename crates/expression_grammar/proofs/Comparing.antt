@@ -7,7 +7,7 @@ use Rattle.grammar.specs.Watch.{each_token}
 use Rattle.grammar.proofs.Exact.{Exact, Always, Not, exact_gives, exact_then, exact_both, exact_by, exact_before, exact_choose}
 use Rattle.grammar.proofs.Begins.{Begins, begins_both, starts_text}
 use Rattle.expression_grammar.specs.Language.{Language, operator, is_operator}
-use Rattle.expression_grammar.specs.Reading.{Scanner, Sorted, PrimaryReader, inside_parentheses, read_sum, read_compared, behind_left, read_compare}
+use Rattle.expression_grammar.specs.Readers.Reading.{Scanner, Sorted, PrimaryReader, inside_parentheses, read_sum, read_compared, behind_left, read_compare}
 use Rattle.expression_grammar.specs.declared.sort.Sort.{Sort}
 use Rattle.expression_grammar.specs.declared.sort.Sort.TheVariants as sorts
 use Rattle.expression_grammar.specs.declared.sort.Want.{Want}

@@ -10,14 +10,14 @@ use Rattle.grammar.proofs.Tokens.{sign_begins}
 use Rattle.grammar.proofs.Many.{Shortens, shortens}
 use Rattle.expression_grammar.specs.Language.{Table, Language}
 use Rattle.expression_grammar.specs.Expression.{Primaries, chain, within, expression}
-use Rattle.expression_grammar.specs.Reading.{Scanner, PrimaryReader, read_expression, tree_of}
+use Rattle.expression_grammar.specs.Readers.Reading.{Scanner, PrimaryReader, read_expression, tree_of, only}
 use Rattle.expression_grammar.specs.declared.sort.Sort.{Sort}
 use Rattle.expression_grammar.specs.declared.sort.Sort.TheVariants as sorts
 use Rattle.expression_grammar.specs.declared.sort.Want.{Want}
 use Rattle.expression_grammar.specs.declared.sort.Want.TheVariants as wants
 use Rattle.expression_grammar.proofs.Languages.{on_primary, on_expression, goes_on, IsLanguage}
 use Rattle.expression_grammar.proofs.Operators.{sign_tells, exact_operator}
-use Rattle.expression_grammar.proofs.Levels.{only, sorted}
+use Rattle.expression_grammar.proofs.Levels.{sorted}
 use Rattle.expression_grammar.proofs.Parts.{disjunctions, disjunctions_begin}
 use Rattle.expression_grammar.proofs.OneNesting.{relation_filled, exact_tree, or_exact}
 

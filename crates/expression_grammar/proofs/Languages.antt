@@ -10,7 +10,7 @@ use Rattle.grammar.proofs.Exact.{Exact, Not}
 use Rattle.grammar.proofs.Begins.{Begins}
 use Rattle.expression_grammar.specs.Language.{Table, Language}
 use Rattle.expression_grammar.specs.Expression.{Primaries, nothing}
-use Rattle.expression_grammar.specs.Reading.{Scanner, Reads, PrimaryReader}
+use Rattle.expression_grammar.specs.Readers.Reading.{Scanner, Reads, PrimaryReader}
 
 -- whether this is the sign of an operator of the table
 abbrev pub has_sign : {O : Type 0} → Table O → List ℕ → Bool

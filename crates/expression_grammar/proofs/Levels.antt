@@ -11,7 +11,7 @@ use Rattle.grammar.proofs.Many.{exact_all}
 use Rattle.grammar.proofs.Tokens.{exact_sign, sign_begins, bytes_eq_self}
 use Rattle.expression_grammar.specs.Language.{Table, is_operator}
 use Rattle.expression_grammar.specs.Expression.{from_left, operation, chain, prefixed}
-use Rattle.expression_grammar.specs.Reading.{Scanner, Reads, read_operation, read_behind, behind_value, behind_truth}
+use Rattle.expression_grammar.specs.Readers.Reading.{Scanner, Reads, read_operation, read_behind, behind_value, behind_truth, read_behind_sort, only}
 use Rattle.expression_grammar.specs.declared.sort.Sort.{Sort}
 use Rattle.expression_grammar.specs.declared.sort.Sort.TheVariants as sorts
 use Rattle.expression_grammar.specs.declared.sort.Want.{Want}
@@ -26,11 +26,6 @@ fits wants.Value sorts.Truth = ⊥
 fits wants.Truth sorts.Value = ⊥
 fits wants.Truth sorts.Truth = Unit {0}
 fits wants.Any sort = Unit {0}
-
--- where this sort alone may stand
-abbrev pub only : Sort → Want
-only sorts.Value = wants.Value
-only sorts.Truth = wants.Truth
 
 -- a grammar for each sort
 abbrev pub Sorts : Type 0 → Type 1
@@ -80,10 +75,6 @@ module _ {A O R C : Type 0} (scan : Scanner R C) (joined : O → A → A → A) 
   behind sorts.Truth G (e, sorts.Value) = done (e, sorts.Value)
   behind sorts.Truth G (e, sorts.Truth) = operations G (e, sorts.Truth)
 
-  abbrev pub read_behind_sort : Sort → Reads R C (A × Sort) → A × Sort → Reads R C (A × Sort)
-  read_behind_sort sorts.Value = behind_value scan joined table
-  read_behind_sort sorts.Truth = behind_truth scan joined table
-
   into_chain : (F : Sorts A) (s : Sort) (want : Want) (u : List Lexeme) (x : A × Sort) → both (sorted F want) (behind s (F s)) u x → sorted (changed s (chain joined table) F) want u x
   into_chain F sorts.Value want u x (v, w, (e, sorts.Value), parts, (fit, h), (a, b, rest, more, ops, (nothing, is))) = subst (sorted (changed sorts.Value (chain joined table) F) want u) (sym is) (fit, (v, w, e, parts, h, (a, b, rest, more, ops, (nothing, refl))))
   into_chain F sorts.Value want u x (v, w, (e, sorts.Truth), parts, (fit, h), (nothing, is)) = subst (sorted (changed sorts.Value (chain joined table) F) want u) (sym is) (fit, subst (λ z. F sorts.Truth z e) (sym (parts ∙ ap (λ z. v ++ z) nothing ∙ append-nil v)) h)
@@ -104,7 +95,7 @@ module _ {A O R C : Type 0} (scan : Scanner R C) (joined : O → A → A → A) 
         (λ list v rest h stops. starts_many (operation_apart signs table (H s) apart) list v rest h (not_signs signs table rest stops))
         (exact_then (exact_operator scan table filled) (λ o. exact_of_sort F H (λ right. (o, right)) s e)))
 
-    behind_exact : (F H : Sorts A) (s : Sort) (x : A × Sort) {Q : Reads R C (A × Sort)} → Exact (each_token scan) (sorted F (only s)) (sorted H (only s)) Q (Not (is_sign_of signs)) → Exact (each_token scan) (behind s (F s) x) (behind s (H s) x) (read_behind_sort s Q x) (Not (is_sign_of (more_signs signs table)))
+    behind_exact : (F H : Sorts A) (s : Sort) (x : A × Sort) {Q : Reads R C (A × Sort)} → Exact (each_token scan) (sorted F (only s)) (sorted H (only s)) Q (Not (is_sign_of signs)) → Exact (each_token scan) (behind s (F s) x) (behind s (H s) x) (read_behind_sort scan joined table s Q x) (Not (is_sign_of (more_signs signs table)))
     unfolding behind_value behind_truth
     behind_exact F H sorts.Value (e, sorts.Value) exact = operations_exact F H sorts.Value (e, sorts.Value) exact
     behind_exact F H sorts.Value (e, sorts.Truth) exact = exact_before (λ _ _. tt) (exact_gives (each_token scan) (e, sorts.Truth))
@@ -124,7 +115,7 @@ module _ {A O R C : Type 0} (scan : Scanner R C) (joined : O → A → A → A) 
 
     -- an operand as it is wanted, and operations behind it if it is of this sort
     pub exact_chain : (F H : Sorts A) (s : Sort) (want : Want) {P Q : Reads R C (A × Sort)} → Exact (each_token scan) (sorted F want) (sorted H want) P (Not (is_sign_of signs)) → Exact (each_token scan) (sorted F (only s)) (sorted H (only s)) Q (Not (is_sign_of signs))
-        → Exact (each_token scan) (sorted (changed s (chain joined table) F) want) (sorted (changed s (chain joined table) H) want) (both_of P (read_behind_sort s Q)) (Not (is_sign_of (more_signs signs table)))
+        → Exact (each_token scan) (sorted (changed s (chain joined table) F) want) (sorted (changed s (chain joined table) H) want) (both_of P (read_behind_sort scan joined table s Q)) (Not (is_sign_of (more_signs signs table)))
     exact_chain F H s want head right = exact_by (into_chain F s want) (back_chain H s want) (exact_both head (λ x. behind_exact F H s x right) (follow_behind (H s) s))
 
 -- A sign before an operand.

@@ -9,3 +9,8 @@ pub mod PrintedTokens
 pub mod PrintedLimits
 pub mod PrintedLevels
 pub mod PrintedExpressions
+mod OperatorComes
+mod Folding
+pub mod LookaheadExact
+pub mod WordsExact
+pub mod TokenKinds

@@ -9,14 +9,14 @@ use Rattle.grammar.proofs.Begins.{Begins, begins_both, exact_or, exact_before_ne
 use Rattle.grammar.proofs.Tokens.{and_is, exact_sign, sign_begins}
 use Rattle.expression_grammar.specs.Language.{Language}
 use Rattle.expression_grammar.specs.Expression.{Primaries}
-use Rattle.expression_grammar.specs.Reading.{Scanner, Reads, Sorted, PrimaryReader, inside_parentheses, tree_of, read_primary, read_signed, read_product, read_sum, read_compare, read_opposite, read_not, read_and, read_or}
+use Rattle.expression_grammar.specs.Readers.Reading.{Scanner, Reads, Sorted, PrimaryReader, inside_parentheses, tree_of, read_primary, read_signed, read_product, read_sum, read_compare, read_opposite, read_not, read_and, read_or, only, read_level}
 use Rattle.expression_grammar.specs.declared.sort.Sort.{Sort}
 use Rattle.expression_grammar.specs.declared.sort.Sort.TheVariants as sorts
 use Rattle.expression_grammar.specs.declared.sort.Want.{Want}
 use Rattle.expression_grammar.specs.declared.sort.Want.TheVariants as wants
 use Rattle.expression_grammar.proofs.Languages.{is_sign_of, is_filled, is_apart, on_primary, on_product, on_sum, on_comparison, on_and, on_expression, goes_on, IsLanguage}
 use Rattle.expression_grammar.proofs.Operators.{sign_tells}
-use Rattle.expression_grammar.proofs.Levels.{Sorts, fits, only, sorted, exact_of_sort, exact_chain, exact_prefixed}
+use Rattle.expression_grammar.proofs.Levels.{Sorts, fits, sorted, exact_of_sort, exact_chain, exact_prefixed}
 use Rattle.expression_grammar.proofs.Parts.{operands, signed, products, sums, comparisons, opposites, conjunctions, disjunctions, operands_begin, comparisons_begin}
 use Rattle.expression_grammar.proofs.Comparing.{exact_compare}
 
@@ -117,11 +117,11 @@ module _ {A O R C : Type 0} {scan : Scanner R C} {L : Language A O} {primary : P
     signed_exact want = exact_prefixed scan (codes "-") L.negated (operands L primary F) (operands L primary H) sorts.Value (inside_parentheses want) (value_inside want) (operands_begin L primary H (sign_begins (codes "(") (codes "-")) l.no_minus) (operand_exact wants.Value) (operand_exact want)
 
     product_exact : (want : Want) → Exact (each_token scan) (sorted (products L primary F) (inside_parentheses want)) (sorted (products L primary H) (inside_parentheses want)) (read_product scan L read inner want) (Not (is_sign_of (on_product L)))
-    unfolding read_product
+    unfolding read_level
     product_exact want = exact_chain scan L.joined L.product on_primary tables.product tables.product_apart (signed L primary F) (signed L primary H) sorts.Value (inside_parentheses want) (signed_exact want) (signed_exact wants.Value)
 
     sum_exact : (want : Want) → Exact (each_token scan) (sorted (sums L primary F) (inside_parentheses want)) (sorted (sums L primary H) (inside_parentheses want)) (read_sum scan L read inner want) (Not (is_sign_of (on_sum L)))
-    unfolding read_sum
+    unfolding read_level
     sum_exact want = exact_chain scan L.joined L.sum (on_product L) tables.sum tables.sum_apart (products L primary F) (products L primary H) sorts.Value (inside_parentheses want) (product_exact want) (product_exact wants.Value)
 
     compare_exact : (want : Want) → Exact (each_token scan) (sorted (comparisons L primary F) want) (sorted (comparisons L primary H) want) (read_compare scan L read inner want) (Not (is_sign_of (on_comparison L)))
@@ -137,9 +137,9 @@ module _ {A O R C : Type 0} {scan : Scanner R C} {L : Language A O} {primary : P
     not_exact wants.Any = exact_prefixed scan (codes "~") L.opposite (comparisons L primary F) (comparisons L primary H) sorts.Truth wants.Any tt no_tilde (compare_exact wants.Truth) (compare_exact wants.Any)
 
     and_exact : (want : Want) → Exact (each_token scan) (sorted (conjunctions L primary F) want) (sorted (conjunctions L primary H) want) (read_and scan L read inner want) (Not (is_sign_of (on_and L)))
-    unfolding read_and
+    unfolding read_level
     and_exact want = exact_chain scan L.joined L.and (on_comparison L) tables.and tables.and_apart (opposites L primary F) (opposites L primary H) sorts.Truth want (not_exact want) (not_exact wants.Truth)
 
     pub or_exact : (want : Want) → Exact (each_token scan) (sorted (disjunctions L primary F) want) (sorted (disjunctions L primary H) want) (read_or scan L read inner want) (Not (goes_on L))
-    unfolding read_or
+    unfolding read_level
     or_exact want = exact_chain scan L.joined L.or (on_and L) tables.or tables.or_apart (conjunctions L primary F) (conjunctions L primary H) sorts.Truth want (and_exact want) (and_exact wants.Truth)

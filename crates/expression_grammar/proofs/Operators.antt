@@ -14,7 +14,7 @@ use Rattle.grammar.proofs.Begins.{Begins, begins_one, begins_both}
 use Rattle.grammar.proofs.Tokens.{when_picks, and_is, bytes_eq_self}
 use Rattle.expression_grammar.specs.Language.{Table, operator, is_operator}
 use Rattle.expression_grammar.specs.Expression.{operation}
-use Rattle.expression_grammar.specs.Reading.{Scanner}
+use Rattle.expression_grammar.specs.Readers.Reading.{Scanner}
 use Rattle.expression_grammar.proofs.Languages.{has_sign, is_sign_of, is_filled, is_apart}
 
 same_bytes : (a b : List ℕ) → bytes_eq a b ≡ true → a ≡ b

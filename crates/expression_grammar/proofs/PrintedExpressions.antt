@@ -2,11 +2,11 @@
 use Rattle.std.proofs.Common.{◌≡◌, ℕ, zero, suc, List, [], ◌∷◌, ◌++◌, Some, sym, ap, ◌∙◌, subst, inl, inr, codes, append-nil}
 use Rattle.cube_lex.specs.Lexeme.{Lexeme}
 use Rattle.grammar.specs.Grammar.{Grammar, both, either, many}
+use Rattle.cube_lex.specs.Written.{sign_token}
 use Rattle.expression_grammar.specs.declared.sort.Sort.{Sort}
 use Rattle.expression_grammar.specs.declared.sort.Sort.TheVariants as sorts
 use Rattle.expression_grammar.specs.Expression.{chain, prefixed, enclosed, Primaries, value_of, comparison, truth_of, within, expression}
 use Rattle.expression_grammar.specs.Language.{Table, operator, Language}
-use Rattle.expression_grammar.specs.Spelled.{sign_token}
 use Rattle.expression_grammar.proofs.PrintedTokens.{Spells, Picks, spells_both, spells_next, spells_made, spells_in}
 use Rattle.expression_grammar.proofs.PrintedLimits.{Counting, Shorter, IsWrittenSign, shorter_joined}
 use Rattle.expression_grammar.proofs.PrintedLevels.{Writing, Ladder, IsLadder, IsInner, rung, shown, whole_again}

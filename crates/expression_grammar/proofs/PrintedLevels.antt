@@ -2,13 +2,13 @@
 use Rattle.std.proofs.Common.{◌≡◌, ◌≤◌, ℕ, ◌+◌, ◌-◌, zero, suc, List, [], ◌∷◌, ◌++◌, Bool, true, false, Some, ◌⊎◌, inl, inr, nat_lt, if◌then◌else◌, refl, sym, ap, ◌∙◌, subst, codes, arith, append-nil, append_assoc}
 use Rattle.std.proofs.lemmas.Bool.{ltb-true, ltb-false}
 use Rattle.cube_lex.specs.Lexeme.{Lexeme}
-use Rattle.cube_lex.specs.Written.{Spelling}
+use Rattle.cube_lex.specs.Written.{Spelling, sign_token}
 use Rattle.grammar.specs.Grammar.{Grammar, either, many}
 use Rattle.grammar.specs.Tokens.{is_sign}
 use Rattle.grammar.proofs.Tokens.{when_picks}
 use Rattle.expression_grammar.specs.Expression.{from_left, operation, chain, prefixed, enclosed}
 use Rattle.expression_grammar.specs.Language.{Table, operator}
-use Rattle.expression_grammar.specs.Spelled.{sign_token, in_parentheses, placed}
+use Rattle.expression_grammar.specs.Spelled.{in_parentheses, placed}
 use Rattle.expression_grammar.proofs.PrintedTokens.{Spells, Picks, spells_next, spells_made, spells_left, spells_in, spells_enclosed, picks_sign, chain_of_one, chain_more, split_at, split_next}
 use Rattle.expression_grammar.proofs.PrintedLimits.{Counting, Shorter, IsWrittenSign, shorter_joined, shorter_prefixed, shorter_without, shorter_enclosed}
 

@@ -2,10 +2,10 @@
 use Rattle.std.proofs.Common.{◌≡◌, ◌≤◌, ◌<◌, ℕ, ◌+◌, List, [], ◌∷◌, ◌++◌, map, Bool, true, false, Option, Some, None, nat_lt, if◌then◌else◌, refl, sym, ap, ◌∙◌, subst, codes, arith}
 use Rattle.std.proofs.lemmas.Bool.{ltb-true, lt-ltb}
 use Rattle.cube_lex.specs.Lexeme.{Lexeme}
-use Rattle.cube_lex.specs.Written.{Spelling, spelling_of}
+use Rattle.cube_lex.specs.Written.{Spelling, spelling_of, sign_token}
 use Rattle.grammar.specs.Tokens.{is_sign}
 use Rattle.expression_grammar.specs.Limits.{most_open, most_primaries}
-use Rattle.expression_grammar.specs.Spelled.{sign_token, in_parentheses}
+use Rattle.expression_grammar.specs.Spelled.{in_parentheses}
 use Rattle.expression_grammar.proofs.PrintedTokens.{split_at, split_next, none_written, is_written_sign}
 
 -- a state after one more primary inside one more parenthesis, if there is room for them

@@ -2,13 +2,13 @@
 use Rattle.std.proofs.Common.{◌≡◌, ℕ, List, [], ◌∷◌, ◌++◌, map, Bool, true, false, Option, Some, ◌&&◌, if◌then◌else◌, refl, sym, ap, ◌∙◌, inl, inr, append-nil, append_assoc, codes}
 use Rattle.std.specs.Str.{bytes_eq}
 use Rattle.cube_lex.specs.Lexeme.{Lexeme}
-use Rattle.cube_lex.specs.Written.{Spelling, spelling_of}
+use Rattle.cube_lex.specs.Written.{Spelling, spelling_of, sign_token}
 use Rattle.grammar.specs.Grammar.{Grammar, done, one, both, either, many}
 use Rattle.grammar.specs.Tokens.{is_sign_kind, is_sign, sign}
 use Rattle.grammar.proofs.Tokens.{bytes_eq_self}
 use Rattle.expression_grammar.specs.Expression.{from_left, operation, chain, enclosed}
 use Rattle.expression_grammar.specs.Language.{Table, operator}
-use Rattle.expression_grammar.specs.Spelled.{sign_token, in_parentheses}
+use Rattle.expression_grammar.specs.Spelled.{in_parentheses}
 
 -- tokens written in two parts
 pub split_at : (ts : List Lexeme) (xs ys : List Spelling) → map spelling_of ts ≡ xs ++ ys → (u v : List Lexeme) × (ts ≡ u ++ v) × (map spelling_of u ≡ xs) × (map spelling_of v ≡ ys)

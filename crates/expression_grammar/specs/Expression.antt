@@ -1,5 +1,5 @@
--- The grammar of expressions. A value and a truth are read at levels of operators that group from the left; parentheses leave
--- nothing in the tree.
+-- The grammar of expressions. A value and a truth are read at levels of operators that group from the left; parentheses
+-- leave nothing in the tree.
 use Rattle.std.specs.Prelude.{ℕ, zero, suc, List, [], ◌∷◌, codes}
 use Rattle.cube_lex.specs.Lexeme.{Lexeme}
 use Rattle.grammar.specs.Grammar.{Grammar, done, one, either, many, ◌>>=◌, ◌>>◌}
@@ -44,8 +44,11 @@ abbrev pub Primaries : Type 0 → Type 1
 Primaries A = Grammar Lexeme A → Grammar Lexeme A → Grammar Lexeme A
 
 -- a value, by the values and truths inside it
-abbrev pub value_of : {A O : Type 0} → Language A O → Primaries A → Grammar Lexeme A → Grammar Lexeme A → Grammar Lexeme A
-value_of L primary value truth = chain L.joined L.sum (chain L.joined L.product (prefixed (codes "-") L.negated (either (enclosed value) (primary value truth))))
+abbrev pub value_of : {A O : Type 0} → Language A O → Primaries A → Grammar Lexeme A → Grammar Lexeme A
+    → Grammar Lexeme A
+value_of L primary value truth =
+    chain L.joined L.sum
+    (chain L.joined L.product (prefixed (codes "-") L.negated (either (enclosed value) (primary value truth))))
 
 -- two values that are compared
 abbrev pub comparison : {A O : Type 0} → Language A O → Grammar Lexeme A → Grammar Lexeme A
@@ -56,8 +59,12 @@ comparison L value = do
   done (L.joined o left right)
 
 -- a truth, by the values and truths inside it
-abbrev pub truth_of : {A O : Type 0} → Language A O → Primaries A → Grammar Lexeme A → Grammar Lexeme A → Grammar Lexeme A
-truth_of L primary value truth = chain L.joined L.or (chain L.joined L.and (prefixed (codes "~") L.opposite (either (enclosed truth) (comparison L (value_of L primary value truth)))))
+abbrev pub truth_of : {A O : Type 0} → Language A O → Primaries A → Grammar Lexeme A → Grammar Lexeme A
+    → Grammar Lexeme A
+truth_of L primary value truth =
+    chain L.joined L.or
+    (chain L.joined L.and
+    (prefixed (codes "~") L.opposite (either (enclosed truth) (comparison L (value_of L primary value truth)))))
 
 abbrev pub nothing : {A : Type 0} → Grammar Lexeme A
 nothing ts e = ⊥
@@ -65,8 +72,10 @@ nothing ts e = ⊥
 -- what has at most so many expressions one inside the other
 abbrev pub within : {A O : Type 0} → Language A O → Primaries A → ℕ → Sort → Grammar Lexeme A
 within L primary zero sort = nothing
-within L primary (suc h) sorts.Value = value_of L primary (within L primary h sorts.Value) (within L primary h sorts.Truth)
-within L primary (suc h) sorts.Truth = truth_of L primary (within L primary h sorts.Value) (within L primary h sorts.Truth)
+within L primary (suc h) sorts.Value =
+    value_of L primary (within L primary h sorts.Value) (within L primary h sorts.Truth)
+within L primary (suc h) sorts.Truth =
+    truth_of L primary (within L primary h sorts.Value) (within L primary h sorts.Truth)
 
 -- an expression of this sort
 abbrev pub expression : {A O : Type 0} → Language A O → Primaries A → Sort → Grammar Lexeme A

@@ -1,5 +1,6 @@
+pub mod Levels
 pub mod Language
 pub mod Expression
-pub mod Reading
 pub mod Limits
 pub mod Spelled
+pub mod Readers

@@ -1,10 +1,6 @@
 -- How expressions are written with the fewest parentheses.
 use Rattle.std.specs.Prelude.{ℕ, nat_lt, List, [], ◌∷◌, ◌++◌, codes, if◌then◌else◌}
-use Rattle.cube_lex.specs.Written.{Spelling}
-use Rattle.cube_lex.specs.declared.token.Kind.TheVariants as kinds
-
-abbrev pub sign_token : List ℕ → Spelling
-sign_token sign = record { kind = kinds.Sign; piece = sign }
+use Rattle.cube_lex.specs.Written.{Spelling, sign_token}
 
 abbrev pub in_parentheses : List Spelling → List Spelling
 in_parentheses tokens = sign_token (codes "(") ∷ (tokens ++ sign_token (codes ")") ∷ [])

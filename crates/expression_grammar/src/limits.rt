@@ -1,7 +1,8 @@
-ghost use Rattle.std.specs.Prelude.{◌≡◌, ◌+◌, ◌-◌, nat_lt, not, true, false, if◌then◌else◌, Some, None};
+ghost use Rattle.std.specs.Prelude.{◌≡◌, not, if◌then◌else◌, Some, None};
 ghost use Rattle.grammar.specs.Tokens.{is_sign_kind};
 ghost use Rattle.cube_lex.specs.Lexeme.{lexeme_of};
-ghost use Rattle.expression_grammar.specs.Limits.{most_open, begun_within, may_begin_primary, has_room, counted, scanned};
+ghost use Rattle.expression_grammar.specs.Limits as limits;
+ghost use Rattle.expression_grammar.specs.Limits.{begun_within, may_begin_primary, has_room, counted, scanned};
 
 use cube_lex::{Kind, Token};
 use grammar::is_sign;
@@ -54,7 +55,8 @@ impl Limits {
 
     // The primaries with this token, or nothing where they are too many.
     fn counted(&self, token: &Token<'_>) -> Option<u32>
-        ensures { result ≡ (if has_room self.now (lexeme_of token.now) then Some (counted self.now (lexeme_of token.now)) else None) }
+        ensures { result ≡ (if has_room self.now (lexeme_of token.now)
+            then Some (counted self.now (lexeme_of token.now)) else None) }
     {
         if !(self.due && may_begin_primary(token)) {
             Some(self.primaries)
@@ -93,7 +95,7 @@ impl Limits {
 
     // Behind a `(`, with so many primaries, if there may be one more.
     fn opened(&self, primaries: u32) -> Option<Limits>
-        ensures { result ≡ (if nat_lt self.now.depth most_open then Some (record { depth = self.now.depth + 1; primaries = primaries; due = true; bracketed = false }) else None) }
+        ensures { result ≡ limits.opened self.now primaries }
     {
         if self.depth < MOST_OPEN {
             Some(Limits {
@@ -109,7 +111,7 @@ impl Limits {
 
     // Behind a `)`.
     fn closed(&self) -> Limits
-        ensures { result ≡ record { depth = self.now.depth - 1; primaries = self.now.primaries; due = false; bracketed = false } }
+        ensures { result ≡ limits.closed self.now }
     {
         Limits {
             depth: self.depth.saturating_sub(1),

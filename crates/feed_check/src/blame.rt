@@ -1,88 +1,51 @@
-ghost use Rattle.std.specs.Prelude.{◌≡◌, ◌+◌, ◌-◌, ◌^◌, ◌<◌, true};
-ghost use Rattle.rule_laws.specs.Blame.{operands, operands_of_truth, blamed, zero_verdict};
-ghost use Rattle.feed_check.specs.Known.{each_reference};
+ghost use Rattle.std.specs.Prelude.{◌≡◌, ◌+◌, ◌^◌, ◌<◌, ◌≤◌};
+ghost use Rattle.rule_laws.specs.ZeroTest.{first_blamed, blamed_side, blamed_branch};
 
-use crate::cover::Cover;
 use crate::operation::is_divisor;
-use crate::zero::{is_zero, sure_truth};
-use rule_laws::{Formula, Op, Truth};
+use rule_laws::{Finding, Op, TruthFinding};
 
-/// How many operands a formula has: its Numbers, its references and its `STET`s.
-#[cycle(operands)]
-pub fn operands(formula: &Formula) -> u32
-    requires { operands formula.now < 2 ^ 32 }
-    ensures { result ≡ operands formula.now }
+/// Of two formulas that stand after so many operands: the operand of the first that isn't 0.
+fn first_blamed(before: u32, left: &Finding, right: &Finding) -> u32
+    requires room { before + left.now.operands + right.now.operands < 2 ^ 32 }
+    requires left { left.now.blamed ≤ left.now.operands }
+    requires right { right.now.blamed ≤ right.now.operands }
+    ensures value { result ≡ first_blamed before left.now right.now }
+    ensures within { result ≤ before + left.now.operands + right.now.operands }
 {
-    match formula {
-        Formula::Number(_) | Formula::Stet | Formula::Ref(_) => 1,
-        Formula::Binary(_, left, right) => operands(left) + operands(right),
-        Formula::Unary(_, inner) => operands(inner),
-        Formula::If(truth, left, right) => operands_of_truth(truth)
-            + operands(left)
-            + operands(right),
-    }
-}
-
-#[cycle(operands)]
-pub fn operands_of_truth(truth: &Truth) -> u32
-    requires { operands_of_truth truth.now < 2 ^ 32 }
-    ensures { result ≡ operands_of_truth truth.now }
-{
-    match truth {
-        Truth::Compare(_, left, right) => operands(left) + operands(right),
-        Truth::And(left, right) | Truth::Or(left, right) => operands_of_truth(left)
-            + operands_of_truth(right),
-        Truth::Not(inner) => operands_of_truth(inner),
-    }
-}
-
-/// The operand that a failing formula is blamed on, where its first operand has the number `first`.
-pub fn blamed<C: Cover>(cover: &C, first: u32, formula: &Formula) -> u32
-    requires known { each_reference (C.knows cover.now) formula.now ≡ true }
-    requires room { first + operands formula.now < 2 ^ 32 }
-    ensures { result ≡ blamed (C.covers cover.now) first formula.now }
-{
-    match formula {
-        Formula::Number(_) | Formula::Stet | Formula::Ref(_) => first,
-        Formula::Binary(op, left, right) => {
-            let right_first = first + operands(left);
-            match op {
-                Op::Add | Op::Sub | Op::Max | Op::Min => {
-                    if is_zero(cover, left) {
-                        blamed(cover, right_first, right)
-                    } else {
-                        blamed(cover, first, left)
-                    }
-                }
-                Op::Mul | Op::DivSafe => blamed(cover, first, left),
-                Op::Div if is_divisor(right) => blamed(cover, first, left),
-                Op::Div => right_first,
-            }
-        }
-        Formula::Unary(_, inner) => blamed(cover, first, inner),
-        Formula::If(truth, left, right) => {
-            let left_first = first + operands_of_truth(truth);
-            let right_first = left_first + operands(left);
-            match sure_truth(cover, truth) {
-                Some(true) => blamed(cover, left_first, left),
-                Some(false) => blamed(cover, right_first, right),
-                None if is_zero(cover, left) => blamed(cover, right_first, right),
-                None => blamed(cover, left_first, left),
-            }
-        }
-    }
-}
-
-/// Whether a formula is 0 wherever its covered references and `STET` are; where the test fails, the operand that it is blamed on,
-/// counted from 1 in reading order.
-pub fn zero_verdict<C: Cover>(cover: &C, formula: &Formula) -> Result<(), u32>
-    requires known { each_reference (C.knows cover.now) formula.now ≡ true }
-    requires few { operands formula.now < 2 ^ 32 - 1 }
-    ensures { result ≡ zero_verdict (C.covers cover.now) formula.now }
-{
-    if is_zero(cover, formula) {
-        Ok(())
+    if left.is_zero {
+        before + left.operands + right.blamed
     } else {
-        Err(blamed(cover, 1, formula))
+        before + left.blamed
+    }
+}
+
+/// The operand that an operation is blamed on, counted from 1, by what is found of its sides.
+pub fn blamed_side(op: Op, left: &Finding, right: &Finding) -> u32
+    requires room { left.now.operands + right.now.operands < 2 ^ 32 }
+    requires left { left.now.blamed ≤ left.now.operands }
+    requires right { right.now.blamed ≤ right.now.operands }
+    ensures value { result ≡ blamed_side op left.now right.now }
+    ensures within { result ≤ left.now.operands + right.now.operands }
+{
+    match op {
+        Op::Add | Op::Sub | Op::Max | Op::Min => first_blamed(0, left, right),
+        Op::Mul | Op::DivSafe => left.blamed,
+        Op::Div if is_divisor(right) => left.blamed,
+        Op::Div => left.operands + u32::min(1, right.operands),
+    }
+}
+
+/// The operand that an `IF` is blamed on, counted from 1, by what is found of its parts.
+pub fn blamed_branch(truth: &TruthFinding, left: &Finding, right: &Finding) -> u32
+    requires room { truth.now.operands + left.now.operands + right.now.operands < 2 ^ 32 }
+    requires left { left.now.blamed ≤ left.now.operands }
+    requires right { right.now.blamed ≤ right.now.operands }
+    ensures value { result ≡ blamed_branch truth.now left.now right.now }
+    ensures within { result ≤ truth.now.operands + left.now.operands + right.now.operands }
+{
+    match truth.sure {
+        Some(true) => truth.operands + left.blamed,
+        Some(false) => truth.operands + left.operands + right.blamed,
+        None => first_blamed(truth.operands, left, right),
     }
 }

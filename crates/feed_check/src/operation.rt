@@ -1,11 +1,13 @@
 ghost use Rattle.std.specs.Prelude.{◌≡◌, not};
 ghost use Rattle.std.specs.Option.{option_map};
-ghost use Rattle.rule_laws.specs.ZeroTest.{written_value, is_other_than_zero, is_divisor, known_value, sure_comparison, sure_and, sure_or, zero_operation, zero_choice};
+ghost use Rattle.rule_laws.specs.ZeroTest.{written_as, is_other_than_zero, is_divisor, known_value};
+ghost use Rattle.rule_laws.specs.ZeroTest.{sure_comparison, sure_and, sure_or, zero_operation, zero_choice};
 
-use cube_fixed::{Value, sub};
-use rule_laws::{Formula, Fun, Op, Rel};
+use cube_fixed::{Money, Value, sub};
+use rule_laws::{Finding, Fun, Op, Rel};
 
-/// Whether an operation gives 0, by whether each side is 0 and whether the right one is written as a number other than 0.
+/// Whether an operation gives 0, by whether each side is 0 and whether the right one is written as a number other
+/// than 0.
 pub fn zero_operation(op: Op, left: bool, right: bool, divisor: bool) -> bool
     ensures { result ≡ zero_operation op left right divisor }
 {
@@ -27,17 +29,17 @@ pub fn zero_choice(sure: Option<bool>, left: bool, right: bool) -> bool
     }
 }
 
-/// The value that a formula is written as: a Number, with or without minus.
-pub fn written_value(formula: &Formula) -> Option<Value>
-    ensures { result ≡ written_value formula.now }
+/// The value that a function of a formula is written as: minus of a number. The number is the one that the formula is
+/// written as, without `-`.
+pub fn written_as(fun: Fun, number: Option<Money>) -> Option<Value>
+    ensures { result ≡ written_as fun number }
 {
-    match formula {
-        Formula::Number(k) => Some(Value::Num(*k)),
-        Formula::Unary(Fun::Minus, inner) => match &**inner {
-            Formula::Number(k) => Some(sub(Value::ZERO, Value::Num(*k))),
-            _ => None,
+    match fun {
+        Fun::Minus => match number {
+            Some(number) => Some(sub(Value::ZERO, Value::Num(number))),
+            None => None,
         },
-        _ => None,
+        Fun::Abs | Fun::Sign | Fun::Int | Fun::Round => None,
     }
 }
 
@@ -51,22 +53,26 @@ fn is_other_than_zero(value: Value) -> bool
 }
 
 /// Whether a formula is written as a number other than 0.
-pub fn is_divisor(formula: &Formula) -> bool
+pub fn is_divisor(formula: &Finding) -> bool
     ensures { result ≡ is_divisor formula.now }
 {
-    match written_value(formula) {
+    match formula.written {
         Some(value) => is_other_than_zero(value),
         None => false,
     }
 }
 
 /// The value that a formula is known to have: the one that it is written as, else 0 where the formula is 0.
-pub fn known_value(formula: &Formula, is_zero: bool) -> Option<Value>
-    ensures { result ≡ known_value formula.now is_zero }
+pub fn known_value(formula: &Finding) -> Option<Value>
+    ensures { result ≡ known_value formula.now }
 {
-    match written_value(formula) {
+    match formula.written {
         Some(value) => Some(value),
-        None => if is_zero { Some(Value::ZERO) } else { None },
+        None => if formula.is_zero {
+            Some(Value::ZERO)
+        } else {
+            None
+        },
     }
 }
 

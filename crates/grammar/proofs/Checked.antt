@@ -2,7 +2,7 @@
 use Rattle.std.proofs.Common.{◌≡◌, ℕ, List, [], ◌∷◌, ◌++◌, Result, Ok, Err, refl, sym, ◌∙◌, ap, subst, inr, append-nil, append_assoc}
 use Rattle.grammar.specs.Grammar.{Grammar}
 use Rattle.grammar.specs.Watch.{Within, each_text, unwatched}
-use Rattle.grammar.specs.Reading.{Dead, Refused, Spent, Read, Reader, let_through, checked_result, checked}
+use Rattle.grammar.specs.Reading.{Unexpected, Refused, OutOfTurns, Read, Reader, let_through, checked_result, checked}
 use Rattle.grammar.proofs.Exact.{Exact, Outcome, IsRead, IsStuck, Agrees, Always, passes_one, passes_nothing, refuses_one}
 use Rattle.grammar.proofs.Begins.{HasToken}
 
@@ -51,7 +51,7 @@ begun F add G u0 P into e n ts left f (t ∷ more) a h = record {
 checked_sound : {T U R C A : Type 0} (F : Grammar T A) (add : R → A → Result R C) (G : Grammar T A) (u0 : U) (P : Reader T U C A) → ((u : List T) (a : A) → G u a → F u a) → HasToken G → Exact unwatched G G P Always → (n : R) (ts : List T) (r : Read T U C A) → Outcome G unwatched P u0 ts r → Outcome G (each_text F add) (checked u0 add P) n ts (checked_result (add n) r)
 unfolding Outcome
 checked_sound F add G u0 P into some e n ts (Ok x) f = checked_read F add G u0 P into some n ts x f (add n x.0) refl
-checked_sound F add G u0 P into some e n ts (Err (Dead left)) f = record {
+checked_sound F add G u0 P into some e n ts (Err (Unexpected left)) f = record {
   text = f.text;
   rest = f.rest;
   parts = f.parts;
@@ -61,7 +61,7 @@ checked_sound F add G u0 P into some e n ts (Err (Dead left)) f = record {
   alone = λ other same. ap (checked_result (add n)) (f.alone other same);
 }
 checked_sound F add G u0 P into some e n ts (Err (Refused cause)) f = let (t, is, never) = f.refused.refused in absurd (cc never)
-checked_sound F add G u0 P into some e n ts (Err Spent) f = tt
+checked_sound F add G u0 P into some e n ts (Err OutOfTurns) f = tt
 
 through_agrees : {T R C A : Type 0} (a b : A) (rest ts : List T) → b ≡ a → ts ≡ rest → (r : Result R C) → Agrees {R = R} {C = C} a rest (let_through b ts r)
 unfolding Agrees
@@ -71,9 +71,9 @@ through_agrees a b rest ts e f (Err cause) = tt
 checked_agrees : {T U R C A : Type 0} (add : A → Result R C) (a : A) (rest : List T) (r : Read T U C A) → Agrees a rest r → Agrees {R = R} {C = C} a rest (checked_result add r)
 unfolding Agrees
 checked_agrees add a rest (Ok x) h = through_agrees a x.0 rest x.2 h.0 h.1 (add x.0)
-checked_agrees add a rest (Err (Dead left)) h = absurd h
+checked_agrees add a rest (Err (Unexpected left)) h = absurd h
 checked_agrees add a rest (Err (Refused cause)) h = tt
-checked_agrees add a rest (Err Spent) h = tt
+checked_agrees add a rest (Err OutOfTurns) h = tt
 
 -- a piece of F that is read whole, and then let through or refused
 pub exact_checked : {T U R C A : Type 0} {G F : Grammar T A} {P : Reader T U C A} (u0 : U) (add : R → A → Result R C) → ((u : List T) (a : A) → G u a → F u a) → HasToken G → Exact unwatched G G P Always → Exact (each_text F add) G G (checked u0 add P) Always

@@ -2,7 +2,7 @@
 use Rattle.std.proofs.Common.{◌≡◌, ℕ, List, [], ◌∷◌, ◌++◌, length, Option, Some, None, Result, Ok, Err, Bool, true, false, refl, sym, ◌∙◌, ap, subst, inl, inr, append_assoc, append-nil, if◌then◌else◌}
 use Rattle.grammar.specs.Grammar.{Grammar, done, one, both, either, Alive}
 use Rattle.grammar.specs.Watch.{Watch, AllPass, joined, Passes, Within, Refuses, each_token}
-use Rattle.grammar.specs.Reading.{Dead, Refused, Spent, Read, Reader, first, starts, gives, taken, take_one, bound, both_of, choose}
+use Rattle.grammar.specs.Reading.{Unexpected, Refused, OutOfTurns, Read, Reader, first, starts, gives, taken, take_one, bound, both_of, choose}
 
 -- Watches: what pieces do together.
 
@@ -72,7 +72,7 @@ pub record IsStuck {T R C A : Type 0} (G : Grammar T A) (W : Watch T R C) (P : R
   pub left_is : left ≡ length rest
   pub alive : Alive G text
   pub within : Within W n text
-  pub alone : (other : List T) → first other ≡ first rest → P n (text ++ other) ≡ Err (Dead (length other))
+  pub alone : (other : List T) → first other ≡ first rest → P n (text ++ other) ≡ Err (Unexpected (length other))
 
 pub record IsStopped {T R C A : Type 0} (G : Grammar T A) (W : Watch T R C) (n : R) (ts : List T) (cause : C) : Type 0 where
   pub before : List T
@@ -84,16 +84,16 @@ pub record IsStopped {T R C A : Type 0} (G : Grammar T A) (W : Watch T R C) (n :
 
 unfoldable pub Outcome : {T R C A : Type 0} → Grammar T A → Watch T R C → Reader T R C A → R → List T → Read T R C A → Type 0
 Outcome G W P n ts (Ok x) = IsRead G W P n ts x.0 x.1 x.2
-Outcome G W P n ts (Err (Dead left)) = IsStuck G W P n ts left
+Outcome G W P n ts (Err (Unexpected left)) = IsStuck G W P n ts left
 Outcome G W P n ts (Err (Refused cause)) = IsStopped G W n ts cause
-Outcome G W P n ts (Err Spent) = Unit {0}
+Outcome G W P n ts (Err OutOfTurns) = Unit {0}
 
 -- an answer that takes a text with this tree before this rest for what it is, if nothing is refused
 unfoldable pub Agrees : {T R C A : Type 0} → A → List T → Read T R C A → Type 0
 Agrees a rest (Ok x) = (x.0 ≡ a) × (x.2 ≡ rest)
-Agrees a rest (Err (Dead left)) = ⊥
+Agrees a rest (Err (Unexpected left)) = ⊥
 Agrees a rest (Err (Refused cause)) = Unit {0}
-Agrees a rest (Err Spent) = Unit {0}
+Agrees a rest (Err OutOfTurns) = Unit {0}
 
 -- The reader answers what G says, and takes the texts of H before the rests of Stops for what they are. G and H are one, but
 -- in a recursion: there G has the texts of the reader's own depth, and H those of any.
@@ -138,11 +138,11 @@ exact_gives W a = record {
 one_alive : {T A : Type 0} (pick : T → Option A) (sample : T) (value : A) → pick sample ≡ Some value → Alive (one pick) []
 one_alive pick sample value e = (sample ∷ [], value, (sample, refl, e))
 
-one_end : {T R C A : Type 0} (scan : R → T → Result R C) (pick : T → Option A) (n : R) (other : List T) → first other ≡ first [] → take_one scan pick n other ≡ Err (Dead (length other))
+one_end : {T R C A : Type 0} (scan : R → T → Result R C) (pick : T → Option A) (n : R) (other : List T) → first other ≡ first [] → take_one scan pick n other ≡ Err (Unexpected (length other))
 one_end scan pick n [] e = refl
 one_end scan pick n (t ∷ other) e = cc
 
-one_dead : {T R C A : Type 0} (scan : R → T → Result R C) (pick : T → Option A) (n : R) (t : T) → pick t ≡ None → (other : List T) → first other ≡ Some t → take_one scan pick n other ≡ Err (Dead (length other))
+one_dead : {T R C A : Type 0} (scan : R → T → Result R C) (pick : T → Option A) (n : R) (t : T) → pick t ≡ None → (other : List T) → first other ≡ Some t → take_one scan pick n other ≡ Err (Unexpected (length other))
 one_dead scan pick n t none [] e = cc
 one_dead scan pick n t none (s ∷ other) e =
     let same : s ≡ t = cc in
@@ -229,7 +229,7 @@ both_behind W G K P Q n ts a m rest f (Ok x) k = record {
       let front : first (k.text ++ other) ≡ first rest = first-append k.text other x.2 e ∙ ap first (sym k.parts) in
       ap (λ x. bound (P n x) Q) (append_assoc f.text k.text other) ∙ ap (λ r. bound r Q) (f.alone (k.text ++ other) front) ∙ k.alone other e;
 }
-both_behind W G K P Q n ts a m rest f (Err (Dead left)) k = record {
+both_behind W G K P Q n ts a m rest f (Err (Unexpected left)) k = record {
   text = f.text ++ k.text;
   rest = k.rest;
   parts = f.parts ∙ ap (λ x. f.text ++ x) k.parts ∙ sym (append_assoc f.text k.text k.rest);
@@ -248,12 +248,12 @@ both_behind W G K P Q n ts a m rest f (Err (Refused cause)) k = record {
   alive = subst (Alive (both G K)) (sym (append_assoc f.text k.before (k.last ∷ []))) (alive_behind G K f.text a f.reads (k.before ++ k.last ∷ []) k.alive);
   refused = subst (λ x. Refuses W n x cause) (sym (append_assoc f.text k.before (k.last ∷ []))) (refuses-append W n m f.text (k.before ++ k.last ∷ []) cause f.passes k.refused);
 }
-both_behind W G K P Q n ts a m rest f (Err Spent) k = tt
+both_behind W G K P Q n ts a m rest f (Err OutOfTurns) k = tt
 
 both_sound : {T R C A B : Type 0} (W : Watch T R C) (G : Grammar T A) (K : A → Grammar T B) (P : Reader T R C A) (Q : A → Reader T R C B) → ((a : A) → (w : List T) × (b : B) × K a w b) → ((a : A) (n : R) (ts : List T) → Outcome (K a) W (Q a) n ts (Q a n ts)) → (n : R) (ts : List T) (r : Read T R C A) → Outcome G W P n ts r → Outcome (both G K) W (both_of P Q) n ts (bound r Q)
 unfolding Outcome
 both_sound W G K P Q word k n ts (Ok x) f = both_behind W G K P Q n ts x.0 x.1 x.2 f (Q x.0 x.1 x.2) (k x.0 x.1 x.2)
-both_sound W G K P Q word k n ts (Err (Dead left)) f = record {
+both_sound W G K P Q word k n ts (Err (Unexpected left)) f = record {
   text = f.text;
   rest = f.rest;
   parts = f.parts;
@@ -270,14 +270,14 @@ both_sound W G K P Q word k n ts (Err (Refused cause)) f = record {
   alive = both_alive G K word (f.before ++ f.last ∷ []) f.alive;
   refused = f.refused;
 }
-both_sound W G K P Q word k n ts (Err Spent) f = tt
+both_sound W G K P Q word k n ts (Err OutOfTurns) f = tt
 
 both_agrees : {T R C A B : Type 0} (Q : A → Reader T R C B) (a : A) (b : B) (middle rest : List T) → ((m : R) → Agrees {R = R} {C = C} b rest (Q a m middle)) → (r : Read T R C A) → Agrees a middle r → Agrees b rest (bound r Q)
 unfolding Agrees
 both_agrees {R = R} {C = C} Q a b middle rest k (Ok x) h = subst (λ y. Agrees {R = R} {C = C} b rest (Q y x.1 x.2)) (sym h.0) (subst (λ y. Agrees {R = R} {C = C} b rest (Q a x.1 y)) (sym h.1) (k x.1))
-both_agrees Q a b middle rest k (Err (Dead left)) h = absurd h
+both_agrees Q a b middle rest k (Err (Unexpected left)) h = absurd h
 both_agrees Q a b middle rest k (Err (Refused cause)) h = tt
-both_agrees Q a b middle rest k (Err Spent) h = tt
+both_agrees Q a b middle rest k (Err OutOfTurns) h = tt
 
 -- one reader and then another, where what the second reads and what follows it are rests of the first
 pub exact_both : {T R C A B : Type 0} {W : Watch T R C} {G H : Grammar T A} {K L : A → Grammar T B} {P : Reader T R C A} {Q : A → Reader T R C B} {S S' : List T → Type 0} → Exact W G H P S → ((a : A) → Exact W (K a) (L a) (Q a) S') → ((a : A) (v : List T) (b : B) (rest : List T) → L a v b → S' rest → S (v ++ rest)) → Exact W (both G K) (both H L) (both_of P Q) S'
@@ -305,7 +305,7 @@ outcome_by W G G' P P' n ts into same (Ok x) f = record {
   passes = f.passes;
   alone = λ other e. same f.text other x.2 f.parts e ∙ f.alone other e;
 }
-outcome_by W G G' P P' n ts into same (Err (Dead left)) f = record {
+outcome_by W G G' P P' n ts into same (Err (Unexpected left)) f = record {
   text = f.text;
   rest = f.rest;
   parts = f.parts;
@@ -322,7 +322,7 @@ outcome_by W G G' P P' n ts into same (Err (Refused cause)) f = record {
   alive = (let (more, a, h) = f.alive in (more, a, into ((f.before ++ f.last ∷ []) ++ more) a h));
   refused = f.refused;
 }
-outcome_by W G G' P P' n ts into same (Err Spent) f = tt
+outcome_by W G G' P P' n ts into same (Err OutOfTurns) f = tt
 
 -- another grammar with the same texts
 pub exact_by : {T R C A : Type 0} {W : Watch T R C} {G H G' H' : Grammar T A} {P : Reader T R C A} {S : List T → Type 0} → ((u : List T) (a : A) → G u a → G' u a) → ((u : List T) (a : A) → H' u a → H u a) → Exact W G H P S → Exact W G' H' P S
@@ -369,3 +369,40 @@ exact_choose {W = W} {G = G} {H = H} {G' = G'} {H' = H'} {P = P} {Q = Q} {S'' = 
   complete_at : (n : _) (u : List _) (a : _) (rest : List _) → S'' rest → either H H' u a → Agrees a rest (choose p P Q n (u ++ rest))
   complete_at n u a rest stops (inl h) = let (t, s) = first_one u a rest h stops in agrees_at a rest (starts p (u ++ rest)) true (P n (u ++ rest)) (Q n (u ++ rest)) t (e.complete n u a rest h s)
   complete_at n u a rest stops (inr h) = let (t, s) = other_one u a rest h stops in agrees_at a rest (starts p (u ++ rest)) false (P n (u ++ rest)) (Q n (u ++ rest)) t (e'.complete n u a rest h s)
+
+-- Readers that answer the same.
+
+same_sound : {T R C A : Type 0} (G : Grammar T A) (W : Watch T R C) (P Q : Reader T R C A) → ((n : R) (ts : List T) → P n ts ≡ Q n ts) → (n : R) (ts : List T) (r : Read T R C A) → Outcome G W P n ts r → Outcome G W Q n ts r
+unfolding Outcome
+same_sound G W P Q same n ts (Ok x) f = record {
+  text = f.text;
+  parts = f.parts;
+  reads = f.reads;
+  passes = f.passes;
+  alone = λ other e. sym (same n (f.text ++ other)) ∙ f.alone other e;
+}
+same_sound G W P Q same n ts (Err (Unexpected left)) f = record {
+  text = f.text;
+  rest = f.rest;
+  parts = f.parts;
+  left_is = f.left_is;
+  alive = f.alive;
+  within = f.within;
+  alone = λ other e. sym (same n (f.text ++ other)) ∙ f.alone other e;
+}
+same_sound G W P Q same n ts (Err (Refused cause)) f = record {
+  before = f.before;
+  last = f.last;
+  rest = f.rest;
+  parts = f.parts;
+  alive = f.alive;
+  refused = f.refused;
+}
+same_sound G W P Q same n ts (Err OutOfTurns) f = tt
+
+pub exact_same : {T R C A : Type 0} {W : Watch T R C} {G H : Grammar T A} {P Q : Reader T R C A} {S : List T → Type 0} → ((n : R) (ts : List T) → P n ts ≡ Q n ts) → Exact W G H P S → Exact W G H Q S
+exact_same {W = W} {G = G} {P = P} {Q = Q} same e = record {
+  word = e.word;
+  sound = λ n ts. same_sound G W P Q same n ts (Q n ts) (subst (Outcome G W P n ts) (same n ts) (e.sound n ts));
+  complete = λ n u a rest h stops. subst (Agrees a rest) (same n (u ++ rest)) (e.complete n u a rest h stops);
+}

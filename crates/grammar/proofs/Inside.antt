@@ -2,7 +2,7 @@
 use Rattle.std.proofs.Common.{List, [], ◌∷◌, ◌++◌, Ok, Err, ap}
 use Rattle.grammar.specs.Grammar.{Grammar}
 use Rattle.grammar.specs.Watch.{Watch, Passes, Within, Refuses}
-use Rattle.grammar.specs.Reading.{Dead, Refused, Spent, Read, Reader, inside_result, inside}
+use Rattle.grammar.specs.Reading.{Unexpected, Refused, OutOfTurns, Read, Reader, inside_result, inside}
 use Rattle.grammar.proofs.Exact.{Exact, Outcome, Agrees}
 
 -- what the inner watch says, the outer one says of the same tokens
@@ -20,7 +20,7 @@ inside_sound W V begin back cause tells G P s ts (Ok x) f = record {
   passes = tells.passes s f.text x.1 f.passes;
   alone = λ other e. ap (inside_result (back s) (cause s)) (f.alone other e);
 }
-inside_sound W V begin back cause tells G P s ts (Err (Dead left)) f = record {
+inside_sound W V begin back cause tells G P s ts (Err (Unexpected left)) f = record {
   text = f.text;
   rest = f.rest;
   parts = f.parts;
@@ -37,14 +37,14 @@ inside_sound W V begin back cause tells G P s ts (Err (Refused c)) f = record {
   alive = f.alive;
   refused = tells.refuses s (f.before ++ f.last ∷ []) c f.refused;
 }
-inside_sound W V begin back cause tells G P s ts (Err Spent) f = tt
+inside_sound W V begin back cause tells G P s ts (Err OutOfTurns) f = tt
 
 inside_agrees : {T R S C D A : Type 0} (back : R → S) (cause : C → D) (a : A) (rest : List T) (r : Read T R C A) → Agrees a rest r → Agrees a rest (inside_result back cause r)
 unfolding Agrees
 inside_agrees back cause a rest (Ok x) h = h
-inside_agrees back cause a rest (Err (Dead left)) h = absurd h
+inside_agrees back cause a rest (Err (Unexpected left)) h = absurd h
 inside_agrees back cause a rest (Err (Refused c)) h = tt
-inside_agrees back cause a rest (Err Spent) h = tt
+inside_agrees back cause a rest (Err OutOfTurns) h = tt
 
 pub exact_inside : {T R S C D A : Type 0} {W : Watch T R C} {V : Watch T S D} {G H : Grammar T A} {P : Reader T R C A} {Stops : List T → Type 0} (begin : S → R) (back : S → R → S) (cause : S → C → D) → IsInside W V begin back cause → Exact W G H P Stops → Exact V G H (inside begin back cause P) Stops
 exact_inside {W = W} {V = V} {G = G} {P = P} begin back cause tells e = record {

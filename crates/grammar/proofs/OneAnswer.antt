@@ -5,7 +5,7 @@ use Rattle.cube_lex.specs.declared.fault.LexFault.{LexFault}
 use Rattle.cube_lex.proofs.Unique.{reading-only}
 use Rattle.grammar.specs.Grammar.{Grammar, Alive}
 use Rattle.grammar.specs.Watch.{Watch, Passes, Within, Refuses}
-use Rattle.grammar.specs.Reading.{Dead, Refused, Spent, Read, Reader}
+use Rattle.grammar.specs.Reading.{Unexpected, Refused, OutOfTurns, Read, Reader}
 use Rattle.grammar.specs.Whole.{IsWholeText, FailsBefore, line_of, IsWholeSyntax, IsWholeRefused, HasOneAnswer}
 use Rattle.grammar.proofs.Exact.{Exact, Outcome, Agrees}
 use Rattle.grammar.proofs.Many.{IsSettled}
@@ -86,10 +86,10 @@ module _ {A R C : Type 0} (G : Grammar Lexeme A) (W : Watch Lexeme R C) (start :
     module _ {P : Reader Lexeme R C A} {S : List Lexeme → Type 0} (e : Exact W G G P S) (nothing : S []) (s : Settles P) where
       agreed : (ts : List Lexeme) (x y : A) (r : R) → Passes W start ts r → (read : Read Lexeme R C A) → Outcome G W P start ts read → IsSettled read → Agrees x [] read → Agrees y [] read → x ≡ y
       unfolding Outcome Agrees
-      agreed ts x y r passes (Ok z) f settled h g = sym h.0 ∙ g.0
-      agreed ts x y r passes (Err (Dead left)) f settled h g = absurd h
-      agreed ts x y r passes (Err (Refused c)) f settled h g = absurd (passes_not_refused W cuts start r c ts (f.before ++ f.last ∷ []) f.rest passes f.refused (f.parts ∙ sym (append_assoc f.before (f.last ∷ []) f.rest)))
-      agreed ts x y r passes (Err Spent) f settled h g = absurd settled
+      agreed ts x y r passes (Ok z) f answer_of_text h g = sym h.0 ∙ g.0
+      agreed ts x y r passes (Err (Unexpected left)) f answer_of_text h g = absurd h
+      agreed ts x y r passes (Err (Refused c)) f answer_of_text h g = absurd (passes_not_refused W cuts start r c ts (f.before ++ f.last ∷ []) f.rest passes f.refused (f.parts ∙ sym (append_assoc f.before (f.last ∷ []) f.rest)))
+      agreed ts x y r passes (Err OutOfTurns) f answer_of_text h g = absurd answer_of_text
 
       read_as : (ts : List Lexeme) (x : A) → G ts x → Agrees {R = R} {C = C} x [] (P start ts)
       read_as ts x h = subst (λ z. Agrees {R = R} {C = C} x [] (P start z)) (append-nil ts) (e.complete start ts x [] h nothing)

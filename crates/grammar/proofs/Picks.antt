@@ -2,7 +2,7 @@
 use Rattle.std.proofs.Common.{◌≡◌, List, [], ◌∷◌, length, Option, Some, None, Result, Ok, Err, refl, ◌∙◌, ap}
 use Rattle.cube_lex.specs.Lexeme.{Lexeme}
 use Rattle.grammar.specs.Cursor.{Gives, any_token}
-use Rattle.grammar.specs.Reading.{Dead, Read, first, taken, take_one}
+use Rattle.grammar.specs.Reading.{Unexpected, Read, first, taken, take_one}
 use Rattle.grammar.specs.declared.stop.Stop.{Stop}
 use Rattle.grammar.specs.declared.stop.Stop.TheVariants as stops
 
@@ -28,11 +28,11 @@ picked scan pick s ts t a m rest comes picks read = taken_as scan pick s ts t a 
 -- the pick takes the token, but the watch doesn't let it through
 pub picked_stops : {X Y R C A : Type 0} (scan : R → Lexeme → Result R C) (pick : Lexeme → Option A) (view : X → A) (unit : Y → Unit {0}) (s : R) (ts : List Lexeme) (t : Lexeme) (a : A) (m : R) (rest : List Lexeme) (stop : Stop C) → Some t ≡ first ts → pick t ≡ Some a → Gives unit (Err stop) m rest (take_one scan any_token s ts) → Gives view (Err stop) m rest (take_one scan pick s ts)
 picked_stops scan pick view unit s ts t a m rest stops.Memory comes picks read = tt
-picked_stops scan pick view unit s ts t a m rest (stops.Dead left) comes picks read = taken_as scan pick s ts t a comes picks ∙ ap (with_value a) read
+picked_stops scan pick view unit s ts t a m rest (stops.Unexpected left) comes picks read = taken_as scan pick s ts t a comes picks ∙ ap (with_value a) read
 picked_stops scan pick view unit s ts t a m rest (stops.Refused cause) comes picks read = taken_as scan pick s ts t a comes picks ∙ ap (with_value a) read
 
 -- the pick doesn't take the token
-pub not_picked : {R C A : Type 0} (scan : R → Lexeme → Result R C) (pick : Lexeme → Option A) (s : R) (ts : List Lexeme) (t : Lexeme) → Some t ≡ first ts → pick t ≡ None → take_one scan pick s ts ≡ Err (Dead (length ts))
+pub not_picked : {R C A : Type 0} (scan : R → Lexeme → Result R C) (pick : Lexeme → Option A) (s : R) (ts : List Lexeme) (t : Lexeme) → Some t ≡ first ts → pick t ≡ None → take_one scan pick s ts ≡ Err (Unexpected (length ts))
 not_picked scan pick s [] t comes none = refl
 not_picked scan pick s (u ∷ ts) t comes none =
     let same : u ≡ t = cc comes in

@@ -1,11 +1,12 @@
 -- Readers that never use up their turns; the grammars of which each text ends by itself and has one tree.
-use Rattle.std.proofs.Common.{◌≡◌, ℕ, ◌<◌, zero, suc, List, [], ◌∷◌, ◌++◌, length, refl, sym, ◌∙◌, ap, subst, arith, append-nil, append_assoc, Option, Some, None, Result, Ok, Err, Bool, true, false, if◌then◌else◌}
+use Rattle.std.proofs.Common.{◌≡◌, ℕ, zero, suc, List, [], ◌∷◌, ◌++◌, length, sym, ◌∙◌, ap, subst, append-nil, append_assoc, Option, Some, None, Result, Ok, Err, Bool, true, false, if◌then◌else◌}
 use Rattle.grammar.specs.Grammar.{Grammar}
 use Rattle.grammar.specs.Watch.{each_text, unwatched}
-use Rattle.grammar.specs.Reading.{Dead, Refused, Spent, Read, Reader, gives, taken, take_one, bound, both_of, choose, starts, repeat, all_of, let_through, checked_result, checked, inside_result, inside, finish, whole}
+use Rattle.grammar.specs.Reading.{Unexpected, Refused, OutOfTurns, Read, Reader, gives, taken, take_one, bound, both_of, choose, starts, all_of, let_through, checked_result, checked, inside_result, inside, finish, whole}
 use Rattle.grammar.proofs.Exact.{Exact, Outcome, Agrees, Always}
 use Rattle.grammar.proofs.Begins.{HasToken}
-use Rattle.grammar.proofs.Many.{IsSettled, Shortens}
+use Rattle.grammar.specs.After.{repeat_after, all_after}
+use Rattle.grammar.proofs.Many.{IsSettled, plain}
 use Rattle.grammar.proofs.Cuts.{Cuts, no_token}
 
 pub record Settles {T R C A : Type 0} (P : Reader T R C A) : Type 0 where
@@ -28,9 +29,9 @@ settles_gives a = record { at = λ n ts. tt }
 
 bound_settles : {T R C A B : Type 0} (Q : A → Reader T R C B) → ((a : A) → Settles (Q a)) → (r : Read T R C A) → IsSettled r → IsSettled (bound r Q)
 bound_settles Q k (Ok x) h = (k x.0).at x.1 x.2
-bound_settles Q k (Err (Dead left)) h = tt
+bound_settles Q k (Err (Unexpected left)) h = tt
 bound_settles Q k (Err (Refused cause)) h = tt
-bound_settles Q k (Err Spent) h = h
+bound_settles Q k (Err OutOfTurns) h = h
 
 pub settles_both : {T R C A B : Type 0} {P : Reader T R C A} {Q : A → Reader T R C B} → Settles P → ((a : A) → Settles (Q a)) → Settles (both_of P Q)
 settles_both {P = P} {Q = Q} e k = record { at = λ n ts. bound_settles Q k (P n ts) (e.at n ts) }
@@ -42,20 +43,18 @@ if_settles false x y h k = k
 pub settles_choose : {T R C A : Type 0} (p : T → Bool) {P Q : Reader T R C A} → Settles P → Settles Q → Settles (choose p P Q)
 settles_choose p {P = P} {Q = Q} e k = record { at = λ n ts. if_settles (starts p ts) (P n ts) (Q n ts) (e.at n ts) (k.at n ts) }
 
-turn_settles : {T R C A : Type 0} (p : T → Bool) (P : Reader T R C A) → Shortens P → (k : ℕ) → ((n : R) (ts : List T) → length ts < k → IsSettled (repeat p P k n ts)) → (n : R) (ts : List T) → length ts < suc k → (r : Read T R C A) → P n ts ≡ r → IsSettled r → IsSettled (bound r (λ a. both_of (repeat p P k) (λ rest. gives (a ∷ rest))))
-turn_settles p P short k before n ts h (Ok x) e s =
-    let fewer : length x.2 < length ts = short n ts x.0 x.1 x.2 e in
-    bound_settles (λ rest. gives (x.0 ∷ rest)) (λ rest. settles_gives (x.0 ∷ rest)) (repeat p P k x.1 x.2) (before x.1 x.2 (omega (arith, fewer, h)))
-turn_settles p P short k before n ts h (Err (Dead left)) e s = tt
-turn_settles p P short k before n ts h (Err (Refused cause)) e s = tt
-turn_settles p P short k before n ts h (Err Spent) e s = s
+turn_settles : {T R C A : Type 0} (p : T → Bool) (P : Reader T R C A) → Settles P → (Q : A → Reader T R C (List A)) → ((a : A) → Settles (Q a)) → Settles (choose p (both_of P (λ a. both_of (Q a) (λ rest. gives (a ∷ rest)))) (gives []))
+turn_settles p P e Q k = settles_choose p (settles_both e (λ a. settles_both (k a) (λ rest. settles_gives (a ∷ rest)))) (settles_gives [])
 
-repeat_settles : {T R C A : Type 0} (p : T → Bool) (P : Reader T R C A) → Shortens P → Settles P → (k : ℕ) (n : R) (ts : List T) → length ts < k → IsSettled (repeat p P k n ts)
-repeat_settles p P short e zero n ts h = absurd (omega (arith, h))
-repeat_settles p P short e (suc k) n ts h = if_settles (starts p ts) (bound (P n ts) (λ a. both_of (repeat p P k) (λ rest. gives (a ∷ rest)))) (gives [] n ts) (turn_settles p P short k (repeat_settles p P short e k) n ts h (P n ts) refl (e.at n ts)) tt
+repeat_settles : {T R C A : Type 0} (p : T → Bool) (P : List A → Reader T R C A) → ((before : List A) → Settles (P before)) → (k : ℕ) (front : List A) → Settles (repeat_after p P k front)
+repeat_settles p P e zero front = settles_gives []
+repeat_settles p P e (suc k) front = turn_settles p (P front) (e front) (λ a. repeat_after p P k (front ++ a ∷ [])) (λ a. repeat_settles p P e k (front ++ a ∷ []))
 
-pub settles_all : {T R C A : Type 0} (p : T → Bool) {P : Reader T R C A} → Shortens P → Settles P → Settles (all_of p P)
-settles_all p {P = P} short e = record { at = λ n ts. repeat_settles p P short e (suc (length ts)) n ts (omega arith) }
+pub settles_all_after : {T R C A : Type 0} (p : T → Bool) {P : List A → Reader T R C A} → ((before : List A) → Settles (P before)) → (front : List A) → Settles (all_after p P front)
+settles_all_after p {P = P} e front = record { at = λ n ts. (repeat_settles p P e (length ts) front).at n ts }
+
+pub settles_all : {T R C A : Type 0} (p : T → Bool) {P : Reader T R C A} → Settles P → Settles (all_of p P)
+settles_all p {P = P} e = record { at = λ n ts. subst IsSettled (plain p P (length ts) [] n ts) ((settles_all_after p (λ _. e) []).at n ts) }
 
 through_settles : {T R C A : Type 0} (x : A) (ts : List T) (r : Result R C) → IsSettled (let_through x ts r)
 through_settles x ts (Ok s) = tt
@@ -63,18 +62,18 @@ through_settles x ts (Err c) = tt
 
 checked_settles : {T U R C A : Type 0} (add : A → Result R C) (r : Read T U C A) → IsSettled r → IsSettled (checked_result add r)
 checked_settles add (Ok x) h = through_settles x.0 x.2 (add x.0)
-checked_settles add (Err (Dead left)) h = tt
+checked_settles add (Err (Unexpected left)) h = tt
 checked_settles add (Err (Refused cause)) h = tt
-checked_settles add (Err Spent) h = h
+checked_settles add (Err OutOfTurns) h = h
 
 pub settles_checked : {T U R C A : Type 0} (u0 : U) (add : R → A → Result R C) {P : Reader T U C A} → Settles P → Settles (checked u0 add P)
 settles_checked u0 add {P = P} e = record { at = λ n ts. checked_settles (add n) (P u0 ts) (e.at u0 ts) }
 
 inside_settles : {T R S C D A : Type 0} (back : R → S) (cause : C → D) (r : Read T R C A) → IsSettled r → IsSettled (inside_result back cause r)
 inside_settles back cause (Ok x) h = tt
-inside_settles back cause (Err (Dead left)) h = tt
+inside_settles back cause (Err (Unexpected left)) h = tt
 inside_settles back cause (Err (Refused c)) h = tt
-inside_settles back cause (Err Spent) h = h
+inside_settles back cause (Err OutOfTurns) h = h
 
 pub settles_inside : {T R S C D A : Type 0} (begin : S → R) (back : S → R → S) (cause : S → C → D) {P : Reader T R C A} → Settles P → Settles (inside begin back cause P)
 settles_inside begin back cause {P = P} e = record { at = λ s ts. inside_settles (back s) (cause s) (P (begin s) ts) (e.at (begin s) ts) }
@@ -94,9 +93,9 @@ pub record EndsItself {T A : Type 0} (G : Grammar T A) : Type 0 where
 one_answer : {T R C A : Type 0} {G : Grammar T A} {P : Reader T R C A} → Exact unwatched G G P Always → (n : R) (ts w : List T) (x y : A) (r : Read T R C A) → Outcome G unwatched P n ts r → IsSettled r → Agrees x w r → Agrees y [] r → (w ≡ []) × (x ≡ y)
 unfolding Outcome Agrees
 one_answer e n ts w x y (Ok z) f s h k = (sym h.1 ∙ k.1, sym h.0 ∙ k.0)
-one_answer e n ts w x y (Err (Dead left)) f s h k = absurd h
+one_answer e n ts w x y (Err (Unexpected left)) f s h k = absurd h
 one_answer e n ts w x y (Err (Refused cause)) f s h k = let (t, is, never) = f.refused.refused in absurd (cc never)
-one_answer e n ts w x y (Err Spent) f s h k = absurd s
+one_answer e n ts w x y (Err OutOfTurns) f s h k = absurd s
 
 pub ends_itself : {T R C A : Type 0} {G : Grammar T A} {P : Reader T R C A} → Exact unwatched G G P Always → Settles P → R → EndsItself G
 ends_itself {T = T} {R = R} {C = C} {A = A} {G = G} {P = P} e s n = record { at = at } where

@@ -8,12 +8,12 @@ use Rattle.grammar.specs.Cursor.{lexemes}
 use Rattle.grammar.specs.Grammar.{Grammar, done, both}
 use Rattle.grammar.specs.Watch.{Watch}
 use Rattle.grammar.specs.Fault.{IsText, Fails, line_at, IsSyntax, IsRefused}
-use Rattle.grammar.specs.Reading.{Dead, Refused, Reader, first, finish, whole}
+use Rattle.grammar.specs.Reading.{Unexpected, Refused, Reader, first, finish, whole}
 use Rattle.grammar.proofs.Exact.{Exact, Outcome, IsRead, IsStuck, IsStopped, Agrees, passes_nothing, within_nothing, exact_by, exact_both, exact_before, exact_gives}
 
 -- A text that goes on is read to its end, so nothing stops its reader before.
 
-never_stuck : {T R C A : Type 0} {W : Watch T R C} {G : Grammar T A} {P : Reader T R C A} {S : List T → Type 0} → Exact W G G P S → S [] → (n : R) (text other : List T) (tree : A) → P n (text ++ other) ≡ Err (Dead (length other)) → G (text ++ other) tree → ⊥
+never_stuck : {T R C A : Type 0} {W : Watch T R C} {G : Grammar T A} {P : Reader T R C A} {S : List T → Type 0} → Exact W G G P S → S [] → (n : R) (text other : List T) (tree : A) → P n (text ++ other) ≡ Err (Unexpected (length other)) → G (text ++ other) tree → ⊥
 unfolding Agrees
 never_stuck {C = C} {P = P} e nothing n text other tree stuck h =
     let agreed : Agrees {C = C} tree [] (P n ((text ++ other) ++ [])) = e.complete n (text ++ other) tree [] h nothing in
@@ -26,7 +26,7 @@ never_short {C = C} {P = P} e nothing n m text other tree a short h =
     let at_end : (a ≡ tree) × (other ≡ []) = subst (Agrees {C = C} tree []) (ap (P n) (append-nil (text ++ other)) ∙ short) agreed in
     at_end.1
 
-stuck_fails : {T R C A : Type 0} {W : Watch T R C} {G : Grammar T A} {P : Reader T R C A} {S : List T → Type 0} → Exact W G G P S → S [] → (n : R) (text rest : List T) → ((other : List T) → first other ≡ first rest → P n (text ++ other) ≡ Err (Dead (length other))) → Fails G text rest
+stuck_fails : {T R C A : Type 0} {W : Watch T R C} {G : Grammar T A} {P : Reader T R C A} {S : List T → Type 0} → Exact W G G P S → S [] → (n : R) (text rest : List T) → ((other : List T) → first other ≡ first rest → P n (text ++ other) ≡ Err (Unexpected (length other))) → Fails G text rest
 stuck_fails {G = G} e nothing n text [] alone = λ tree h. never_stuck e nothing n text [] tree (alone [] refl) (subst (λ x. G x tree) (sym (append-nil text)) h)
 stuck_fails {G = G} e nothing n text (t ∷ rest) alone = λ (more, tree, h). never_stuck e nothing n text (t ∷ more) tree (alone (t ∷ more) refl) (subst (λ x. G x tree) (append_assoc text (t ∷ []) more) h)
 
@@ -41,7 +41,7 @@ left_behind text rest left e =
     ap (λ n. drop n (text ++ rest)) place ∙ drop-append_seam text rest
 
 -- Where a reader of a text's beginning stops: the fault is one of the grammar, on the line of the token there.
-pub stuck_told : {T R C A : Type 0} {W : Watch T R C} {G : Grammar T A} {P : Reader T R C A} {S : List T → Type 0} → Exact W G G P S → S [] → (line : T → ℕ) (end_line : ℕ) (n : R) (ts : List T) (left : ℕ) → P n ts ≡ Err (Dead left) → IsSyntax line G W n ts end_line (line_at line end_line (drop (length ts - left) ts))
+pub stuck_told : {T R C A : Type 0} {W : Watch T R C} {G : Grammar T A} {P : Reader T R C A} {S : List T → Type 0} → Exact W G G P S → S [] → (line : T → ℕ) (end_line : ℕ) (n : R) (ts : List T) (left : ℕ) → P n ts ≡ Err (Unexpected left) → IsSyntax line G W n ts end_line (line_at line end_line (drop (length ts - left) ts))
 unfolding Outcome
 stuck_told {W = W} {G = G} {P = P} e nothing line end_line n ts left stuck =
     let f : IsStuck G W P n ts left = subst (Outcome G W P n ts) stuck (e.sound n ts) in
@@ -70,7 +70,7 @@ read_told {W = W} {G = G} {P = P} e n ts a m rest read =
 
 -- A whole text.
 
-end_fails : {T R C : Type 0} (n : R) (t : T) (other : List T) → first other ≡ Some t → finish {C = C} n other ≡ Err (Dead (length other))
+end_fails : {T R C : Type 0} (n : R) (t : T) (other : List T) → first other ≡ Some t → finish {C = C} n other ≡ Err (Unexpected (length other))
 end_fails n t [] e = cc
 end_fails n t (s ∷ other) e = refl
 

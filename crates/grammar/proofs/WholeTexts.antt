@@ -8,8 +8,8 @@ use Rattle.grammar.specs.Grammar.{Grammar}
 use Rattle.grammar.specs.Watch.{Watch}
 use Rattle.grammar.specs.Cursor.{Gives}
 use Rattle.grammar.specs.Fault.{IsText, Fails, IsSyntax}
-use Rattle.grammar.specs.Reading.{Dead, Refused, Reader, first}
-use Rattle.grammar.specs.Whole.{IsWholeText, FailsBefore, line_of, IsWholeSyntax, IsWholeRefused, AnswersWhole, settled}
+use Rattle.grammar.specs.Reading.{Unexpected, Refused, Reader, first}
+use Rattle.grammar.specs.Whole.{IsWholeText, FailsBefore, line_of, IsWholeSyntax, IsWholeRefused, AnswersWhole, answer_of_text}
 use Rattle.grammar.specs.declared.stop.Stop.{Stop}
 use Rattle.grammar.specs.declared.stop.Stop.TheVariants as stops
 use Rattle.grammar.proofs.Exact.{Exact, Outcome, IsRead, within_passes}
@@ -59,7 +59,7 @@ whole_left_told {W = W} {G = G} {P = P} e nothing n bytes lexed fault a m rest r
       behind text (t ∷ rest) more alone = fails_before G fault text (t ∷ rest) (short_fails e nothing n m a text t rest alone)
 
 -- no text is read
-pub whole_stuck_told : {R C A : Type 0} {W : Watch Lexeme R C} {G : Grammar Lexeme A} {P : Reader Lexeme R C A} {S : List Lexeme → Type 0} → Exact W G G P S → S [] → (n : R) (bytes : List ℕ) (lexed : Lexed) (fault : Option LexFault) (left : ℕ) → IsReading bytes lexed fault → P n lexed.lexemes ≡ Err (Dead left) → IsWholeSyntax G W n bytes (line_of lexed (drop (length lexed.lexemes - left) lexed.lexemes))
+pub whole_stuck_told : {R C A : Type 0} {W : Watch Lexeme R C} {G : Grammar Lexeme A} {P : Reader Lexeme R C A} {S : List Lexeme → Type 0} → Exact W G G P S → S [] → (n : R) (bytes : List ℕ) (lexed : Lexed) (fault : Option LexFault) (left : ℕ) → IsReading bytes lexed fault → P n lexed.lexemes ≡ Err (Unexpected left) → IsWholeSyntax G W n bytes (line_of lexed (drop (length lexed.lexemes - left) lexed.lexemes))
 whole_stuck_told {W = W} {G = G} e nothing n bytes lexed fault left reading stuck =
     let f : IsSyntax (λ t. t.line) G W n lexed.lexemes lexed.end_line (line_of lexed (drop (length lexed.lexemes - left) lexed.lexemes)) = stuck_told e nothing (λ t. t.line) lexed.end_line n lexed.lexemes left stuck in
     record {
@@ -80,11 +80,11 @@ pub whole_refused_told : {R C A : Type 0} {W : Watch Lexeme R C} {G : Grammar Le
 whole_refused_told e n bytes lexed fault cause reading stopped = record { lexed = lexed; fault = fault; reading = reading; refused = refused_told e n lexed.lexemes cause stopped }
 
 -- what an exact reader returned and left comes to what is answered of the text
-pub whole_told : {X R C A : Type 0} {W : Watch Lexeme R C} {G : Grammar Lexeme A} {P : Reader Lexeme R C A} {S : List Lexeme → Type 0} → Exact W G G P S → S [] → (view : X → A) (n : R) (bytes : List ℕ) (lexed : Lexed) (fault : Option LexFault) (read : Result X (Stop C)) (m : R) (rest : List Lexeme) → IsReading bytes lexed fault → Gives view read m rest (P n lexed.lexemes) → AnswersWhole view G W n bytes (settled lexed fault read rest)
+pub whole_told : {X R C A : Type 0} {W : Watch Lexeme R C} {G : Grammar Lexeme A} {P : Reader Lexeme R C A} {S : List Lexeme → Type 0} → Exact W G G P S → S [] → (view : X → A) (n : R) (bytes : List ℕ) (lexed : Lexed) (fault : Option LexFault) (read : Result X (Stop C)) (m : R) (rest : List Lexeme) → IsReading bytes lexed fault → Gives view read m rest (P n lexed.lexemes) → AnswersWhole view G W n bytes (answer_of_text lexed fault read rest)
 whole_told {W = W} {G = G} e nothing view n bytes lexed None (Ok x) m [] reading given = (m, whole_read_told e n bytes lexed (view x) m reading given)
 whole_told e nothing view n bytes lexed (Some f) (Ok x) m [] reading given = whole_left_told e nothing n bytes lexed (Some f) (view x) m [] reading given (λ _. (f, refl))
 whole_told e nothing view n bytes lexed None (Ok x) m (t ∷ rest) reading given = whole_left_told e nothing n bytes lexed None (view x) m (t ∷ rest) reading given (λ is. cc is)
 whole_told e nothing view n bytes lexed (Some f) (Ok x) m (t ∷ rest) reading given = whole_left_told e nothing n bytes lexed (Some f) (view x) m (t ∷ rest) reading given (λ is. cc is)
 whole_told e nothing view n bytes lexed fault (Err stops.Memory) m rest reading given = tt
-whole_told e nothing view n bytes lexed fault (Err (stops.Dead left)) m rest reading given = whole_stuck_told e nothing n bytes lexed fault left reading given
+whole_told e nothing view n bytes lexed fault (Err (stops.Unexpected left)) m rest reading given = whole_stuck_told e nothing n bytes lexed fault left reading given
 whole_told e nothing view n bytes lexed fault (Err (stops.Refused cause)) m rest reading given = whole_refused_told e n bytes lexed fault cause reading given

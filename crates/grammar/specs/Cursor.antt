@@ -1,26 +1,33 @@
 -- What private functions say of a cursor.
-use Rattle.std.specs.Prelude.{◌≡◌, List, map, Option, Some, Result, Ok, Err}
+use Rattle.std.specs.Prelude.{◌≡◌, ℕ, List, [], ◌∷◌, map, Option, Some, Result, Ok, Err}
 use Rattle.cube_lex.specs.Lexeme.{Lexeme, lexeme_of}
 use Rattle.cube_lex.specs.declared.token.Token.{Token}
 use Rattle.grammar.specs.declared.stop.Stop.{Stop}
 use Rattle.grammar.specs.declared.stop.Stop.TheVariants as stops
 use Rattle.grammar.specs.declared.cursor.Cursor.{Cursor}
-use Rattle.grammar.specs.Reading.{Dead, Refused, Read, Reader}
+use Rattle.grammar.specs.Reading.{Unexpected, Refused, Read, Reader}
 
 -- the tokens without where they lie in memory
 abbrev pub lexemes : List Token → List Lexeme
 lexemes tokens = map lexeme_of tokens
 
--- what a function returned, seen by view, and the state and the tokens that it left, are what the reader gives, unless memory ran out
+-- what a function returned, seen by view, and the state and the tokens that it left, are what the reader gives, unless
+-- memory ran out
 abbrev pub Gives : {X R C A : Type 0} → (X → A) → Result X (Stop C) → R → List Lexeme → Read Lexeme R C A → Type 0
 Gives view (Ok x) state tokens read = read ≡ Ok (view x, state, tokens)
 Gives view (Err stops.Memory) state tokens read = Unit {0}
-Gives view (Err (stops.Dead left)) state tokens read = read ≡ Err (Dead left)
+Gives view (Err (stops.Unexpected left)) state tokens read = read ≡ Err (Unexpected left)
 Gives view (Err (stops.Refused cause)) state tokens read = read ≡ Err (Refused cause)
 
 -- a function read from the cursor what the reader reads
 abbrev pub Reads : {X S C A : Type 0} → (X → A) → Reader Lexeme S C A → Cursor S → Result X (Stop C) → Cursor S → Type 0
-Reads view P old result new = Gives view result new.state (lexemes new.tokens.now) (P old.state (lexemes old.tokens.now))
+Reads view P old result new =
+    Gives view result new.state (lexemes new.tokens.now) (P old.state (lexemes old.tokens.now))
 
 abbrev pub any_token : Lexeme → Option (Unit {0})
 any_token t = Some tt
+
+-- the line of the next token; where there is none, 0
+abbrev pub next_line : List Lexeme → ℕ
+next_line [] = 0
+next_line (t ∷ ts) = t.line

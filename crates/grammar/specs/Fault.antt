@@ -4,7 +4,8 @@ use Rattle.grammar.specs.Grammar.{Grammar, Alive}
 use Rattle.grammar.specs.Watch.{Watch, Passes, Within, Refuses}
 
 -- the tokens are a text of the grammar with this tree, and nothing in it is refused; it leaves this state
-pub record IsText {T A R C : Type 0} (G : Grammar T A) (W : Watch T R C) (start : R) (ts : List T) (tree : A) (state : R) : Type 0 where
+pub record IsText {T A R C : Type 0}
+    (G : Grammar T A) (W : Watch T R C) (start : R) (ts : List T) (tree : A) (state : R) : Type 0 where
   pub text : G ts tree
   pub passes : Passes W start ts state
 
@@ -18,8 +19,11 @@ abbrev pub line_at : {T : Type 0} → (T → ℕ) → ℕ → List T → ℕ
 line_at line end_line [] = end_line
 line_at line end_line (t ∷ rest) = line t
 
--- the first fault is one of the grammar: the tokens up to it begin a text in which nothing is refused, and it stands on this line
-pub record IsSyntax {T A R C : Type 0} (line : T → ℕ) (G : Grammar T A) (W : Watch T R C) (start : R) (ts : List T) (end_line : ℕ) (at_line : ℕ) : Type 0 where
+-- the first fault is one of the grammar: the tokens up to it begin a text in which nothing is refused, and it stands on
+-- this line
+pub record IsSyntax {T A R C : Type 0}
+    (line : T → ℕ) (G : Grammar T A) (W : Watch T R C) (start : R) (ts : List T)
+    (end_line : ℕ) (at_line : ℕ) : Type 0 where
   pub before : List T
   pub rest : List T
   pub parts : ts ≡ before ++ rest
@@ -28,8 +32,10 @@ pub record IsSyntax {T A R C : Type 0} (line : T → ℕ) (G : Grammar T A) (W :
   pub within : Within W start before
   pub fails : Fails G before rest
 
--- the first fault has this cause: the tokens up to it begin a text, and its last piece so far is the first that is refused
-pub record IsRefused {T A R C : Type 0} (G : Grammar T A) (W : Watch T R C) (start : R) (ts : List T) (cause : C) : Type 0 where
+-- the first fault has this cause: the tokens up to it begin a text, and its last piece so far is the first that is
+-- refused
+pub record IsRefused {T A R C : Type 0}
+    (G : Grammar T A) (W : Watch T R C) (start : R) (ts : List T) (cause : C) : Type 0 where
   pub before : List T
   pub last : T
   pub rest : List T

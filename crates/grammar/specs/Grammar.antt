@@ -1,5 +1,5 @@
--- The grammar of a text: which lists of tokens are texts, and which tree each has. In a `do` block a rule reads line for line
--- as it stands in a grammar on paper.
+-- The grammar of a text: which lists of tokens are texts, and which tree each has. In a `do` block a rule reads line
+-- for line as it stands in a grammar on paper.
 use Rattle.std.specs.Prelude.{◌≡◌, List, [], ◌∷◌, ◌++◌, Option, Some, ◌⊎◌}
 
 -- which lists of tokens have which tree

@@ -6,4 +6,5 @@ pub mod Cursor
 pub mod Tokens
 pub mod Whole
 pub mod After
+pub mod Lists
 pub mod Variables

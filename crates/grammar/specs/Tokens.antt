@@ -1,5 +1,6 @@
 -- Which token a rule asks for.
-use Rattle.std.specs.Prelude.{ℕ, ◌^◌, nat_lt, List, Bool, true, false, Option, Some, None, ◌&&◌, not, ◌==◌, if◌then◌else◌, length, map, ℤ}
+use Rattle.std.specs.Prelude.{ℕ, ◌^◌, nat_lt, List, Bool, true, false, Option, Some, None, option_map}
+use Rattle.std.specs.Prelude.{◌&&◌, not, ◌==◌, if◌then◌else◌, length, map, ℤ}
 use Rattle.std.specs.Str.{bytes_eq, str_eq_ignore_ascii_case, is_utf8}
 use Rattle.std.specs.Result.{result_ok}
 use Rattle.std.specs.Char.{is_ascii_digit, to_ascii_uppercase}
@@ -40,6 +41,20 @@ is_word word t = is_word_kind t.kind && str_eq_ignore_ascii_case t.piece word
 -- the token, if it is one of these, gives this value
 abbrev pub when : {T A : Type 0} → (T → Bool) → (T → A) → T → Option A
 when p value t = if p t then Some (value t) else None
+
+-- what pick takes, with its line
+abbrev pub located : {A : Type 0} → (Lexeme → Option A) → Lexeme → Option (ℕ × A)
+located pick t = option_map (λ a. (t.line, a)) (pick t)
+
+-- whether it's a word, a number, or a quoted text
+abbrev pub is_any_word : Lexeme → Bool
+is_any_word t = is_word_kind t.kind
+
+abbrev pub is_number : Lexeme → Bool
+is_number t = is_number_kind t.kind
+
+abbrev pub is_text : Lexeme → Bool
+is_text t = is_text_kind t.kind
 
 -- this sign
 abbrev pub sign : List ℕ → Lexeme → Option (Unit {0})

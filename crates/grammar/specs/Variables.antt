@@ -18,7 +18,8 @@ is_among words word = list_any (bytes_eq word) words
 -- one to four digits, the first of which isn't 0
 abbrev pub is_column_number : List ℕ → Bool
 is_column_number [] = false
-is_column_number (digit ∷ digits) = not (digit == 48) && list_all is_ascii_digit (digit ∷ digits) && nat_le (length digits) 3
+is_column_number (digit ∷ digits) =
+    not (digit == 48) && list_all is_ascii_digit (digit ∷ digits) && nat_le (length digits) 3
 
 -- a column of the record that is loaded, from V1 to V9999
 abbrev pub is_column : List ℕ → Bool

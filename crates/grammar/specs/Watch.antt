@@ -1,5 +1,5 @@
--- What is asked of a text besides its grammar: limits, and causes that depend on more than one token. A text is watched piece
--- by piece, in a state that the pieces before have left.
+-- What is asked of a text besides its grammar: limits, and causes that depend on more than one token. A text is watched
+-- piece by piece, in a state that the pieces before have left.
 use Rattle.std.specs.Prelude.{◌≡◌, List, [], ◌∷◌, ◌++◌, Result, Ok, Err, ◌⊎◌}
 use Rattle.grammar.specs.Grammar.{Grammar}
 

@@ -12,8 +12,10 @@ use Rattle.grammar.specs.declared.stop.Stop.TheVariants as stops
 use Rattle.grammar.specs.declared.answer.TextFault.{TextFault}
 use Rattle.grammar.specs.declared.answer.TextFault.TheVariants as faults
 
--- the bytes have no lexical fault, and their tokens are a text of the grammar with this tree, in which nothing is refused
-pub record IsWholeText {A R C : Type 0} (G : Grammar Lexeme A) (W : Watch Lexeme R C) (start : R) (bytes : List ℕ) (tree : A) (state : R) : Type 0 where
+-- the bytes have no lexical fault, and their tokens are a text of the grammar with this tree, in which nothing is
+-- refused
+pub record IsWholeText {A R C : Type 0}
+    (G : Grammar Lexeme A) (W : Watch Lexeme R C) (start : R) (bytes : List ℕ) (tree : A) (state : R) : Type 0 where
   pub lexed : Lexed
   pub reading : IsReading bytes lexed None
   pub text : IsText G W start lexed.lexemes tree state
@@ -28,8 +30,10 @@ FailsBefore G (Some fault) before (t ∷ rest) = Fails G before (t ∷ rest)
 abbrev pub line_of : Lexed → List Lexeme → ℕ
 line_of lexed rest = line_at (λ t. t.line) lexed.end_line rest
 
--- the first fault is one of the grammar or a lexical one: the tokens up to it begin a text in which nothing is refused, and it stands on this line
-pub record IsWholeSyntax {A R C : Type 0} (G : Grammar Lexeme A) (W : Watch Lexeme R C) (start : R) (bytes : List ℕ) (line : ℕ) : Type 0 where
+-- the first fault is one of the grammar or a lexical one: the tokens up to it begin a text in which nothing is refused,
+-- and it stands on this line
+pub record IsWholeSyntax {A R C : Type 0}
+    (G : Grammar Lexeme A) (W : Watch Lexeme R C) (start : R) (bytes : List ℕ) (line : ℕ) : Type 0 where
   pub lexed : Lexed
   pub fault : Option LexFault
   pub reading : IsReading bytes lexed fault
@@ -42,14 +46,16 @@ pub record IsWholeSyntax {A R C : Type 0} (G : Grammar Lexeme A) (W : Watch Lexe
   pub fails : FailsBefore G fault before rest
 
 -- the first fault has this cause of the watch
-pub record IsWholeRefused {A R C : Type 0} (G : Grammar Lexeme A) (W : Watch Lexeme R C) (start : R) (bytes : List ℕ) (cause : C) : Type 0 where
+pub record IsWholeRefused {A R C : Type 0}
+    (G : Grammar Lexeme A) (W : Watch Lexeme R C) (start : R) (bytes : List ℕ) (cause : C) : Type 0 where
   pub lexed : Lexed
   pub fault : Option LexFault
   pub reading : IsReading bytes lexed fault
   pub refused : IsRefused G W start lexed.lexemes cause
 
 -- what is answered of the bytes: the tree, seen by view, or the first fault; for want of memory nothing is said
-abbrev pub AnswersWhole : {X A R C : Type 0} → (X → A) → Grammar Lexeme A → Watch Lexeme R C → R → List ℕ → Result X (TextFault C) → Type 0
+abbrev pub AnswersWhole : {X A R C : Type 0} → (X → A) → Grammar Lexeme A → Watch Lexeme R C → R → List ℕ
+    → Result X (TextFault C) → Type 0
 AnswersWhole {R = R} view G W start bytes (Ok x) = (state : R) × IsWholeText G W start bytes (view x) state
 AnswersWhole view G W start bytes (Err faults.Memory) = Unit {0}
 AnswersWhole view G W start bytes (Err (faults.Syntax line)) = IsWholeSyntax G W start bytes line
@@ -62,17 +68,24 @@ at_end x lexed (Some fault) [] = Err (faults.Syntax (line_of lexed []))
 at_end x lexed fault (t ∷ rest) = Err (faults.Syntax (line_of lexed (t ∷ rest)))
 
 -- what a reader of a whole text returned, and the tokens that it left, come to
-abbrev pub settled : {X C : Type 0} → Lexed → Option LexFault → Result X (Stop C) → List Lexeme → Result X (TextFault C)
-settled lexed fault (Ok x) rest = at_end x lexed fault rest
-settled lexed fault (Err stops.Memory) rest = Err faults.Memory
-settled lexed fault (Err (stops.Dead left)) rest = Err (faults.Syntax (line_of lexed (drop (length lexed.lexemes - left) lexed.lexemes)))
-settled lexed fault (Err (stops.Refused cause)) rest = Err (faults.Refused cause)
+abbrev pub answer_of_text : {X C : Type 0} → Lexed → Option LexFault → Result X (Stop C) → List Lexeme
+    → Result X (TextFault C)
+answer_of_text lexed fault (Ok x) rest = at_end x lexed fault rest
+answer_of_text lexed fault (Err stops.Memory) rest = Err faults.Memory
+answer_of_text lexed fault (Err (stops.Unexpected left)) rest =
+    Err (faults.Syntax (line_of lexed (drop (length lexed.lexemes - left) lexed.lexemes)))
+answer_of_text lexed fault (Err (stops.Refused cause)) rest = Err (faults.Refused cause)
 
 -- The bytes of a text have one answer: one tree, or one first fault, and not both.
 pub record HasOneAnswer {A R C : Type 0} (G : Grammar Lexeme A) (W : Watch Lexeme R C) (start : R) : Type 0 where
-  pub one_tree : (bytes : List ℕ) (x y : A) (r s : R) → IsWholeText G W start bytes x r → IsWholeText G W start bytes y s → x ≡ y
+  pub one_tree : (bytes : List ℕ) (x y : A) (r s : R)
+      → IsWholeText G W start bytes x r → IsWholeText G W start bytes y s → x ≡ y
   pub one_line : (bytes : List ℕ) (k l : ℕ) → IsWholeSyntax G W start bytes k → IsWholeSyntax G W start bytes l → k ≡ l
-  pub one_cause : (bytes : List ℕ) (c d : C) → IsWholeRefused G W start bytes c → IsWholeRefused G W start bytes d → c ≡ d
-  pub no_syntax : (bytes : List ℕ) (x : A) (r : R) (k : ℕ) → IsWholeText G W start bytes x r → IsWholeSyntax G W start bytes k → ⊥
-  pub no_refusal : (bytes : List ℕ) (x : A) (r : R) (c : C) → IsWholeText G W start bytes x r → IsWholeRefused G W start bytes c → ⊥
-  pub one_fault : (bytes : List ℕ) (k : ℕ) (c : C) → IsWholeSyntax G W start bytes k → IsWholeRefused G W start bytes c → ⊥
+  pub one_cause : (bytes : List ℕ) (c d : C)
+      → IsWholeRefused G W start bytes c → IsWholeRefused G W start bytes d → c ≡ d
+  pub no_syntax : (bytes : List ℕ) (x : A) (r : R) (k : ℕ)
+      → IsWholeText G W start bytes x r → IsWholeSyntax G W start bytes k → ⊥
+  pub no_refusal : (bytes : List ℕ) (x : A) (r : R) (c : C)
+      → IsWholeText G W start bytes x r → IsWholeRefused G W start bytes c → ⊥
+  pub one_fault : (bytes : List ℕ) (k : ℕ) (c : C)
+      → IsWholeSyntax G W start bytes k → IsWholeRefused G W start bytes c → ⊥

@@ -11,8 +11,8 @@ use cube_lex::{LexFault, Tokens};
 pub enum TextFault<C> {
     /// Want of memory.
     Memory,
-    /// The line of the first token with which the tokens so far begin no text. A lexical fault counts as such a token. Where all
-    /// tokens begin a text but are none, it is the line of the text's end.
+    /// The line of the first token with which the tokens so far begin no text. A lexical fault counts as such a token.
+    /// Where all tokens begin a text but are none, it is the line of the text's end.
     Syntax(u32),
     /// A cause of the watch.
     Refused(C),
@@ -25,15 +25,15 @@ fn line_of(tokens: &Tokens<'_>, left: usize) -> u32
     line_left(tokens.as_slice(), tokens.end_line(), left)
 }
 
-/// What comes of a whole text, from its tokens, its first lexical fault, what a reader of all the tokens returned, and the
-/// place where that reader left the cursor.
-pub fn settled<X: Drop, C, S>(
+/// What comes of a whole text, from its tokens, its first lexical fault, what a reader of all the tokens returned, and
+/// the place where that reader left the cursor.
+pub fn answer_of_text<X: Drop, C, S>(
     tokens: &Tokens<'_>,
     fault: Option<LexFault>,
     read: Result<X, Stop<C>>,
     cursor: &Cursor<'_, S>,
 ) -> Result<X, TextFault<C>>
-    ensures { result ≡ whole.settled tokens.now fault read (lexemes cursor.now.tokens.now) }
+    ensures { result ≡ whole.answer_of_text tokens.now fault read (lexemes cursor.now.tokens.now) }
 {
     match read {
         Ok(value) => match (fault, cursor.tokens) {
@@ -42,7 +42,7 @@ pub fn settled<X: Drop, C, S>(
             (_, []) => Err(TextFault::Syntax(tokens.end_line())),
         },
         Err(Stop::Memory) => Err(TextFault::Memory),
-        Err(Stop::Dead(left)) => Err(TextFault::Syntax(line_of(tokens, left))),
+        Err(Stop::Unexpected(left)) => Err(TextFault::Syntax(line_of(tokens, left))),
         Err(Stop::Refused(cause)) => Err(TextFault::Refused(cause)),
     }
 }

@@ -1,8 +1,9 @@
-ghost use Rattle.std.specs.Prelude.{◌≡◌, ◌<◌, length, OnOk};
+ghost use Rattle.std.specs.Prelude.{◌≡◌, ◌<◌, ◌≤◌, length, OnOk};
 ghost use Rattle.std.specs.Str.{bytes_eq, str_eq_ignore_ascii_case};
 ghost use Rattle.cube_lex.specs.Lexeme.{lexeme_of};
 ghost use Rattle.grammar.specs.Reading.{starts, take_one, finish};
 ghost use Rattle.grammar.specs.Cursor.{lexemes, Reads};
+ghost use Rattle.grammar.specs.Lists.{read_minus};
 ghost use Rattle.grammar.specs.Tokens.{is_sign, is_word};
 ghost use Rattle.grammar.specs.Tokens as tokens;
 
@@ -50,6 +51,45 @@ pub fn word_comes<S>(cursor: &Cursor<'_, S>, word: &[u8]) -> bool
     }
 }
 
+/// Whether a word comes next.
+pub fn any_word_comes<S>(cursor: &Cursor<'_, S>) -> bool
+    ensures { result ≡ starts tokens.is_any_word (lexemes cursor.now.tokens.now) }
+{
+    match cursor.peek() {
+        Some(token) => match token.kind {
+            Kind::Word => true,
+            _ => false,
+        },
+        None => false,
+    }
+}
+
+/// Whether a number comes next.
+pub fn number_comes<S>(cursor: &Cursor<'_, S>) -> bool
+    ensures { result ≡ starts tokens.is_number (lexemes cursor.now.tokens.now) }
+{
+    match cursor.peek() {
+        Some(token) => match token.kind {
+            Kind::Number => true,
+            _ => false,
+        },
+        None => false,
+    }
+}
+
+/// Whether a quoted text comes next.
+pub fn text_comes<S>(cursor: &Cursor<'_, S>) -> bool
+    ensures { result ≡ starts tokens.is_text (lexemes cursor.now.tokens.now) }
+{
+    match cursor.peek() {
+        Some(token) => match token.kind {
+            Kind::Text => true,
+            _ => false,
+        },
+        None => false,
+    }
+}
+
 /// Takes this sign.
 pub fn sign<C, S: Scan<C>>(cursor: &mut Cursor<'_, S>, sign: &[u8]) -> Result<(), Stop<C>>
     ensures read { Reads (λ _. tt) (take_one S.scanned (tokens.sign sign.now)) cursor.old result cursor.new }
@@ -58,7 +98,21 @@ pub fn sign<C, S: Scan<C>>(cursor: &mut Cursor<'_, S>, sign: &[u8]) -> Result<()
     if sign_comes(cursor, sign) {
         cursor.advance()
     } else {
-        Err(cursor.dead())
+        Err(cursor.unexpected())
+    }
+}
+
+/// Takes a `-`, if one comes next, and gives whether one did.
+#[tactic(auto, unfolding(crate::specs::Lists::read_minus))]
+pub fn minus<C, S: Scan<C>>(cursor: &mut Cursor<'_, S>) -> Result<bool, Stop<C>>
+    ensures read { Reads (λ negative. negative) (read_minus S.scanned) cursor.old result cursor.new }
+    ensures no_longer { OnOk result (length cursor.new.tokens.now ≤ length cursor.old.tokens.now) }
+{
+    if sign_comes(cursor, b"-") {
+        sign(cursor, b"-")?;
+        Ok(true)
+    } else {
+        Ok(false)
     }
 }
 
@@ -72,7 +126,7 @@ pub fn word<C, S: Scan<C>>(cursor: &mut Cursor<'_, S>, word: &[u8]) -> Result<u3
             cursor.advance()?;
             Ok(token.line)
         }
-        _ => Err(cursor.dead()),
+        _ => Err(cursor.unexpected()),
     }
 }
 
@@ -83,6 +137,6 @@ pub fn end<C, S: Scan<C>>(cursor: &mut Cursor<'_, S>) -> Result<(), Stop<C>>
     if cursor.tokens.is_empty() {
         Ok(())
     } else {
-        Err(cursor.dead())
+        Err(cursor.unexpected())
     }
 }

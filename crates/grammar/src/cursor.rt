@@ -3,7 +3,7 @@ ghost use Rattle.std.specs.Option.{option_map};
 ghost use Rattle.cube_lex.specs.Lexeme.{Lexeme, lexeme_of};
 ghost use Rattle.grammar.specs.Fault.{line_at};
 ghost use Rattle.grammar.specs.Reading.{first, take_one};
-ghost use Rattle.grammar.specs.Cursor.{lexemes, Reads, any_token};
+ghost use Rattle.grammar.specs.Cursor.{lexemes, Reads, any_token, next_line};
 
 use crate::stop::Stop;
 use cube_lex::Token;
@@ -41,11 +41,21 @@ impl<'a, S> Cursor<'a, S> {
         self.tokens.first().copied()
     }
 
-    /// Why a reader stops where the next token fits nothing.
-    pub fn dead<C>(&self) -> Stop<C>
-        ensures { result ≡ Stop.Dead (length self.now.tokens.now) }
+    /// The line of the next token; at the text's end, 0.
+    pub fn line(&self) -> u32
+        ensures { result ≡ next_line (lexemes self.now.tokens.now) }
     {
-        Stop::Dead(self.tokens.len())
+        match self.peek() {
+            Some(token) => token.line,
+            None => 0,
+        }
+    }
+
+    /// Why a reader stops where the next token fits nothing.
+    pub fn unexpected<C>(&self) -> Stop<C>
+        ensures { result ≡ Stop.Unexpected (length self.now.tokens.now) }
+    {
+        Stop::Unexpected(self.tokens.len())
     }
 
     /// Takes the next token, whatever it is.
@@ -56,7 +66,7 @@ impl<'a, S> Cursor<'a, S> {
         ensures shorter { OnOk result (length self.new.tokens.now < length self.old.tokens.now) }
     {
         let Some(token) = self.peek() else {
-            return Err(self.dead());
+            return Err(self.unexpected());
         };
         if let Err(cause) = self.state.scan(&token) {
             return Err(Stop::Refused(cause));

@@ -16,7 +16,7 @@ pub fn money<C, S: Scan<C>>(cursor: &mut Cursor<'_, S>) -> Result<Money, Stop<C>
     ensures shorter { OnOk result (length cursor.new.tokens.now < length cursor.old.tokens.now) }
 {
     let Some(token) = cursor.peek() else {
-        return Err(cursor.dead());
+        return Err(cursor.unexpected());
     };
     match token.kind {
         Kind::Number => match read(token.piece) {
@@ -24,9 +24,9 @@ pub fn money<C, S: Scan<C>>(cursor: &mut Cursor<'_, S>) -> Result<Money, Stop<C>
                 cursor.advance()?;
                 Ok(number)
             }
-            Err(_) => Err(cursor.dead()),
+            Err(_) => Err(cursor.unexpected()),
         },
-        _ => Err(cursor.dead()),
+        _ => Err(cursor.unexpected()),
     }
 }
 
@@ -52,7 +52,7 @@ pub fn file<C, S: Scan<C>>(alloc: Global, cursor: &mut Cursor<'_, S>) -> Result<
     ensures shorter { OnOk result (length cursor.new.tokens.now < length cursor.old.tokens.now) }
 {
     let Some(token) = cursor.peek() else {
-        return Err(cursor.dead());
+        return Err(cursor.unexpected());
     };
     match token.kind {
         Kind::Text => {
@@ -61,9 +61,9 @@ pub fn file<C, S: Scan<C>>(alloc: Global, cursor: &mut Cursor<'_, S>) -> Result<
                 cursor.advance()?;
                 Ok(bytes)
             } else {
-                Err(cursor.dead())
+                Err(cursor.unexpected())
             }
         }
-        _ => Err(cursor.dead()),
+        _ => Err(cursor.unexpected()),
     }
 }

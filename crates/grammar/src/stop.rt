@@ -6,7 +6,7 @@ pub enum Stop<C> {
     /// Want of memory.
     Memory,
     /// The next token fits nothing that may stand here. So many tokens are left, it among them; at the text's end none.
-    Dead(usize),
+    Unexpected(usize),
     /// A cause of the watch.
     Refused(C),
 }

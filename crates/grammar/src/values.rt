@@ -1,4 +1,5 @@
-ghost use Rattle.std.specs.Prelude.{◌≡◌, ◌<◌, ◌^◌, nat_lt, length, OnOk, IsTrue, Some, None, if◌then◌else◌, ◌+◌, ◌*◌, min};
+ghost use Rattle.std.specs.Prelude.{◌≡◌, ◌<◌, ◌^◌, nat_lt, length, OnOk, IsTrue, Some, None};
+ghost use Rattle.std.specs.Prelude.{if◌then◌else◌, ◌+◌, ◌*◌, min};
 ghost use Rattle.std.specs.Char.{is_ascii_digit};
 ghost use Rattle.std.specs.List.{list_all};
 ghost use Rattle.std.specs.Str.Parse.{digits_value};
@@ -22,7 +23,7 @@ pub fn text<C, S: Scan<C>>(alloc: Global, cursor: &mut Cursor<'_, S>) -> Result<
     ensures shorter { OnOk result (length cursor.new.tokens.now < length cursor.old.tokens.now) }
 {
     let Some(token) = cursor.peek() else {
-        return Err(cursor.dead());
+        return Err(cursor.unexpected());
     };
     match token.kind {
         Kind::Text => {
@@ -30,7 +31,7 @@ pub fn text<C, S: Scan<C>>(alloc: Global, cursor: &mut Cursor<'_, S>) -> Result<
             cursor.advance()?;
             Ok(bytes)
         }
-        _ => Err(cursor.dead()),
+        _ => Err(cursor.unexpected()),
     }
 }
 
@@ -40,7 +41,7 @@ pub fn name<C, S: Scan<C>>(alloc: Global, cursor: &mut Cursor<'_, S>) -> Result<
     ensures shorter { OnOk result (length cursor.new.tokens.now < length cursor.old.tokens.now) }
 {
     let Some(token) = cursor.peek() else {
-        return Err(cursor.dead());
+        return Err(cursor.unexpected());
     };
     match token.kind {
         Kind::Text => {
@@ -50,11 +51,11 @@ pub fn name<C, S: Scan<C>>(alloc: Global, cursor: &mut Cursor<'_, S>) -> Result<
                     cursor.advance()?;
                     Ok(name)
                 }
-                Err(NameFault::NotAName) => Err(cursor.dead()),
+                Err(NameFault::NotAName) => Err(cursor.unexpected()),
                 Err(NameFault::Memory) => Err(Stop::Memory),
             }
         }
-        _ => Err(cursor.dead()),
+        _ => Err(cursor.unexpected()),
     }
 }
 
@@ -99,7 +100,7 @@ pub fn whole<C, S: Scan<C>>(cursor: &mut Cursor<'_, S>) -> Result<u32, Stop<C>>
     ensures shorter { OnOk result (length cursor.new.tokens.now < length cursor.old.tokens.now) }
 {
     let Some(token) = cursor.peek() else {
-        return Err(cursor.dead());
+        return Err(cursor.unexpected());
     };
     match token.kind {
         Kind::Number => match whole_of(token.piece) {
@@ -107,8 +108,8 @@ pub fn whole<C, S: Scan<C>>(cursor: &mut Cursor<'_, S>) -> Result<u32, Stop<C>>
                 cursor.advance()?;
                 Ok(value)
             }
-            None => Err(cursor.dead()),
+            None => Err(cursor.unexpected()),
         },
-        _ => Err(cursor.dead()),
+        _ => Err(cursor.unexpected()),
     }
 }

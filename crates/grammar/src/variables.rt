@@ -67,7 +67,8 @@ fn is_column_number(digits: &[u8]) -> bool
     }
 }
 
-/// Whether a word in capitals is a column of the record that is loaded, from `V1` to `V9999`. `V0`, `V01` and `V10000` are none.
+/// Whether a word in capitals is a column of the record that is loaded, from `V1` to `V9999`. `V0`, `V01` and `V10000`
+/// are none.
 pub fn is_column(word: &[u8]) -> bool
     ensures { result ≡ variables.is_column word.now }
 {

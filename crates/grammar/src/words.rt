@@ -17,7 +17,7 @@ pub fn any_word<C, S: Scan<C>>(
     ensures shorter { OnOk result (length cursor.new.tokens.now < length cursor.old.tokens.now) }
 {
     let Some(token) = cursor.peek() else {
-        return Err(cursor.dead());
+        return Err(cursor.unexpected());
     };
     match token.kind {
         Kind::Word => {
@@ -25,7 +25,7 @@ pub fn any_word<C, S: Scan<C>>(
             cursor.advance()?;
             Ok(bytes)
         }
-        _ => Err(cursor.dead()),
+        _ => Err(cursor.unexpected()),
     }
 }
 
@@ -38,7 +38,7 @@ pub fn capital_word<C, S: Scan<C>>(
     ensures shorter { OnOk result (length cursor.new.tokens.now < length cursor.old.tokens.now) }
 {
     let Some(token) = cursor.peek() else {
-        return Err(cursor.dead());
+        return Err(cursor.unexpected());
     };
     match token.kind {
         Kind::Word => {
@@ -46,6 +46,6 @@ pub fn capital_word<C, S: Scan<C>>(
             cursor.advance()?;
             Ok(bytes)
         }
-        _ => Err(cursor.dead()),
+        _ => Err(cursor.unexpected()),
     }
 }

@@ -8,8 +8,9 @@ use Rattle.history.specs.declared.effect.Effect.TheVariants.{Commit}
 use Rattle.history.specs.Version.{version}
 use Rattle.history.specs.UserRun.{RunSoFar, UserRun}
 
--- the entry at this place is a command of its user, which is accepted on the version of its place, with just these writes
-pub record IsLegalAt {C K T R : Type 0} (effect : C → K → Effect T R) (after : C → T → C) (first : C) (users : List (List K)) (log : List (Entry T)) (place : ℕ) (entry : Entry T) : Type 0 where
+-- the entry at this place is a command of its user, which is accepted on the version of its place, with its writes
+pub record IsLegalAt {C K T R : Type 0} (effect : C → K → Effect T R) (after : C → T → C) (first : C)
+    (users : List (List K)) (log : List (Entry T)) (place : ℕ) (entry : Entry T) : Type 0 where
   pub index : ℕ
   pub commands : List K
   pub before : ℕ
@@ -22,13 +23,16 @@ pub record IsLegalAt {C K T R : Type 0} (effect : C → K → Effect T R) (after
   pub is_accepted : effect (version after first log place) command ≡ Commit entry.writes reply
 
 -- each entry is an accepted command of its user
-abbrev pub IsLegal : {C K T R : Type 0} → (C → K → Effect T R) → (C → T → C) → C → List (List K) → List (Entry T) → Type 0
+abbrev pub IsLegal : {C K T R : Type 0} → (C → K → Effect T R) → (C → T → C) → C
+    → List (List K) → List (Entry T) → Type 0
 IsLegal {T = T} effect after first users log =
-    (place : ℕ) (entry : Entry T) → slice_get log place ≡ Some entry → IsLegalAt effect after first users log place entry
+    (place : ℕ) (entry : Entry T) → slice_get log place ≡ Some entry
+    → IsLegalAt effect after first users log place entry
 
 -- each entry is one of these users'
 abbrev pub HasUsers : {T : Type 0} → ℕ → List (Entry T) → Type 0
-HasUsers {T} count log = (place : ℕ) (entry : Entry T) → slice_get log place ≡ Some entry → (1 ≤ entry.user) × (entry.user ≤ count)
+HasUsers {T} count log =
+    (place : ℕ) (entry : Entry T) → slice_get log place ≡ Some entry → (1 ≤ entry.user) × (entry.user ≤ count)
 
 -- each user has what was told so far: the first commands with their replies
 abbrev pub EachRunSoFar : {C K T R : Type 0} → (C → K → Effect T R) → (C → T → C) → C
@@ -45,7 +49,8 @@ EachRun {K = K} {R = R} effect after first users told log =
     → slice_get told index ≡ Some replies → UserRun effect after first log (index + 1) replies commands
 
 -- the one history of all users: it is legal, and what each user was told is that user's run of it
-pub record IsHistoryOf {C K T R : Type 0} (effect : C → K → Effect T R) (after : C → T → C) (first : C) (users : List (List K)) (told : List (List (Told R))) (log : List (Entry T)) : Type 0 where
+pub record IsHistoryOf {C K T R : Type 0} (effect : C → K → Effect T R) (after : C → T → C) (first : C)
+    (users : List (List K)) (told : List (List (Told R))) (log : List (Entry T)) : Type 0 where
   pub legal : IsLegal effect after first users log
   pub all : length told ≡ length users
   pub runs : EachRun effect after first users told log

@@ -26,9 +26,9 @@ Stands (Commit writes reply) log place user number =
 Stands (Rejected reply) log place user number = place ≤ length log
 Stands (Read reply) log place user number = place ≤ length log
 
--- The user's commands from `number` on, of which the first were told this, at places from `least` on: each reply is that
--- of the command's effect on the version of its place, an accepted command stands there as an entry, the places never
--- fall and rise over an entry, and the history has no other entry of the user from `least` on.
+-- The user's commands from `number` on, of which the first were told this, at places from `least` on: each reply is
+-- that of the command's effect on the version of its place, an accepted command stands there as an entry, the places
+-- never fall and rise over an entry, and the history has no other entry of the user from `least` on.
 abbrev pub ToldFrom : {C K T R : Type 0} → (C → K → Effect T R) → (C → T → C) → C
     → List (Entry T) → ℕ → ℕ → ℕ → List (Told R) → List K → Type 0
 ToldFrom effect after first log user number least [] commands = (least ≤ length log) × NoneFrom log least user

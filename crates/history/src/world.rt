@@ -49,6 +49,7 @@ pub trait World {
         state: &Self::State,
         writes: &Self::Writes,
     ) -> Result<Self::State, AllocError>
-        requires accepted { (command : Self.Command) × (reply : Self.Reply) × (effect (content state.now) command ≡ Effect.Commit writes.now reply) }
+        requires accepted { (command : Self.Command) × (reply : Self.Reply)
+            × (effect (content state.now) command ≡ Effect.Commit writes.now reply) }
         ensures next { IfOk result (λ next. content next ≡ after (content state.now) writes.now) };
 }

@@ -35,17 +35,3 @@ impl<T> ListOf<T> {
         self.items
     }
 }
-
-#[cfg(test)]
-mod tests {
-    use super::*;
-    use std::test::Fail;
-
-    #[test]
-    fn gives_its_elements_back(rt: HostRuntime) -> Result<(), Fail> {
-        let list = ListOf::new([3u32, 1, 3].to_vec(rt.alloc())?);
-        assert_eq!(rt; list.as_slice(), [3, 1, 3].as_slice());
-        assert_eq!(rt; list.into_vec().as_slice(), [3, 1, 3].as_slice());
-        Ok(())
-    }
-}

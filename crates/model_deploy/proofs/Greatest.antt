@@ -1,9 +1,8 @@
 -- The product of the greatest coefficients of a cube's dimensions.
-use Rattle.std.proofs.Common.{◌≡◌, ℕ, zero, suc, ◌+◌, ◌*◌, ◌<◌, ◌≤◌, ◌⊎◌, inl, inr, max, min, ℤ, List, [], ◌∷◌, length, map, drop, get_or, Option, Some, None, refl, ap, sym, ◌∙◌, subst, arith, slice_get, slice_index_or, All}
+use Rattle.std.proofs.Common.{◌≡◌, ℕ, zero, suc, ◌+◌, ◌*◌, ◌<◌, ◌≤◌, max, min, ℤ, List, [], ◌∷◌, length, map, drop, get_or, Some, refl, ap, sym, ◌∙◌, subst, arith, slice_get, slice_index_or, All}
 use Rattle.std.specs.List.{AllZip, range_with_len, cons_option}
-use Rattle.std.proofs.lemmas.Bool.{cases_lt}
 use Rattle.std.proofs.lemmas.List.{drop_more, drop_all}
-use Rattle.std.proofs.Math.Nat.{min-eq_left, min-eq_right}
+use Rattle.std.proofs.Math.Nat.{min-eq_left}
 use Rattle.dim_core.specs.Outline.{Outline}
 use Rattle.dim_weights.specs.Table.{IsWeightsOf, leaves_of, greatest_of, greatest_in}
 use Rattle.cube_space.specs.Layout.{Layout, axes_of}
@@ -11,6 +10,7 @@ use Rattle.cube_space.specs.Cells.{IsSpace}
 use Rattle.cube_space.specs.declared.shape.CubeShape.{CubeShape}
 use Rattle.std.proofs.lemmas.Option.{get_or_from_slice_get}
 use Rattle.cube_space.specs.Radix.{product}
+use Rattle.cube_space.proofs.Steps.{held-down}
 use Rattle.rule_core.specs.BoundModel.{greatest_coef}
 
 -- a dimension of this number, and its coefficients
@@ -45,26 +45,6 @@ same-place d w is i low =
 pub greatest-is : (d : Outline) (w : List (List (ℕ × ℤ))) → IsWeightsOf d w → greatest_of w ≡ greatest_coef d
 unfolding greatest_coef
 greatest-is d w is = rows-are w (leaves_of d) 0 (same-place d w is) ∙ ap (λ n. greatest_of (map (leaves_of d) (range_with_len 0 n))) is.whole
-
-times-positive : (n p : ℕ) → 0 < p → n ≤ n * p
-times-positive n zero h = absurd (omega arith)
-times-positive n (suc p) h = omega arith
-
--- a product that is held down at each step is the product held down at the end
-held-down : (x y top : ℕ) → min (min x top * y) top ≡ min (x * y) top
-held-down x y top = by (cases_lt top x) y
-  where
-    by : (top < x) ⊎ (x ≤ top) → (y : ℕ) → min (min x top * y) top ≡ min (x * y) top
-    by (inr small) y = rw (min-eq_left small) refl
-    by (inl large) zero =
-        let a : min x top * 0 ≡ 0 = omega arith in
-        let b : x * 0 ≡ 0 = omega arith in
-        rw (a, b) refl
-    by (inl large) (suc y) =
-        let some : top ≤ x = omega arith in
-        let low : top ≤ top * suc y = times-positive top (suc y) (omega arith) in
-        let high : top ≤ x * suc y = omega (arith, times-positive x (suc y) (omega arith)) in
-        rw (min-eq_right some) (min-eq_right low ∙ sym (min-eq_right high))
 
 -- the product of the greatest coefficients of the dimensions of these numbers
 abbrev pub product_over : List Outline → List ℕ → ℕ

@@ -1,5 +1,6 @@
 -- What the contents of a model text are as a model, and why they are refused.
-use Rattle.std.specs.Prelude.{◌≡◌, ℕ, ◌⊎◌, nat_lt, List, [], ◌∷◌, length, map, slice_index, Option, Some, None, option_map, Result, Ok, Err, if◌then◌else◌, ⊤}
+use Rattle.std.specs.Prelude.{◌≡◌, ℕ, ◌⊎◌, ⊤, nat_lt, if◌then◌else◌, List, [], ◌∷◌, length, map, slice_index}
+use Rattle.std.specs.Prelude.{Option, Some, None, option_map, Result, Ok, Err}
 use Rattle.std.specs.List.{range_with_len}
 use Rattle.std.specs.Option.{option_or}
 use Rattle.dim_text.specs.Progress.{Text}
@@ -11,7 +12,7 @@ use Rattle.cube_space.specs.declared.fault.SpaceFault.{SpaceFault}
 use Rattle.cube_space.specs.declared.fault.SpaceFault.TheVariants as spaces
 use Rattle.cube_space.specs.Layout.{Layout}
 use Rattle.cube_space.specs.Refusal.{refusal_of as space_refused}
-use Rattle.rule_core.specs.BoundModel.{weight_product}
+use Rattle.rule_core.specs.BoundModel.{weight_product, max_weight_product}
 use Rattle.model_text.specs.Contents.{Contents}
 use Rattle.model_text.specs.declared.parts.CubeText.{CubeText}
 use Rattle.model_deploy.specs.declared.fault.DeployFault.{DeployFault}
@@ -24,7 +25,10 @@ shape_of cube = record { name = cube.name; dims = cube.dims }
 
 -- the dimensions and the cubes of a model text
 abbrev pub layout_of : Contents → Layout
-layout_of contents = record { dimensions = map (λ text. text.dimension) contents.dims; cubes = map shape_of contents.cubes }
+layout_of contents = record {
+  dimensions = map (λ text. text.dimension) contents.dims;
+  cubes = map shape_of contents.cubes;
+}
 
 -- the line of each cube's `CUBE`
 abbrev pub cube_lines : List CubeText → List ℕ
@@ -37,10 +41,11 @@ refused_on line cause = record { line = line; cause = cause }
 abbrev pub memory : DeployFault
 memory = refused_on 0 causes.Memory
 
--- what is wrong with a dimension's coefficients: on the line of the element that has one too large, and where there are too
--- many pairs on the line of its `DIM`
+-- what is wrong with a dimension's coefficients: on the line of the element that has one too large, and where there are
+-- too many pairs on the line of its `DIM`
 abbrev pub on_dimension : Text → WeightFault → DeployFault
-on_dimension text (weights.CoefficientTooLarge element) = refused_on (slice_index text.lines element) causes.CoefficientTooLarge
+on_dimension text (weights.CoefficientTooLarge element) =
+    refused_on (slice_index text.lines element) causes.CoefficientTooLarge
 on_dimension text (weights.TooManyPairs count) = refused_on text.head (causes.TooManyPairs count)
 on_dimension text weights.Memory = memory
 
@@ -57,9 +62,12 @@ on_cube lines spaces.Memory = memory
 abbrev pub space_refusal : List ℕ → Layout → Option DeployFault
 space_refusal lines layout = option_map (on_cube lines) (space_refused layout)
 
--- the weight product of a cube is above a billion: on the line of its `CUBE`
+-- the weight product of a cube is above the greatest: on the line of its `CUBE`
 abbrev pub product_refusal : List ℕ → Layout → ℕ → Option DeployFault
-product_refusal lines layout cube = if nat_lt 1000000000 (weight_product layout cube) then Some (refused_on (slice_index lines cube) causes.WeightProduct) else None
+product_refusal lines layout cube =
+    if nat_lt max_weight_product (weight_product layout cube)
+    then Some (refused_on (slice_index lines cube) causes.WeightProduct)
+    else None
 
 -- what the first of these is refused for that is refused
 abbrev pub first_refusal : {A : Type 0} → (A → Option DeployFault) → List A → Option DeployFault
@@ -70,14 +78,17 @@ abbrev pub dimensions_refusal : List Text → Option DeployFault
 dimensions_refusal dims = first_refusal dimension_refusal dims
 
 abbrev pub products_refusal : List ℕ → Layout → Option DeployFault
-products_refusal lines layout = first_refusal (product_refusal lines layout) (range_with_len 0 (length layout.cubes))
+products_refusal lines layout =
+    first_refusal (product_refusal lines layout) (range_with_len 0 (length layout.cubes))
 
--- the first refusal: first of all dimensions by their coefficients, then of the cubes by their cells, then of the cubes by
--- their weight products
+-- the first refusal: first of all dimensions by their coefficients, then of the cubes by their cells, then of the cubes
+-- by their weight products
 unfoldable pub refusal_of : Contents → Option DeployFault
 refusal_of contents =
     option_or (dimensions_refusal contents.dims)
-    (option_or (space_refusal (cube_lines contents.cubes) (layout_of contents)) (products_refusal (cube_lines contents.cubes) (layout_of contents)))
+    (option_or
+    (space_refusal (cube_lines contents.cubes) (layout_of contents))
+    (products_refusal (cube_lines contents.cubes) (layout_of contents)))
 
 -- an answer has this cause: it is Ok where there is none, and else the cause; want of memory may always come
 abbrev pub IsAnsweredBy : {T : Type 0} → Option DeployFault → Result T DeployFault → Type 0

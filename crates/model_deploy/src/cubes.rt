@@ -67,7 +67,8 @@ pub fn space_of(
 ) -> Result<Space, DeployFault>
     requires { IsLayout (record { dimensions = dims.items; cubes = cubes.items }) }
     ensures made { IfOk result (λ space. space ≡ record { dimensions = dims.items; cubes = cubes.items }) }
-    ensures answered { IsAnsweredBy (space_refusal lines.now (record { dimensions = dims.items; cubes = cubes.items })) result }
+    ensures answered { IsAnsweredBy
+        (space_refusal lines.now (record { dimensions = dims.items; cubes = cubes.items })) result }
 {
     match Space::new(alloc, dims, cubes) {
         Ok(space) => Ok(space),

@@ -1,7 +1,7 @@
 //! From a model text that was read to a bound model, or to the first refusal.
 //!
-//! Read in this order: [`deploy`], which makes the model; [`DeployFault`], why it refuses. A model text is refused here for
-//! what no single statement of it shows: coefficients of dimensions, counts of cells, weight products of cubes.
+//! Read in this order: [`deploy`], which makes the model; [`DeployFault`], why it refuses. A model text is refused here
+//! for what no single statement of it shows: coefficients of dimensions, counts of cells, weight products of cubes.
 #![tactic(auto)]
 
 mod coefficients;
@@ -12,6 +12,3 @@ mod products;
 
 pub use deploying::deploy;
 pub use fault::{DeployCause, DeployFault};
-
-#[cfg(test)]
-mod tests;

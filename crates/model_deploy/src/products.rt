@@ -6,9 +6,7 @@ use crate::cubes::line_of;
 use crate::fault::{DeployCause, DeployFault};
 use cube_space::Space;
 use dim_weights::Weights;
-
-/// The greatest weight product of a cube.
-pub const MAX_WEIGHT_PRODUCT: u64 = 1_000_000_000;
+use rule_core::MAX_WEIGHT_PRODUCT;
 
 /// Whether each weight product is small, or else the refusal of the first cube of which it isn't.
 pub fn check_products(space: &Space, weights: &[Weights], lines: &[u32]) -> Result<(), DeployFault>

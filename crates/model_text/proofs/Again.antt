@@ -13,18 +13,23 @@ use Rattle.cube_lex.specs.Lexeme.{Lexeme}
 use Rattle.dim_name.specs.Name.{is_name, is_same_name, has_name, place_of}
 use Rattle.dim_core.proofs.Naming.{same_names, place_at}
 use Rattle.dim_core.specs.Draft.{IsFinished}
+use Rattle.dim_core.specs.Outline.{Outline, IsDimension}
+use Rattle.dim_core.specs.Written.{written}
 use Rattle.grammar.specs.Grammar.{many}
 use Rattle.grammar.specs.Tokens.{is_file}
 use Rattle.grammar.proofs.Exact.{passes_one}
 use Rattle.dim_text.specs.Building.{opened}
-use Rattle.dim_text.specs.Printed.{Builds}
+use Rattle.dim_text.proofs.Builds.{Builds}
 use Rattle.dim_text.specs.Progress.{Progress, Text, IsBuilt}
-use Rattle.dim_text.specs.Spelled.{word_token, sign_token, text_token, head_spelled}
+use Rattle.cube_lex.specs.Written.{word_token, sign_token, text_token}
+use Rattle.dim_text.specs.Spelled.{head_spelled, body_spelled}
+use Rattle.dim_text.proofs.PrintedBack.{body_of}
 use Rattle.dim_text.specs.Statement.{body}
-use Rattle.model_text.specs.Contents.{AreDimensions, cube_names, script_names}
+use Rattle.model_text.specs.Readers.Views.{IsValid}
+use Rattle.model_text.specs.Contents.{dimensions_limit, cubes_limit, scripts_limit, AreDimensions, cube_names, script_names}
 use Rattle.model_text.specs.Gathering.{Current, Nothing, DimensionDue, DimensionOpen, DimensionBody, CubeDue, CubeOpen, ScriptDue, ScriptOpen, ScriptWhole, Parts, at, unless, with_cube, with_script, with_dimension, gathered, dimensions_are_full, cubes_are_full, scripts_are_full, has_dimension, has_cube, has_script}
 use Rattle.model_text.specs.Printed.{IsSameCube, IsSameScript}
-use Rattle.model_text.specs.Spelled.{Block, IsBlock, block_spelled, cube_head_spelled, dimension_spelled, cube_dimensions_spelled, cube_end_spelled, next_dimension_spelled, cube_spelled, script_spelled}
+use Rattle.model_text.specs.Spelled.{dim_spelled, cube_head_spelled, dimension_spelled, cube_dimensions_spelled, cube_end_spelled, next_dimension_spelled, cube_spelled, script_spelled}
 use Rattle.model_text.specs.Statement.{Piece, piece, closing, naming, dimension_behind, dimension_head, dimension, next_dimension, cube_head, cube_dimensions, cube, script}
 use Rattle.model_text.specs.Watching.{Seen, watching}
 use Rattle.model_text.specs.Writable.{IsFileText, IsWritableOrder, IsWritableCube, IsWritableScript}
@@ -102,16 +107,16 @@ head_goes blocks parts shown is few new =
     (λ _ _. goes_unit (goes_piece {P = λ (l : ℕ). Unit {0}} (outside_of blocks parts (DimensionOpen line shown)) (λ l. at parts (DimensionBody l shown)) into_closing closing_spells
     (λ x same. (line, ap (gathered (at parts (DimensionOpen line shown))) same, tt)))))
 
-body_goes : (blocks : List Progress) (parts : Parts) (block : Block) (line : ℕ) → IsBlock block
-    → Goes {E = Progress} body block.behind (outside_of blocks parts (DimensionBody line block.text.dimension.name)) (λ built. outside_of (blocks ++ built ∷ []) (record parts { names = parts.names ++ block.text.dimension.name ∷ [] }) Nothing) (λ built. IsFinished built.draft block.text.dimension)
-body_goes blocks parts block line is = record {
+body_goes : (blocks : List Progress) (parts : Parts) (d : Outline) (line : ℕ) → IsDimension d
+    → Goes {E = Progress} body (body_spelled (written d)) (outside_of blocks parts (DimensionBody line d.name)) (λ built. outside_of (blocks ++ built ∷ []) (record parts { names = parts.names ++ d.name ∷ [] }) Nothing) (λ built. IsFinished built.draft d)
+body_goes blocks parts d line is = record {
   at = λ ts e. (
-      let builds : Builds body (opened line block.text.dimension.name) block.text.dimension ts = is.body line ts e in (
+      let builds : Builds body (opened line d.name) d ts = body_of d is line ts e in (
         tt,
         builds.built,
         builds.text.text,
-        passes_one watching (outside_of blocks parts (DimensionBody line block.text.dimension.name)) (outside_of (blocks ++ builds.built ∷ []) (record parts { names = parts.names ++ block.text.dimension.name ∷ [] }) Nothing) ts
-            (inr (record { start = opened line block.text.dimension.name; block = builds.built; head = refl; text = builds.text.text; built = builds.text.passes; next = refl })),
+        passes_one watching (outside_of blocks parts (DimensionBody line d.name)) (outside_of (blocks ++ builds.built ∷ []) (record parts { names = parts.names ++ d.name ∷ [] }) Nothing) ts
+            (inr (record { start = opened line d.name; block = builds.built; head = refl; text = builds.text.text; built = builds.text.passes; next = refl })),
         builds.finished,
       ));
 }
@@ -125,37 +130,37 @@ pub record Dims : Type 0 where
 abbrev pub dims_seen : ℕ → Dims → Seen
 dims_seen version dims = outside_of dims.blocks (record { version = version; names = dims.names; cubes = []; scripts = [] }) Nothing
 
-abbrev pub block_name : Block → List ℕ
-block_name block = block.text.dimension.name
+abbrev pub block_name : Text → List ℕ
+block_name text = text.dimension.name
 
-pub record AreDims (front : List Block) (dims : Dims) : Type 0 where
+pub record AreDims (front : List Text) (dims : Dims) : Type 0 where
   pub names : dims.names ≡ map block_name front
   pub built : AllZip IsBuilt dims.texts dims.blocks
-  pub same : map (λ text. text.dimension) dims.texts ≡ map (λ block. block.text.dimension) front
+  pub same : map (λ text. text.dimension) dims.texts ≡ map (λ text. text.dimension) front
 
-dims_full : (names : List (List ℕ)) (all front rest : List Block) (x : Block) → all ≡ front ++ x ∷ rest → length all ≤ 256 → names ≡ map block_name front → nat_le 256 (length names) ≡ false
-dims_full names all front rest x parts few is = ap (nat_le 256) (ap length is ∙ length-map front block_name) ∙ room all front rest x 256 parts few
+dims_full : (names : List (List ℕ)) (all front rest : List Text) (x : Text) → all ≡ front ++ x ∷ rest → length all ≤ dimensions_limit → names ≡ map block_name front → nat_le dimensions_limit (length names) ≡ false
+dims_full names all front rest x parts few is = ap (nat_le dimensions_limit) (ap length is ∙ length-map front block_name) ∙ room all front rest x dimensions_limit parts few
 
-one_more_dim : (front : List Block) (x : Block) (dims : Dims) (built : Progress) → IsFinished built.draft x.text.dimension → AreDims front dims
-    → AreDims (front ++ x ∷ []) (record { blocks = dims.blocks ++ built ∷ []; names = dims.names ++ block_name x ∷ []; texts = dims.texts ++ record { head = built.head; dimension = x.text.dimension; lines = built.lines } ∷ [] })
+one_more_dim : (front : List Text) (x : Text) (dims : Dims) (built : Progress) → IsFinished built.draft x.dimension → AreDims front dims
+    → AreDims (front ++ x ∷ []) (record { blocks = dims.blocks ++ built ∷ []; names = dims.names ++ block_name x ∷ []; texts = dims.texts ++ record { head = built.head; dimension = x.dimension; lines = built.lines } ∷ [] })
 one_more_dim front x dims built finished are =
-    let text : Text = record { head = built.head; dimension = x.text.dimension; lines = built.lines } in
+    let text : Text = record { head = built.head; dimension = x.dimension; lines = built.lines } in
     record {
       names = ap (λ ns. ns ++ block_name x ∷ []) are.names ∙ sym (map-append block_name front (x ∷ []));
       built = zip_last IsBuilt dims.texts dims.blocks text built are.built (record { head = refl; dimension = finished; lines = refl });
-      same = map-append (λ (t : Text). t.dimension) dims.texts (text ∷ []) ∙ ap (λ ds. ds ++ x.text.dimension ∷ []) are.same ∙ sym (map-append (λ (b : Block). b.text.dimension) front (x ∷ []));
+      same = map-append (λ (t : Text). t.dimension) dims.texts (text ∷ []) ∙ ap (λ ds. ds ++ x.dimension ∷ []) are.same ∙ sym (map-append (λ (t : Text). t.dimension) front (x ∷ []));
     }
 
-pub dims_go : (version : ℕ) (all : List Block) → All IsBlock all → length all ≤ 256 → IsDistinct is_same_name (map block_name all)
-    → Goes {E = Dims} (many dimension) (flat_map block_spelled all) (dims_seen version (record { blocks = []; names = []; texts = [] })) (dims_seen version) (AreDims all)
-dims_go version all good few distinct = goes_many dimension block_spelled (dims_seen version) AreDims all
+pub dims_go : (version : ℕ) (all : List Text) → All IsValid all → length all ≤ dimensions_limit → IsDistinct is_same_name (map block_name all)
+    → Goes {E = Dims} (many dimension) (flat_map dim_spelled all) (dims_seen version (record { blocks = []; names = []; texts = [] })) (dims_seen version) (AreDims all)
+dims_go version all good few distinct = goes_many dimension dim_spelled (dims_seen version) AreDims all
     (λ front rest x parts dims are.
-    let is : IsBlock x = among IsBlock all front rest x parts good in
+    let is : IsValid x = among IsValid all front rest x parts good in
     let now : Parts = record { version = version; names = dims.names; cubes = []; scripts = [] } in
     let full : dimensions_are_full now ≡ false = dims_full dims.names all front rest x parts few are.names in
     let new : has_dimension now (block_name x) ≡ false = ap (λ ns. has_name ns (block_name x)) are.names ∙ fresh_name block_name all front rest x parts distinct in
-    goes_as (λ built finished. (record { blocks = dims.blocks ++ built ∷ []; names = dims.names ++ block_name x ∷ []; texts = dims.texts ++ record { head = built.head; dimension = x.text.dimension; lines = built.lines } ∷ [] }, refl, one_more_dim front x dims built finished are))
-    (goes_both {xs = head_spelled (block_name x)} {ys = x.behind} (head_goes dims.blocks now (block_name x) is.name full new) (λ line _. body_goes dims.blocks now x line is)))
+    goes_as (λ built finished. (record { blocks = dims.blocks ++ built ∷ []; names = dims.names ++ block_name x ∷ []; texts = dims.texts ++ record { head = built.head; dimension = x.dimension; lines = built.lines } ∷ [] }, refl, one_more_dim front x dims built finished are))
+    (goes_both {xs = head_spelled (block_name x)} {ys = body_spelled (written x.dimension)} (head_goes dims.blocks now (block_name x) is.is_named full new) (λ line _. body_goes dims.blocks now x.dimension line is)))
     (record { blocks = []; names = []; texts = [] }) (record { names = refl; built = tt; same = refl })
 
 -- Cubes.
@@ -225,14 +230,14 @@ module _ (blocks : List Progress) (version : ℕ) (names : List (List ℕ)) wher
   abbrev pub cubes_seen : List CubeText → Seen
   cubes_seen cubes = outside_of blocks (record { version = version; names = names; cubes = cubes; scripts = [] }) Nothing
 
-  pub cubes_go : (all : List CubeText) → All (λ name. IsTrue (is_name name)) names → IsDistinct is_same_name names → All (λ (c : CubeText). AreDimensions (length names) c.dims) all → All IsWritableCube all → length all ≤ 64 → IsDistinct is_same_name (cube_names all)
+  pub cubes_go : (all : List CubeText) → All (λ name. IsTrue (is_name name)) names → IsDistinct is_same_name names → All (λ (c : CubeText). AreDimensions (length names) c.dims) all → All IsWritableCube all → length all ≤ cubes_limit → IsDistinct is_same_name (cube_names all)
       → Goes {E = List CubeText} (many cube) (flat_map (cube_spelled names) all) (cubes_seen []) cubes_seen (AllZip IsSameCube all)
   cubes_go all named distinct dims good few apart = goes_many cube (cube_spelled names) cubes_seen (AllZip IsSameCube) all
       (λ front rest x split so_far zip.
       let now : Parts = record { version = version; names = names; cubes = so_far; scripts = [] } in
       let is : IsWritableCube x = among IsWritableCube all front rest x split good in
       let are : AreDimensions (length names) x.dims = among (λ (c : CubeText). AreDimensions (length names) c.dims) all front rest x split dims in
-      let full : cubes_are_full now ≡ false = ap (nat_le 64) (sym (length_all_zip IsSameCube front so_far zip)) ∙ room all front rest x 64 split few in
+      let full : cubes_are_full now ≡ false = ap (nat_le cubes_limit) (sym (length_all_zip IsSameCube front so_far zip)) ∙ room all front rest x cubes_limit split few in
       let new : has_cube now x.name ≡ false = sym (any-map (is_same_name x.name) (λ (c : CubeText). c.name) so_far) ∙ ap (λ ns. has_name ns x.name) (same_names_of front so_far zip) ∙ fresh_name (λ (c : CubeText). c.name) all front rest x split apart in
       goes_as (λ again has. (so_far ++ again ∷ [], refl, zip_last IsSameCube front so_far x again zip (record { name = has.name; dims = has.dims; rules = has.rules; order = has.order })))
       (cube_goes blocks now x.name x.dims x.rules x.order named distinct are is.dims is.name.0 is.rules is.order full new))
@@ -265,13 +270,13 @@ module _ (blocks : List Progress) (version : ℕ) (names : List (List ℕ)) (cub
   abbrev pub scripts_seen : List ScriptText → Seen
   scripts_seen scripts = outside_of blocks (record { version = version; names = names; cubes = cubes; scripts = scripts }) Nothing
 
-  pub scripts_go : (all : List ScriptText) → All IsWritableScript all → length all ≤ 256 → IsDistinct is_same_name (script_names all)
+  pub scripts_go : (all : List ScriptText) → All IsWritableScript all → length all ≤ scripts_limit → IsDistinct is_same_name (script_names all)
       → Goes {E = List ScriptText} (many script) (flat_map script_spelled all) (scripts_seen []) scripts_seen (AllZip IsSameScript all)
   scripts_go all good few apart = goes_many script script_spelled scripts_seen (AllZip IsSameScript) all
       (λ front rest x split so_far zip.
       let now : Parts = record { version = version; names = names; cubes = cubes; scripts = so_far } in
       let is : IsWritableScript x = among IsWritableScript all front rest x split good in
-      let full : scripts_are_full now ≡ false = ap (nat_le 256) (sym (length_all_zip IsSameScript front so_far zip)) ∙ room all front rest x 256 split few in
+      let full : scripts_are_full now ≡ false = ap (nat_le scripts_limit) (sym (length_all_zip IsSameScript front so_far zip)) ∙ room all front rest x scripts_limit split few in
       let new : has_script now x.name ≡ false = sym (any-map (is_same_name x.name) (λ (c : ScriptText). c.name) so_far) ∙ ap (λ ns. has_name ns x.name) (same_scripts_of front so_far zip) ∙ fresh_name (λ (c : ScriptText). c.name) all front rest x split apart in
       goes_as (λ again same. (so_far ++ again ∷ [], refl, zip_last IsSameScript front so_far x again zip same))
       (script_goes blocks now x is.name.0 is.file.0 full new))

@@ -10,7 +10,7 @@ use Rattle.dim_core.specs.declared.fault.DimFault.{DimFault}
 use Rattle.dim_text.specs.Progress.{Progress}
 use Rattle.dim_text.specs.Building.{add, element_added, finished, opened}
 use Rattle.dim_text.specs.Statement.{Statement, Head, Leaf, Consolidated, Attribute, End, Close, element, ending, closing}
-use Rattle.dim_text.specs.Reading.{Plain, built, read_element, read_end, read_close, read_elements, read_ending, read_closing, read_body, is_element_word}
+use Rattle.dim_text.specs.Readers.Reading.{Plain, built, read_element, read_end, read_close, read_elements, read_ending, read_closing, read_body, is_element_word}
 use Rattle.dim_text.specs.declared.fault.Refusal.{Refusal}
 use Rattle.dim_text.proofs.ElementExact.{free, element_exact, end_exact, close_exact}
 
@@ -79,12 +79,12 @@ closing_within : Within closing
 closing_within = record { at = λ u x (_, _, _, _, _, (_, same)). subst IsWithin (sym same) tt }
 
 repeat_keeps : (k : ℕ) (p : Progress) (ts : List Lexeme) → Keeps p (repeat is_element_word (built read_element) k p ts)
-repeat_keeps zero p ts = tt
+repeat_keeps zero p ts = refl
 repeat_keeps (suc k) p ts = choice_keeps p (starts is_element_word ts) _ _ (bound_keeps p (built read_element p ts) _ (built_keeps element_exact element_within p ts) (λ a q rest. bound_keeps q (repeat is_element_word (built read_element) k q rest) _ (repeat_keeps k q rest) (λ list m left. refl))) refl
 
 elements_keeps : (p : Progress) (ts : List Lexeme) → Keeps p (read_elements p ts)
 unfolding read_elements
-elements_keeps p ts = bound_keeps p (repeat is_element_word (built read_element) (suc (length ts)) p ts) _ (repeat_keeps (suc (length ts)) p ts) (λ a q rest. refl)
+elements_keeps p ts = bound_keeps p (repeat is_element_word (built read_element) (length ts) p ts) _ (repeat_keeps (length ts) p ts) (λ a q rest. refl)
 
 ending_keeps : (p : Progress) (ts : List Lexeme) → Keeps p (read_ending p ts)
 unfolding read_ending

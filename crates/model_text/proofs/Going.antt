@@ -7,7 +7,7 @@ use Rattle.grammar.specs.Grammar.{Grammar, both, many}
 use Rattle.grammar.specs.Watch.{Passes}
 use Rattle.grammar.proofs.Exact.{passes_nothing, passes-append, passes_one}
 use Rattle.dim_text.specs.Statement.{unit}
-use Rattle.dim_text.proofs.Spells.{Spells, split_at, none_spelled}
+use Rattle.grammar.proofs.Spells.{Spells, split_at, none_spelled}
 use Rattle.model_text.specs.Gathering.{Given, gathered}
 use Rattle.model_text.specs.Statement.{Piece, piece}
 use Rattle.model_text.specs.Watching.{Seen, with_given, added, watching}

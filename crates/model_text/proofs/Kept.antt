@@ -9,49 +9,22 @@ use Rattle.cube_lex.specs.Lexeme.{Lexeme}
 use Rattle.cube_lex.specs.Quoted.{unquoted}
 use Rattle.dim_name.specs.Name.{is_name}
 use Rattle.grammar.specs.Grammar.{Grammar, done, one, both, either, many}
-use Rattle.grammar.specs.Tokens.{is_text_kind, is_number_kind, is_file, is_whole, name, file, whole}
+use Rattle.grammar.specs.Tokens.{located, is_text_kind, is_number_kind, is_file, is_whole, name, file, whole}
+use Rattle.grammar.specs.Reading.{take_one, bound, gives}
+use Rattle.grammar.specs.Watch.{unscanned}
 use Rattle.grammar.specs.declared.cursor.Unwatched.{Unwatched}
 use Rattle.grammar.proofs.Exact.{Exact}
+use Rattle.grammar.proofs.Kept.{AreTokens, first_tokens, Keeps, keeps_any, keeps_done, keeps_both, keeps_either, keeps_many}
 use Rattle.grammar.proofs.Tokens.{when_picks, and_is}
 use Rattle.grammar.proofs.Top.{read_told}
-use Rattle.dim_text.proofs.Quotable.{AreTokens, Keeps, first_tokens, last_tokens, text_quotable, name_quotable}
-use Rattle.model_text.specs.Reading.{Plain, read_naming, read_script_file, read_cube_end}
-use Rattle.model_text.specs.Statement.{Piece, Shown, CubeEnd, located, naming, script_file, rules, rank, rank_list, position, position_list, order, cube_end}
+use Rattle.dim_text.proofs.Quotable.{text_quotable, name_quotable}
+use Rattle.model_text.specs.Readers.Reading.{Plain, read_naming, read_script_file, read_cube_end}
+use Rattle.model_text.specs.Statement.{Piece, QuotedText, CubeEnd, naming, script_file, rules, rank, rank_list, position, position_list, order, cube_end}
 use Rattle.model_text.specs.Writable.{IsNameText, IsFileText, IsWritableRank, IsWritableWord, IsWritableOrder}
+use Rattle.model_text.specs.declared.fault.ModelTextFault.{ModelTextFault}
 use Rattle.model_text.specs.declared.order.OrderLine.{OrderLine}
 use Rattle.model_text.proofs.ModelExact.{file_is_text}
 use Rattle.model_text.proofs.PieceExact.{free, located_is, naming_exact, script_file_exact, cube_end_exact}
-
--- Each tree that a grammar reads from tokens has P.
-
-any : {A : Type 0} {G : Grammar Lexeme A} → Keeps G (λ _. Unit {0})
-any = record { at = λ u a tokens h. tt }
-
-made : {A : Type 0} {P : A → Type 0} {a : A} → P a → Keeps (done a) P
-made {P = P} p = record { at = λ u b tokens h. subst P (sym h.1) p }
-
-next : {A B : Type 0} {G : Grammar Lexeme A} {K : A → Grammar Lexeme B} {P : A → Type 0} {Q : B → Type 0} → Keeps G P → ((a : A) → P a → Keeps (K a) Q) → Keeps (both G K) Q
-next g k = record {
-  at = λ u b tokens (v, w, a, parts, h, l). (
-      let whole : AreTokens (v ++ w) = subst AreTokens parts tokens in
-      (k a (g.at v a (first_tokens v w whole) h)).at w b (last_tokens v w whole) l);
-}
-
-one_of_at : {A : Type 0} {G H : Grammar Lexeme A} (P : A → Type 0) → Keeps G P → Keeps H P → (u : List Lexeme) (a : A) → AreTokens u → either G H u a → P a
-one_of_at P g h u a tokens (inl e) = g.at u a tokens e
-one_of_at P g h u a tokens (inr e) = h.at u a tokens e
-
-one_of : {A : Type 0} {G H : Grammar Lexeme A} {P : A → Type 0} → Keeps G P → Keeps H P → Keeps (either G H) P
-one_of {P = P} g h = record { at = one_of_at P g h }
-
-each_at : {A : Type 0} {G : Grammar Lexeme A} (P : A → Type 0) → Keeps G P → (u : List Lexeme) (list : List A) → AreTokens u → many G u list → All P list
-each_at P g u [] tokens h = All-nil P
-each_at P g u (a ∷ rest) tokens (v, w, parts, h, more) =
-    let whole : AreTokens (v ++ w) = subst AreTokens parts tokens in
-    All-cons P a rest (g.at v a (first_tokens v w whole) h) (each_at P g w rest (last_tokens v w whole) more)
-
-each : {A : Type 0} {G : Grammar Lexeme A} {P : A → Type 0} → Keeps G P → Keeps (many G) (All P)
-each {P = P} g = record { at = each_at P g }
 
 -- Tokens.
 
@@ -82,52 +55,52 @@ whole_kept = record {
 -- The end of a cube.
 
 rules_kept : Keeps rules (λ r. IfSome r (λ x. IsFileText x.1))
-rules_kept = one_of (next any (λ line _. next file_kept (λ bytes is. next any (λ _ _. made is)))) (made tt)
+rules_kept = keeps_either (keeps_both keeps_any (λ line _. keeps_both file_kept (λ bytes is. keeps_both keeps_any (λ _ _. keeps_done is)))) (keeps_done tt)
 
 rank_kept : Keeps rank IsWritableRank
-rank_kept = next name_kept (λ shown is. next whole_kept (λ n small. made (is, small)))
+rank_kept = keeps_both name_kept (λ shown is. keeps_both whole_kept (λ n small. keeps_done (is, small)))
 
 some_more : {A : Type 0} (first : A) (rest : List A) → 0 < length (first ∷ rest)
 some_more first rest = omega arith
 
 rank_list_kept : Keeps rank_list (λ list. (0 < length list) × All IsWritableRank list)
-rank_list_kept = next rank_kept (λ first is. next (each (next any (λ _ _. rank_kept))) (λ rest all. made (some_more first rest, All-cons IsWritableRank first rest is all)))
+rank_list_kept = keeps_both rank_kept (λ first is. keeps_both (keeps_many (keeps_both keeps_any (λ _ _. rank_kept))) (λ rest all. keeps_done (some_more first rest, All-cons IsWritableRank first rest is all)))
 
 position_kept : Keeps position IsWritableWord
-position_kept = one_of (next whole_kept (λ n small. made small))
-    (next name_kept (λ shown is. one_of (next any (λ _ _. next rank_list_kept (λ list all. next any (λ _ _. made (is, all.0, all.1))))) (made is)))
+position_kept = keeps_either (keeps_both whole_kept (λ n small. keeps_done small))
+    (keeps_both name_kept (λ shown is. keeps_either (keeps_both keeps_any (λ _ _. keeps_both rank_list_kept (λ list all. keeps_both keeps_any (λ _ _. keeps_done (is, all.0, all.1))))) (keeps_done is)))
 
 position_list_kept : Keeps position_list (λ list. (0 < length list) × All IsWritableWord list)
-position_list_kept = next position_kept (λ first is. next (each (next any (λ _ _. position_kept))) (λ rest all. made (some_more first rest, All-cons IsWritableWord first rest is all)))
+position_list_kept = keeps_both position_kept (λ first is. keeps_both (keeps_many (keeps_both keeps_any (λ _ _. position_kept))) (λ rest all. keeps_done (some_more first rest, All-cons IsWritableWord first rest is all)))
 
 order_kept : Keeps order (λ o. IfSome o (λ x. IsWritableOrder x.1))
-order_kept = one_of (next any (λ line _. next position_list_kept (λ list is. next any (λ _ _. made is)))) (made tt)
+order_kept = keeps_either (keeps_both keeps_any (λ line _. keeps_both position_list_kept (λ list is. keeps_both keeps_any (λ _ _. keeps_done is)))) (keeps_done tt)
 
 abbrev IsWritableEnd : Piece → Type 0
 IsWritableEnd (CubeEnd r o) = IfSome r (λ x. IsFileText x.1) × IfSome o (λ x. IsWritableOrder x.1)
 IsWritableEnd other = Unit {0}
 
 cube_end_kept : Keeps cube_end IsWritableEnd
-cube_end_kept = next any (λ _ _. next any (λ _ _. next rules_kept (λ r r_is. next order_kept (λ o o_is. next any (λ _ _. next any (λ _ _. made (r_is, o_is)))))))
+cube_end_kept = keeps_both keeps_any (λ _ _. keeps_both keeps_any (λ _ _. keeps_both rules_kept (λ r r_is. keeps_both order_kept (λ o o_is. keeps_both keeps_any (λ _ _. keeps_both keeps_any (λ _ _. keeps_done (r_is, o_is)))))))
 
 -- Names and files.
 
 abbrev HasName : Piece → Type 0
-HasName (Shown line shown) = IsNameText shown
+HasName (QuotedText line shown) = IsNameText shown
 HasName other = Unit {0}
 
 abbrev HasFile : Piece → Type 0
-HasFile (Shown line bytes) = IsFileText bytes
+HasFile (QuotedText line bytes) = IsFileText bytes
 HasFile other = Unit {0}
 
 located_kept : {A : Type 0} {pick : Lexeme → Option A} {P : A → Type 0} → Keeps (one pick) P → Keeps (one (located pick)) (λ x. P x.1)
 located_kept {pick = pick} k = record { at = λ u x tokens (t, is, picks). k.at u x.1 tokens (t, is, located_is pick t x picks) }
 
 naming_kept : Keeps naming HasName
-naming_kept = next (located_kept name_kept) (λ n is. made is)
+naming_kept = keeps_both (located_kept name_kept) (λ n is. keeps_done is)
 
 script_file_kept : Keeps script_file HasFile
-script_file_kept = next (located_kept file_kept) (λ n is. made is)
+script_file_kept = keeps_both (located_kept file_kept) (λ n is. keeps_done is)
 
 -- What is read of tokens.
 
@@ -136,11 +109,15 @@ told e k ts left x u v read tokens =
     let (text, parts, is) = read_told e u ts x v left read in
     k.at text x (first_tokens text left (subst AreTokens parts tokens)) is.text
 
-pub naming_told : (ts left : List Lexeme) (line : ℕ) (shown : List ℕ) (u v : Unwatched) → read_naming u ts ≡ Ok (Shown line shown, v, left) → AreTokens ts → IsNameText shown
-naming_told ts left line shown u v read tokens = told naming_exact naming_kept ts left (Shown line shown) u v read tokens
+pub naming_told : (ts left : List Lexeme) (line : ℕ) (shown : List ℕ) (u v : Unwatched) → read_naming u ts ≡ Ok (QuotedText line shown, v, left) → AreTokens ts → IsNameText shown
+naming_told ts left line shown u v read tokens = told naming_exact naming_kept ts left (QuotedText line shown) u v read tokens
 
-pub script_file_told : (ts left : List Lexeme) (line : ℕ) (bytes : List ℕ) (u v : Unwatched) → read_script_file u ts ≡ Ok (Shown line bytes, v, left) → AreTokens ts → IsFileText bytes
-script_file_told ts left line bytes u v read tokens = told script_file_exact script_file_kept ts left (Shown line bytes) u v read tokens
+pub taken_name : (ts left : List Lexeme) (n : ℕ × List ℕ) (u v : Unwatched) → take_one (unscanned {C = ModelTextFault}) (located name) u ts ≡ Ok (n, v, left) → AreTokens ts → IsNameText n.1
+unfolding read_naming
+taken_name ts left n u v read tokens = naming_told ts left n.0 n.1 u v (ap (λ r. bound r (λ m. gives (QuotedText m.0 m.1))) read) tokens
+
+pub script_file_told : (ts left : List Lexeme) (line : ℕ) (bytes : List ℕ) (u v : Unwatched) → read_script_file u ts ≡ Ok (QuotedText line bytes, v, left) → AreTokens ts → IsFileText bytes
+script_file_told ts left line bytes u v read tokens = told script_file_exact script_file_kept ts left (QuotedText line bytes) u v read tokens
 
 pub cube_end_told : (ts left : List Lexeme) (r : Option (ℕ × List ℕ)) (o : Option (ℕ × OrderLine)) (u v : Unwatched) → read_cube_end u ts ≡ Ok (CubeEnd r o, v, left) → AreTokens ts → IfSome r (λ x. IsFileText x.1) × IfSome o (λ x. IsWritableOrder x.1)
 cube_end_told ts left r o u v read tokens = told cube_end_exact cube_end_kept ts left (CubeEnd r o) u v read tokens

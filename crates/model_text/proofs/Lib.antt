@@ -3,7 +3,7 @@ pub mod Stopping
 pub mod Sound
 pub mod Whole
 pub mod Gathered
-pub mod Located
+pub mod Heads
 pub mod PieceExact
 pub mod ModelExact
 pub mod Kept

@@ -4,8 +4,8 @@ use Rattle.std.specs.Str.{str_eq_ignore_ascii_case}
 use Rattle.cube_lex.specs.Lexeme.{Lexeme}
 use Rattle.grammar.specs.Grammar.{Grammar, both, many}
 use Rattle.grammar.specs.Watch.{Watch, AllPass, Passes, Within, each_text}
-use Rattle.grammar.specs.Reading.{Dead, Refused, Spent, Read, starts, inside_result}
-use Rattle.grammar.specs.Tokens.{text, name, file, is_sign, is_word, is_text_kind, is_file}
+use Rattle.grammar.specs.Reading.{Unexpected, Refused, OutOfTurns, Read, starts, inside_result}
+use Rattle.grammar.specs.Tokens.{text, name, file, located, is_sign, is_word, is_text_kind, is_file}
 use Rattle.cube_lex.specs.Quoted.{unquoted}
 use Rattle.dim_name.specs.Name.{is_name}
 use Rattle.grammar.proofs.Exact.{Exact, Always, Not, Outcome, Agrees, IsStuck, passes_one, passes_nothing, refuses_one, exact_then, exact_both, exact_made, exact_before}
@@ -17,14 +17,14 @@ use Rattle.grammar.proofs.Tokens.{sign_begins, word_begins, value_no_word, name_
 use Rattle.dim_text.specs.Progress.{Progress}
 use Rattle.dim_text.specs.Statement.{unit, body}
 use Rattle.dim_text.specs.Building.{building}
-use Rattle.dim_text.specs.Reading.{read_body}
+use Rattle.dim_text.specs.Readers.Reading.{read_body}
 use Rattle.dim_text.specs.declared.fault.Refusal.{Refusal}
 use Rattle.dim_text.proofs.BlockExact.{body_exact}
 use Rattle.model_text.specs.declared.fault.ModelTextFault.{ModelTextFault}
-use Rattle.model_text.specs.Statement.{Piece, located, version, closing, dimension_word, cube_word, script_word, naming, script_file, first_dimension, next_dimension, cube_end, shown_text, piece, dimension_head, dimension, cube_head, cube_dimensions, cube, script, opening, model}
+use Rattle.model_text.specs.Statement.{Piece, version, closing, dimension_word, cube_word, script_word, naming, script_file, first_dimension, next_dimension, cube_end, shown_text, piece, dimension_head, dimension, cube_head, cube_dimensions, cube, script, opening, model}
 use Rattle.model_text.specs.Gathering.{Given, gathered}
 use Rattle.model_text.specs.Watching.{Seen, with_given, added, head_of, with_block, of_block, watching}
-use Rattle.model_text.specs.Reading.{Plain, Gatherer, gather, outside, body_from, read_dimension_behind, gather_version, gather_closing, gather_dimension_word, gather_cube_word, gather_script_word, gather_naming, gather_script_file, gather_first_dimension, gather_further_dimensions, gather_cube_end, read_opening, read_dimension_head, read_cube_head, read_cube_dimensions, read_cube, read_script, read_cubes, read_scripts, read_dimension_body, read_dimension, read_dimensions, read_model}
+use Rattle.model_text.specs.Readers.Reading.{Plain, Gatherer, gather, outside, body_from, read_dimension_behind, gather_version, gather_closing, gather_dimension_word, gather_cube_word, gather_script_word, gather_naming, gather_script_file, gather_first_dimension, gather_further_dimensions, gather_cube_end, read_opening, read_dimension_head, read_cube_head, read_cube_dimensions, read_cube, read_script, read_cubes, read_scripts, read_dimension_body, read_dimension, read_dimensions, read_model}
 use Rattle.model_text.proofs.PieceExact.{free, mapped, located_is_value, version_exact, closing_exact, dimension_word_exact, cube_word_exact, script_word_exact, naming_exact, script_file_exact, dimension_behind_exact, cube_end_exact}
 
 -- Pieces.
@@ -40,7 +40,6 @@ unfolding gather_version
 gathers_version = exact_made (λ _. tt) (piece_exact (λ u x h. inl h) (has_token (begins_both (word_begins (codes "MODEL") (codes "MODEL")))) version_exact)
 
 gathers_closing : Exact pieces (unit closing) (unit closing) gather_closing Always
-unfolding gather_closing
 gathers_closing = exact_made (λ _. tt) (piece_exact (λ u x h. inr (inl h)) (has_token (begins_both (sign_begins (codes ";") (codes ";")))) closing_exact)
 
 pub gathers_dimension_word : Exact pieces (unit dimension_word) (unit dimension_word) gather_dimension_word Always
@@ -84,11 +83,9 @@ unfolding gather_naming
 gathers_naming = exact_made (λ _. tt) (piece_exact (λ u x h. inr (inr (inr (inr (inr (inl (naming_into u x h))))))) (has_token (begins_both (value_no_word (located_is_value name_is_value) (codes "DIM")))) naming_exact)
 
 gathers_script_file : Exact pieces (unit script_file) (unit script_file) gather_script_file Always
-unfolding gather_script_file
 gathers_script_file = exact_made (λ _. tt) (piece_exact (λ u x h. inr (inr (inr (inr (inr (inl (file_into u x h))))))) (has_token (begins_both (value_no_word (located_is_value file_is_value) (codes "DIM")))) script_file_exact)
 
 gathers_first_dimension : Exact pieces (unit first_dimension) (unit first_dimension) gather_first_dimension Always
-unfolding gather_first_dimension
 gathers_first_dimension = exact_made (λ _. tt) (piece_exact (λ u x h. inr (inr (inr (inr (inr (inr (inl h))))))) (has_token (begins_both (sign_begins (codes "(") (codes "(")))) (dimension_behind_exact (codes "(")))
 
 next_dimension_begins : Begins next_dimension (is_sign (codes ",")) true
@@ -218,14 +215,14 @@ body_told s start ts head (Ok x) f = record {
   passes = passes_one watching s (with_block s x.1) f.text (inr (record { start = start; block = x.1; head = head; text = f.reads; built = f.passes; next = refl }));
   alone = λ other same. body_alone s start (f.text ++ other) (Ok (x.0, x.1, other)) head (f.alone other same);
 }
-body_told s start ts head (Err (Dead left)) f = record {
+body_told s start ts head (Err (Unexpected left)) f = record {
   text = f.text;
   rest = f.rest;
   parts = f.parts;
   left_is = f.left_is;
   alive = f.alive;
   within = (let (more, a, h) = f.alive in body_begun s start ts left head f more a h);
-  alone = λ other same. body_alone s start (f.text ++ other) (Err (Dead (length other))) head (f.alone other same);
+  alone = λ other same. body_alone s start (f.text ++ other) (Err (Unexpected (length other))) head (f.alone other same);
 }
 body_told s start ts head (Err (Refused c)) f = record {
   before = f.before;
@@ -235,7 +232,7 @@ body_told s start ts head (Err (Refused c)) f = record {
   alive = f.alive;
   refused = refuses_one watching s (f.before ++ f.last ∷ []) (of_block c) (inr (record { start = start; refusal = c; head = head; alive = f.alive; refused = f.refused; is = refl }));
 }
-body_told s start ts head (Err Spent) f = tt
+body_told s start ts head (Err OutOfTurns) f = tt
 
 body_sound : (s : Seen) (ts : List Lexeme) (o : Option Progress) → head_of s.given.current ≡ o → Outcome body watching read_dimension_body s ts (body_from o s ts)
 unfolding Outcome
@@ -245,9 +242,9 @@ body_sound s ts (Some start) head = body_told s start ts head (read_body start t
 body_agrees : (s : Seen) (a : Unit {0}) (rest : List Lexeme) (r : Read Lexeme Progress Refusal (Unit {0})) → Agrees {R = Progress} {C = Refusal} a rest r → Agrees {R = Seen} {C = ModelTextFault} a rest (inside_result (with_block s) of_block r)
 unfolding Agrees
 body_agrees s a rest (Ok x) h = h
-body_agrees s a rest (Err (Dead left)) h = absurd h
+body_agrees s a rest (Err (Unexpected left)) h = absurd h
 body_agrees s a rest (Err (Refused c)) h = tt
-body_agrees s a rest (Err Spent) h = tt
+body_agrees s a rest (Err OutOfTurns) h = tt
 
 body_complete : (s : Seen) (u : List Lexeme) (a : Unit {0}) (rest : List Lexeme) → body u a → (o : Option Progress) → Agrees {R = Seen} {C = ModelTextFault} a rest (body_from o s (u ++ rest))
 unfolding Agrees

@@ -8,21 +8,22 @@ use Rattle.cube_lex.specs.declared.token.Kind.TheVariants as kinds
 use Rattle.cube_lex.specs.Quoted.{unquoted}
 use Rattle.grammar.specs.Grammar.{Grammar, one, both, many, done}
 use Rattle.grammar.specs.Watch.{Watch, unwatched, unscanned}
-use Rattle.grammar.specs.Reading.{take_one}
-use Rattle.grammar.specs.Tokens.{sign, whole, name, file, is_sign, is_word, is_text_kind, is_number_kind, is_whole}
+use Rattle.grammar.specs.Reading.{take_one, both_of, gives}
+use Rattle.grammar.specs.Lists.{read_listed}
+use Rattle.grammar.proofs.Lists.{listed_exact, listed_whole_exact, behind_list}
+use Rattle.grammar.specs.Tokens.{sign, word, whole, name, file, located, is_sign, is_word, is_number, is_text_kind, is_number_kind, is_whole}
 use Rattle.grammar.specs.declared.cursor.Unwatched.{Unwatched}
 use Rattle.dim_name.specs.Name.{is_name}
 use Rattle.std.specs.Str.Parse.{digits_value}
 use Rattle.grammar.proofs.Exact.{Exact, Always, Not, exact_one, exact_gives, exact_then, exact_both, exact_made, exact_before}
-use Rattle.grammar.proofs.Begins.{Begins, begins_one, begins_both, begins_behind, exact_or, exact_option, exact_before_next, starts_text, starts_many, made_is}
-use Rattle.grammar.proofs.Many.{Shortens, shortens, exact_all, exact_rest}
+use Rattle.grammar.proofs.Begins.{Begins, begins_one, begins_both, begins_behind, exact_or, exact_option, exact_before_next}
 use Rattle.grammar.proofs.Tokens.{IsValue, exact_sign, exact_word, exact_name, exact_whole_number, exact_file, sign_begins, word_begins, when_picks, and_is}
 use Rattle.model_text.specs.declared.fault.ModelTextFault.{ModelTextFault}
 use Rattle.model_text.specs.declared.order.OrderLine.{OrderLine}
 use Rattle.model_text.specs.declared.order.OrderWord.{OrderWord}
 use Rattle.model_text.specs.declared.order.OrderWord.TheVariants as words
-use Rattle.model_text.specs.Statement.{Version, Closing, DimensionWord, CubeWord, ScriptWord, Shown, CubeDimension, CubeEnd, located, line_of, version, closing, dimension_word, cube_word, script_word, naming, script_file, dimension_behind, rule_file, rules, rank, next_rank, rank_list, listed, ranks, constant, index, position, next_position, position_list, order_line, order, cube_end}
-use Rattle.model_text.specs.Reading.{read_version, read_closing, read_dimension_word, read_cube_word, read_script_word, read_naming, read_script_file, read_dimension_behind, read_rule_file, read_rules, read_rank, read_next_rank, read_further_ranks, read_rank_list, read_listed, read_ranks, read_constant, read_index, is_number, read_position, read_next_position, read_further_positions, read_position_list, read_order_line, read_order, read_cube_end}
+use Rattle.model_text.specs.Statement.{Version, Closing, DimensionWord, CubeWord, ScriptWord, QuotedText, CubeDimension, CubeEnd, line_of, version, closing, dimension_word, cube_word, script_word, naming, script_file, dimension_behind, rule_file, rules, rank, ranks, position, order_line, order, cube_end}
+use Rattle.model_text.specs.Readers.Reading.{read_version, read_closing, read_dimension_word, read_cube_word, read_script_word, read_naming, read_script_file, read_dimension_behind, read_rules, read_rank, read_ranks, read_position, read_order, read_cube_end}
 
 -- nothing watches the parts of a piece
 abbrev pub free : Watch Lexeme Unwatched ModelTextFault
@@ -83,11 +84,11 @@ script_word_exact = exact_then (exact_word unscanned (codes "SCRIPT")) (λ line.
 
 pub naming_exact : Exact free naming naming read_naming Always
 unfolding read_naming
-naming_exact = exact_then exact_located_name (λ n. exact_gives free (Shown n.0 n.1))
+naming_exact = exact_then exact_located_name (λ n. exact_gives free (QuotedText n.0 n.1))
 
 pub script_file_exact : Exact free script_file script_file read_script_file Always
 unfolding read_script_file
-script_file_exact = exact_then exact_located_file (λ n. exact_gives free (Shown n.0 n.1))
+script_file_exact = exact_then exact_located_file (λ n. exact_gives free (QuotedText n.0 n.1))
 
 pub dimension_behind_exact : (bytes : List ℕ) → Exact free (dimension_behind bytes) (dimension_behind bytes) (read_dimension_behind bytes) Always
 unfolding read_dimension_behind
@@ -95,13 +96,12 @@ dimension_behind_exact bytes = exact_then (exact_sign unscanned bytes) (λ _. ex
 
 -- The rule file.
 
-rule_file_exact : Exact free rule_file rule_file read_rule_file Always
-unfolding read_rule_file
-rule_file_exact = exact_then (exact_word unscanned (codes "RULES")) (λ line. exact_then (exact_file unscanned) (λ bytes. exact_then (exact_sign unscanned (codes ";")) (λ _. exact_gives free (Some (line, bytes)))))
+rule_file_begins : Begins rule_file (is_word (codes "RULES")) true
+rule_file_begins = begins_both (word_begins (codes "RULES") (codes "RULES"))
 
 rules_exact : Exact free rules rules read_rules (Not (is_word (codes "RULES")))
 unfolding read_rules
-rules_exact = exact_option (is_word (codes "RULES")) None (begins_both (word_begins (codes "RULES") (codes "RULES"))) rule_file_exact
+rules_exact = exact_option (is_word (codes "RULES")) None rule_file_begins (exact_then (exact_word unscanned (codes "RULES")) (λ line. exact_then (exact_file unscanned) (λ bytes. exact_then (exact_sign unscanned (codes ";")) (λ _. exact_gives free (Some (line, bytes))))))
 
 -- The order line.
 
@@ -109,29 +109,10 @@ rank_exact : Exact free rank rank read_rank Always
 unfolding read_rank
 rank_exact = exact_then (exact_name unscanned) (λ shown. exact_then (exact_whole_number unscanned) (λ n. exact_gives free (shown, n)))
 
-pub next_rank_exact : Exact free next_rank next_rank read_next_rank Always
-unfolding read_next_rank
-next_rank_exact = exact_then (exact_sign unscanned (codes ",")) (λ _. rank_exact)
-
-rank_list_exact : Exact free rank_list rank_list read_rank_list (Not (is_sign (codes ",")))
-unfolding read_rank_list read_further_ranks
-rank_list_exact = exact_then rank_exact (λ first. exact_made (λ rest. first ∷ rest) (exact_rest (is_sign (codes ",")) (begins_both (sign_begins (codes ",") (codes ","))) (begins_both (sign_begins (codes ",") (codes ","))) next_rank_exact))
-
-listed_exact : (shown : List ℕ) → Exact free (listed shown) (listed shown) (read_listed shown) Always
-unfolding read_listed
-listed_exact shown = exact_then (exact_sign unscanned (codes "(")) (λ _. exact_before_next rank_list_exact (λ list. exact_then (exact_sign unscanned (codes ")")) (λ _. exact_gives free (words.Ranks shown list))) (λ list. begins_both (sign_begins (codes ")") (codes ","))))
-
 ranks_exact : (shown : List ℕ) → Exact free (ranks shown) (ranks shown) (read_ranks shown) (Not (is_sign (codes "(")))
 unfolding read_ranks
-ranks_exact shown = exact_option (is_sign (codes "(")) (words.Index shown) (begins_both (sign_begins (codes "(") (codes "("))) (listed_exact shown)
-
-constant_exact : Exact free constant constant read_constant Always
-unfolding read_constant
-constant_exact = exact_then (exact_whole_number unscanned) (λ n. exact_gives free (words.Constant n))
-
-index_exact : Exact free index index read_index (Not (is_sign (codes "(")))
-unfolding read_index
-index_exact = exact_then (exact_name unscanned) (λ shown. ranks_exact shown)
+ranks_exact shown = exact_option (is_sign (codes "(")) (words.Index shown) (begins_both (sign_begins (codes "(") (codes "(")))
+    (exact_then (exact_sign unscanned (codes "(")) (λ _. exact_before_next (listed_whole_exact rank_exact) (λ list. exact_then (exact_sign unscanned (codes ")")) (λ _. exact_gives free (words.Ranks shown list))) (λ list. begins_both (sign_begins (codes ")") (codes ",")))))
 
 text_no_number : (k : Kind) → is_text_kind k ≡ true → is_number_kind k ≡ false
 text_no_number kinds.Word e = refl
@@ -147,52 +128,14 @@ name_begins = begins_one name is_number false (λ t shown e. text_no_number t.ki
 
 position_exact : Exact free position position read_position (Not (is_sign (codes "(")))
 unfolding read_position
-position_exact = exact_or is_number (begins_both whole_begins) (begins_both name_begins) (exact_before (λ _ _. tt) constant_exact) index_exact
+position_exact = exact_or is_number (begins_both whole_begins) (begins_both name_begins)
+    (exact_before (λ _ _. tt) (exact_then (exact_whole_number unscanned) (λ n. exact_gives free (words.Constant n))))
+    (exact_then (exact_name unscanned) (λ shown. ranks_exact shown))
 
-pub next_position_exact : Exact free next_position next_position read_next_position (Not (is_sign (codes "(")))
-unfolding read_next_position
-next_position_exact = exact_then (exact_sign unscanned (codes ",")) (λ _. position_exact)
-
--- what may stand behind the positions
-record Behind (rest : List Lexeme) : Type 0 where
-  comma : Not (is_sign (codes ",")) rest
-  bracket : Not (is_sign (codes "(")) rest
-
-abbrev further : OrderWord → Grammar Lexeme (List OrderWord)
-further first = both (many next_position) (λ rest. done (first ∷ rest))
-
-further_exact : (first : OrderWord) → Exact free (further first) (further first) (read_further_positions first) Behind
-unfolding read_further_positions
-further_exact first = exact_made (λ rest. first ∷ rest)
-    (exact_all (is_sign (codes ",")) true (begins_both (sign_begins (codes ",") (codes ","))) (begins_both (sign_begins (codes ",") (codes ",")))
-    (λ rest stops. stops.comma)
-    (λ list v rest h stops. starts_many (begins_both (sign_begins (codes ",") (codes "("))) list v rest h stops.bracket)
-    next_position_exact)
-
-further_follows : (first : OrderWord) (v : List Lexeme) (list : List OrderWord) (rest : List Lexeme) → further first v list → Behind rest → Not (is_sign (codes "(")) (v ++ rest)
-further_follows first v list rest h stops =
-    let (others, more) = made_is (many next_position) (λ rest. first ∷ rest) v list h in
-    starts_many (begins_both (sign_begins (codes ",") (codes "("))) others v rest more stops.bracket
-
-position_list_exact : Exact free position_list position_list read_position_list Behind
-unfolding read_position_list
-position_list_exact = exact_both position_exact further_exact further_follows
-
--- `;` at the end of the order line
-abbrev closed_line : ℕ → List OrderWord → Grammar Lexeme (Option (ℕ × OrderLine))
-closed_line line list = both (one (sign (codes ";"))) (λ _. done (Some (line, line_of list)))
-
-closed_begins : (line : ℕ) (list : List OrderWord) (b : List ℕ) → Begins (closed_line line list) (is_sign b) (bytes_eq (codes ";") b)
-closed_begins line list b = begins_both (sign_begins (codes ";") b)
-
-order_line_exact : Exact free order_line order_line read_order_line Always
-unfolding read_order_line
-order_line_exact = exact_then (exact_word unscanned (codes "ORDER")) (λ line. exact_both position_list_exact
+order_line_exact : Exact free order_line order_line (both_of (take_one unscanned (word (codes "ORDER"))) (λ line. both_of (read_listed unscanned read_position) (λ list. both_of (take_one unscanned (sign (codes ";"))) (λ _. gives (Some (line, line_of list)))))) Always
+order_line_exact = exact_then (exact_word unscanned (codes "ORDER")) (λ line. exact_both (listed_exact (is_sign (codes "(")) (sign_begins (codes ",") (codes "(")) position_exact)
     (λ list. exact_then (exact_sign unscanned (codes ";")) (λ _. exact_gives free (Some (line, line_of list))))
-    (λ list v b rest l _. record {
-      comma = starts_text (closed_begins line list (codes ",")) v b rest l;
-      bracket = starts_text (closed_begins line list (codes "(")) v b rest l;
-    }))
+    (λ list v b rest l _. behind_list (codes ";") (done (Some (line, line_of list))) (is_sign (codes "(")) (sign_begins (codes ";") (codes "(")) refl v b rest l))
 
 order_exact : Exact free order order read_order (Not (is_word (codes "ORDER")))
 unfolding read_order
@@ -214,6 +157,3 @@ cube_end_exact = exact_then (exact_sign unscanned (codes ")")) (λ _. exact_then
     (λ o. exact_then (exact_word unscanned (codes "END")) (λ _. exact_then (exact_sign unscanned (codes ";")) (λ _. exact_gives free (CubeEnd r o))))
     (λ o. begins_both (word_begins (codes "END") (codes "ORDER"))))
     (λ r. begins_behind order_first (λ o. begins_both (word_begins (codes "END") (codes "RULES"))))))
-
-pub next_position_shortens : Shortens read_next_position
-next_position_shortens = shortens (is_sign (codes ",")) true (begins_both (sign_begins (codes ",") (codes ","))) next_position_exact

@@ -11,9 +11,9 @@ use Rattle.cube_lex.specs.Lexeme.{Lexeme}
 use Rattle.grammar.specs.Watch.{AllPass, Passes}
 use Rattle.dim_name.specs.Name.{is_same_name, key_of, place_of}
 use Rattle.model_text.specs.Contents.{cube_names, script_names, AreDimensions}
-use Rattle.model_text.specs.Gathering.{Current, Nothing, DimensionDue, CubeDue, ScriptDue, DimensionOpen, CubeOpen, ScriptOpen, DimensionBody, ScriptWhole, Parts, Given, at, refused, unless, dimensions_are_full, cubes_are_full, scripts_are_full, has_dimension, has_cube, has_script, with_shown, with_dimension, with_end, closed, gathered}
-use Rattle.model_text.specs.Statement.{Piece, Version, Closing, DimensionWord, CubeWord, ScriptWord, Shown, CubeDimension, CubeEnd}
-use Rattle.model_text.specs.Watching.{Seen, with_name, with_given, added, nothing_seen, watching}
+use Rattle.model_text.specs.Gathering.{Current, Nothing, DimensionDue, CubeDue, ScriptDue, DimensionOpen, CubeOpen, ScriptOpen, DimensionBody, ScriptWhole, Parts, Given, at, refused, unless, dimensions_are_full, cubes_are_full, scripts_are_full, has_dimension, has_cube, has_script, with_text, with_dimension, with_end, closed, gathered}
+use Rattle.model_text.specs.Statement.{Piece, Version, Closing, DimensionWord, CubeWord, ScriptWord, QuotedText, CubeDimension, CubeEnd}
+use Rattle.model_text.specs.Watching.{Seen, with_name_of, with_given, added, nothing_seen, watching}
 use Rattle.model_text.specs.declared.order.OrderLine.{OrderLine}
 use Rattle.model_text.specs.declared.parts.CubeText.{CubeText}
 use Rattle.model_text.specs.declared.parts.ScriptText.{ScriptText}
@@ -81,7 +81,7 @@ none_distinct eq = tt
 no_dims : (n : ℕ) → AreDimensions n []
 no_dims n = record { there = All-nil _; distinct = none_distinct nat_eq }
 
-shown_then : (parts : Parts) (line : ℕ) (shown : List ℕ) (current : Current) → IsSound parts → IsDue parts current → Then (with_shown parts line shown current)
+shown_then : (parts : Parts) (line : ℕ) (shown : List ℕ) (current : Current) → IsSound parts → IsDue parts current → Then (with_text parts line shown current)
 shown_then parts line shown Nothing sound due = record { sound = sound; due = due }
 shown_then parts line shown (DimensionDue l) sound due = unless_then (has_dimension parts shown) line causes.Duplicate parts (DimensionOpen l shown) sound (λ new. record { room = due; new = new })
 shown_then parts line shown (CubeDue l) sound due = unless_then (has_cube parts shown) line causes.Duplicate parts (CubeOpen l shown []) sound (λ new. record { room = due; new = new; dims = no_dims (length parts.names) })
@@ -198,7 +198,7 @@ gathered_then g Closing h = closed_then g.parts g.current h.sound h.due
 gathered_then g (DimensionWord line) h = unless_then (dimensions_are_full g.parts) line causes.TooMany g.parts (DimensionDue line) h.sound (λ e. room_256 (length g.parts.names) e)
 gathered_then g (CubeWord line) h = unless_then (cubes_are_full g.parts) line causes.TooMany g.parts (CubeDue line) h.sound (λ e. room_64 (length g.parts.cubes) e)
 gathered_then g (ScriptWord line) h = unless_then (scripts_are_full g.parts) line causes.TooMany g.parts (ScriptDue line) h.sound (λ e. room_256 (length g.parts.scripts) e)
-gathered_then g (Shown line shown) h = shown_then g.parts line shown g.current h.sound h.due
+gathered_then g (QuotedText line shown) h = shown_then g.parts line shown g.current h.sound h.due
 gathered_then g (CubeDimension line shown) h = dimension_then g.parts line (place_of g.parts.names shown) g.current (λ k e. (position-Some (is_same_name shown) g.parts.names k [] e).0) h.sound h.due
 gathered_then g (CubeEnd rules order) h = end_then g.parts rules order g.current h.sound h.due
 
@@ -221,7 +221,7 @@ name_then parts shown sound new = record {
   cube_dims = all_more (length parts.names) (length (parts.names ++ shown ∷ [])) parts.cubes (length-append parts.names (shown ∷ [])) sound.cube_dims;
 }
 
-block_then : (parts : Parts) (current : Current) → IsSound parts → IsDue parts current → IsSound (with_name parts current)
+block_then : (parts : Parts) (current : Current) → IsSound parts → IsDue parts current → IsSound (with_name_of parts current)
 block_then parts (DimensionBody line shown) sound due = name_then parts shown sound due
 block_then parts Nothing sound due = sound
 block_then parts (DimensionDue l) sound due = sound

@@ -7,12 +7,14 @@ use Rattle.cube_lex.specs.Quoted.{unquoted}
 use Rattle.cube_lex.specs.Written.{Spelling}
 use Rattle.cube_lex.proofs.Quotes.{unquoted-quoted}
 use Rattle.dim_name.specs.Name.{is_name}
-use Rattle.grammar.specs.Tokens.{is_text_kind, is_file, file}
-use Rattle.dim_text.specs.Spelled.{word_token, sign_token, text_token, number_token}
-use Rattle.dim_text.proofs.Spells.{Spells, Picks, spells_done, spells_next, spells_both, spells_left, spells_right, spells_made, spells_many}
+use Rattle.grammar.specs.Tokens.{is_text_kind, is_file, file, located}
+use Rattle.cube_lex.specs.Written.{word_token, sign_token, text_token}
+use Rattle.dim_text.specs.Spelled.{whole_token}
+use Rattle.grammar.proofs.Spells.{Spells, Picks, spells_done, spells_next, spells_both, spells_left, spells_right, spells_made, spells_many}
 use Rattle.dim_text.proofs.SpelledStatements.{picks_word, picks_sign, picks_name, picks_whole}
+use Rattle.grammar.specs.Lists.{next}
 use Rattle.model_text.specs.Spelled.{dimension_spelled, rules_spelled, rank_spelled, next_rank_spelled, ranks_spelled, position_spelled, next_position_spelled, positions_spelled, order_spelled, ending_spelled, cube_end_spelled}
-use Rattle.model_text.specs.Statement.{Piece, Version, Closing, DimensionWord, CubeWord, ScriptWord, Shown, CubeDimension, CubeEnd, located, line_of, version, closing, dimension_word, cube_word, script_word, naming, script_file, dimension_behind, rules, rank, next_rank, rank_list, listed, position, next_position, position_list, order, cube_end}
+use Rattle.model_text.specs.Statement.{Piece, Version, Closing, DimensionWord, CubeWord, ScriptWord, QuotedText, CubeDimension, CubeEnd, line_of, version, closing, dimension_word, cube_word, script_word, naming, script_file, dimension_behind, rules, rank, rank_list, in_parentheses, position, position_list, order, cube_end}
 use Rattle.model_text.specs.Writable.{IsFileText, IsWritableRank, IsWritableWord, IsWritableOrder}
 use Rattle.model_text.specs.declared.order.OrderLine.{OrderLine}
 use Rattle.model_text.specs.declared.order.OrderWord.{OrderWord}
@@ -47,7 +49,7 @@ picks_located picks = record { at = λ t e. (let (a, takes, p) = picks.at t e in
 abbrev pub IsOnLine : (ℕ → Piece) → Piece → Type 0
 IsOnLine on x = (line : ℕ) × (x ≡ on line)
 
-pub version_spells : (n : ℕ) → n < 2 ^ 31 → Spells version (word_token (codes "MODEL") ∷ number_token n ∷ []) (IsOnLine (λ line. Version line n))
+pub version_spells : (n : ℕ) → n < 2 ^ 31 → Spells version (word_token (codes "MODEL") ∷ whole_token n ∷ []) (IsOnLine (λ line. Version line n))
 version_spells n small = spells_next (picks_word (codes "MODEL")) (λ _ _. spells_next (picks_located (picks_whole n small)) (λ x same. spells_done (Version x.0 x.1) (x.0, ap (Version x.0) same)))
 
 pub closing_spells : Spells closing (sign_token (codes ";") ∷ []) (λ x. x ≡ Closing)
@@ -62,11 +64,11 @@ cube_word_spells = spells_next (picks_word (codes "CUBE")) (λ line _. spells_do
 pub script_word_spells : Spells script_word (word_token (codes "SCRIPT") ∷ []) (IsOnLine ScriptWord)
 script_word_spells = spells_next (picks_word (codes "SCRIPT")) (λ line _. spells_done (ScriptWord line) (line, refl))
 
-pub naming_spells : (shown : List ℕ) → IsTrue (is_name shown) → Spells naming (text_token shown ∷ []) (IsOnLine (λ line. Shown line shown))
-naming_spells shown is = spells_next (picks_located (picks_name shown is)) (λ x same. spells_done (Shown x.0 x.1) (x.0, ap (Shown x.0) same))
+pub naming_spells : (shown : List ℕ) → IsTrue (is_name shown) → Spells naming (text_token shown ∷ []) (IsOnLine (λ line. QuotedText line shown))
+naming_spells shown is = spells_next (picks_located (picks_name shown is)) (λ x same. spells_done (QuotedText x.0 x.1) (x.0, ap (QuotedText x.0) same))
 
-pub script_file_spells : (bytes : List ℕ) → IsTrue (is_file bytes) → Spells script_file (text_token bytes ∷ []) (IsOnLine (λ line. Shown line bytes))
-script_file_spells bytes is = spells_next (picks_located (picks_file bytes is)) (λ x same. spells_done (Shown x.0 x.1) (x.0, ap (Shown x.0) same))
+pub script_file_spells : (bytes : List ℕ) → IsTrue (is_file bytes) → Spells script_file (text_token bytes ∷ []) (IsOnLine (λ line. QuotedText line bytes))
+script_file_spells bytes is = spells_next (picks_located (picks_file bytes is)) (λ x same. spells_done (QuotedText x.0 x.1) (x.0, ap (QuotedText x.0) same))
 
 pub dimension_behind_spells : (before shown : List ℕ) → IsTrue (is_name shown) → Spells (dimension_behind before) (dimension_spelled before shown) (IsOnLine (λ line. CubeDimension line shown))
 dimension_behind_spells before shown is = spells_next (picks_sign before) (λ _ _. spells_next (picks_located (picks_name shown is)) (λ x same. spells_done (CubeDimension x.0 x.1) (x.0, ap (CubeDimension x.0) same)))
@@ -92,7 +94,7 @@ same_list (x ∷ xs) (y ∷ ys) same = ap (λ z. z ∷ ys) same.0 ∙ ap (λ zs.
 rank_spells : (r : List ℕ × ℕ) → IsWritableRank r → Spells rank (rank_spelled r) (λ x. x ≡ r)
 rank_spells r is = spells_next (picks_name r.0 is.0.0) (λ shown same. spells_next (picks_whole r.1 is.1) (λ n equal. spells_done (shown, n) (ap (λ x. (x, n)) same ∙ ap (λ m. (r.0, m)) equal)))
 
-next_rank_spells : (r : List ℕ × ℕ) → IsWritableRank r → Spells next_rank (next_rank_spelled r) (λ x. x ≡ r)
+next_rank_spells : (r : List ℕ × ℕ) → IsWritableRank r → Spells (next rank) (next_rank_spelled r) (λ x. x ≡ r)
 next_rank_spells r is = spells_next (picks_sign (codes ",")) (λ _ _. rank_spells r is)
 
 rank_list_spells : (list : List (List ℕ × ℕ)) → 0 < length list → All IsWritableRank list → Spells rank_list (ranks_spelled list) (λ x. x ≡ list)
@@ -102,7 +104,7 @@ rank_list_spells (first ∷ rest) some all = spells_both {xs = rank_spelled firs
     (λ more zip. ap (λ x. x ∷ more) same ∙ ap (λ xs. first ∷ xs) (same_list rest more zip)))
 
 listed_spells : (shown head : List ℕ) (list : List (List ℕ × ℕ)) → head ≡ shown → 0 < length list → All IsWritableRank list
-    → Spells (listed head) (sign_token (codes "(") ∷ (ranks_spelled list ++ sign_token (codes ")") ∷ [])) (λ x. x ≡ words.Ranks shown list)
+    → Spells (in_parentheses head) (sign_token (codes "(") ∷ (ranks_spelled list ++ sign_token (codes ")") ∷ [])) (λ x. x ≡ words.Ranks shown list)
 listed_spells shown head list same some all = spells_next (picks_sign (codes "(")) (λ _ _. spells_both {xs = ranks_spelled list} {ys = sign_token (codes ")") ∷ []} (rank_list_spells list some all)
     (λ more equal. spells_next (picks_sign (codes ")")) (λ _ _. spells_done (words.Ranks head more) (ap (λ x. words.Ranks x more) same ∙ ap (words.Ranks shown) equal))))
 
@@ -111,7 +113,7 @@ position_spells (words.Constant n) is = spells_left (spells_next (picks_whole n 
 position_spells (words.Index shown) is = spells_right (spells_next (picks_name shown is.0) (λ head same. spells_right (spells_done (words.Index head) (ap words.Index same))))
 position_spells (words.Ranks shown list) is = spells_right (spells_next (picks_name shown is.0.0) (λ head same. spells_left (listed_spells shown head list same is.1 is.2)))
 
-next_position_spells : (p : OrderWord) → IsWritableWord p → Spells next_position (next_position_spelled p) (λ x. x ≡ p)
+next_position_spells : (p : OrderWord) → IsWritableWord p → Spells (next position) (next_position_spelled p) (λ x. x ≡ p)
 next_position_spells p is = spells_next (picks_sign (codes ",")) (λ _ _. position_spells p is)
 
 position_list_spells : (list : List OrderWord) → 0 < length list → All IsWritableWord list → Spells position_list (positions_spelled list) (λ x. x ≡ list)

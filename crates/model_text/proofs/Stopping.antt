@@ -15,15 +15,15 @@ use Rattle.grammar.proofs.Loops.{Going, is_stopped}
 use Rattle.grammar.proofs.Top.{read_told}
 use Rattle.dim_text.specs.Building.{opened}
 use Rattle.dim_text.specs.Progress.{Progress}
-use Rattle.dim_text.specs.Reading.{read_body}
-use Rattle.dim_text.specs.Views.{GivesText}
+use Rattle.dim_text.specs.Readers.Reading.{read_body}
+use Rattle.dim_text.specs.Readers.Views.{GivesText}
 use Rattle.dim_text.specs.declared.fault.Refusal.{Refusal}
-use Rattle.dim_text.proofs.Quotable.{last_tokens}
+use Rattle.grammar.proofs.Kept.{last_tokens}
 use Rattle.model_text.specs.Gathering.{Nothing, DimensionBody, Parts, Given, at, gathered}
 use Rattle.model_text.specs.Statement.{Piece}
 use Rattle.model_text.specs.Watching.{Seen, with_given, with_block, of_block}
-use Rattle.model_text.specs.Reading.{Plain, gather, unit_of, read_dimension_behind, gather_first_dimension, gather_further_dimensions, read_cube_dimensions, read_dimension_head, read_dimension_body, read_dimension}
-use Rattle.model_text.specs.Views.{Stops, Gathers, GivesPiece, stop_of, seen}
+use Rattle.model_text.specs.Readers.Reading.{Plain, gather, unit_of, read_dimension_behind, gather_first_dimension, gather_further_dimensions, read_cube_dimensions, read_dimension_head, read_dimension_body, read_dimension}
+use Rattle.model_text.specs.Readers.Views.{Stops, Gathers, GivesPiece, stop_of, seen}
 use Rattle.model_text.proofs.Gathered.{piece_ok, piece_refused, piece_halt}
 use Rattle.model_text.specs.declared.fault.ModelTextFault.{ModelTextFault}
 
@@ -35,18 +35,18 @@ rests e n ts a m rest read tokens =
 
 pub stops_bound : {R A B : Type 0} (stop : Stop ModelTextFault) (r : Read Lexeme R ModelTextFault A) (K : A → Reader Lexeme R ModelTextFault B) → Stops stop r → Stops stop (bound r K)
 stops_bound stops.Memory r K e = tt
-stops_bound (stops.Dead left) r K e = ap (λ x. bound x K) e
+stops_bound (stops.Unexpected left) r K e = ap (λ x. bound x K) e
 stops_bound (stops.Refused fault) r K e = ap (λ x. bound x K) e
 
 pub stops_outside : {A : Type 0} (s : Seen) (stop : Stop ModelTextFault) (r : Read Lexeme Given ModelTextFault A) → Stops stop r → Stops stop (inside_result (with_given s) (λ fault. fault) r)
 stops_outside s stops.Memory r e = tt
-stops_outside s (stops.Dead left) r e = ap (inside_result (with_given s) (λ fault. fault)) e
+stops_outside s (stops.Unexpected left) r e = ap (inside_result (with_given s) (λ fault. fault)) e
 stops_outside s (stops.Refused fault) r e = ap (inside_result (with_given s) (λ fault. fault)) e
 
 -- in a loop
 pub loop_stops : {R A : Type 0} (p : Lexeme → Bool) (P : Reader Lexeme R ModelTextFault A) (front : List A) (n n0 : R) (ts ts0 : List Lexeme) (stop : Stop ModelTextFault) → Going p P front n ts (all_of p P n0 ts0) → true ≡ starts p ts → Stops stop (P n ts) → Stops stop (unit_of (all_of p P) n0 ts0)
 loop_stops p P front n n0 ts ts0 stops.Memory going more e = tt
-loop_stops p P front n n0 ts ts0 (stops.Dead left) going more e = ap (λ r. bound r (λ _. gives tt)) (is_stopped going (sym more) e)
+loop_stops p P front n n0 ts ts0 (stops.Unexpected left) going more e = ap (λ r. bound r (λ _. gives tt)) (is_stopped going (sym more) e)
 loop_stops p P front n n0 ts ts0 (stops.Refused fault) going more e = ap (λ r. bound r (λ _. gives tt)) (is_stopped going (sym more) e)
 
 -- The block of a dimension.
@@ -61,7 +61,7 @@ behind_head blocks parts ts rest line name head = ap (λ r. bound (inside_result
 
 body_stop : (s : Seen) (stop : Stop Refusal) (left : List Lexeme) (r : Read Lexeme Progress Refusal (Unit {0})) → GivesText (Err stop) left r → Stops (stop_of stop) (inside_result (with_block s) of_block r)
 body_stop s stops.Memory left r e = tt
-body_stop s (stops.Dead n) left r e = ap (inside_result (with_block s) of_block) e
+body_stop s (stops.Unexpected n) left r e = ap (inside_result (with_block s) of_block) e
 body_stop s (stops.Refused refusal) left r e = ap (inside_result (with_block s) of_block) e
 
 pub body_stops : (blocks : List Progress) (parts : Parts) (ts rest left : List Lexeme) (line : ℕ) (name : List ℕ) (stop : Stop Refusal) → read_dimension_head (at parts Nothing) ts ≡ Ok (tt, at parts (DimensionBody line name), rest) → GivesText (Err stop) left (read_body (opened line name) rest) → Stops (stop_of stop) (read_dimension (seen blocks parts) ts)
@@ -73,21 +73,21 @@ block_read blocks parts new ts rest left line name block head body is = behind_h
 -- The dimensions of a cube.
 
 pub dimensions_behind_first : (g h : Given) (ts rest : List Lexeme) (piece : Piece) → gather (read_dimension_behind (codes "(")) g ts ≡ Ok (piece, h, rest) → read_cube_dimensions g ts ≡ gather_further_dimensions h rest
-unfolding read_cube_dimensions gather_first_dimension
+unfolding read_cube_dimensions
 dimensions_behind_first g h ts rest piece e = ap (λ r. bound (bound r (λ _. gives tt)) (λ _. gather_further_dimensions)) e
 
 pub first_stops : (g : Given) (ts : List Lexeme) (stop : Stop ModelTextFault) → Stops stop (gather (read_dimension_behind (codes "(")) g ts) → Stops stop (read_cube_dimensions g ts)
-unfolding read_cube_dimensions gather_first_dimension
+unfolding read_cube_dimensions
 first_stops g ts stop e = stops_bound stop _ (λ _. gather_further_dimensions) (stops_bound stop (gather (read_dimension_behind (codes "(")) g ts) (λ _. gives tt) e)
 
 -- what was read of a piece is gathered
 pub piece_gathers : {X : Type 0} (state : X → Given) (P : Plain Piece) (g : Given) (ts rest : List Lexeme) (x : Piece) (u : Unwatched) (result : Result X (Stop ModelTextFault)) → P (record {}) ts ≡ Ok (x, u, rest) → Gathers state result (gathered g x) → GivesPiece state result rest (gather P g ts)
 piece_gathers state P g ts rest x u (Ok y) read e = (x, piece_ok P g read e)
 piece_gathers state P g ts rest x u (Err stops.Memory) read e = tt
-piece_gathers state P g ts rest x u (Err (stops.Dead left)) read e = absurd e
+piece_gathers state P g ts rest x u (Err (stops.Unexpected left)) read e = absurd e
 piece_gathers state P g ts rest x u (Err (stops.Refused fault)) read e = piece_refused P g read e
 
 pub piece_stops : {X : Type 0} (view : X → Piece) (P : Plain Piece) (g : Given) (ts left : List Lexeme) (m : Unwatched) (stop : Stop ModelTextFault) → Gives view (Err stop) m left (P (record {}) ts) → Stops stop (gather P g ts)
 piece_stops view P g ts left m stops.Memory e = tt
-piece_stops view P g ts left m (stops.Dead n) e = piece_halt P g e
+piece_stops view P g ts left m (stops.Unexpected n) e = piece_halt P g e
 piece_stops view P g ts left m (stops.Refused fault) e = piece_halt P g e

@@ -8,7 +8,7 @@ use Rattle.cube_lex.specs.Lexeme.{Lexeme}
 use Rattle.cube_lex.specs.Reading.{IsReading}
 use Rattle.cube_lex.specs.declared.fault.LexFault.{LexFault}
 use Rattle.grammar.specs.Reading.{bound, both_of, inside_result}
-use Rattle.grammar.specs.Whole.{IsWholeText, IsWholeRefused, settled}
+use Rattle.grammar.specs.Whole.{IsWholeText, IsWholeRefused, answer_of_text}
 use Rattle.grammar.specs.declared.stop.Stop.{Stop}
 use Rattle.grammar.specs.declared.stop.Stop.TheVariants as stops
 use Rattle.grammar.specs.declared.answer.TextFault.{TextFault}
@@ -17,11 +17,11 @@ use Rattle.dim_text.specs.Progress.{Progress, Text, IsBuilt}
 use Rattle.dim_name.specs.Name.{is_same_name, place_of}
 use Rattle.model_text.specs.Answers.{IsModelText, IsFault}
 use Rattle.model_text.specs.Contents.{Contents, IsContents, AreDimensions, dimension_names}
-use Rattle.model_text.specs.Gathering.{Current, Nothing, DimensionDue, CubeDue, ScriptDue, DimensionOpen, CubeOpen, ScriptOpen, DimensionBody, ScriptWhole, Parts, Given, at, refused, unless, dimensions_are_full, cubes_are_full, scripts_are_full, has_dimension, has_cube, has_script, with_shown, with_dimension, gathered}
-use Rattle.model_text.specs.Statement.{Piece, Version, Closing, DimensionWord, CubeWord, ScriptWord, Shown, CubeDimension, CubeEnd, model}
+use Rattle.model_text.specs.Gathering.{Current, Nothing, DimensionDue, CubeDue, ScriptDue, DimensionOpen, CubeOpen, ScriptOpen, DimensionBody, ScriptWhole, Parts, Given, at, refused, unless, dimensions_are_full, cubes_are_full, scripts_are_full, has_dimension, has_cube, has_script, with_text, with_dimension, gathered}
+use Rattle.model_text.specs.Statement.{Piece, Version, Closing, DimensionWord, CubeWord, ScriptWord, QuotedText, CubeDimension, CubeEnd, model}
 use Rattle.model_text.specs.Watching.{Seen, with_given, no_parts, nothing_seen, added, watching}
-use Rattle.model_text.specs.Reading.{outside, read_opening, read_dimensions, read_cubes, read_scripts, read_model}
-use Rattle.model_text.specs.Views.{Stops, GivesBlocks, seen, fault_from}
+use Rattle.model_text.specs.Readers.Reading.{outside, read_opening, read_dimensions, read_cubes, read_scripts, read_model}
+use Rattle.model_text.specs.Readers.Views.{Stops, GivesBlocks, seen, fault_from}
 use Rattle.model_text.specs.Writable.{IsWritableCube, IsWritableScript}
 use Rattle.model_text.specs.declared.parts.CubeText.{CubeText}
 use Rattle.model_text.specs.declared.fault.ModelTextFault.{ModelTextFault}
@@ -74,7 +74,7 @@ unless_cause : (b : Bool) (line : ℕ) (cause : ModelTextCause) (parts : Parts) 
 unless_cause true line cause parts current is = is
 unless_cause false line cause parts current is = tt
 
-shown_cause : (parts : Parts) (line : ℕ) (shown : List ℕ) (current : Current) → HasCause (with_shown parts line shown current)
+shown_cause : (parts : Parts) (line : ℕ) (shown : List ℕ) (current : Current) → HasCause (with_text parts line shown current)
 shown_cause parts line shown (DimensionDue l) = unless_cause (has_dimension parts shown) line causes.Duplicate parts (DimensionOpen l shown) tt
 shown_cause parts line shown (CubeDue l) = unless_cause (has_cube parts shown) line causes.Duplicate parts (CubeOpen l shown []) tt
 shown_cause parts line shown (ScriptDue l) = unless_cause (has_script parts shown) line causes.Duplicate parts (ScriptOpen l shown) tt
@@ -115,7 +115,7 @@ gathered_cause g Closing = tt
 gathered_cause g (DimensionWord line) = unless_cause (dimensions_are_full g.parts) line causes.TooMany g.parts (DimensionDue line) tt
 gathered_cause g (CubeWord line) = unless_cause (cubes_are_full g.parts) line causes.TooMany g.parts (CubeDue line) tt
 gathered_cause g (ScriptWord line) = unless_cause (scripts_are_full g.parts) line causes.TooMany g.parts (ScriptDue line) tt
-gathered_cause g (Shown line shown) = shown_cause g.parts line shown g.current
+gathered_cause g (QuotedText line shown) = shown_cause g.parts line shown g.current
 gathered_cause g (CubeDimension line shown) = dimension_cause g.parts line (place_of g.parts.names shown) g.current
 gathered_cause g (CubeEnd rules order) = tt
 
@@ -146,13 +146,13 @@ Told dims parts bytes (Err fault) = IsFault bytes (fault_from fault).line (fault
 ends : Ends []
 ends = record { dimension = refl; cube = refl; script = refl }
 
-pub told : {X : Type 0} (dims : X → List Text) (parts : X → Parts) (bytes : List ℕ) (lexed : Lexed) (fault : Option LexFault) (read : Result X (Stop ModelTextFault)) (left : List Lexeme) → IsReading bytes lexed fault → GivesBlocks dims parts read left (read_model nothing_seen lexed.lexemes) → Told dims parts bytes (settled lexed fault read left)
+pub told : {X : Type 0} (dims : X → List Text) (parts : X → Parts) (bytes : List ℕ) (lexed : Lexed) (fault : Option LexFault) (read : Result X (Stop ModelTextFault)) (left : List Lexeme) → IsReading bytes lexed fault → GivesBlocks dims parts read left (read_model nothing_seen lexed.lexemes) → Told dims parts bytes (answer_of_text lexed fault read left)
 told dims parts bytes lexed None (Ok x) [] reading (blocks, read, built) = (blocks, whole_read_told model_exact nothing_seen bytes lexed tt (seen blocks (parts x)) reading read, built)
 told dims parts bytes lexed (Some f) (Ok x) [] reading (blocks, read, built) = whole_left_told model_exact ends nothing_seen bytes lexed (Some f) tt (seen blocks (parts x)) [] reading read (λ _. (f, refl))
 told dims parts bytes lexed None (Ok x) (t ∷ rest) reading (blocks, read, built) = whole_left_told model_exact ends nothing_seen bytes lexed None tt (seen blocks (parts x)) (t ∷ rest) reading read (λ is. cc)
 told dims parts bytes lexed (Some f) (Ok x) (t ∷ rest) reading (blocks, read, built) = whole_left_told model_exact ends nothing_seen bytes lexed (Some f) tt (seen blocks (parts x)) (t ∷ rest) reading read (λ is. cc)
 told dims parts bytes lexed fault (Err stops.Memory) left reading e = refl
-told dims parts bytes lexed fault (Err (stops.Dead n)) left reading e = whole_stuck_told model_exact ends nothing_seen bytes lexed fault n reading e
+told dims parts bytes lexed fault (Err (stops.Unexpected n)) left reading e = whole_stuck_told model_exact ends nothing_seen bytes lexed fault n reading e
 told dims parts bytes lexed fault (Err (stops.Refused f)) left reading e =
     let is : IsWholeRefused model watching nothing_seen bytes f = whole_refused_told model_exact nothing_seen bytes lexed fault f reading e in
     fault_by bytes f.line f.cause (refused_cause is.refused.refused.state is.refused.refused.piece f is.refused.refused.refused) is
@@ -185,13 +185,13 @@ contents_sound bytes dims blocks parts is one names writable =
       writable_scripts = writable.1;
     }
 
-settled_ok : {X : Type 0} (lexed : Lexed) (fault : Option LexFault) (read : Result X (Stop ModelTextFault)) (left : List Lexeme) (x : X) → ◌≡◌ {A = Result X (TextFault ModelTextFault)} (settled lexed fault read left) (Ok x) → ◌≡◌ {A = Result X (Stop ModelTextFault)} read (Ok x)
+settled_ok : {X : Type 0} (lexed : Lexed) (fault : Option LexFault) (read : Result X (Stop ModelTextFault)) (left : List Lexeme) (x : X) → ◌≡◌ {A = Result X (TextFault ModelTextFault)} (answer_of_text lexed fault read left) (Ok x) → ◌≡◌ {A = Result X (Stop ModelTextFault)} read (Ok x)
 settled_ok lexed None (Ok y) [] x e = let same : y ≡ x = cc in ap (λ z. Ok z) same
 settled_ok lexed (Some f) (Ok y) [] x e = cc
 settled_ok lexed None (Ok y) (t ∷ left) x e = cc
 settled_ok lexed (Some f) (Ok y) (t ∷ left) x e = cc
 settled_ok lexed fault (Err stops.Memory) left x e = cc
-settled_ok lexed fault (Err (stops.Dead n)) left x e = cc
+settled_ok lexed fault (Err (stops.Unexpected n)) left x e = cc
 settled_ok lexed fault (Err (stops.Refused f)) left x e = cc
 
 abbrev contents : Parts → List Text → Contents
@@ -201,11 +201,11 @@ told_contents : (bytes : List ℕ) (dims : List Text) (parts : Parts) → (block
 told_contents bytes dims parts (blocks, is, built) one names writable = (contents_of bytes dims blocks parts is built, contents_sound bytes dims blocks parts is one names writable)
 
 -- a text was read
-pub answer_ok : {X : Type 0} (dims : X → List Text) (parts : X → Parts) (bytes : List ℕ) (lexed : Lexed) (fault : Option LexFault) (read : Result X (Stop ModelTextFault)) (left : List Lexeme) (x : X) → IsReading bytes lexed fault → GivesBlocks dims parts read left (read_model nothing_seen lexed.lexemes) → IfOk read (λ y. (parts y).version ≡ 1) → IfOk read (λ y. (parts y).names ≡ dimension_names (dims y)) → IsWritable (parts x) → ◌≡◌ {A = Result X (TextFault ModelTextFault)} (Ok x) (settled lexed fault read left) → IsModelText bytes (contents (parts x) (dims x)) × IsContents (contents (parts x) (dims x))
+pub answer_ok : {X : Type 0} (dims : X → List Text) (parts : X → Parts) (bytes : List ℕ) (lexed : Lexed) (fault : Option LexFault) (read : Result X (Stop ModelTextFault)) (left : List Lexeme) (x : X) → IsReading bytes lexed fault → GivesBlocks dims parts read left (read_model nothing_seen lexed.lexemes) → IfOk read (λ y. (parts y).version ≡ 1) → IfOk read (λ y. (parts y).names ≡ dimension_names (dims y)) → IsWritable (parts x) → ◌≡◌ {A = Result X (TextFault ModelTextFault)} (Ok x) (answer_of_text lexed fault read left) → IsModelText bytes (contents (parts x) (dims x)) × IsContents (contents (parts x) (dims x))
 answer_ok {X = X} dims parts bytes lexed fault read left x reading given one names writable e =
     let same : ◌≡◌ {A = Result X (Stop ModelTextFault)} read (Ok x) = settled_ok lexed fault read left x (sym e) in
     told_contents bytes (dims x) (parts x) (subst (Told dims parts bytes) (sym e) (told dims parts bytes lexed fault read left reading given)) (subst (λ r. IfOk r (λ y. (parts y).version ≡ 1)) same one) (subst (λ r. IfOk r (λ y. (parts y).names ≡ dimension_names (dims y))) same names) writable
 
 -- a text was refused
-pub answer_err : {X : Type 0} (dims : X → List Text) (parts : X → Parts) (bytes : List ℕ) (lexed : Lexed) (fault : Option LexFault) (read : Result X (Stop ModelTextFault)) (left : List Lexeme) (f : TextFault ModelTextFault) → IsReading bytes lexed fault → GivesBlocks dims parts read left (read_model nothing_seen lexed.lexemes) → ◌≡◌ {A = Result X (TextFault ModelTextFault)} (Err f) (settled lexed fault read left) → IsFault bytes (fault_from f).line (fault_from f).cause
+pub answer_err : {X : Type 0} (dims : X → List Text) (parts : X → Parts) (bytes : List ℕ) (lexed : Lexed) (fault : Option LexFault) (read : Result X (Stop ModelTextFault)) (left : List Lexeme) (f : TextFault ModelTextFault) → IsReading bytes lexed fault → GivesBlocks dims parts read left (read_model nothing_seen lexed.lexemes) → ◌≡◌ {A = Result X (TextFault ModelTextFault)} (Err f) (answer_of_text lexed fault read left) → IsFault bytes (fault_from f).line (fault_from f).cause
 answer_err dims parts bytes lexed fault read left f reading given e = subst (Told dims parts bytes) (sym e) (told dims parts bytes lexed fault read left reading given)

@@ -7,12 +7,26 @@ use Rattle.model_text.specs.declared.parts.CubeText.{CubeText}
 use Rattle.model_text.specs.declared.parts.ScriptText.{ScriptText}
 use Rattle.model_text.specs.Writable.{IsWritableCube, IsWritableScript}
 
+-- how many dimensions, cubes and scripts a model may have
+abbrev pub dimensions_limit : ℕ
+dimensions_limit = 256
+
+abbrev pub cubes_limit : ℕ
+cubes_limit = 64
+
+abbrev pub scripts_limit : ℕ
+scripts_limit = 256
+
 -- its version, and its dimensions, cubes and scripts in their order
 pub record Contents : Type 0 where
   pub version : ℕ
   pub dims : List Text
   pub cubes : List CubeText
   pub scripts : List ScriptText
+
+abbrev pub contents_of : ℕ → List Text → List CubeText → List ScriptText → Contents
+contents_of version dims cubes scripts =
+    record { version = version; dims = dims; cubes = cubes; scripts = scripts }
 
 abbrev pub dimension_names : List Text → List (List ℕ)
 dimension_names dims = map (λ d. d.dimension.name) dims
@@ -31,9 +45,9 @@ pub record AreDimensions (count : ℕ) (numbers : List ℕ) : Type 0 where
 -- what holds of every model text that is read
 pub record IsContents (contents : Contents) : Type 0 where
   pub first_version : contents.version ≡ 1
-  pub few_dims : length contents.dims ≤ 256
-  pub few_cubes : length contents.cubes ≤ 64
-  pub few_scripts : length contents.scripts ≤ 256
+  pub few_dims : length contents.dims ≤ dimensions_limit
+  pub few_cubes : length contents.cubes ≤ cubes_limit
+  pub few_scripts : length contents.scripts ≤ scripts_limit
   pub dims : IsDistinct is_same_name (dimension_names contents.dims)
   pub cubes : IsDistinct is_same_name (cube_names contents.cubes)
   pub scripts : IsDistinct is_same_name (script_names contents.scripts)

@@ -3,8 +3,7 @@ pub mod Contents
 pub mod Statement
 pub mod Gathering
 pub mod Watching
-pub mod Reading
-pub mod Views
 pub mod Answers
 pub mod Spelled
 pub mod Printed
+pub mod Readers

@@ -1,11 +1,11 @@
 -- What is printed of a model text.
-use Rattle.std.specs.Prelude.{◌≡◌, ℕ, ◌≤◌, List, ◌++◌, length, map, Option, option_map}
+use Rattle.std.specs.Prelude.{◌≡◌, ℕ, ◌≤◌, List, ◌++◌, length, map, option_map}
 use Rattle.std.specs.List.{AllZip}
-use Rattle.cube_lex.specs.Lexed.{Lexed}
-use Rattle.cube_lex.specs.Reading.{IsReading, text_limit}
-use Rattle.cube_lex.specs.declared.fault.LexFault.{LexFault}
+use Rattle.cube_lex.specs.Reading.{text_limit}
+use Rattle.cube_lex.specs.Written.{Writes}
 use Rattle.model_text.specs.Answers.{IsModelText}
 use Rattle.model_text.specs.Contents.{Contents}
+use Rattle.model_text.specs.Spelled.{contents_spelled}
 use Rattle.model_text.specs.declared.parts.CubeText.{CubeText}
 use Rattle.model_text.specs.declared.parts.ScriptText.{ScriptText}
 
@@ -29,11 +29,11 @@ pub record AreSameContents (x y : Contents) : Type 0 where
 
 -- where the bytes aren't too many for a text, they are read as a model text with equal contents, but for lines
 abbrev pub IsTextOf : Contents → List ℕ → Type 0
-IsTextOf contents bytes = length bytes ≤ text_limit → (lexed : Lexed) (fault : Option LexFault) → IsReading bytes lexed fault
-    → (again : Contents) × IsModelText bytes again × AreSameContents contents again
+IsTextOf contents bytes =
+    length bytes ≤ text_limit → (again : Contents) × IsModelText bytes again × AreSameContents contents again
 
--- new is old with such a text behind it
+-- new is old with the text written at its end: just the tokens that say these contents, in no more bytes than they
+-- need, which read back
 pub record IsPrinted (contents : Contents) (old new : List ℕ) : Type 0 where
-  pub bytes : List ℕ
-  pub behind : new ≡ old ++ bytes
-  pub reads : IsTextOf contents bytes
+  pub tokens : Writes old new (contents_spelled contents)
+  pub reads : (bytes : List ℕ) → new ≡ old ++ bytes → IsTextOf contents bytes

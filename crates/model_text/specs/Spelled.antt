@@ -1,11 +1,11 @@
 -- How a model text is written, token by token. Lines aren't written.
-use Rattle.std.specs.Prelude.{◌≡◌, ℕ, List, [], ◌∷◌, ◌++◌, map, get_or, Option, Some, None, All, IsTrue, codes}
+use Rattle.std.specs.Prelude.{ℕ, List, [], ◌∷◌, ◌++◌, get_or, Option, Some, None, codes}
 use Rattle.std.specs.List.{flat_map}
 use Rattle.cube_lex.specs.Written.{Spelling}
-use Rattle.dim_name.specs.Name.{is_name}
-use Rattle.dim_text.specs.Printed.{IsBodyOf}
+use Rattle.dim_core.specs.Written.{written}
 use Rattle.dim_text.specs.Progress.{Text}
-use Rattle.dim_text.specs.Spelled.{word_token, sign_token, text_token, number_token, head_spelled}
+use Rattle.cube_lex.specs.Written.{word_token, sign_token, text_token}
+use Rattle.dim_text.specs.Spelled.{whole_token, draft_spelled}
 use Rattle.model_text.specs.Contents.{Contents, dimension_names}
 use Rattle.model_text.specs.declared.order.OrderLine.{OrderLine}
 use Rattle.model_text.specs.declared.order.OrderWord.{OrderWord}
@@ -14,31 +14,12 @@ use Rattle.model_text.specs.declared.parts.CubeText.{CubeText}
 use Rattle.model_text.specs.declared.parts.ScriptText.{ScriptText}
 
 abbrev pub opening_spelled : ℕ → List Spelling
-opening_spelled version = word_token (codes "MODEL") ∷ number_token version ∷ sign_token (codes ";") ∷ []
+opening_spelled version = word_token (codes "MODEL") ∷ whole_token version ∷ sign_token (codes ";") ∷ []
 
 -- Dimensions.
 
--- a dimension, and the tokens behind its head
-pub record Block : Type 0 where
-  pub text : Text
-  pub behind : List Spelling
-
-pub record IsBlock (block : Block) : Type 0 where
-  pub name : IsTrue (is_name block.text.dimension.name)
-  pub body : IsBodyOf block.text.dimension block.behind
-
-abbrev pub block_spelled : Block → List Spelling
-block_spelled block = head_spelled block.text.dimension.name ++ block.behind
-
-abbrev pub texts_of : List Block → List Text
-texts_of blocks = map (λ block. block.text) blocks
-
--- the tokens are the blocks of these dimensions
-pub record AreBlocks (dims : List Text) (tokens : List Spelling) : Type 0 where
-  pub blocks : List Block
-  pub each : All IsBlock blocks
-  pub texts : texts_of blocks ≡ dims
-  pub is : tokens ≡ flat_map block_spelled blocks
+abbrev pub dim_spelled : Text → List Spelling
+dim_spelled text = draft_spelled (written text.dimension)
 
 -- Cubes.
 
@@ -55,14 +36,15 @@ next_dimension_spelled names number = dimension_spelled (codes ",") (get_or name
 
 abbrev pub cube_dimensions_spelled : List (List ℕ) → List ℕ → List Spelling
 cube_dimensions_spelled names [] = []
-cube_dimensions_spelled names (first ∷ rest) = dimension_spelled (codes "(") (get_or names first []) ++ flat_map (next_dimension_spelled names) rest
+cube_dimensions_spelled names (first ∷ rest) =
+    dimension_spelled (codes "(") (get_or names first []) ++ flat_map (next_dimension_spelled names) rest
 
 abbrev pub rules_spelled : Option (ℕ × List ℕ) → List Spelling
 rules_spelled None = []
 rules_spelled (Some rules) = word_token (codes "RULES") ∷ text_token rules.1 ∷ sign_token (codes ";") ∷ []
 
 abbrev pub rank_spelled : List ℕ × ℕ → List Spelling
-rank_spelled rank = text_token rank.0 ∷ number_token rank.1 ∷ []
+rank_spelled rank = text_token rank.0 ∷ whole_token rank.1 ∷ []
 
 abbrev pub next_rank_spelled : List ℕ × ℕ → List Spelling
 next_rank_spelled rank = sign_token (codes ",") ∷ rank_spelled rank
@@ -72,9 +54,10 @@ ranks_spelled [] = []
 ranks_spelled (first ∷ rest) = rank_spelled first ++ flat_map next_rank_spelled rest
 
 abbrev pub position_spelled : OrderWord → List Spelling
-position_spelled (words.Constant n) = number_token n ∷ []
+position_spelled (words.Constant n) = whole_token n ∷ []
 position_spelled (words.Index shown) = text_token shown ∷ []
-position_spelled (words.Ranks shown list) = text_token shown ∷ sign_token (codes "(") ∷ (ranks_spelled list ++ sign_token (codes ")") ∷ [])
+position_spelled (words.Ranks shown list) =
+    text_token shown ∷ sign_token (codes "(") ∷ (ranks_spelled list ++ sign_token (codes ")") ∷ [])
 
 abbrev pub next_position_spelled : OrderWord → List Spelling
 next_position_spelled position = sign_token (codes ",") ∷ position_spelled position
@@ -85,25 +68,31 @@ positions_spelled (first ∷ rest) = position_spelled first ++ flat_map next_pos
 
 abbrev pub order_spelled : Option (ℕ × OrderLine) → List Spelling
 order_spelled None = []
-order_spelled (Some order) = word_token (codes "ORDER") ∷ (positions_spelled order.1.words ++ sign_token (codes ";") ∷ [])
+order_spelled (Some order) =
+    word_token (codes "ORDER") ∷ (positions_spelled order.1.words ++ sign_token (codes ";") ∷ [])
 
 abbrev pub ending_spelled : List Spelling
 ending_spelled = word_token (codes "END") ∷ sign_token (codes ";") ∷ []
 
 abbrev pub cube_end_spelled : Option (ℕ × List ℕ) → Option (ℕ × OrderLine) → List Spelling
-cube_end_spelled rules order = sign_token (codes ")") ∷ sign_token (codes ";") ∷ (rules_spelled rules ++ (order_spelled order ++ ending_spelled))
+cube_end_spelled rules order =
+    sign_token (codes ")") ∷ sign_token (codes ";") ∷ (rules_spelled rules ++ (order_spelled order ++ ending_spelled))
 
 -- a cube, where the dimensions have these names
 abbrev pub cube_spelled : List (List ℕ) → CubeText → List Spelling
-cube_spelled names cube = cube_head_spelled cube.name ++ (cube_dimensions_spelled names cube.dims ++ cube_end_spelled cube.rules cube.order)
+cube_spelled names cube =
+    cube_head_spelled cube.name ++ (cube_dimensions_spelled names cube.dims ++ cube_end_spelled cube.rules cube.order)
 
 -- Scripts.
 
 abbrev pub script_spelled : ScriptText → List Spelling
-script_spelled script = word_token (codes "SCRIPT") ∷ text_token script.name ∷ text_token script.file ∷ sign_token (codes ";") ∷ []
+script_spelled script =
+    word_token (codes "SCRIPT") ∷ text_token script.name ∷ text_token script.file ∷ sign_token (codes ";") ∷ []
 
--- the tokens are a text with these contents
-pub record IsSpelled (contents : Contents) (tokens : List Spelling) : Type 0 where
-  pub blocks : List Spelling
-  pub dims : AreBlocks contents.dims blocks
-  pub is : tokens ≡ opening_spelled contents.version ++ (blocks ++ (flat_map (cube_spelled (dimension_names contents.dims)) contents.cubes ++ flat_map script_spelled contents.scripts))
+-- a text with these contents
+abbrev pub contents_spelled : Contents → List Spelling
+contents_spelled contents =
+    opening_spelled contents.version
+    ++ (flat_map dim_spelled contents.dims
+    ++ (flat_map (cube_spelled (dimension_names contents.dims)) contents.cubes
+    ++ flat_map script_spelled contents.scripts))

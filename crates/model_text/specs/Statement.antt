@@ -1,16 +1,13 @@
 -- The grammar of a model text. Its pieces are those by which it is watched: each ends where something may be refused.
-use Rattle.std.specs.Prelude.{ℕ, List, ◌∷◌, Option, Some, None, option_map, codes}
+use Rattle.std.specs.Prelude.{ℕ, List, Option, Some, None, codes}
 use Rattle.cube_lex.specs.Lexeme.{Lexeme}
 use Rattle.grammar.specs.Grammar.{Grammar, done, one, either, many, ◌>>=◌, ◌>>◌}
-use Rattle.grammar.specs.Tokens.{sign, word, whole, name, text, file}
+use Rattle.grammar.specs.Lists.{listed}
+use Rattle.grammar.specs.Tokens.{sign, word, whole, name, text, file, located}
 use Rattle.dim_text.specs.Statement.{unit, body}
 use Rattle.model_text.specs.declared.order.OrderLine.{OrderLine}
 use Rattle.model_text.specs.declared.order.OrderWord.{OrderWord}
 use Rattle.model_text.specs.declared.order.OrderWord.TheVariants as words
-
--- what a token gives, with its line
-abbrev pub located : {A : Type 0} → (Lexeme → Option A) → Lexeme → Option (ℕ × A)
-located pick t = option_map (λ a. (t.line, a)) (pick t)
 
 pub data Piece : Type 0 where
   -- the version's line and number
@@ -22,7 +19,7 @@ pub data Piece : Type 0 where
   CubeWord : ℕ → Piece
   ScriptWord : ℕ → Piece
   -- a quoted text with its line: the name of a dimension, a cube or a script, or the file of a script
-  Shown : ℕ → List ℕ → Piece
+  QuotedText : ℕ → List ℕ → Piece
   -- the name of one more dimension of a cube, with its line
   CubeDimension : ℕ → List ℕ → Piece
   -- the rest of a cube: its rule file and its order line, each with the line of its word
@@ -63,7 +60,7 @@ script_word = do
 abbrev pub naming : Grammar Lexeme Piece
 naming = do
   n ← one (located name)
-  done (Shown n.0 n.1)
+  done (QuotedText n.0 n.1)
 
 -- this sign, and name
 abbrev pub dimension_behind : List ℕ → Grammar Lexeme Piece
@@ -99,22 +96,13 @@ rank = do
   n ← one whole
   done (shown, n)
 
--- "," name whole
-abbrev pub next_rank : Grammar Lexeme (List ℕ × ℕ)
-next_rank = do
-  one (sign (codes ","))
-  rank
-
 -- name whole { "," name whole }
 abbrev pub rank_list : Grammar Lexeme (List (List ℕ × ℕ))
-rank_list = do
-  first ← rank
-  rest ← many next_rank
-  done (first ∷ rest)
+rank_list = listed rank rank
 
 -- "(" name whole { "," name whole } ")"
-abbrev pub listed : List ℕ → Grammar Lexeme OrderWord
-listed shown = do
+abbrev pub in_parentheses : List ℕ → Grammar Lexeme OrderWord
+in_parentheses shown = do
   one (sign (codes "("))
   list ← rank_list
   one (sign (codes ")"))
@@ -122,7 +110,7 @@ listed shown = do
 
 -- [ "(" name whole { "," name whole } ")" ]
 abbrev pub ranks : List ℕ → Grammar Lexeme OrderWord
-ranks shown = either (listed shown) (done (words.Index shown))
+ranks shown = either (in_parentheses shown) (done (words.Index shown))
 
 -- whole
 abbrev pub constant : Grammar Lexeme OrderWord
@@ -139,18 +127,9 @@ index = do
 abbrev pub position : Grammar Lexeme OrderWord
 position = either constant index
 
--- "," position
-abbrev pub next_position : Grammar Lexeme OrderWord
-next_position = do
-  one (sign (codes ","))
-  position
-
 -- position { "," position }
 abbrev pub position_list : Grammar Lexeme (List OrderWord)
-position_list = do
-  first ← position
-  rest ← many next_position
-  done (first ∷ rest)
+position_list = listed position position
 
 abbrev pub line_of : List OrderWord → OrderLine
 line_of list = record { words = list }
@@ -182,7 +161,7 @@ cube_end = do
 abbrev pub script_file : Grammar Lexeme Piece
 script_file = do
   n ← one (located file)
-  done (Shown n.0 n.1)
+  done (QuotedText n.0 n.1)
 
 -- "DIM" name ";"
 abbrev pub dimension_head : Grammar Lexeme (Unit {0})
@@ -242,9 +221,10 @@ model = do
 abbrev pub shown_text : Grammar Lexeme Piece
 shown_text = do
   n ← one (located text)
-  done (Shown n.0 n.1)
+  done (QuotedText n.0 n.1)
 
--- The pieces by which a model text is watched, outside of the bodies of its dimensions. Their first tokens differ, and none begins
--- another, so a text can be cut in one way only.
+-- The pieces by which a model text is watched, outside of the bodies of its dimensions. Their first tokens differ, and
+-- none begins another, so a text can be cut in one way only.
 abbrev pub piece : Grammar Lexeme Piece
-piece = either version (either closing (either dimension_word (either cube_word (either script_word (either shown_text (either first_dimension (either next_dimension cube_end)))))))
+piece = either version (either closing (either dimension_word (either cube_word (either script_word
+    (either shown_text (either first_dimension (either next_dimension cube_end)))))))

@@ -8,7 +8,7 @@ use Rattle.dim_text.specs.Statement.{body}
 use Rattle.dim_text.specs.Building.{building, opened}
 use Rattle.dim_text.specs.declared.fault.Refusal.{Refusal}
 use Rattle.model_text.specs.Statement.{Piece, piece}
-use Rattle.model_text.specs.Gathering.{Current, Nothing, DimensionBody, Parts, Given, at, gathered}
+use Rattle.model_text.specs.Gathering.{Current, Nothing, DimensionBody, Parts, Given, at, with_name, gathered}
 use Rattle.model_text.specs.declared.fault.ModelTextFault.{ModelTextFault}
 use Rattle.model_text.specs.declared.fault.ModelTextCause.TheVariants as causes
 
@@ -38,13 +38,16 @@ abbrev pub head_of : Current → Option Progress
 head_of (DimensionBody line shown) = Some (opened line shown)
 head_of other = None
 
-abbrev pub with_name : Parts → Current → Parts
-with_name parts (DimensionBody line shown) = record parts { names = parts.names ++ shown ∷ [] }
-with_name parts other = parts
+abbrev pub with_name_of : Parts → Current → Parts
+with_name_of parts (DimensionBody line shown) = with_name parts shown
+with_name_of parts other = parts
 
 -- behind the block of a dimension
 abbrev pub with_block : Seen → Progress → Seen
-with_block s block = record { blocks = s.blocks ++ block ∷ []; given = at (with_name s.given.parts s.given.current) Nothing }
+with_block s block = record {
+  blocks = s.blocks ++ block ∷ [];
+  given = at (with_name_of s.given.parts s.given.current) Nothing;
+}
 
 abbrev pub of_block : Refusal → ModelTextFault
 of_block refusal = record { line = refusal.line; cause = causes.Dim refusal.fault }

@@ -1,7 +1,7 @@
 -- What can be written as tokens of a model text.
 use Rattle.std.specs.Prelude.{ℕ, ◌<◌, ◌^◌, List, length, IfSome, IsTrue, All}
 use Rattle.dim_name.specs.Name.{is_name}
-use Rattle.dim_text.specs.Writable.{IsQuotable}
+use Rattle.cube_lex.specs.Written.{IsQuotable}
 use Rattle.grammar.specs.Tokens.{is_file}
 use Rattle.model_text.specs.declared.order.OrderLine.{OrderLine}
 use Rattle.model_text.specs.declared.order.OrderWord.{OrderWord}

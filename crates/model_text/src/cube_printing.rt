@@ -1,16 +1,18 @@
 ghost use Rattle.std.specs.Prelude.{◌≡◌, ◌<◌, [], length, get_or, All, IfSome, IsTrue, OnOk};
 ghost use Rattle.std.specs.List.{flat_map};
 ghost use Rattle.cube_lex.specs.Parts.{is_sign};
-ghost use Rattle.cube_lex.specs.Written.{Adds};
+ghost use Rattle.cube_lex.specs.Written.{Spaces, Writes};
 ghost use Rattle.model_text.specs.Contents.{dimension_names};
-ghost use Rattle.model_text.specs.Spelled.{cube_head_spelled, dimension_spelled, next_dimension_spelled, cube_dimensions_spelled, rules_spelled, cube_end_spelled, cube_spelled};
+ghost use Rattle.model_text.specs.Spelled.{cube_head_spelled, dimension_spelled, next_dimension_spelled};
+ghost use Rattle.model_text.specs.Spelled.{cube_dimensions_spelled, rules_spelled, cube_end_spelled, cube_spelled};
 ghost use Rattle.model_text.specs.Writable.{IsNameText, IsFileText, IsWritableCube, IsWritableOrder};
 
 use crate::order::OrderLine;
 use crate::order_printing::write_order;
 use crate::parts::CubeText;
+use cube_lex::{Piece, write_line, write_pieces};
 use dim_name::Name;
-use dim_text::{DimText, Piece, write_line, write_pieces};
+use dim_text::DimText;
 use lists::ListOf;
 use std::alloc::{AllocError, Global};
 
@@ -33,7 +35,8 @@ fn write_number<'a>(
 ) -> Result<(), AllocError>
     requires sign { IsTrue (is_sign sign.now) }
     requires within { number < length dims.now }
-    ensures { OnOk result (Adds out.old.items out.new.items (dimension_spelled sign.now (get_or (dimension_names dims.now) number []))) }
+    ensures { OnOk result (Spaces out.old.items out.new.items
+        (dimension_spelled sign.now (get_or (dimension_names dims.now) number []))) }
 {
     let name = dimension_name(dims, number);
     write_pieces(alloc, out, &[Piece::Sign(sign), Piece::Quoted(name)])
@@ -47,7 +50,8 @@ fn write_further_numbers(
     numbers: &[u32],
 ) -> Result<(), AllocError>
     requires { All (λ number. number < length dims.now) numbers.now }
-    ensures { OnOk result (Adds out.old.items out.new.items (flat_map (next_dimension_spelled (dimension_names dims.now)) numbers.now)) }
+    ensures { OnOk result (Spaces out.old.items out.new.items
+        (flat_map (next_dimension_spelled (dimension_names dims.now)) numbers.now)) }
 {
     for number in numbers {
         write_number(alloc, out, dims, b",", *number)?;
@@ -63,7 +67,8 @@ fn write_numbers(
     numbers: &[u32],
 ) -> Result<(), AllocError>
     requires { All (λ number. number < length dims.now) numbers.now }
-    ensures { OnOk result (Adds out.old.items out.new.items (cube_dimensions_spelled (dimension_names dims.now) numbers.now)) }
+    ensures { OnOk result (Spaces out.old.items out.new.items
+        (cube_dimensions_spelled (dimension_names dims.now) numbers.now)) }
 {
     let [first, further @ ..] = numbers else {
         return Ok(());
@@ -75,7 +80,7 @@ fn write_numbers(
 // Writes `CUBE` and the name of a cube.
 fn write_head(alloc: Global, out: &mut Vec<u8>, name: &Name) -> Result<(), AllocError>
     requires { IsNameText name.now }
-    ensures { OnOk result (Adds out.old.items out.new.items (cube_head_spelled name.now)) }
+    ensures { OnOk result (Spaces out.old.items out.new.items (cube_head_spelled name.now)) }
 {
     write_pieces(
         alloc,
@@ -91,7 +96,7 @@ fn write_rules(
     rules: &Option<(u32, ListOf<u8>)>,
 ) -> Result<(), AllocError>
     requires { IfSome rules.now (λ r. IsFileText r.1) }
-    ensures { OnOk result (Adds out.old.items out.new.items (rules_spelled rules.now)) }
+    ensures { OnOk result (Writes out.old.items out.new.items (rules_spelled rules.now)) }
 {
     match rules {
         Some((_, file)) => {
@@ -115,7 +120,7 @@ fn write_end(
 ) -> Result<(), AllocError>
     requires rules { IfSome rules.now (λ r. IsFileText r.1) }
     requires order { IfSome order.now (λ o. IsWritableOrder o.1) }
-    ensures { OnOk result (Adds out.old.items out.new.items (cube_end_spelled rules.now order.now)) }
+    ensures { OnOk result (Writes out.old.items out.new.items (cube_end_spelled rules.now order.now)) }
 {
     write_line(alloc, out, &[Piece::Sign(b")"), Piece::Sign(b";")])?;
     write_rules(alloc, out, rules)?;
@@ -132,7 +137,7 @@ fn write_cube(
 ) -> Result<(), AllocError>
     requires writable { IsWritableCube cube.now }
     requires within { All (λ number. number < length dims.now) cube.now.dims }
-    ensures { OnOk result (Adds out.old.items out.new.items (cube_spelled (dimension_names dims.now) cube.now)) }
+    ensures { OnOk result (Writes out.old.items out.new.items (cube_spelled (dimension_names dims.now) cube.now)) }
 {
     write_head(alloc, out, &cube.name)?;
     write_numbers(alloc, out, dims, cube.dims.as_slice())?;
@@ -148,7 +153,8 @@ pub fn write_cubes(
 ) -> Result<(), AllocError>
     requires writable { All IsWritableCube cubes.now }
     requires within { All (λ cube. All (λ number. number < length dims.now) cube.dims) cubes.now }
-    ensures { OnOk result (Adds out.old.items out.new.items (flat_map (cube_spelled (dimension_names dims.now)) cubes.now)) }
+    ensures { OnOk result (Writes out.old.items out.new.items
+        (flat_map (cube_spelled (dimension_names dims.now)) cubes.now)) }
 {
     for cube in cubes {
         write_cube(alloc, out, dims, cube)?;

@@ -1,65 +1,36 @@
-ghost use Rattle.std.specs.Prelude.{◌≡◌, ◌<◌, ◌≤◌, ℕ, nat_eq, [], ◌∷◌, ◌++◌, List, length, OnOk, IfOk, All, codes};
+ghost use Rattle.std.specs.Prelude.{◌≡◌, ◌<◌, ◌≤◌, ℕ, nat_eq, [], ◌∷◌, List, length, OnOk, IfOk, All, codes};
 ghost use Rattle.std.specs.List.{list_any};
 ghost use Rattle.cube_lex.specs.Lexed.{IsWellFormed};
-ghost use Rattle.grammar.specs.Cursor.{lexemes, Reads};
-ghost use Rattle.model_text.specs.Reading as reading;
-ghost use Rattle.model_text.specs.Statement.{CubeDimension};
-ghost use Rattle.model_text.specs.Gathering.{Nothing, CubeDue, CubeOpen, at, gathered};
-ghost use Rattle.model_text.specs.Views.{GivesState, GivesPiece, Gathers, AreSame};
+ghost use Rattle.dim_text.specs.Readers.Views.{ahead};
+ghost use Rattle.model_text.specs.Readers.Reading as reading;
+ghost use Rattle.model_text.specs.Gathering.{Nothing, CubeOpen};
+ghost use Rattle.model_text.specs.Readers.Views.{LeadsTo, Collects, GathersDimension, ReadsDimension, AreSame};
 ghost use Rattle.model_text.specs.Writable.{IsNameText};
 
 use crate::fault::{ModelTextCause, ModelTextFault, refused};
 use crate::order_line::cube_end_at;
+use crate::partial::PartialModel;
 use crate::parts::CubeText;
-use crate::pieces::{cube_word_at, dimension_behind, name_at};
-use crate::work::Work;
+use crate::pieces::dimension_behind;
+use crate::section::{Section, line_at, new_name_at};
 use dim_name::Name;
 use grammar::{Cursor, Stop, Unwatched, sign_comes, word_comes};
 use lists::ListOf;
 use std::alloc::{AllocError, Global};
 
-// Reads `CUBE`, and gives its line.
-#[tactic(auto, unfolding(crate::specs::Reading::gather_cube_word))]
-fn line_at(cursor: &mut Cursor<'_, Unwatched>, work: &Work) -> Result<u32, Stop<ModelTextFault>>
-    ensures { GivesState (λ line. at work.now (CubeDue line)) result (lexemes cursor.new.tokens.now) (reading.gather_cube_word (at work.now Nothing) (lexemes cursor.old.tokens.now)) }
-{
-    let line = cube_word_at(cursor)?;
-    if work.cubes_are_full() {
-        return Err(refused(line, ModelTextCause::TooMany));
-    }
-    Ok(line)
-}
-
-// Reads the name of the cube whose `CUBE` is on this line.
-#[tactic(auto, unfolding(crate::specs::Reading::gather_naming))]
-fn new_name_at(
-    alloc: Global,
-    cursor: &mut Cursor<'_, Unwatched>,
-    work: &Work,
-    word_line: u32,
-) -> Result<Name, Stop<ModelTextFault>>
-    ensures read { GivesState (λ name. at work.now (CubeOpen word_line name [])) result (lexemes cursor.new.tokens.now) (reading.gather_naming (at work.now (CubeDue word_line)) (lexemes cursor.old.tokens.now)) }
-    ensures writable { All IsWellFormed (lexemes cursor.old.tokens.now) → IfOk result (λ name. IsNameText name) }
-{
-    let (line, name) = name_at(alloc, cursor)?;
-    if work.has_cube(&name) {
-        return Err(refused(line, ModelTextCause::Duplicate));
-    }
-    Ok(name)
-}
-
 // Reads the head of a cube: its line and its name.
-#[tactic(auto, unfolding(crate::specs::Reading::read_cube_head))]
+#[tactic(auto, unfolding(crate::specs::Readers::Reading::read_cube_head))]
 fn head_at(
     alloc: Global,
     cursor: &mut Cursor<'_, Unwatched>,
-    work: &Work,
+    partial: &PartialModel,
 ) -> Result<(u32, Name), Stop<ModelTextFault>>
-    ensures read { GivesState (λ head. at work.now (CubeOpen head.0 head.1 [])) result (lexemes cursor.new.tokens.now) (reading.read_cube_head (at work.now Nothing) (lexemes cursor.old.tokens.now)) }
-    ensures writable { All IsWellFormed (lexemes cursor.old.tokens.now) → IfOk result (λ head. IsNameText head.1) }
+    ensures read { LeadsTo partial.now Nothing reading.read_cube_head (λ head. CubeOpen head.0 head.1 [])
+        cursor.old result cursor.new }
+    ensures writable { All IsWellFormed (ahead cursor.old) → IfOk result (λ head. IsNameText head.1) }
 {
-    let line = line_at(cursor, work)?;
-    let name = new_name_at(alloc, cursor, work, line)?;
+    let line = line_at(cursor, partial, Section::Cube)?;
+    let name = new_name_at(alloc, cursor, partial, Section::Cube, line)?;
     Ok((line, name))
 }
 
@@ -80,10 +51,15 @@ fn alone(alloc: Global, number: u32) -> Result<Vec<u32>, AllocError>
 }
 
 // The number of the dimension of this name, which a cube with these dimensions so far names on this line.
-fn number_of(work: &Work, line: u32, name: &Name, dims: &[u32]) -> Result<u32, Stop<ModelTextFault>>
-    ensures { (word_line : ℕ) (cube : List ℕ) → Gathers (λ number. at work.now (CubeOpen word_line cube (dims.now ++ number ∷ []))) result (gathered (at work.now (CubeOpen word_line cube dims.now)) (CubeDimension line name.now)) }
+fn number_of(
+    partial: &PartialModel,
+    line: u32,
+    name: &Name,
+    dims: &[u32],
+) -> Result<u32, Stop<ModelTextFault>>
+    ensures { GathersDimension partial.now dims.now line name.now result }
 {
-    let Some(number) = work.dimension(name) else {
+    let Some(number) = partial.dimension(name) else {
         return Err(refused(line, ModelTextCause::UnknownName));
     };
     if is_among(dims, number) {
@@ -96,66 +72,70 @@ fn number_of(work: &Work, line: u32, name: &Name, dims: &[u32]) -> Result<u32, S
 fn dimension_at(
     alloc: Global,
     cursor: &mut Cursor<'_, Unwatched>,
-    work: &Work,
+    partial: &PartialModel,
     dims: &[u32],
     before: &[u8],
 ) -> Result<u32, Stop<ModelTextFault>>
-    ensures read { (word_line : ℕ) (cube : List ℕ) → GivesPiece (λ number. at work.now (CubeOpen word_line cube (dims.now ++ number ∷ []))) result (lexemes cursor.new.tokens.now) (reading.gather (reading.read_dimension_behind before.now) (at work.now (CubeOpen word_line cube dims.now)) (lexemes cursor.old.tokens.now)) }
+    ensures read { ReadsDimension partial.now dims.now before.now cursor.old result cursor.new }
     ensures shorter { OnOk result (length cursor.new.tokens.now < length cursor.old.tokens.now) }
 {
     let (line, name) = dimension_behind(alloc, cursor, before)?;
-    number_of(work, line, &name, dims)
+    number_of(partial, line, &name, dims)
 }
 
 // Reads the dimensions of a cube behind these.
-#[tactic(auto, unfolding(crate::specs::Reading::gather_further_dimensions))]
+#[tactic(auto, unfolding(crate::specs::Readers::Reading::gather_further_dimensions))]
 fn further_dimensions(
     alloc: Global,
     cursor: &mut Cursor<'_, Unwatched>,
-    work: &Work,
+    partial: &PartialModel,
     mut dims: Vec<u32>,
 ) -> Result<Vec<u32>, Stop<ModelTextFault>>
-    ensures read { (word_line : ℕ) (cube : List ℕ) → GivesState (λ all. at work.now (CubeOpen word_line cube all.items)) result (lexemes cursor.new.tokens.now) (reading.gather_further_dimensions (at work.now (CubeOpen word_line cube dims.items)) (lexemes cursor.old.tokens.now)) }
+    ensures read { (word_line : ℕ) (cube : List ℕ)
+        → LeadsTo partial.now (CubeOpen word_line cube dims.items) reading.gather_further_dimensions
+        (λ all. CubeOpen word_line cube all.items) cursor.old result cursor.new }
     ensures more { IfOk result (λ all. length dims.items ≤ length all.items) }
 {
     'dimension: while sign_comes(cursor, b",") {
-        let number = dimension_at(alloc, cursor, work, &dims, b",")?;
+        let number = dimension_at(alloc, cursor, partial, &dims, b",")?;
         dims.push(number)?;
     }
     Ok(dims)
 }
 
 // Reads the dimensions of a cube.
-#[tactic(auto, unfolding(crate::specs::Reading::read_cube_dimensions, crate::specs::Reading::gather_first_dimension))]
+#[tactic(auto, unfolding(crate::specs::Readers::Reading::read_cube_dimensions))]
 fn dimensions_at(
     alloc: Global,
     cursor: &mut Cursor<'_, Unwatched>,
-    work: &Work,
+    partial: &PartialModel,
 ) -> Result<Vec<u32>, Stop<ModelTextFault>>
-    ensures read { (word_line : ℕ) (cube : List ℕ) → GivesState (λ dims. at work.now (CubeOpen word_line cube dims.items)) result (lexemes cursor.new.tokens.now) (reading.read_cube_dimensions (at work.now (CubeOpen word_line cube [])) (lexemes cursor.old.tokens.now)) }
+    ensures read { (word_line : ℕ) (cube : List ℕ)
+        → LeadsTo partial.now (CubeOpen word_line cube []) reading.read_cube_dimensions
+        (λ dims. CubeOpen word_line cube dims.items) cursor.old result cursor.new }
     ensures some { IfOk result (λ dims. 0 < length dims.items) }
 {
-    let first = dimension_at(alloc, cursor, work, &[], b"(")?;
+    let first = dimension_at(alloc, cursor, partial, &[], b"(")?;
     let dims = alone(alloc, first)?;
-    further_dimensions(alloc, cursor, work, dims)
+    further_dimensions(alloc, cursor, partial, dims)
 }
 
 /// Reads a cube.
-#[tactic(auto, unfolding(crate::specs::Reading::read_cube, crate::specs::Reading::gather_cube_end))]
+#[tactic(auto, unfolding(crate::specs::Readers::Reading::read_cube, crate::specs::Readers::Reading::gather_cube_end))]
 fn cube_at(
     alloc: Global,
     cursor: &mut Cursor<'_, Unwatched>,
-    work: &mut Work,
+    partial: &mut PartialModel,
 ) -> Result<(), Stop<ModelTextFault>>
-    requires { All IsWellFormed (lexemes cursor.old.tokens.now) }
-    ensures read { GivesState (λ _. at work.new Nothing) result (lexemes cursor.new.tokens.now) (reading.read_cube (at work.old Nothing) (lexemes cursor.old.tokens.now)) }
-    ensures same { OnOk result (AreSame work.old work.new) }
+    requires { All IsWellFormed (ahead cursor.old) }
+    ensures read { Collects reading.read_cube partial.old (λ _. partial.new) cursor.old result cursor.new }
+    ensures same { OnOk result (AreSame partial.old partial.new) }
 {
-    let (line, name) = head_at(alloc, cursor, work)?;
-    let dims = dimensions_at(alloc, cursor, work)?;
+    let (line, name) = head_at(alloc, cursor, partial)?;
+    let dims = dimensions_at(alloc, cursor, partial)?;
     let (rules, order) = cube_end_at(alloc, cursor)?;
     let dims = ListOf::new(dims);
-    work.add_cube(CubeText {
+    partial.add_cube(CubeText {
         line,
         name,
         dims,
@@ -166,18 +146,18 @@ fn cube_at(
 }
 
 /// Reads the cubes.
-#[tactic(auto, unfolding(crate::specs::Reading::read_cubes))]
+#[tactic(auto, unfolding(crate::specs::Readers::Reading::read_cubes))]
 pub fn cubes_at(
     alloc: Global,
     cursor: &mut Cursor<'_, Unwatched>,
-    work: &mut Work,
+    partial: &mut PartialModel,
 ) -> Result<(), Stop<ModelTextFault>>
-    requires { All IsWellFormed (lexemes cursor.old.tokens.now) }
-    ensures read { GivesState (λ _. at work.new Nothing) result (lexemes cursor.new.tokens.now) (reading.read_cubes (at work.old Nothing) (lexemes cursor.old.tokens.now)) }
-    ensures same { OnOk result (AreSame work.old work.new) }
+    requires { All IsWellFormed (ahead cursor.old) }
+    ensures read { Collects reading.read_cubes partial.old (λ _. partial.new) cursor.old result cursor.new }
+    ensures same { OnOk result (AreSame partial.old partial.new) }
 {
     'cube: while word_comes(cursor, b"CUBE") {
-        cube_at(alloc, cursor, work)?;
+        cube_at(alloc, cursor, partial)?;
     }
     Ok(())
 }

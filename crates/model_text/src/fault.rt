@@ -1,5 +1,5 @@
 ghost use Rattle.std.specs.Prelude.{◌≡◌};
-ghost use Rattle.model_text.specs.Views.{refused_on};
+ghost use Rattle.model_text.specs.Readers.Views.{refused_on};
 
 use dim_core::DimFault;
 use grammar::Stop;
@@ -14,12 +14,13 @@ pub struct ModelTextFault {
 /// The cause of a refusal. At one token the first in this order is told.
 #[derive(Debug, Drop)]
 pub enum ModelTextCause {
-    /// The line has the first token with which the tokens so far begin no model text; a lexical fault counts as such a token. Where
-    /// all tokens begin one but are none, it is the line of the text's end.
+    /// The line has the first token with which the tokens so far begin no model text; a lexical fault counts as such a
+    /// token. Where all tokens begin one but are none, it is the line of the text's end.
     Syntax,
     /// The version isn't 1. The line is the number's.
     WrongVersion,
-    /// A second dimension, cube or script of a name, or a dimension twice in one cube, on the line of the second naming.
+    /// A second dimension, cube or script of a name, or a dimension twice in one cube, on the line of the second
+    /// naming.
     Duplicate,
     /// A cube names a dimension that isn't there, on the line of the name.
     UnknownName,

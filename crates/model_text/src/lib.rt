@@ -1,7 +1,7 @@
 //! Model files: the dimensions, cubes and scripts of a model.
 //!
-//! Read in this order: [`read`], which reads the bytes of a model file; [`ModelText`], what it gives; [`ModelTextFault`], why it
-//! refuses; [`print`], which writes a text that reads back.
+//! Read in this order: [`read`], which reads the bytes of a model file; [`ModelText`], what it gives;
+//! [`ModelTextFault`], why it refuses; [`print`], which writes a text that reads back.
 #![tactic(auto)]
 
 mod cube_printing;
@@ -12,13 +12,13 @@ mod model;
 mod order;
 mod order_line;
 mod order_printing;
+mod partial;
 mod parts;
 mod pieces;
 mod printing;
 mod reading;
 mod scripts;
-mod tokens;
-mod work;
+mod section;
 
 pub use fault::{ModelTextCause, ModelTextFault};
 pub use model::ModelText;
@@ -26,6 +26,3 @@ pub use order::{OrderLine, OrderWord};
 pub use parts::{CubeText, ScriptText};
 pub use printing::print;
 pub use reading::read;
-
-#[cfg(test)]
-mod tests;

@@ -12,18 +12,18 @@ pub struct ModelText {
 }
 
 impl Model for ModelText {
-    ghost use Rattle.model_text.specs.Contents.{Contents, IsContents};
+    ghost use Rattle.model_text.specs.Contents.{Contents, contents_of, IsContents};
 
     ghost Value = { Contents };
 
-    ghost view = { λ t. record { version = t.version; dims = t.dims.items; cubes = t.cubes.items; scripts = t.scripts.items } };
+    ghost view = { λ t. contents_of t.version t.dims.items t.cubes.items t.scripts.items };
 
-    ghost invariant = { λ t. IsContents (record { version = t.version; dims = t.dims.items; cubes = t.cubes.items; scripts = t.scripts.items }) };
+    ghost invariant = { λ t. IsContents (contents_of t.version t.dims.items t.cubes.items t.scripts.items) };
 }
 
 impl ModelText {
     ghost use Rattle.std.specs.Prelude.{◌≡◌};
-    ghost use Rattle.model_text.specs.Contents.{IsContents};
+    ghost use Rattle.model_text.specs.Contents.{contents_of, IsContents};
 
     pub(crate) fn new(
         version: u32,
@@ -31,8 +31,8 @@ impl ModelText {
         cubes: Vec<CubeText>,
         scripts: Vec<ScriptText>,
     ) -> ModelText
-        requires { IsContents (record { version = version; dims = dims.items; cubes = cubes.items; scripts = scripts.items }) }
-        ensures { result ≡ record { version = version; dims = dims.items; cubes = cubes.items; scripts = scripts.items } }
+        requires { IsContents (contents_of version dims.items cubes.items scripts.items) }
+        ensures { result ≡ contents_of version dims.items cubes.items scripts.items }
     {
         ModelText {
             version,

@@ -1,19 +1,20 @@
 ghost use Rattle.std.specs.Prelude.{◌∷◌, ◌++◌, [], All, IfSome, OnOk, codes};
 ghost use Rattle.std.specs.List.{flat_map};
-ghost use Rattle.cube_lex.specs.Written.{Adds};
-ghost use Rattle.dim_text.specs.Spelled.{word_token, sign_token};
-ghost use Rattle.model_text.specs.Spelled.{rank_spelled, next_rank_spelled, ranks_spelled, position_spelled, next_position_spelled, positions_spelled, order_spelled};
+ghost use Rattle.cube_lex.specs.Written.{Spaces, Writes};
+ghost use Rattle.cube_lex.specs.Written.{word_token, sign_token};
+ghost use Rattle.model_text.specs.Spelled.{rank_spelled, next_rank_spelled, ranks_spelled};
+ghost use Rattle.model_text.specs.Spelled.{position_spelled, next_position_spelled, positions_spelled, order_spelled};
 ghost use Rattle.model_text.specs.Writable.{IsWritableRank, IsWritableWord, IsWritableOrder};
 
 use crate::order::{OrderLine, OrderWord};
+use cube_lex::{Piece, write_line, write_pieces};
 use dim_name::Name;
-use dim_text::{Piece, write_line, write_pieces};
 use std::alloc::{AllocError, Global};
 
 // Writes an element and its rank.
 fn write_rank(alloc: Global, out: &mut Vec<u8>, rank: &(Name, u32)) -> Result<(), AllocError>
     requires { IsWritableRank rank.now }
-    ensures { OnOk result (Adds out.old.items out.new.items (rank_spelled rank.now)) }
+    ensures { OnOk result (Spaces out.old.items out.new.items (rank_spelled rank.now)) }
 {
     let (name, number) = rank;
     let tokens = [
@@ -26,7 +27,7 @@ fn write_rank(alloc: Global, out: &mut Vec<u8>, rank: &(Name, u32)) -> Result<()
 // Writes a further element and its rank.
 fn write_next_rank(alloc: Global, out: &mut Vec<u8>, rank: &(Name, u32)) -> Result<(), AllocError>
     requires { IsWritableRank rank.now }
-    ensures { OnOk result (Adds out.old.items out.new.items (next_rank_spelled rank.now)) }
+    ensures { OnOk result (Spaces out.old.items out.new.items (next_rank_spelled rank.now)) }
 {
     write_pieces(alloc, out, &[Piece::Sign(b",")])?;
     write_rank(alloc, out, rank)
@@ -39,7 +40,7 @@ fn write_further_ranks(
     ranks: &[(Name, u32)],
 ) -> Result<(), AllocError>
     requires { All IsWritableRank ranks.now }
-    ensures { OnOk result (Adds out.old.items out.new.items (flat_map next_rank_spelled ranks.now)) }
+    ensures { OnOk result (Spaces out.old.items out.new.items (flat_map next_rank_spelled ranks.now)) }
 {
     for rank in ranks {
         write_next_rank(alloc, out, rank)?;
@@ -50,7 +51,7 @@ fn write_further_ranks(
 // Writes the ranks of elements.
 fn write_ranks(alloc: Global, out: &mut Vec<u8>, ranks: &[(Name, u32)]) -> Result<(), AllocError>
     requires { All IsWritableRank ranks.now }
-    ensures { OnOk result (Adds out.old.items out.new.items (ranks_spelled ranks.now)) }
+    ensures { OnOk result (Spaces out.old.items out.new.items (ranks_spelled ranks.now)) }
 {
     let [first, further @ ..] = ranks else {
         return Ok(());
@@ -67,7 +68,7 @@ fn write_listed(
     ranks: &[(Name, u32)],
 ) -> Result<(), AllocError>
     requires { IsWritableWord (OrderWord.Ranks name.now ranks.now) }
-    ensures { OnOk result (Adds out.old.items out.new.items (position_spelled (OrderWord.Ranks name.now ranks.now))) }
+    ensures { OnOk result (Spaces out.old.items out.new.items (position_spelled (OrderWord.Ranks name.now ranks.now))) }
 {
     write_pieces(
         alloc,
@@ -81,7 +82,7 @@ fn write_listed(
 // Writes a position of an order line.
 fn write_position(alloc: Global, out: &mut Vec<u8>, position: &OrderWord) -> Result<(), AllocError>
     requires { IsWritableWord position.now }
-    ensures { OnOk result (Adds out.old.items out.new.items (position_spelled position.now)) }
+    ensures { OnOk result (Spaces out.old.items out.new.items (position_spelled position.now)) }
 {
     match position {
         OrderWord::Constant(number) => {
@@ -99,7 +100,7 @@ fn write_next_position(
     position: &OrderWord,
 ) -> Result<(), AllocError>
     requires { IsWritableWord position.now }
-    ensures { OnOk result (Adds out.old.items out.new.items (next_position_spelled position.now)) }
+    ensures { OnOk result (Spaces out.old.items out.new.items (next_position_spelled position.now)) }
 {
     write_pieces(alloc, out, &[Piece::Sign(b",")])?;
     write_position(alloc, out, position)
@@ -112,7 +113,7 @@ fn write_further_positions(
     positions: &[OrderWord],
 ) -> Result<(), AllocError>
     requires { All IsWritableWord positions.now }
-    ensures { OnOk result (Adds out.old.items out.new.items (flat_map next_position_spelled positions.now)) }
+    ensures { OnOk result (Spaces out.old.items out.new.items (flat_map next_position_spelled positions.now)) }
 {
     for position in positions {
         write_next_position(alloc, out, position)?;
@@ -127,7 +128,7 @@ fn write_positions(
     positions: &[OrderWord],
 ) -> Result<(), AllocError>
     requires { All IsWritableWord positions.now }
-    ensures { OnOk result (Adds out.old.items out.new.items (positions_spelled positions.now)) }
+    ensures { OnOk result (Spaces out.old.items out.new.items (positions_spelled positions.now)) }
 {
     let [first, further @ ..] = positions else {
         return Ok(());
@@ -143,7 +144,8 @@ fn write_order_line(
     positions: &[OrderWord],
 ) -> Result<(), AllocError>
     requires { All IsWritableWord positions.now }
-    ensures { OnOk result (Adds out.old.items out.new.items (word_token (codes "ORDER") ∷ (positions_spelled positions.now ++ sign_token (codes ";") ∷ []))) }
+    ensures { OnOk result (Writes out.old.items out.new.items
+        (word_token (codes "ORDER") ∷ (positions_spelled positions.now ++ sign_token (codes ";") ∷ []))) }
 {
     write_pieces(alloc, out, &[Piece::Word(b"ORDER")])?;
     write_positions(alloc, out, positions)?;
@@ -157,7 +159,7 @@ pub fn write_order(
     order: &Option<(u32, OrderLine)>,
 ) -> Result<(), AllocError>
     requires { IfSome order.now (λ o. IsWritableOrder o.1) }
-    ensures { OnOk result (Adds out.old.items out.new.items (order_spelled order.now)) }
+    ensures { OnOk result (Writes out.old.items out.new.items (order_spelled order.now)) }
 {
     match order {
         Some((_, order)) => write_order_line(alloc, out, order.words.as_slice()),

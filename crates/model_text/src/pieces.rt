@@ -1,21 +1,24 @@
 ghost use Rattle.std.specs.Prelude.{◌≡◌, ◌<◌, length, OnOk, IfOk, All, codes};
 ghost use Rattle.cube_lex.specs.Lexed.{IsWellFormed};
-ghost use Rattle.dim_text.specs.Writable.{IsQuotable};
-ghost use Rattle.grammar.specs.Cursor.{lexemes, Reads};
-ghost use Rattle.model_text.specs.Reading as reading;
-ghost use Rattle.model_text.specs.Statement.{Version, Closing, DimensionWord, CubeWord, ScriptWord, Shown, CubeDimension};
+ghost use Rattle.dim_text.specs.Readers.Views.{ahead};
+ghost use Rattle.grammar.specs.Cursor.{Reads};
+ghost use Rattle.model_text.specs.Readers.Reading as reading;
+ghost use Rattle.model_text.specs.Statement as statement;
+ghost use Rattle.model_text.specs.Readers.Sections as sections;
+ghost use Rattle.model_text.specs.Statement.{QuotedText};
+ghost use Rattle.model_text.specs.Writable.{IsNameText};
 
 use crate::fault::ModelTextFault;
-use crate::tokens::{located_file, located_name, located_whole};
+use crate::section::Section;
 use dim_name::Name;
-use grammar::{Cursor, Stop, Unwatched, sign, word};
+use grammar::{Cursor, Stop, Unwatched, located_file, located_name, located_whole, sign, word};
 use lists::ListOf;
 use std::alloc::Global;
 
 /// Reads `MODEL whole`, and gives the number with its line.
-#[tactic(auto, unfolding(crate::specs::Reading::read_version))]
+#[tactic(auto, unfolding(crate::specs::Readers::Reading::read_version))]
 pub fn version_at(cursor: &mut Cursor<'_, Unwatched>) -> Result<(u32, u32), Stop<ModelTextFault>>
-    ensures { Reads (λ x. Version x.0 x.1) reading.read_version cursor.old result cursor.new }
+    ensures { Reads (λ x. statement.Version x.0 x.1) reading.read_version cursor.old result cursor.new }
 {
     word(cursor, b"MODEL")?;
     let version = located_whole(cursor)?;
@@ -23,74 +26,61 @@ pub fn version_at(cursor: &mut Cursor<'_, Unwatched>) -> Result<(u32, u32), Stop
 }
 
 /// Reads `;`.
-#[tactic(auto, unfolding(crate::specs::Reading::read_closing))]
+#[tactic(auto, unfolding(crate::specs::Readers::Reading::read_closing))]
 pub fn closing_at(cursor: &mut Cursor<'_, Unwatched>) -> Result<(), Stop<ModelTextFault>>
-    ensures { Reads (λ _. Closing) reading.read_closing cursor.old result cursor.new }
+    ensures { Reads (λ _. statement.Closing) reading.read_closing cursor.old result cursor.new }
 {
     sign(cursor, b";")?;
     Ok(())
 }
 
-/// Reads `DIM`, and gives its line.
-#[tactic(auto, unfolding(crate::specs::Reading::read_dimension_word))]
-pub fn dimension_word_at(cursor: &mut Cursor<'_, Unwatched>) -> Result<u32, Stop<ModelTextFault>>
-    ensures { Reads (λ line. DimensionWord line) reading.read_dimension_word cursor.old result cursor.new }
+/// Reads the word with which the statements of this section begin, and gives its line.
+#[tactic(auto, unfolding(crate::specs::Readers::Sections::read_word))]
+pub fn section_word_at(
+    cursor: &mut Cursor<'_, Unwatched>,
+    section: Section,
+) -> Result<u32, Stop<ModelTextFault>>
+    ensures { Reads (λ line. sections.word_piece section line) (sections.read_word section)
+        cursor.old result cursor.new }
 {
-    let line = word(cursor, b"DIM")?;
-    Ok(line)
-}
-
-/// Reads `CUBE`, and gives its line.
-#[tactic(auto, unfolding(crate::specs::Reading::read_cube_word))]
-pub fn cube_word_at(cursor: &mut Cursor<'_, Unwatched>) -> Result<u32, Stop<ModelTextFault>>
-    ensures { Reads (λ line. CubeWord line) reading.read_cube_word cursor.old result cursor.new }
-{
-    let line = word(cursor, b"CUBE")?;
-    Ok(line)
-}
-
-/// Reads `SCRIPT`, and gives its line.
-#[tactic(auto, unfolding(crate::specs::Reading::read_script_word))]
-pub fn script_word_at(cursor: &mut Cursor<'_, Unwatched>) -> Result<u32, Stop<ModelTextFault>>
-    ensures { Reads (λ line. ScriptWord line) reading.read_script_word cursor.old result cursor.new }
-{
-    let line = word(cursor, b"SCRIPT")?;
+    let line = word(cursor, section.word())?;
     Ok(line)
 }
 
 /// Reads a name, and gives it with its line.
-#[tactic(auto, unfolding(crate::specs::Reading::read_naming))]
+#[tactic(auto, unfolding(crate::specs::Readers::Reading::read_naming))]
 pub fn name_at(
     alloc: Global,
     cursor: &mut Cursor<'_, Unwatched>,
 ) -> Result<(u32, Name), Stop<ModelTextFault>>
-    ensures read { Reads (λ x. Shown x.0 x.1) reading.read_naming cursor.old result cursor.new }
-    ensures quotable { All IsWellFormed (lexemes cursor.old.tokens.now) → IfOk result (λ x. IsQuotable x.1) }
+    ensures read { Reads (λ x. QuotedText x.0 x.1) reading.read_naming cursor.old result cursor.new }
+    ensures writable { All IsWellFormed (ahead cursor.old) → IfOk result (λ x. IsNameText x.1) }
 {
     let shown = located_name(alloc, cursor)?;
     Ok(shown)
 }
 
 /// Reads the file of a script.
-#[tactic(auto, unfolding(crate::specs::Reading::read_script_file))]
+#[tactic(auto, unfolding(crate::specs::Readers::Reading::read_script_file))]
 pub fn script_file_at(
     alloc: Global,
     cursor: &mut Cursor<'_, Unwatched>,
 ) -> Result<(u32, ListOf<u8>), Stop<ModelTextFault>>
-    ensures { Reads (λ x. Shown x.0 x.1) reading.read_script_file cursor.old result cursor.new }
+    ensures { Reads (λ x. QuotedText x.0 x.1) reading.read_script_file cursor.old result cursor.new }
 {
     let file = located_file(alloc, cursor)?;
     Ok(file)
 }
 
 /// Reads a sign, and a dimension's name behind it, and gives the name with its line.
-#[tactic(auto, unfolding(crate::specs::Reading::read_dimension_behind))]
+#[tactic(auto, unfolding(crate::specs::Readers::Reading::read_dimension_behind))]
 pub fn dimension_behind(
     alloc: Global,
     cursor: &mut Cursor<'_, Unwatched>,
     before: &[u8],
 ) -> Result<(u32, Name), Stop<ModelTextFault>>
-    ensures read { Reads (λ x. CubeDimension x.0 x.1) (reading.read_dimension_behind before.now) cursor.old result cursor.new }
+    ensures read { Reads (λ x. statement.CubeDimension x.0 x.1) (reading.read_dimension_behind before.now)
+        cursor.old result cursor.new }
     ensures shorter { OnOk result (length cursor.new.tokens.now < length cursor.old.tokens.now) }
 {
     sign(cursor, before)?;

@@ -1,29 +1,29 @@
 ghost use Rattle.std.specs.Prelude.{◌≡◌, [], IfOk, All};
 ghost use Rattle.cube_lex.specs.Lexed.{IsWellFormed};
-ghost use Rattle.grammar.specs.Cursor.{lexemes};
+ghost use Rattle.dim_text.specs.Readers.Views.{ahead};
 ghost use Rattle.model_text.specs.Answers.{Answers};
 ghost use Rattle.model_text.specs.Contents.{dimension_names};
-ghost use Rattle.model_text.specs.Gathering.{Nothing, at};
-ghost use Rattle.model_text.specs.Reading as reading;
-ghost use Rattle.model_text.specs.Views.{GivesState, GivesBlocks, fault_from};
+ghost use Rattle.model_text.specs.Readers.Reading as reading;
+ghost use Rattle.model_text.specs.Readers.Views.{Collects, GivesBlocks, fault_from};
 ghost use Rattle.model_text.specs.Watching.{no_parts, nothing_seen};
 
 use crate::cubes::cubes_at;
 use crate::dimensions::dimensions_at;
 use crate::fault::{ModelTextCause, ModelTextFault, refused};
 use crate::model::ModelText;
+use crate::partial::PartialModel;
 use crate::pieces::{closing_at, version_at};
 use crate::scripts::scripts_at;
-use crate::work::Work;
 use cube_lex::tokens_until;
 use dim_text::DimText;
-use grammar::{Cursor, Stop, TextFault, Unwatched, settled};
+use grammar::{Cursor, Stop, TextFault, Unwatched, answer_of_text};
 use std::alloc::Global;
 
 // Reads `MODEL whole`, where the number is 1.
-#[tactic(auto, unfolding(crate::specs::Reading::gather_version))]
+#[tactic(auto, unfolding(crate::specs::Readers::Reading::gather_version))]
 fn number_at(cursor: &mut Cursor<'_, Unwatched>) -> Result<u32, Stop<ModelTextFault>>
-    ensures read { GivesState (λ version. at (record no_parts { version = version }) Nothing) result (lexemes cursor.new.tokens.now) (reading.gather_version (at no_parts Nothing) (lexemes cursor.old.tokens.now)) }
+    ensures read { Collects reading.gather_version no_parts (λ version. record no_parts { version = version })
+        cursor.old result cursor.new }
     ensures one { IfOk result (λ version. version ≡ 1) }
 {
     let (line, version) = version_at(cursor)?;
@@ -34,34 +34,35 @@ fn number_at(cursor: &mut Cursor<'_, Unwatched>) -> Result<u32, Stop<ModelTextFa
 }
 
 // Reads the first statement.
-#[tactic(auto, unfolding(crate::specs::Reading::read_opening, crate::specs::Reading::gather_closing))]
+#[tactic(auto, unfolding(crate::specs::Readers::Reading::read_opening))]
 fn opening_at(
     alloc: Global,
     cursor: &mut Cursor<'_, Unwatched>,
-) -> Result<Work, Stop<ModelTextFault>>
-    ensures read { GivesState (λ work. at work Nothing) result (lexemes cursor.new.tokens.now) (reading.read_opening (at no_parts Nothing) (lexemes cursor.old.tokens.now)) }
-    ensures begun { IfOk result (λ work. (work.version ≡ 1) × (work.names ≡ [])) }
+) -> Result<PartialModel, Stop<ModelTextFault>>
+    ensures read { Collects reading.read_opening no_parts (λ partial. partial) cursor.old result cursor.new }
+    ensures begun { IfOk result (λ partial. (partial.version ≡ 1) × (partial.names ≡ [])) }
 {
     let version = number_at(cursor)?;
     closing_at(cursor)?;
-    Ok(Work::new(alloc, version))
+    Ok(PartialModel::new(alloc, version))
 }
 
 // Reads a model text.
 fn model_at(
     alloc: Global,
     cursor: &mut Cursor<'_, Unwatched>,
-) -> Result<(Vec<DimText>, Work), Stop<ModelTextFault>>
-    requires { All IsWellFormed (lexemes cursor.old.tokens.now) }
-    ensures read { GivesBlocks (λ x. x.0.items) (λ x. x.1) result (lexemes cursor.new.tokens.now) (reading.read_model nothing_seen (lexemes cursor.old.tokens.now)) }
+) -> Result<(Vec<DimText>, PartialModel), Stop<ModelTextFault>>
+    requires { All IsWellFormed (ahead cursor.old) }
+    ensures read { GivesBlocks (λ x. x.0.items) (λ x. x.1) result (ahead cursor.new)
+        (reading.read_model nothing_seen (ahead cursor.old)) }
     ensures version { IfOk result (λ x. x.1.version ≡ 1) }
     ensures names { IfOk result (λ x. x.1.names ≡ dimension_names x.0.items) }
 {
-    let mut work = opening_at(alloc, cursor)?;
-    let dims = dimensions_at(alloc, cursor, &mut work)?;
-    cubes_at(alloc, cursor, &mut work)?;
-    scripts_at(alloc, cursor, &mut work)?;
-    Ok((dims, work))
+    let mut partial = opening_at(alloc, cursor)?;
+    let dims = dimensions_at(alloc, cursor, &mut partial)?;
+    cubes_at(alloc, cursor, &mut partial)?;
+    scripts_at(alloc, cursor, &mut partial)?;
+    Ok((dims, partial))
 }
 
 // Why a text is refused.
@@ -90,9 +91,9 @@ pub fn read(alloc: Global, text: &[u8]) -> Result<ModelText, ModelTextFault>
     };
     let mut cursor = Cursor::new(tokens.as_slice(), Unwatched);
     let model = model_at(alloc, &mut cursor);
-    match settled(&tokens, fault, model, &cursor) {
-        Ok((dims, work)) => {
-            let (version, cubes, scripts) = work.into_parts();
+    match answer_of_text(&tokens, fault, model, &cursor) {
+        Ok((dims, partial)) => {
+            let (version, cubes, scripts) = partial.into_parts();
             Ok(ModelText::new(version, dims, cubes, scripts))
         }
         Err(fault) => Err(fault_of(fault)),

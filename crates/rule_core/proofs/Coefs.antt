@@ -11,7 +11,8 @@ use Rattle.cube_space.specs.Layout.{axes_of, sizes_of}
 use Rattle.cube_space.specs.Radix.{product, are_digits}
 use Rattle.cube_space.proofs.Radix.{digits-length}
 use Rattle.dim_core.specs.Outline.{Outline}
-use Rattle.dim_weights.specs.Coefficients.{coef, IsElement}
+use Rattle.dim_core.specs.Outline.{IsElement}
+use Rattle.dim_weights.specs.Coefficients.{coef}
 use Rattle.dim_weights.specs.Table.{IsWeightsOf, leaves_of, leaves_in, greatest_of, greatest_in}
 use Rattle.rule_core.specs.BoundModel.{greatest_coef, coef_product}
 use Rattle.rule_core.proofs.Named.{axes_cons}

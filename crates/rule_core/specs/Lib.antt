@@ -1,1 +1,2 @@
 pub mod BoundModel
+pub mod Inside

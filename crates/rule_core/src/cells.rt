@@ -1,8 +1,10 @@
-ghost use Rattle.std.specs.Prelude.{◌≡◌, ◌<◌, ◌≤◌, true, Some, None, length, map, take, drop, All, IfSome, IsTrue, IsFalse, unsigned_abs};
+ghost use Rattle.std.specs.Prelude.{◌≡◌, ◌<◌, ◌≤◌, true, IsTrue, IsFalse, Some, None, IfSome, unsigned_abs};
+ghost use Rattle.std.specs.Prelude.{length, map, take, drop, All};
 ghost use Rattle.cube_space.specs.Layout.{axes_of, sizes_of};
 ghost use Rattle.cube_space.specs.Cells.{IsCell};
 ghost use Rattle.cube_space.specs.Radix.{product, are_digits};
 ghost use Rattle.rule_core.specs.BoundModel.{cell_named, elements_named, weight, coef_product, greatest_coef};
+ghost use Rattle.rule_core.specs.BoundModel.{max_weight_product};
 
 use crate::model::Model;
 use cube_space::Space;
@@ -32,7 +34,8 @@ pub fn cell_of(model: &Model, cube: &Name, names: &[Name]) -> Option<u64>
 fn find_elements(space: &Space, dims: &[u32], names: &[Name], at: &mut [u32; 16]) -> bool
     requires dims { All (λ dim. dim < length space.now.dimensions) dims.now }
     requires room { length dims.now ≤ 16 }
-    ensures found { IsTrue result → elements_named (axes_of space.now.dimensions dims.now) names.now ≡ Some (take (length dims.now) at.new) }
+    ensures found { IsTrue result →
+        elements_named (axes_of space.now.dimensions dims.now) names.now ≡ Some (take (length dims.now) at.new) }
     ensures missing { IsFalse result → elements_named (axes_of space.now.dimensions dims.now) names.now ≡ None }
 {
     if dims.len() != names.len() {
@@ -53,7 +56,7 @@ pub fn weight(model: &Model, cell: u64, leaf: u64) -> i64
     requires cell { IsCell model.now.space cell }
     requires leaf { IsCell model.now.space leaf }
     ensures value { result ≡ weight model.now.space cell leaf }
-    ensures size { unsigned_abs result ≤ 1000000000 }
+    ensures size { unsigned_abs result ≤ max_weight_product }
 {
     let space = model.space();
     let mut at = [0u32; 16];
@@ -72,10 +75,13 @@ fn coefficients(model: &Model, dims: &[u32], at: &[u32], below: &[u32], from: us
     requires dims { All (λ dim. dim < length model.now.space.dimensions) dims.now }
     requires at { are_digits (sizes_of (axes_of model.now.space.dimensions dims.now)) at.now ≡ true }
     requires below { are_digits (sizes_of (axes_of model.now.space.dimensions dims.now)) below.now ≡ true }
-    requires small { product (map greatest_coef (axes_of model.now.space.dimensions (drop from dims.now))) ≤ 1000000000 }
+    requires small { product (map greatest_coef (axes_of model.now.space.dimensions (drop from dims.now)))
+        ≤ max_weight_product }
     requires from { from ≤ length dims.now }
-    ensures value { result ≡ coef_product (axes_of model.now.space.dimensions (drop from dims.now)) (drop from at.now) (drop from below.now) }
-    ensures size { unsigned_abs result ≤ product (map greatest_coef (axes_of model.now.space.dimensions (drop from dims.now))) }
+    ensures value { result ≡ coef_product (axes_of model.now.space.dimensions (drop from dims.now))
+        (drop from at.now) (drop from below.now) }
+    ensures size { unsigned_abs result
+        ≤ product (map greatest_coef (axes_of model.now.space.dimensions (drop from dims.now))) }
 {
     if from == dims.len() {
         return 1;

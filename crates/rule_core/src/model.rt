@@ -6,6 +6,10 @@ use cube_space::Space;
 use dim_weights::Weights;
 use std::alloc::AllocError;
 
+/// The greatest weight product that a cube may have: the product, over its dimensions, of the greatest size of a
+/// coefficient.
+pub const MAX_WEIGHT_PRODUCT: u64 = 1_000_000_000;
+
 /// A model with every name bound: its dimensions and its cubes, and how much each leaf counts in each element.
 #[derive(Drop)]
 pub struct Model {
@@ -14,7 +18,8 @@ pub struct Model {
 }
 
 impl std::marker::Model for Model {
-    ghost use Rattle.rule_core.specs.BoundModel.{BoundModel, IsBound};
+    ghost use Rattle.rule_core.specs.BoundModel.{BoundModel};
+    ghost use Rattle.rule_core.specs.Inside.Kept.{IsBound};
 
     ghost Value = { BoundModel };
 

@@ -1,56 +1,54 @@
--- A formula reads only its references and STET.
+-- A formula reads only its precedents, STET and CONTINUE.
 use Rattle.std.proofs.Common.{◌≡◌, refl, ap, not, List, [], ◌++◌}
 use Rattle.std.specs.List.{Contains}
 use Rattle.std.proofs.lemmas.List.Elements.{Contains-append_left, Contains-append_right, Contains-push}
 use Rattle.cube_fixed.specs.declared.value.Value.{Value}
 use Rattle.rule_laws.specs.declared.reference.Reference.{Reference}
 use Rattle.rule_laws.specs.declared.formula.Formula.{Formula}
-use Rattle.rule_laws.specs.declared.formula.Formula.TheVariants.{Number, Stet, Ref, Binary', Unary', If'}
-use Rattle.rule_laws.specs.declared.formula.Truth.{Truth}
-use Rattle.rule_laws.specs.declared.formula.Truth.TheVariants.{Compare, And', Or', Not'}
+use Rattle.rule_laws.specs.declared.formula.Formula.TheOpen.{Formula-F, Truth-F}
 use Rattle.rule_laws.specs.Operation.{function_of}
-use Rattle.rule_laws.specs.Meaning.{formula_value, truth_value, references, truth_references}
+use Rattle.rule_laws.specs.Meaning.{Others, value_step, truth_step, formula_value, Precedent, Named, Components, precedents_step, truth_precedents_step, precedents}
+use Rattle.rule_laws.proofs.Folds.{Given, GivenTruth, Layers, TruthLayers, by_layers}
 
--- the two give the same at each of the references
-abbrev pub Agree : List Reference → (Reference → Value) → (Reference → Value) → Type 0
-Agree rs named other = (r : Reference) → Contains rs r → named r ≡ other r
+-- a test of precedents that holds of all of two lists holds of each
+pub each_left : {X : Type 0} (P : X → Type 0) (xs ys : List X) → ((x : X) → Contains (xs ++ ys) x → P x) → (x : X) → Contains xs x → P x
+each_left P xs ys each x has = each x (Contains-append_left xs ys x has)
 
-Agree-left : (rs ss : List Reference) (named other : Reference → Value) → Agree (rs ++ ss) named other → Agree rs named other
-Agree-left rs ss named other agree r has = agree r (Contains-append_left rs ss r has)
+pub each_right : {X : Type 0} (P : X → Type 0) (xs ys : List X) → ((x : X) → Contains (xs ++ ys) x → P x) → (x : X) → Contains ys x → P x
+each_right P xs ys each x has = each x (Contains-append_right xs ys x has)
 
-Agree-right : (rs ss : List Reference) (named other : Reference → Value) → Agree (rs ++ ss) named other → Agree ss named other
-Agree-right rs ss named other agree r has = agree r (Contains-append_right rs ss r has)
+-- the two give the same for a precedent
+abbrev pub Alike : (Reference → Value) → (Reference → Value) → Others → Others → Precedent → Type 0
+Alike named other xs ys (Named r) = named r ≡ other r
+Alike named other xs ys (Components dim) = xs.children dim ≡ ys.children dim
 
-mutual
-  pub formula_value-agree : (named other : Reference → Value) (base : Value) (f : Formula) → Agree (references f) named other
-      → formula_value named base f ≡ formula_value other base f
-  formula_value-agree named other base (Number k) agree = refl
-  formula_value-agree named other base Stet agree = refl
-  formula_value-agree named other base (Ref r) agree = agree r (Contains-push [] r)
-  formula_value-agree named other base (Binary' op p a q b) agree =
-      let left = formula_value-agree named other base a (Agree-left (references a) (references b) named other agree) in
-      let right = formula_value-agree named other base b (Agree-right (references a) (references b) named other agree) in
-      rw (left, right) refl
-  formula_value-agree named other base (Unary' function p a) agree = ap (function_of function) (formula_value-agree named other base a agree)
-  formula_value-agree named other base (If' t truth p a q b) agree =
-      let front = Agree-left (truth_references truth ++ references a) (references b) named other agree in
-      let test = truth_value-agree named other base truth (Agree-left (truth_references truth) (references a) named other front) in
-      let left = formula_value-agree named other base a (Agree-right (truth_references truth) (references a) named other front) in
-      let right = formula_value-agree named other base b (Agree-right (truth_references truth ++ references a) (references b) named other agree) in
-      rw (test, left, right) refl
+module _ (named other : Reference → Value) (xs ys : Others) (stet : xs.stet ≡ ys.stet) (rest : xs.rest ≡ ys.rest) where
+  abbrev alike : Precedent → Type 0
+  alike = Alike named other xs ys
 
-  pub truth_value-agree : (named other : Reference → Value) (base : Value) (t : Truth) → Agree (truth_references t) named other
-      → truth_value named base t ≡ truth_value other base t
-  truth_value-agree named other base (Compare rel a b) agree =
-      let left = formula_value-agree named other base a (Agree-left (references a) (references b) named other agree) in
-      let right = formula_value-agree named other base b (Agree-right (references a) (references b) named other agree) in
-      rw (left, right) refl
-  truth_value-agree named other base (And' p a q b) agree =
-      let left = truth_value-agree named other base a (Agree-left (truth_references a) (truth_references b) named other agree) in
-      let right = truth_value-agree named other base b (Agree-right (truth_references a) (truth_references b) named other agree) in
-      rw (left, right) refl
-  truth_value-agree named other base (Or' p a q b) agree =
-      let left = truth_value-agree named other base a (Agree-left (truth_references a) (truth_references b) named other agree) in
-      let right = truth_value-agree named other base b (Agree-right (truth_references a) (truth_references b) named other agree) in
-      rw (left, right) refl
-  truth_value-agree named other base (Not' p a) agree = ap not (truth_value-agree named other base a agree)
+  abbrev Agree : List Precedent → Type 0
+  Agree ps = (p : Precedent) → Contains ps p → alike p
+
+  abbrev Same : {V : Type 0} → List Precedent → V → V → Type 0
+  Same ps v u = Agree ps → v ≡ u
+
+  layers : Layers precedents_step truth_precedents_step (value_step named xs) truth_step (value_step other ys) truth_step Same Same
+  layers (Formula-F.Number k) agree = refl
+  layers Formula-F.Stet agree = stet
+  layers Formula-F.Continue agree = rest
+  layers (Formula-F.Children dim) agree = agree (Components dim) (Contains-push [] (Components dim))
+  layers (Formula-F.Ref r) agree = agree (Named r) (Contains-push [] (Named r))
+  layers (Formula-F.Binary op a b) agree = rw (a.holds (each_left alike a.x b.x agree), b.holds (each_right alike a.x b.x agree)) refl
+  layers (Formula-F.Unary function a) agree = ap (function_of function) (a.holds agree)
+  layers (Formula-F.If t a b) agree =
+      let front = each_left alike (t.x ++ a.x) b.x agree in
+      rw (t.holds (each_left alike t.x a.x front), a.holds (each_right alike t.x a.x front), b.holds (each_right alike (t.x ++ a.x) b.x agree)) refl
+
+  truths : TruthLayers precedents_step truth_precedents_step (value_step named xs) truth_step (value_step other ys) truth_step Same Same
+  truths (Truth-F.Compare rel a b) agree = rw (a.holds (each_left alike a.x b.x agree), b.holds (each_right alike a.x b.x agree)) refl
+  truths (Truth-F.And a b) agree = rw (a.holds (each_left alike a.x b.x agree), b.holds (each_right alike a.x b.x agree)) refl
+  truths (Truth-F.Or a b) agree = rw (a.holds (each_left alike a.x b.x agree), b.holds (each_right alike a.x b.x agree)) refl
+  truths (Truth-F.Not a) agree = ap not (a.holds agree)
+
+  pub formula_value-agree : (f : Formula) → Agree (precedents f) → formula_value named xs f ≡ formula_value other ys f
+  formula_value-agree f = by_layers precedents_step truth_precedents_step (value_step named xs) truth_step (value_step other ys) truth_step Same Same layers truths f

@@ -1,5 +1,9 @@
+pub mod Folds
 pub mod FormulaFacts
 pub mod SystemFacts
+pub mod StatementFacts
+pub mod PlaceFacts
+pub mod FindingFacts
 pub mod ZeroFacts
 pub mod SparseFacts
 pub mod Witness

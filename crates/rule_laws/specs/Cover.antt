@@ -2,13 +2,14 @@
 use Rattle.std.specs.Prelude.{◌≡◌, ℕ, Bool, true, false, None, Some, IsTrue, All, Any, Contains, ◌↔◌}
 use Rattle.rule_laws.specs.declared.reference.Reference.{Reference}
 use Rattle.rule_laws.specs.declared.formula.Formula.{Formula}
-use Rattle.rule_laws.specs.Meaning.{references}
+use Rattle.rule_laws.specs.Meaning.{Named, precedents}
 use Rattle.rule_laws.specs.RuleSystem.{RuleSystem, Rule, Feed, governing}
 use Rattle.rule_laws.specs.Order.{IsCellOf}
 use Rattle.rule_laws.specs.Feeding.{leaves_of, FeedsBy}
 use Rattle.rule_laws.specs.ZeroTest.{zero_test}
 
--- the feeder covers the reference: from each leaf cell of the rule where it names a cell, each leaf cell of that cell feeds it
+-- the feeder covers the reference: from each leaf cell of the rule where it names a cell, each leaf cell of that cell
+-- feeds it
 abbrev pub CoversBy : RuleSystem → Rule → Reference → Feed → Type 0
 CoversBy w rule r feed =
     (c t x : ℕ) → IsCellOf w rule true c → w.target r c ≡ Some t → Contains (leaves_of w t) x → FeedsBy w feed x c
@@ -25,10 +26,14 @@ IsCoveredReference w rule r = NamesNoGovernedTotal w rule r × Any (CoversBy w r
 -- the test tells which references of the rule's formula are covered
 abbrev pub TellsCover : RuleSystem → Rule → Formula → (Reference → Bool) → Type 0
 TellsCover w rule f covers =
-    (r : Reference) → Contains (references f) r → IsTrue (covers r) ↔ IsCoveredReference w rule r
+    (r : Reference) → Contains (precedents f) (Named r) → IsTrue (covers r) ↔ IsCoveredReference w rule r
 
--- the N part of each rule whose cube says SKIPCHECK passes the zero test, by what tells which of its references are covered
+-- the N part of the rule passes the zero test, by what tells which of its references are covered, if its cube says
+-- SKIPCHECK
+abbrev pub IsCoveredRule : RuleSystem → Rule → Type 0
+IsCoveredRule w rule =
+    (f : Formula) → w.skips_check rule.cube ≡ true → rule.leaf_part ≡ Some f
+    → (covers : Reference → Bool) × TellsCover w rule f covers × (zero_test covers f ≡ true)
+
 abbrev pub IsCovered : RuleSystem → Type 0
-IsCovered w =
-    All (λ rule. (f : Formula) → w.skips_check rule.cube ≡ true → rule.leaf_part ≡ Some f
-    → (covers : Reference → Bool) × TellsCover w rule f covers × (zero_test covers f ≡ true)) w.rules
+IsCovered w = All (IsCoveredRule w) w.rules

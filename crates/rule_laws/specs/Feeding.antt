@@ -1,7 +1,8 @@
 -- Which cells are fed.
-use Rattle.std.specs.Prelude.{◌≡◌, ℕ, zero, suc, ◌==◌, Bool, true, not, ◌&&◌, List, [], ◌∷◌, map, Some, IsSome, Any, Contains, ◌⊎◌, if◌then◌else◌}
+use Rattle.std.specs.Prelude.{◌≡◌, ℕ, zero, suc, ◌==◌, Bool, true, not, ◌&&◌, List, [], ◌∷◌, map, Some, IsSome, Any}
+use Rattle.std.specs.Prelude.{Contains, ◌⊎◌, if◌then◌else◌}
 use Rattle.std.specs.List.{list_any}
-use Rattle.rule_laws.specs.RuleSystem.{RuleSystem, Feed, IsCell, IsLeafCell}
+use Rattle.rule_laws.specs.RuleSystem.{RuleSystem, Feed, Stored, IsCell, IsLeafCell}
 
 -- the leaf cells that a cell stands for: a leaf cell for itself, a consolidated cell for those below it
 abbrev pub leaves_of : RuleSystem → ℕ → List ℕ
@@ -15,7 +16,8 @@ is_dense w cube = not (w.skips_check cube) && list_any (λ rule. rule.cube == cu
 abbrev pub IsDenseCell : RuleSystem → ℕ → Type 0
 IsDenseCell w c = IsLeafCell w c × (is_dense w (w.cube_of c) ≡ true)
 
--- by this feeder, x feeds c: x is a leaf cell among its sources, and c is among the leaf cells of the cell that it targets from x
+-- by this feeder, x feeds c: x is a leaf cell among its sources, and c is among the leaf cells of the cell that it
+-- targets from x
 abbrev pub FeedsBy : RuleSystem → Feed → ℕ → ℕ → Type 0
 FeedsBy w feed x c =
     IsLeafCell w x × (feed.source x ≡ true) × ((t : ℕ) × (w.target feed.target x ≡ Some t) × Contains (leaves_of w t) c)
@@ -25,8 +27,8 @@ abbrev pub Feeds : RuleSystem → ℕ → ℕ → Type 0
 Feeds w x c = Any (λ feed. FeedsBy w feed x c) w.feeds
 
 -- where chains begin: the stored cells and the leaf cells of dense cubes
-abbrev pub IsStart : RuleSystem → ℕ → Type 0
-IsStart w x = (IsCell w x × IsSome (w.stored x)) ⊎ IsDenseCell w x
+abbrev pub IsStart : RuleSystem → Stored → ℕ → Type 0
+IsStart w stored x = (IsCell w x × IsSome (stored x)) ⊎ IsDenseCell w x
 
 -- a chain of so many feeds leads from a to c
 abbrev pub Leads : RuleSystem → ℕ → ℕ → ℕ → Type 0
@@ -34,5 +36,5 @@ Leads w zero a c = a ≡ c
 Leads w (suc n) a c = (x : ℕ) × Leads w n a x × Feeds w x c
 
 -- the fed cells: the leaf cells of dense cubes, and the ends of all chains of one feed or more that begin at a start
-abbrev pub IsFed : RuleSystem → ℕ → Type 0
-IsFed w c = IsDenseCell w c ⊎ ((n a : ℕ) × IsStart w a × Leads w (suc n) a c)
+abbrev pub IsFed : RuleSystem → Stored → ℕ → Type 0
+IsFed w stored c = IsDenseCell w c ⊎ ((n a : ℕ) × IsStart w stored a × Leads w (suc n) a c)

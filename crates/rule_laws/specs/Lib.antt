@@ -2,8 +2,8 @@ pub mod Operation
 pub mod Meaning
 pub mod RuleSystem
 pub mod Order
+pub mod OrderByPlace
 pub mod Feeding
 pub mod ZeroTest
-pub mod Blame
 pub mod Cover
 pub mod Carry

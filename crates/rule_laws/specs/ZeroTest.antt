@@ -1,26 +1,33 @@
--- A test by cases that shows a formula to be 0 wherever its covered references are, with the operand that it is blamed on where it fails.
-use Rattle.std.specs.Prelude.{pos, Bool, true, false, not, ◌&&◌, ◌||◌, Option, Some, None, if◌then◌else◌}
+-- A test by cases that shows a formula to be 0 wherever its covered references, STET and CONTINUE are, with the operand
+-- that it is blamed on where it fails. What is found of a formula is said by what is found of its parts.
+use Rattle.std.specs.Prelude.{ℕ, ◌+◌, ℤ, pos, Bool, true, false, not, ◌&&◌, ◌||◌, min, if◌then◌else◌}
+use Rattle.std.specs.Prelude.{Option, Some, None, Result, Ok, Err}
 use Rattle.std.specs.Ordering.{int_eq}
 use Rattle.std.specs.Option.{option_map, option_map_or, option_or}
 use Rattle.cube_fixed.specs.declared.value.Value.{Value}
 use Rattle.cube_fixed.specs.declared.value.Value.TheVariants.{Num, Over}
 use Rattle.cube_fixed.specs.Arithmetic.{zero_value, opposite_of}
+use Rattle.rule_laws.specs.declared.finding.Finding.{Finding}
+use Rattle.rule_laws.specs.declared.finding.TruthFinding.{TruthFinding}
 use Rattle.rule_laws.specs.declared.reference.Reference.{Reference}
 use Rattle.rule_laws.specs.declared.formula.Formula.{Formula}
-use Rattle.rule_laws.specs.declared.formula.Formula.TheVariants.{Number, Stet, Ref, Binary', Unary', If'}
+use Rattle.rule_laws.specs.declared.formula.Formula.TheFolds.{fold-Formula, fold-Truth}
+use Rattle.rule_laws.specs.declared.formula.Formula.TheOpen.{Formula-F, Truth-F}
 use Rattle.rule_laws.specs.declared.formula.Truth.{Truth}
-use Rattle.rule_laws.specs.declared.formula.Truth.TheVariants.{Compare, And', Or', Not'}
 use Rattle.rule_laws.specs.declared.operation.Op.{Op}
 use Rattle.rule_laws.specs.declared.operation.Op.TheVariants.{Add, Sub, Mul, DivSafe, Div, Max, Min}
-use Rattle.rule_laws.specs.declared.operation.Fun.TheVariants.{Minus}
+use Rattle.rule_laws.specs.declared.operation.Fun.{Fun}
+use Rattle.rule_laws.specs.declared.operation.Fun.TheVariants.{Minus, Abs, Sign, Int, Round}
 use Rattle.rule_laws.specs.declared.operation.Rel.{Rel}
 use Rattle.rule_laws.specs.Operation.{comparison_of}
 
--- the value that a formula is written as: a Number, with or without minus
-abbrev pub written_value : Formula → Option Value
-written_value (Number k) = Some (Num k)
-written_value (Unary' Minus p (Number k)) = Some (opposite_of (Num k))
-written_value _ = None
+-- the value that a function of a formula is written as: minus of a number
+abbrev pub written_as : Fun → Option ℤ → Option Value
+written_as Minus number = option_map (λ k. opposite_of (Num k)) number
+written_as Abs number = None
+written_as Sign number = None
+written_as Int number = None
+written_as Round number = None
 
 -- whether a value is a number other than 0
 abbrev pub is_other_than_zero : Value → Bool
@@ -28,12 +35,12 @@ is_other_than_zero (Num k) = not (int_eq k (pos 0))
 is_other_than_zero Over = false
 
 -- whether a formula is written as a number other than 0
-abbrev pub is_divisor : Formula → Bool
-is_divisor f = option_map_or is_other_than_zero (written_value f) false
+abbrev pub is_divisor : Finding → Bool
+is_divisor a = option_map_or is_other_than_zero a.written false
 
 -- the value that a formula is known to have: the one that it is written as, else 0 where the formula is 0
-abbrev pub known_value : Formula → Bool → Option Value
-known_value f is_zero = option_or (written_value f) (if is_zero then Some zero_value else None)
+abbrev pub known_value : Finding → Option Value
+known_value a = option_or a.written (if a.is_zero then Some zero_value else None)
 
 -- a comparison is sure where both sides are known
 abbrev pub sure_comparison : Rel → Option Value → Option Value → Option Bool
@@ -73,20 +80,126 @@ zero_choice (Some true) a b = a
 zero_choice (Some false) a b = b
 zero_choice None a b = a && b
 
-abbrev mutual
-  -- whether a formula is 0 wherever its covered references and STET are
-  pub zero_test : (Reference → Bool) → Formula → Bool
-  zero_test covers (Number k) = int_eq k (pos 0)
-  zero_test covers Stet = true
-  zero_test covers (Ref r) = covers r
-  zero_test covers (Binary' op p a q b) = zero_operation op (zero_test covers a) (zero_test covers b) (is_divisor b)
-  zero_test covers (Unary' function p a) = zero_test covers a
-  zero_test covers (If' t truth p a q b) = zero_choice (sure_test covers truth) (zero_test covers a) (zero_test covers b)
+-- of two formulas that stand after so many operands: the operand of the first that isn't 0
+abbrev pub first_blamed : ℕ → Finding → Finding → ℕ
+first_blamed before a b = if a.is_zero then before + a.operands + b.blamed else before + a.blamed
 
-  -- the truth that a condition surely has there, or nothing
-  pub sure_test : (Reference → Bool) → Truth → Option Bool
-  sure_test covers (Compare rel a b) =
-      sure_comparison rel (known_value a (zero_test covers a)) (known_value b (zero_test covers b))
-  sure_test covers (And' p a q b) = sure_and (sure_test covers a) (sure_test covers b)
-  sure_test covers (Or' p a q b) = sure_or (sure_test covers a) (sure_test covers b)
-  sure_test covers (Not' p a) = option_map not (sure_test covers a)
+-- an operation that isn't 0: a sum is blamed on its first side that isn't, a product on its left side, and a quotient
+-- on its left side or, where its right side is written as no number other than 0, on the first operand of that
+abbrev pub blamed_side : Op → Finding → Finding → ℕ
+blamed_side Add a b = first_blamed 0 a b
+blamed_side Sub a b = first_blamed 0 a b
+blamed_side Max a b = first_blamed 0 a b
+blamed_side Min a b = first_blamed 0 a b
+blamed_side Mul a b = a.blamed
+blamed_side DivSafe a b = a.blamed
+blamed_side Div a b = if is_divisor b then a.blamed else a.operands + min 1 b.operands
+
+-- an IF that isn't 0: the branch that its condition surely takes, else the first branch that isn't
+abbrev pub blamed_branch : TruthFinding → Finding → Finding → ℕ
+blamed_branch truth a b = by_truth truth.sure
+  where
+    by_truth : Option Bool → ℕ
+    by_truth (Some true) = truth.operands + a.blamed
+    by_truth (Some false) = truth.operands + a.operands + b.blamed
+    by_truth None = first_blamed truth.operands a b
+
+abbrev pub of_number : ℤ → Finding
+of_number k = record { number = Some k; written = Some (Num k); is_zero = int_eq k (pos 0); operands = 1; blamed = 1 }
+
+-- an operand that is no number, and what is no operand
+abbrev pub of_operand : Bool → Finding
+of_operand zero = record { number = None; written = None; is_zero = zero; operands = 1; blamed = 1 }
+
+abbrev pub of_continue : Finding
+of_continue = record { number = None; written = None; is_zero = true; operands = 0; blamed = 0 }
+
+abbrev pub of_operation : Op → Finding → Finding → Finding
+of_operation op a b = record {
+  number = None;
+  written = None;
+  is_zero = zero_operation op a.is_zero b.is_zero (is_divisor b);
+  operands = a.operands + b.operands;
+  blamed = blamed_side op a b;
+}
+
+abbrev pub of_function : Fun → Finding → Finding
+of_function function a = record {
+  number = None;
+  written = written_as function a.number;
+  is_zero = a.is_zero;
+  operands = a.operands;
+  blamed = a.blamed;
+}
+
+abbrev pub of_choice : TruthFinding → Finding → Finding → Finding
+of_choice truth a b = record {
+  number = None;
+  written = None;
+  is_zero = zero_choice truth.sure a.is_zero b.is_zero;
+  operands = truth.operands + a.operands + b.operands;
+  blamed = blamed_branch truth a b;
+}
+
+abbrev pub finding_step : (Reference → Bool) → Formula-F Finding TruthFinding → Finding
+finding_step covers (Formula-F.Number k) = of_number k
+finding_step covers Formula-F.Stet = of_operand true
+finding_step covers Formula-F.Continue = of_continue
+finding_step covers (Formula-F.Children dim) = of_operand false
+finding_step covers (Formula-F.Ref r) = of_operand (covers r)
+finding_step covers (Formula-F.Binary op a b) = of_operation op a b
+finding_step covers (Formula-F.Unary function a) = of_function function a
+finding_step covers (Formula-F.If truth a b) = of_choice truth a b
+
+abbrev pub truth_finding_step : Truth-F Finding TruthFinding → TruthFinding
+truth_finding_step (Truth-F.Compare rel a b) =
+    record { sure = sure_comparison rel (known_value a) (known_value b); operands = a.operands + b.operands }
+truth_finding_step (Truth-F.And a b) = record { sure = sure_and a.sure b.sure; operands = a.operands + b.operands }
+truth_finding_step (Truth-F.Or a b) = record { sure = sure_or a.sure b.sure; operands = a.operands + b.operands }
+truth_finding_step (Truth-F.Not a) = record { sure = option_map not a.sure; operands = a.operands }
+
+-- what is found of a formula and of a condition, where `covers` tells which references are covered
+abbrev pub finding : (Reference → Bool) → Formula → Finding
+finding covers = fold-Formula Finding TruthFinding (finding_step covers) truth_finding_step
+
+abbrev pub truth_finding : (Reference → Bool) → Truth → TruthFinding
+truth_finding covers = fold-Truth Finding TruthFinding (finding_step covers) truth_finding_step
+
+-- whether a formula is 0 wherever its covered references, STET and CONTINUE are
+abbrev pub zero_test : (Reference → Bool) → Formula → Bool
+zero_test covers f = (finding covers f).is_zero
+
+-- the truth that a condition surely has there, or nothing
+abbrev pub sure_test : (Reference → Bool) → Truth → Option Bool
+sure_test covers truth = (truth_finding covers truth).sure
+
+-- the operand that a formula is blamed on where it isn't 0, counted from 1 in reading order
+abbrev pub blamed : (Reference → Bool) → Formula → ℕ
+blamed covers f = (finding covers f).blamed
+
+abbrev pub operands_step : Formula-F ℕ ℕ → ℕ
+operands_step (Formula-F.Number k) = 1
+operands_step Formula-F.Stet = 1
+operands_step Formula-F.Continue = 0
+operands_step (Formula-F.Children dim) = 1
+operands_step (Formula-F.Ref r) = 1
+operands_step (Formula-F.Binary op a b) = a + b
+operands_step (Formula-F.Unary function a) = a
+operands_step (Formula-F.If truth a b) = truth + a + b
+
+abbrev pub truth_operands_step : Truth-F ℕ ℕ → ℕ
+truth_operands_step (Truth-F.Compare rel a b) = a + b
+truth_operands_step (Truth-F.And a b) = a + b
+truth_operands_step (Truth-F.Or a b) = a + b
+truth_operands_step (Truth-F.Not a) = a
+
+-- how many operands a formula has: its numbers, references, STETs and ConsolidateChildrens; CONTINUE is none
+abbrev pub operands : Formula → ℕ
+operands = fold-Formula ℕ ℕ operands_step truth_operands_step
+
+abbrev pub operands_of_truth : Truth → ℕ
+operands_of_truth = fold-Truth ℕ ℕ operands_step truth_operands_step
+
+-- the verdict on a formula: Ok where it passes the zero test, else the operand that it is blamed on
+abbrev pub zero_verdict : (Reference → Bool) → Formula → Result (Unit {0}) ℕ
+zero_verdict covers f = if zero_test covers f then Ok tt else Err (blamed covers f)

@@ -7,14 +7,14 @@ use Rattle.std.proofs.lemmas.Bool.Decides.{nat_tests}
 use Rattle.std.proofs.lemmas.List.{nil_from_length}
 use Rattle.std.proofs.lemmas.List.Filters.{length-filter_both}
 use Rattle.std.proofs.lemmas.List.Elements.{Contains-append_left, Contains-append_right, Contains-append_cases, Contains-push, Contains-push_cases}
-use Rattle.rule_laws.specs.RuleSystem.{RuleSystem, IsCell, IsLeafCell}
+use Rattle.rule_laws.specs.RuleSystem.{RuleSystem, Stored, IsCell, IsLeafCell}
 use Rattle.rule_laws.specs.Feeding.{is_dense, IsDenseCell, FeedsBy, Feeds, IsStart, Leads, IsFed}
 use Rattle.rule_laws.proofs.SystemFacts.{both}
 use Rattle.rule_tables.specs.declared.tables.StatementRow.{StatementRow}
 use Rattle.rule_tables.specs.declared.tables.FeederRow.{FeederRow}
 use Rattle.rule_tables.specs.declared.tables.RuleTables.{RuleTables}
-use Rattle.rule_tables.specs.Tables.{system_of, rule_of, feed_of, has_cell}
-use Rattle.rule_tables.specs.FedCells.{fed_by_row, fed_from, is_dense_leaf, joins, AreReached}
+use Rattle.rule_tables.specs.Tables.{system_of, stored_of, rule_of, feed_of, has_cell}
+use Rattle.rule_tables.specs.Private.FedCells.{fed_by_row, fed_from, is_dense_leaf, joins, AreReached}
 
 -- ---- lists
 
@@ -189,12 +189,12 @@ feeds-fed_from t x c feeds =
 -- ---- chains
 
 -- what feeds from a cell where a chain begins or ends is the end of a chain
-reached-feeds : (w : RuleSystem) (x c : ℕ) → IsStart w x ⊎ IsFed w x → Feeds w x c → IsFed w c
-reached-feeds w x c (inl start) feeds = inr (0, x, start, (x, refl, feeds))
-reached-feeds w x c (inr (inl dense)) feeds = inr (0, x, inr dense, (x, refl, feeds))
-reached-feeds w x c (inr (inr chain)) feeds = inr (suc chain.0, chain.1, chain.2, (x, chain.3, feeds))
+reached-feeds : (w : RuleSystem) (stored : Stored) (x c : ℕ) → IsStart w stored x ⊎ IsFed w stored x → Feeds w x c → IsFed w stored c
+reached-feeds w stored x c (inl start) feeds = inr (0, x, start, (x, refl, feeds))
+reached-feeds w stored x c (inr (inl dense)) feeds = inr (0, x, inr dense, (x, refl, feeds))
+reached-feeds w stored x c (inr (inr chain)) feeds = inr (suc chain.0, chain.1, chain.2, (x, chain.3, feeds))
 
-chain-reached : (t : RuleTables) (cells : List ℕ) → AreReached t cells → (n a x : ℕ) → IsStart (system_of t) a → Leads (system_of t) n a x → IsCell (system_of t) x
+chain-reached : (t : RuleTables) (cells : List ℕ) → AreReached t cells → (n a x : ℕ) → IsStart (system_of t) (stored_of t) a → Leads (system_of t) n a x → IsCell (system_of t) x
     → Contains cells x
 chain-reached t cells reached zero a x start same cell = subst (λ c. Contains cells c) same (reached.starts a start)
 chain-reached t cells reached (suc n) a x start (y, leads, feeds) cell =
@@ -206,7 +206,7 @@ chain-reached t cells reached (suc n) a x start (y, leads, feeds) cell =
 -- so far: what is reached is a start or fed, and each cell of the tables is reached or waits
 pub record IsGrowing (t : RuleTables) (reached waiting : List ℕ) : Type 0 where
   pub inside : (c : ℕ) → Contains reached c → c < length t.cells
-  pub sound : (c : ℕ) → Contains reached c → IsStart (system_of t) c ⊎ IsFed (system_of t) c
+  pub sound : (c : ℕ) → Contains reached c → IsStart (system_of t) (stored_of t) c ⊎ IsFed (system_of t) (stored_of t) c
   pub within : (c : ℕ) → Contains waiting c → c < length t.cells
   pub every : (c : ℕ) → c < length t.cells → Contains reached c ⊎ Contains waiting c
 
@@ -222,28 +222,28 @@ module _ (t : RuleTables) where
       ((rw (is_cell t c) less, parts.0), parts.1)
 
   -- who joins
-  joins-start : (fed : List ℕ) (c : ℕ) → IsStart (system_of t) c → joins t fed c ≡ true
+  joins-start : (fed : List ℕ) (c : ℕ) → IsStart (system_of t) (stored_of t) c → joins t fed c ≡ true
   unfolding joins
   joins-start fed c (inl (cell, is)) = rw is refl
-  joins-start fed c (inr dense) = by (is_some ((system_of t).stored c)) refl
+  joins-start fed c (inr dense) = by (is_some (stored_of t c)) refl
     where
-      by : (b : Bool) → is_some ((system_of t).stored c) ≡ b → joins t fed c ≡ true
+      by : (b : Bool) → is_some (stored_of t c) ≡ b → joins t fed c ≡ true
       by true on = rw on refl
       by false off = let is : is_dense_leaf t c ≡ true = dense-is_dense_leaf c dense in rw (off, is) refl
 
   joins-fed : (fed : List ℕ) (c : ℕ) → Contains fed c → joins t fed c ≡ true
   unfolding joins
-  joins-fed fed c has = by (is_some ((system_of t).stored c) || is_dense_leaf t c) refl
+  joins-fed fed c has = by (is_some (stored_of t c) || is_dense_leaf t c) refl
     where
-      by : (b : Bool) → (is_some ((system_of t).stored c) || is_dense_leaf t c) ≡ b → joins t fed c ≡ true
+      by : (b : Bool) → (is_some (stored_of t c) || is_dense_leaf t c) ≡ b → joins t fed c ≡ true
       by true on = rw on refl
       by false off = rw off (has_cell-true fed c has)
 
-  joins-cases : (fed : List ℕ) (c : ℕ) → c < length t.cells → joins t fed c ≡ true → IsStart (system_of t) c ⊎ Contains fed c
+  joins-cases : (fed : List ℕ) (c : ℕ) → c < length t.cells → joins t fed c ≡ true → IsStart (system_of t) (stored_of t) c ⊎ Contains fed c
   unfolding joins
-  joins-cases fed c less is = by (is_some ((system_of t).stored c)) refl (is_dense_leaf t c) refl
+  joins-cases fed c less is = by (is_some (stored_of t c)) refl (is_dense_leaf t c) refl
     where
-      by : (b : Bool) → is_some ((system_of t).stored c) ≡ b → (d : Bool) → is_dense_leaf t c ≡ d → IsStart (system_of t) c ⊎ Contains fed c
+      by : (b : Bool) → is_some (stored_of t c) ≡ b → (d : Bool) → is_dense_leaf t c ≡ d → IsStart (system_of t) (stored_of t) c ⊎ Contains fed c
       by true on d dense = inl (inl (rw (is_cell t c) less, on))
       by false off true dense = inl (inr (is_dense_leaf-dense c less dense))
       by false off false none = inr (has_cell-has fed c (rw (off, none) at is))
@@ -253,13 +253,13 @@ module _ (t : RuleTables) where
     abbrev joining : ℕ → Bool
     joining = joins t (flat_map (fed_from t) reached)
 
-    joins-reached : IsGrowing t reached waiting → (c : ℕ) → c < length t.cells → joining c ≡ true → IsStart (system_of t) c ⊎ IsFed (system_of t) c
+    joins-reached : IsGrowing t reached waiting → (c : ℕ) → c < length t.cells → joining c ≡ true → IsStart (system_of t) (stored_of t) c ⊎ IsFed (system_of t) (stored_of t) c
     joins-reached growing c less is =
         elim (joins-cases (flat_map (fed_from t) reached) c less is) [
           | inl start ↦ inl start
           | inr fed ↦
               let from = flat_map-has (fed_from t) reached c fed in
-              inr (reached-feeds (system_of t) from.0 c (growing.sound from.0 from.1) (fed_from-feeds t from.0 c from.2))
+              inr (reached-feeds (system_of t) (stored_of t) from.0 c (growing.sound from.0 from.1) (fed_from-feeds t from.0 c from.2))
         ]
 
     pub IsGrowing-next : (more left : List ℕ) → IsGrowing t reached waiting → more ≡ reached ++ filter joining waiting
@@ -316,7 +316,7 @@ module _ (t : RuleTables) where
               | inr new ↦ absurd (has_none c (rw none at (has-filter joining waiting c new is)))
             ]
 
-        start-less : (c : ℕ) → IsStart (system_of t) c → c < length t.cells
+        start-less : (c : ℕ) → IsStart (system_of t) (stored_of t) c → c < length t.cells
         start-less c (inl (cell, is)) = rw (is_cell t c) at cell
         start-less c (inr dense) = rw (is_cell t c) at dense.0.0
 
@@ -343,21 +343,21 @@ module _ (t : RuleTables) where
   -- ---- the fed cells
 
   pub fed-exact : (cells all fed : List ℕ) → AreReached t cells → all ≡ flat_map (fed_from t) cells ++ filter (is_dense_leaf t) cells
-      → ((c : ℕ) → Contains fed c ↔ Contains all c) → (c : ℕ) → Contains fed c ↔ IsFed (system_of t) c
+      → ((c : ℕ) → Contains fed c ↔ Contains all c) → (c : ℕ) → Contains fed c ↔ IsFed (system_of t) (stored_of t) c
   fed-exact cells all fed reached is same c = (λ has. fed_if (rw is at (same c).0 has), λ ends. (same c).1 (rw is (has_if ends)))
     where
-      fed_if : Contains (flat_map (fed_from t) cells ++ filter (is_dense_leaf t) cells) c → IsFed (system_of t) c
+      fed_if : Contains (flat_map (fed_from t) cells ++ filter (is_dense_leaf t) cells) c → IsFed (system_of t) (stored_of t) c
       fed_if has =
           elim (Contains-append_cases (flat_map (fed_from t) cells) (filter (is_dense_leaf t) cells) c has) [
             | inl by_feed ↦
                 let from = flat_map-has (fed_from t) cells c by_feed in
-                reached-feeds (system_of t) from.0 c (reached.sound from.0 from.1) (fed_from-feeds t from.0 c from.2)
+                reached-feeds (system_of t) (stored_of t) from.0 c (reached.sound from.0 from.1) (fed_from-feeds t from.0 c from.2)
             | inr dense ↦
                 let kept = filter-has (is_dense_leaf t) cells c dense in
                 inl (is_dense_leaf-dense c (reached.within c kept.0) kept.1)
           ]
 
-      has_if : IsFed (system_of t) c → Contains (flat_map (fed_from t) cells ++ filter (is_dense_leaf t) cells) c
+      has_if : IsFed (system_of t) (stored_of t) c → Contains (flat_map (fed_from t) cells ++ filter (is_dense_leaf t) cells) c
       has_if (inl dense) =
           Contains-append_right (flat_map (fed_from t) cells) (filter (is_dense_leaf t) cells) c
           (has-filter (is_dense_leaf t) cells c (reached.starts c (inr dense)) (dense-is_dense_leaf c dense))

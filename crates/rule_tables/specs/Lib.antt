@@ -1,3 +1,2 @@
 pub mod Tables
-pub mod Evaluation
-pub mod FedCells
+pub mod Private

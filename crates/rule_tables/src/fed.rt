@@ -2,8 +2,8 @@ ghost use Rattle.std.specs.Prelude.{◌≡◌, ◌↔◌, ◌<◌, ◌++◌, ◌
 ghost use Rattle.std.specs.List.{filter, flat_map, list_any};
 ghost use Rattle.std.specs.List.Sorted.{IsStrictlyIncreasing};
 ghost use Rattle.rule_laws.specs.Feeding.{leaves_of, is_dense, IsFed};
-ghost use Rattle.rule_tables.specs.Tables.{system_of};
-ghost use Rattle.rule_tables.specs.FedCells.{fed_by_row, fed_from, is_dense_leaf, joins, AreReached};
+ghost use Rattle.rule_tables.specs.Tables.{system_of, stored_of};
+ghost use Rattle.rule_tables.specs.Private.FedCells.{fed_by_row, fed_from, is_dense_leaf, joins, AreReached};
 
 use crate::lookup::{below, cube_of, has_cell, is_leaf, skips_check, stored, target};
 use crate::tables::{FeederRow, RuleTables, StatementRow};
@@ -32,7 +32,7 @@ fn add_leaves(tables: &RuleTables, cell: u64, cells: &mut Vec<u64>) -> Result<()
 }
 
 /// Adds the cells that a leaf cell feeds by one feeder.
-#[tactic(auto, unfolding(crate::specs::FedCells::fed_by_row))]
+#[tactic(auto, unfolding(crate::specs::Private::FedCells::fed_by_row))]
 fn add_fed_by(
     tables: &RuleTables,
     source: u64,
@@ -52,7 +52,8 @@ fn add_fed_by(
 
 /// Adds the cells that a leaf cell feeds.
 fn add_fed_by_any(tables: &RuleTables, source: u64, cells: &mut Vec<u64>) -> Result<(), AllocError>
-    ensures { OnOk result (cells.new.items ≡ cells.old.items ++ flat_map (fed_by_row tables.now source) tables.now.feeders) }
+    ensures { OnOk result (cells.new.items ≡ cells.old.items
+        ++ flat_map (fed_by_row tables.now source) tables.now.feeders) }
 {
     for feeder in tables.feeders.as_slice() {
         add_fed_by(tables, source, feeder, cells)?;
@@ -61,7 +62,7 @@ fn add_fed_by_any(tables: &RuleTables, source: u64, cells: &mut Vec<u64>) -> Res
 }
 
 /// Adds the cells that a cell feeds.
-#[tactic(auto, unfolding(crate::specs::FedCells::fed_from))]
+#[tactic(auto, unfolding(crate::specs::Private::FedCells::fed_from))]
 fn add_fed_from(tables: &RuleTables, source: u64, cells: &mut Vec<u64>) -> Result<(), AllocError>
     ensures { OnOk result (cells.new.items ≡ cells.old.items ++ fed_from tables.now source) }
 {
@@ -98,7 +99,7 @@ fn is_dense(tables: &RuleTables, cube: u32) -> bool
 }
 
 /// Whether the cell is a leaf cell of a dense cube.
-#[tactic(auto, unfolding(crate::specs::FedCells::is_dense_leaf))]
+#[tactic(auto, unfolding(crate::specs::Private::FedCells::is_dense_leaf))]
 fn is_dense_leaf(tables: &RuleTables, cell: u64) -> bool
     ensures { result ≡ is_dense_leaf tables.now cell }
 {
@@ -106,22 +107,25 @@ fn is_dense_leaf(tables: &RuleTables, cell: u64) -> bool
 }
 
 /// Whether the cell begins a chain of feeds, or is among the cells that are fed by now.
-#[tactic(auto, unfolding(crate::specs::FedCells::joins))]
+#[tactic(auto, unfolding(crate::specs::Private::FedCells::joins))]
 fn joins(tables: &RuleTables, fed: &[u64], cell: u64) -> bool
     ensures { result ≡ joins tables.now fed.now cell }
 {
     stored(tables, cell).is_some() || is_dense_leaf(tables, cell) || has_cell(fed, cell)
 }
 
-/// One round of growth: of the waiting cells those join that begin a chain, or that one in the list feeds. The others are left.
+/// One round of growth: of the waiting cells those join that begin a chain, or that one in the list feeds. The others
+/// are left.
 fn grow(
     alloc: Global,
     tables: &RuleTables,
     reached: &mut Vec<u64>,
     waiting: &[u64],
 ) -> Result<Vec<u64>, AllocError>
-    ensures joined { OnOk result (reached.new.items ≡ reached.old.items ++ filter (joins tables.now (flat_map (fed_from tables.now) reached.old.items)) waiting.now) }
-    ensures left { IfOk result (λ left. left.items ≡ filter (λ cell. not (joins tables.now (flat_map (fed_from tables.now) reached.old.items) cell)) waiting.now) }
+    ensures joined { OnOk result (reached.new.items ≡ reached.old.items
+        ++ filter (joins tables.now (flat_map (fed_from tables.now) reached.old.items)) waiting.now) }
+    ensures left { IfOk result (λ left. left.items
+        ≡ filter (λ cell. not (joins tables.now (flat_map (fed_from tables.now) reached.old.items) cell)) waiting.now) }
 {
     let fed = fed_by(alloc, tables, reached.as_slice())?;
     let mut left = Vec::new(alloc);
@@ -172,10 +176,11 @@ fn add_dense(tables: &RuleTables, reached: &[u64], cells: &mut Vec<u64>) -> Resu
     Ok(())
 }
 
-/// The fed cells: the leaf cells of dense cubes, and the ends of all chains of one feed or more that begin in a stored cell or in a
-/// leaf cell of a dense cube (feeders of TM1 Rules).
+/// The fed cells: the leaf cells of dense cubes, and the ends of all chains of one feed or more that begin in a stored
+/// cell or in a leaf cell of a dense cube (feeders of TM1 Rules).
 pub fn fed_cells(alloc: Global, tables: &RuleTables) -> Result<Vec<u64>, AllocError>
-    ensures exact { IfOk result (λ fed. (cell : ℕ) → Contains fed.items cell ↔ IsFed (system_of tables.now) cell) }
+    ensures exact { IfOk result (λ fed. (cell : ℕ) → Contains fed.items cell
+        ↔ IsFed (system_of tables.now) (stored_of tables.now) cell) }
     ensures rising { IfOk result (λ fed. IsStrictlyIncreasing fed.items) }
 {
     let reached = reached_cells(alloc, tables)?;

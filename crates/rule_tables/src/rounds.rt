@@ -1,10 +1,10 @@
-ghost use Rattle.std.specs.Prelude.{◌≡◌, ℕ, ◌<◌, true, length, IfOk};
-ghost use Rattle.rule_laws.specs.RuleSystem.{dense_value};
-ghost use Rattle.rule_tables.specs.Tables.{system_of, has_small_sums};
-ghost use Rattle.rule_tables.specs.Evaluation.{IsNextRound};
+ghost use Rattle.std.specs.Prelude.{◌≡◌, ◌+◌, ℕ, ◌<◌, true, length, IfOk};
+ghost use Rattle.rule_laws.specs.RuleSystem.{depth, dense_value};
+ghost use Rattle.rule_tables.specs.Tables.{system_of, stored_of, has_small_sums};
+ghost use Rattle.rule_tables.specs.Private.Evaluation.{IsNextRound};
 
 use crate::evaluate::{right_side, value_at};
-use crate::lookup::rank;
+use crate::lookup::{level, rank};
 use crate::tables::RuleTables;
 use cube_fixed::Value;
 use std::alloc::{AllocError, Global};
@@ -26,14 +26,24 @@ fn next_round(
     Ok(next)
 }
 
-/// The dense value of a cell: that of plain rounds of evaluation over all cells, as many as its place in the order asks for.
+/// How many rounds a cell is given: one more than it is deep.
+#[tactic(auto, unfolding(crate::specs::Tables::system_of), using(crate::proofs::TableFacts::few_rounds))]
+fn rounds(tables: &RuleTables, cell: u64) -> u64
+    ensures { result ≡ depth (system_of tables.now) cell + 1 }
+{
+    let levels = u64::from(tables.levels);
+    levels * u64::from(rank(tables, cell)) + u64::from(level(tables, cell)) + 1
+}
+
+/// The dense value of a cell: that of plain rounds of evaluation over all cells, one more than the cell is deep by its
+/// place in the order and its level.
 pub fn dense_value(alloc: Global, tables: &RuleTables, cell: u64) -> Result<Value, AllocError>
     requires { has_small_sums tables.now.cells ≡ true }
-    ensures { IfOk result (λ value. value ≡ dense_value (system_of tables.now) cell) }
+    ensures { IfOk result (λ value. value ≡ dense_value (system_of tables.now) (stored_of tables.now) cell) }
 {
     // No values yet: each cell has 0.
     let mut values = Vec::new(alloc);
-    for _round in 0..2 * u64::from(rank(tables, cell)) + 2 {
+    for _round in 0..rounds(tables, cell) {
         values = next_round(alloc, tables, values.as_slice())?;
     }
     Ok(value_at(values.as_slice(), cell))

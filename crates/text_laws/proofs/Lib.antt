@@ -1,5 +1,3 @@
-pub mod Behind
-pub mod UserReaders
 pub mod UserTexts
 pub mod Blocks
 pub mod ModelPieces

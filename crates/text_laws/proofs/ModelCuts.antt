@@ -9,7 +9,8 @@ use Rattle.dim_text.specs.Building.{building}
 use Rattle.model_text.specs.Statement.{Piece, piece}
 use Rattle.model_text.specs.Watching.{Seen, with_block, of_block, BodyPasses, BodyBegins, BodyRefused, watching}
 use Rattle.model_text.specs.declared.fault.ModelTextFault.{ModelTextFault}
-use Rattle.text_laws.proofs.Blocks.{building_cuts, body_ends_itself, refused_at_once}
+use Rattle.dim_text.proofs.OneReading.{building_cuts, body_ends_itself}
+use Rattle.text_laws.proofs.Blocks.{refused_at_once}
 use Rattle.text_laws.proofs.ModelPieces.{piece_cuts, piece_has_token, piece_or_body, body_begins}
 
 -- A body.

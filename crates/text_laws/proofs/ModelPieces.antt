@@ -5,22 +5,22 @@ use Rattle.cube_lex.specs.Quoted.{unquoted}
 use Rattle.grammar.specs.Grammar.{Grammar, one, either, many}
 use Rattle.grammar.specs.Watch.{unscanned, each_text}
 use Rattle.grammar.specs.Reading.{gives, take_one, choose, both_of}
-use Rattle.grammar.specs.Tokens.{sign, text, is_sign, is_word, is_text_kind}
+use Rattle.grammar.specs.Tokens.{sign, text, located, is_sign, is_word, is_text, is_text_kind}
 use Rattle.grammar.specs.declared.cursor.Unwatched.{Unwatched}
 use Rattle.cube_lex.specs.declared.token.Kind.TheVariants as kinds
 use Rattle.grammar.proofs.Exact.{Exact, Always, exact_one, exact_gives, exact_then}
 use Rattle.grammar.proofs.Begins.{HasToken, Begins, begins_one, begins_both, begins_either, begins_behind, exact_or, has_token, made_is}
-use Rattle.grammar.proofs.Many.{Shortens, shortens}
+use Rattle.grammar.proofs.Lists.{listed_settles}
 use Rattle.grammar.proofs.Tokens.{sign_begins, word_begins, sign_no_word, word_no_sign, value_no_sign, value_no_word, text_is_value, when_picks, begins_any, sign_no_text}
 use Rattle.grammar.proofs.Cuts.{Cuts}
-use Rattle.grammar.proofs.Settles.{Settles, settles_one, settles_gives, settles_both, settles_choose, settles_all, EndsItself, ends_itself, text_cuts}
+use Rattle.grammar.proofs.Settles.{Settles, settles_one, settles_gives, settles_both, settles_choose, EndsItself, ends_itself, text_cuts}
 use Rattle.dim_text.specs.Statement.{element, ending, unit, body}
-use Rattle.dim_text.specs.Reading.{is_element_word}
+use Rattle.dim_text.specs.Readers.Reading.{is_element_word}
 use Rattle.dim_text.proofs.ElementExact.{element_begins, end_begins}
-use Rattle.model_text.specs.Statement.{Piece, Shown, located, dimension_word, cube_word, script_word, shown_text, first_dimension, next_dimension, cube_end, piece, next_rank}
+use Rattle.model_text.specs.Statement.{Piece, QuotedText, dimension_word, cube_word, script_word, shown_text, first_dimension, next_dimension, cube_end, piece}
 use Rattle.model_text.specs.Watching.{add}
-use Rattle.model_text.specs.Reading.{Plain, read_version, read_closing, read_dimension_word, read_cube_word, read_script_word, read_naming, read_script_file, read_dimension_behind, read_rule_file, read_rules, read_rank, read_next_rank, read_further_ranks, read_rank_list, read_listed, read_ranks, read_constant, read_index, read_position, read_next_position, read_further_positions, read_position_list, read_order_line, read_order, read_cube_end}
-use Rattle.model_text.proofs.PieceExact.{free, located_is, located_is_value, version_exact, closing_exact, dimension_word_exact, cube_word_exact, script_word_exact, dimension_behind_exact, cube_end_exact, next_rank_exact, next_position_shortens}
+use Rattle.model_text.specs.Readers.Reading.{Plain, read_version, read_closing, read_dimension_word, read_cube_word, read_script_word, read_naming, read_script_file, read_dimension_behind, read_rules, read_rank, read_ranks, read_position, read_order, read_cube_end}
+use Rattle.model_text.proofs.PieceExact.{free, located_is, located_is_value, version_exact, closing_exact, dimension_word_exact, cube_word_exact, script_word_exact, dimension_behind_exact, cube_end_exact}
 
 -- What settles.
 
@@ -56,55 +56,25 @@ pub dimension_behind_settles : (bytes : List ℕ) → Settles (read_dimension_be
 unfolding read_dimension_behind
 dimension_behind_settles bytes = settles_both (settles_one _ _) (λ _. settles_both (settles_one _ _) (λ n. settles_gives _))
 
-rule_file_settles : Settles read_rule_file
-unfolding read_rule_file
-rule_file_settles = settles_both (settles_one _ _) (λ line. settles_both (settles_one _ _) (λ bytes. settles_both (settles_one _ _) (λ _. settles_gives _)))
-
 rules_settles : Settles read_rules
 unfolding read_rules
-rules_settles = settles_choose _ rule_file_settles (settles_gives _)
+rules_settles = settles_choose _ (settles_both (settles_one _ _) (λ line. settles_both (settles_one _ _) (λ bytes. settles_both (settles_one _ _) (λ _. settles_gives _)))) (settles_gives _)
 
 rank_settles : Settles read_rank
 unfolding read_rank
 rank_settles = settles_both (settles_one _ _) (λ shown. settles_both (settles_one _ _) (λ n. settles_gives _))
 
-next_rank_settles : Settles read_next_rank
-unfolding read_next_rank
-next_rank_settles = settles_both (settles_one _ _) (λ _. rank_settles)
-
-next_rank_begins : Begins next_rank (is_sign (codes ",")) true
-next_rank_begins = begins_both (sign_begins (codes ",") (codes ","))
-
-next_rank_shortens : Shortens read_next_rank
-next_rank_shortens = shortens (is_sign (codes ",")) true next_rank_begins next_rank_exact
-
-rank_list_settles : Settles read_rank_list
-unfolding read_rank_list read_further_ranks
-rank_list_settles = settles_both rank_settles (λ first. settles_both (settles_all (is_sign (codes ",")) next_rank_shortens next_rank_settles) (λ rest. settles_gives _))
-
-listed_settles : (shown : List ℕ) → Settles (read_listed shown)
-unfolding read_listed
-listed_settles shown = settles_both (settles_one _ _) (λ _. settles_both rank_list_settles (λ list. settles_both (settles_one _ _) (λ _. settles_gives _)))
-
 ranks_settles : (shown : List ℕ) → Settles (read_ranks shown)
 unfolding read_ranks
-ranks_settles shown = settles_choose _ (listed_settles shown) (settles_gives _)
+ranks_settles shown = settles_choose _ (settles_both (settles_one _ _) (λ _. settles_both (listed_settles unscanned rank_settles) (λ list. settles_both (settles_one _ _) (λ _. settles_gives _)))) (settles_gives _)
 
 position_settles : Settles read_position
-unfolding read_position read_constant read_index
+unfolding read_position
 position_settles = settles_choose _ (settles_both (settles_one _ _) (λ n. settles_gives _)) (settles_both (settles_one _ _) (λ shown. ranks_settles shown))
 
-next_position_settles : Settles read_next_position
-unfolding read_next_position
-next_position_settles = settles_both (settles_one _ _) (λ _. position_settles)
-
-position_list_settles : Settles read_position_list
-unfolding read_position_list read_further_positions
-position_list_settles = settles_both position_settles (λ first. settles_both (settles_all (is_sign (codes ",")) next_position_shortens next_position_settles) (λ rest. settles_gives _))
-
 order_settles : Settles read_order
-unfolding read_order read_order_line
-order_settles = settles_choose _ (settles_both (settles_one _ _) (λ line. settles_both position_list_settles (λ list. settles_both (settles_one _ _) (λ _. settles_gives _)))) (settles_gives _)
+unfolding read_order
+order_settles = settles_choose _ (settles_both (settles_one _ _) (λ line. settles_both (listed_settles unscanned position_settles) (λ list. settles_both (settles_one _ _) (λ _. settles_gives _)))) (settles_gives _)
 
 pub cube_end_settles : Settles read_cube_end
 unfolding read_cube_end
@@ -113,19 +83,16 @@ cube_end_settles = settles_both (settles_one _ _) (λ _. settles_both (settles_o
 -- A quoted text.
 
 abbrev read_shown : Plain Piece
-read_shown = both_of (take_one unscanned (located text)) (λ n. gives (Shown n.0 n.1))
+read_shown = both_of (take_one unscanned (located text)) (λ n. gives (QuotedText n.0 n.1))
 
 abbrev sample : Lexeme
 sample = record { kind = kinds.Text; piece = 39 ∷ 97 ∷ 39 ∷ []; start = 0; line = 0 }
 
 shown_exact : Exact free shown_text shown_text read_shown Always
-shown_exact = exact_then (exact_one unscanned (located text) sample (0, 97 ∷ []) refl) (λ n. exact_gives free (Shown n.0 n.1))
+shown_exact = exact_then (exact_one unscanned (located text) sample (0, 97 ∷ []) refl) (λ n. exact_gives free (QuotedText n.0 n.1))
 
 shown_settles : Settles read_shown
 shown_settles = settles_both (settles_one _ _) (λ n. settles_gives _)
-
-abbrev is_text : Lexeme → Bool
-is_text t = is_text_kind t.kind
 
 shown_begins : Begins shown_text is_text true
 shown_begins = begins_both (begins_one (located text) is_text true (λ t x e. (when_picks (λ t. is_text_kind t.kind) (λ t. unquoted t.piece) t x.1 (located_is text t x e)).0))

@@ -2,29 +2,24 @@
 use Rattle.std.proofs.Common.{◌≡◌, ℕ, List, Some, Bool, true, false, Result, Ok, Err, codes, refl, sym, subst}
 use Rattle.cube_lex.specs.Lexeme.{Lexeme}
 use Rattle.grammar.specs.Watch.{unscanned}
-use Rattle.grammar.specs.Reading.{Dead, Refused, Spent, Read, Reader, gives, bound, take_one, let_through, checked_result, inside_result}
-use Rattle.grammar.specs.Tokens.{sign, word, name, is_sign, is_word}
+use Rattle.grammar.specs.Reading.{Unexpected, Refused, OutOfTurns, Read, Reader, gives, bound, take_one, let_through, checked_result, inside_result}
+use Rattle.grammar.specs.Tokens.{sign, word, name, located, is_sign, is_word}
 use Rattle.grammar.specs.declared.cursor.Unwatched.{Unwatched}
 use Rattle.grammar.proofs.Many.{IsSettled}
 use Rattle.grammar.proofs.Settles.{Settles, settles_gives, settles_both, settles_all, settles_checked, settles_inside}
 use Rattle.dim_text.specs.Progress.{Progress}
 use Rattle.dim_text.specs.Building.{opened, add}
-use Rattle.dim_text.specs.Reading.{read_elements, read_ending, read_closing, read_body, is_element_word}
+use Rattle.dim_text.specs.Readers.Reading.{read_elements, read_ending, read_closing, read_body, is_element_word}
 use Rattle.dim_text.specs.declared.fault.Refusal.{Refusal}
-use Rattle.grammar.proofs.Many.{shortens}
-use Rattle.dim_text.proofs.BlockExact.{element_built}
-use Rattle.dim_text.proofs.ElementExact.{element_begins}
-use Rattle.dim_text.proofs.OneReading.{element_ends, end_ends, close_ends}
-use Rattle.model_text.specs.Statement.{Piece, DimensionWord, Shown, Closing, located}
-use Rattle.model_text.specs.Gathering.{Current, DimensionDue, DimensionOpen, Parts, Given, at, unless, has_dimension, dimensions_are_full, with_shown, closed, gathered}
+use Rattle.dim_text.proofs.OneReading.{element_settles, end_settles, close_settles}
+use Rattle.model_text.specs.Statement.{Piece, DimensionWord, QuotedText, Closing}
+use Rattle.model_text.specs.Gathering.{Current, DimensionDue, DimensionOpen, Parts, Given, at, unless, has_dimension, dimensions_are_full, with_text, closed, gathered}
 use Rattle.model_text.specs.Watching.{Seen, with_given, head_of, with_block, of_block}
-use Rattle.model_text.specs.Reading as model
-use Rattle.model_text.specs.Reading.{Plain, Gatherer, gather, outside, body_from, read_version, read_dimension_word, read_naming, read_dimension_behind, gather_version, gather_closing, gather_dimension_word, gather_cube_word, gather_script_word, gather_naming, gather_script_file, gather_first_dimension, gather_further_dimensions, gather_cube_end, read_opening, read_dimension_head, read_cube_head, read_cube_dimensions, read_cube, read_script, read_cubes, read_scripts, read_dimension_body, read_dimension, read_dimensions, read_model}
+use Rattle.model_text.specs.Readers.Reading as model
+use Rattle.model_text.specs.Readers.Reading.{Plain, Gatherer, gather, outside, body_from, read_version, read_dimension_word, read_naming, read_dimension_behind, gather_version, gather_closing, gather_dimension_word, gather_cube_word, gather_script_word, gather_naming, gather_script_file, gather_first_dimension, gather_further_dimensions, gather_cube_end, read_opening, read_dimension_head, read_cube_head, read_cube_dimensions, read_cube, read_script, read_cubes, read_scripts, read_dimension_body, read_dimension, read_dimensions, read_model}
 use Rattle.model_text.specs.declared.fault.ModelTextFault.{ModelTextFault}
 use Rattle.model_text.specs.declared.fault.ModelTextCause.{ModelTextCause}
 use Rattle.model_text.specs.declared.fault.ModelTextCause.TheVariants as causes
-use Rattle.model_text.proofs.ModelExact.{dimension_shortens, cube_shortens, script_shortens, next_dimension_shortens}
-use Rattle.text_laws.proofs.Blocks.{settles_from}
 use Rattle.text_laws.proofs.ModelPieces.{version_settles, closing_settles, dimension_word_settles, cube_word_settles, script_word_settles, naming_settles, script_file_settles, dimension_behind_settles, cube_end_settles}
 
 -- Outside of bodies.
@@ -36,11 +31,11 @@ units : {R A : Type 0} {P : Reader Lexeme R ModelTextFault A} → Settles P → 
 units e = settles_both e (λ _. settles_gives tt)
 
 opening_settles : Settles read_opening
-unfolding read_opening gather_version gather_closing
+unfolding read_opening gather_version
 opening_settles = settles_both (units (gathers version_settles)) (λ _. units (gathers closing_settles))
 
 head_settles : Settles read_dimension_head
-unfolding read_dimension_head gather_dimension_word gather_naming gather_closing
+unfolding read_dimension_head gather_dimension_word gather_naming
 head_settles = settles_both (units (gathers dimension_word_settles)) (λ _. settles_both (units (gathers naming_settles)) (λ _. units (gathers closing_settles)))
 
 cube_head_settles : Settles read_cube_head
@@ -48,24 +43,24 @@ unfolding read_cube_head gather_cube_word gather_naming
 cube_head_settles = settles_both (units (gathers cube_word_settles)) (λ _. units (gathers naming_settles))
 
 cube_dimensions_settles : Settles read_cube_dimensions
-unfolding read_cube_dimensions gather_first_dimension gather_further_dimensions
-cube_dimensions_settles = settles_both (units (gathers (dimension_behind_settles (codes "(")))) (λ _. units (settles_all (is_sign (codes ",")) next_dimension_shortens (gathers (dimension_behind_settles (codes ",")))))
+unfolding read_cube_dimensions gather_further_dimensions
+cube_dimensions_settles = settles_both (units (gathers (dimension_behind_settles (codes "(")))) (λ _. units (settles_all (is_sign (codes ",")) (gathers (dimension_behind_settles (codes ",")))))
 
 cube_settles : Settles read_cube
 unfolding read_cube gather_cube_end
 cube_settles = settles_both cube_head_settles (λ _. settles_both cube_dimensions_settles (λ _. units (gathers cube_end_settles)))
 
 script_settles : Settles read_script
-unfolding read_script gather_script_word gather_naming gather_script_file gather_closing
+unfolding read_script gather_script_word gather_naming
 script_settles = settles_both (units (gathers script_word_settles)) (λ _. settles_both (units (gathers naming_settles)) (λ _. settles_both (units (gathers script_file_settles)) (λ _. units (gathers closing_settles))))
 
 cubes_settle : Settles read_cubes
 unfolding read_cubes
-cubes_settle = units (settles_all (is_word (codes "CUBE")) cube_shortens cube_settles)
+cubes_settle = units (settles_all (is_word (codes "CUBE")) cube_settles)
 
 scripts_settle : Settles read_scripts
 unfolding read_scripts
-scripts_settle = units (settles_all (is_word (codes "SCRIPT")) script_shortens script_settles)
+scripts_settle = units (settles_all (is_word (codes "SCRIPT")) script_settles)
 
 outside_settles : {P : Gatherer} → Settles P → Settles (outside P)
 outside_settles e = settles_inside (λ s. s.given) with_given (λ s fault. fault) e
@@ -74,17 +69,17 @@ outside_settles e = settles_inside (λ s. s.given) with_given (λ s fault. fault
 
 elements_settle : Settles read_elements
 unfolding read_elements
-elements_settle = settles_both (settles_all is_element_word (shortens is_element_word true element_begins element_built) (settles_checked (record {}) add (settles_from element_ends))) (λ _. settles_gives tt)
+elements_settle = settles_both (settles_all is_element_word (settles_checked (record {}) add element_settles)) (λ _. settles_gives tt)
 
 body_settles : Settles read_body
 unfolding read_body read_ending read_closing
-body_settles = settles_both elements_settle (λ _. settles_both (settles_both (settles_checked (record {}) add (settles_from end_ends)) (λ _. settles_gives tt)) (λ _. settles_both (settles_checked (record {}) add (settles_from close_ends)) (λ _. settles_gives tt)))
+body_settles = settles_both elements_settle (λ _. settles_both (settles_both (settles_checked (record {}) add end_settles) (λ _. settles_gives tt)) (λ _. settles_both (settles_checked (record {}) add close_settles) (λ _. settles_gives tt)))
 
 inside_settled : (s : Seen) (r : Read Lexeme Progress Refusal (Unit {0})) → IsSettled r → IsSettled (inside_result (with_block s) of_block r)
 inside_settled s (Ok x) h = tt
-inside_settled s (Err (Dead left)) h = tt
+inside_settled s (Err (Unexpected left)) h = tt
 inside_settled s (Err (Refused cause)) h = tt
-inside_settled s (Err Spent) h = h
+inside_settled s (Err OutOfTurns) h = h
 
 -- behind the head of a dimension
 IsBody : Given → Type 0
@@ -132,11 +127,11 @@ word_leaves g ts = made_leaves IsDue g DimensionWord (λ line. unless_then IsDue
 
 naming_leaves : (g : Given) (ts : List Lexeme) → IsDue g → Leaves IsOpen (gather_naming g ts)
 unfolding gather_naming read_naming IsDue IsOpen
-naming_leaves g ts (l, is) = made_leaves IsOpen g (λ n. Shown n.0 n.1) (λ n. subst (λ c. Then IsOpen (with_shown g.parts n.0 n.1 c)) (sym is)
+naming_leaves g ts (l, is) = made_leaves IsOpen g (λ n. QuotedText n.0 n.1) (λ n. subst (λ c. Then IsOpen (with_text g.parts n.0 n.1 c)) (sym is)
     (unless_then IsOpen (has_dimension g.parts n.1) n.0 causes.Duplicate g.parts (DimensionOpen l n.1) (l, n.1, refl))) (take_one unscanned (located name) (record {}) ts)
 
 closing_leaves : (g : Given) (ts : List Lexeme) → IsOpen g → Leaves IsBody (gather_closing g ts)
-unfolding gather_closing model.read_closing IsOpen IsBody
+unfolding model.read_closing IsOpen IsBody
 closing_leaves g ts (l, shown, is) = made_leaves IsBody g (λ _. Closing) (λ _. subst (λ c. IsBody (closed g.parts c)) (sym is) (opened l shown, refl)) (take_one unscanned (sign (codes ";")) (record {}) ts)
 
 head_leaves : (g : Given) (ts : List Lexeme) → Leaves IsBody (read_dimension_head g ts)
@@ -147,9 +142,9 @@ head_leaves g ts = bound_leaves IsDue IsBody (gather_dimension_word g ts) _ (wor
 
 dimension_settled : (s : Seen) (r : Read Lexeme Given ModelTextFault (Unit {0})) → IsSettled r → Leaves IsBody r → IsSettled (bound (inside_result (with_given s) (λ fault. fault) r) (λ _. read_dimension_body))
 dimension_settled s (Ok x) h body = body_from_settles (with_given s x.1) x.2 body
-dimension_settled s (Err (Dead left)) h body = tt
+dimension_settled s (Err (Unexpected left)) h body = tt
 dimension_settled s (Err (Refused cause)) h body = tt
-dimension_settled s (Err Spent) h body = h
+dimension_settled s (Err OutOfTurns) h body = h
 
 dimension_settles : Settles read_dimension
 unfolding read_dimension
@@ -157,7 +152,7 @@ dimension_settles = record { at = λ s ts. dimension_settled s (read_dimension_h
 
 dimensions_settle : Settles read_dimensions
 unfolding read_dimensions
-dimensions_settle = units (settles_all (is_word (codes "DIM")) dimension_shortens dimension_settles)
+dimensions_settle = units (settles_all (is_word (codes "DIM")) dimension_settles)
 
 pub model_settles : Settles read_model
 unfolding read_model

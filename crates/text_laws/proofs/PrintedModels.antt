@@ -1,9 +1,6 @@
 -- A printed model text reads back.
 use Rattle.std.proofs.Common.{◌≡◌, ◌≢◌, ◌≤◌, ℕ, List, [], ◌∷◌, ◌++◌, length, Option, Result, Ok, Err, refl, sym, ◌∙◌, subst}
-use Rattle.std.proofs.lemmas.List.{append_cancel_left}
-use Rattle.cube_lex.specs.Lexed.{Lexed}
-use Rattle.cube_lex.specs.Reading.{IsReading, text_limit}
-use Rattle.cube_lex.specs.declared.fault.LexFault.{LexFault}
+use Rattle.cube_lex.specs.Reading.{text_limit}
 use Rattle.model_text.specs.Answers.{IsModelText, IsFault, Answers}
 use Rattle.model_text.specs.Contents.{Contents}
 use Rattle.model_text.specs.Printed.{AreSameContents, IsTextOf, IsPrinted}
@@ -12,32 +9,26 @@ use Rattle.model_text.specs.declared.fault.ModelTextCause.TheVariants as causes
 use Rattle.text_laws.specs.PrintedModels.{IsReadAs, ReadsBack}
 use Rattle.text_laws.proofs.ModelTexts.{one_contents, no_model_fault}
 
--- an answer other than want of memory has a reading of the bytes
-record HasReading (bytes : List ℕ) : Type 0 where
-  lexed : Lexed
-  fault : Option LexFault
-  reading : IsReading bytes lexed fault
-
-refused_at : (bytes : List ℕ) (contents : Contents) (line : ℕ) (cause : ModelTextCause) → cause ≢ causes.Memory → HasReading bytes → IsTextOf contents bytes → length bytes ≤ text_limit → IsFault bytes line cause → ⊥
-refused_at bytes contents line cause some has text small is =
-    let (again, is_again, same) = text small has.lexed has.fault has.reading in
+refused_at : (bytes : List ℕ) (contents : Contents) (line : ℕ) (cause : ModelTextCause) → cause ≢ causes.Memory → IsTextOf contents bytes → length bytes ≤ text_limit → IsFault bytes line cause → ⊥
+refused_at bytes contents line cause some text small is =
+    let (again, is_again, same) = text small in
     no_model_fault bytes again (record { line = line; cause = cause }) some is_again is
 
 fault_as : (bytes : List ℕ) (contents : Contents) (line : ℕ) (cause : ModelTextCause) → IsTextOf contents bytes → length bytes ≤ text_limit → IsFault bytes line cause → cause ≡ causes.Memory
-fault_as bytes contents line causes.Syntax text small is = absurd (refused_at bytes contents line causes.Syntax (λ e. cc) (record { lexed = is.lexed; fault = is.fault; reading = is.reading }) text small is)
-fault_as bytes contents line causes.WrongVersion text small is = absurd (refused_at bytes contents line causes.WrongVersion (λ e. cc) (record { lexed = is.lexed; fault = is.fault; reading = is.reading }) text small is)
-fault_as bytes contents line causes.Duplicate text small is = absurd (refused_at bytes contents line causes.Duplicate (λ e. cc) (record { lexed = is.lexed; fault = is.fault; reading = is.reading }) text small is)
-fault_as bytes contents line causes.UnknownName text small is = absurd (refused_at bytes contents line causes.UnknownName (λ e. cc) (record { lexed = is.lexed; fault = is.fault; reading = is.reading }) text small is)
-fault_as bytes contents line causes.TooMany text small is = absurd (refused_at bytes contents line causes.TooMany (λ e. cc) (record { lexed = is.lexed; fault = is.fault; reading = is.reading }) text small is)
-fault_as bytes contents line (causes.Dim f) text small is = absurd (refused_at bytes contents line (causes.Dim f) (λ e. cc) (record { lexed = is.lexed; fault = is.fault; reading = is.reading }) text small is)
+fault_as bytes contents line causes.Syntax text small is = absurd (refused_at bytes contents line causes.Syntax (λ e. cc) text small is)
+fault_as bytes contents line causes.WrongVersion text small is = absurd (refused_at bytes contents line causes.WrongVersion (λ e. cc) text small is)
+fault_as bytes contents line causes.Duplicate text small is = absurd (refused_at bytes contents line causes.Duplicate (λ e. cc) text small is)
+fault_as bytes contents line causes.UnknownName text small is = absurd (refused_at bytes contents line causes.UnknownName (λ e. cc) text small is)
+fault_as bytes contents line causes.TooMany text small is = absurd (refused_at bytes contents line causes.TooMany (λ e. cc) text small is)
+fault_as bytes contents line (causes.Dim f) text small is = absurd (refused_at bytes contents line (causes.Dim f) (λ e. cc) text small is)
 fault_as bytes contents line causes.Memory text small is = refl
 
 read_as : (bytes : List ℕ) (contents : Contents) → IsTextOf contents bytes → length bytes ≤ text_limit → (answer : Result Contents _) → Answers bytes answer → IsReadAs contents answer
 read_as bytes contents text small (Ok x) is =
-    let (again, is_again, same) = text small is.text.lexed _ is.text.reading in
+    let (again, is_again, same) = text small in
     subst (AreSameContents contents) (one_contents bytes again x is_again is) same
 read_as bytes contents text small (Err fault) is = fault_as bytes contents fault.line fault.cause text small is
 
 pub reads_back : (contents : Contents) (old new bytes : List ℕ) → ReadsBack contents old new bytes
 reads_back contents old new bytes printed added small answer is =
-    read_as bytes contents (subst (IsTextOf contents) (append_cancel_left old printed.bytes bytes (sym printed.behind ∙ added)) printed.reads) small answer is
+    read_as bytes contents (printed.reads bytes added) small answer is

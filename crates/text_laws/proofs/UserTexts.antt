@@ -10,7 +10,8 @@ use Rattle.user_text.specs.declared.fault.TooMany.{TooMany}
 use Rattle.user_text.specs.declared.fault.UserFault.{UserFault}
 use Rattle.user_text.specs.declared.fault.UserFault.TheVariants as faults
 use Rattle.text_laws.specs.UserAnswers.{AreCommands, IsUserFault, OneUserAnswer}
-use Rattle.text_laws.proofs.UserReaders.{user_exact, user_settles}
+use Rattle.user_text.proofs.Settled.{user_settles}
+use Rattle.user_text.proofs.UserExact.{user_exact}
 
 pub user_has_one_answer : (before : ℕ) → HasOneAnswer user counting (counted_from before)
 user_has_one_answer before = has_one_answer user counting (counted_from before) (token_cuts count) user_exact refl user_settles

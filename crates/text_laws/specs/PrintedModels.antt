@@ -14,4 +14,6 @@ IsReadAs contents (Err fault) = fault.cause ≡ causes.Memory
 
 -- where the bytes that were added aren't too many for a text, whatever is answered of them is the contents
 abbrev pub ReadsBack : Contents → List ℕ → List ℕ → List ℕ → Type 0
-ReadsBack contents old new bytes = IsPrinted contents old new → new ≡ old ++ bytes → length bytes ≤ text_limit → (answer : Result Contents ModelTextFault) → Answers bytes answer → IsReadAs contents answer
+ReadsBack contents old new bytes =
+    IsPrinted contents old new → new ≡ old ++ bytes → length bytes ≤ text_limit
+    → (answer : Result Contents ModelTextFault) → Answers bytes answer → IsReadAs contents answer

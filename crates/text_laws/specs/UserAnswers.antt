@@ -16,5 +16,7 @@ IsUserFault bytes before fault = Answers {X = List UserCommand} (λ x. x) bytes 
 -- There are one list of commands, or one first fault, and not both. Want of memory says nothing of the text.
 pub record OneUserAnswer (bytes : List ℕ) (before : ℕ) : Type 0 where
   pub one_list : (x y : List UserCommand) → AreCommands bytes before x → AreCommands bytes before y → x ≡ y
-  pub one_fault : (e f : UserFault) → e ≢ faults.Memory → f ≢ faults.Memory → IsUserFault bytes before e → IsUserFault bytes before f → e ≡ f
-  pub not_both : (x : List UserCommand) (e : UserFault) → e ≢ faults.Memory → AreCommands bytes before x → IsUserFault bytes before e → ⊥
+  pub one_fault : (e f : UserFault) → e ≢ faults.Memory → f ≢ faults.Memory
+      → IsUserFault bytes before e → IsUserFault bytes before f → e ≡ f
+  pub not_both : (x : List UserCommand) (e : UserFault) → e ≢ faults.Memory
+      → AreCommands bytes before x → IsUserFault bytes before e → ⊥

@@ -1,2 +1,3 @@
 mod SessionFacts
+mod ServeFacts
 mod Totals

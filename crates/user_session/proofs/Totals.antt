@@ -1,5 +1,5 @@
 -- Going over the stored cells by cell.
-use Rattle.std.proofs.Common.{◌≡◌, ℕ, ◌+◌, ◌<◌, ◌≤◌, ℤ, pos, ◌+ℤ◌, ◌*ℤ◌, suc, List, [], ◌∷◌, ◌++◌, length, Option, Some, None, filter, find, fold, refl, sym, ap, ◌∙◌, subst, true, false, ltb, leb, arith, inl, inr, All, Bool, if◌then◌else◌, zero, Result, Ok, Err, OnOk}
+use Rattle.std.proofs.Common.{◌≡◌, ℕ, ◌+◌, ◌<◌, ◌≤◌, ℤ, pos, ◌+ℤ◌, ◌*ℤ◌, suc, List, [], ◌∷◌, ◌++◌, length, Some, None, fold, refl, sym, ap, subst, true, false, ltb, arith, inl, inr, All, Bool, if◌then◌else◌, zero, Result, Ok, Err, OnOk}
 use Rattle.std.proofs.Common.{to_z, of_z, w64, unsigned_abs}
 use Rattle.std.proofs.lemmas.Int.{to_z-of_z, ints}
 use mir.Val.{SFits}

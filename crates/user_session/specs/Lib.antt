@@ -1,2 +1,4 @@
+pub mod Content
+pub mod Replies
 pub mod Planning
-pub mod Session
+pub mod Inside

@@ -1,5 +1,6 @@
 -- What a planner's commands do on the stored cells.
-use Rattle.std.specs.Prelude.{ℕ, nat_lt, ℤ, pos, ◌+ℤ◌, ◌*ℤ◌, List, [], ◌∷◌, length, fold, Option, Some, None, not, if◌then◌else◌}
+use Rattle.std.specs.Prelude.{ℕ, nat_lt, ℤ, pos, ◌+ℤ◌, ◌*ℤ◌, List, [], ◌∷◌, length, fold, Option, Some, None, not}
+use Rattle.std.specs.Prelude.{if◌then◌else◌}
 use Rattle.cube_fixed.specs.Arithmetic.{fit}
 use Rattle.cube_fixed.specs.declared.value.Value.{Value}
 use Rattle.cube_fixed.specs.declared.value.Value.TheVariants.{Num}
@@ -8,13 +9,15 @@ use Rattle.cell_store.specs.declared.entry.Entry.{Entry}
 use Rattle.cube_space.specs.Cells.{is_leaf_cell}
 use Rattle.cube_space.specs.Layout.{Layout}
 use Rattle.history.specs.declared.effect.Effect.{Effect}
-use Rattle.history.specs.declared.effect.Effect.TheVariants.{Commit, Rejected, Read}
+use Rattle.history.specs.declared.effect.Effect.TheVariants as effects
 use Rattle.rule_core.specs.BoundModel.{BoundModel, cell_named, weight}
+use Rattle.user_session.specs.Content.{Content}
+use Rattle.user_session.specs.Replies.{reply_text}
 use Rattle.user_session.specs.declared.command.PlanCommand.{PlanCommand}
 use Rattle.user_session.specs.declared.command.PlanCommand.TheVariants.{Put, Get}
+use Rattle.user_session.specs.declared.reply.Reason.{Reason}
 use Rattle.user_session.specs.declared.reply.Reason.TheVariants.{UnknownName, NotALeaf, StoreLimit}
-use Rattle.user_session.specs.declared.reply.Reply.{Reply}
-use Rattle.user_session.specs.declared.reply.Reply.TheVariants as replies
+use Rattle.user_session.specs.declared.reply.Reply.TheVariants.{Committed, Rejected, Found, Refused}
 use Rattle.user_text.specs.declared.command.CellText.{CellText}
 
 -- the most cells that may be stored
@@ -27,28 +30,39 @@ named_cell model text = cell_named model.space text.cube text.elements
 
 -- the exact sum of the stored numbers, each as often as its cell counts in this one
 unfoldable pub weighted_sum : Layout → ℕ → List Entry → ℤ
-weighted_sum space cell content = fold (λ sum entry. sum +ℤ (weight space cell entry.cell *ℤ entry.number)) (pos 0) content
+weighted_sum space cell stored =
+    fold (λ sum entry. sum +ℤ (weight space cell entry.cell *ℤ entry.number)) (pos 0) stored
 
--- the value of a cell: a leaf cell has what is stored, 0 where nothing is; a consolidated cell has the weighted sum of what
--- is stored below it, whose range is tested once, at the end
+-- the value of a cell: a leaf cell has what is stored, 0 where nothing is; a consolidated cell has the weighted sum of
+-- what is stored below it, whose range is tested once, at the end
 unfoldable pub value_at : BoundModel → List Entry → ℕ → Value
-value_at model content cell =
-    if is_leaf_cell model.space cell then Num (number_at content cell) else fit (weighted_sum model.space cell content)
+value_at model stored cell =
+    if is_leaf_cell model.space cell then Num (number_at stored cell) else fit (weighted_sum model.space cell stored)
+
+-- what a command does: the writes of cells and the text of the reply
+abbrev pub PlanEffect : Type 0
+PlanEffect = Effect (List (ℕ × ℤ)) (List ℕ)
+
+abbrev pub rejected : Reason → PlanEffect
+rejected reason = effects.Rejected (reply_text (Rejected reason))
+
+abbrev pub committed : List (ℕ × ℤ) → PlanEffect
+committed writes = effects.Commit writes (reply_text (Committed (length writes)))
 
 -- a write of this number into a cell: the first reason that holds against it, or the one write
-abbrev pub put_effect : BoundModel → List Entry → Option ℕ → ℤ → Effect (List (ℕ × ℤ)) Reply
-put_effect model content None number = Rejected (replies.Rejected UnknownName)
-put_effect model content (Some cell) number =
-    if not (is_leaf_cell model.space cell) then Rejected (replies.Rejected NotALeaf)
-    else if nat_lt most_cells (length (after_writes content ((cell, number) ∷ []))) then Rejected (replies.Rejected StoreLimit)
-    else Commit ((cell, number) ∷ []) (replies.Committed 1)
+abbrev pub put_effect : Content → Option ℕ → ℤ → PlanEffect
+put_effect content None number = rejected UnknownName
+put_effect content (Some cell) number =
+    if not (is_leaf_cell content.model.space cell) then rejected NotALeaf
+    else if nat_lt most_cells (length (after_writes content.stored ((cell, number) ∷ []))) then rejected StoreLimit
+    else committed ((cell, number) ∷ [])
 
 -- a question for the value of a cell
-abbrev pub get_effect : BoundModel → List Entry → Option ℕ → Effect (List (ℕ × ℤ)) Reply
-get_effect model content None = Read (replies.Refused UnknownName)
-get_effect model content (Some cell) = Read (replies.Found (value_at model content cell))
+abbrev pub get_effect : Content → Option ℕ → PlanEffect
+get_effect content None = effects.Read (reply_text (Refused UnknownName))
+get_effect content (Some cell) = effects.Read (reply_text (Found (value_at content.model content.stored cell)))
 
--- what a command does where these cells are stored
-abbrev pub effect : BoundModel → List Entry → PlanCommand → Effect (List (ℕ × ℤ)) Reply
-effect model content (Put text number) = put_effect model content (named_cell model text) number
-effect model content (Get text) = get_effect model content (named_cell model text)
+-- what a command does on this content
+abbrev pub effect : Content → PlanCommand → PlanEffect
+effect content (Put text number) = put_effect content (named_cell content.model text) number
+effect content (Get text) = get_effect content (named_cell content.model text)

@@ -1,4 +1,12 @@
-use cube_fixed::Value;
+ghost use Rattle.std.specs.Prelude.{◌≡◌, ◌++◌, IfOk};
+ghost use Rattle.user_session.specs.Replies.{reason_text, reply_text};
+
+use cube_fixed::{Value, print};
+use lists::ListOf;
+use std::alloc::{AllocError, Global};
+
+/// What a user is told of a command, as text without the end of its line.
+pub type ReplyText = ListOf<u8>;
 
 /// Why a command has no effect. Where several reasons hold, the first is told.
 #[derive(Clone, Copy, Debug, PartialEq, Eq)]
@@ -22,4 +30,45 @@ pub enum Reply {
     Found(Value),
     /// A reading command has no answer.
     Refused(Reason),
+}
+
+impl Reply {
+    /// `committed N`, `rejected REASON`, the value, or `refused REASON`.
+    pub(crate) fn text(self, alloc: Global) -> Result<ReplyText, AllocError>
+        ensures { IfOk result (λ text. text ≡ reply_text self) }
+    {
+        let text = match self {
+            Reply::Committed(cells) => format!(in alloc; "committed {cells}")?.into_bytes(),
+            Reply::Rejected(reason) => reason_text(alloc, b"rejected ", reason)?,
+            Reply::Found(value) => value_text(alloc, value)?,
+            Reply::Refused(reason) => reason_text(alloc, b"refused ", reason)?,
+        };
+        Ok(ListOf::new(text))
+    }
+}
+
+fn reason_text(alloc: Global, word: &[u8], reason: Reason) -> Result<Vec<u8>, AllocError>
+    ensures { IfOk result (λ text. text.items ≡ word.now ++ reason_text reason) }
+{
+    let mut text = Vec::from_slice(alloc, word)?;
+    text.extend_from_slice(reason_name(reason).as_bytes())?;
+    Ok(text)
+}
+
+fn reason_name(reason: Reason) -> &'static str
+    ensures { result.now ≡ reason_text reason }
+{
+    match reason {
+        Reason::UnknownName => "UnknownName",
+        Reason::NotALeaf => "NotALeaf",
+        Reason::StoreLimit => "StoreLimit",
+    }
+}
+
+fn value_text(alloc: Global, value: Value) -> Result<Vec<u8>, AllocError>
+    ensures { IfOk result (λ text. text.items ≡ reply_text (Reply.Found value)) }
+{
+    let mut text = Vec::new(alloc);
+    print(alloc, value, &mut text)?;
+    Ok(text)
 }

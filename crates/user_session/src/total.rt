@@ -2,13 +2,14 @@ ghost use Rattle.std.specs.Prelude.{◌≡◌};
 ghost use Rattle.cube_fixed.specs.Arithmetic.{fit};
 ghost use Rattle.cube_space.specs.Cells.{IsCell};
 ghost use Rattle.user_session.specs.Planning.{value_at, weighted_sum};
-ghost use Rattle.user_session.specs.Session.{AreCells};
+ghost use Rattle.user_session.specs.Inside.Lists.{AreCells};
 
 use cell_store::Store;
 use cube_fixed::{Sum, Value};
 use rule_core::{Model, weight};
 
-/// The value of a cell: what is stored in a leaf cell, and the weighted sum of what is stored below a consolidated cell.
+/// The value of a cell: what is stored in a leaf cell, and the weighted sum of what is stored below a consolidated
+/// cell.
 pub(crate) fn value_at(model: &Model, store: &Store, cell: u64) -> Value
     requires cell { IsCell model.now.space cell }
     requires stored { AreCells model.now.space store.now }

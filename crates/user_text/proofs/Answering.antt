@@ -6,13 +6,13 @@ use Rattle.cube_lex.specs.Reading.{IsReading}
 use Rattle.cube_lex.specs.declared.fault.LexFault.{LexFault}
 use Rattle.cube_lex.specs.declared.token.Token.{Token}
 use Rattle.grammar.specs.Cursor.{lexemes, Gives, Reads}
-use Rattle.grammar.specs.Whole.{AnswersWhole, settled}
+use Rattle.grammar.specs.Whole.{AnswersWhole, answer_of_text}
 use Rattle.grammar.specs.declared.answer.TextFault.{TextFault}
 use Rattle.grammar.specs.declared.cursor.Cursor.{Cursor}
 use Rattle.grammar.specs.declared.stop.Stop.{Stop}
 use Rattle.grammar.proofs.WholeTexts.{whole_told}
 use Rattle.user_text.specs.Counting.{counting}
-use Rattle.user_text.specs.Reading.{read_user}
+use Rattle.user_text.specs.Readers.Reading.{read_user}
 use Rattle.user_text.specs.UserText.{user}
 use Rattle.user_text.specs.declared.command.UserCommand.{UserCommand}
 use Rattle.user_text.specs.declared.counted.Counted.{Counted}
@@ -20,7 +20,7 @@ use Rattle.user_text.specs.declared.fault.TooMany.{TooMany}
 use Rattle.user_text.proofs.UserExact.{user_exact}
 
 pub answered : {X : Type 0} (view : X → List UserCommand) (bytes : List ℕ) (start : Counted) (lexed : Lexed) (fault : Option LexFault) (given : List Token) (read : Result X (Stop TooMany)) (old new : Cursor Counted) (answer : Result X (TextFault TooMany))
-    → IsReading bytes lexed fault → map lexeme_of given ≡ lexed.lexemes → old.tokens.now ≡ given → old.state ≡ start → Reads view read_user old read new → answer ≡ settled lexed fault read (lexemes new.tokens.now)
+    → IsReading bytes lexed fault → map lexeme_of given ≡ lexed.lexemes → old.tokens.now ≡ given → old.state ≡ start → Reads view read_user old read new → answer ≡ answer_of_text lexed fault read (lexemes new.tokens.now)
     → AnswersWhole view user counting start bytes answer
 answered view bytes start lexed fault given read old new answer reading same tokens state reads is =
     let all : lexemes old.tokens.now ≡ lexed.lexemes = ap lexemes tokens ∙ same in

@@ -1,45 +1,28 @@
 -- The readers of names, cells and numbers are exact, and so are those of PUT and GET.
-use Rattle.std.proofs.Common.{ℕ, List, ◌∷◌, true, false, codes}
+use Rattle.std.proofs.Common.{ℕ, List, false, codes}
 use Rattle.std.specs.Str.{bytes_eq}
 use Rattle.cube_lex.specs.Lexeme.{Lexeme}
 use Rattle.grammar.specs.Grammar.{Grammar, one, both, done}
-use Rattle.grammar.specs.Tokens.{sign, name, is_sign, is_word}
-use Rattle.grammar.proofs.Exact.{Exact, Always, Not, exact_gives, exact_then, exact_made}
-use Rattle.grammar.proofs.Begins.{Begins, begins_both, exact_option, exact_before_next}
-use Rattle.grammar.proofs.Many.{exact_rest}
+use Rattle.grammar.specs.Tokens.{sign, is_sign, is_word}
+use Rattle.grammar.proofs.Exact.{Exact, Always, exact_gives, exact_then}
+use Rattle.grammar.proofs.Begins.{Begins, begins_both, exact_before_next}
+use Rattle.grammar.proofs.Lists.{names_exact, minus_exact}
 use Rattle.grammar.proofs.Tokens.{exact_sign, exact_word, exact_name, exact_money, sign_begins, sign_no_word, value_no_sign, money_is_value}
 use Rattle.user_text.specs.Counting.{count, counting}
-use Rattle.user_text.specs.UserText.{names, cell, minus, signed, amount, put, get}
-use Rattle.user_text.specs.Reading.{read_next_name, read_further_names, read_names, read_cell, read_minus, read_amount, read_put, read_get}
+use Rattle.user_text.specs.UserText.{cell, signed, amount, put, get}
+use Rattle.user_text.specs.Readers.Reading.{read_cell, read_amount, read_put, read_get}
 use Rattle.user_text.specs.declared.command.UserBody.TheVariants as bodies
 use Rattle.user_text.specs.declared.command.UserCommand.{UserCommand}
 
--- `, name`
-abbrev pub next_name : Grammar Lexeme (List ℕ)
-next_name = both (one (sign (codes ","))) (λ _. one name)
-
-next_name_exact : Exact counting next_name next_name read_next_name Always
-unfolding read_next_name
-next_name_exact = exact_then (exact_sign count (codes ",")) (λ _. exact_name count)
-
-pub names_exact : Exact counting names names read_names (Not (is_sign (codes ",")))
-unfolding read_names read_further_names
-names_exact = exact_then (exact_name count) (λ first. exact_made (λ rest. first ∷ rest)
-    (exact_rest (is_sign (codes ",")) (begins_both (sign_begins (codes ",") (codes ","))) (begins_both (sign_begins (codes ",") (codes ","))) next_name_exact))
-
 pub cell_exact : Exact counting cell cell read_cell Always
 unfolding read_cell
-cell_exact = exact_then (exact_name count) (λ cube. exact_then (exact_sign count (codes "(")) (λ _. exact_before_next names_exact
+cell_exact = exact_then (exact_name count) (λ cube. exact_then (exact_sign count (codes "(")) (λ _. exact_before_next (names_exact count)
     (λ elements. exact_then (exact_sign count (codes ")")) (λ _. exact_gives counting (record { cube = cube; elements = elements })))
     (λ elements. begins_both (sign_begins (codes ")") (codes ",")))))
 
-minus_exact : Exact counting minus minus read_minus (Not (is_sign (codes "-")))
-unfolding read_minus
-minus_exact = exact_option (is_sign (codes "-")) false (begins_both (sign_begins (codes "-") (codes "-"))) (exact_then (exact_sign count (codes "-")) (λ _. exact_gives counting true))
-
 pub amount_exact : Exact counting amount amount read_amount Always
 unfolding read_amount
-amount_exact = exact_before_next minus_exact
+amount_exact = exact_before_next (minus_exact count)
     (λ negative. exact_then (exact_money count) (λ number. exact_gives counting (signed negative number)))
     (λ negative. begins_both (value_no_sign money_is_value (codes "-")))
 

@@ -4,3 +4,4 @@ pub mod LoadExact
 pub mod ViewExact
 pub mod UserExact
 pub mod Answering
+pub mod Settled

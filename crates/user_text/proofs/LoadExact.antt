@@ -2,20 +2,17 @@
 use Rattle.std.proofs.Common.{ℕ, List, [], ◌∷◌, ◌++◌, Option, Some, None, true, false, codes, ◌∙◌, ap}
 use Rattle.cube_lex.specs.Lexeme.{Lexeme}
 use Rattle.grammar.specs.Grammar.{Grammar, one, both, done}
-use Rattle.grammar.specs.After.{many_after}
 use Rattle.grammar.specs.Reading.{starts}
-use Rattle.grammar.specs.Tokens.{sign, word, file, is_sign, is_word}
+use Rattle.grammar.specs.Tokens.{word, file, is_sign, is_word, is_text}
 use Rattle.grammar.proofs.Exact.{Exact, Always, Not, exact_gives, exact_then, exact_both, exact_made, exact_choose}
 use Rattle.grammar.proofs.Begins.{Begins, begins_both, begins_optional, exact_or, exact_option, starts_text}
-use Rattle.grammar.proofs.Many.{Shortens, shortens}
 use Rattle.grammar.proofs.After.{exact_rest_after}
 use Rattle.grammar.proofs.Tokens.{exact_sign, exact_word, exact_name, exact_file, exact_text, exact_whole_number, sign_begins, word_begins, text_begins, sign_no_text, money_no_text}
 use Rattle.user_text.specs.Counting.{count, counting}
-use Rattle.user_text.specs.UserText.{skip, source, value, param, with_params, load}
-use Rattle.user_text.specs.Reading.{is_text, read_skip, read_source, read_value, read_param, read_next_param, read_further_params, read_params, read_load}
+use Rattle.user_text.specs.UserText.{skip, source, value, param, next_param, params_behind, with_params, loading, load}
+use Rattle.user_text.specs.Readers.Reading.{read_skip, read_source, read_value, read_param, read_next_param, read_further_params, read_params, read_load}
 use Rattle.user_text.specs.declared.command.ParamText.{ParamText}
 use Rattle.user_text.specs.declared.command.ParamText.TheVariants as params
-use Rattle.user_text.specs.declared.command.UserBody.TheVariants as bodies
 use Rattle.user_text.specs.declared.command.UserCommand.{UserCommand}
 use Rattle.user_text.proofs.CellExact.{amount_exact, closed, closed_sign, closed_word}
 use Rattle.user_text.proofs.NewVariables.{exact_new_variable}
@@ -54,10 +51,6 @@ param_exact : (before : List (List ℕ × ParamText)) → Exact counting (param 
 unfolding read_param
 param_exact before = exact_then (exact_new_variable before) (λ variable. exact_then (exact_sign count (codes "=")) (λ _. exact_then value_exact (λ given. exact_gives counting (variable, given))))
 
--- `, param`
-abbrev next_param : List (List ℕ × ParamText) → Grammar Lexeme (List ℕ × ParamText)
-next_param before = both (one (sign (codes ","))) (λ _. param before)
-
 next_param_exact : (before : List (List ℕ × ParamText)) → Exact counting (next_param before) (next_param before) (read_next_param before) Always
 unfolding read_next_param
 next_param_exact before = exact_then (exact_sign count (codes ",")) (λ _. param_exact before)
@@ -65,19 +58,12 @@ next_param_exact before = exact_then (exact_sign count (codes ",")) (λ _. param
 next_param_begins : (before : List (List ℕ × ParamText)) → Begins (next_param before) (is_sign (codes ",")) true
 next_param_begins before = begins_both (sign_begins (codes ",") (codes ","))
 
-pub next_param_shortens : (before : List (List ℕ × ParamText)) → Shortens (read_next_param before)
-next_param_shortens before = shortens (is_sign (codes ",")) true (next_param_begins before) (next_param_exact before)
-
 -- what may stand behind the parameters
 record BehindParams (rest : List Lexeme) : Type 0 where
   with_word : Not (is_word (codes "WITH")) rest
   comma : Not (is_sign (codes ",")) rest
 
--- `WITH param { , param }`
-abbrev given_params : Grammar Lexeme (List (List ℕ × ParamText))
-given_params = both (one (word (codes "WITH"))) (λ _. both (param []) (λ first. both (many_after next_param (first ∷ [])) (λ rest. done (first ∷ rest))))
-
-given_params_begins : Begins given_params (is_word (codes "WITH")) true
+given_params_begins : Begins params_behind (is_word (codes "WITH")) true
 given_params_begins = begins_both (word_begins (codes "WITH") (codes "WITH"))
 
 params_exact : Exact counting with_params with_params read_params BehindParams
@@ -88,27 +74,24 @@ params_exact = exact_choose {S = Not (is_sign (codes ","))} {S' = Always} {S'' =
     (λ u a rest h stops. (starts_text given_params_begins u a rest h, stops.comma))
     (λ u a rest nothing stops. (ap (λ x. starts (is_word (codes "WITH")) (x ++ rest)) nothing.0 ∙ stops.with_word, tt))
 
-abbrev loaded : ℕ → List ℕ → Option (List ℕ) × ℕ → List (List ℕ × ParamText) → UserCommand
-loaded line script records variables = record { line = line; body = bodies.Load (record { script = script; file = records.0; skip = records.1; params = variables }) }
-
 -- what stands behind the source
 abbrev load_rest : ℕ → List ℕ → Option (List ℕ) × ℕ → Grammar Lexeme UserCommand
-load_rest line script records = both with_params (λ variables. closed (loaded line script records variables))
+load_rest line script records = both with_params (λ variables. closed (loading line script records variables))
 
 rest_no_from : (line : ℕ) (script : List ℕ) (records : Option (List ℕ) × ℕ) → Begins (load_rest line script records) (is_word (codes "FROM")) false
-rest_no_from line script records = begins_optional (begins_both (word_begins (codes "WITH") (codes "FROM"))) (λ variables. closed_word (loaded line script records variables) (codes "FROM"))
+rest_no_from line script records = begins_optional (begins_both (word_begins (codes "WITH") (codes "FROM"))) (λ variables. closed_word (loading line script records variables) (codes "FROM"))
 
 rest_no_skip : (line : ℕ) (script : List ℕ) (records : Option (List ℕ) × ℕ) → Begins (load_rest line script records) (is_word (codes "SKIP")) false
-rest_no_skip line script records = begins_optional (begins_both (word_begins (codes "WITH") (codes "SKIP"))) (λ variables. closed_word (loaded line script records variables) (codes "SKIP"))
+rest_no_skip line script records = begins_optional (begins_both (word_begins (codes "WITH") (codes "SKIP"))) (λ variables. closed_word (loading line script records variables) (codes "SKIP"))
 
 pub load_exact : Exact counting load load read_load Always
 unfolding read_load
 load_exact = exact_then (exact_word count (codes "LOAD")) (λ line. exact_then (exact_name count) (λ script. exact_both source_exact
     (λ records. exact_both params_exact
-    (λ variables. exact_then (exact_sign count (codes ";")) (λ _. exact_gives counting (loaded line script records variables)))
+    (λ variables. exact_then (exact_sign count (codes ";")) (λ _. exact_gives counting (loading line script records variables)))
     (λ variables v b rest l stops. record {
-      with_word = starts_text (closed_word (loaded line script records variables) (codes "WITH")) v b rest l;
-      comma = starts_text (closed_sign (loaded line script records variables) (codes ",")) v b rest l;
+      with_word = starts_text (closed_word (loading line script records variables) (codes "WITH")) v b rest l;
+      comma = starts_text (closed_sign (loading line script records variables) (codes ",")) v b rest l;
     }))
     (λ records v b rest l stops. record {
       from = starts_text (rest_no_from line script records) v b rest l;

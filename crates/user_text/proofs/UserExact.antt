@@ -5,11 +5,11 @@ use Rattle.grammar.specs.Grammar.{one}
 use Rattle.grammar.specs.Tokens.{word, is_word}
 use Rattle.grammar.proofs.Exact.{Exact, Always, Not}
 use Rattle.grammar.proofs.Begins.{Begins, begins_both, begins_either, exact_or}
-use Rattle.grammar.proofs.Many.{exact_rest, Shortens, shortens}
+use Rattle.grammar.proofs.Many.{exact_rest}
 use Rattle.grammar.proofs.Tokens.{word_begins, begins_any}
 use Rattle.user_text.specs.Counting.{counting}
 use Rattle.user_text.specs.UserText.{command, user}
-use Rattle.user_text.specs.Reading.{is_command_word, read_command, read_user}
+use Rattle.user_text.specs.Readers.Reading.{is_command_word, read_command, read_user}
 use Rattle.user_text.proofs.CellExact.{put_exact, get_exact}
 use Rattle.user_text.proofs.LoadExact.{load_exact}
 use Rattle.user_text.proofs.ViewExact.{view_exact}
@@ -30,9 +30,6 @@ word_begins_command w = begins_any (word_begins w (codes "PUT")) (begins_any (wo
 
 command_begins : Begins command is_command_word true
 command_begins = begins_either (begins_both (word_begins_command (codes "PUT"))) (begins_either (begins_both (word_begins_command (codes "GET"))) (begins_either (begins_both (word_begins_command (codes "LOAD"))) (begins_both (word_begins_command (codes "VIEW")))))
-
-pub command_shortens : Shortens read_command
-command_shortens = shortens is_command_word true command_begins command_exact
 
 pub user_exact : Exact counting user user read_user (Not is_command_word)
 unfolding read_user

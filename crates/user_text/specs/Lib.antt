@@ -1,4 +1,4 @@
 pub mod UserText
 pub mod Counting
 pub mod Answers
-pub mod Reading
+pub mod Readers

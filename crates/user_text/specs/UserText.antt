@@ -1,9 +1,12 @@
 -- The grammar of a user's text.
-use Rattle.std.specs.Prelude.{ℕ, ℤ, neg_ℤ, Bool, true, false, not, ◌&&◌, if◌then◌else◌, List, [], ◌∷◌, Option, Some, None, codes, bytes_eq}
+use Rattle.std.specs.Prelude.{ℕ, ℤ, neg_ℤ, Bool, true, false, not, ◌&&◌, if◌then◌else◌, List, [], ◌∷◌, Option, Some}
+use Rattle.std.specs.Prelude.{None}
+use Rattle.std.specs.Prelude.{codes, bytes_eq}
 use Rattle.std.specs.List.{list_any}
 use Rattle.cube_lex.specs.Lexeme.{Lexeme}
 use Rattle.grammar.specs.Grammar.{Grammar, done, one, either, many, ◌>>=◌, ◌>>◌}
 use Rattle.grammar.specs.After.{many_after}
+use Rattle.grammar.specs.Lists.{listed, minus, names}
 use Rattle.grammar.specs.Tokens.{sign, word, whole, name, text, money, file, when, is_word_kind, capitals}
 use Rattle.grammar.specs.Variables.{is_variable}
 use Rattle.user_text.specs.declared.command.CellText.{CellText}
@@ -13,13 +16,6 @@ use Rattle.user_text.specs.declared.command.SetText.{SetText}
 use Rattle.user_text.specs.declared.command.UserBody.TheVariants as bodies
 use Rattle.user_text.specs.declared.command.UserCommand.{UserCommand}
 
--- name { "," name }
-abbrev pub names : Grammar Lexeme (List (List ℕ))
-names = do
-  first ← one name
-  rest ← many (do one (sign (codes ",")); one name)
-  done (first ∷ rest)
-
 -- name "(" name { "," name } ")"
 abbrev pub cell : Grammar Lexeme CellText
 cell = do
@@ -28,10 +24,6 @@ cell = do
   elements ← names
   one (sign (codes ")"))
   done (record { cube = cube; elements = elements })
-
--- [ "-" ]
-abbrev pub minus : Grammar Lexeme Bool
-minus = either (do one (sign (codes "-")); done true) (done false)
 
 abbrev pub signed : Bool → ℤ → ℤ
 signed negative number = if negative then neg_ℤ number else number
@@ -67,7 +59,9 @@ skip = either (do one (word (codes "SKIP")); one whole) (done 0)
 
 -- [ "FROM" file [ "SKIP" whole ] ]
 abbrev pub source : Grammar Lexeme (Option (List ℕ) × ℕ)
-source = either (do one (word (codes "FROM")); path ← one file; records ← skip; done (Some path, records)) (done (None, 0))
+source = either
+    (do one (word (codes "FROM")); path ← one file; records ← skip; done (Some path, records))
+    (done (None, 0))
 
 -- whether a parameter of this word is among these
 abbrev pub is_set : List (List ℕ × ParamText) → List ℕ → Bool
@@ -93,9 +87,29 @@ param before = do
   given ← value
   done (variable, given)
 
+-- "," param
+abbrev pub next_param : List (List ℕ × ParamText) → Grammar Lexeme (List ℕ × ParamText)
+next_param before = do
+  one (sign (codes ","))
+  param before
+
+-- "WITH" param { "," param }
+abbrev pub params_behind : Grammar Lexeme (List (List ℕ × ParamText))
+params_behind = do
+  one (word (codes "WITH"))
+  first ← param []
+  rest ← many_after next_param (first ∷ [])
+  done (first ∷ rest)
+
 -- [ "WITH" param { "," param } ]
 abbrev pub with_params : Grammar Lexeme (List (List ℕ × ParamText))
-with_params = either (do one (word (codes "WITH")); first ← param []; rest ← many_after (λ before. do one (sign (codes ",")); param before) (first ∷ []); done (first ∷ rest)) (done [])
+with_params = either params_behind (done [])
+
+abbrev pub loading : ℕ → List ℕ → Option (List ℕ) × ℕ → List (List ℕ × ParamText) → UserCommand
+loading line script records variables = record {
+  line = line;
+  body = bodies.Load (record { script = script; file = records.0; skip = records.1; params = variables });
+}
 
 -- "LOAD" name [ "FROM" file [ "SKIP" whole ] ] [ "WITH" param { "," param } ] ";"
 abbrev pub load : Grammar Lexeme UserCommand
@@ -105,18 +119,18 @@ load = do
   records ← source
   variables ← with_params
   one (sign (codes ";"))
-  done (record { line = line; body = bodies.Load (record { script = script; file = records.0; skip = records.1; params = variables }) })
+  done (loading line script records variables)
 
 -- [ ":" name { "," name } ]
-abbrev pub listed : Grammar Lexeme (Option (List (List ℕ)))
-listed = either (do one (sign (codes ":")); elements ← names; done (Some elements)) (done None)
+abbrev pub elements : Grammar Lexeme (Option (List (List ℕ)))
+elements = either (do one (sign (codes ":")); given ← names; done (Some given)) (done None)
 
 -- name [ ":" name { "," name } ]
 abbrev pub set : Grammar Lexeme SetText
 set = do
   dim ← one name
-  elements ← listed
-  done (record { dim = dim; elements = elements })
+  given ← elements
+  done (record { dim = dim; elements = given })
 
 -- set { "BY" set }
 abbrev pub axis : Grammar Lexeme (List SetText)
@@ -135,11 +149,17 @@ point = do
 
 -- [ "AT" point { "," point } ]
 abbrev pub points : Grammar Lexeme (List (List ℕ × List ℕ))
-points = either (do one (word (codes "AT")); first ← point; rest ← many (do one (sign (codes ",")); point); done (first ∷ rest)) (done [])
+points = either (do one (word (codes "AT")); listed point point) (done [])
 
 -- [ "NOZEROS" ]
 abbrev pub nozeros : Grammar Lexeme Bool
 nozeros = either (do one (word (codes "NOZEROS")); done true) (done false)
+
+abbrev pub viewing : ℕ → List ℕ → List SetText → List SetText → List (List ℕ × List ℕ) → Bool → UserCommand
+viewing line cube rows columns at without_zeros = record {
+  line = line;
+  body = bodies.View (record { cube = cube; rows = rows; columns = columns; points = at; nozeros = without_zeros });
+}
 
 -- "VIEW" name "ROWS" axis "COLUMNS" axis [ "AT" point { "," point } ] [ "NOZEROS" ] ";"
 abbrev pub view : Grammar Lexeme UserCommand
@@ -153,7 +173,7 @@ view = do
   at ← points
   without_zeros ← nozeros
   one (sign (codes ";"))
-  done (record { line = line; body = bodies.View (record { cube = cube; rows = rows; columns = columns; points = at; nozeros = without_zeros }) })
+  done (viewing line cube rows columns at without_zeros)
 
 abbrev pub command : Grammar Lexeme UserCommand
 command = either put (either get (either load view))

@@ -1,6 +1,7 @@
 //! A user's commands, read from their text: `PUT`, `GET`, `LOAD` and `VIEW`.
 //!
-//! Read in this order: [`parse`], which reads a whole text; [`UserCommand`], what it gives; [`UserFault`], why it refuses.
+//! Read in this order: [`parse`], which reads a whole text; [`UserCommand`], what it gives; [`UserFault`], why it
+//! refuses.
 #![tactic(auto)]
 
 mod cell;
@@ -15,6 +16,3 @@ mod view;
 pub use command::{CellText, LoadText, ParamText, SetText, UserBody, UserCommand, ViewText};
 pub use fault::UserFault;
 pub use text::parse;
-
-#[cfg(test)]
-mod tests;

@@ -1,6 +1,6 @@
 ghost use Rattle.std.specs.Prelude.{◌≡◌};
 ghost use Rattle.grammar.specs.Cursor.{Reads};
-ghost use Rattle.user_text.specs.Reading as reading;
+ghost use Rattle.user_text.specs.Readers.Reading as reading;
 
 use crate::command::{LoadText, UserBody, UserCommand};
 use crate::counted::Counted;
@@ -11,7 +11,7 @@ use lists::ListOf;
 use std::alloc::Global;
 
 /// Reads how many records are passed over. Where nothing is said it is none.
-#[tactic(auto, unfolding(crate::specs::Reading::read_skip))]
+#[tactic(auto, unfolding(crate::specs::Readers::Reading::read_skip))]
 fn skip_at(cursor: &mut Cursor<'_, Counted>) -> Result<u32, Stop<TooMany>>
     ensures { Reads (λ records. records) reading.read_skip cursor.old result cursor.new }
 {
@@ -24,7 +24,7 @@ fn skip_at(cursor: &mut Cursor<'_, Counted>) -> Result<u32, Stop<TooMany>>
 }
 
 /// Reads where the records come from, if they do.
-#[tactic(auto, unfolding(crate::specs::Reading::read_source))]
+#[tactic(auto, unfolding(crate::specs::Readers::Reading::read_source))]
 fn source_at(
     alloc: Global,
     cursor: &mut Cursor<'_, Counted>,
@@ -42,7 +42,7 @@ fn source_at(
 }
 
 /// Reads `LOAD name [ FROM file [ SKIP whole ] ] [ WITH param { , param } ] ;`.
-#[tactic(auto, unfolding(crate::specs::Reading::read_load))]
+#[tactic(auto, unfolding(crate::specs::Readers::Reading::read_load))]
 pub fn load_at(
     alloc: Global,
     cursor: &mut Cursor<'_, Counted>,

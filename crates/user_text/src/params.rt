@@ -1,18 +1,18 @@
-ghost use Rattle.std.specs.Prelude.{◌≡◌, ◌<◌, ◌^◌, length, IfOk};
+ghost use Rattle.std.specs.Prelude.{◌≡◌, IfOk};
 ghost use Rattle.cube_lex.specs.Lexeme.{lexeme_of};
 ghost use Rattle.grammar.specs.Cursor.{Reads};
-ghost use Rattle.grammar.specs.Reading.{starts, take_one};
-ghost use Rattle.grammar.specs.Cursor.{lexemes};
+ghost use Rattle.grammar.specs.Reading.{take_one};
 ghost use Rattle.user_text.specs.Counting.{count};
-ghost use Rattle.user_text.specs.Reading as reading;
+ghost use Rattle.user_text.specs.Readers.Reading as reading;
 ghost use Rattle.user_text.specs.UserText as user_text;
+ghost use Rattle.user_text.specs.UserText.{new_variable};
 
 use crate::cell::amount_at;
 use crate::command::ParamText;
 use crate::counted::Counted;
 use crate::fault::TooMany;
 use cube_lex::{Kind, Token};
-use grammar::{Cursor, Stop, is_variable, sign, sign_comes, text, word, word_comes};
+use grammar::{Cursor, Stop, is_variable, sign, sign_comes, text, text_comes, word, word_comes};
 use lists::ListOf;
 use std::alloc::{AllocError, Global};
 
@@ -36,7 +36,7 @@ fn variable_of(
     token: &Token<'_>,
     before: &[(ListOf<u8>, ParamText)],
 ) -> Result<Option<ListOf<u8>>, AllocError>
-    ensures { IfOk result (λ variable. variable ≡ user_text.new_variable before.now (lexeme_of token.now)) }
+    ensures { IfOk result (λ variable. variable ≡ new_variable before.now (lexeme_of token.now)) }
 {
     let variable = token.piece.to_ascii_uppercase(alloc)?;
     match token.kind {
@@ -51,35 +51,22 @@ fn new_variable(
     cursor: &mut Cursor<'_, Counted>,
     before: &[(ListOf<u8>, ParamText)],
 ) -> Result<ListOf<u8>, Stop<TooMany>>
-    ensures { Reads (λ variable. variable) (take_one count (user_text.new_variable before.now)) cursor.old result cursor.new }
+    ensures { Reads (λ variable. variable) (take_one count (new_variable before.now)) cursor.old result cursor.new }
 {
     let Some(token) = cursor.peek() else {
-        return Err(cursor.dead());
+        return Err(cursor.unexpected());
     };
     match variable_of(alloc, &token, before)? {
         Some(variable) => {
             cursor.advance()?;
             Ok(variable)
         }
-        None => Err(cursor.dead()),
-    }
-}
-
-/// Whether a quoted text comes.
-fn text_comes(cursor: &Cursor<'_, Counted>) -> bool
-    ensures { result ≡ starts reading.is_text (lexemes cursor.now.tokens.now) }
-{
-    match cursor.peek() {
-        Some(token) => match token.kind {
-            Kind::Text => true,
-            _ => false,
-        },
-        None => false,
+        None => Err(cursor.unexpected()),
     }
 }
 
 /// Reads what a parameter is set to.
-#[tactic(auto, unfolding(crate::specs::Reading::read_value))]
+#[tactic(auto, unfolding(crate::specs::Readers::Reading::read_value))]
 fn value_at(alloc: Global, cursor: &mut Cursor<'_, Counted>) -> Result<ParamText, Stop<TooMany>>
     ensures { Reads (λ value. value) reading.read_value cursor.old result cursor.new }
 {
@@ -93,7 +80,7 @@ fn value_at(alloc: Global, cursor: &mut Cursor<'_, Counted>) -> Result<ParamText
 }
 
 /// Reads a parameter, whose word is none of those before.
-#[tactic(auto, unfolding(crate::specs::Reading::read_param))]
+#[tactic(auto, unfolding(crate::specs::Readers::Reading::read_param))]
 fn param_at(
     alloc: Global,
     cursor: &mut Cursor<'_, Counted>,
@@ -108,7 +95,7 @@ fn param_at(
 }
 
 /// Reads a further parameter, behind its `,`.
-#[tactic(auto, unfolding(crate::specs::Reading::read_next_param))]
+#[tactic(auto, unfolding(crate::specs::Readers::Reading::read_next_param))]
 fn next_param_at(
     alloc: Global,
     cursor: &mut Cursor<'_, Counted>,
@@ -120,16 +107,8 @@ fn next_param_at(
     param_at(alloc, cursor, before)
 }
 
-/// How many tokens are left. No text has as many as the reader has turns.
-fn tokens_left(cursor: &Cursor<'_, Counted>) -> usize
-    ensures count { result ≡ length cursor.now.tokens.now }
-    ensures room { length cursor.now.tokens.now < 2 ^ 64 }
-{
-    cursor.tokens.len()
-}
-
 /// Reads the parameters behind the first.
-#[tactic(auto, unfolding(crate::specs::Reading::read_further_params))]
+#[tactic(auto, unfolding(crate::specs::Readers::Reading::read_further_params))]
 fn further_params(
     alloc: Global,
     cursor: &mut Cursor<'_, Counted>,
@@ -139,8 +118,10 @@ fn further_params(
 {
     let mut params = Vec::new(alloc);
     params.push(first)?;
-    let _left = tokens_left(cursor);
-    'param: while sign_comes(cursor, b",") {
+    'param: for _ in 0..cursor.tokens.len() {
+        if !sign_comes(cursor, b",") {
+            return Ok(ListOf::new(params));
+        }
         let param = next_param_at(alloc, cursor, &params)?;
         params.push(param)?;
     }
@@ -148,7 +129,7 @@ fn further_params(
 }
 
 /// Reads the parameters of a load, if there are any.
-#[tactic(auto, unfolding(crate::specs::Reading::read_params))]
+#[tactic(auto, unfolding(crate::specs::Readers::Reading::read_params))]
 pub fn params_at(
     alloc: Global,
     cursor: &mut Cursor<'_, Counted>,

@@ -1,8 +1,8 @@
 ghost use Rattle.std.specs.Prelude.{◌≡◌, ◌≤◌};
-ghost use Rattle.grammar.specs.Cursor.{lexemes, Reads};
-ghost use Rattle.grammar.specs.Reading.{starts};
+ghost use Rattle.grammar.specs.Cursor.{Reads};
 ghost use Rattle.user_text.specs.Answers.{Answers};
-ghost use Rattle.user_text.specs.Reading as reading;
+ghost use Rattle.user_text.specs.Counting.{most_commands};
+ghost use Rattle.user_text.specs.Readers.Reading as reading;
 
 use crate::cell::{get_at, put_at};
 use crate::command::UserCommand;
@@ -11,21 +11,11 @@ use crate::fault::{TooMany, UserFault};
 use crate::load::load_at;
 use crate::view::view_at;
 use cube_lex::tokens_until;
-use grammar::{Cursor, Stop, TextFault, settled, word_comes};
+use grammar::{Cursor, RepeatedItem, Stop, TextFault, answer_of_text, repeated, word_comes};
 use std::alloc::Global;
 
-// Whether a command comes.
-fn command_comes(cursor: &Cursor<'_, Counted>) -> bool
-    ensures { result ≡ starts reading.is_command_word (lexemes cursor.now.tokens.now) }
-{
-    word_comes(cursor, b"PUT")
-        || word_comes(cursor, b"GET")
-        || word_comes(cursor, b"LOAD")
-        || word_comes(cursor, b"VIEW")
-}
-
 // Reads a command.
-#[tactic(auto, unfolding(crate::specs::Reading::read_command))]
+#[tactic(auto, unfolding(crate::specs::Readers::Reading::read_command))]
 fn command_at(alloc: Global, cursor: &mut Cursor<'_, Counted>) -> Result<UserCommand, Stop<TooMany>>
     ensures { Reads (λ command. command) reading.read_command cursor.old result cursor.new }
 {
@@ -40,25 +30,49 @@ fn command_at(alloc: Global, cursor: &mut Cursor<'_, Counted>) -> Result<UserCom
     }
 }
 
+// A command of a text.
+struct NextCommand;
+
+impl RepeatedItem<UserCommand, TooMany, Counted> for NextCommand {
+    ghost use Rattle.user_text.specs.Readers.Reading.{is_command_word, read_command};
+
+    ghost may_repeat = { λ _. Unit {0} };
+
+    ghost begins = { λ _. is_command_word };
+
+    ghost reads_next = { λ _. read_command };
+
+    fn comes(&self, cursor: &Cursor<'_, Counted>) -> bool {
+        word_comes(cursor, b"PUT")
+            || word_comes(cursor, b"GET")
+            || word_comes(cursor, b"LOAD")
+            || word_comes(cursor, b"VIEW")
+    }
+
+    fn read_next(
+        &self,
+        alloc: Global,
+        cursor: &mut Cursor<'_, Counted>,
+    ) -> Result<UserCommand, Stop<TooMany>> {
+        command_at(alloc, cursor)
+    }
+}
+
 // Reads commands as long as they come.
-#[tactic(auto, unfolding(crate::specs::Reading::read_user))]
+#[tactic(auto, unfolding(crate::specs::Readers::Reading::read_user))]
 fn commands_at(
     alloc: Global,
     cursor: &mut Cursor<'_, Counted>,
 ) -> Result<Vec<UserCommand>, Stop<TooMany>>
     ensures { Reads (λ commands. commands.items) reading.read_user cursor.old result cursor.new }
 {
-    let mut commands = Vec::new(alloc);
-    'command: while command_comes(cursor) {
-        let command = command_at(alloc, cursor)?;
-        commands.push(command)?;
-    }
-    Ok(commands)
+    let commands = repeated(alloc, cursor, &NextCommand)?;
+    Ok(commands.into_vec())
 }
 
 /// Reads the commands of a user's text. The users before have `before` commands; all users together may have 65,536.
 pub fn parse(alloc: Global, text: &[u8], before: u32) -> Result<Vec<UserCommand>, UserFault>
-    requires { before ≤ 65536 }
+    requires { before ≤ most_commands }
     ensures { Answers (λ commands. commands.items) text.now before result }
 {
     let (tokens, fault) = tokens_until(alloc, text)?;
@@ -68,7 +82,7 @@ pub fn parse(alloc: Global, text: &[u8], before: u32) -> Result<Vec<UserCommand>
     };
     let mut cursor = Cursor::new(tokens.as_slice(), start);
     let read = commands_at(alloc, &mut cursor);
-    match settled(&tokens, fault, read, &cursor) {
+    match answer_of_text(&tokens, fault, read, &cursor) {
         Ok(commands) => Ok(commands),
         Err(TextFault::Memory) => Err(UserFault::Memory),
         Err(TextFault::Syntax(line)) => Err(UserFault::Syntax(line)),

@@ -17,8 +17,8 @@ use Rattle.version_core.specs.declared.event.Event.{Event}
 use Rattle.version_core.specs.declared.event.Event.TheVariants as event
 use Rattle.version_core.specs.CoreState.{UserState, KeptValue, CoreState, start, new_user, next_command, user_at, set_user, with_user, given, commands_of, told_of}
 use Rattle.version_core.specs.Events.{pinned, unpinned, answered, after_try, has_kept, with_kept, pin_by, try_by, commit_by, read_by, keep_by, unpin_by, event_after}
-use Rattle.version_core.specs.Sound.{IsUserSound, IsKeptSound, IsSound}
-use Rattle.version_core.specs.OneHistory.{IsOneHistory}
+use Rattle.version_core.specs.Inside.Sound.{IsUserSound, IsSound}
+use Rattle.version_core.specs.OneHistory.{IsKeptSound, IsOneHistory}
 use Rattle.version_core.proofs.Finding.{none_some, some_same, and_then_some, map_some, get_replicate, user_index, length-set_user, get_set_user}
 use Rattle.version_core.proofs.Users.{user_starts, user_pins, user_unpins, user_given, user_tries, user_commits, user_beside}
 

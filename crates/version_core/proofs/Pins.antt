@@ -13,7 +13,7 @@ use Rattle.version_core.specs.declared.event.Event.{Event}
 use Rattle.version_core.specs.declared.event.Event.TheVariants as kind
 use Rattle.version_core.specs.CoreState.{UserState, CoreState, start, new_user, next_command, user_at, set_user, with_user, given}
 use Rattle.version_core.specs.Events.{pinned, unpinned, answered, after_try, has_kept, with_kept, pin_by, try_by, commit_by, read_by, keep_by, unpin_by, event_after}
-use Rattle.version_core.specs.Sound.{IsSound}
+use Rattle.version_core.specs.Inside.Sound.{IsSound}
 use Rattle.version_core.specs.Acts.{Act, Give, Happen, act_after, acts_after, IsLastPin, TellsAtLastPin}
 use Rattle.version_core.proofs.Finding.{none_some, some_same, and_then_some, map_some, get_replicate, user_index, user_set}
 use Rattle.version_core.proofs.Cores.{start_sound, user_sound, give_sound, event_sound, same_core, only_one}

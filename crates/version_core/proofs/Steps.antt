@@ -13,14 +13,15 @@ use Rattle.history.specs.declared.effect.Effect.TheVariants.{Commit, Rejected, R
 use Rattle.history.specs.Version.{content_after, version}
 use Rattle.history.proofs.Lists.{get_below, get_split}
 use Rattle.history.proofs.Runs.{version-append, content_after-append}
+use Rattle.version_core.specs.declared.event.Event.{Event}
 use Rattle.version_core.specs.declared.event.Event.TheVariants as kind
 use Rattle.version_core.specs.declared.known.Known.{Known}
 use Rattle.version_core.specs.declared.user.Tried.{Tried}
 use Rattle.version_core.specs.CoreState.{UserState, KeptValue, CoreState, start, new_user, next_command, user_at, set_user, with_user, given}
 use Rattle.version_core.specs.Events.{pinned, unpinned, answered, after_try, has_kept, try_by, commit_by, event_after, IsStep}
 use Rattle.version_core.specs.Acts.{Give, act_after}
-use Rattle.version_core.specs.Sound.{IsSound}
-use Rattle.version_core.specs.Stored.{kept_value, core_of, IsStored}
+use Rattle.version_core.specs.Inside.Sound.{IsSound}
+use Rattle.version_core.specs.Inside.Stored.{kept_value, core_of, IsStored}
 use Rattle.version_core.proofs.Finding.{none_some, some_same, get_set, get_replicate, user_index}
 use Rattle.version_core.proofs.Cores.{start_sound, user_sound, give_sound, event_sound, only_one}
 
@@ -54,6 +55,10 @@ module _ {S C K T R V : Type 0} (content : S → C) (effect : C → K → Effect
   -- the core, with this user at the index
   abbrev pub user_set_at : CoreState C K T R V → ℕ → UserState K T R → CoreState C K T R V
   user_set_at core index now = record core { users = slice_set core.users index now }
+
+  -- the event is enabled, and the core after it is this one, which is stored with these versions
+  abbrev pub IsDone : CoreState C K T R V → Event → CoreState C K T R V → List S → Type 0
+  IsDone core event now versions = IsStored content effect after value now versions × (event_after effect after value core event ≡ Some now)
 
   pub with_user_at : (core : CoreState C K T R V) (number index : ℕ) (now : UserState K T R) → number ≡ index + 1 → with_user core number now ≡ user_set_at core index now
   with_user_at core number index now at = ap (λ (users : List (UserState K T R)). record core { users = users }) (set_user_here core.users number index now at)
@@ -92,7 +97,7 @@ module _ {S C K T R V : Type 0} (content : S → C) (effect : C → K → Effect
   pub pin_done : (core : CoreState C K T R V) (versions : List S) (number index : ℕ) (user now : UserState K T R) (command : K)
       → IsStored content effect after value core versions → number ≡ index + 1 → user_at core.users number ≡ Some user → next_command user ≡ Some command
       → now ≡ pinned user (length core.log)
-      → IsStored content effect after value (user_set_at core index now) versions × (event_after effect after value core (kind.Pin number) ≡ Some (user_set_at core index now))
+      → IsDone core (kind.Pin number) (user_set_at core index now) versions
   pin_done core versions number index user now command stored at here waits is =
       let event : event_after effect after value core (kind.Pin number) ≡ Some (with_user core number now) = rw (here, waits, is) refl in
       let sound = event_sound effect after value core (with_user core number now) (kind.Pin number) stored.sound event in
@@ -101,7 +106,7 @@ module _ {S C K T R V : Type 0} (content : S → C) (effect : C → K → Effect
   pub unpin_done : (core : CoreState C K T R V) (versions : List S) (number index : ℕ) (user now : UserState K T R) (place : ℕ)
       → IsStored content effect after value core versions → number ≡ index + 1 → user_at core.users number ≡ Some user → user.pin ≡ Some place
       → now ≡ unpinned user
-      → IsStored content effect after value (user_set_at core index now) versions × (event_after effect after value core (kind.Unpin number) ≡ Some (user_set_at core index now))
+      → IsDone core (kind.Unpin number) (user_set_at core index now) versions
   unpin_done core versions number index user now place stored at here pin is =
       let event : event_after effect after value core (kind.Unpin number) ≡ Some (with_user core number now) = rw (here, pin, is) refl in
       let sound = event_sound effect after value core (with_user core number now) (kind.Unpin number) stored.sound event in
@@ -151,7 +156,7 @@ module _ {S C K T R V : Type 0} (content : S → C) (effect : C → K → Effect
       → IsStored content effect after value core versions → number ≡ index + 1 → user_at core.users number ≡ Some user
       → user.pin ≡ Some place → user.tried ≡ None → next_command user ≡ Some command
       → found ≡ effect (version after core.first core.log place) command → now ≡ after_try user place found
-      → IsStored content effect after value (user_set_at core index now) versions × (event_after effect after value core (kind.Try number) ≡ Some (user_set_at core index now))
+      → IsDone core (kind.Try number) (user_set_at core index now) versions
   try_done core versions number index place user now command found stored at here pin none waits effect_is is =
       let event : event_after effect after value core (kind.Try number) ≡ Some (with_user core number now) =
       (let by : event_after effect after value core (kind.Try number) ≡ try_by effect after core number user user.pin user.tried (next_command user) = rw here refl in by)
@@ -203,9 +208,7 @@ module _ {S C K T R V : Type 0} (content : S → C) (effect : C → K → Effect
       → now ≡ answered user place tried.reply
       → entry ≡ record { user = number; command = length user.told + 1; writes = tried.writes }
       → state ≡ slice_index_or versions place state → content next ≡ after (content state) tried.writes
-      → IsStored content effect after value (core_of after value first (log ++ entry ∷ []) known (slice_set users index now)) (versions ++ next ∷ [])
-      × (event_after effect after value (core_of after value first log known users) (kind.Commit number)
-      ≡ Some (core_of after value first (log ++ entry ∷ []) known (slice_set users index now)))
+      → IsDone (core_of after value first log known users) (kind.Commit number) (core_of after value first (log ++ entry ∷ []) known (slice_set users index now)) (versions ++ next ∷ [])
   commit_done first log known users versions number index place user now tried state next entry stored at here pin newest try is entry_is state_is next_is =
       let core : CoreState C K T R V = core_of after value first log known users in
       let done : CoreState C K T R V = core_of after value first (log ++ entry ∷ []) known (slice_set users index now) in
@@ -270,9 +273,7 @@ module _ {S C K T R V : Type 0} (content : S → C) (effect : C → K → Effect
       → user_at users number ≡ Some user → user.pin ≡ Some place
       → list_any (λ k. (k.version == place) && (k.cell == cell)) known ≡ false
       → one ≡ record { version = place; cell = cell }
-      → IsStored content effect after value (core_of after value first log (known ++ one ∷ []) users) versions
-      × (event_after effect after value (core_of after value first log known users) (kind.Keep number cell)
-      ≡ Some (core_of after value first log (known ++ one ∷ []) users))
+      → IsDone (core_of after value first log known users) (kind.Keep number cell) (core_of after value first log (known ++ one ∷ []) users) versions
   keep_done first log known users versions number place cell user one stored here pin new is =
       let core : CoreState C K T R V = core_of after value first log known users in
       let done : CoreState C K T R V = core_of after value first log (known ++ one ∷ []) users in

@@ -14,7 +14,7 @@ use Rattle.version_core.specs.declared.user.Tried.{Tried}
 use Rattle.version_core.specs.CoreState.{UserState, new_user, next_command, given}
 use Rattle.version_core.specs.Events.{pinned, unpinned, answered, after_try}
 use Rattle.version_core.proofs.Finding.{none_some, some_same}
-use Rattle.version_core.specs.Sound.{IsUserSound}
+use Rattle.version_core.specs.Inside.Sound.{IsUserSound}
 
 module _ {C K T R : Type 0} (effect : C → K → Effect T R) (after : C → T → C) (first : C) where
   pub user_starts : (log : List (Entry T)) (number : ℕ) → NoneFrom log 0 number → IsUserSound effect after first log number new_user

@@ -1,6 +1,6 @@
 pub mod CoreState
 pub mod Events
-pub mod Sound
-pub mod OneHistory
 pub mod Acts
-pub mod Stored
+pub mod OneHistory
+pub mod Laws
+pub mod Inside

@@ -2,7 +2,8 @@
 //! given, what was told, and a pin with a try. It runs no thread and reads no clock: events come in the order in which
 //! `Core::step` is called, and what holds of every order holds of every interleaving of users.
 //!
-//! Read `Event` first, then `specs/Events.antt` for what each event does, and `one_history` for what holds of every run.
+//! Read `Event` first, then `specs/Events.antt` for what each event does, and `one_history` for what holds of every
+//! run. `specs/Inside/` has what a core keeps for its own proof.
 #![tactic(auto)]
 
 mod event;
@@ -14,6 +15,3 @@ mod user;
 pub use event::Event;
 pub use runs::one_history;
 pub use state::Core;
-
-#[cfg(test)]
-mod tests;

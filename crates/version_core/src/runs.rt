@@ -1,7 +1,4 @@
-ghost use Rattle.std.specs.Prelude.{ℕ, List};
-ghost use Rattle.version_core.specs.CoreState.{start};
-ghost use Rattle.version_core.specs.Acts.{Act, acts_after, TellsAtLastPin};
-ghost use Rattle.version_core.specs.OneHistory.{IsOneHistory};
+ghost use Rattle.version_core.specs.Laws.{EveryRunIsOneHistory, EveryReplyIsAtLastPin};
 
 use history::World;
 
@@ -11,6 +8,6 @@ use history::World;
 ///
 /// `Core::start`, `Core::give` and `Core::step` are exact by the same definitions, so this is a theorem about them.
 pub fn one_history<W: World>()
-    ensures history { (first : W.Content) (count : ℕ) (acts : List (Act W.Command)) → IsOneHistory W.effect W.after W.cell_value (acts_after W.effect W.after W.cell_value (start first count) acts) }
-    ensures places { (first : W.Content) (count : ℕ) (acts : List (Act W.Command)) (act : Act W.Command) (number : ℕ) → TellsAtLastPin W.effect W.after W.cell_value (start first count) acts act number }
+    ensures history { EveryRunIsOneHistory W.effect W.after W.cell_value }
+    ensures places { EveryReplyIsAtLastPin W.effect W.after W.cell_value }
 {}

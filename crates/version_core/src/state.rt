@@ -1,4 +1,5 @@
-ghost use Rattle.std.specs.Prelude.{◌≡◌, ◌+◌, ◌-◌, ◌<◌, ◌≤◌, ◌^◌, ◌⊎◌, length, IsOk, IsSome, IfOk, OnOk, OnErr, IfSome, MatchOption, Some, None, option_copied, option_map};
+ghost use Rattle.std.specs.Prelude.{◌≡◌, ◌+◌, ◌<◌, ◌^◌, length, IsOk, IfOk, OnOk, OnErr};
+ghost use Rattle.std.specs.Prelude.{IsSome, MatchOption, None, option_copied, option_map};
 ghost use Rattle.std.specs.Option.{ForSome};
 ghost use Rattle.version_core.specs.CoreState.{user_at};
 
@@ -25,11 +26,14 @@ impl<W: World> Model for Core<W> {
 
     ghost Value = { CoreState W.Content W.Command W.Writes W.Reply W.Value };
 
-    ghost use Rattle.version_core.specs.Stored.{core_of, IsStored};
+    ghost use Rattle.version_core.specs.Inside.Stored.{core_of, IsStored};
 
-    ghost view = { λ c. core_of W.after W.cell_value (W.content c.opening.value) c.history.items c.memo.items c.users.items };
+    ghost view = { λ c. core_of W.after W.cell_value (W.content c.opening.value)
+        c.history.items c.memo.items c.users.items };
 
-    ghost invariant = { λ c. IsStored W.content W.effect W.after W.cell_value (core_of W.after W.cell_value (W.content c.opening.value) c.history.items c.memo.items c.users.items) c.versions.items };
+    ghost invariant = { λ c. IsStored W.content W.effect W.after W.cell_value
+        (core_of W.after W.cell_value (W.content c.opening.value) c.history.items c.memo.items c.users.items)
+        c.versions.items };
 }
 
 impl<W: World> Core<W> {
@@ -64,7 +68,8 @@ impl<W: World> Core<W> {
     pub fn give(&mut self, user: u32, command: W::Command) -> Result<(), AllocError>
         requires user { IsSome (user_at self.old.users user) }
         requires few { ForSome (user_at self.old.users user) (λ found. length found.commands + 1 < 2 ^ 32) }
-        ensures given { OnOk result (self.new ≡ act_after W.effect W.after W.cell_value self.old (Act.Give user command)) }
+        ensures given { OnOk result
+            (self.new ≡ act_after W.effect W.after W.cell_value self.old (Act.Give user command)) }
         ensures history { IsOneHistory W.effect W.after W.cell_value self.new }
         ensures err { OnErr result (self.new ≡ self.old) }
     {
@@ -73,8 +78,8 @@ impl<W: World> Core<W> {
         given
     }
 
-    /// Takes one step, and answers whether the event is enabled. Where it is not, nothing changes; where memory runs out,
-    /// the core is as it was and the event may come again.
+    /// Takes one step, and answers whether the event is enabled. Where it is not, nothing changes; where memory runs
+    /// out, the core is as it was and the event may come again.
     pub fn step(&mut self, alloc: Global, event: Event) -> Result<bool, AllocError>
         ensures step { IfOk result (IsStep W.effect W.after W.cell_value self.old event self.new) }
         ensures history { IsOneHistory W.effect W.after W.cell_value self.new }
@@ -118,7 +123,8 @@ impl<W: World> Core<W> {
     fn add_command(&mut self, user: u32, command: W::Command) -> Result<(), AllocError>
         requires user { IsSome (user_at self.old.users user) }
         requires few { ForSome (user_at self.old.users user) (λ found. length found.commands + 1 < 2 ^ 32) }
-        ensures given { OnOk result (self.new ≡ act_after W.effect W.after W.cell_value self.old (Act.Give user command)) }
+        ensures given { OnOk result
+            (self.new ≡ act_after W.effect W.after W.cell_value self.old (Act.Give user command)) }
         ensures err { OnErr result (self.new ≡ self.old) }
     {
         let Some(index) = index_of(&self.users, user) else {
@@ -246,7 +252,8 @@ impl<W: World> Core<W> {
 
 /// Where the user of this number stands, if there is one.
 fn index_of<K: Drop, T: Drop, R: Drop>(users: &[User<K, T, R>], number: u32) -> Option<usize>
-    ensures { MatchOption result (user_at users.now number ≡ None) (λ index. (number ≡ index + 1) × (index < length users.now)) }
+    ensures { MatchOption result (user_at users.now number ≡ None)
+        (λ index. (number ≡ index + 1) × (index < length users.now)) }
 {
     let index = (number as usize).checked_sub(1)?;
     if index < users.len() {

@@ -1,4 +1,4 @@
-ghost use Rattle.std.specs.Prelude.{◌≡◌, ◌+◌, ◌<◌, ◌≤◌, ◌^◌, length, is_some, IsSome, OnOk, OnErr, IfSome, IfOk, Some, None};
+ghost use Rattle.std.specs.Prelude.{◌≡◌, ◌+◌, ◌<◌, ◌^◌, length, OnOk, OnErr, IfOk, IsSome, IfSome};
 ghost use Rattle.std.specs.Option.{option_copied};
 ghost use Rattle.history.specs.declared.effect.Effect.{Effect};
 

@@ -3,11 +3,19 @@ use Rattle.std.proofs.lemmas.Fmt.{length-decimal-le}
 use Rattle.cube_lex.specs.declared.token.Kind.TheVariants.{Number}
 use Rattle.cube_lex.proofs.Wholes.{decimal-is_digits}
 use Rattle.cube_lex.proofs.WrittenTexts.{added}
+use Rattle.cube_lex.proofs.Spaced.{spaced}
 use Rattle.cube_lex.proofs.writing.write_whole.Goals as goal
 
 pub returns-clause-ok : goal.returns-clause-ok
 returns-clause-ok c =
     let digits : c.as_bytes.result.now ≡ decimal c.args.number = search rules in
-    added c.write_piece.result c.args.out.now.items c.write_piece.new.out.items Number (decimal c.args.number)
+    added c.write_spaced.result c.args.out.now.items c.write_spaced.new.out.items Number (decimal c.args.number)
     (inl (decimal-is_digits c.args.number (omega arith))) (omega (arith, length-decimal-le 20 c.args.number (omega arith) (omega arith) (omega arith)))
-    (rw digits at c.write_piece.ensures.ok)
+    (rw digits at c.write_spaced.ensures.ok)
+
+pub returns-clause-spaced : goal.returns-clause-spaced
+returns-clause-spaced c =
+    let digits : c.as_bytes.result.now ≡ decimal c.args.number = search rules in
+    spaced c.write_spaced.result c.args.out.now.items c.write_spaced.new.out.items Number (decimal c.args.number)
+    (inl (decimal-is_digits c.args.number (omega arith))) (omega (arith, length-decimal-le 20 c.args.number (omega arith) (omega arith) (omega arith)))
+    (rw digits at c.write_spaced.ensures.ok)

@@ -21,5 +21,5 @@ loop-piece-preserved g c =
     record {
       written = Appends-piece old mid new c.args.pieces.now c.loop-piece.piece-index c.piece-item.result c.loop-piece-test.true c.piece-item.is
           c.loop-piece.invariant.written (subst (Appends mid new) c.deref.ensures.value c.in_default.ensures.all);
-      calm = still c.in_default.field-0 (g.S.Sink.faults c.loop-piece.out) (g.S.Sink.faults c.write.new.self) c.in_default.ensures.calm ∙ c.loop-piece.invariant.calm;
+      quiet = still c.in_default.field-0 (g.S.Sink.faults c.loop-piece.out) (g.S.Sink.faults c.write.new.self) c.in_default.ensures.no_write_failed ∙ c.loop-piece.invariant.quiet;
     }

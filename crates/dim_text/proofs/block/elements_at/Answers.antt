@@ -3,8 +3,8 @@ use Rattle.std.proofs.lemmas.List.{length-map}
 use Rattle.std.proofs.lemmas.Result.{err_from_is_err_and}
 use Rattle.grammar.specs.Reading.{gives, bound}
 use Rattle.grammar.proofs.Loops.{begun_all, goes_further, is_done}
-use Rattle.dim_text.specs.Views.{element_view}
-use Rattle.dim_text.specs.Reading.{built, read_element, read_elements, is_element_word}
+use Rattle.dim_text.specs.Readers.Views.{element_view}
+use Rattle.dim_text.specs.Readers.Reading.{built, read_element, read_elements, is_element_word}
 use Rattle.dim_text.proofs.BlockExact.{element_shortens}
 use Rattle.dim_text.proofs.Built.{built_ok}
 use Rattle.dim_text.proofs.ElementLoop.{element_halts, add_halts}
@@ -21,7 +21,7 @@ element-smaller c =
 pub element-preserved : goal.element-preserved
 element-preserved c =
     let (front, going) = c.element.invariant in
-    (front ++ element_view c.in_ok-element.element ∷ [], goes_further going c.element-test.ensures (built_ok read_element c.element.work c.in_ok-element.ensures c.in_ok-add.ensures) (element_shortens _ _ _ _ _ c.in_ok-element.ensures) refl)
+    (front ++ element_view c.in_ok-element.element ∷ [], goes_further going c.element-test.ensures (built_ok read_element c.element.block c.in_ok-element.ensures c.in_ok-add.ensures) (element_shortens _ _ _ _ _ c.in_ok-element.ensures) refl)
 
 pub returns-in_err-element : goal.returns-in_err-element
 returns-in_err-element c =

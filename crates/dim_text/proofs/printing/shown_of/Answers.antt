@@ -1,6 +1,6 @@
 use Rattle.std.proofs.Common.{subst, sym, ◌∙◌}
 use Rattle.dim_text.proofs.PrintedParts.{name_quotable_at}
-use Rattle.dim_text.specs.Writable.{IsQuotable}
+use Rattle.cube_lex.specs.Written.{IsQuotable}
 use Rattle.dim_text.proofs.printing.shown_of.Goals as goal
 
 pub returns-clause-quotable : goal.returns-clause-quotable

@@ -1,4 +1,4 @@
-use Rattle.std.proofs.Common.{◌≡◌, sym, ap, ◌∙◌, ◌++◌, ◌∷◌, [], ℕ, List}
+use Rattle.std.proofs.Common.{sym, ap, ◌∙◌, ◌++◌, ◌∷◌, [], ℕ, List}
 use Rattle.dim_weights.proofs.ByLevel.{range-push}
 use Rattle.dim_weights.proofs.levels.elements_below.Goals as goal
 

@@ -1,4 +1,4 @@
-use Rattle.std.proofs.Common.{◌≡◌, ℕ, slice_index, rules}
+use Rattle.std.proofs.Common.{slice_index, rules}
 use Rattle.std.proofs.lemmas.List.Sorted.{IsNonDecreasingBy-from_sort_by_key}
 use Rattle.std.proofs.lemmas.Fn.{always_returns_same}
 use Rattle.dim_weights.proofs.levels.sort_by_level.Goals as goal

@@ -1,8 +1,7 @@
-use Rattle.std.proofs.Common.{◌≡◌, ◌∙◌, ◌≤◌, ◌<◌, ◌*ℤ◌, ◌+ℤ◌, ap, refl, ℕ, ℤ, [], w64, to_z, of_z, FitsSigned, get_or, length, pos, rules, arith, unsigned_abs}
+use Rattle.std.proofs.Common.{◌≡◌, ◌∙◌, ◌<◌, ap, [], w64, FitsSigned, get_or, length, pos, rules, arith, unsigned_abs}
 use Rattle.std.proofs.lemmas.Int.{to_z-of_z}
 use Rattle.dim_order.proofs.Places.{get_or_within}
 use Rattle.dim_weights.specs.Table.{share, leaves_in}
-use Rattle.dim_weights.specs.Sums.{sum_at}
 use Rattle.dim_weights.proofs.SumFacts.{parts-room, parts-step}
 use Rattle.dim_weights.proofs.rows.add_parts.Goals as goal
 
@@ -20,7 +19,7 @@ loop-part-preserved c = record {
       let there : c.loop-part.part-index < length c.args.parts.now = c.loop-part-test.true in
       let fits : FitsSigned w64 part.1 = search rules in
       let weight = to_z-of_z w64 part.1 fits in
-      let inside : part.0 < length c.args.rows.now = omega (arith, (c.requires.parts.within c.loop-part.part-index (0, pos 0) there).0, c.requires.whole) in
+      let inside : part.0 < length c.args.rows.now = omega (arith, c.requires.parts.within c.loop-part.part-index (0, pos 0) there, c.requires.whole) in
       let row : c.as_slice.result.now ≡ leaves_in c.args.rows.now part.0 = c.as_slice.ensures ∙ (c.index-rows-part.is ∙ get_or_within c.args.rows.now part.0 _ [] inside) in
       let new = c.in_ok-add_row.ensures.added leaf in
       parts-step (λ x. share (leaves_in c.args.rows.now x) leaf) c.args.parts.now c.loop-part.part-index _ _ there (c.loop-part.invariant.added leaf) (rw (weight, row) at new);

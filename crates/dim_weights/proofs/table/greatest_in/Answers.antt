@@ -1,7 +1,7 @@
-use Rattle.std.proofs.Common.{◌≡◌, ◌<◌, ℤ, w64, to_z, of_z, FitsSigned, get_or, length, pos, rules, arith}
+use Rattle.std.proofs.Common.{w64, FitsSigned, get_or, pos, rules, arith}
 use Rattle.std.proofs.lemmas.Int.{to_z-of_z}
 use Rattle.dim_weights.proofs.Pairs.{greatest_in-more}
-use Rattle.dim_weights.proofs.Maxima.{ord_max-is}
+use Rattle.dim_order.proofs.Maxima.{ord_max-is}
 use Rattle.dim_weights.proofs.table.greatest_in.Goals as goal
 
 pub loop-pair-preserved : goal.loop-pair-preserved

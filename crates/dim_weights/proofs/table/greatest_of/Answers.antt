@@ -1,9 +1,9 @@
-use Rattle.std.proofs.Common.{◌≡◌, ◌∙◌, ◌≤◌, ◌<◌, ap, w64, FitsSigned, length, pos, rules, arith}
+use Rattle.std.proofs.Common.{◌≡◌, ◌∙◌, ap, w64, pos, arith}
 use Rattle.std.proofs.lemmas.Int.{fits_signed_from_abs, to_z_pos}
 use Rattle.std.proofs.lemmas.List.{take_all}
 use Rattle.dim_weights.specs.Table.{greatest_in, greatest_of}
 use Rattle.dim_weights.proofs.Tables.{greatest_of-more, greatest_of-le}
-use Rattle.dim_weights.proofs.Maxima.{ord_max-is}
+use Rattle.dim_order.proofs.Maxima.{ord_max-is}
 use Rattle.dim_weights.proofs.table.greatest_of.Goals as goal
 
 pub loop-row-preserved : goal.loop-row-preserved

@@ -1,4 +1,4 @@
-use Rattle.std.proofs.Common.{◌≡◌, ◌∙◌, ◌<◌, ℕ, ℤ, pos, w64, get_or, length, rules, FitsSigned}
+use Rattle.std.proofs.Common.{◌∙◌, ◌<◌, ℕ, ℤ, pos, w64, get_or, length, rules, FitsSigned}
 use Rattle.std.proofs.lemmas.List.Sorted.{answers_always}
 use Rattle.std.proofs.lemmas.Int.{to_z-of_z}
 use Rattle.dim_weights.proofs.Searches.{found, missed}

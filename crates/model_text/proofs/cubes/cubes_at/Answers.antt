@@ -6,7 +6,7 @@ use Rattle.model_text.specs.Gathering.{Nothing, at}
 use Rattle.grammar.specs.Reading.{gives, bound}
 use Rattle.grammar.specs.Tokens.{is_word}
 use Rattle.grammar.proofs.Loops.{begun_all, goes_further, is_done}
-use Rattle.model_text.specs.Reading.{read_cube, read_cubes}
+use Rattle.model_text.specs.Readers.Reading.{read_cube, read_cubes}
 use Rattle.model_text.proofs.ModelExact.{cube_exact, cube_shortens}
 use Rattle.model_text.proofs.Stopping.{rests, loop_stops}
 use Rattle.model_text.proofs.cubes.cubes_at.Goals as goal
@@ -33,7 +33,7 @@ unfolding read_cubes
 returns-in_err-cube_at-clause-read c =
     let (front, going, same, tokens) = c.cube.invariant in
     let p = err_from_is_err_and c.from_residual.result c.from_residual.ensures.1 in
-    rw (p.1, p.2) (loop_stops (is_word (codes "CUBE")) read_cube front _ (at c.args.work.now Nothing) _ (lexemes c.args.cursor.now.tokens.now) c.in_err-cube_at.field-0.0 going c.cube-test.ensures c.in_err-cube_at.ensures.read)
+    rw (p.1, p.2) (loop_stops (is_word (codes "CUBE")) read_cube front _ (at c.args.partial.now Nothing) _ (lexemes c.args.cursor.now.tokens.now) c.in_err-cube_at.field-0.0 going c.cube-test.ensures c.in_err-cube_at.ensures.read)
 
 pub returns-clause-read : goal.returns-clause-read
 unfolding read_cubes

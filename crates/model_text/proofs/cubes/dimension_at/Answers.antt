@@ -2,7 +2,7 @@ use Rattle.std.proofs.Common.{ℕ, List}
 use Rattle.std.proofs.lemmas.Result.{err_from_is_err_and}
 use Rattle.grammar.specs.Cursor.{lexemes}
 use Rattle.model_text.specs.Statement.{CubeDimension}
-use Rattle.model_text.specs.Reading.{read_dimension_behind}
+use Rattle.model_text.specs.Readers.Reading.{read_dimension_behind}
 use Rattle.model_text.proofs.Stopping.{piece_gathers, piece_stops}
 use Rattle.model_text.proofs.cubes.dimension_at.Goals as goal
 

@@ -2,8 +2,8 @@ use Rattle.std.proofs.Common.{sym, ◌∙◌, ap, subst}
 use Rattle.std.proofs.lemmas.Result.{err_from_is_err_and}
 use Rattle.grammar.specs.Cursor.{lexemes}
 use Rattle.model_text.specs.Gathering.{CubeOpen, at}
-use Rattle.model_text.specs.Reading.{gather_further_dimensions}
-use Rattle.model_text.specs.Views.{GivesState}
+use Rattle.model_text.specs.Readers.Reading.{gather_further_dimensions}
+use Rattle.model_text.specs.Readers.Views.{GivesState}
 use Rattle.model_text.proofs.Stopping.{dimensions_behind_first, first_stops}
 use Rattle.model_text.proofs.cubes.dimensions_at.Goals as goal
 
@@ -15,6 +15,6 @@ returns-in_err-first-clause-read c =
 pub returns-clause-read : goal.returns-clause-read
 returns-clause-read c = λ word_line cube. (
     let (piece, read) = c.in_ok-first.ensures.read word_line cube in
-    subst (GivesState (λ all. at c.args.work.now (CubeOpen word_line cube all.items)) c.further_dimensions.result (lexemes c.further_dimensions.new.cursor.tokens.now))
-    (sym (dimensions_behind_first _ _ (lexemes c.args.cursor.now.tokens.now) (lexemes c.dimension_at.new.cursor.tokens.now) piece read ∙ ap (λ ds. gather_further_dimensions (at c.args.work.now (CubeOpen word_line cube ds)) (lexemes c.dimension_at.new.cursor.tokens.now)) (sym c.in_ok-dims.ensures)))
+    subst (GivesState (λ all. at c.args.partial.now (CubeOpen word_line cube all.items)) c.further_dimensions.result (lexemes c.further_dimensions.new.cursor.tokens.now))
+    (sym (dimensions_behind_first _ _ (lexemes c.args.cursor.now.tokens.now) (lexemes c.dimension_at.new.cursor.tokens.now) piece read ∙ ap (λ ds. gather_further_dimensions (at c.args.partial.now (CubeOpen word_line cube ds)) (lexemes c.dimension_at.new.cursor.tokens.now)) (sym c.in_ok-dims.ensures)))
     (c.further_dimensions.ensures.read word_line cube))

@@ -5,12 +5,12 @@ use Rattle.grammar.specs.Tokens.{is_sign}
 use Rattle.grammar.proofs.Loops.{Going}
 use Rattle.model_text.specs.Statement.{Piece}
 use Rattle.model_text.specs.Gathering.{CubeOpen, at}
-use Rattle.model_text.specs.Reading.{gather, read_dimension_behind}
+use Rattle.model_text.specs.Readers.Reading.{gather, read_dimension_behind}
 use Rattle.model_text.proofs.cubes.further_dimensions.Given as goal
 
 abbrev pub invariant-dimension : goal.invariant-dimension
 invariant-dimension l = ((word_line : ℕ) (cube : List ℕ) → (front : List Piece)
-    × Going (is_sign (codes ",")) (gather (read_dimension_behind (codes ","))) front (at l.work (CubeOpen word_line cube l.dims.items)) (lexemes l.cursor.tokens.now) (all_of (is_sign (codes ",")) (gather (read_dimension_behind (codes ","))) (at l.work (CubeOpen word_line cube l.fn.dims.items)) (lexemes l.fn.cursor.tokens.now)))
+    × Going (is_sign (codes ",")) (gather (read_dimension_behind (codes ","))) front (at l.partial (CubeOpen word_line cube l.dims.items)) (lexemes l.cursor.tokens.now) (all_of (is_sign (codes ",")) (gather (read_dimension_behind (codes ","))) (at l.partial (CubeOpen word_line cube l.fn.dims.items)) (lexemes l.fn.cursor.tokens.now)))
     × (length l.fn.dims.items ≤ length l.dims.items)
 
 abbrev pub decreases-dimension : goal.decreases-dimension

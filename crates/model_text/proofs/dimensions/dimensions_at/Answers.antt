@@ -4,13 +4,13 @@ use Rattle.std.proofs.lemmas.Result.{err_from_is_err_and}
 use Rattle.std.specs.List.{AllZip}
 use Rattle.grammar.specs.Cursor.{lexemes}
 use Rattle.model_text.specs.Gathering.{Parts}
-use Rattle.model_text.specs.Views.{seen}
+use Rattle.model_text.specs.Readers.Views.{seen}
 use Rattle.grammar.specs.Reading.{gives, bound}
 use Rattle.grammar.specs.Tokens.{is_word}
 use Rattle.grammar.proofs.Loops.{begun_all, goes_further, is_done}
 use Rattle.dim_text.specs.Progress.{Progress, Text, IsBuilt}
 use Rattle.model_text.specs.Contents.{dimension_names}
-use Rattle.model_text.specs.Reading.{read_dimension, read_dimensions}
+use Rattle.model_text.specs.Readers.Reading.{read_dimension, read_dimensions}
 use Rattle.model_text.proofs.ModelExact.{dimension_shortens}
 use Rattle.model_text.proofs.Stopping.{loop_stops}
 use Rattle.model_text.proofs.dimensions.dimensions_at.Goals as goal
@@ -34,7 +34,7 @@ names_step start w new dims next text same added pushed =
     added ∙ later ∙ ap (λ ns. record start { names = ns }) all
 
 pub dimension-init : goal.dimension-init
-dimension-init c = ([], [], begun_all (is_word (codes "DIM")) read_dimension _ _, nothing_built _ c.new-dims.ensures.items, no_names c.args.work.now _ c.requires.none c.new-dims.ensures.items, c.requires.tokens)
+dimension-init c = ([], [], begun_all (is_word (codes "DIM")) read_dimension _ _, nothing_built _ c.new-dims.ensures.items, no_names c.args.partial.now _ c.requires.none c.new-dims.ensures.items, c.requires.tokens)
 
 pub dimension-preserved : goal.dimension-preserved
 dimension-preserved c =
@@ -45,7 +45,7 @@ dimension-preserved c =
       blocks ++ block ∷ [],
       goes_further going c.dimension-test.ensures read (dimension_shortens _ _ _ _ _ read) refl,
       subst (λ ds. AllZip IsBuilt ds (blocks ++ block ∷ [])) (sym pushed) (built_last _ blocks c.in_ok-text.text block built is),
-      names_step c.args.work.now _ _ _ _ c.in_ok-text.text same c.in_ok-text.ensures.added pushed,
+      names_step c.args.partial.now _ _ _ _ c.in_ok-text.text same c.in_ok-text.ensures.added pushed,
       c.in_ok-text.ensures.rest,
     )
 
@@ -54,7 +54,7 @@ unfolding read_dimensions
 returns-in_err-text-clause-read c =
     let (front, blocks, going, built, same, tokens) = c.dimension.invariant in
     let p = err_from_is_err_and c.from_residual.result c.from_residual.ensures.1 in
-    rw (p.1, p.2) (loop_stops (is_word (codes "DIM")) read_dimension front _ (seen [] c.args.work.now) _ (lexemes c.args.cursor.now.tokens.now) c.in_err-text.field-0.0 going c.dimension-test.ensures (c.in_err-text.ensures.read blocks))
+    rw (p.1, p.2) (loop_stops (is_word (codes "DIM")) read_dimension front _ (seen [] c.args.partial.now) _ (lexemes c.args.cursor.now.tokens.now) c.in_err-text.field-0.0 going c.dimension-test.ensures (c.in_err-text.ensures.read blocks))
 
 pub returns-clause-read : goal.returns-clause-read
 unfolding read_dimensions

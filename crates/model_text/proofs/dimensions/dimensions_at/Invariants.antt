@@ -7,15 +7,15 @@ use Rattle.grammar.specs.Tokens.{is_word}
 use Rattle.grammar.proofs.Loops.{Going}
 use Rattle.dim_text.specs.Progress.{Progress, IsBuilt}
 use Rattle.model_text.specs.Contents.{dimension_names}
-use Rattle.model_text.specs.Reading.{read_dimension}
-use Rattle.model_text.specs.Views.{seen}
+use Rattle.model_text.specs.Readers.Reading.{read_dimension}
+use Rattle.model_text.specs.Readers.Views.{seen}
 use Rattle.model_text.proofs.dimensions.dimensions_at.Given as goal
 
 abbrev pub invariant-dimension : goal.invariant-dimension
 invariant-dimension l = (front : List (Unit {0})) × (blocks : List Progress)
-    × Going (is_word (codes "DIM")) read_dimension front (seen blocks l.work) (lexemes l.cursor.tokens.now) (all_of (is_word (codes "DIM")) read_dimension (seen [] l.fn.work) (lexemes l.fn.cursor.tokens.now))
+    × Going (is_word (codes "DIM")) read_dimension front (seen blocks l.partial) (lexemes l.cursor.tokens.now) (all_of (is_word (codes "DIM")) read_dimension (seen [] l.fn.partial) (lexemes l.fn.cursor.tokens.now))
     × AllZip IsBuilt l.dims.items blocks
-    × (l.work ≡ record l.fn.work { names = dimension_names l.dims.items })
+    × (l.partial ≡ record l.fn.partial { names = dimension_names l.dims.items })
     × All IsWellFormed (lexemes l.cursor.tokens.now)
 
 abbrev pub decreases-dimension : goal.decreases-dimension

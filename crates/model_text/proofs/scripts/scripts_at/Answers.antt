@@ -6,7 +6,7 @@ use Rattle.model_text.specs.Gathering.{Nothing, at}
 use Rattle.grammar.specs.Reading.{gives, bound}
 use Rattle.grammar.specs.Tokens.{is_word}
 use Rattle.grammar.proofs.Loops.{begun_all, goes_further, is_done}
-use Rattle.model_text.specs.Reading.{read_script, read_scripts}
+use Rattle.model_text.specs.Readers.Reading.{read_script, read_scripts}
 use Rattle.model_text.proofs.ModelExact.{script_exact, script_shortens}
 use Rattle.model_text.proofs.Stopping.{rests, loop_stops}
 use Rattle.model_text.proofs.scripts.scripts_at.Goals as goal
@@ -33,7 +33,7 @@ unfolding read_scripts
 returns-in_err-script_at-clause-read c =
     let (front, going, same, tokens) = c.script.invariant in
     let p = err_from_is_err_and c.from_residual.result c.from_residual.ensures.1 in
-    rw (p.1, p.2) (loop_stops (is_word (codes "SCRIPT")) read_script front _ (at c.args.work.now Nothing) _ (lexemes c.args.cursor.now.tokens.now) c.in_err-script_at.field-0.0 going c.script-test.ensures c.in_err-script_at.ensures.read)
+    rw (p.1, p.2) (loop_stops (is_word (codes "SCRIPT")) read_script front _ (at c.args.partial.now Nothing) _ (lexemes c.args.cursor.now.tokens.now) c.in_err-script_at.field-0.0 going c.script-test.ensures c.in_err-script_at.ensures.read)
 
 pub returns-clause-read : goal.returns-clause-read
 unfolding read_scripts

@@ -1,5 +1,5 @@
 use Rattle.std.proofs.Common.{◌≡◌, take}
-use Rattle.rule_tables.specs.Evaluation.{terms_of}
+use Rattle.rule_tables.specs.Private.Evaluation.{terms_of}
 use Rattle.rule_tables.proofs.evaluate.weighted_sum.Given as goal
 
 abbrev pub invariant-loop-cell : goal.invariant-loop-cell

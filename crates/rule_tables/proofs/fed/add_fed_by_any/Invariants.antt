@@ -1,6 +1,6 @@
 use Rattle.std.proofs.Common.{◌≡◌, ◌++◌, take}
 use Rattle.std.specs.List.{flat_map}
-use Rattle.rule_tables.specs.FedCells.{fed_by_row}
+use Rattle.rule_tables.specs.Private.FedCells.{fed_by_row}
 use Rattle.rule_tables.proofs.fed.add_fed_by_any.Given as goal
 
 abbrev pub invariant-loop-feeder : goal.invariant-loop-feeder

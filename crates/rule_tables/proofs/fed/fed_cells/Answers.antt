@@ -4,7 +4,7 @@ use Rattle.std.proofs.lemmas.List.Filters.{dedup_is}
 use Rattle.std.proofs.lemmas.List.Kept.{Contains-dedup_nat, Contains-from_dedup}
 use Rattle.std.proofs.lemmas.List.Sorted.{Contains-permutation, IsPermutation-sym}
 use Rattle.std.proofs.lemmas.Map.Keys.{IsStrictlyIncreasing-dedup}
-use Rattle.rule_tables.specs.FedCells.{fed_from, is_dense_leaf}
+use Rattle.rule_tables.specs.Private.FedCells.{fed_from, is_dense_leaf}
 use Rattle.rule_tables.proofs.FedFacts.{fed-exact}
 use Rattle.rule_tables.proofs.fed.fed_cells.Goals as goal
 

@@ -1,6 +1,6 @@
 use Rattle.std.proofs.Common.{◌≡◌, ◌++◌, not, take}
 use Rattle.std.specs.List.{filter}
-use Rattle.rule_tables.specs.FedCells.{joins}
+use Rattle.rule_tables.specs.Private.FedCells.{joins}
 use Rattle.rule_tables.proofs.fed.grow.Given as goal
 
 abbrev pub invariant-loop-cell : goal.invariant-loop-cell

@@ -1,4 +1,4 @@
-use Rattle.rule_tables.specs.Evaluation.{IsNextRound}
+use Rattle.rule_tables.specs.Private.Evaluation.{IsNextRound}
 use Rattle.rule_tables.proofs.TableFacts.{AreRound-next}
 use Rattle.rule_tables.proofs.rounds.dense_value.Goals as goal
 

@@ -1,4 +1,4 @@
-use Rattle.std.proofs.Common.{rules, ◌≡◌, ◌+◌, ◌≤◌, ◌<◌, ◌∷◌, [], ◌++◌, length, length-append, refl, sym, ap, ◌∙◌, arith, ◌+ℤ◌, ◌*ℤ◌}
+use Rattle.std.proofs.Common.{rules, ◌≡◌, ◌∷◌, [], length, length-append, sym, ap, ◌∙◌, arith, ◌+ℤ◌, ◌*ℤ◌}
 use Rattle.std.proofs.Common.{to_z, of_z, w64}
 use Rattle.cell_store.specs.Entries.{below}
 use Rattle.cell_store.proofs.Rising.{Rises-from_increasing}

@@ -1,4 +1,4 @@
-use Rattle.std.proofs.Common.{rules, ◌≡◌}
+use Rattle.std.proofs.Common.{rules}
 use Rattle.user_session.specs.Planning.{value_at}
 use Rattle.user_session.proofs.total.value_at.Goals as goal
 

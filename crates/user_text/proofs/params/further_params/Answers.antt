@@ -1,28 +1,35 @@
-use Rattle.std.proofs.Common.{[], ◌∷◌, ◌++◌, Ok, codes, sym, ◌∙◌, ap, subst, arith}
+use Rattle.std.proofs.Common.{List, [], ◌∷◌, ◌++◌, ℕ, length, Ok, codes, sym, ◌∙◌, ap, subst, arith}
 use Rattle.std.proofs.lemmas.List.{length-map}
-use Rattle.grammar.proofs.After.{GoingAfter, begun_after, goes_after, is_done_after}
+use Rattle.std.proofs.lemmas.Result.{err_from_is_err_and}
+use Rattle.cube_lex.specs.Lexeme.{lexeme_of}
 use Rattle.grammar.specs.Cursor.{lexemes}
 use Rattle.grammar.specs.Tokens.{is_sign}
-use Rattle.user_text.specs.Reading.{read_next_param, read_further_params}
-use Rattle.user_text.proofs.LoadExact.{next_param_shortens}
+use Rattle.grammar.proofs.After.{Turning, turning_from, turning_on, turning_ends, turning_runs_out}
+use Rattle.grammar.proofs.Loops.{turning_stops}
+use Rattle.user_text.specs.Readers.Reading.{read_next_param, read_further_params}
+use Rattle.user_text.specs.declared.command.ParamText.{ParamText}
 use Rattle.user_text.proofs.params.further_params.Goals as goal
-
-pub param-preserved : goal.param-preserved
-param-preserved c = goes_after c.param.invariant c.param-test.ensures (ap (λ before. read_next_param before c.param.cursor.state (lexemes c.param.cursor.tokens.now)) (sym c.deref.ensures.value) ∙ c.in_ok-param.ensures) (next_param_shortens _ _ _ _ _ _ c.in_ok-param.ensures) c.in_ok-push-2.ensures.items
-
-pub param-smaller : goal.param-smaller
-param-smaller c =
-    let fewer = next_param_shortens _ _ _ _ _ _ c.in_ok-param.ensures in
-    omega (arith, simp length-map at fewer)
 
 pub param-init : goal.param-init
 unfolding read_further_params
 param-init c =
-    subst (λ params. GoingAfter (is_sign (codes ",")) read_next_param params c.args.cursor.now.state (lexemes c.args.cursor.now.tokens.now) (read_further_params c.args.first c.args.cursor.now.state (lexemes c.args.cursor.now.tokens.now)))
+    subst (λ params. Turning (is_sign (codes ",")) read_next_param params c.args.cursor.now.state (lexemes c.args.cursor.now.tokens.now) 0 (length c.args.cursor.now.tokens.now) (read_further_params c.args.first c.args.cursor.now.state (lexemes c.args.cursor.now.tokens.now)))
     (sym (c.in_ok-push.ensures.items ∙ ap (λ params. params ++ c.args.first ∷ []) c.new-params.ensures.items))
-    (begun_after (is_sign (codes ",")) read_next_param c.args.first c.args.cursor.now.state (lexemes c.args.cursor.now.tokens.now)
-    (simp length-map c.tokens_left-left.ensures.room))
+    (turning_from (is_sign (codes ",")) read_next_param (c.args.first ∷ []) c.args.cursor.now.state (lexemes c.args.cursor.now.tokens.now) (length c.args.cursor.now.tokens.now) (sym (length-map c.args.cursor.now.tokens.now lexeme_of)))
+
+pub param-preserved : goal.param-preserved
+param-preserved c = turning_on c.param.invariant c.param-test.true c.if-not-sign_comes.ensures
+    (ap (λ before. read_next_param before c.param.cursor.state (lexemes c.param.cursor.tokens.now)) (sym c.deref.ensures.value) ∙ c.in_ok-param.ensures) c.in_ok-push-2.ensures.items
+
+pub returns-then-not-sign_comes : goal.returns-then-not-sign_comes
+returns-then-not-sign_comes c = turning_ends c.param.invariant c.if-not-sign_comes.ensures ∙ ap (λ params. Ok (params, c.param.cursor.state, lexemes c.param.cursor.tokens.now)) (sym c.new.ensures)
 
 pub returns : goal.returns
-unfolding read_further_params
-returns c = is_done_after c.param.invariant (sym c.param-test.ensures) ∙ ap (λ params. Ok (params, c.param.cursor.state, lexemes c.param.cursor.tokens.now)) (sym c.new.ensures)
+returns c = turning_runs_out c.param.invariant (omega (arith, c.param-test.false)) ∙ ap (λ params. Ok (params, c.param.cursor.state, lexemes c.param.cursor.tokens.now)) (sym c.new-2.ensures)
+
+pub returns-in_err-param : goal.returns-in_err-param
+returns-in_err-param c =
+    let p = err_from_is_err_and c.from_residual-in_err-param.result c.from_residual-in_err-param.ensures.1 in
+    rw (p.1, p.2)
+    (turning_stops {Y = List ℕ × ParamText} (λ params. params) (λ param. param) c.next_param_at.new.cursor.state (lexemes c.next_param_at.new.cursor.tokens.now) c.in_err-param.field-0.0 c.param.invariant c.param-test.true c.if-not-sign_comes.ensures
+    (rw c.deref.ensures.value at c.in_err-param.ensures))

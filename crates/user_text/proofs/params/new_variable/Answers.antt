@@ -3,7 +3,7 @@ use Rattle.std.proofs.lemmas.List.{length-map}
 use Rattle.std.proofs.lemmas.Result.{err_from_is_err_and}
 use Rattle.cube_lex.specs.Lexeme.{lexeme_of}
 use Rattle.grammar.specs.Cursor.{lexemes}
-use Rattle.grammar.specs.Reading.{Dead}
+use Rattle.grammar.specs.Reading.{Unexpected}
 use Rattle.grammar.proofs.Picks.{picked, picked_stops, not_picked}
 use Rattle.user_text.specs.Counting.{count}
 use Rattle.user_text.specs.UserText.{new_variable}
@@ -21,6 +21,6 @@ returns-in_ok-advance-in-Some-2 c =
 
 pub returns-in-None : goal.returns-in-None
 returns-in-None c =
-    rw c.dead-in-None.ensures
+    rw c.unexpected-in-None.ensures
     (not_picked count (new_variable c.args.before.now) c.args.cursor.now.state (lexemes c.args.cursor.now.tokens.now) (lexeme_of c.in-Some.token) c.in-Some.ensures (sym c.in_ok-variable.ensures ∙ c.in-None.is)
-    ∙ ap (λ n. Err (Dead n)) (length-map c.args.cursor.now.tokens.now lexeme_of))
+    ∙ ap (λ n. Err (Unexpected n)) (length-map c.args.cursor.now.tokens.now lexeme_of))

@@ -1,6 +1,7 @@
 use Rattle.std.proofs.Common.{◌≡◌, length, sym, ◌∙◌, subst, ap, arith, List, ℕ, ℤ, All, IsTrue, None, Ok, Err, Option, option_map, Vec, Global}
 use Rattle.std.specs.List.{AllZip}
 use Rattle.std.proofs.lemmas.Slice.Zip.{AllZip-long}
+use Rattle.dim_order.specs.Levels.{AreLevels}
 use Rattle.dim_order.specs.Loops.{ArePartsWithin, IsOrder, first_on_loop}
 use Rattle.dim_core.specs.declared.attribute.Attribute.{Attribute}
 use Rattle.dim_core.specs.declared.fault.DimFault.{DimFault}
@@ -34,26 +35,33 @@ order_or_loop-requires-clause-within c =
     let P : List (List (ℕ × ℤ)) → Type 0 = ArePartsWithin in
     subst P (sym c.deref-2.ensures.value) (resolved_within b.names.keys b.components.items b.component_count c.in_ok-resolved.resolved.items c.self.invariant.0 resolved)
 
+pub levels_of-requires-clause-few : goal.levels_of-requires-clause-few
+levels_of-requires-clause-few c =
+    let b = c.self.inside in
+    let resolved : AllZip (IsResolved b.names.keys) b.components.items c.in_ok-resolved.resolved.items = rw (← c.deref.ensures.value) c.in_ok-resolved.ensures in
+    let long = AllZip-long (IsResolved b.names.keys) b.components.items c.in_ok-resolved.resolved.items resolved in
+    omega (arith, long, ap length c.deref-in-Ok-order_or_loop.ensures.value, c.self.invariant.0.paired, c.self.invariant.0.few)
+
 pub new-requires-clause-stored : goal.new-requires-clause-stored
 new-requires-clause-stored c =
     let b = c.self.inside in
     let resolved : AllZip (IsResolved b.names.keys) b.components.items c.in_ok-resolved.resolved.items = rw (← c.deref.ensures.value) c.in_ok-resolved.ensures in
     let P : List (List (ℕ × ℤ)) → Type 0 = λ lists. IsOrder lists c.in-Ok-order_or_loop.order.items in
-    resolved_stored b.names.keys b.components.items b.component_count c.in_ok-resolved.resolved.items c.in-Ok-order_or_loop.order.items c.self.invariant.0 resolved (subst P c.deref-2.ensures.value c.in-Ok-order_or_loop.ensures.order)
+    resolved_stored b.names.keys b.components.items b.component_count c.in_ok-resolved.resolved.items c.in-Ok-order_or_loop.order.items c.in_ok-levels-in-Ok-order_or_loop.levels.items c.self.invariant.0 resolved (subst P c.deref-2.ensures.value c.in-Ok-order_or_loop.ensures.order) (subst (λ (lists : List (List (ℕ × ℤ))). AreLevels lists c.in_ok-levels-in-Ok-order_or_loop.levels.items) c.deref-in-Ok-order_or_loop.ensures.value c.in_ok-levels-in-Ok-order_or_loop.ensures)
 
 pub new-requires-clause-attributed : goal.new-requires-clause-attributed
 new-requires-clause-attributed c =
     let b = c.self.inside in
     resolved_attributed b.name b.names.keys b.attributes.items c.in-Ok.described c.self.invariant.1 c.in-Ok.ensures.resolved c.in-Ok.ensures.once
 
-pub returns-in-Ok-order_or_loop-clause-finished : goal.returns-in-Ok-order_or_loop-clause-finished
-returns-in-Ok-order_or_loop-clause-finished c =
+pub returns-in_ok-levels-in-Ok-order_or_loop-clause-finished : goal.returns-in_ok-levels-in-Ok-order_or_loop-clause-finished
+returns-in_ok-levels-in-Ok-order_or_loop-clause-finished c =
     let b = c.self.inside in
     let resolved : AllZip (IsResolved b.names.keys) b.components.items c.in_ok-resolved.resolved.items = rw (← c.deref.ensures.value) c.in_ok-resolved.ensures in
     rw (← c.self.view_is, c.new.ensures) (resolved_finished b.name b.names.keys b.components.items c.in_ok-resolved.resolved.items b.attributes.items c.in-Ok.described c.self.invariant.0.paired resolved c.in-Ok.ensures.resolved)
 
-pub returns-in-Ok-order_or_loop-clause-answered : goal.returns-in-Ok-order_or_loop-clause-answered
-returns-in-Ok-order_or_loop-clause-answered c =
+pub returns-in_ok-levels-in-Ok-order_or_loop-clause-answered : goal.returns-in_ok-levels-in-Ok-order_or_loop-clause-answered
+returns-in_ok-levels-in-Ok-order_or_loop-clause-answered c =
     let b = c.self.inside in
     let resolved : AllZip (IsResolved b.names.keys) b.components.items c.in_ok-resolved.resolved.items = rw (← c.deref.ensures.value) c.in_ok-resolved.ensures in
     let same = first_loop-resolved b.name b.names.keys b.components.items b.attributes.items c.in_ok-resolved.resolved.items c.self.invariant.0.paired resolved in

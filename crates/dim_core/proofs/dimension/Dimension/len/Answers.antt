@@ -15,4 +15,4 @@ returns-clause-len c = rw (← c.self.view_is) (c.len.ensures.len ∙ sym (lengt
 pub returns-clause-valid : goal.returns-clause-valid
 returns-clause-valid c =
     let P : Outline → Type 0 = IsDimension in
-    subst P c.self.view_is (stored_dimension c.self.inside.name c.self.inside.names.keys c.self.inside.components.items c.self.inside.order.items c.self.inside.attributes c.self.invariant.0 c.self.invariant.1)
+    subst P c.self.view_is (stored_dimension c.self.inside.name c.self.inside.names.keys c.self.inside.components.items c.self.inside.order.items c.self.inside.levels.items c.self.inside.attributes c.self.invariant.0 c.self.invariant.1)

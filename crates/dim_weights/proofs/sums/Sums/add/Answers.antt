@@ -1,6 +1,4 @@
-use Rattle.std.proofs.Common.{◌≡◌, rules}
 use Rattle.dim_weights.proofs.Marks.{IsTouched-add}
-use Rattle.dim_weights.proofs.SumFacts.{row-fits}
 use Rattle.dim_weights.proofs.sums.Sums.add.Goals as goal
 
 pub invariant_of-self-2 : goal.invariant_of-self-2

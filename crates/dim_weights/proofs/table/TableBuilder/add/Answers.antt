@@ -1,8 +1,8 @@
-use Rattle.std.proofs.Common.{◌≡◌, ◌∙◌, ◌≤◌, ◌<◌, ap, sym, subst, ℕ, length, arith}
-use Rattle.dim_weights.specs.Rows.{Rows, pairs_over}
-use Rattle.dim_weights.specs.Sums.{IsRow}
+use Rattle.std.proofs.Common.{◌≡◌, ◌≤◌, ◌<◌, ap, subst, ℕ, length, arith}
+use Rattle.dim_weights.specs.Private.Rows.{Rows, pairs_over}
+use Rattle.dim_weights.specs.Private.Sums.{IsRow}
 use Rattle.dim_weights.specs.Table.{greatest_in}
-use Rattle.dim_weights.proofs.MadeRows.{IsRow-made, IsBuilding-add, AreParts-of}
+use Rattle.dim_weights.proofs.MadeRows.{IsRow-made, IsBuilding-add}
 use Rattle.dim_weights.proofs.table.TableBuilder.add.Goals as goal
 
 pub invariant_of-self : goal.invariant_of-self

@@ -1,4 +1,4 @@
-use Rattle.dim_weights.proofs.MadeRows.{none-push, IsBuilding-none}
+use Rattle.dim_weights.proofs.MadeRows.{IsBuilding-none}
 use Rattle.dim_weights.proofs.table.TableBuilder.new.Goals as goal
 
 pub invariant_of-result : goal.invariant_of-result

@@ -1,6 +1,6 @@
 use Rattle.std.proofs.Common.{◌≡◌, ◌<◌, length, Some, sym, ◌∙◌}
 use Rattle.version_core.specs.CoreState.{user_at}
-use Rattle.version_core.specs.Stored.{core_of}
+use Rattle.version_core.specs.Inside.Stored.{core_of}
 use Rattle.version_core.proofs.Finding.{on_err}
 use Rattle.version_core.proofs.Steps.{user_here, give_done, stays, stays_stored}
 use Rattle.version_core.proofs.state.Core.add_command.Goals as goal

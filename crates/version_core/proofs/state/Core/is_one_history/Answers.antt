@@ -1,5 +1,5 @@
 use Rattle.std.proofs.Common.{subst}
-use Rattle.version_core.specs.Stored.{core_of}
+use Rattle.version_core.specs.Inside.Stored.{core_of}
 use Rattle.version_core.specs.OneHistory.{IsOneHistory}
 use Rattle.version_core.proofs.Cores.{sound_history}
 use Rattle.version_core.proofs.state.Core.is_one_history.Goals as goal

@@ -1,5 +1,5 @@
 use Rattle.std.proofs.Common.{◌<◌, length, sym, ◌∙◌, refl}
-use Rattle.version_core.specs.Stored.{core_of}
+use Rattle.version_core.specs.Inside.Stored.{core_of}
 use Rattle.version_core.proofs.Steps.{user_here, keep_done, keep_again}
 use Rattle.version_core.proofs.state.Core.keep.Goals as goal
 

@@ -1,5 +1,5 @@
 use Rattle.std.proofs.Common.{◌<◌, length, sym, ◌∙◌}
-use Rattle.version_core.specs.Stored.{core_of}
+use Rattle.version_core.specs.Inside.Stored.{core_of}
 use Rattle.version_core.proofs.Steps.{user_here, read_done}
 use Rattle.version_core.proofs.state.Core.read.Goals as goal
 

@@ -1,0 +1,65 @@
+ghost use Rattle.std.specs.Prelude.{◌≡◌, [], length, IfOk};
+ghost use Rattle.std.specs.List.Sorted.{IsStrictlyIncreasing};
+ghost use Rattle.cell_store.specs.Cells.{IsUnion};
+
+use crate::cells::CellSet;
+use crate::groups::Groups;
+use crate::writes::last_writes;
+use std::alloc::{AllocError, Global};
+use std::marker::Model;
+
+/// A set of cells, in pages that it shares with the sets that were made from it.
+#[derive(Debug, Drop)]
+pub struct PageSet {
+    groups: Groups<u64>,
+    len: usize,
+}
+
+impl Model for PageSet {
+    ghost use Rattle.std.specs.Prelude.{List, ℕ};
+    ghost use Rattle.cell_store.specs.Private.Groups.{all_entries};
+    ghost use Rattle.cell_store.specs.Private.Sets.{IsKept};
+
+    ghost Value = { List ℕ };
+
+    ghost view = { λ s. all_entries s.groups };
+
+    ghost invariant = { λ s. IsKept s.groups s.len };
+}
+
+impl PageSet {
+    /// The set without cells.
+    pub fn new(alloc: Global) -> PageSet
+        ensures { result ≡ [] }
+    {
+        PageSet {
+            groups: Groups::new(alloc),
+            len: 0,
+        }
+    }
+
+    /// How many cells the set has.
+    pub fn len(&self) -> u64
+        ensures { result ≡ length self.now }
+    {
+        self.len as u64
+    }
+
+    /// The set with these cells too, in whatever order they come.
+    pub fn with(&self, alloc: Global, cells: &[u64]) -> Result<PageSet, AllocError>
+        ensures { IfOk result (λ union. IsUnion self.now cells.now union) }
+    {
+        let cells = last_writes(alloc, cells)?;
+        let groups = self.groups.changed(alloc, &cells)?;
+        let len = groups.count()?;
+        Ok(PageSet { groups, len })
+    }
+}
+
+impl CellSet for PageSet {
+    ghost cells = { λ set. set };
+
+    fn next_from(&self, cell: u64) -> Option<u64> {
+        self.groups.first_from(cell)
+    }
+}

@@ -1,0 +1,33 @@
+ghost use Rattle.std.specs.Prelude.{◌≡◌, ℕ, List, IfOk};
+ghost use Rattle.std.specs.List.Sorted.{IsNonDecreasingBy};
+ghost use Rattle.cell_store.specs.Private.Order.{IsRising, HaveSameLast};
+
+use crate::order::Stored;
+use crate::places::count_below;
+use std::alloc::{AllocError, Global};
+
+/// The last write of each cell, in the order of the cells.
+pub fn last_writes<E: Stored>(alloc: Global, writes: &[E]) -> Result<Vec<E>, AllocError>
+    ensures rising { IfOk result (λ last. IsRising E.cell last.items) }
+    ensures last { IfOk result (λ last. HaveSameLast E.cell last.items writes.now) }
+{
+    let mut sorted = Vec::from_slice(alloc, writes)?;
+    sorted.sort_by_key(|write| write.cell())?;
+    let last = last_sorted(alloc, &sorted)?;
+    Ok(last)
+}
+
+// The last write of each cell, of writes that come in the order of the cells.
+fn last_sorted<E: Stored>(alloc: Global, writes: &[E]) -> Result<Vec<E>, AllocError>
+    requires { IsNonDecreasingBy E.cell writes.now }
+    ensures rising { IfOk result (λ last. IsRising E.cell last.items) }
+    ensures last { IfOk result (λ last. HaveSameLast E.cell last.items writes.now) }
+{
+    let mut last = Vec::with_capacity(alloc, writes.len())?;
+    for write in writes {
+        let below = count_below(&last, write.cell());
+        last.truncate(below);
+        last.push(*write)?;
+    }
+    Ok(last)
+}

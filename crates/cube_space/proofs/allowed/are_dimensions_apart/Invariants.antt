@@ -1,7 +1,0 @@
-use Rattle.std.proofs.Common.{drop, map}
-use Rattle.std.specs.List.{IsDistinct}
-use Rattle.dim_name.specs.Name.{is_same_name}
-use Rattle.cube_space.proofs.allowed.are_dimensions_apart.Given as goal
-
-abbrev pub invariant-loop-i : goal.invariant-loop-i
-invariant-loop-i l = IsDistinct is_same_name (map (λ dimension. dimension.name) (drop l.i l.dims))

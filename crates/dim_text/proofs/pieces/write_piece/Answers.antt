@@ -1,4 +1,0 @@
-use Rattle.dim_text.proofs.pieces.write_piece.Goals as goal
-
-pub returns-in-Sign : goal.returns-in-Sign
-returns-in-Sign c = rw c.in-Sign.is c.write_sign.ensures.ok

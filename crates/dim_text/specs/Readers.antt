@@ -1,0 +1,3 @@
+-- The readers of the code, and what its private functions answer.
+pub mod Reading
+pub mod Views

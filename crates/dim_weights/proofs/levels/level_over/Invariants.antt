@@ -1,6 +1,0 @@
-use Rattle.std.proofs.Common.{◌≡◌, take, slice_index}
-use Rattle.dim_weights.specs.Coefficients.{level_over}
-use Rattle.dim_weights.proofs.levels.level_over.Given as goal
-
-abbrev pub invariant-loop-part : goal.invariant-loop-part
-invariant-loop-part l = l.greatest ≡ level_over (slice_index l.levels) (take l.part-index l.parts)

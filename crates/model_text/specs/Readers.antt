@@ -1,0 +1,4 @@
+-- The readers of the code, and what its private functions answer.
+pub mod Reading
+pub mod Views
+pub mod Sections

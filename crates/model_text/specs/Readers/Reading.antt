@@ -1,0 +1,231 @@
+-- The readers of a model text, in the shape of the code.
+use Rattle.std.specs.Prelude.{ℕ, List, Option, Some, None, codes, Err}
+use Rattle.cube_lex.specs.Lexeme.{Lexeme}
+use Rattle.grammar.specs.Watch.{unscanned}
+use Rattle.grammar.specs.Reading.{OutOfTurns, Reader, gives, take_one, choose, all_of, checked}
+use Rattle.grammar.specs.Reading.{inside_result, inside, ◌>>=◌, ◌>>◌}
+use Rattle.grammar.specs.Lists.{read_listed}
+use Rattle.grammar.specs.Tokens.{sign, word, whole, name, file, located, is_sign, is_word, is_number}
+use Rattle.grammar.specs.declared.cursor.Unwatched.{Unwatched}
+use Rattle.dim_text.specs.Progress.{Progress}
+use Rattle.dim_text.specs.Readers.Reading.{read_body}
+use Rattle.model_text.specs.Statement.{Piece, Version, Closing, DimensionWord, CubeWord, ScriptWord, QuotedText}
+use Rattle.model_text.specs.Statement.{CubeDimension, CubeEnd, line_of}
+use Rattle.model_text.specs.Gathering.{Given, gathered}
+use Rattle.model_text.specs.Watching.{Seen, with_given, head_of, with_block, of_block}
+use Rattle.model_text.specs.declared.order.OrderLine.{OrderLine}
+use Rattle.model_text.specs.declared.order.OrderWord.{OrderWord}
+use Rattle.model_text.specs.declared.order.OrderWord.TheVariants as words
+use Rattle.model_text.specs.declared.fault.ModelTextFault.{ModelTextFault}
+
+-- a reader of a part of a piece, which nothing watches
+abbrev pub Plain : Type 0 → Type 0
+Plain A = Reader Lexeme Unwatched ModelTextFault A
+
+unfoldable pub read_version : Plain Piece
+read_version = do
+  take_one unscanned (word (codes "MODEL"))
+  n ← take_one unscanned (located whole)
+  gives (Version n.0 n.1)
+
+unfoldable pub read_closing : Plain Piece
+read_closing = do
+  take_one unscanned (sign (codes ";"))
+  gives Closing
+
+unfoldable pub read_dimension_word : Plain Piece
+read_dimension_word = do
+  line ← take_one unscanned (word (codes "DIM"))
+  gives (DimensionWord line)
+
+unfoldable pub read_cube_word : Plain Piece
+read_cube_word = do
+  line ← take_one unscanned (word (codes "CUBE"))
+  gives (CubeWord line)
+
+unfoldable pub read_script_word : Plain Piece
+read_script_word = do
+  line ← take_one unscanned (word (codes "SCRIPT"))
+  gives (ScriptWord line)
+
+unfoldable pub read_naming : Plain Piece
+read_naming = do
+  n ← take_one unscanned (located name)
+  gives (QuotedText n.0 n.1)
+
+unfoldable pub read_script_file : Plain Piece
+read_script_file = do
+  n ← take_one unscanned (located file)
+  gives (QuotedText n.0 n.1)
+
+unfoldable pub read_dimension_behind : List ℕ → Plain Piece
+read_dimension_behind bytes = do
+  take_one unscanned (sign bytes)
+  n ← take_one unscanned (located name)
+  gives (CubeDimension n.0 n.1)
+
+unfoldable pub read_rules : Plain (Option (ℕ × List ℕ))
+read_rules = choose (is_word (codes "RULES"))
+    (do
+      line ← take_one unscanned (word (codes "RULES"))
+      bytes ← take_one unscanned file
+      take_one unscanned (sign (codes ";"))
+      gives (Some (line, bytes)))
+    (gives None)
+
+unfoldable pub read_rank : Plain (List ℕ × ℕ)
+read_rank = do
+  shown ← take_one unscanned name
+  n ← take_one unscanned whole
+  gives (shown, n)
+
+-- behind the name of a position's dimension
+unfoldable pub read_ranks : List ℕ → Plain OrderWord
+read_ranks shown = choose (is_sign (codes "("))
+    (do
+      take_one unscanned (sign (codes "("))
+      list ← read_listed unscanned read_rank
+      take_one unscanned (sign (codes ")"))
+      gives (words.Ranks shown list))
+    (gives (words.Index shown))
+
+unfoldable pub read_position : Plain OrderWord
+read_position = choose is_number
+    (do
+      n ← take_one unscanned whole
+      gives (words.Constant n))
+    (do
+      shown ← take_one unscanned name
+      read_ranks shown)
+
+unfoldable pub read_order : Plain (Option (ℕ × OrderLine))
+read_order = choose (is_word (codes "ORDER"))
+    (do
+      line ← take_one unscanned (word (codes "ORDER"))
+      list ← read_listed unscanned read_position
+      take_one unscanned (sign (codes ";"))
+      gives (Some (line, line_of list)))
+    (gives None)
+
+unfoldable pub read_cube_end : Plain Piece
+read_cube_end = do
+  take_one unscanned (sign (codes ")"))
+  take_one unscanned (sign (codes ";"))
+  r ← read_rules
+  o ← read_order
+  take_one unscanned (word (codes "END"))
+  take_one unscanned (sign (codes ";"))
+  gives (CubeEnd r o)
+
+-- a reader of pieces outside of bodies
+abbrev pub Gatherer : Type 0
+Gatherer = Reader Lexeme Given ModelTextFault (Unit {0})
+
+-- a piece that is gathered
+abbrev pub gather : Plain Piece → Reader Lexeme Given ModelTextFault Piece
+gather P = checked (record {}) gathered P
+
+abbrev pub unit_of : {R A : Type 0} → Reader Lexeme R ModelTextFault A → Reader Lexeme R ModelTextFault (Unit {0})
+unit_of P = do
+  P
+  gives tt
+
+unfoldable pub gather_version : Gatherer
+gather_version = unit_of (gather read_version)
+
+abbrev pub gather_closing : Gatherer
+gather_closing = unit_of (gather read_closing)
+
+unfoldable pub gather_dimension_word : Gatherer
+gather_dimension_word = unit_of (gather read_dimension_word)
+
+unfoldable pub gather_cube_word : Gatherer
+gather_cube_word = unit_of (gather read_cube_word)
+
+unfoldable pub gather_script_word : Gatherer
+gather_script_word = unit_of (gather read_script_word)
+
+unfoldable pub gather_naming : Gatherer
+gather_naming = unit_of (gather read_naming)
+
+abbrev pub gather_script_file : Gatherer
+gather_script_file = unit_of (gather read_script_file)
+
+abbrev pub gather_first_dimension : Gatherer
+gather_first_dimension = unit_of (gather (read_dimension_behind (codes "(")))
+
+unfoldable pub gather_further_dimensions : Gatherer
+gather_further_dimensions = unit_of (all_of (is_sign (codes ",")) (gather (read_dimension_behind (codes ","))))
+
+unfoldable pub gather_cube_end : Gatherer
+gather_cube_end = unit_of (gather read_cube_end)
+
+unfoldable pub read_opening : Gatherer
+read_opening = do
+  gather_version
+  gather_closing
+
+unfoldable pub read_dimension_head : Gatherer
+read_dimension_head = do
+  gather_dimension_word
+  gather_naming
+  gather_closing
+
+unfoldable pub read_cube_head : Gatherer
+read_cube_head = do
+  gather_cube_word
+  gather_naming
+
+unfoldable pub read_cube_dimensions : Gatherer
+read_cube_dimensions = do
+  gather_first_dimension
+  gather_further_dimensions
+
+unfoldable pub read_cube : Gatherer
+read_cube = do
+  read_cube_head
+  read_cube_dimensions
+  gather_cube_end
+
+unfoldable pub read_script : Gatherer
+read_script = do
+  gather_script_word
+  gather_naming
+  gather_script_file
+  gather_closing
+
+unfoldable pub read_cubes : Gatherer
+read_cubes = unit_of (all_of (is_word (codes "CUBE")) read_cube)
+
+unfoldable pub read_scripts : Gatherer
+read_scripts = unit_of (all_of (is_word (codes "SCRIPT")) read_script)
+
+-- a reader of a model text
+abbrev pub SeenReader : Type 0
+SeenReader = Reader Lexeme Seen ModelTextFault (Unit {0})
+
+abbrev pub outside : Gatherer → SeenReader
+outside P = inside (λ s. s.given) with_given (λ s fault. fault) P
+
+-- where a body begins with this, which only code behind a head answers
+abbrev pub body_from : Option Progress → SeenReader
+body_from None s ts = Err OutOfTurns
+body_from (Some start) s ts = inside_result (with_block s) of_block (read_body start ts)
+
+unfoldable pub read_dimension_body : SeenReader
+read_dimension_body s ts = body_from (head_of s.given.current) s ts
+
+unfoldable pub read_dimension : SeenReader
+read_dimension = do
+  outside read_dimension_head
+  read_dimension_body
+
+unfoldable pub read_dimensions : SeenReader
+read_dimensions = unit_of (all_of (is_word (codes "DIM")) read_dimension)
+
+unfoldable pub read_model : SeenReader
+read_model = do
+  outside read_opening
+  read_dimensions
+  outside read_cubes
+  outside read_scripts

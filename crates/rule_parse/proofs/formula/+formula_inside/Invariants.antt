@@ -1,4 +1,0 @@
-use Rattle.rule_parse.proofs.formula.+formula_inside.Given as goal
-
-abbrev pub decreases-formula_inside : goal.decreases-formula_inside
-decreases-formula_inside l = l.left

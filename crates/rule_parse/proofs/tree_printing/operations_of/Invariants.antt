@@ -1,5 +1,0 @@
-use Rattle.rule_parse.specs.Spine.{Spine}
-use Rattle.rule_parse.proofs.tree_printing.operations_of.Given as goal
-
-abbrev pub invariant-down : goal.invariant-down
-invariant-down l = Spine l.level l.tree l.operations.items l.head

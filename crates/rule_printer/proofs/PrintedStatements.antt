@@ -1,0 +1,86 @@
+-- Statements and feeders, written again, are read as the same.
+use Rattle.std.proofs.Common.{List, [], ◌∷◌, Bool, true, false, sym, subst, inl, inr, codes, ℕ, append-nil}
+use Rattle.cube_lex.specs.Lexeme.{Lexeme}
+use Rattle.expression_grammar.proofs.PrintedTokens.{Spells, spells_both, spells_next, spells_made, spells_left, spells_right, spells_done, picks_sign}
+use Rattle.rule_tree.specs.Counting.{start}
+use Rattle.rule_tree.specs.Formula.{formula}
+use Rattle.rule_tree.specs.RuleText.{ended, part, leaf_first, cons_first, body, statement, target, feeder, skipcheck, feeders, rules}
+use Rattle.rule_printer.specs.Spelled.{tree_spelled, ended_spelled, part_spelled, body_spelled, statement_spelled, target_spelled, feeder_spelled, skipcheck_spelled, feeders_spelled, rules_spelled}
+use Rattle.rule_tree.specs.declared.counted.Place.TheVariants as places
+use Rattle.rule_tree.specs.declared.rule.BodyText.{BodyText}
+use Rattle.rule_tree.specs.declared.rule.BodyText.TheVariants as bodies
+use Rattle.rule_tree.specs.declared.rule.FeederText.{FeederText}
+use Rattle.rule_tree.specs.declared.rule.RuleText.{RuleText}
+use Rattle.rule_tree.specs.declared.rule.StatementText.{StatementText}
+use Rattle.rule_tree.specs.declared.rule.TargetText.{TargetText}
+use Rattle.rule_tree.specs.declared.rule.TargetText.TheVariants as targets
+use Rattle.rule_tree.specs.declared.tree.Tree.{Tree}
+use Rattle.rule_printer.proofs.PrintedBrackets.{bracket_again, area_again}
+use Rattle.rule_printer.proofs.PrintedCalls.{formula_again}
+use Rattle.rule_printer.proofs.PrintedCounting.{formula_place}
+use Rattle.rule_printer.proofs.PrintedWords.{spells_word, many_again, listed_again}
+
+pub formula_spells : (u : List Lexeme) (e : Tree) → formula u e → Spells formula (tree_spelled e) e
+formula_spells u e h = (formula_again places.Formula 0 formula_place start).text u e h
+
+pub ended_again : (u : List Lexeme) (e : Tree) → ended u e → Spells ended (ended_spelled e) e
+ended_again u e (v, w, tree, parts, h, (x, y, _, further, semicolon, (nothing, is))) =
+    subst (λ e. Spells ended (ended_spelled e) e) (sym is) (spells_both (formula_spells v tree h) (spells_next (picks_sign (codes ";")) (spells_done tree)))
+
+pub part_again : (mark : List ℕ) (u : List Lexeme) (e : Tree) → part mark u e → Spells (part mark) (part_spelled mark e) e
+part_again mark u e (v, w, _, parts, marked, (x, y, _, further, colon, h)) = spells_word mark (λ _. spells_next (picks_sign (codes ":")) (ended_again y e h))
+
+leaf_first_again : (u : List Lexeme) (b : BodyText) → leaf_first u b → Spells leaf_first (body_spelled b) b
+leaf_first_again u b (v, w, leaf, parts, h, inl (x, y, cons, further, g, (nothing, is))) =
+    subst (λ b. Spells leaf_first (body_spelled b) b) (sym is) (spells_both (part_again (codes "N") v leaf h) (spells_left (spells_made (λ cons. bodies.LeafCons leaf cons) (part_again (codes "C") x cons g))))
+leaf_first_again u b (v, w, leaf, parts, h, inr (nothing, is)) =
+    subst (λ b. Spells leaf_first (body_spelled b) b) (sym is) (subst (λ l. Spells leaf_first l (bodies.Leaf leaf)) (append-nil (part_spelled (codes "N") leaf))
+    (spells_both (part_again (codes "N") v leaf h) (spells_right (spells_done (bodies.Leaf leaf)))))
+
+cons_first_again : (u : List Lexeme) (b : BodyText) → cons_first u b → Spells cons_first (body_spelled b) b
+cons_first_again u b (v, w, cons, parts, h, inl (x, y, leaf, further, g, (nothing, is))) =
+    subst (λ b. Spells cons_first (body_spelled b) b) (sym is) (spells_both (part_again (codes "C") v cons h) (spells_left (spells_made (λ leaf. bodies.ConsLeaf cons leaf) (part_again (codes "N") x leaf g))))
+cons_first_again u b (v, w, cons, parts, h, inr (nothing, is)) =
+    subst (λ b. Spells cons_first (body_spelled b) b) (sym is) (subst (λ l. Spells cons_first l (bodies.Cons cons)) (append-nil (part_spelled (codes "C") cons))
+    (spells_both (part_again (codes "C") v cons h) (spells_right (spells_done (bodies.Cons cons)))))
+
+pub body_again : (u : List Lexeme) (b : BodyText) → body u b → Spells body (body_spelled b) b
+body_again u b (inl h) = spells_left (leaf_first_again u b h)
+body_again u b (inr (inl h)) = spells_right (spells_left (cons_first_again u b h))
+body_again u b (inr (inr (v, w, tree, parts, h, (nothing, is)))) =
+    subst (λ b. Spells body (body_spelled b) b) (sym is) (spells_right (spells_right (spells_made (λ tree. bodies.Both tree) (ended_again v tree h))))
+
+pub statement_again : (u : List Lexeme) (s : StatementText) → statement u s → Spells statement (statement_spelled s) s
+statement_again u s (v, w, cells, parts, h, (x, y, _, further, equal, (a, b, given, more, g, (nothing, is)))) =
+    subst (λ s. Spells statement (statement_spelled s) s) (sym is)
+    (spells_both (area_again v cells h) (spells_next (picks_sign (codes "=")) (spells_made (λ given. record { area = cells; body = given }) (body_again a given g))))
+
+pub target_again : (u : List Lexeme) (t : TargetText) → target u t → Spells target (target_spelled t) t
+target_again u t (inl (v, w, simples, parts, h, (nothing, is))) =
+    subst (λ t. Spells target (target_spelled t) t) (sym is) (spells_left (spells_made (λ l. targets.Bracket l) (bracket_again v simples h)))
+target_again u t (inr (v, w, _, parts, named, (x, y, _, further, opens, (a, b, arguments, more, h, (c, d, _, ends, closes, (nothing, is)))))) =
+    subst (λ t. Spells target (target_spelled t) t) (sym is)
+    (spells_right (spells_word (codes "DB") (λ _. spells_next (picks_sign (codes "(")) (spells_both (listed_again formula formula tree_spelled formula_spells formula_spells a arguments h)
+    (spells_next (picks_sign (codes ")")) (spells_done (targets.Db arguments)))))))
+
+pub feeder_again : (u : List Lexeme) (f : FeederText) → feeder u f → Spells feeder (feeder_spelled f) f
+feeder_again u f (v, w, cells, parts, h, (x, y, _, further, arrow, (a, b, fed, more, g, (c, d, _, ends, semicolon, (nothing, is))))) =
+    subst (λ f. Spells feeder (feeder_spelled f) f) (sym is)
+    (spells_both (area_again v cells h) (spells_next (picks_sign (codes "=>")) (spells_both (listed_again target target target_spelled target_again target_again a fed g)
+    (spells_next (picks_sign (codes ";")) (spells_done (record { area = cells; targets = fed }))))))
+
+skipcheck_again : (b : Bool) → Spells skipcheck (skipcheck_spelled b) b
+skipcheck_again true = spells_left (spells_word (codes "SKIPCHECK") (λ _. spells_next (picks_sign (codes ";")) (spells_done true)))
+skipcheck_again false = spells_right (spells_done false)
+
+feeders_again : (list : List FeederText) (u : List Lexeme) → feeders u list → Spells feeders (feeders_spelled list) list
+feeders_again [] u h = spells_right (spells_done [])
+feeders_again (first ∷ rest) u (inl (v, w, _, parts, named, (x, y, _, further, semicolon, h))) =
+    spells_left (spells_word (codes "FEEDERS") (λ _. spells_next (picks_sign (codes ";")) (many_again feeder feeder_spelled feeder_again (first ∷ rest) y h)))
+feeders_again (first ∷ rest) u (inr (nothing, is)) = cc
+
+pub rules_again : (u : List Lexeme) (text : RuleText) → rules u text → Spells rules (rules_spelled text) text
+rules_again u text (v, w, skips, parts, h, (x, y, statements, further, g, (a, b, feeding, more, k, (nothing, is)))) =
+    subst (λ text. Spells rules (rules_spelled text) text) (sym is)
+    (spells_both (skipcheck_again skips) (spells_both (many_again statement statement_spelled statement_again statements x g)
+    (spells_made (λ feeding. record { skipcheck = skips; statements = statements; feeders = feeding }) (feeders_again feeding a k))))

@@ -1,0 +1,8 @@
+use Rattle.std.proofs.Common.{take}
+use Rattle.std.specs.List.{flat_map}
+use Rattle.cube_lex.specs.Written.{Writes}
+use Rattle.rule_printer.specs.Spelled.{feeder_spelled}
+use Rattle.rule_printer.proofs.printing.write_each_feeder.Given as goal
+
+abbrev pub invariant-loop-index : goal.invariant-loop-index
+invariant-loop-index l = Writes l.fn.out.items l.out.items (flat_map feeder_spelled (take l.index l.feeders))

@@ -1,0 +1,9 @@
+pub mod BracketExact
+pub mod AreaExact
+pub mod PrimaryExact
+pub mod FormulaExact
+pub mod FeederExact
+pub mod WordFirst
+pub mod StatementExact
+pub mod RulesExact
+pub mod Answering

@@ -1,0 +1,3 @@
+-- The readers of the code.
+pub mod Reading
+pub mod TextReading

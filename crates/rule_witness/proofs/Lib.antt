@@ -1,0 +1,5 @@
+pub mod FormulaFolds
+pub mod WellFormed
+pub mod Ordered
+pub mod Covered
+pub mod Values

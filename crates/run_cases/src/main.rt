@@ -1,0 +1,64 @@
+//! Cases of whole runs, over files and a sink in memory. `stdin` holds the cases and `stdout` what must come; a case
+//! costs its run alone, and no proof.
+//!
+//! A case is a heading, its lines, and an empty line:
+//!
+//! ```text
+//! run: a total                         KIND: TITLE
+//! words model.txt a.txt                the words of the program
+//! file model.txt                       a file, of the lines that follow
+//! +plan                                the lines of the text that is named `plan`
+//! file a.txt
+//! |GET 'Plan' ('Actual', 'Q1');        a line, with its line end
+//! ```
+//!
+//! Lines of a file are those of [`case_lines::spell`]. A case `text: NAME` gives its lines a name, for later cases.
+//! Before the files of a run may stand `word WORD`, for a word that is empty or has spaces; `read 2 fails`; and
+//! `write 2 fails after 3`, where the first 3 bytes of that piece are written. Reads and writes count from 1.
+//!
+//! A case `store: TITLE` is one of stored cells; [`stores::answer`] has its lines. Lines that begin with `#` head a
+//! section.
+//!
+//! The program writes each case again, and behind it the answer, each line of it behind `> `: of a run its status and
+//! what was written.
+#![tactic(auto)]
+
+mod cases;
+mod runs;
+mod stores;
+mod texts;
+
+use crate::cases::{Case, case_of, write_ending};
+use crate::texts::Texts;
+use case_lines::write_answer;
+use cube_outside::FreeGate;
+use cube_server::run_cubes;
+use std::io;
+use std::io::Write;
+
+fn main(rt: HostRuntime) -> io::Result<()> {
+    let cases = io::read_to_string(rt.alloc(), rt.reader())?;
+    let mut texts = Texts::new(rt.alloc());
+    let mut written = Vec::new(rt.alloc());
+    for case in cases.trim_end_matches('\n').split("\n\n") {
+        let case = case.trim_matches('\n');
+        written.extend_from_slice(case.as_bytes())?;
+        written.push(b'\n')?;
+        match case_of(rt.alloc(), &mut texts, case)? {
+            Case::Silent => {}
+            Case::Answer(answer) => write_answer(&mut written, &answer)?,
+            Case::Run(mut run) => {
+                let status = run_cubes(
+                    rt.alloc(),
+                    &run.words,
+                    &mut run.files,
+                    &mut run.out,
+                    &FreeGate,
+                );
+                write_ending(rt.alloc(), &mut written, status, run.out.bytes())?;
+            }
+        }
+        written.push(b'\n')?;
+    }
+    io::writer(&rt).write_all(&written)
+}

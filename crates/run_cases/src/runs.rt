@@ -1,0 +1,76 @@
+use crate::texts::Texts;
+use cube_outside::{MemoryFiles, MemorySink};
+use std::alloc::{AllocError, Global};
+
+/// What a run is made of.
+#[derive(Drop)]
+pub struct Run {
+    pub words: Vec<String>,
+    pub files: MemoryFiles,
+    pub out: MemorySink,
+}
+
+/// The run of these lines, first those without a file and then those of each file. None where a line is none of a run.
+pub fn run_of(alloc: Global, texts: &Texts, lines: &str) -> Result<Option<Run>, AllocError> {
+    let mut run = Run {
+        words: Vec::new(alloc),
+        files: MemoryFiles::new(alloc),
+        out: MemorySink::new(alloc),
+    };
+    let (settings, files) = match lines.split_once("\nfile ") {
+        Some((settings, files)) => (settings, Some(files)),
+        None => (lines, None),
+    };
+    for line in settings.split('\n') {
+        if !run.set(alloc, line)? {
+            return Ok(None);
+        }
+    }
+    if let Some(files) = files
+        && !run.put_files(alloc, texts, files)?
+    {
+        return Ok(None);
+    }
+    Ok(Some(run))
+}
+
+impl Run {
+    // Takes a line that stands before the files.
+    fn set(&mut self, alloc: Global, line: &str) -> Result<bool, AllocError> {
+        if let Some(word) = line.strip_prefix("word ") {
+            self.words.push(String::from_str(alloc, word)?)?;
+            return Ok(true);
+        }
+        let parts: Vec<&str> = line.split(' ').collect(alloc)?;
+        match parts.as_slice() {
+            [""] => {}
+            ["words", words @ ..] => {
+                for word in words {
+                    self.words.push(String::from_str(alloc, word)?)?;
+                }
+            }
+            ["read", call, "fails"] => self.files.fail_at(number(call))?,
+            ["write", call, "fails", "after", kept] => {
+                self.out.fail_at(number(call), number(kept) as usize)?;
+            }
+            _ => return Ok(false),
+        }
+        Ok(true)
+    }
+
+    // Puts files, of which each is its name and its lines.
+    fn put_files(&mut self, alloc: Global, texts: &Texts, files: &str) -> Result<bool, AllocError> {
+        for file in files.split("\nfile ") {
+            let (name, lines) = file.split_once('\n').unwrap_or((file, ""));
+            let Some(text) = texts.text_of(alloc, lines)? else {
+                return Ok(false);
+            };
+            self.files.put(name, &text)?;
+        }
+        Ok(true)
+    }
+}
+
+fn number(digits: &str) -> u64 {
+    digits.parse::<u64>().unwrap_or(0)
+}

@@ -1,0 +1,20 @@
+-- What users are told, as text.
+use Rattle.std.specs.Prelude.{ℕ, List, ◌++◌, codes, decimal}
+use Rattle.cube_fixed.specs.Text.{printed}
+use Rattle.user_session.specs.declared.reply.Reason.{Reason}
+use Rattle.user_session.specs.declared.reply.Reason.TheVariants.{UnknownName, NotALeaf, StoreLimit}
+use Rattle.user_session.specs.declared.reply.Reply.{Reply}
+use Rattle.user_session.specs.declared.reply.Reply.TheVariants.{Committed, Rejected, Found, Refused}
+
+-- the name of a reason
+abbrev pub reason_text : Reason → List ℕ
+reason_text UnknownName = codes "UnknownName"
+reason_text NotALeaf = codes "NotALeaf"
+reason_text StoreLimit = codes "StoreLimit"
+
+-- `committed N`, `rejected REASON`, the value, or `refused REASON`
+abbrev pub reply_text : Reply → List ℕ
+reply_text (Committed cells) = codes "committed " ++ decimal cells
+reply_text (Rejected reason) = codes "rejected " ++ reason_text reason
+reply_text (Found value) = printed value
+reply_text (Refused reason) = codes "refused " ++ reason_text reason

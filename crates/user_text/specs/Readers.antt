@@ -1,0 +1,2 @@
+-- The readers of the code.
+pub mod Reading
