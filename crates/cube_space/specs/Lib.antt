@@ -1,5 +1,5 @@
 pub mod Cells
-pub mod Kept
 pub mod Layout
+pub mod Private
 pub mod Radix
 pub mod Refusal
