@@ -83,6 +83,24 @@ module _ {A R C : Type 0} (G : Grammar Lexeme A) (W : Watch Lexeme R C) (start :
         apart h.fault h.before h.rest front g.refused.rest c h.within h.fails g.refused.refused g.refused.alive
         (fronts h.before h.rest front g.refused.rest (sym h.parts ∙ ap (λ z. z.lexemes) lexed ∙ g.refused.parts ∙ sym (append_assoc g.refused.before (g.refused.last ∷ []) g.refused.rest)))
 
+    -- where each text that passes has one tree
+    module _ (one : (ts : List Lexeme) (x y : A) (r : R) → Passes W start ts r → G ts x → G ts y → x ≡ y) where
+      one_tree_is : (bytes : List ℕ) (x y : A) (r m : R) → IsWholeText G W start bytes x r → IsWholeText G W start bytes y m → x ≡ y
+      one_tree_is bytes x y r m h g =
+          let (lexed, _) = reading-only bytes h.lexed g.lexed None None h.reading g.reading in
+          one h.lexed.lexemes x y r h.text.passes h.text.text (subst (λ z. G z.lexemes y) (sym lexed) g.text.text)
+
+      pub one_answer : HasOneAnswer G W start
+      one_answer = record {
+        one_tree = one_tree_is;
+        one_line = one_line_is;
+        one_cause = one_cause_is;
+        no_syntax = no_syntax_is;
+        no_refusal = no_refusal_is;
+        one_fault = one_fault_is;
+      }
+
+    -- where one reader is exact and settles on every list
     module _ {P : Reader Lexeme R C A} {S : List Lexeme → Type 0} (e : Exact W G G P S) (nothing : S []) (s : Settles P) where
       agreed : (ts : List Lexeme) (x y : A) (r : R) → Passes W start ts r → (read : Read Lexeme R C A) → Outcome G W P start ts read → IsSettled read → Agrees x [] read → Agrees y [] read → x ≡ y
       unfolding Outcome Agrees
@@ -94,18 +112,8 @@ module _ {A R C : Type 0} (G : Grammar Lexeme A) (W : Watch Lexeme R C) (start :
       read_as : (ts : List Lexeme) (x : A) → G ts x → Agrees {R = R} {C = C} x [] (P start ts)
       read_as ts x h = subst (λ z. Agrees {R = R} {C = C} x [] (P start z)) (append-nil ts) (e.complete start ts x [] h nothing)
 
-      one_tree_is : (bytes : List ℕ) (x y : A) (r m : R) → IsWholeText G W start bytes x r → IsWholeText G W start bytes y m → x ≡ y
-      one_tree_is bytes x y r m h g =
-          let (lexed, _) = reading-only bytes h.lexed g.lexed None None h.reading g.reading in
-          let other : G h.lexed.lexemes y = subst (λ z. G z.lexemes y) (sym lexed) g.text.text in
-          agreed h.lexed.lexemes x y r h.text.passes (P start h.lexed.lexemes) (e.sound start h.lexed.lexemes) (s.at start h.lexed.lexemes) (read_as h.lexed.lexemes x h.text.text) (read_as h.lexed.lexemes y other)
+      read_once : (ts : List Lexeme) (x y : A) (r : R) → Passes W start ts r → G ts x → G ts y → x ≡ y
+      read_once ts x y r passes h g = agreed ts x y r passes (P start ts) (e.sound start ts) (s.at start ts) (read_as ts x h) (read_as ts y g)
 
       pub has_one_answer : HasOneAnswer G W start
-      has_one_answer = record {
-        one_tree = one_tree_is;
-        one_line = one_line_is;
-        one_cause = one_cause_is;
-        no_syntax = no_syntax_is;
-        no_refusal = no_refusal_is;
-        one_fault = one_fault_is;
-      }
+      has_one_answer = one_answer read_once

@@ -1,4 +1,4 @@
-ghost use Rattle.std.specs.Prelude.{◌≡◌, ◌<◌, ◌^◌, nat_lt, length, OnOk, IsTrue, Some, None};
+ghost use Rattle.std.specs.Prelude.{◌≡◌, ◌<◌, nat_lt, length, OnOk, IsTrue, Some, None};
 ghost use Rattle.std.specs.Prelude.{if◌then◌else◌, ◌+◌, ◌*◌, min};
 ghost use Rattle.std.specs.Char.{is_ascii_digit};
 ghost use Rattle.std.specs.List.{list_all};
@@ -62,7 +62,7 @@ pub fn name<C, S: Scan<C>>(alloc: Global, cursor: &mut Cursor<'_, S>) -> Result<
 // The number that digits write, or the limit where it isn't below that.
 fn value_of(digits: &[u8]) -> u64
     requires { IsTrue (list_all is_ascii_digit digits.now) }
-    ensures { result ≡ min (digits_value 10 digits.now) (2 ^ 31) }
+    ensures { result ≡ min (digits_value 10 digits.now) tokens.whole_limit }
 {
     let mut value = 0;
     for digit in digits {
