@@ -24,11 +24,11 @@ skipcheck_exact = exact_option (is_word (codes "SKIPCHECK")) false (begins_both 
     (exact_then (exact_word count (codes "SKIPCHECK")) (λ _. exact_then (exact_sign count (codes ";")) (λ _. exact_gives counting true)))
 
 -- what may stand behind the statements
-record BehindStatements (rest : List Lexeme) : Type 0 where
-  bracket : Not (is_sign (codes "[")) rest
-  body : BehindBody rest
+pub record BehindStatements (rest : List Lexeme) : Type 0 where
+  pub bracket : Not (is_sign (codes "[")) rest
+  pub body : BehindBody rest
 
-behind_statements : (list : List StatementText) (v rest : List Lexeme) → many statement v list → BehindStatements rest → BehindBody (v ++ rest)
+pub behind_statements : (list : List StatementText) (v rest : List Lexeme) → many statement v list → BehindStatements rest → BehindBody (v ++ rest)
 behind_statements list v rest h stops = record {
   leaf = starts_many (statement_no_word (codes "N")) list v rest h stops.body.leaf;
   cons = starts_many (statement_no_word (codes "C")) list v rest h stops.body.cons;
@@ -38,13 +38,13 @@ statements_exact : Exact counting (many statement) (many statement) read_stateme
 statements_exact = exact_all (is_sign (codes "[")) true statement_begins statement_begins (λ rest stops. stops.bracket) behind_statements statement_exact
 
 -- "FEEDERS" ";" { feeder }
-abbrev given_feeders : Grammar Lexeme (List FeederText)
+abbrev pub given_feeders : Grammar Lexeme (List FeederText)
 given_feeders = both (one (word (codes "FEEDERS"))) (λ _. both (one (sign (codes ";"))) (λ _. many feeder))
 
-given_feeders_begin : Begins given_feeders (is_word (codes "FEEDERS")) true
+pub given_feeders_begin : Begins given_feeders (is_word (codes "FEEDERS")) true
 given_feeders_begin = begins_both (word_begins (codes "FEEDERS") (codes "FEEDERS"))
 
-ended_by : (p : Lexeme → Bool) (rest : List Lexeme) → AtEnd rest → Not p rest
+pub ended_by : (p : Lexeme → Bool) (rest : List Lexeme) → AtEnd rest → Not p rest
 ended_by p rest end = ap (starts p) end
 
 feeders_exact : Exact counting feeders feeders read_feeders AtEnd
@@ -60,33 +60,33 @@ feeders_tell : (p : Lexeme → Bool) → Begins given_feeders p false → (v : L
 feeders_tell p begins v list rest (inl h) end = starts_text begins v list rest h
 feeders_tell p begins v list rest (inr nothing) end = ap (λ x. starts p (x ++ rest)) nothing.0 ∙ ended_by p rest end
 
-given_no_bracket : Begins given_feeders (is_sign (codes "[")) false
+pub given_no_bracket : Begins given_feeders (is_sign (codes "[")) false
 given_no_bracket = begins_both (word_no_sign (codes "FEEDERS") (codes "["))
 
-given_no_leaf : Begins given_feeders (is_word (codes "N")) false
+pub given_no_leaf : Begins given_feeders (is_word (codes "N")) false
 given_no_leaf = begins_both (word_begins (codes "FEEDERS") (codes "N"))
 
-given_no_cons : Begins given_feeders (is_word (codes "C")) false
+pub given_no_cons : Begins given_feeders (is_word (codes "C")) false
 given_no_cons = begins_both (word_begins (codes "FEEDERS") (codes "C"))
 
 given_no_skipcheck : Begins given_feeders (is_word (codes "SKIPCHECK")) false
 given_no_skipcheck = begins_both (word_begins (codes "FEEDERS") (codes "SKIPCHECK"))
 
-abbrev whole : Bool → List StatementText → List FeederText → RuleText
+abbrev pub whole : Bool → List StatementText → List FeederText → RuleText
 whole skips statements feeding = record { skipcheck = skips; statements = statements; feeders = feeding }
 
 -- what stands behind the statements
-abbrev behind : Bool → List StatementText → Grammar Lexeme RuleText
+abbrev pub behind : Bool → List StatementText → Grammar Lexeme RuleText
 behind skips statements = both feeders (λ feeding. done (whole skips statements feeding))
 
-behind_tells : (p : Lexeme → Bool) → Begins given_feeders p false → (skips : Bool) (statements : List StatementText) (v : List Lexeme) (a : RuleText) (rest : List Lexeme) → behind skips statements v a → AtEnd rest → Not p (v ++ rest)
+pub behind_tells : (p : Lexeme → Bool) → Begins given_feeders p false → (skips : Bool) (statements : List StatementText) (v : List Lexeme) (a : RuleText) (rest : List Lexeme) → behind skips statements v a → AtEnd rest → Not p (v ++ rest)
 behind_tells p begins skips statements v a rest h end = let (list, k) = made_is feeders (λ feeding. whole skips statements feeding) v a h in feeders_tell p begins v list rest k end
 
 -- what stands behind `SKIPCHECK ;`
-abbrev behind_skipcheck : Bool → Grammar Lexeme RuleText
+abbrev pub behind_skipcheck : Bool → Grammar Lexeme RuleText
 behind_skipcheck skips = both (many statement) (λ statements. behind skips statements)
 
-skipcheck_tells : (skips : Bool) (v : List Lexeme) (a : RuleText) (rest : List Lexeme) → behind_skipcheck skips v a → AtEnd rest → Not (is_word (codes "SKIPCHECK")) (v ++ rest)
+pub skipcheck_tells : (skips : Bool) (v : List Lexeme) (a : RuleText) (rest : List Lexeme) → behind_skipcheck skips v a → AtEnd rest → Not (is_word (codes "SKIPCHECK")) (v ++ rest)
 skipcheck_tells skips v a rest (y, z, list, parts, h, k) end =
     ap (λ x. starts (is_word (codes "SKIPCHECK")) (x ++ rest)) parts ∙ ap (starts (is_word (codes "SKIPCHECK"))) (append_assoc y z rest)
     ∙ starts_many (statement_no_word (codes "SKIPCHECK")) list y (z ++ rest) h (behind_tells (is_word (codes "SKIPCHECK")) given_no_skipcheck skips list z a rest k end)

@@ -23,7 +23,7 @@ use Rattle.rule_reader.proofs.AreaExact.{area_exact, area_begins}
 use Rattle.rule_reader.proofs.WordFirst.{ended_no_part, sign_of, formula_of_word}
 use Rattle.expression_grammar.proofs.LookaheadExact.{no_pair, exact_choose_pair}
 
-semicolon : Begins (one (sign (codes ";"))) (goes_on rules_language) false
+pub semicolon : Begins (one (sign (codes ";"))) (goes_on rules_language) false
 semicolon = sign_goes_on rules_language (codes ";")
 
 ended_exact : Exact counting ended ended read_ended Always
@@ -43,14 +43,14 @@ unfolding read_cons_first read_behind_cons
 cons_first_exact = exact_then (part_exact (codes "C")) (λ cons. exact_option (is_word (codes "N")) (bodies.Cons cons) (begins_both (begins_both (word_begins (codes "N") (codes "N")))) (exact_made (λ leaf. bodies.ConsLeaf cons leaf) (part_exact (codes "N"))))
 
 -- what may follow the first part
-abbrev behind_leaf : Tree → Grammar Lexeme BodyText
+abbrev pub behind_leaf : Tree → Grammar Lexeme BodyText
 behind_leaf leaf = either (both (part (codes "C")) (λ cons. done (bodies.LeafCons leaf cons))) (done (bodies.Leaf leaf))
 
-abbrev behind_cons : Tree → Grammar Lexeme BodyText
+abbrev pub behind_cons : Tree → Grammar Lexeme BodyText
 behind_cons cons = either (both (part (codes "N")) (λ leaf. done (bodies.ConsLeaf cons leaf))) (done (bodies.Cons cons))
 
 -- one formula for all cells
-abbrev plain : Grammar Lexeme BodyText
+abbrev pub plain : Grammar Lexeme BodyText
 plain = both ended (λ tree. done (bodies.Both tree))
 
 plain_exact : Exact counting plain plain read_both Always
@@ -66,10 +66,10 @@ part_starts mark u tree rest (a, b, line, parts, (t, is, picks), (c, d, x, more,
     ap (λ l. starts_part mark (l ++ rest)) (parts ∙ ap (λ l. l ++ b) is ∙ ap (λ l. t ∷ l) (more ∙ ap (λ l. l ++ d) single))
     ∙ ap (λ m. m && is_sign (codes ":") s) marked ∙ follows
 
-part_first : {A : Type 0} (mark : List ℕ) (K : Tree → Grammar Lexeme A) (u : List Lexeme) (a : A) (rest : List Lexeme) → both (part mark) K u a → starts_part mark (u ++ rest) ≡ true
+pub part_first : {A : Type 0} (mark : List ℕ) (K : Tree → Grammar Lexeme A) (u : List Lexeme) (a : A) (rest : List Lexeme) → both (part mark) K u a → starts_part mark (u ++ rest) ≡ true
 part_first mark K u a rest (v, w, tree, parts, h, k) = ap (λ l. starts_part mark (l ++ rest)) parts ∙ ap (starts_part mark) (append_assoc v w rest) ∙ part_starts mark v tree (w ++ rest) h
 
-plain_no_part : (mark : List ℕ) (u : List Lexeme) (a : BodyText) (rest : List Lexeme) → plain u a → starts_part mark (u ++ rest) ≡ false
+pub plain_no_part : (mark : List ℕ) (u : List Lexeme) (a : BodyText) (rest : List Lexeme) → plain u a → starts_part mark (u ++ rest) ≡ false
 plain_no_part mark u a rest h = let (tree, k) = made_is ended (λ tree. bodies.Both tree) u a h in ended_no_part mark u tree rest k
 
 cons_first_tells : (b : List ℕ) → Begins cons_first (is_word b) (str_eq_ignore_ascii_case (codes "C") b)
@@ -122,7 +122,7 @@ pub record BehindBody (rest : List Lexeme) : Type 0 where
   pub leaf : Not (is_word (codes "N")) rest
   pub cons : Not (is_word (codes "C")) rest
 
-no_leaf : (u : List Lexeme) (a : BodyText) (rest : List Lexeme) → either cons_first plain u a → starts_part (codes "N") (u ++ rest) ≡ false
+pub no_leaf : (u : List Lexeme) (a : BodyText) (rest : List Lexeme) → either cons_first plain u a → starts_part (codes "N") (u ++ rest) ≡ false
 no_leaf u a rest (inl h) = no_pair (is_word (codes "N")) (is_sign (codes ":")) (u ++ rest) (starts_text (cons_first_tells (codes "N")) u a rest h)
 no_leaf u a rest (inr h) = plain_no_part (codes "N") u a rest h
 

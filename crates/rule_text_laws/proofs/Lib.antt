@@ -2,5 +2,4 @@ pub mod SettlesBelow
 pub mod ExpressionSettles
 pub mod RuleSettles
 pub mod OneTree
-pub mod OneAnswer
 pub mod RuleTexts

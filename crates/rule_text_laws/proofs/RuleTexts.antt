@@ -1,6 +1,5 @@
 -- The bytes of a rule text have one answer.
-use Rattle.std.proofs.Common.{◌≡◌, ℕ, List, [], ◌∷◌, ◌++◌, Bool, true, false, ◌&&◌, codes, refl, sym, ◌∙◌, ap, subst, inl, inr, append-nil, append_assoc}
-use Rattle.std.specs.Str.{str_eq_ignore_ascii_case}
+use Rattle.std.proofs.Common.{◌≡◌, ℕ, List, [], ◌∷◌, ◌++◌, Bool, true, false, codes, refl, sym, ◌∙◌, ap, subst, append-nil}
 use Rattle.cube_lex.specs.Lexeme.{Lexeme}
 use Rattle.grammar.specs.Grammar.{Grammar, done, one, both, either, many}
 use Rattle.grammar.specs.Lists.{listed, next}
@@ -12,24 +11,20 @@ use Rattle.grammar.proofs.Begins.{Begins, begins_both, made_is, starts_text, sta
 use Rattle.grammar.proofs.Cuts.{token_cuts}
 use Rattle.grammar.proofs.Exact.{Always, Not}
 use Rattle.grammar.proofs.Lists.{BehindList, next_begins, next_tells, behind_list}
-use Rattle.grammar.proofs.Tokens.{when_picks, sign_begins, word_begins, word_no_sign}
+use Rattle.grammar.proofs.OneAnswer.{one_answer}
+use Rattle.grammar.proofs.Tokens.{sign_begins, word_begins, word_no_sign}
 use Rattle.grammar.proofs.Top.{AtEnd}
 use Rattle.expression_grammar.specs.Readers.Reading.{read_expression, tree_of}
 use Rattle.expression_grammar.specs.declared.sort.Want.TheVariants as wants
-use Rattle.expression_grammar.proofs.ExpressionExact.{sign_goes_on, value_exact}
+use Rattle.expression_grammar.proofs.ExpressionExact.{value_exact}
 use Rattle.expression_grammar.proofs.Languages.{goes_on}
-use Rattle.expression_grammar.proofs.LookaheadExact.{no_pair}
 use Rattle.rule_tree.specs.Counting.{count, counting, start}
 use Rattle.rule_tree.specs.Formula.{rules_language, bracket, formula}
 use Rattle.rule_tree.specs.RuleText.{area, ended, part, leaf_first, cons_first, body, statement, database, target, feeder, skipcheck, feeders, rules}
 use Rattle.rule_tree.specs.declared.counted.Counted.{Counted}
-use Rattle.rule_tree.specs.declared.rule.BodyText.{BodyText}
 use Rattle.rule_tree.specs.declared.rule.BodyText.TheVariants as bodies
-use Rattle.rule_tree.specs.declared.rule.FeederText.{FeederText}
 use Rattle.rule_tree.specs.declared.rule.RuleText.{RuleText}
-use Rattle.rule_tree.specs.declared.rule.StatementText.{StatementText}
 use Rattle.rule_tree.specs.declared.rule.TargetText.TheVariants as targets
-use Rattle.rule_tree.specs.declared.tree.Tree.{Tree}
 use Rattle.rule_reader.specs.Readers.Reading.{read_bracket, read_primary}
 use Rattle.rule_reader.specs.Readers.TextReading.{starts_part, read_area}
 use Rattle.rule_reader.proofs.AreaExact.{area_exact}
@@ -37,9 +32,8 @@ use Rattle.rule_reader.proofs.BracketExact.{bracket_exact}
 use Rattle.rule_reader.proofs.FeederExact.{feeder_begins}
 use Rattle.rule_reader.proofs.FormulaExact.{rules_are_language}
 use Rattle.rule_reader.proofs.PrimaryExact.{comma, closing}
-use Rattle.rule_reader.proofs.StatementExact.{BehindBody, statement_begins, statement_no_word}
-use Rattle.rule_reader.proofs.WordFirst.{ended_no_part}
-use Rattle.rule_text_laws.proofs.OneAnswer.{has_one_answer}
+use Rattle.rule_reader.proofs.RulesExact.{BehindStatements, behind_statements, given_feeders_begin, ended_by, whole, behind_tells, skipcheck_tells, given_no_bracket, given_no_leaf, given_no_cons}
+use Rattle.rule_reader.proofs.StatementExact.{BehindBody, statement_begins, semicolon, behind_leaf, behind_cons, plain, part_first, plain_no_part, no_leaf}
 use Rattle.rule_text_laws.proofs.OneTree.{OneTree, once_read, once_one, once_done, once_both, once_then, once_before_next, once_either, once_or, once_option, once_many}
 use Rattle.rule_text_laws.proofs.RuleSettles.{below_bracket, below_area, below_formula}
 
@@ -76,9 +70,6 @@ listed_whole_once {item = item} e = once_then e (λ first. once_both {S = Not (i
 
 -- Statements.
 
-semicolon : Begins (one (sign (codes ";"))) (goes_on rules_language) false
-semicolon = sign_goes_on rules_language (codes ";")
-
 ended_once : OneTree count ended Always
 ended_once = once_before_next formula_once (λ tree. once_then (once_one (sign (codes ";"))) (λ _. once_done tree)) (λ tree. begins_both semicolon)
 
@@ -91,39 +82,8 @@ leaf_first_once = once_then (part_once (codes "N")) (λ leaf. once_option (is_wo
 cons_first_once : OneTree count cons_first (Not (is_word (codes "N")))
 cons_first_once = once_then (part_once (codes "C")) (λ cons. once_option (is_word (codes "N")) (bodies.Cons cons) (begins_both (begins_both (word_begins (codes "N") (codes "N")))) (once_then (part_once (codes "N")) (λ leaf. once_done (bodies.ConsLeaf cons leaf))))
 
--- what may follow the first part
-abbrev behind_leaf : Tree → Grammar Lexeme BodyText
-behind_leaf leaf = either (both (part (codes "C")) (λ cons. done (bodies.LeafCons leaf cons))) (done (bodies.Leaf leaf))
-
-abbrev behind_cons : Tree → Grammar Lexeme BodyText
-behind_cons cons = either (both (part (codes "N")) (λ leaf. done (bodies.ConsLeaf cons leaf))) (done (bodies.Cons cons))
-
--- one formula for all cells
-abbrev plain : Grammar Lexeme BodyText
-plain = both ended (λ tree. done (bodies.Both tree))
-
 plain_once : OneTree count plain Always
 plain_once = once_then ended_once (λ tree. once_done (bodies.Both tree))
-
-part_starts : (mark : List ℕ) (u : List Lexeme) (tree : Tree) (rest : List Lexeme) → part mark u tree → starts_part mark (u ++ rest) ≡ true
-part_starts mark u tree rest (a, b, line, parts, (t, is, picks), (c, d, x, more, (s, single, colon), h)) =
-    let (marked, _) = when_picks (is_word mark) (λ t. t.line) t line picks in
-    let (follows, _) = when_picks (is_sign (codes ":")) (λ _. tt) s x colon in
-    ap (λ l. starts_part mark (l ++ rest)) (parts ∙ ap (λ l. l ++ b) is ∙ ap (λ l. t ∷ l) (more ∙ ap (λ l. l ++ d) single))
-    ∙ ap (λ m. m && is_sign (codes ":") s) marked ∙ follows
-
-part_first : {A : Type 0} (mark : List ℕ) (K : Tree → Grammar Lexeme A) (u : List Lexeme) (a : A) (rest : List Lexeme) → both (part mark) K u a → starts_part mark (u ++ rest) ≡ true
-part_first mark K u a rest (v, w, tree, parts, h, k) = ap (λ l. starts_part mark (l ++ rest)) parts ∙ ap (starts_part mark) (append_assoc v w rest) ∙ part_starts mark v tree (w ++ rest) h
-
-plain_no_part : (mark : List ℕ) (u : List Lexeme) (a : BodyText) (rest : List Lexeme) → plain u a → starts_part mark (u ++ rest) ≡ false
-plain_no_part mark u a rest h = let (tree, k) = made_is ended (λ tree. bodies.Both tree) u a h in ended_no_part mark u tree rest k
-
-cons_first_tells : (b : List ℕ) → Begins cons_first (is_word b) (str_eq_ignore_ascii_case (codes "C") b)
-cons_first_tells b = begins_both (begins_both (word_begins (codes "C") b))
-
-no_leaf : (u : List Lexeme) (a : BodyText) (rest : List Lexeme) → either cons_first plain u a → starts_part (codes "N") (u ++ rest) ≡ false
-no_leaf u a rest (inl h) = no_pair (is_word (codes "N")) (is_sign (codes ":")) (u ++ rest) (starts_text (cons_first_tells (codes "N")) u a rest h)
-no_leaf u a rest (inr h) = plain_no_part (codes "N") u a rest h
 
 cons_or_plain_once : OneTree count (either cons_first plain) (Not (is_word (codes "N")))
 cons_or_plain_once = once_either {S' = Always} (starts_part (codes "C")) cons_first_once plain_once (λ u a rest h stops. (part_first (codes "C") behind_cons u a rest h, stops)) (λ u a rest h stops. (plain_no_part (codes "C") u a rest h, tt))
@@ -159,29 +119,8 @@ skipcheck_once : OneTree count skipcheck (Not (is_word (codes "SKIPCHECK")))
 skipcheck_once = once_option (is_word (codes "SKIPCHECK")) false (begins_both (word_begins (codes "SKIPCHECK") (codes "SKIPCHECK")))
     (once_then (once_one (word (codes "SKIPCHECK"))) (λ _. once_then (once_one (sign (codes ";"))) (λ _. once_done true)))
 
--- what may stand behind the statements
-record BehindStatements (rest : List Lexeme) : Type 0 where
-  bracket : Not (is_sign (codes "[")) rest
-  body : BehindBody rest
-
-behind_statements : (list : List StatementText) (v rest : List Lexeme) → many statement v list → BehindStatements rest → BehindBody (v ++ rest)
-behind_statements list v rest h stops = record {
-  leaf = starts_many (statement_no_word (codes "N")) list v rest h stops.body.leaf;
-  cons = starts_many (statement_no_word (codes "C")) list v rest h stops.body.cons;
-}
-
 statements_once : OneTree count (many statement) BehindStatements
 statements_once = once_many {S' = BehindStatements} (is_sign (codes "[")) statement_begins (λ rest stops. stops.bracket) behind_statements statement_once
-
--- "FEEDERS" ";" { feeder }
-abbrev given_feeders : Grammar Lexeme (List FeederText)
-given_feeders = both (one (word (codes "FEEDERS"))) (λ _. both (one (sign (codes ";"))) (λ _. many feeder))
-
-given_feeders_begin : Begins given_feeders (is_word (codes "FEEDERS")) true
-given_feeders_begin = begins_both (word_begins (codes "FEEDERS") (codes "FEEDERS"))
-
-ended_by : (p : Lexeme → Bool) (rest : List Lexeme) → AtEnd rest → Not p rest
-ended_by p rest end = ap (starts p) end
 
 feeders_once : OneTree count feeders AtEnd
 feeders_once = once_either {S = Not (is_sign (codes "["))} {S' = Always} {S'' = AtEnd} (starts (is_word (codes "FEEDERS")))
@@ -190,37 +129,13 @@ feeders_once = once_either {S = Not (is_sign (codes "["))} {S' = Always} {S'' = 
     (λ u a rest h end. (starts_text given_feeders_begin u a rest h, ended_by (is_sign (codes "[")) rest end))
     (λ u a rest nothing end. (ap (λ x. starts (is_word (codes "FEEDERS")) (x ++ rest)) nothing.0 ∙ ended_by (is_word (codes "FEEDERS")) rest end, tt))
 
--- what the feeders of a text don't begin with, nor what follows the statements
-feeders_tell : (p : Lexeme → Bool) → Begins given_feeders p false → (v : List Lexeme) (list : List FeederText) (rest : List Lexeme) → feeders v list → AtEnd rest → Not p (v ++ rest)
-feeders_tell p begins v list rest (inl h) end = starts_text begins v list rest h
-feeders_tell p begins v list rest (inr nothing) end = ap (λ x. starts p (x ++ rest)) nothing.0 ∙ ended_by p rest end
-
-abbrev whole : Bool → List StatementText → List FeederText → RuleText
-whole skips statements feeding = record { skipcheck = skips; statements = statements; feeders = feeding }
-
--- what stands behind the statements
-abbrev behind : Bool → List StatementText → Grammar Lexeme RuleText
-behind skips statements = both feeders (λ feeding. done (whole skips statements feeding))
-
-behind_tells : (p : Lexeme → Bool) → Begins given_feeders p false → (skips : Bool) (statements : List StatementText) (v : List Lexeme) (a : RuleText) (rest : List Lexeme) → behind skips statements v a → AtEnd rest → Not p (v ++ rest)
-behind_tells p begins skips statements v a rest h end = let (list, k) = made_is feeders (λ feeding. whole skips statements feeding) v a h in feeders_tell p begins v list rest k end
-
--- what stands behind `SKIPCHECK ;`
-abbrev behind_skipcheck : Bool → Grammar Lexeme RuleText
-behind_skipcheck skips = both (many statement) (λ statements. behind skips statements)
-
-skipcheck_tells : (skips : Bool) (v : List Lexeme) (a : RuleText) (rest : List Lexeme) → behind_skipcheck skips v a → AtEnd rest → Not (is_word (codes "SKIPCHECK")) (v ++ rest)
-skipcheck_tells skips v a rest (y, z, list, parts, h, k) end =
-    ap (λ x. starts (is_word (codes "SKIPCHECK")) (x ++ rest)) parts ∙ ap (starts (is_word (codes "SKIPCHECK"))) (append_assoc y z rest)
-    ∙ starts_many (statement_no_word (codes "SKIPCHECK")) list y (z ++ rest) h (behind_tells (is_word (codes "SKIPCHECK")) (begins_both (word_begins (codes "FEEDERS") (codes "SKIPCHECK"))) skips list z a rest k end)
-
 rules_once : OneTree count rules AtEnd
 rules_once = once_both {S' = AtEnd} skipcheck_once (λ skips. once_both {S' = AtEnd} statements_once (λ statements. once_both {S' = AtEnd} feeders_once (λ feeding. once_done (whole skips statements feeding)) (λ feeding v b rest h end. same_behind AtEnd v rest h.0 end))
     (λ statements v a rest h end. record {
-      bracket = behind_tells (is_sign (codes "[")) (begins_both (word_no_sign (codes "FEEDERS") (codes "["))) skips statements v a rest h end;
+      bracket = behind_tells (is_sign (codes "[")) given_no_bracket skips statements v a rest h end;
       body = record {
-        leaf = behind_tells (is_word (codes "N")) (begins_both (word_begins (codes "FEEDERS") (codes "N"))) skips statements v a rest h end;
-        cons = behind_tells (is_word (codes "C")) (begins_both (word_begins (codes "FEEDERS") (codes "C"))) skips statements v a rest h end;
+        leaf = behind_tells (is_word (codes "N")) given_no_leaf skips statements v a rest h end;
+        cons = behind_tells (is_word (codes "C")) given_no_cons skips statements v a rest h end;
       };
     }))
     (λ skips v a rest h end. skipcheck_tells skips v a rest h end)
@@ -229,4 +144,4 @@ one_tree : (ts : List Lexeme) (x y : RuleText) (r : Counted) → Passes counting
 one_tree ts x y r passes h g = let (tree, _) = rules_once.at start r ts [] ts [] x y (subst (λ z. Passes counting start z r) (sym (append-nil ts)) passes) refl h g refl refl in tree
 
 pub rule_texts : HasOneAnswer rules counting start
-rule_texts = has_one_answer rules counting start (token_cuts count) one_tree
+rule_texts = one_answer rules counting start (token_cuts count) one_tree
