@@ -1,6 +1,6 @@
 use cube_fixed::{Money, Value};
 use lists::ListOf;
-use rule_laws::{Arg, Formula, Op, Reference, Rel, Truth};
+use rule_laws::{Arg, ElementMap, Formula, Op, Reference, Rel, Truth};
 use rule_tables::{
     CellRow, FeederRow, RuleTables, StatementRow, dense_value, fed_cells, has_small_sums,
 };
@@ -176,7 +176,7 @@ fn by_table(places: Vec<Option<u32>>, alloc: Global) -> Result<Reference, AllocE
     let mut args = Vec::new(alloc);
     args.push(Arg::Moved {
         from: 0,
-        to: ListOf::new(places),
+        to: ElementMap::listed(places),
     })?;
     Ok(Reference {
         cube: 0,

@@ -1,6 +1,6 @@
 -- Each cause has its status.
 use Rattle.std.proofs.Common.{◌≡◌, ℕ, List, [], ◌∷◌, Option, Some, inl, inr, refl, sym, ap, subst, ◌∙◌}
-use Rattle.rule_core.specs.BoundModel.{BoundModel}
+use Rattle.rule_model.specs.BoundModel.{BoundModel}
 use Rattle.user_session.specs.declared.command.PlanCommand.{PlanCommand}
 use Rattle.cube_server.specs.declared.job.Job.{Job}
 use Rattle.cube_server.specs.declared.job.Job.TheVariants.{Serve}

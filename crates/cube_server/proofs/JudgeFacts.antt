@@ -6,7 +6,7 @@ use Rattle.model_text.specs.Contents.{Contents}
 use Rattle.model_text.specs.declared.fault.ModelTextFault.{ModelTextFault}
 use Rattle.model_deploy.specs.Deployment.{layout_of, refusal_of, memory, IsAnsweredBy}
 use Rattle.model_deploy.specs.declared.fault.DeployFault.{DeployFault}
-use Rattle.rule_core.specs.BoundModel.{BoundModel}
+use Rattle.rule_model.specs.BoundModel.{BoundModel}
 use Rattle.cube_server.specs.declared.halt.Halt.{Halt}
 use Rattle.cube_server.specs.declared.halt.Halt.TheVariants as halts
 use Rattle.cube_server.specs.declared.refusal.Cause.{Cause}

@@ -1,6 +1,6 @@
 -- What was read is judged to be one thing.
 use Rattle.std.proofs.Common.{◌≡◌, ◌≢◌, ℕ, ◌+◌, List, [], ◌∷◌, length, map, Option, Some, None, ◌⊎◌, inl, inr, refl, sym, ◌∙◌, ap, subst}
-use Rattle.rule_core.specs.BoundModel.{BoundModel}
+use Rattle.rule_model.specs.BoundModel.{BoundModel}
 use Rattle.user_session.specs.declared.command.PlanCommand.{PlanCommand}
 use Rattle.user_text.specs.declared.command.UserCommand.{UserCommand}
 use Rattle.user_text.specs.declared.fault.UserFault.{UserFault}

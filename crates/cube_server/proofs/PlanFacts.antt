@@ -1,6 +1,6 @@
 -- What the passes of a plan come to, one after another.
 use Rattle.std.proofs.Common.{◌≡◌, ℕ, List, Result, Ok, Err, refl}
-use Rattle.rule_core.specs.BoundModel.{BoundModel}
+use Rattle.rule_model.specs.BoundModel.{BoundModel}
 use Rattle.user_session.specs.declared.command.PlanCommand.{PlanCommand}
 use Rattle.cube_server.specs.declared.halt.Halt.{Halt}
 use Rattle.cube_server.specs.declared.job.Job.{Job}

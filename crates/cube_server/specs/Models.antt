@@ -7,7 +7,7 @@ use Rattle.model_text.specs.Contents.{Contents}
 use Rattle.model_text.specs.declared.parts.CubeText.{CubeText}
 use Rattle.model_text.specs.declared.fault.ModelTextFault.{ModelTextFault}
 use Rattle.model_deploy.specs.Deployment.{layout_of, refusal_of}
-use Rattle.rule_core.specs.BoundModel.{BoundModel}
+use Rattle.rule_model.specs.BoundModel.{BoundModel}
 use Rattle.cube_server.specs.declared.refusal.Cause.TheVariants.{Unbuilt}
 use Rattle.cube_server.specs.declared.refusal.Refusal.{Refusal}
 use Rattle.cube_server.specs.Pass.{Source, Judgement}

@@ -1,6 +1,6 @@
 -- The passes of a run, in order.
 use Rattle.std.specs.Prelude.{ℕ, List}
-use Rattle.rule_core.specs.BoundModel.{BoundModel}
+use Rattle.rule_model.specs.BoundModel.{BoundModel}
 use Rattle.user_session.specs.declared.command.PlanCommand.{PlanCommand}
 use Rattle.cube_server.specs.declared.job.Job.{Job}
 use Rattle.cube_server.specs.declared.job.Job.TheVariants.{Serve}

@@ -1,5 +1,5 @@
 use lists::ListOf;
-use rule_core::Model;
+use rule_model::Model;
 use user_session::PlanCommand;
 
 /// What is to be done by a run that isn't refused.

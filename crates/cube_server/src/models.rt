@@ -9,7 +9,7 @@ use crate::refusal::Cause;
 use crate::refusing::{deploy_cause, halt_on, model_cause};
 use model_deploy::deploy;
 use model_text::{CubeText, ModelText, read};
-use rule_core::Model;
+use rule_model::Model;
 use std::alloc::Global;
 
 /// The model that the bytes of a model file stand for.

@@ -13,7 +13,7 @@ use crate::users::users_of;
 use crate::words::plan_of;
 use cube_outside::Files;
 use lists::ListOf;
-use rule_core::Model;
+use rule_model::Model;
 use std::alloc::Global;
 use user_session::PlanCommand;
 

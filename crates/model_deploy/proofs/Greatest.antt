@@ -11,7 +11,7 @@ use Rattle.cube_space.specs.declared.shape.CubeShape.{CubeShape}
 use Rattle.std.proofs.lemmas.Option.{get_or_from_slice_get}
 use Rattle.cube_space.specs.Radix.{product}
 use Rattle.cube_space.proofs.Steps.{held-down}
-use Rattle.rule_core.specs.BoundModel.{greatest_coef}
+use Rattle.rule_model.specs.Weights.{greatest_coef}
 
 -- a dimension of this number, and its coefficients
 pub dimension-at : (D : List Outline) (k : ℕ) → k < length D → (d : Outline) × (slice_get D k ≡ Some d)

@@ -6,7 +6,7 @@ use Rattle.std.proofs.lemmas.Bool.{cases_lt, lt-ltb, le-ltb}
 use Rattle.std.proofs.lemmas.List.FromFn.{length-range_with_len, get_or-range_with_len}
 use Rattle.std.proofs.Math.Nat.{min-eq_left, min-eq_right}
 use Rattle.cube_space.specs.Layout.{Layout}
-use Rattle.rule_core.specs.BoundModel.{weight_product}
+use Rattle.rule_model.specs.Weights.{weight_product}
 use Rattle.model_deploy.specs.declared.fault.DeployFault.{DeployFault}
 use Rattle.model_deploy.specs.declared.fault.DeployCause.TheVariants as causes
 use Rattle.model_deploy.specs.Deployment.{refused_on, first_refusal, product_refusal, products_refusal, IsAnsweredBy}

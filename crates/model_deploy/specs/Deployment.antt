@@ -12,7 +12,7 @@ use Rattle.cube_space.specs.declared.fault.SpaceFault.{SpaceFault}
 use Rattle.cube_space.specs.declared.fault.SpaceFault.TheVariants as spaces
 use Rattle.cube_space.specs.Layout.{Layout}
 use Rattle.cube_space.specs.Refusal.{refusal_of as space_refused}
-use Rattle.rule_core.specs.BoundModel.{weight_product, max_weight_product}
+use Rattle.rule_model.specs.Weights.{weight_product, max_weight_product}
 use Rattle.model_text.specs.Contents.{Contents}
 use Rattle.model_text.specs.declared.parts.CubeText.{CubeText}
 use Rattle.model_deploy.specs.declared.fault.DeployFault.{DeployFault}

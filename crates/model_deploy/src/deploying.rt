@@ -6,7 +6,7 @@ use crate::cubes::{dimensions_of, lines_of, shapes_of, space_of};
 use crate::fault::DeployFault;
 use crate::products::check_products;
 use model_text::ModelText;
-use rule_core::Model;
+use rule_model::Model;
 use std::alloc::Global;
 
 /// The model of a text that was read. Files of rules and of scripts, and order lines, aren't looked at yet.

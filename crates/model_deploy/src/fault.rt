@@ -24,7 +24,7 @@ pub enum DeployCause {
     /// The cubes up to this one have more than 2^62 cells together.
     ModelTooLarge,
     /// The greatest sizes of a coefficient in the dimensions of a cube have a product above
-    /// [`rule_core::MAX_WEIGHT_PRODUCT`].
+    /// [`rule_model::MAX_WEIGHT_PRODUCT`].
     WeightProduct,
     /// Want of memory.
     Memory,

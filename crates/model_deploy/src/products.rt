@@ -1,12 +1,12 @@
 ghost use Rattle.std.specs.Prelude.{◌≡◌, ◌<◌, OnOk, length, min};
-ghost use Rattle.rule_core.specs.BoundModel.{AreWeightsOf, HasSmallProducts, weight_product};
+ghost use Rattle.rule_model.specs.Weights.{AreWeightsOf, HasSmallProducts, weight_product};
 ghost use Rattle.model_deploy.specs.Deployment.{products_refusal, IsAnsweredBy};
 
 use crate::cubes::line_of;
 use crate::fault::{DeployCause, DeployFault};
 use cube_space::Space;
 use dim_weights::Weights;
-use rule_core::MAX_WEIGHT_PRODUCT;
+use rule_model::MAX_WEIGHT_PRODUCT;
 
 /// Whether each weight product is small, or else the refusal of the first cube of which it isn't.
 pub fn check_products(space: &Space, weights: &[Weights], lines: &[u32]) -> Result<(), DeployFault>

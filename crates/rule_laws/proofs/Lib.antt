@@ -1,3 +1,4 @@
+pub mod MapFacts
 pub mod Folds
 pub mod FormulaFacts
 pub mod SystemFacts

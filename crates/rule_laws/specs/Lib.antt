@@ -1,3 +1,4 @@
+pub mod Maps
 pub mod Operation
 pub mod Meaning
 pub mod RuleSystem
@@ -7,3 +8,4 @@ pub mod Feeding
 pub mod ZeroTest
 pub mod Cover
 pub mod Carry
+pub mod Private

@@ -16,6 +16,7 @@
 //! Nothing here takes memory, and nothing knows of dimensions: cells are numbers.
 #![tactic(auto)]
 
+pub use element_map::ElementMap;
 pub use finding::{Finding, TruthFinding};
 pub use formula::{Formula, Truth};
 pub use laws::{
@@ -26,6 +27,7 @@ pub use laws::{
 pub use operation::{Fun, Op, Rel};
 pub use reference::{Arg, Reference};
 
+mod element_map;
 mod finding;
 mod formula;
 mod laws;

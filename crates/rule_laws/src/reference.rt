@@ -1,3 +1,4 @@
+use crate::element_map::ElementMap;
 use lists::ListOf;
 
 /// A cell of some cube, named from the cell whose formula is evaluated.
@@ -14,6 +15,6 @@ pub struct Reference {
 pub enum Arg {
     /// This element, from every cell.
     Fixed(u32),
-    /// For each element that the source has in its dimension `from`: the target's element, or none.
-    Moved { from: u32, to: ListOf<Option<u32>> },
+    /// For each element of the dimension at place `from` of the source's cube: the target's element, or none.
+    Moved { from: u32, to: ElementMap },
 }

@@ -146,8 +146,8 @@ fn cell_named(size: usize, args: &[Arg], cell: u64) -> Option<u64>
 {
     match args {
         [Arg::Fixed(target)] => in_tables(size, u64::from(*target)),
-        [Arg::Moved { to, .. }] => match to.as_slice().get(cell as usize) {
-            Some(Some(target)) => in_tables(size, u64::from(*target)),
+        [Arg::Moved { to, .. }] => match to.get(cell as usize) {
+            Some(target) => in_tables(size, u64::from(target)),
             _ => None,
         },
         _ => None,

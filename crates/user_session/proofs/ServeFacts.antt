@@ -5,7 +5,7 @@ use Rattle.history.specs.UserRun.{UserRun}
 use Rattle.history.specs.Version.{NoneFrom}
 use Rattle.history.proofs.Lists.{get_split, get_left, get_end, get_below}
 use Rattle.history.proofs.Histories.{runs_history}
-use Rattle.rule_core.specs.BoundModel.{BoundModel}
+use Rattle.rule_model.specs.BoundModel.{BoundModel}
 use Rattle.user_session.specs.declared.command.PlanCommand.{PlanCommand}
 use Rattle.user_session.specs.Content.{Content, after, opening}
 use Rattle.user_session.specs.Planning.{effect}

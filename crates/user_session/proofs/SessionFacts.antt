@@ -8,7 +8,7 @@ use Rattle.history.specs.UserRun.{reply_of, RunSoFar}
 use Rattle.history.specs.Version.{content_after, NoneFrom}
 use Rattle.history.proofs.Lists.{get_split}
 use Rattle.history.proofs.Runs.{content_after-append, run_beside, run_committed, run_starts, run_told}
-use Rattle.rule_core.specs.BoundModel.{BoundModel}
+use Rattle.rule_model.specs.BoundModel.{BoundModel}
 use Rattle.user_session.specs.declared.command.PlanCommand.{PlanCommand}
 use Rattle.user_session.specs.declared.session.Session.{Session}
 use Rattle.user_session.specs.declared.state.State.{State}

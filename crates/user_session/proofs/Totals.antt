@@ -11,7 +11,7 @@ use Rattle.cell_store.specs.declared.entry.Entry.{Entry}
 use Rattle.cell_store.specs.Entries.{cells_of, entry_from, below, above, kept_of, after_writes}
 use Rattle.cell_store.proofs.Rising.{AllAbove, Rises}
 use Rattle.cube_space.specs.Layout.{Layout}
-use Rattle.rule_core.specs.BoundModel.{weight}
+use Rattle.rule_model.specs.Weights.{weight}
 use Rattle.user_session.specs.Planning.{weighted_sum}
 
 -- where no entry is at or above a cell, all are below

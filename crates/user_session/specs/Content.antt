@@ -2,7 +2,7 @@
 use Rattle.std.specs.Prelude.{ℕ, ℤ, List, []}
 use Rattle.cell_store.specs.Entries.{after_writes}
 use Rattle.cell_store.specs.declared.entry.Entry.{Entry}
-use Rattle.rule_core.specs.BoundModel.{BoundModel}
+use Rattle.rule_model.specs.BoundModel.{BoundModel}
 
 pub record Content : Type 0 where
   pub model : BoundModel

@@ -10,7 +10,9 @@ use Rattle.cube_space.specs.Cells.{is_leaf_cell}
 use Rattle.cube_space.specs.Layout.{Layout}
 use Rattle.history.specs.declared.effect.Effect.{Effect}
 use Rattle.history.specs.declared.effect.Effect.TheVariants as effects
-use Rattle.rule_core.specs.BoundModel.{BoundModel, cell_named, weight}
+use Rattle.rule_model.specs.Weights.{weight}
+use Rattle.rule_model.specs.Named.{cell_named}
+use Rattle.rule_model.specs.BoundModel.{BoundModel}
 use Rattle.user_session.specs.Content.{Content}
 use Rattle.user_session.specs.Replies.{reply_text}
 use Rattle.user_session.specs.declared.command.PlanCommand.{PlanCommand}

@@ -10,7 +10,7 @@ use cell_store::Store;
 use cube_fixed::Money;
 use history::{Entry, Told};
 use lists::ListOf;
-use rule_core::Model;
+use rule_model::Model;
 use std::alloc::{AllocError, Global};
 
 /// The writes of an accepted command: each cell with its new number, in millionths. A 0 takes the cell out of the

@@ -18,7 +18,7 @@ use cell_store::{Store, StoreFault};
 use cube_fixed::Money;
 use history::{Entry, Told};
 use lists::ListOf;
-use rule_core::{Model, cell_of};
+use rule_model::{Model, cell_of};
 use std::alloc::{AllocError, Global};
 use user_text::CellText;
 

@@ -6,7 +6,7 @@ ghost use Rattle.user_session.specs.Inside.Lists.{AreCells};
 
 use cell_store::Store;
 use cube_fixed::{Sum, Value};
-use rule_core::{Model, weight};
+use rule_model::{Model, weight};
 
 /// The value of a cell: what is stored in a leaf cell, and the weighted sum of what is stored below a consolidated
 /// cell.

@@ -9,7 +9,7 @@ use Rattle.history.specs.declared.told.Told.{Told}
 use Rattle.history.specs.History.{HasUsers}
 use Rattle.history.specs.UserRun.{RunSoFar}
 use Rattle.history.specs.Version.{content_after}
-use Rattle.rule_core.specs.BoundModel.{BoundModel}
+use Rattle.rule_model.specs.BoundModel.{BoundModel}
 use Rattle.user_session.specs.Content.{Content, after, opening}
 use Rattle.user_session.specs.Planning.{PlanEffect, effect}
 use Rattle.user_session.specs.declared.command.PlanCommand.{PlanCommand}

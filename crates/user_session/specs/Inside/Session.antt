@@ -1,7 +1,7 @@
 -- What one command adds to a run of one user.
 use Rattle.std.specs.Prelude.{◌≡◌, ◌+◌, [], ◌∷◌, ◌++◌, length}
 use Rattle.history.specs.UserRun.{reply_of}
-use Rattle.rule_core.specs.BoundModel.{BoundModel}
+use Rattle.rule_model.specs.BoundModel.{BoundModel}
 use Rattle.user_session.specs.Planning.{PlanEffect}
 use Rattle.user_session.specs.Inside.Lists.{entries_of, content_by, content_of}
 use Rattle.user_session.specs.declared.session.Session.{Session}

@@ -2,7 +2,7 @@ use Rattle.std.proofs.Common.{◌≡◌, ◌+◌, ◌∷◌, ◌++◌, [], ◌�
 use Rattle.std.proofs.lemmas.List.{map-append, take_more}
 use Rattle.dim_text.specs.Progress.{Text}
 use Rattle.dim_weights.specs.Table.{IsWeightsOf}
-use Rattle.rule_core.specs.BoundModel.{AreWeightsOf}
+use Rattle.rule_model.specs.Weights.{AreWeightsOf}
 use Rattle.dim_core.specs.Outline.{Outline}
 use Rattle.model_deploy.specs.declared.fault.DeployFault.{DeployFault}
 use Rattle.model_deploy.specs.Deployment.{dimension_refusal, dimensions_refusal, IsAnsweredBy}

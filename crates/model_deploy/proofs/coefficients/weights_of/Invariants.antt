@@ -1,5 +1,5 @@
 use Rattle.std.proofs.Common.{◌≡◌, take, drop, map}
-use Rattle.rule_core.specs.BoundModel.{AreWeightsOf}
+use Rattle.rule_model.specs.Weights.{AreWeightsOf}
 use Rattle.model_deploy.specs.Deployment.{dimensions_refusal}
 use Rattle.model_deploy.proofs.coefficients.weights_of.Given as goal
 

@@ -1,5 +1,5 @@
 use Rattle.std.proofs.Common.{ℕ, ◌<◌, ◌≤◌, arith}
-use Rattle.rule_core.specs.BoundModel.{weight_product}
+use Rattle.rule_model.specs.Weights.{weight_product}
 use Rattle.model_deploy.proofs.SmallProducts.{min-small, min-large, product-refused, product-passed, products-passed, small-more}
 use Rattle.model_deploy.proofs.products.check_products.Goals as goal
 

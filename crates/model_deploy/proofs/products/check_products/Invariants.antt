@@ -1,6 +1,6 @@
 use Rattle.std.proofs.Common.{◌≡◌, ℕ, ◌<◌, ◌≤◌, drop, length}
 use Rattle.std.specs.List.{range_with_len}
-use Rattle.rule_core.specs.BoundModel.{weight_product}
+use Rattle.rule_model.specs.Weights.{weight_product}
 use Rattle.model_deploy.specs.Deployment.{first_refusal, product_refusal, products_refusal}
 use Rattle.model_deploy.proofs.products.check_products.Given as goal
 

@@ -1,5 +1,5 @@
 use Rattle.std.proofs.Common.{◌≡◌, ◌*◌, ◌≤◌, drop, min}
-use Rattle.rule_core.specs.BoundModel.{weight_product}
+use Rattle.rule_model.specs.Weights.{weight_product}
 use Rattle.model_deploy.proofs.Greatest.{product_over}
 use Rattle.model_deploy.proofs.products.weight_product.Given as goal
 

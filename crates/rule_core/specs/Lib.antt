@@ -1,2 +1,0 @@
-pub mod BoundModel
-pub mod Inside

@@ -1,0 +1,10 @@
+-- The list that a map stands for.
+use Rattle.std.specs.Prelude.{ℕ, Option, List}
+use Rattle.rule_laws.specs.declared.element_map.Form.{Form}
+use Rattle.rule_laws.specs.declared.element_map.Form.TheVariants.{Identity, Nowhere, Listed}
+use Rattle.rule_laws.specs.Maps.{identity, nowhere}
+
+abbrev pub targets_of : Form → List (Option ℕ)
+targets_of (Identity size) = identity size
+targets_of (Nowhere size) = nowhere size
+targets_of (Listed targets) = targets

@@ -1,0 +1,10 @@
+pub mod BoundModel
+pub mod Weights
+pub mod Named
+pub mod Areas
+pub mod Targets
+pub mod Order
+pub mod Conditions
+pub mod System
+pub mod Governing
+pub mod Inside

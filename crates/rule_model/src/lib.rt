@@ -1,0 +1,19 @@
+//! The bound model: the rules of a model with every name bound to a number.
+//!
+//! Binding turns every form of element argument into one table, so that the checks and the evaluator know two forms
+//! only. Formulas and references come from `rule_laws`, which says what they mean; here stand the areas, the
+//! statements, the feeders and the declared orders of the cubes.
+#![tactic(auto)]
+
+pub use area::Area;
+pub use cells::{cell_of, weight};
+pub use model::{MAX_WEIGHT_PRODUCT, Model};
+pub use order::{Order, Position};
+pub use rule_laws::{Arg, ElementMap, Formula, Fun, Op, Reference, Rel, Truth};
+pub use rules::{CubeRules, Feeder, Form, Statement};
+
+mod area;
+mod cells;
+mod model;
+mod order;
+mod rules;

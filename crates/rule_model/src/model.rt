@@ -1,0 +1,86 @@
+ghost use Rattle.std.specs.Prelude.{◌≡◌, ◌<◌, length, IfOk};
+ghost use Rattle.cube_space.specs.Cells.{IsSpace};
+ghost use Rattle.rule_model.specs.BoundModel.{rules_of};
+ghost use Rattle.rule_model.specs.Conditions.{AreRules};
+ghost use Rattle.rule_model.specs.Weights.{AreWeightsOf, HasSmallProducts};
+
+use crate::rules::CubeRules;
+use cube_space::Space;
+use dim_weights::Weights;
+use std::alloc::AllocError;
+
+/// The greatest weight product that a cube may have: the product, over its dimensions, of the greatest size of a
+/// coefficient.
+pub const MAX_WEIGHT_PRODUCT: u64 = 1_000_000_000;
+
+/// A model with every name bound: its dimensions and its cubes, how much each leaf counts in each element, and the
+/// rules of each cube.
+#[derive(Drop)]
+pub struct Model {
+    space: Space,
+    weights: Vec<Weights>,
+    rules: Vec<CubeRules>,
+}
+
+impl std::marker::Model for Model {
+    ghost use Rattle.rule_model.specs.BoundModel.{BoundModel};
+    ghost use Rattle.rule_model.specs.Inside.Kept.{IsBound};
+
+    ghost use Rattle.rule_laws.specs.contracts.formula.Formula as formula;
+    ghost use Rattle.std.specs.Coded.{codes};
+
+    ghost Value = { BoundModel };
+
+    ghost coded = { Prim.hlevel (codes, formula.the_row.coded) };
+
+    ghost view = { λ m. record { space = m.space; rules = m.rules.items } };
+
+    ghost invariant = { λ m. IsBound m.space m.weights.items m.rules.items };
+}
+
+impl Model {
+    /// The model over this space, with the coefficients of each of its dimensions and the rules of each of its cubes.
+    pub fn of(
+        space: Space,
+        weights: Vec<Weights>,
+        rules: Vec<CubeRules>,
+    ) -> Result<Model, AllocError>
+        requires weights { AreWeightsOf space.dimensions weights.items }
+        requires products { HasSmallProducts space }
+        requires rules { AreRules space rules.items }
+        ensures { IfOk result (λ model. model ≡ record { space = space; rules = rules.items }) }
+    {
+        // a space says of itself that it is one
+        let _cells = space.size();
+        Ok(Model {
+            space,
+            weights,
+            rules,
+        })
+    }
+
+    /// Its dimensions and cubes, and the numbers of its cells.
+    pub fn space(&self) -> &Space
+        ensures space { result.now ≡ self.now.space }
+        ensures valid { IsSpace self.now.space }
+        ensures products { HasSmallProducts self.now.space }
+        ensures rules { AreRules self.now.space self.now.rules }
+    {
+        &self.space
+    }
+
+    /// The coefficients of each dimension.
+    pub fn weights(&self) -> &[Weights]
+        ensures { AreWeightsOf self.now.space.dimensions result.now }
+    {
+        &self.weights
+    }
+
+    /// The rules of a cube.
+    pub fn rules(&self, cube: u32) -> &CubeRules
+        requires { cube < length self.now.space.cubes }
+        ensures { result.now ≡ rules_of self.now cube }
+    {
+        &self.rules[cube as usize]
+    }
+}
