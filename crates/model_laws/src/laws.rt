@@ -1,0 +1,37 @@
+ghost use Rattle.std.specs.Prelude.{◌≡◌, ℕ, suc, ◌+◌, Some, None, option_map};
+ghost use Rattle.cube_fixed.specs.declared.value.Value.{Value};
+ghost use Rattle.rule_laws.specs.declared.formula.Formula.{Formula};
+ghost use Rattle.rule_laws.specs.RuleSystem.{Stored, IsCell, base, value_at, value_from};
+ghost use Rattle.rule_laws.specs.RuleSystem.{right_side, formula_at, governing, governing_from};
+ghost use Rattle.rule_model.specs.BoundModel.{BoundModel};
+ghost use Rattle.rule_model.specs.System.{system_of};
+ghost use Rattle.rule_model.specs.Governing as model;
+ghost use Rattle.model_laws.specs.Statements.{statements_before, value_by_cube, formula_of_cube};
+
+/// The statements of a cell's cube alone decide what the cell has: those of other cubes don't apply to it. In the system
+/// they stand behind the statements of the cubes before, so each place among them is moved by the count of those.
+pub fn statements_of_the_cube_decide()
+    ensures all { (m : BoundModel) (stored : Stored) (table : ℕ → Value) (c : ℕ) → IsCell (system_of m) c
+        → right_side (system_of m) stored table c ≡ value_by_cube m stored table c 0 }
+    ensures value { (m : BoundModel) (stored : Stored) (table : ℕ → Value) (c n : ℕ) → IsCell (system_of m) c
+        → value_from (system_of m) stored table c (statements_before m c + n) ≡ value_by_cube m stored table c n }
+    ensures first { (m : BoundModel) (c : ℕ) → IsCell (system_of m) c
+        → governing (system_of m) c ≡ option_map (λ k. statements_before m c + k) (model.governing_from m c 0) }
+    ensures next { (m : BoundModel) (c n : ℕ) → IsCell (system_of m) c
+        → governing_from (system_of m) c (statements_before m c + n)
+        ≡ option_map (λ k. statements_before m c + k) (model.governing_from m c n) }
+    ensures formula { (m : BoundModel) (c n : ℕ) → IsCell (system_of m) c
+        → formula_at (system_of m) c (statements_before m c + n) ≡ formula_of_cube m c n }
+{}
+
+/// What the statements of a cell's cube from a place on give the cell: its base where none of them has a part for it,
+/// else what the formula of the first that has gives, where `CONTINUE` is what the statements after that one give.
+pub fn statements_of_the_cube_give_in_turn()
+    ensures none { (m : BoundModel) (stored : Stored) (table : ℕ → Value) (c n : ℕ)
+        → model.governing_from m c n ≡ None
+        → value_by_cube m stored table c n ≡ base (system_of m) stored table c }
+    ensures some { (m : BoundModel) (stored : Stored) (table : ℕ → Value) (c n k : ℕ)
+        → model.governing_from m c n ≡ Some k → (f : Formula) × (formula_of_cube m c k ≡ Some f)
+        × (value_by_cube m stored table c n
+        ≡ value_at (system_of m) stored table c (value_by_cube m stored table c (suc k)) f) }
+{}
