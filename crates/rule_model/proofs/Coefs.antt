@@ -1,5 +1,5 @@
 -- Products of coefficients, dimension by dimension.
-use Rattle.std.proofs.Common.{◌≡◌, ℕ, ◌+◌, ◌*◌, ◌<◌, ◌≤◌, zero, suc, ℤ, pos, ◌*ℤ◌, List, [], ◌∷◌, length, map, drop, drop-cons, get_or, Option, Some, None, refl, sym, ap, ◌∙◌, subst, arith, unsigned_abs, slice_get, slice_index_or, max, true, negsuc}
+use Rattle.std.proofs.Common.{◌≡◌, ℕ, ◌+◌, ◌*◌, ◌<◌, ◌≤◌, zero, suc, ℤ, pos, ◌*ℤ◌, List, [], ◌∷◌, length, map, drop, drop-cons, Some, refl, sym, ap, ◌∙◌, subst, arith, unsigned_abs, slice_get, slice_index_or, max, true, negsuc}
 use Rattle.std.proofs.Common.{to_z, of_z, w64}
 use Rattle.std.proofs.lemmas.Int.{ints, unsigned_abs-mul, to_z-of_z}
 use mir.Val.{SFits}
@@ -9,11 +9,9 @@ use Rattle.std.proofs.Math.Nat.{mul-le-mul}
 use Rattle.std.specs.List.{AllZip, range_with_len}
 use Rattle.cube_space.specs.Layout.{axes_of, sizes_of}
 use Rattle.cube_space.specs.Radix.{product, are_digits}
-use Rattle.cube_space.proofs.Radix.{digits-length}
 use Rattle.dim_core.specs.Outline.{Outline}
-use Rattle.dim_core.specs.Outline.{IsElement}
 use Rattle.dim_weights.specs.Coefficients.{coef}
-use Rattle.dim_weights.specs.Table.{IsWeightsOf, leaves_of, leaves_in, greatest_of, greatest_in}
+use Rattle.dim_weights.specs.Table.{IsWeightsOf, leaves_of, greatest_of, greatest_in}
 use Rattle.rule_model.specs.Weights.{greatest_coef, coef_product}
 use Rattle.rule_model.proofs.Named.{axes_cons}
 

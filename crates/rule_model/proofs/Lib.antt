@@ -1,3 +1,5 @@
 mod Named
 mod Shapes
 mod Coefs
+mod Components
+mod Arguments

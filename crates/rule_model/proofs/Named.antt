@@ -1,6 +1,6 @@
 -- Elements by name, found one after the other.
-use Rattle.std.proofs.Common.{◌≡◌, ℕ, ◌+◌, ◌<◌, suc, List, [], ◌∷◌, ◌++◌, length, drop, take, Option, Some, None, refl, sym, ◌∙◌, ap, subst, append_assoc, append-nil, arith, slice_get, slice_index_or}
-use Rattle.std.specs.List.{filter_map, cons_option}
+use Rattle.std.proofs.Common.{◌≡◌, ℕ, suc, List, [], ◌∷◌, ◌++◌, length, Option, Some, None, refl, sym, ◌∙◌, ap, append_assoc, slice_get}
+use Rattle.std.specs.List.{cons_option}
 use Rattle.dim_core.specs.Outline.{Outline, index_of}
 use Rattle.cube_space.specs.Layout.{axes_of}
 use Rattle.rule_model.specs.Named.{with_element, elements_named}

@@ -1,5 +1,5 @@
 -- What is known of a cube from its shape.
-use Rattle.std.proofs.Common.{◌≡◌, ℕ, ◌<◌, ◌≤◌, zero, suc, List, [], ◌∷◌, length, map, Option, Some, None, refl, sym, ap, ◌∙◌, subst, arith, All, slice_get, slice_index_or, get_or}
+use Rattle.std.proofs.Common.{◌≡◌, ℕ, ◌<◌, ◌≤◌, zero, suc, List, [], ◌∷◌, length, map, Option, Some, None, refl, sym, ap, ◌∙◌, subst, arith, All, slice_get, slice_index_or}
 use Rattle.std.proofs.Common.{◌++◌, take, pos, true, false, eqb, eq-eqb, Bool}
 use Rattle.std.proofs.lemmas.List.{length-map}
 use Rattle.std.proofs.Math.Seq.{take-append_seam}
@@ -8,9 +8,9 @@ use Rattle.cube_space.specs.Radix.{are_digits, product}
 use Rattle.cube_space.proofs.Radix.{digits-length}
 use Rattle.rule_model.specs.Weights.{weight, coef_product, greatest_coef, HasSmallProducts}
 use Rattle.cube_space.specs.declared.shape.CubeShape.{CubeShape}
-use Rattle.cube_space.specs.Layout.{Layout, axes, axes_of, dims_of, sizes, sizes_of}
-use Rattle.cube_space.specs.Cells.{IsSpace, IsCell, cube_of, elements_of}
-use Rattle.cube_space.proofs.Places.{HasPlace, cell-place}
+use Rattle.cube_space.specs.Layout.{Layout, axes, axes_of, sizes, sizes_of}
+use Rattle.cube_space.specs.Cells.{IsSpace, IsCell, cube_of, elements_of, is_place, cell_number}
+use Rattle.cube_space.proofs.Places.{cell-place, is_place-parts, cell_number-none}
 use Rattle.cube_space.proofs.Axes.{length-axes_of}
 use Rattle.dim_core.specs.Outline.{Outline}
 
@@ -97,3 +97,35 @@ pub small_found : (space : Layout) (cell cube : ℕ) (shape : CubeShape) (dims :
 small_found space cell cube shape dims small is_cell own found named =
     let there : cube < length space.cubes = subst (λ k. k < length space.cubes) (sym own) (cell-place space cell is_cell).place.there in
     subst (λ a. product (map greatest_coef a) ≤ 1000000000) (shape_dims space cube shape found ∙ ap (axes_of space.dimensions) (sym named)) (small cube there)
+
+-- the elements of a cell are in front of what the array had
+pub place_taken : (space : Layout) (cell cube : ℕ) (shape : CubeShape) (dims at rest : List ℕ) → IsSpace space → IsCell space cell → cube ≡ cube_of space cell → slice_get space.cubes cube ≡ Some shape → dims ≡ shape.dims → at ≡ elements_of space cell ++ rest
+    → take (length dims) at ≡ elements_of space cell
+place_taken space cell cube shape dims at rest valid is_cell own found named is =
+    let are : are_digits (sizes space cube) (elements_of space cell) ≡ true = ap (λ k. are_digits (sizes space k) (elements_of space cell)) own ∙ (cell-place space cell is_cell).place.digits in
+    ap (λ ds. take (length ds) at) named ∙ ap (λ a. take (length shape.dims) a) is ∙ elements_taken space cube shape (elements_of space cell) rest valid found are
+
+-- no cube has more dimensions than 16
+few_sizes : (space : Layout) (cube : ℕ) → IsSpace space → length (sizes space cube) ≤ 16
+few_sizes space cube valid = by (slice_get space.cubes cube) refl
+  where
+    none : (cubes : List CubeShape) (cube : ℕ) → slice_get cubes cube ≡ None → slice_index_or (map (λ s. s.dims) cubes) cube [] ≡ []
+    none [] cube is = refl
+    none (s ∷ cubes) zero is = absurd (cc is)
+    none (s ∷ cubes) (suc cube) is = none cubes cube is
+
+    by : (found : Option CubeShape) → slice_get space.cubes cube ≡ found → length (sizes space cube) ≤ 16
+    by None is = rw (none space.cubes cube is) (omega arith)
+    by (Some shape) is =
+        let e : length (sizes space cube) ≡ length shape.dims = ap (λ a. length (sizes_of a)) (shape_dims space cube shape is) ∙ length-axes_of space.dimensions shape.dims (dims_within space cube shape valid is) in
+        omega (arith, e, dims_few space cube shape valid is)
+
+-- so there is no cell of more elements
+pub none_of_many : (space : Layout) (cube : ℕ) (elements : List ℕ) → IsSpace space → 16 < length elements → None ≡ cell_number space cube elements
+none_of_many space cube elements valid many = by (is_place space cube elements) refl
+  where
+    by : (there : Bool) → is_place space cube elements ≡ there → None ≡ cell_number space cube elements
+    by true is =
+        let place = is_place-parts space cube elements is in
+        absurd (omega (arith, digits-length (sizes space cube) elements place.digits, few_sizes space cube valid, many))
+    by false is = cell_number-none space cube elements is

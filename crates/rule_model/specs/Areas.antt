@@ -1,5 +1,5 @@
 -- Which cells an area has: those that a statement is for, and those that a feeder feeds from.
-use Rattle.std.specs.Prelude.{ℕ, ◌==◌, Bool, true, ◌&&◌, Option, Some, None, List, slice_index_or}
+use Rattle.std.specs.Prelude.{ℕ, ◌==◌, Bool, true, ◌&&◌, Option, Some, None, List}
 use Rattle.std.specs.List.{list_any, list_all, zip}
 use Rattle.dim_core.specs.Outline.{Outline}
 use Rattle.dim_weights.specs.Coefficients.{coef}

@@ -1,5 +1,5 @@
 -- What contracts see of a bound model: its dimensions, its cubes over them, and the rules of each cube.
-use Rattle.std.specs.Prelude.{ℕ, Bool, false, List, [], slice_index_or}
+use Rattle.std.specs.Prelude.{ℕ, false, List, [], slice_index_or}
 use Rattle.cube_space.specs.Layout.{Layout}
 use Rattle.rule_model.specs.declared.rules.CubeRules.{CubeRules}
 

@@ -1,6 +1,6 @@
 -- Which statement governs a cell, and which leaf cells are open for input.
-use Rattle.std.specs.Prelude.{◌≡◌, ℕ, suc, ◌+◌, Bool, true, false, ◌&&◌, ◌||◌, Option, Some, None, option_map, is_some, List, [], ◌∷◌}
-use Rattle.std.specs.Prelude.{drop, slice_get}
+use Rattle.std.specs.Prelude.{ℕ, ◌+◌, Bool, true, false, ◌&&◌, ◌||◌, Option, option_map, is_some, List, [], ◌∷◌}
+use Rattle.std.specs.Prelude.{drop}
 use Rattle.std.specs.List.{position}
 use Rattle.std.specs.Option.{option_map_or}
 use Rattle.cube_space.specs.Cells.{cube_of, is_leaf_cell}

@@ -11,9 +11,11 @@ pub use model::{MAX_WEIGHT_PRODUCT, Model};
 pub use order::{Order, Position};
 pub use rule_laws::{Arg, ElementMap, Formula, Fun, Op, Reference, Rel, Truth};
 pub use rules::{CubeRules, Feeder, Form, Statement};
+pub use targets::{has_components, target, target_from};
 
 mod area;
 mod cells;
 mod model;
 mod order;
 mod rules;
+mod targets;

@@ -25,7 +25,6 @@ pub struct Model {
 impl std::marker::Model for Model {
     ghost use Rattle.rule_model.specs.BoundModel.{BoundModel};
     ghost use Rattle.rule_model.specs.Inside.Kept.{IsBound};
-
     ghost use Rattle.rule_laws.specs.contracts.formula.Formula as formula;
     ghost use Rattle.std.specs.Coded.{codes};
 

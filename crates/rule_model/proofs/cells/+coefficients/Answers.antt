@@ -1,4 +1,4 @@
-use Rattle.std.proofs.Common.{rules, ◌≡◌, ◌<◌, ◌≤◌, ◌+◌, ◌*◌, ◌∙◌, length, sym, ap, subst, arith, pos, ℤ, ◌*ℤ◌, unsigned_abs, drop, map, slice_get, slice_index_or, Some, w64, to_z, of_z}
+use Rattle.std.proofs.Common.{rules, ◌≡◌, ◌<◌, ◌≤◌, ◌+◌, ◌∙◌, length, sym, ap, subst, arith, pos, ℤ, ◌*ℤ◌, unsigned_abs, drop, map, slice_get, slice_index_or, Some, w64, to_z, of_z}
 use Rattle.std.proofs.lemmas.Int.{to_z-of_z}
 use mir.Val.{SFits}
 use Rattle.dim_core.specs.Outline.{Outline}

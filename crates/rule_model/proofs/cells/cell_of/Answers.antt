@@ -1,6 +1,5 @@
-use Rattle.std.proofs.Common.{rules, ◌≡◌, ◌<◌, ◌≤◌, ◌∙◌, length, sym, ap, arith, All, Some, None, subst}
-use Rattle.cube_space.specs.Layout.{axes, axes_of}
-use Rattle.rule_model.specs.Named.{cell_named, elements_named}
+use Rattle.std.proofs.Common.{rules}
+use Rattle.rule_model.specs.Named.{cell_named}
 use Rattle.rule_model.proofs.Shapes.{dims_within, dims_few, shape_dims}
 use Rattle.rule_model.proofs.cells.cell_of.Goals as goal
 

@@ -1,4 +1,4 @@
-use Rattle.std.proofs.Common.{◌≡◌, ◌∙◌, sym, length}
+use Rattle.std.proofs.Common.{◌∙◌, sym}
 use Rattle.rule_model.proofs.Named.{other_count}
 use Rattle.rule_model.proofs.Shapes.{axes_length}
 use Rattle.cube_space.specs.Layout.{axes_of}

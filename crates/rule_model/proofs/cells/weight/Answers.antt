@@ -1,12 +1,9 @@
-use Rattle.std.proofs.Common.{rules, ◌≡◌, ◌<◌, ◌≤◌, ◌++◌, ◌∙◌, length, take, drop, map, refl, sym, ap, subst, arith, true}
-use Rattle.std.proofs.Common.{w64, to_z, of_z}
+use Rattle.std.proofs.Common.{rules, ◌≡◌, ◌∙◌, arith}
+use Rattle.std.proofs.Common.{w64}
 use Rattle.std.proofs.lemmas.Int.{to_z-of_z}
 use mir.Val.{SFits}
-use Rattle.cube_space.specs.Layout.{axes, axes_of, sizes, sizes_of}
-use Rattle.cube_space.specs.Cells.{IsSpace, cube_of, elements_of}
-use Rattle.cube_space.specs.Radix.{are_digits, product}
-use Rattle.cube_space.proofs.Places.{HasPlace, cell-place}
-use Rattle.rule_model.specs.Weights.{greatest_coef, coef_product}
+use Rattle.cube_space.specs.Cells.{cube_of}
+use Rattle.cube_space.proofs.Places.{cell-place}
 use Rattle.rule_model.proofs.Shapes.{dims_few, digits_found, small_found, weight_is, weight_apart}
 use Rattle.rule_model.proofs.cells.weight.Goals as goal
 
