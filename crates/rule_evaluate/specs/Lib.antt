@@ -1,0 +1,4 @@
+pub mod Readings
+pub mod Course
+pub mod Known
+pub mod Inside
