@@ -1,1 +1,5 @@
 pub mod Statements
+pub mod Ranks
+pub mod Levels
+pub mod Below
+pub mod Formed

@@ -1,9 +1,12 @@
-//! The laws of rules, of bound models: what `rule_laws` shows of systems that are well formed and ordered holds of every
-//! model, since the system of a model is well formed and its ranks are those of the declared order.
+//! The laws of rules hold of bound models: the system of a model is well formed, and its ranks are those of the
+//! declared order, so what `rule_laws` shows of such systems holds of every model that the order check accepts.
 //!
 //! The laws do nothing when they run.
 #![tactic(auto)]
 
-pub use laws::{statements_of_the_cube_decide, statements_of_the_cube_give_in_turn};
+pub use laws::{
+    models_are_ranked, models_are_well_formed, ordered_models_have_one_solution,
+    statements_of_the_cube_decide, statements_of_the_cube_give_in_turn,
+};
 
 mod laws;

@@ -1,0 +1,69 @@
+-- The rank of a cell is its numbers at the positions of the declared order, read as one.
+use Rattle.std.proofs.Common.{◌≡◌, refl, arith, ℕ, zero, suc, ◌+◌, ◌<◌, ◌≤◌, true, List, [], ◌∷◌, length, map, get_or}
+use Rattle.std.specs.List.{range_with_len}
+use Rattle.std.proofs.lemmas.Bool.{and_from, lt-ltb}
+use Rattle.std.proofs.lemmas.List.FromFn.{get_or-map-range_with_len, length-map-range_with_len}
+use Rattle.cube_space.specs.Radix.{are_digits}
+use Rattle.cube_space.specs.Cells.{IsCell}
+use Rattle.cube_space.proofs.Radix.{number-at_most, number-smaller}
+use Rattle.rule_laws.specs.OrderByPlace.{IsRankedBy}
+use Rattle.rule_model.specs.BoundModel.{BoundModel}
+use Rattle.rule_model.specs.Order.{most_positions, number_at, greatest, position_size, position_sizes, numbers_of, rank, cell_level, level_count}
+use Rattle.rule_model.specs.System.{system_of, positions_of}
+
+greatest-most : (xs : List ℕ) (k d : ℕ) → k < length xs → get_or xs k d ≤ greatest xs
+greatest-most [] k d less = absurd (omega arith)
+greatest-most (x ∷ xs) zero d less = omega arith
+greatest-most (x ∷ xs) (suc k) d less = let rest = greatest-most xs k d (omega arith) in omega arith
+
+-- what each of so many has is at most the greatest
+at_most-greatest : (f : ℕ → ℕ) (n c : ℕ) → c < n → f c ≤ greatest (map f (range_with_len 0 n))
+at_most-greatest f n c less =
+    let here : get_or (map f (range_with_len 0 n)) c 0 ≡ f c = get_or-map-range_with_len f 0 n c c 0 less (omega arith) in
+    omega (arith, here, greatest-most (map f (range_with_len 0 n)) c 0 (omega (arith, less, length-map-range_with_len f 0 n)))
+
+digits-by : (f g : ℕ → ℕ) (a n : ℕ) → ((p : ℕ) → g p < f p) → are_digits (map f (range_with_len a n)) (map g (range_with_len a n)) ≡ true
+digits-by f g a zero below = refl
+digits-by f g a (suc n) below = and_from _ _ (lt-ltb (g a) (f a) (below a)) (digits-by f g (a + 1) n below)
+
+module _ (m : BoundModel) where
+  number-below_size : (c place : ℕ) → IsCell m.space c → number_at m place c < position_size m place
+  unfolding position_size
+  number-below_size c place cell = omega (arith, at_most-greatest (number_at m place) _ c cell)
+
+  digits-of : (c : ℕ) → IsCell m.space c → are_digits (position_sizes m) (numbers_of m c) ≡ true
+  digits-of c cell = digits-by (position_size m) (λ place. number_at m place c) 0 most_positions (λ place. number-below_size c place cell)
+
+  number-of : (c place : ℕ) → place < most_positions → get_or (numbers_of m c) place 0 ≡ number_at m place c
+  number-of c place less = get_or-map-range_with_len (λ place. number_at m place c) 0 most_positions place place 0 less (omega arith)
+
+  positions-many : length (position_sizes m) ≡ most_positions
+  positions-many = length-map-range_with_len (position_size m) 0 most_positions
+
+  -- a cell that has no greater number ranks no higher
+  pub rank-at_most : (x c : ℕ) → IsCell m.space x → IsCell m.space c → ((place : ℕ) → place < most_positions → number_at m place x ≤ number_at m place c) → rank m x ≤ rank m c
+  unfolding rank
+  rank-at_most x c cell_x cell_c least =
+      number-at_most (position_sizes m) (numbers_of m x) (numbers_of m c) (digits-of x cell_x) (digits-of c cell_c)
+      (λ place less.
+      let within : place < most_positions = omega (arith, less, positions-many) in
+      omega (arith, number-of x place within, number-of c place within, least place within))
+
+  -- one with a smaller number at a position, and none greater before, ranks lower
+  pub rank-smaller : (x c place : ℕ) → IsCell m.space x → IsCell m.space c → place < most_positions → number_at m place x < number_at m place c
+      → ((p : ℕ) → p < place → number_at m p x ≤ number_at m p c) → rank m x < rank m c
+  unfolding rank
+  rank-smaller x c place cell_x cell_c within here before =
+      number-smaller (position_sizes m) (numbers_of m x) (numbers_of m c) place (digits-of x cell_x) (digits-of c cell_c) (omega (arith, within, positions-many))
+      (λ p less.
+      let low : p < most_positions = omega (arith, less, within) in
+      omega (arith, number-of x p low, number-of c p low, before p less))
+      (omega (arith, number-of x place within, number-of c place within, here))
+
+  pub ranked : IsRankedBy (system_of m) (positions_of m)
+  unfolding system_of positions_of level_count
+  ranked = record {
+    smaller = λ x c q cell_x cell_c within here before. rank-smaller x c q cell_x cell_c within here before;
+    at_most = λ x c cell_x cell_c least. rank-at_most x c cell_x cell_c least;
+    level_within = λ c cell. omega (arith, at_most-greatest (cell_level m.space) _ c cell);
+  }
