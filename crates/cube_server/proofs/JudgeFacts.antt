@@ -4,7 +4,7 @@ use Rattle.std.specs.Option.{option_or}
 use Rattle.model_text.specs.Answers.{IsModelText, IsFault}
 use Rattle.model_text.specs.Contents.{Contents}
 use Rattle.model_text.specs.declared.fault.ModelTextFault.{ModelTextFault}
-use Rattle.model_deploy.specs.Deployment.{layout_of, refusal_of, memory, IsAnsweredBy}
+use Rattle.model_deploy.specs.Deployment.{model_of, refusal_of, memory, IsAnsweredBy}
 use Rattle.model_deploy.specs.declared.fault.DeployFault.{DeployFault}
 use Rattle.rule_model.specs.BoundModel.{BoundModel}
 use Rattle.cube_server.specs.declared.halt.Halt.{Halt}
@@ -72,7 +72,7 @@ module _ (source : Source) (file bytes : List ℕ) (named : file ≡ source.0) (
 
   pub judges-model : (contents : Contents) (model : BoundModel)
       → IsModelText bytes contents → unbuilt_statement contents ≡ None → IsAnsweredBy (refusal_of contents) (Ok model)
-      → model ≡ record { space = layout_of contents } → IsModel source.1 model
+      → model ≡ model_of contents → IsModel source.1 model
   judges-model contents model text built answered is = record {
     contents = contents;
     text = rw (← read) text;

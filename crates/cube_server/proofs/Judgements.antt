@@ -9,7 +9,7 @@ use Rattle.model_text.specs.Contents.{Contents}
 use Rattle.model_text.specs.declared.fault.ModelTextFault.{ModelTextFault}
 use Rattle.model_text.specs.declared.fault.ModelTextCause.{ModelTextCause}
 use Rattle.model_text.specs.declared.fault.ModelTextCause.TheVariants as text_causes
-use Rattle.model_deploy.specs.Deployment.{layout_of}
+use Rattle.model_deploy.specs.Deployment.{model_of}
 use Rattle.text_laws.specs.UserAnswers.{OneUserAnswer}
 use Rattle.text_laws.specs.ModelAnswers.{OneModelAnswer}
 use Rattle.text_laws.proofs.UserTexts.{user_texts}
@@ -97,7 +97,7 @@ no_want file fault refusal is memory = (let clash : None ≡ Some refusal = rw m
 module _ (source : Source) where
   one_model : (x y : BoundModel) → IsModel source.1 x → IsModel source.1 y → x ≡ y
   one_model x y p q =
-      let model : Contents → BoundModel = λ c. record { space = layout_of c } in
+      let model : Contents → BoundModel = λ c. model_of c in
       p.is ∙ ap model ((model_texts source.1).one_contents p.contents q.contents p.text q.text) ∙ sym q.is
 
   one_model_refusal : (r s : Refusal) → (model_judgement source).refused_for r → (model_judgement source).refused_for s → r ≡ s

@@ -6,7 +6,7 @@ use Rattle.model_text.specs.Answers.{IsModelText, IsFault}
 use Rattle.model_text.specs.Contents.{Contents}
 use Rattle.model_text.specs.declared.parts.CubeText.{CubeText}
 use Rattle.model_text.specs.declared.fault.ModelTextFault.{ModelTextFault}
-use Rattle.model_deploy.specs.Deployment.{layout_of, refusal_of}
+use Rattle.model_deploy.specs.Deployment.{model_of, refusal_of}
 use Rattle.rule_model.specs.BoundModel.{BoundModel}
 use Rattle.cube_server.specs.declared.refusal.Cause.TheVariants.{Unbuilt}
 use Rattle.cube_server.specs.declared.refusal.Refusal.{Refusal}
@@ -39,7 +39,7 @@ pub record IsModel (bytes : List ℕ) (model : BoundModel) : Type 0 where
   pub text : IsModelText bytes contents
   pub built : unbuilt_statement contents ≡ None
   pub deployed : refusal_of contents ≡ None
-  pub is : model ≡ record { space = layout_of contents }
+  pub is : model ≡ model_of contents
 
 -- the bytes are no model text, and this is the first fault
 pub record IsModelFault (source : Source) (refusal : Refusal) : Type 0 where

@@ -1,5 +1,5 @@
 -- What the contents of a model text are as a model, and why they are refused.
-use Rattle.std.specs.Prelude.{◌≡◌, ℕ, ◌⊎◌, ⊤, nat_lt, if◌then◌else◌, List, [], ◌∷◌, length, map, slice_index}
+use Rattle.std.specs.Prelude.{◌≡◌, ℕ, ◌⊎◌, ⊤, nat_lt, if◌then◌else◌, List, [], ◌∷◌, length, map, replicate, slice_index}
 use Rattle.std.specs.Prelude.{Option, Some, None, option_map, Result, Ok, Err}
 use Rattle.std.specs.List.{range_with_len}
 use Rattle.std.specs.Option.{option_or}
@@ -12,6 +12,8 @@ use Rattle.cube_space.specs.declared.fault.SpaceFault.{SpaceFault}
 use Rattle.cube_space.specs.declared.fault.SpaceFault.TheVariants as spaces
 use Rattle.cube_space.specs.Layout.{Layout}
 use Rattle.cube_space.specs.Refusal.{refusal_of as space_refused}
+use Rattle.rule_model.specs.declared.rules.CubeRules.{CubeRules}
+use Rattle.rule_model.specs.BoundModel.{BoundModel, no_rules}
 use Rattle.rule_model.specs.Weights.{weight_product, max_weight_product}
 use Rattle.model_text.specs.Contents.{Contents}
 use Rattle.model_text.specs.declared.parts.CubeText.{CubeText}
@@ -29,6 +31,14 @@ layout_of contents = record {
   dimensions = map (λ text. text.dimension) contents.dims;
   cubes = map shape_of contents.cubes;
 }
+
+-- rules for so many cubes, where none is looked at yet
+abbrev pub plain_rules : ℕ → List CubeRules
+plain_rules count = replicate count no_rules
+
+-- the model of a model text
+abbrev pub model_of : Contents → BoundModel
+model_of contents = record { space = layout_of contents; rules = plain_rules (length contents.cubes) }
 
 -- the line of each cube's `CUBE`
 abbrev pub cube_lines : List CubeText → List ℕ

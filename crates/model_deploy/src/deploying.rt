@@ -1,17 +1,18 @@
 ghost use Rattle.std.specs.Prelude.{◌≡◌, IfOk};
-ghost use Rattle.model_deploy.specs.Deployment.{layout_of, refusal_of, IsAnsweredBy};
+ghost use Rattle.model_deploy.specs.Deployment.{model_of, refusal_of, IsAnsweredBy};
 
 use crate::coefficients::weights_of;
 use crate::cubes::{dimensions_of, lines_of, shapes_of, space_of};
 use crate::fault::DeployFault;
 use crate::products::check_products;
+use crate::rules::plain_rules;
 use model_text::ModelText;
 use rule_model::Model;
 use std::alloc::Global;
 
 /// The model of a text that was read. Files of rules and of scripts, and order lines, aren't looked at yet.
 pub fn deploy(alloc: Global, text: ModelText) -> Result<Model, DeployFault>
-    ensures deployed { IfOk result (λ model. model ≡ record { space = layout_of text }) }
+    ensures deployed { IfOk result (λ model. model ≡ model_of text) }
     ensures answered { IsAnsweredBy (refusal_of text) result }
 {
     let weights = weights_of(alloc, text.dims())?;
@@ -21,6 +22,7 @@ pub fn deploy(alloc: Global, text: ModelText) -> Result<Model, DeployFault>
     let shapes = shapes_of(alloc, cubes)?;
     let space = space_of(alloc, dimensions, shapes, &lines)?;
     check_products(&space, &weights, &lines)?;
-    let model = Model::of(space, weights)?;
+    let rules = plain_rules(alloc, space.cubes())?;
+    let model = Model::of(space, weights, rules)?;
     Ok(model)
 }

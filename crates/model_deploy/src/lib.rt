@@ -9,6 +9,7 @@ mod cubes;
 mod deploying;
 mod fault;
 mod products;
+mod rules;
 
 pub use deploying::deploy;
 pub use fault::{DeployCause, DeployFault};
