@@ -3,3 +3,5 @@ mod Shapes
 mod Coefs
 mod Components
 mod Arguments
+mod Statements
+mod GoverningFacts

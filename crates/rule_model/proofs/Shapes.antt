@@ -10,7 +10,7 @@ use Rattle.rule_model.specs.Weights.{weight, coef_product, greatest_coef, HasSma
 use Rattle.cube_space.specs.declared.shape.CubeShape.{CubeShape}
 use Rattle.cube_space.specs.Layout.{Layout, axes, axes_of, sizes, sizes_of}
 use Rattle.cube_space.specs.Cells.{IsSpace, IsCell, cube_of, elements_of, is_place, cell_number}
-use Rattle.cube_space.proofs.Places.{cell-place, is_place-parts, cell_number-none}
+use Rattle.cube_space.proofs.Places.{cell-place, is_place-parts, is_place-from, cell_number-none}
 use Rattle.cube_space.proofs.Axes.{length-axes_of}
 use Rattle.dim_core.specs.Outline.{Outline}
 
@@ -129,3 +129,9 @@ none_of_many space cube elements valid many = by (is_place space cube elements) 
         let place = is_place-parts space cube elements is in
         absurd (omega (arith, digits-length (sizes space cube) elements place.digits, few_sizes space cube valid, many))
     by false is = cell_number-none space cube elements is
+
+-- the cube and the elements that were read of a cell
+pub read_place : (space : Layout) (cell cube : ℕ) (elements : List ℕ) → IsCell space cell → cube ≡ cube_of space cell → elements ≡ elements_of space cell → is_place space cube elements ≡ true
+read_place space cell cube elements is_cell own is =
+    ap (λ k. is_place space k elements) own ∙ ap (is_place space (cube_of space cell)) is
+    ∙ is_place-from space (cube_of space cell) (elements_of space cell) (cell-place space cell is_cell).place

@@ -1,6 +1,6 @@
 -- Which statement governs a cell, and which leaf cells are open for input.
-use Rattle.std.specs.Prelude.{ℕ, ◌+◌, Bool, true, false, ◌&&◌, ◌||◌, Option, option_map, is_some, List, [], ◌∷◌}
-use Rattle.std.specs.Prelude.{drop}
+use Rattle.std.specs.Prelude.{ℕ, ◌+◌, Bool, true, false, ◌&&◌, ◌||◌, Option, option_map, option_and_then, is_some, List, [], ◌∷◌}
+use Rattle.std.specs.Prelude.{drop, slice_get}
 use Rattle.std.specs.List.{position}
 use Rattle.std.specs.Option.{option_map_or}
 use Rattle.cube_space.specs.Cells.{cube_of, is_leaf_cell}
@@ -24,6 +24,10 @@ has_part model cell rule = is_some (part_at (system_of model) cell rule)
 unfoldable pub governing_from : BoundModel → ℕ → ℕ → Option ℕ
 governing_from model cell place =
     option_map (λ k. place + k) (position (has_part model cell) (drop place (rules_for model cell)))
+
+-- the formula that the statement at a place of the cell's cube has for the cell
+abbrev pub formula_at : BoundModel → ℕ → ℕ → Option Formula
+formula_at model cell place = option_and_then (part_at (system_of model) cell) (slice_get (rules_for model cell) place)
 
 -- whether STET stands in a formula, and whether CONTINUE does
 abbrev pub stet_step : Formula-F Bool Bool → Bool

@@ -7,6 +7,7 @@
 
 pub use area::Area;
 pub use cells::{cell_of, weight};
+pub use governed::{governing, governing_after, governing_in, part_of};
 pub use model::{MAX_WEIGHT_PRODUCT, Model};
 pub use order::{Order, Position};
 pub use rule_laws::{Arg, ElementMap, Formula, Fun, Op, Reference, Rel, Truth};
@@ -15,7 +16,10 @@ pub use targets::{has_components, target, target_from};
 
 mod area;
 mod cells;
+mod governed;
 mod model;
 mod order;
+mod parts;
+mod places;
 mod rules;
 mod targets;

@@ -4,6 +4,7 @@ ghost use Rattle.cube_space.specs.Cells.{IsCell, is_place, cell_number, cube_of,
 ghost use Rattle.rule_model.specs.Targets.{element_by, elements_by, target, component_cells};
 
 use crate::model::Model;
+use crate::places::place_of;
 use cube_space::{MAX_DIMENSIONS, Space};
 use rule_laws::{Arg, Reference};
 
@@ -62,11 +63,9 @@ pub fn target(model: &Model, reference: &Reference, cell: u64) -> Option<u64>
     ensures value { result ≡ target model.now.space reference.now cell }
     ensures cell { IfSome result (IsCell model.now.space) }
 {
-    let space = model.space();
     let mut at = [0u32; 16];
-    let cube = space.place(cell, &mut at);
-    let dims = space.shape(cube).dims.as_slice();
-    target_from(space, &at[..dims.len()], reference)
+    let (_, len) = place_of(model, cell, &mut at);
+    target_from(model.space(), &at[..len], reference)
 }
 
 /// Whether the element of a cell in the dimension at this place of its cube has components. It is told of the cell by
