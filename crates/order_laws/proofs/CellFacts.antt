@@ -1,0 +1,149 @@
+-- The cells of an area and what they have on a scale, by the lists of their elements.
+use Rattle.std.proofs.Common.{◌≡◌, refl, sym, ap, ◌∙◌, arith, subst, ℕ, zero, suc, ◌+◌, ◌<◌, ◌≤◌, Bool, true, false, ◌||◌, ◌&&◌, not, ℤ, pos, ◌-ℤ◌, ◌≤ℤ◌, Option, Some, None, IfSome, List, [], ◌∷◌, length, map, get_or, ◌==◌, nat_lt, if◌then◌else◌, All, inl, inr}
+use Rattle.std.specs.Prelude.{slice_get, slice_index_or}
+use Rattle.std.specs.List.{list_all, zip, AllZip}
+use Rattle.std.proofs.lemmas.Bool.{eq-eqb, and_parts, and_from, ltb-true, lt-ltb, cases_lt}
+use Rattle.std.proofs.lemmas.Bool.Decides.{Decides-eqb}
+use Rattle.std.proofs.lemmas.List.{length-map}
+use Rattle.std.specs.Prelude.{sum_by}
+use Rattle.dim_core.specs.Outline.{Outline, level}
+use Rattle.cube_space.specs.Radix.{are_digits}
+use Rattle.cube_space.proofs.Radix.{digits-length}
+use Rattle.cube_space.specs.Layout.{Layout, axes, sizes}
+use Rattle.cube_space.specs.Cells.{IsSpace, IsCell, Cell, cube_of, elements_of, is_leaf, are_leaves, is_leaf_cell, cell_at, cell_number}
+use Rattle.cube_space.proofs.Places.{IsPlace, HasPlace, cell-place, place_number, place-within, cell_at-place, cell_number-place}
+use Rattle.rule_model.specs.declared.area.Area.{Area}
+use Rattle.rule_model.specs.declared.order.Position.{Position}
+use Rattle.rule_model.specs.declared.order.Position.TheVariants.{Constant, Ranks}
+use Rattle.rule_model.specs.BoundModel.{BoundModel, rules_of}
+use Rattle.rule_model.specs.Areas.{in_set, in_sets, in_area}
+use Rattle.rule_model.specs.Conditions.{IsSet, IsArea, AreRules, AreRanks, IsPosition}
+use Rattle.rule_model.specs.Order.{most_positions, position_of, number_by, number_at, cell_level}
+use Rattle.order_laws.specs.Greatest.{any_from}
+use Rattle.order_laws.specs.Decision.{Scale, scale_of, position_scale, level_scale, level_in, is_total}
+use Rattle.order_laws.proofs.SumFacts.{all_from, all-and, digits-each, zip-each, any-shift}
+use Rattle.order_laws.proofs.ReferenceFacts.{reading, added, position-reading, levels-reading}
+use Rattle.order_laws.proofs.SetFacts.{is_in, zip-long}
+
+-- these are the elements of a cell of this cube
+pub record IsAt (space : Layout) (cube : ℕ) (es : List ℕ) (c : ℕ) : Type 0 where
+  pub cell : IsCell space c
+  pub own : cube_of space c ≡ cube
+  pub elements : elements_of space c ≡ es
+
+pub axes-sizes : (space : Layout) (cube : ℕ) → length (sizes space cube) ≡ length (axes space cube)
+axes-sizes space cube = length-map (axes space cube) (λ d. length d.elements)
+
+-- a place has a cell, and each cell has a place
+pub cell-there : (space : Layout) (cube : ℕ) (es : List ℕ) → cube < length space.cubes → are_digits (sizes space cube) es ≡ true
+    → (c : ℕ) × IsAt space cube es c × (cell_number space cube es ≡ Some c)
+cell-there space cube es there digits =
+    let place : IsPlace space cube es = record { there = there; digits = digits } in
+    let at = cell_at-place space cube es place in (
+      place_number space cube es,
+      record {
+        cell = place-within space cube es place;
+        own = ap (λ (c : Cell). c.cube) at;
+        elements = ap (λ (c : Cell). c.elements) at;
+      },
+      cell_number-place space cube es place,
+    )
+
+pub number-there : (space : Layout) (cube : ℕ) (es : List ℕ) (t : ℕ) → cube < length space.cubes → are_digits (sizes space cube) es ≡ true
+    → cell_number space cube es ≡ Some t → IsAt space cube es t
+number-there space cube es t there digits is =
+    let found = cell-there space cube es there digits in
+    let same : found.0 ≡ t = cc in
+    subst (IsAt space cube es) same found.1
+
+pub cell-digits : (space : Layout) (c : ℕ) → IsCell space c → are_digits (sizes space (cube_of space c)) (elements_of space c) ≡ true
+cell-digits space c h = (cell-place space c h).place.digits
+
+pub cell-cube : (space : Layout) (c : ℕ) → IsCell space c → cube_of space c < length space.cubes
+cell-cube space c h = (cell-place space c h).place.there
+
+pub digits-long : (space : Layout) (cube : ℕ) (es : List ℕ) → are_digits (sizes space cube) es ≡ true → length es ≡ length (axes space cube)
+digits-long space cube es h = digits-length (sizes space cube) es h ∙ axes-sizes space cube
+
+-- leaf cells have no consolidated element
+leaves-each : (dims : List Outline) (es : List ℕ) → length es ≡ length dims → are_leaves dims es ≡ not (any_from (is_total dims) 0 es)
+leaves-each [] [] h = refl
+leaves-each [] (e ∷ es) h = absurd (omega arith)
+leaves-each (d ∷ dims) [] h = absurd (omega arith)
+leaves-each (d ∷ dims) (e ∷ es) h =
+    ap (λ t. is_leaf d e && t) (leaves-each dims es (omega arith) ∙ ap not (sym (any-shift (is_total (d ∷ dims)) 0 es))) ∙ joined (is_leaf d e) (any_from (is_total (d ∷ dims)) 1 es)
+  where
+    joined : (t u : Bool) → t && not u ≡ not (not t || u)
+    joined true u = refl
+    joined false u = refl
+
+pub leaf-is : (space : Layout) (cube : ℕ) (es : List ℕ) (c : ℕ) → IsAt space cube es c → length es ≡ length (axes space cube) → is_leaf_cell space c ≡ not (any_from (is_total (axes space cube)) 0 es)
+unfolding is_leaf_cell
+leaf-is space cube es c at long =
+    ap (λ k. are_leaves (axes space k) (elements_of space c)) at.own ∙ ap (are_leaves (axes space cube)) at.elements ∙ leaves-each (axes space cube) es long
+
+-- an element of an area in a dimension
+abbrev pub is_in_area : Layout → ℕ → Area → ℕ → ℕ → Bool
+is_in_area space cube area i e = is_in (slice_index_or (sizes space cube) i 0) (slice_index_or area.sets i None) e
+
+pub area-each : (space : Layout) (cube : ℕ) (area : Area) (es : List ℕ) → IsArea space cube area → length es ≡ length (axes space cube)
+    → all_from (is_in_area space cube area) 0 es ≡ are_digits (sizes space cube) es && in_sets area.sets es
+unfolding in_sets
+area-each space cube area es is_area long =
+    let as_many : length es ≡ length (sizes space cube) = omega (arith, long, axes-sizes space cube) in
+    let as_sets : length es ≡ length area.sets = omega (arith, as_many, zip-long IsSet (sizes space cube) area.sets is_area) in
+    all-and (λ i e. nat_lt e (slice_index_or (sizes space cube) i 0)) (λ i e. in_set (slice_index_or area.sets i None) e) 0 es
+    ∙ ap (λ t. t && all_from (λ i e. in_set (slice_index_or area.sets i None) e) 0 es) (sym (digits-each (sizes space cube) es as_many))
+    ∙ ap (λ t. are_digits (sizes space cube) es && t) (sym (zip-each in_set None area.sets es as_sets))
+
+-- what a cell has at a position, and as its level at the place after the last one
+abbrev pub measure : BoundModel → ℕ → ℕ → ℕ
+measure m q c = if nat_lt q most_positions then number_at m q c else cell_level m.space c
+
+position-there : (m : BoundModel) (cube q dim : ℕ) (ranks : List ℕ) → AreRules m.space m.rules → cube < length m.space.cubes → position_of m cube q ≡ Ranks dim ranks → dim < length (axes m.space cube)
+position-there m cube q dim ranks ruled there is = elim (cases_lt q (length (rules_of m cube).order.positions)) [
+  | inl low ↦ within (subst (IsPosition (axes m.space cube)) is ((ruled.cube cube there).order.each q (Constant 0) low))
+  | inr high ↦ absurd (let none : position_of m cube q ≡ Constant 0 = get_or-past (rules_of m cube).order.positions q (Constant 0) high in let wrong : Constant 0 ≡ Ranks dim ranks = sym none ∙ is in cc)
+]
+  where
+    found : (ds : List Outline) (k : ℕ) (d : Outline) → slice_get ds k ≡ Some d → k < length ds
+    found [] k d e = absurd (cc)
+    found (x ∷ ds) zero d e = omega arith
+    found (x ∷ ds) (suc k) d e = omega (arith, found ds k d e)
+
+    within : IsPosition (axes m.space cube) (Ranks dim ranks) → dim < length (axes m.space cube)
+    within h = found (axes m.space cube) dim h.0 h.1
+
+    get_or-past : (ps : List Position) (k : ℕ) (d : Position) → length ps ≤ k → get_or ps k d ≡ d
+    get_or-past [] k d h = refl
+    get_or-past (p ∷ ps) zero d h = absurd (omega arith)
+    get_or-past (p ∷ ps) (suc k) d h = get_or-past ps k d (omega arith)
+
+abbrev levels_of : List Outline → List ℕ → ℕ
+levels_of dims es = sum_by (λ p. level p.0 p.1) (zip dims es)
+
+pub measure-is : (m : BoundModel) (q cube : ℕ) (es : List ℕ) (c : ℕ) → AreRules m.space m.rules → cube < length m.space.cubes → IsAt m.space cube es c → length es ≡ length (axes m.space cube)
+    → measure m q c ≡ reading (scale_of m cube q) es
+unfolding number_at cell_level scale_of
+measure-is m q cube es c ruled there at long = by (nat_lt q most_positions)
+  where
+    position : number_by (position_of m (cube_of m.space c) q) (elements_of m.space c) ≡ reading (position_scale (position_of m cube q)) es
+    position =
+        ap (λ k. number_by (position_of m k q) (elements_of m.space c)) at.own ∙ ap (number_by (position_of m cube q)) at.elements
+        ∙ position-reading (position_of m cube q) es (λ dim ranks is. omega (arith, long, position-there m cube q dim ranks ruled there is))
+
+    as-levels : levels_of (axes m.space (cube_of m.space c)) (elements_of m.space c) ≡ added (level_in (axes m.space cube)) 0 es
+    as-levels =
+        ap (λ k. levels_of (axes m.space k) (elements_of m.space c)) at.own ∙ ap (levels_of (axes m.space cube)) at.elements
+        ∙ levels-reading (axes m.space cube) es long
+
+    from-none : (a b : ℕ) → a ≡ b → a ≡ 0 + b
+    from-none a b e = omega (arith, e)
+
+    by-level : cell_level m.space c ≡ reading (level_scale (axes m.space cube)) es
+    by-level = from-none (levels_of (axes m.space (cube_of m.space c)) (elements_of m.space c)) (added (level_in (axes m.space cube)) 0 es) as-levels
+
+    by : (t : Bool) → (if t then number_by (position_of m (cube_of m.space c) q) (elements_of m.space c) else cell_level m.space c)
+        ≡ reading (if t then position_scale (position_of m cube q) else level_scale (axes m.space cube)) es
+    by true = position
+    by false = by-level

@@ -1,0 +1,9 @@
+pub mod GreatestFacts
+pub mod SumFacts
+pub mod ReferenceFacts
+pub mod SetFacts
+pub mod CellFacts
+pub mod ChildFacts
+pub mod Components
+pub mod Decided
+pub mod Earlier
