@@ -1,10 +1,10 @@
 -- The statements of a cube as those of the model's system.
-use Rattle.std.proofs.Common.{◌≡◌, eqb, ℕ, zero, suc, ◌+◌, ◌<◌, Bool, true, false, List, [], ◌∷◌, length, map, drop, get_or, Option, Some, None, refl, sym, ap, ◌∙◌, subst, arith, All}
+use Rattle.std.proofs.Common.{◌≡◌, eqb, ℕ, zero, suc, ◌+◌, ◌<◌, Bool, true, false, ◌&&◌, ◌||◌, List, [], ◌∷◌, length, map, drop, get_or, Option, Some, None, refl, sym, ap, ◌∙◌, subst, arith, All}
 use Rattle.std.specs.Prelude.{is_some, option_map, option_and_then, slice_get, slice_index_or, IfSome}
 use Rattle.std.specs.Bool.{if◌then◌else◌}
 use Rattle.std.specs.List.{AllZip, position, position_or_len}
 use Rattle.std.specs.List.Sorted.{IsStrictlyIncreasing}
-use Rattle.std.specs.Option.{option_copied}
+use Rattle.std.specs.Option.{option_copied, option_map_or}
 use Rattle.std.proofs.lemmas.Bool.{eq-eqb}
 use Rattle.std.proofs.lemmas.List.{length-map}
 use denote.Bor.{Bor}
@@ -22,8 +22,8 @@ use Rattle.rule_model.specs.BoundModel.{BoundModel, rules_of}
 use Rattle.rule_model.specs.Areas.{in_sets}
 use Rattle.rule_model.specs.Conditions.{IsSet, AreCubeRules}
 use Rattle.rule_model.specs.System.{system_of, rule_of}
-use Rattle.rule_model.specs.Governing.{governing_from, has_part, formula_at, rules_for}
-use Rattle.rule_model.specs.Inside.Parts.{HaveSets, part_of_kind, part_for, first_part}
+use Rattle.rule_model.specs.Governing.{governing_from, has_part, formula_at, rules_for, is_open, is_input, has_stet, has_continue}
+use Rattle.rule_model.specs.Inside.Parts.{HaveSets, part_of_kind, part_for, first_part, is_open_by}
 
 -- ---- the areas of a cube's statements
 
@@ -90,6 +90,20 @@ module _ (model : BoundModel) (cell : ℕ) where
   governing_same place =
       sym (ap (λ rs. option_map (λ k. place + k) (position (has_part model cell) rs)) (drop-map place (rules_of model (cube_of model.space cell)).statements)
       ∙ ap (option_map (λ k. place + k)) (position_same (drop place (rules_of model (cube_of model.space cell)).statements)))
+
+  open_by : (ss : List Statement) → is_leaf_cell model.space cell ≡ true → is_open_by ss (elements_of model.space cell) ≡ is_open model cell (map rule ss)
+  open_by [] leaf = refl
+  open_by (s ∷ ss) leaf =
+      rw (part_same s, ← open_by ss leaf)
+      (ap (λ b. option_map_or (λ f. has_stet f || (has_continue f && is_open_by ss (elements_of model.space cell))) (part_for s (elements_of model.space cell) b) (is_open_by ss (elements_of model.space cell))) (sym leaf))
+
+  pub open_same : is_leaf_cell model.space cell ≡ true → is_open_by (rules_of model (cube_of model.space cell)).statements (elements_of model.space cell) ≡ is_input model cell
+  unfolding is_input
+  open_same leaf = rw leaf (open_by (rules_of model (cube_of model.space cell)).statements leaf)
+
+  pub never_open : is_leaf_cell model.space cell ≡ false → false ≡ is_input model cell
+  unfolding is_input
+  never_open off = rw off refl
 
   -- the system with the statements of the cell's cube alone
   abbrev own_system : RuleSystem

@@ -5,9 +5,11 @@ use Rattle.std.specs.List.{position}
 use Rattle.std.specs.List.Sorted.{IsStrictlyIncreasing}
 use Rattle.std.specs.Option.{option_map_or}
 use Rattle.rule_laws.specs.declared.formula.Formula.{Formula}
+use Rattle.rule_laws.specs.declared.formula.Formula.TheFolds.{fold-Truth}
+use Rattle.rule_laws.specs.declared.formula.Truth.{Truth}
 use Rattle.rule_model.specs.declared.rules.Statement.{Statement}
 use Rattle.rule_model.specs.Areas.{in_sets}
-use Rattle.rule_model.specs.Governing.{has_stet, has_continue}
+use Rattle.rule_model.specs.Governing.{has_stet, has_continue, stet_step, continue_step, either_step}
 
 -- there is a set for each of so many dimensions, and those that list elements rise
 pub record AreSets (dimensions : ℕ) (sets : List (Option (List ℕ))) : Type 0 where
@@ -38,3 +40,10 @@ is_open_by [] elements = true
 is_open_by (statement ∷ statements) elements =
     option_map_or (λ f. has_stet f || (has_continue f && is_open_by statements elements)) (part_for statement elements true)
     (is_open_by statements elements)
+
+-- whether STET stands in a condition, and whether CONTINUE does
+abbrev pub truth_has_stet : Truth → Bool
+truth_has_stet = fold-Truth Bool Bool stet_step either_step
+
+abbrev pub truth_has_continue : Truth → Bool
+truth_has_continue = fold-Truth Bool Bool continue_step either_step

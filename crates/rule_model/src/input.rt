@@ -1,0 +1,41 @@
+ghost use Rattle.std.specs.Prelude.{◌≡◌, length};
+ghost use Rattle.cube_space.specs.Cells.{IsCell};
+ghost use Rattle.rule_model.specs.Governing.{is_input};
+ghost use Rattle.rule_model.specs.Inside.Parts.{HaveSets, is_open_by};
+
+use crate::model::Model;
+use crate::parts::part_for;
+use crate::places::place_of;
+use crate::rules::Statement;
+use crate::words::words_of;
+
+/// Whether a number can be stored in a cell: it is a leaf cell, and open for input. It is open where no statement
+/// governs it, or the N part that governs it has `STET` in it, or has `CONTINUE` and the cell is open from the next
+/// statement on (our own rule).
+pub fn is_input(model: &Model, cell: u64) -> bool
+    requires { IsCell model.now.space cell }
+    ensures { result ≡ is_input model.now cell }
+{
+    if !model.space().is_leaf(cell) {
+        return false;
+    }
+    let mut at = [0u32; 16];
+    let (cube, len) = place_of(model, cell, &mut at);
+    is_open(model.rules(cube).statements.as_slice(), &at[..len])
+}
+
+// Whether a leaf cell of these elements is open for input.
+fn is_open(statements: &[Statement], elements: &[u32]) -> bool
+    requires { HaveSets (length elements.now) statements.now }
+    ensures { result ≡ is_open_by statements.now elements.now }
+{
+    for statement in statements {
+        if let Some(formula) = part_for(statement, elements, true) {
+            let words = words_of(formula);
+            if words.stet || !words.rest {
+                return words.stet;
+            }
+        }
+    }
+    true
+}

@@ -1,0 +1,71 @@
+ghost use Rattle.std.specs.Prelude.{◌≡◌, ◌||◌};
+ghost use Rattle.rule_model.specs.Governing.{has_stet, has_continue};
+ghost use Rattle.rule_model.specs.Inside.Parts.{truth_has_stet, truth_has_continue};
+
+use rule_laws::{Formula, Truth};
+
+/// Which words for what comes without a statement stand in a formula.
+#[derive(Clone, Copy, Debug)]
+pub struct Words {
+    /// `STET`
+    pub stet: bool,
+    /// `CONTINUE`
+    pub rest: bool,
+}
+
+impl Words {
+    const NONE: Words = Words {
+        stet: false,
+        rest: false,
+    };
+
+    fn or(self, other: Words) -> Words
+        ensures stet { result.stet ≡ (self.stet || other.stet) }
+        ensures rest { result.rest ≡ (self.rest || other.rest) }
+    {
+        Words {
+            stet: self.stet || other.stet,
+            rest: self.rest || other.rest,
+        }
+    }
+}
+
+/// Those that stand in a formula.
+#[cycle(words)]
+pub fn words_of(formula: &Formula) -> Words
+    ensures stet { result.stet ≡ has_stet formula.now }
+    ensures rest { result.rest ≡ has_continue formula.now }
+{
+    match formula {
+        Formula::Number(_) => Words::NONE,
+        Formula::Stet => Words {
+            stet: true,
+            rest: false,
+        },
+        Formula::Continue => Words {
+            stet: false,
+            rest: true,
+        },
+        Formula::Children(_) => Words::NONE,
+        Formula::Ref(_) => Words::NONE,
+        Formula::Binary(_, left, right) => words_of(left.get()).or(words_of(right.get())),
+        Formula::Unary(_, inner) => words_of(inner.get()),
+        Formula::If(truth, left, right) => truth_words_of(truth.get())
+            .or(words_of(left.get()))
+            .or(words_of(right.get())),
+    }
+}
+
+/// Those that stand in a condition.
+#[cycle(words)]
+fn truth_words_of(truth: &Truth) -> Words
+    ensures stet { result.stet ≡ truth_has_stet truth.now }
+    ensures rest { result.rest ≡ truth_has_continue truth.now }
+{
+    match truth {
+        Truth::Compare(_, left, right) => words_of(left).or(words_of(right)),
+        Truth::And(left, right) => truth_words_of(left.get()).or(truth_words_of(right.get())),
+        Truth::Or(left, right) => truth_words_of(left.get()).or(truth_words_of(right.get())),
+        Truth::Not(inner) => truth_words_of(inner.get()),
+    }
+}
