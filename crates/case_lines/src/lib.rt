@@ -6,6 +6,8 @@
 
 mod answer;
 mod spelled;
+mod texts;
 
 pub use answer::write_answer;
 pub use spelled::spell;
+pub use texts::Texts;

@@ -1,7 +1,6 @@
 use crate::runs::{Run, run_of};
 use crate::stores;
-use crate::texts::Texts;
-use case_lines::write_answer;
+use case_lines::{Texts, write_answer};
 use cube_server::Status;
 use std::alloc::{AllocError, Global};
 

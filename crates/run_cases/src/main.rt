@@ -26,11 +26,9 @@
 mod cases;
 mod runs;
 mod stores;
-mod texts;
 
 use crate::cases::{Case, case_of, write_ending};
-use crate::texts::Texts;
-use case_lines::write_answer;
+use case_lines::{Texts, write_answer};
 use cube_outside::FreeGate;
 use cube_server::run_cubes;
 use std::io;

@@ -1,4 +1,4 @@
-use crate::texts::Texts;
+use case_lines::Texts;
 use cube_outside::{MemoryFiles, MemorySink};
 use std::alloc::{AllocError, Global};
 

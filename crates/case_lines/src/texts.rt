@@ -1,4 +1,4 @@
-use case_lines::spell;
+use crate::spelled::spell;
 use std::alloc::{AllocError, Global};
 
 /// The texts that have a name.
