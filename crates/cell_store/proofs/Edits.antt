@@ -1,10 +1,10 @@
 -- Items with writes: in parts, and in order.
-use Rattle.std.proofs.Common.{◌≡◌, ℕ, zero, suc, ◌+◌, ◌<◌, ◌≤◌, Bool, true, false, cond, List, [], ◌∷◌, ◌++◌, length, map, filter, ltb, leb, arith, refl, ap, sym, ◌∙◌, inl, inr, append_assoc, append-nil, take, drop, get_or, take-append-drop, ltb-true}
-use Rattle.std.proofs.lemmas.Bool.Decides.{nat_tests, leb_tells}
+use Rattle.std.proofs.Common.{◌≡◌, ℕ, ◌+◌, ◌<◌, ◌≤◌, Bool, true, false, cond, List, [], ◌∷◌, ◌++◌, length, map, filter, ltb, leb, arith, refl, ap, sym, ◌∙◌, append_assoc, append-nil, take, drop, get_or, take-append-drop, ltb-true}
+use Rattle.std.proofs.lemmas.Bool.Decides.{nat_tests}
 use Rattle.std.proofs.lemmas.List.Elements.{filter-append}
 use Rattle.std.proofs.lemmas.List.{drop_more, drop_all}
 use Rattle.cell_store.specs.Private.Order.{IsRising, below_by, above_by, up_to_by, kept_by, with_entry, after_entries}
-use Rattle.cell_store.proofs.Rising.{AllAbove, Rises, AllAbove-lower, Rises-from_increasing, increasing_from_Rises}
+use Rattle.cell_store.proofs.Rising.{AllAbove-lower, Rises-from_increasing, increasing_from_Rises}
 use Rattle.cell_store.proofs.InOrder.{InOrder, AllOver, AllUpTo, over-append, in_order-back}
 
 module _ {X : Type 0} (cell : X → ℕ) where
@@ -122,6 +122,9 @@ module _ {X : Type 0} (cell : X → ℕ) (is_gone : X → Bool) where
   in_order-after xs [] rises = rises
   in_order-after xs (w ∷ ws) rises = in_order-after (with_entry cell is_gone xs w) ws (in_order-with xs w rises)
 
+  pub rising-after : (xs ws : List X) → IsRising cell xs → IsRising cell (after_entries cell is_gone xs ws)
+  rising-after xs ws rising = increasing_from_Rises (map cell (after_entries cell is_gone xs ws)) (in_order-after xs ws (Rises-from_increasing (map cell xs) rising))
+
   up_to-with : (n : ℕ) (xs : List X) (w : X) → AllUpTo cell n xs → cell w ≤ n → AllUpTo cell n (with_entry cell is_gone xs w)
   up_to-with n xs w up_to le =
       up_to-append cell n (below_by cell xs (cell w)) (kept_by is_gone w ++ above_by cell xs (cell w)) (up_to-filter cell n (λ x. ltb (cell x) (cell w)) xs up_to)
@@ -160,6 +163,11 @@ module _ {X : Type 0} (cell : X → ℕ) (is_gone : X → Bool) where
   after-append : (xs us ws : List X) → after_entries cell is_gone xs (us ++ ws) ≡ after_entries cell is_gone (after_entries cell is_gone xs us) ws
   after-append xs [] ws = refl
   after-append xs (u ∷ us) ws = after-append (with_entry cell is_gone xs u) us ws
+
+  -- the first writes, and then the others
+  pub after-back_of : (xs after ws front back : List X) → front ++ back ≡ ws → after ≡ after_entries cell is_gone xs front → after_entries cell is_gone after back ≡ after_entries cell is_gone xs ws
+  after-back_of xs after ws front back parts is =
+      ap (λ ys. after_entries cell is_gone ys back) is ∙ (sym (after-append xs front back) ∙ ap (λ us. after_entries cell is_gone xs us) parts)
 
   -- the writes up to a cell change the first part alone, the others the second
   pub after-parts : (n : ℕ) (xs ys us ws : List X) → AllUpTo cell n xs → AllOver cell n ys → AllUpTo cell n us → AllOver cell n ws

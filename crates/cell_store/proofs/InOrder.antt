@@ -1,11 +1,11 @@
 -- Items in the order of their cells.
-use Rattle.std.proofs.Common.{◌≡◌, ℕ, zero, suc, ◌+◌, ◌<◌, ◌≤◌, not, Bool, true, false, List, [], ◌∷◌, ◌++◌, length, map, ltb, leb, arith, get_or, find, refl, ap, sym, ◌∙◌, inl, inr, None, Some, filter, append-nil, ◌-◌}
+use Rattle.std.proofs.Common.{◌≡◌, ℕ, zero, suc, ◌+◌, ◌<◌, ◌≤◌, not, true, false, List, [], ◌∷◌, ◌++◌, length, map, ltb, leb, arith, get_or, refl, ap, sym, inl, inr, None, Some, append-nil, ◌-◌}
 use Rattle.std.proofs.lemmas.Bool.Decides.{nat_tests, leb_tells}
 use Rattle.std.specs.List.{slice_get, flat_map}
 use Rattle.std.proofs.lemmas.List.{nil_from_length}
-use Rattle.std.specs.List.Sorted.{IsStrictlyIncreasing, IsNonDecreasingBy}
-use Rattle.cell_store.specs.Private.Order.{cells_by, IsRising, at_least_by, first_from, EndsAt}
-use Rattle.cell_store.proofs.Rising.{AllAbove, Rises, Rises-from_increasing, increasing_from_Rises, AllAbove-lower}
+use Rattle.std.specs.List.Sorted.{IsNonDecreasingBy}
+use Rattle.cell_store.specs.Private.Order.{IsRising, at_least_by, first_from, EndsAt}
+use Rattle.cell_store.proofs.Rising.{AllAbove, Rises, Rises-from_increasing}
 
 pub leb_not_ltb : (a b : ℕ) → leb a b ≡ not (ltb b a)
 leb_not_ltb a b = grind (arith, nat_tests)

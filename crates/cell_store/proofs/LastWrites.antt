@@ -1,5 +1,5 @@
 -- Of the writes of one cell only the last matters.
-use Rattle.std.proofs.Common.{◌≡◌, ◌≢◌, ℕ, zero, suc, ◌+◌, ◌<◌, ◌≤◌, Bool, true, false, not, ◌&&◌, cond, Option, None, Some, List, [], ◌∷◌, ◌++◌, length, map, filter, fold, eqb, ltb, leb, eq-eqb, arith, refl, ap, sym, ◌∙◌, inl, inr, append_assoc, append-nil, take, get_or}
+use Rattle.std.proofs.Common.{◌≡◌, ◌≢◌, ℕ, ◌+◌, ◌<◌, ◌≤◌, Bool, true, false, not, ◌&&◌, cond, Option, None, Some, List, [], ◌∷◌, ◌++◌, length, map, filter, fold, eqb, ltb, eq-eqb, arith, refl, ap, sym, ◌∙◌, inl, inr, append-nil, take, get_or}
 use Rattle.std.specs.Ordering.{is_lt, nat_cmp}
 use Rattle.std.specs.List.Sorted.{IsNonDecreasingBy, IsStableByKey, ties}
 use Rattle.std.proofs.lemmas.List.{take_more, take_all, get_or_read}

@@ -5,8 +5,7 @@ mod Runs
 mod Edits
 mod LastWrites
 mod Parts
-mod PageSteps
-mod GroupSteps
+mod Levels
 mod NextCells
 mod Numbers
 mod Stores

@@ -1,5 +1,5 @@
 -- The number of a cell, in the parts of a list of entries.
-use Rattle.std.proofs.Common.{◌≡◌, ◌≢◌, ℕ, ◌≤◌, ℤ, pos, Bool, true, false, List, [], ◌∷◌, refl, ap, sym, ◌∙◌, eqb, leb, eq-eqb, None, Some, find, inl, inr, arith}
+use Rattle.std.proofs.Common.{◌≡◌, ◌≢◌, ℕ, ◌≤◌, ℤ, pos, true, false, List, [], ◌∷◌, refl, ap, sym, ◌∙◌, eqb, leb, eq-eqb, None, Some, find, inl, inr, arith}
 use Rattle.std.proofs.lemmas.Bool.{ne_eqb}
 use Rattle.std.proofs.lemmas.Bool.Decides.{eqb_tells, leb_tells}
 use Rattle.cell_store.specs.declared.entry.Entry.{Entry}

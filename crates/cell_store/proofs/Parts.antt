@@ -1,5 +1,5 @@
 -- A list that stands in parts with more items after them: `last` is the cell of the last item of a part, `items` gives its items.
-use Rattle.std.proofs.Common.{◌≡◌, ℕ, Bool, ◌+◌, ◌<◌, ◌≤◌, List, [], ◌∷◌, ◌++◌, length, map, refl, ap, sym, ◌∙◌, None, Some, All, append_assoc, take, drop, get_or, take-append-drop, inl, inr}
+use Rattle.std.proofs.Common.{◌≡◌, ℕ, Bool, ◌+◌, ◌<◌, List, [], ◌∷◌, ◌++◌, length, map, ap, sym, ◌∙◌, None, Some, All, append_assoc, take, drop, get_or, take-append-drop, inl, inr}
 use Rattle.std.specs.List.{slice_get, flat_map}
 use Rattle.std.proofs.lemmas.Bool.Decides.{leb_tells}
 use Rattle.std.proofs.lemmas.List.Elements.{All-head, All-tail}
@@ -15,6 +15,11 @@ pub rising-front : {X : Type 0} (cell : X → ℕ) (front back all : List X) →
 rising-front cell front back all is up =
     let whole : InOrder cell (front ++ back) = Rises-from_increasing (map cell (front ++ back)) (rw is up) in
     increasing_from_Rises (map cell front) (in_order-front cell front back whole)
+
+pub rising-back : {X : Type 0} (cell : X → ℕ) (front back all : List X) → front ++ back ≡ all → IsRising cell all → IsRising cell back
+rising-back cell front back all is up =
+    let whole : InOrder cell (front ++ back) = Rises-from_increasing (map cell (front ++ back)) (rw is up) in
+    increasing_from_Rises (map cell back) (in_order-back cell front back whole)
 
 -- the first part that ends at or above a cell is one of them
 pub found_is : {R : Type 0} (P : R → Type 0) (last : R → ℕ) (parts : List R) (k : ℕ) (part : R) → All P parts → slice_get (at_least_by last parts k) 0 ≡ Some part → P part

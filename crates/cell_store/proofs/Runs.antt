@@ -1,11 +1,11 @@
 -- A search over runs: `last` is the cell of the last item of a run, and `items` gives its items.
-use Rattle.std.proofs.Common.{◌≡◌, ℕ, ◌<◌, ◌≤◌, true, false, List, [], ◌∷◌, ◌++◌, map, leb, arith, find, refl, ap, sym, ◌∙◌, inl, inr, None, Some, filter, All, append_assoc}
+use Rattle.std.proofs.Common.{◌≡◌, ℕ, List, [], ◌∷◌, ◌++◌, map, arith, refl, ap, ◌∙◌, inl, inr, None, Some, All, append_assoc}
 use Rattle.std.proofs.lemmas.Bool.Decides.{leb_tells}
 use Rattle.std.proofs.lemmas.List.Elements.{All-head, All-tail}
 use Rattle.std.specs.List.{slice_get, flat_map}
 use Rattle.cell_store.specs.Private.Order.{at_least_by, first_from, EndsAt}
 use Rattle.cell_store.proofs.Rising.{AllAbove, Rises}
-use Rattle.cell_store.proofs.InOrder.{InOrder, AllOver, AllUpTo, in_order-front, in_order-back, ends_up_to, ends_over, over-front, over-back, over-ended, first-stops, first-passes}
+use Rattle.cell_store.proofs.InOrder.{InOrder, AllOver, in_order-front, in_order-back, ends_up_to, ends_over, over-front, over-back, over-ended, first-stops, first-passes}
 
 module _ {R X : Type 0} (cell : X → ℕ) (last : R → ℕ) (items : R → List X) where
   -- the first run that ends at or above the cell has the first item

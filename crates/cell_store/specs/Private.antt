@@ -1,7 +1,6 @@
 pub mod Order
-pub mod Runs
-pub mod Pages
-pub mod Groups
+pub mod Levels
+pub mod Trees
 pub mod Entries
 pub mod Stores
 pub mod Sets

@@ -4,7 +4,8 @@
 //!   some writes, and the old one stays as it is.
 //! - [`Entry`] is a stored cell with its number.
 //! - [`CellSet`] is what a walk over cells needs of a set of them. A store is one, and a [`PageSet`] another.
-//! - Both keep what they hold in pages, which versions share: a new version makes only those that its writes change.
+//! - Both keep what they hold in pages under levels of nodes, which versions share: a new version makes only the pages
+//!   that its writes change, and at each level the list of nodes that leads to them.
 //!
 //! Contracts see a store as its list of entries, in rising order of cells and without zeros, and a set as the list of
 //! its cells. They cite the definitions at the top of `specs/`; how both stand in pages is said in `specs/Private/`.
@@ -19,12 +20,13 @@ pub use store::{MAX_CELLS, Store};
 mod cells;
 mod entry;
 mod fault;
-mod group;
-mod groups;
+mod level;
+mod node;
 mod order;
-mod pages;
+mod page;
+mod part;
 mod places;
-mod run;
 mod set;
 mod store;
+mod tree;
 mod writes;

@@ -3,7 +3,8 @@ ghost use Rattle.std.specs.List.Sorted.{IsStrictlyIncreasing};
 ghost use Rattle.cell_store.specs.Cells.{IsUnion};
 
 use crate::cells::CellSet;
-use crate::groups::Groups;
+use crate::part::Part;
+use crate::tree::{Tree, changed};
 use crate::writes::last_writes;
 use std::alloc::{AllocError, Global};
 use std::marker::Model;
@@ -11,20 +12,20 @@ use std::marker::Model;
 /// A set of cells, in pages that it shares with the sets that were made from it.
 #[derive(Debug, Drop)]
 pub struct PageSet {
-    groups: Groups<u64>,
+    tree: Tree<u64>,
     len: usize,
 }
 
 impl Model for PageSet {
     ghost use Rattle.std.specs.Prelude.{List, ℕ};
-    ghost use Rattle.cell_store.specs.Private.Groups.{all_entries};
+    ghost use Rattle.cell_store.specs.Private.Trees.{all_entries};
     ghost use Rattle.cell_store.specs.Private.Sets.{IsKept};
 
     ghost Value = { List ℕ };
 
-    ghost view = { λ s. all_entries s.groups };
+    ghost view = { λ s. all_entries s.tree };
 
-    ghost invariant = { λ s. IsKept s.groups s.len };
+    ghost invariant = { λ s. IsKept s.tree s.len };
 }
 
 impl PageSet {
@@ -33,7 +34,7 @@ impl PageSet {
         ensures { result ≡ [] }
     {
         PageSet {
-            groups: Groups::new(alloc),
+            tree: Tree::new(alloc),
             len: 0,
         }
     }
@@ -50,9 +51,9 @@ impl PageSet {
         ensures { IfOk result (λ union. IsUnion self.now cells.now union) }
     {
         let cells = last_writes(alloc, cells)?;
-        let groups = self.groups.changed(alloc, &cells)?;
-        let len = groups.count()?;
-        Ok(PageSet { groups, len })
+        let tree = changed(alloc, &self.tree, &cells)?;
+        let len = tree.count()?;
+        Ok(PageSet { tree, len })
     }
 }
 
@@ -60,6 +61,6 @@ impl CellSet for PageSet {
     ghost cells = { λ set. set };
 
     fn next_from(&self, cell: u64) -> Option<u64> {
-        self.groups.first_from(cell)
+        self.tree.first_from(cell)
     }
 }

@@ -1,12 +1,13 @@
 ghost use Rattle.std.specs.Prelude.{◌≡◌, ℕ, ◌<◌, ◌≤◌, ◌⊎◌, [], Err, length, map, IfOk, IsOkUnless};
 ghost use Rattle.cell_store.specs.Entries.{IsStore, most_cells, number_at, entry_from, after_writes};
 ghost use Rattle.cell_store.specs.Private.Entries.{cell_of, entry_of};
-ghost use Rattle.cell_store.specs.Private.Groups.{all_entries, AreGrouped};
+ghost use Rattle.cell_store.specs.Private.Trees.{all_entries, IsTree};
 
 use crate::cells::CellSet;
 use crate::entry::Entry;
 use crate::fault::StoreFault;
-use crate::groups::Groups;
+use crate::part::Part;
+use crate::tree::{Tree, changed};
 use crate::writes::last_writes;
 use cube_fixed::Money;
 use std::alloc::{AllocError, Global};
@@ -18,7 +19,7 @@ pub const MAX_CELLS: usize = 1_000_000;
 /// The stored cells with their numbers. A cell that isn't stored has the number 0.
 #[derive(Debug, Drop)]
 pub struct Store {
-    groups: Groups<Entry>,
+    tree: Tree<Entry>,
     len: usize,
 }
 
@@ -28,12 +29,12 @@ impl Model for Store {
 
     ghost Value = { List Entry };
 
-    ghost use Rattle.cell_store.specs.Private.Groups.{all_entries};
+    ghost use Rattle.cell_store.specs.Private.Trees.{all_entries};
     ghost use Rattle.cell_store.specs.Private.Stores.{IsKept};
 
-    ghost view = { λ s. all_entries s.groups };
+    ghost view = { λ s. all_entries s.tree };
 
-    ghost invariant = { λ s. IsKept s.groups s.len };
+    ghost invariant = { λ s. IsKept s.tree s.len };
 }
 
 impl Store {
@@ -42,7 +43,7 @@ impl Store {
         ensures { result ≡ [] }
     {
         Store {
-            groups: Groups::new(alloc),
+            tree: Tree::new(alloc),
             len: 0,
         }
     }
@@ -71,7 +72,7 @@ impl Store {
         ensures next { result ≡ entry_from self.now cell }
         ensures valid { IsStore self.now }
     {
-        self.groups.first_from(cell)
+        self.tree.first_from(cell)
     }
 
     /// The store after these writes, in their order: a later write of a cell wins, and a written 0 takes the cell out.
@@ -84,24 +85,24 @@ impl Store {
             (result ≡ Err (StoreFault.StoreLimit (length (after_writes self.now writes.now))))
             ⊎ (result ≡ Err StoreFault.Memory) }
     {
-        let groups = self.changed(alloc, writes)?;
-        let len = groups.count()?;
+        let tree = self.changed(alloc, writes)?;
+        let len = tree.count()?;
         if len > MAX_CELLS {
             return Err(StoreFault::StoreLimit(len as u64));
         }
-        Ok(Store { groups, len })
+        Ok(Store { tree, len })
     }
 
-    // The entries after these writes, in groups.
-    fn changed(&self, alloc: Global, writes: &[(u64, Money)]) -> Result<Groups<Entry>, AllocError>
-        ensures entries { IfOk result (λ groups. all_entries groups ≡ after_writes self.now writes.now) }
-        ensures stored { IfOk result (λ groups. IsStore (all_entries groups)) }
-        ensures sized { IfOk result (λ groups. AreGrouped cell_of groups) }
+    // The entries after these writes, in a tree.
+    fn changed(&self, alloc: Global, writes: &[(u64, Money)]) -> Result<Tree<Entry>, AllocError>
+        ensures entries { IfOk result (λ tree. all_entries tree ≡ after_writes self.now writes.now) }
+        ensures stored { IfOk result (λ tree. IsStore (all_entries tree)) }
+        ensures sized { IfOk result (λ tree. IsTree cell_of tree) }
     {
         let entries = entries_of_writes(alloc, writes)?;
         let last = last_writes(alloc, &entries)?;
-        let groups = self.groups.changed(alloc, &last)?;
-        Ok(groups)
+        let tree = changed(alloc, &self.tree, &last)?;
+        Ok(tree)
     }
 }
 

@@ -1,5 +1,5 @@
 -- The first of the items at or above the cell.
-use Rattle.std.proofs.Common.{List, ap, ◌∙◌}
+use Rattle.std.proofs.Common.{ap, ◌∙◌}
 use Rattle.std.specs.List.{slice_get}
 use Rattle.cell_store.proofs.InOrder.{first_at_least}
 use Rattle.cell_store.proofs.places.first_at_least.Goals as goal

@@ -1,5 +1,5 @@
 -- Each write takes the place of those of its cell.
-use Rattle.std.proofs.Common.{◌≡◌, List, ◌∷◌, [], ◌++◌, take, ap, ◌∙◌, arith}
+use Rattle.std.proofs.Common.{◌≡◌, ◌∷◌, [], ◌++◌, take, ap, ◌∙◌, arith}
 use Rattle.cell_store.specs.Private.Order.{below_by}
 use Rattle.cell_store.proofs.LastWrites.{last-none, last-next}
 use Rattle.cell_store.proofs.writes.last_sorted.Goals as goal
