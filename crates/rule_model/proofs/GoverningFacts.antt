@@ -106,7 +106,7 @@ module _ (model : BoundModel) (cell : ℕ) where
   never_open off = rw off refl
 
   -- the system with the statements of the cell's cube alone
-  abbrev own_system : RuleSystem
+  abbrev pub own_system : RuleSystem
   own_system =
       record {
         size = (system_of model).size;

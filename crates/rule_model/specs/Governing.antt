@@ -1,5 +1,6 @@
 -- Which statement governs a cell, and which leaf cells are open for input.
-use Rattle.std.specs.Prelude.{ℕ, ◌+◌, Bool, true, false, ◌&&◌, ◌||◌, Option, option_map, option_and_then, is_some, List, [], ◌∷◌}
+use Rattle.std.specs.Prelude.{ℕ, ◌+◌, Bool, true, false, ◌&&◌, ◌||◌, Option}
+use Rattle.std.specs.Prelude.{option_map, option_and_then, is_some, List, [], ◌∷◌}
 use Rattle.std.specs.Prelude.{drop, slice_get}
 use Rattle.std.specs.List.{position}
 use Rattle.std.specs.Option.{option_map_or}

@@ -3,6 +3,14 @@
 //! Binding turns every form of element argument into one table, so that the checks and the evaluator know two forms
 //! only. Formulas and references come from `rule_laws`, which says what they mean; here stand the areas, the
 //! statements, the feeders and the declared orders of the cubes.
+//!
+//! - [`cell_of`] and [`weight`] know of names and of dimensions alone.
+//! - [`target`] is the cell that a reference names from a cell, and [`has_components`] tells whether the cell's element
+//!   has components; [`governing`] and [`governing_after`] are the statements that give a cell its value, one after the
+//!   other, and [`part_of`] is the formula of one; [`is_input`] tells whether a number can be stored in a cell.
+//! - [`target_from`] and [`governing_in`] are told of the cell by its elements, for callers that have them already.
+//!
+//! None of these takes memory.
 #![tactic(auto)]
 
 pub use area::Area;

@@ -1,5 +1,6 @@
 -- The statements of a cube, as they are read for the elements of a cell.
-use Rattle.std.specs.Prelude.{◌≡◌, ℕ, ◌+◌, Bool, true, false, ◌&&◌, ◌||◌, Option, None, IfSome, List, [], ◌∷◌, length, All, drop}
+use Rattle.std.specs.Prelude.{◌≡◌, ℕ, ◌+◌, Bool, true, false, ◌&&◌, ◌||◌, Option}
+use Rattle.std.specs.Prelude.{None, IfSome, List, [], ◌∷◌, length, All, drop}
 use Rattle.std.specs.Prelude.{if◌then◌else◌, option_map, is_some}
 use Rattle.std.specs.List.{position}
 use Rattle.std.specs.List.Sorted.{IsStrictlyIncreasing}
