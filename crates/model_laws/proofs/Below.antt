@@ -2,8 +2,8 @@
 use Rattle.std.proofs.Common.{◌≡◌, refl, sym, ◌∙◌, ap, arith, subst, ℕ, zero, suc, ◌<◌, ◌≤◌, inl, inr, ◌⊎◌, Bool, true, false, ℤ, pos, ◌*ℤ◌, List, [], ◌∷◌, length, get_or, Some, eqb}
 use Rattle.std.specs.Prelude.{slice_get}
 use Rattle.std.specs.List.{All, range_with_len}
+use Rattle.std.proofs.Math.IntN.{*ℤ-zero, zero-*ℤ}
 use Rattle.std.proofs.lemmas.Bool.{cases_lt, cond_both, eqb-true}
-use Rattle.std.proofs.lemmas.Int.{ints}
 use Rattle.std.proofs.lemmas.List.{get_or_past}
 use Rattle.std.proofs.lemmas.List.Elements.{All-head, All-tail, All-nil, All-cons, All-filter, filter_passes}
 use Rattle.std.proofs.lemmas.List.FromFn.{get_or-range_with_len, length-range_with_len}
@@ -25,12 +25,6 @@ use Rattle.model_laws.proofs.Ranks.{rank-at_most}
 
 -- ---- weights
 
-nothing-left : (z : ℤ) → pos 0 *ℤ z ≡ pos 0
-nothing-left z = omega (arith, ints)
-
-nothing-right : (z : ℤ) → z *ℤ pos 0 ≡ pos 0
-nothing-right z = omega (arith, ints)
-
 -- a product other than 0 has no factor that is
 coefs-counted : (ds : List Outline) (cell leaf : List ℕ) (k : ℕ) (d : Outline) → (coef_product ds cell leaf ≡ pos 0 → ⊥) → slice_get ds k ≡ Some d → coef d (get_or cell k 0) (get_or leaf k 0) ≡ pos 0 → ⊥
 coefs-counted [] cell leaf k d counted is none = cc
@@ -39,9 +33,9 @@ coefs-counted (x ∷ ds) (e ∷ cell) [] k d counted is none = counted refl
 coefs-counted (x ∷ ds) (e ∷ cell) (l ∷ leaf) zero d counted is none =
     let same : x ≡ d = cc in
     let here : coef x e l ≡ pos 0 = subst (λ (o : Outline). coef o e l ≡ pos 0) (sym same) none in
-    counted (ap (λ (z : ℤ). z *ℤ coef_product ds cell leaf) here ∙ nothing-left (coef_product ds cell leaf))
+    counted (ap (λ (z : ℤ). z *ℤ coef_product ds cell leaf) here ∙ zero-*ℤ (coef_product ds cell leaf))
 coefs-counted (x ∷ ds) (e ∷ cell) (l ∷ leaf) (suc k) d counted is none =
-    coefs-counted ds cell leaf k d (λ rest. counted (ap (λ (z : ℤ). coef x e l *ℤ z) rest ∙ nothing-right (coef x e l))) is none
+    coefs-counted ds cell leaf k d (λ rest. counted (ap (λ (z : ℤ). coef x e l *ℤ z) rest ∙ *ℤ-zero (coef x e l))) is none
 
 -- a cell with a weight other than 0 is of the same cube, and each of its elements counts
 pub record IsCounted (space : Layout) (c leaf : ℕ) : Type 0 where

@@ -13,7 +13,8 @@ ghost use Rattle.rule_model.specs.Governing as model;
 ghost use Rattle.model_laws.specs.Statements.{statements_before, value_by_cube, formula_of_cube};
 
 /// The statements of a cell's cube alone decide what the cell has: those of other cubes don't apply to it. In the
-/// system they stand behind the statements of the cubes before, so each place among them is moved by the count of those.
+/// system they stand behind the statements of the cubes before, so each place among them is moved by how many those
+/// are.
 pub fn statements_of_the_cube_decide()
     ensures all { (m : BoundModel) (stored : Stored) (table : ℕ → Value) (c : ℕ) → IsCell (system_of m) c
         → right_side (system_of m) stored table c ≡ value_by_cube m stored table c 0 }
