@@ -19,7 +19,7 @@ use Rattle.rule_model.specs.BoundModel.{BoundModel, rules_of}
 use Rattle.rule_model.specs.System.{rule_of, cube_rules, system_of}
 use Rattle.rule_model.specs.Governing as model
 use Rattle.rule_model.specs.Governing.{rules_for, has_part}
-use Rattle.model_laws.specs.Statements.{statements_before, value_by_cube, formula_of_cube}
+use Rattle.model_laws.specs.Statements.{statements_before, value_by_cube}
 
 -- ---- lists
 
@@ -210,7 +210,7 @@ module _ (m : BoundModel) (c : ℕ) where
         moved None = refl
         moved (Some k) = ap Some (let e : (length front + n) + k ≡ length front + (n + k) = omega arith in e)
 
-    pub formula-at_cube : (n : ℕ) → formula_at (system_of m) c (statements_before m c + n) ≡ formula_of_cube m c n
+    pub formula-at_cube : (n : ℕ) → formula_at (system_of m) c (statements_before m c + n) ≡ model.formula_at m c n
     unfolding statements_before
     formula-at_cube n =
         ap (λ rules. option_and_then (part_at (system_of m) c) (slice_get rules (length front + n))) s.all
@@ -269,11 +269,11 @@ turn-none m stored table c n none = from-none (cube_system m c) c stored table n
 
 abbrev Governed : BoundModel → Stored → (ℕ → Value) → ℕ → ℕ → ℕ → Type 0
 Governed m stored table c n k =
-    (f : Formula) × (formula_of_cube m c k ≡ Some f)
+    (f : Formula) × (model.formula_at m c k ≡ Some f)
     × (value_by_cube m stored table c n ≡ value_at (system_of m) stored table c (value_by_cube m stored table c (suc k)) f)
 
 pub turn-some : (m : BoundModel) (stored : Stored) (table : ℕ → Value) (c n k : ℕ) → model.governing_from m c n ≡ Some k
-    → (f : Formula) × (formula_of_cube m c k ≡ Some f)
+    → (f : Formula) × (model.formula_at m c k ≡ Some f)
     × (value_by_cube m stored table c n ≡ value_at (system_of m) stored table c (value_by_cube m stored table c (suc k)) f)
 unfolding model.governing_from
 turn-some m stored table c n k some = from-some (cube_system m c) c stored table n k some

@@ -1,10 +1,9 @@
 -- The statements of a cell's cube, by their places among them.
-use Rattle.std.specs.Prelude.{ℕ, Option, option_and_then, length, drop, slice_get}
+use Rattle.std.specs.Prelude.{ℕ, length, drop}
 use Rattle.std.specs.List.{flat_map, range_with_len}
 use Rattle.cube_fixed.specs.declared.value.Value.{Value}
 use Rattle.cube_space.specs.Cells.{cube_of}
-use Rattle.rule_laws.specs.declared.formula.Formula.{Formula}
-use Rattle.rule_laws.specs.RuleSystem.{Stored, part_at, value_by}
+use Rattle.rule_laws.specs.RuleSystem.{Stored, value_by}
 use Rattle.rule_model.specs.BoundModel.{BoundModel}
 use Rattle.rule_model.specs.System.{system_of, cube_rules}
 use Rattle.rule_model.specs.Governing.{rules_for}
@@ -16,7 +15,3 @@ statements_before m c = length (flat_map (cube_rules m) (range_with_len 0 (cube_
 -- what the statements of the cell's cube from this place on give the cell
 abbrev pub value_by_cube : BoundModel → Stored → (ℕ → Value) → ℕ → ℕ → Value
 value_by_cube m stored table c n = value_by (system_of m) stored table c (drop n (rules_for m c))
-
--- the formula that the statement at this place of the cell's cube has for the cell
-abbrev pub formula_of_cube : BoundModel → ℕ → ℕ → Option Formula
-formula_of_cube m c n = option_and_then (part_at (system_of m) c) (slice_get (rules_for m c) n)

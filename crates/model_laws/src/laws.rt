@@ -10,7 +10,7 @@ ghost use Rattle.rule_model.specs.BoundModel.{BoundModel};
 ghost use Rattle.rule_model.specs.Conditions.{AreRules};
 ghost use Rattle.rule_model.specs.System.{system_of, positions_of};
 ghost use Rattle.rule_model.specs.Governing as model;
-ghost use Rattle.model_laws.specs.Statements.{statements_before, value_by_cube, formula_of_cube};
+ghost use Rattle.model_laws.specs.Statements.{statements_before, value_by_cube};
 
 /// The statements of a cell's cube alone decide what the cell has: those of other cubes don't apply to it. In the
 /// system they stand behind the statements of the cubes before, so each place among them is moved by how many those
@@ -26,7 +26,7 @@ pub fn statements_of_the_cube_decide()
         → governing_from (system_of m) c (statements_before m c + n)
         ≡ option_map (λ k. statements_before m c + k) (model.governing_from m c n) }
     ensures formula { (m : BoundModel) (c n : ℕ) → IsCell (system_of m) c
-        → formula_at (system_of m) c (statements_before m c + n) ≡ formula_of_cube m c n }
+        → formula_at (system_of m) c (statements_before m c + n) ≡ model.formula_at m c n }
 {}
 
 /// What the statements of a cell's cube from a place on give the cell: its base where none of them has a part for it,
@@ -36,7 +36,7 @@ pub fn statements_of_the_cube_give_in_turn()
         → model.governing_from m c n ≡ None
         → value_by_cube m stored table c n ≡ base (system_of m) stored table c }
     ensures some { (m : BoundModel) (stored : Stored) (table : ℕ → Value) (c n k : ℕ)
-        → model.governing_from m c n ≡ Some k → (f : Formula) × (formula_of_cube m c k ≡ Some f)
+        → model.governing_from m c n ≡ Some k → (f : Formula) × (model.formula_at m c k ≡ Some f)
         × (value_by_cube m stored table c n
         ≡ value_at (system_of m) stored table c (value_by_cube m stored table c (suc k)) f) }
 {}
