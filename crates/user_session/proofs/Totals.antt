@@ -12,7 +12,8 @@ use Rattle.cell_store.specs.Entries.{cells_of, entry_from, below, above, kept_of
 use Rattle.cell_store.proofs.Rising.{AllAbove, Rises}
 use Rattle.cube_space.specs.Layout.{Layout}
 use Rattle.rule_model.specs.Weights.{weight}
-use Rattle.user_session.specs.Planning.{weighted_sum}
+use Rattle.stored_values.specs.Stored.{sum_of_entries, AreLeafEntries}
+use Rattle.cube_space.specs.Cells.{IsCell, is_leaf_cell}
 
 -- where no entry is at or above a cell, all are below
 pub all_below : (es : List Entry) (k : ℕ) → entry_from es k ≡ None → below es k ≡ es
@@ -75,6 +76,10 @@ found_is P (x ∷ es) k e all is =
       | inr t ↦ (let later = rw t.0 at is in found_is P es k e (λ i d low. all (suc i) d (omega arith)) later)
     ]
 
+-- the entry found is of a leaf cell
+pub found_cell : (space : Layout) (es : List Entry) (k : ℕ) (e : Entry) → AreLeafEntries space es → entry_from es k ≡ Some e → IsCell space e.cell
+found_cell space es k e all is = (found_is (λ x. IsCell space x.cell × (is_leaf_cell space x.cell ≡ true)) es k e all is).0
+
 few_of : (b : Bool) (x : Entry) (xs : List Entry) (n : ℕ) → length xs ≤ n → length (if b then x ∷ xs else xs) ≤ suc n
 few_of true x xs n h = omega (arith, h)
 few_of false x xs n h = omega (arith, h)
@@ -95,12 +100,12 @@ stored_after P es cell number all own =
     kept false (suc i) d low = absurd (omega (arith, low))
 
 -- one entry more
-pub sum_next : (space : Layout) (cell : ℕ) (es : List Entry) (e : Entry) → weighted_sum space cell (es ++ e ∷ []) ≡ weighted_sum space cell es +ℤ (weight space cell e.cell *ℤ e.number)
-unfolding weighted_sum
+pub sum_next : (space : Layout) (cell : ℕ) (es : List Entry) (e : Entry) → sum_of_entries space cell (es ++ e ∷ []) ≡ sum_of_entries space cell es +ℤ (weight space cell e.cell *ℤ e.number)
+unfolding sum_of_entries
 sum_next space cell es e = fold-append (λ sum entry. sum +ℤ (weight space cell entry.cell *ℤ entry.number)) (pos 0) es (e ∷ [])
 
-pub no_sum : (space : Layout) (cell : ℕ) (es : List Entry) → es ≡ [] → pos 0 ≡ weighted_sum space cell es
-unfolding weighted_sum
+pub no_sum : (space : Layout) (cell : ℕ) (es : List Entry) → es ≡ [] → pos 0 ≡ sum_of_entries space cell es
+unfolding sum_of_entries
 no_sum space cell es none = sym (ap (fold (λ sum entry. sum +ℤ (weight space cell entry.cell *ℤ entry.number)) (pos 0)) none)
 
 pub stored_by : {X E Y : Type 0} (r : Result X E) (P : Y → Type 0) (new store : Y) → OnOk r (new ≡ store) → P store → OnOk r (P new)

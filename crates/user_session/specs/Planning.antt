@@ -1,18 +1,18 @@
 -- What a planner's commands do on the stored cells.
-use Rattle.std.specs.Prelude.{ℕ, nat_lt, ℤ, pos, ◌+ℤ◌, ◌*ℤ◌, List, [], ◌∷◌, length, fold, Option, Some, None, not}
+use Rattle.std.specs.Prelude.{ℕ, nat_lt, ℤ, List, [], ◌∷◌, length, Option, Some, None, not}
 use Rattle.std.specs.Prelude.{if◌then◌else◌}
-use Rattle.cube_fixed.specs.Arithmetic.{fit}
 use Rattle.cube_fixed.specs.declared.value.Value.{Value}
 use Rattle.cube_fixed.specs.declared.value.Value.TheVariants.{Num}
 use Rattle.cell_store.specs.Entries.{number_at, after_writes}
 use Rattle.cell_store.specs.declared.entry.Entry.{Entry}
 use Rattle.cube_space.specs.Cells.{is_leaf_cell}
-use Rattle.cube_space.specs.Layout.{Layout}
 use Rattle.history.specs.declared.effect.Effect.{Effect}
 use Rattle.history.specs.declared.effect.Effect.TheVariants as effects
-use Rattle.rule_model.specs.Weights.{weight}
 use Rattle.rule_model.specs.Named.{cell_named}
+use Rattle.rule_laws.specs.RuleSystem.{base}
 use Rattle.rule_model.specs.BoundModel.{BoundModel}
+use Rattle.rule_model.specs.System.{system_of}
+use Rattle.stored_values.specs.Stored.{stored_in}
 use Rattle.user_session.specs.Content.{Content}
 use Rattle.user_session.specs.Replies.{reply_text}
 use Rattle.user_session.specs.declared.command.PlanCommand.{PlanCommand}
@@ -30,16 +30,10 @@ most_cells = 1000000
 abbrev pub named_cell : BoundModel → CellText → Option ℕ
 named_cell model text = cell_named model.space text.cube text.elements
 
--- the exact sum of the stored numbers, each as often as its cell counts in this one
-unfoldable pub weighted_sum : Layout → ℕ → List Entry → ℤ
-weighted_sum space cell stored =
-    fold (λ sum entry. sum +ℤ (weight space cell entry.cell *ℤ entry.number)) (pos 0) stored
-
--- the value of a cell: a leaf cell has what is stored, 0 where nothing is; a consolidated cell has the weighted sum of
--- what is stored below it, whose range is tested once, at the end
+-- the value of a cell where no rule governs it nor any leaf cell below it: what a cell has that no rule governs, over
+-- leaf cells that have what is stored in them, 0 where nothing is
 unfoldable pub value_at : BoundModel → List Entry → ℕ → Value
-value_at model stored cell =
-    if is_leaf_cell model.space cell then Num (number_at stored cell) else fit (weighted_sum model.space cell stored)
+value_at model stored cell = base (system_of model) (stored_in stored) (λ leaf. Num (number_at stored leaf)) cell
 
 -- what a command does: the writes of cells and the text of the reply
 abbrev pub PlanEffect : Type 0

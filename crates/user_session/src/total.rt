@@ -1,7 +1,8 @@
 ghost use Rattle.std.specs.Prelude.{◌≡◌};
 ghost use Rattle.cube_fixed.specs.Arithmetic.{fit};
 ghost use Rattle.cube_space.specs.Cells.{IsCell};
-ghost use Rattle.user_session.specs.Planning.{value_at, weighted_sum};
+ghost use Rattle.user_session.specs.Planning.{value_at};
+ghost use Rattle.stored_values.specs.Stored.{sum_of_entries};
 ghost use Rattle.user_session.specs.Inside.Lists.{AreCells};
 
 use cell_store::Store;
@@ -18,6 +19,8 @@ pub(crate) fn value_at(model: &Model, store: &Store, cell: u64) -> Value
     if model.space().is_leaf(cell) {
         Value::Num(store.get(cell))
     } else {
+        // a store says of itself that its cells rise
+        let _stored = store.len();
         total(model, store, cell)
     }
 }
@@ -26,7 +29,7 @@ pub(crate) fn value_at(model: &Model, store: &Store, cell: u64) -> Value
 fn total(model: &Model, store: &Store, cell: u64) -> Value
     requires cell { IsCell model.now.space cell }
     requires stored { AreCells model.now.space store.now }
-    ensures { result ≡ fit (weighted_sum model.now.space cell store.now) }
+    ensures { result ≡ fit (sum_of_entries model.now.space cell store.now) }
 {
     // cells are below 2^62 and stored ones at most a million, so neither their numbers nor the terms overflow
     let (_cells, _stored) = (model.space().size(), store.len());

@@ -1,7 +1,7 @@
 -- What the runs of users keep of the stored cells and the history.
 use Rattle.std.specs.Prelude.{◌≡◌, ◌≢◌, ℕ, ◌≤◌, ℤ, List, [], ◌∷◌, All}
 use Rattle.cell_store.specs.declared.entry.Entry as cells
-use Rattle.cube_space.specs.Cells.{IsCell}
+use Rattle.stored_values.specs.Stored.{AreLeafEntries}
 use Rattle.cube_space.specs.Layout.{Layout}
 use Rattle.history.specs.declared.effect.Effect.TheVariants.{Commit, Rejected, Read}
 use Rattle.history.specs.declared.entry.Entry.{Entry}
@@ -20,9 +20,9 @@ Log = List (Entry (List (ℕ × ℤ)))
 abbrev pub Replies : Type 0
 Replies = List (Told (List ℕ))
 
--- only cells of the space are stored
+-- only leaf cells of the space are stored
 abbrev pub AreCells : Layout → List cells.Entry → Type 0
-AreCells space stored = All (λ entry. IsCell space entry.cell) stored
+AreCells space stored = AreLeafEntries space stored
 
 abbrev pub content_of : BoundModel → List cells.Entry → Content
 content_of model stored = record { model = model; stored = stored }

@@ -1,6 +1,6 @@
-use Rattle.std.proofs.Common.{rules, ◌≡◌, ◌∷◌, [], sym, subst, OnOk}
+use Rattle.std.proofs.Common.{rules, ◌≡◌, ◌∷◌, [], sym, subst, OnOk, true}
 use Rattle.cell_store.specs.Entries.{after_writes}
-use Rattle.cube_space.specs.Cells.{IsCell}
+use Rattle.cube_space.specs.Cells.{IsCell, is_leaf_cell}
 use Rattle.user_session.specs.Content.{after}
 use Rattle.user_session.specs.Inside.Lists.{AreCells, content_of}
 use Rattle.user_session.specs.Planning.{named_cell, put_effect, rejected, committed}
@@ -14,8 +14,9 @@ use Rattle.user_session.proofs.state.State.put.Goals as goal
 pub returns-in-Ok-clause-stored : goal.returns-in-Ok-clause-stored
 returns-in-Ok-clause-stored c =
     let cell : IsCell c.args.model.now.space c.in-Some.cell = c.in-Some.ensures.cell in
+    let leaf : is_leaf_cell c.args.model.now.space c.in-Some.cell ≡ true = search rules in
     let after : AreCells c.args.model.now.space (after_writes c.args.self.now.store ((c.in-Some.cell, c.args.number) ∷ [])) =
-    stored_after (λ e. IsCell c.args.model.now.space e.cell) c.args.self.now.store c.in-Some.cell c.args.number c.requires cell in
+    stored_after (λ e. IsCell c.args.model.now.space e.cell × (is_leaf_cell c.args.model.now.space e.cell ≡ true)) c.args.self.now.store c.in-Some.cell c.args.number c.requires (cell, leaf) in
     stored_by c.commit.result (AreCells c.args.model.now.space) _ _ c.commit.ensures.store (subst (AreCells c.args.model.now.space) (sym c.in-Ok.ensures.written) after)
 
 pub returns-in_default-clause-answered : goal.returns-in_default-clause-answered
