@@ -11,5 +11,5 @@ mod fault;
 mod products;
 mod rules;
 
-pub use deploying::deploy;
+pub use deploying::{Foundation, deploy, foundation_of};
 pub use fault::{DeployCause, DeployFault};

@@ -2,7 +2,7 @@ use Rattle.std.proofs.Common.{◌≡◌, ◌∙◌, ap}
 use Rattle.model_deploy.specs.Deployment.{layout_of, cube_lines, dimensions_refusal}
 use Rattle.model_deploy.proofs.Firsts.{unrefused}
 use Rattle.model_deploy.proofs.Layouts.{layout-same, parts-layout, coefficients-refused, cells-refused, products-refused, nothing-refused}
-use Rattle.model_deploy.proofs.deploying.deploy.Goals as goal
+use Rattle.model_deploy.proofs.deploying.foundation_of.Goals as goal
 
 pub returns-in_err-weights-clause-answered : goal.returns-in_err-weights-clause-answered
 returns-in_err-weights-clause-answered c =
@@ -36,4 +36,4 @@ returns-clause-answered c =
     let none = unrefused _ c.in_ok-weights.weights (rw c.dims.ensures.dims at c.in_ok-weights.ensures.answered) in
     let fits = unrefused _ c.in_ok-space.space (rw c.deref-2.ensures.value at c.in_ok-space.ensures.answered) in
     let small = unrefused _ c.in_ok-check_products.field-0 (rw c.deref-4.ensures.value at c.in_ok-check_products.ensures.answered) in
-    nothing-refused c.args.text c.in_ok-lines.lines.items _ c.in_ok-space.space c.in_ok-model.model own same c.in_ok-space.ensures.made none fits small
+    nothing-refused c.args.text c.in_ok-lines.lines.items _ c.in_ok-space.space _ own same c.in_ok-space.ensures.made none fits small
