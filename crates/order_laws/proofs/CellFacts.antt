@@ -1,26 +1,25 @@
 -- The cells of an area and what they have on a scale, by the lists of their elements.
-use Rattle.std.proofs.Common.{◌≡◌, refl, sym, ap, ◌∙◌, arith, subst, ℕ, zero, suc, ◌+◌, ◌<◌, ◌≤◌, Bool, true, false, ◌||◌, ◌&&◌, not, ℤ, pos, ◌-ℤ◌, ◌≤ℤ◌, Option, Some, None, IfSome, List, [], ◌∷◌, length, map, get_or, ◌==◌, nat_lt, if◌then◌else◌, All, inl, inr}
+use Rattle.std.proofs.Common.{◌≡◌, refl, sym, ap, ◌∙◌, arith, subst, ℕ, zero, suc, ◌+◌, ◌<◌, ◌≤◌, Bool, true, false, ◌||◌, ◌&&◌, not, Some, None, List, [], ◌∷◌, length, get_or, nat_lt, if◌then◌else◌, inl, inr}
 use Rattle.std.specs.Prelude.{slice_get, slice_index_or}
-use Rattle.std.specs.List.{list_all, zip, AllZip}
-use Rattle.std.proofs.lemmas.Bool.{eq-eqb, and_parts, and_from, ltb-true, lt-ltb, cases_lt}
-use Rattle.std.proofs.lemmas.Bool.Decides.{Decides-eqb}
+use Rattle.std.specs.List.{zip}
+use Rattle.std.proofs.lemmas.Bool.{cases_lt}
 use Rattle.std.proofs.lemmas.List.{length-map}
 use Rattle.std.specs.Prelude.{sum_by}
 use Rattle.dim_core.specs.Outline.{Outline, level}
 use Rattle.cube_space.specs.Radix.{are_digits}
 use Rattle.cube_space.proofs.Radix.{digits-length}
 use Rattle.cube_space.specs.Layout.{Layout, axes, sizes}
-use Rattle.cube_space.specs.Cells.{IsSpace, IsCell, Cell, cube_of, elements_of, is_leaf, are_leaves, is_leaf_cell, cell_at, cell_number}
-use Rattle.cube_space.proofs.Places.{IsPlace, HasPlace, cell-place, place_number, place-within, cell_at-place, cell_number-place}
+use Rattle.cube_space.specs.Cells.{IsCell, Cell, cube_of, elements_of, is_leaf, are_leaves, is_leaf_cell, cell_number}
+use Rattle.cube_space.proofs.Places.{IsPlace, cell-place, place_number, place-within, cell_at-place, cell_number-place}
 use Rattle.rule_model.specs.declared.area.Area.{Area}
 use Rattle.rule_model.specs.declared.order.Position.{Position}
 use Rattle.rule_model.specs.declared.order.Position.TheVariants.{Constant, Ranks}
 use Rattle.rule_model.specs.BoundModel.{BoundModel, rules_of}
-use Rattle.rule_model.specs.Areas.{in_set, in_sets, in_area}
-use Rattle.rule_model.specs.Conditions.{IsSet, IsArea, AreRules, AreRanks, IsPosition}
+use Rattle.rule_model.specs.Areas.{in_set, in_sets}
+use Rattle.rule_model.specs.Conditions.{IsSet, IsArea, AreRules, IsPosition}
 use Rattle.rule_model.specs.Order.{most_positions, position_of, number_by, number_at, cell_level}
 use Rattle.order_laws.specs.Greatest.{any_from}
-use Rattle.order_laws.specs.Decision.{Scale, scale_of, position_scale, level_scale, level_in, is_total}
+use Rattle.order_laws.specs.Decision.{scale_of, position_scale, level_scale, level_in, is_total}
 use Rattle.order_laws.proofs.SumFacts.{all_from, all-and, digits-each, zip-each, any-shift}
 use Rattle.order_laws.proofs.ReferenceFacts.{reading, added, position-reading, levels-reading}
 use Rattle.order_laws.proofs.SetFacts.{is_in, zip-long}

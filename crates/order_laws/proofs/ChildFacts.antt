@@ -1,16 +1,15 @@
 -- The components of an element, as cells.
-use Rattle.std.proofs.Common.{◌≡◌, refl, sym, ap, ◌∙◌, arith, subst, ℕ, zero, suc, ◌+◌, ◌<◌, ◌≤◌, Bool, true, false, ◌||◌, ◌&&◌, not, ℤ, pos, negsuc, neg_ℤ, ◌+ℤ◌, ◌-ℤ◌, ◌≤ℤ◌, Option, Some, None, List, [], ◌∷◌, length, map, get_or, set, ◌==◌, nat_lt, All, Contains}
-use Rattle.std.specs.Prelude.{slice_get, slice_index_or, slice_set, option_map}
+use Rattle.std.proofs.Common.{◌≡◌, refl, sym, ap, ◌∙◌, arith, subst, ℕ, zero, suc, ◌+◌, ◌<◌, true, ℤ, pos, negsuc, Option, Some, None, List, [], ◌∷◌, length, get_or, set, nat_lt, All, Contains}
+use Rattle.std.specs.Prelude.{slice_get, slice_index_or, option_map}
 use Rattle.std.specs.Option.{option_map_or}
 use Rattle.std.specs.List.{filter_map}
-use Rattle.std.proofs.lemmas.Int.{ints}
-use Rattle.std.proofs.lemmas.Bool.{and_parts, and_from, ltb-true, lt-ltb}
+use Rattle.std.proofs.lemmas.Bool.{and_parts, and_from, lt-ltb}
 use Rattle.dim_core.specs.Outline.{Outline, IsDimension, components_of}
 use Rattle.dim_weights.specs.Table.{is_nonzero}
 use Rattle.cube_space.specs.Radix.{are_digits}
 use Rattle.cube_space.specs.Layout.{Layout, axes, axes_of, dims_of, sizes, sizes_of}
-use Rattle.cube_space.specs.Cells.{IsSpace, cube_of, elements_of}
-use Rattle.rule_model.specs.Targets.{with_element_at, with_components, parts_at, component_cells, element_at}
+use Rattle.cube_space.specs.Cells.{IsSpace}
+use Rattle.rule_model.specs.Targets.{with_components, parts_at, component_cells}
 use Rattle.order_laws.specs.Decision.{parts_in}
 use Rattle.order_laws.proofs.ReferenceFacts.{added}
 
@@ -110,7 +109,7 @@ axes-all D (k ∷ dims) i d all is = by (slice_get D k) refl i is (λ i is. axes
     by (Some x) e zero is rest = let same : x ≡ d = cc in subst IsDimension same (at D k x all e)
     by (Some x) e (suc i) is rest = rest i is
 
-size-at : (ds : List Outline) (i : ℕ) (d : Outline) → slice_get ds i ≡ Some d → slice_index_or (sizes_of ds) i 0 ≡ length d.elements
+pub size-at : (ds : List Outline) (i : ℕ) (d : Outline) → slice_get ds i ≡ Some d → slice_index_or (sizes_of ds) i 0 ≡ length d.elements
 size-at [] i d is = absurd (cc is)
 size-at (x ∷ ds) zero d is = let same : x ≡ d = cc in ap (λ (d : Outline). length d.elements) same
 size-at (x ∷ ds) (suc i) d is = size-at ds i d is

@@ -1,18 +1,16 @@
 -- The greatest excess of components bounds just what each component's cell has more than its cell.
-use Rattle.std.proofs.Common.{◌≡◌, refl, sym, ap, ◌∙◌, arith, subst, ℕ, zero, suc, ◌+◌, ◌<◌, ◌≤◌, Bool, true, false, not, ℤ, pos, ◌+ℤ◌, ◌-ℤ◌, ◌≤ℤ◌, Option, Some, None, List, [], ◌∷◌, length, get_or, set, Contains}
-use Rattle.std.specs.Prelude.{slice_index_or, slice_set}
-use Rattle.std.specs.Option.{option_map_or}
+use Rattle.std.proofs.Common.{◌≡◌, refl, sym, ap, ◌∙◌, arith, subst, ℕ, ◌+◌, ◌<◌, Bool, true, false, ℤ, pos, ◌-ℤ◌, ◌≤ℤ◌, Option, Some, List, length, get_or, set, Contains}
+use Rattle.std.specs.Prelude.{slice_set}
 use Rattle.std.proofs.lemmas.Int.{ints}
 use Rattle.std.proofs.lemmas.List.{length-set}
-use Rattle.dim_core.specs.Outline.{components_of}
 use Rattle.dim_weights.specs.Table.{is_nonzero}
-use Rattle.cube_space.specs.Layout.{Layout, axes, sizes}
-use Rattle.cube_space.specs.Cells.{IsSpace, cube_of, elements_of, cell_number}
-use Rattle.rule_laws.specs.Meaning.{Precedent, Named, Components}
-use Rattle.rule_laws.specs.Order.{IsCellOf, HasPrecedent, Throughout}
+use Rattle.cube_space.specs.Layout.{axes, sizes}
+use Rattle.cube_space.specs.Cells.{IsSpace, elements_of, cell_number}
+use Rattle.rule_laws.specs.Meaning.{Components}
+use Rattle.rule_laws.specs.Order.{Throughout}
 use Rattle.rule_model.specs.declared.rules.Statement.{Statement}
 use Rattle.rule_model.specs.BoundModel.{BoundModel}
-use Rattle.rule_model.specs.Targets.{with_element_at, with_components, parts_at, component_cells}
+use Rattle.rule_model.specs.Targets.{with_element_at, with_components, parts_at}
 use Rattle.rule_model.specs.System.{system_of, rule_of}
 use Rattle.rule_model.specs.Conditions.{IsArea, AreRules}
 use Rattle.order_laws.specs.Greatest.{IsAtMost, sum_from, only}
@@ -21,7 +19,7 @@ use Rattle.order_laws.proofs.GreatestFacts.{greatest-top}
 use Rattle.order_laws.proofs.SumFacts.{sum-dim, zero-plus, at_dim}
 use Rattle.order_laws.proofs.ReferenceFacts.{added, reading}
 use Rattle.order_laws.proofs.CellFacts.{IsAt, axes-sizes, cell-there, number-there, measure, measure-is}
-use Rattle.order_laws.proofs.ChildFacts.{nonzero-counts, counts-nonzero, digits-set, added-set, IsPart, part-found, found-part, components-some, components-of, part-below}
+use Rattle.order_laws.proofs.ChildFacts.{nonzero-counts, counts-nonzero, digits-set, added-set, part-found, found-part, components-some, components-of, part-below}
 use Rattle.order_laws.proofs.Decided.{excess_of, IsOf, most-over, most-least, cell-of, of-cell, IsMore}
 
 module _ (m : BoundModel) (valid : IsSpace m.space) (ruled : AreRules m.space m.rules) (cube : ℕ) (there : cube < length m.space.cubes)

@@ -1,31 +1,29 @@
 -- The greatest excess bounds just what each cell that is read has more than its cell.
-use Rattle.std.proofs.Common.{◌≡◌, refl, sym, ap, ◌∙◌, arith, subst, ℕ, zero, suc, ◌+◌, ◌<◌, ◌≤◌, Bool, true, false, ◌||◌, ◌&&◌, not, ℤ, pos, neg_ℤ, ◌+ℤ◌, ◌-ℤ◌, ◌≤ℤ◌, Option, Some, None, IfSome, List, [], ◌∷◌, length, map, get_or, ◌==◌, nat_lt, if◌then◌else◌, All, inl, inr}
+use Rattle.std.proofs.Common.{◌≡◌, refl, sym, ap, ◌∙◌, arith, subst, ℕ, ◌+◌, ◌<◌, Bool, true, false, not, ℤ, pos, neg_ℤ, ◌+ℤ◌, ◌-ℤ◌, ◌≤ℤ◌, Option, Some, None, List, length, ◌==◌}
 use Rattle.std.specs.Prelude.{slice_get, slice_index_or, option_map, option_and_then}
 use Rattle.std.specs.List.{AllZip}
 use Rattle.std.proofs.lemmas.Int.{ints}
 use Rattle.std.proofs.lemmas.Bool.{eq-eqb, and_parts, and_from}
 use Rattle.std.proofs.lemmas.Bool.Decides.{Decides-eqb}
 use Rattle.cube_space.specs.Radix.{are_digits}
-use Rattle.cube_space.specs.Layout.{Layout, axes, sizes}
-use Rattle.cube_space.specs.Cells.{IsSpace, IsCell, cube_of, elements_of, is_leaf_cell, cell_number, size_of}
+use Rattle.cube_space.specs.Layout.{axes, sizes}
+use Rattle.cube_space.specs.Cells.{cube_of, elements_of, cell_number}
 use Rattle.rule_laws.specs.declared.reference.Reference.{Reference}
-use Rattle.rule_laws.specs.Meaning.{Precedent, Named, Components}
-use Rattle.rule_laws.specs.RuleSystem.{RuleSystem, Rule}
-use Rattle.rule_laws.specs.Order.{IsCellOf, HasPrecedent, Throughout}
-use Rattle.rule_model.specs.declared.area.Area.{Area}
+use Rattle.rule_laws.specs.Meaning.{Precedent, Named}
+use Rattle.rule_laws.specs.Order.{IsCellOf, Throughout}
 use Rattle.rule_model.specs.declared.rules.Statement.{Statement}
 use Rattle.rule_model.specs.BoundModel.{BoundModel}
 use Rattle.rule_model.specs.Areas.{in_area, in_sets}
 use Rattle.rule_model.specs.Targets.{elements_by, target}
 use Rattle.rule_model.specs.System.{system_of, rule_of}
-use Rattle.rule_model.specs.Conditions.{IsSet, IsArg, IsArea, IsReference, IsPrecedent, AreRules}
-use Rattle.order_laws.specs.Greatest.{plus, IsAtMost, sum_from, any_from, greatest_sum, greatest_passing_sum, only}
+use Rattle.rule_model.specs.Conditions.{IsArea, IsReference, AreRules}
+use Rattle.order_laws.specs.Greatest.{plus, IsAtMost, sum_from, any_from, only}
 use Rattle.order_laws.specs.Decision.{Scale, scale_of, fixed_sum, moved_sum, excess, start, greatest_by, each, is_total, is_leaf_element, excess_sum, most_excess}
 use Rattle.order_laws.proofs.GreatestFacts.{IsTop, Among, passing-top, failing-top}
-use Rattle.order_laws.proofs.SumFacts.{sum-plus, sum-only, all_from, plus-same}
+use Rattle.order_laws.proofs.SumFacts.{sum-plus, sum-only, all_from}
 use Rattle.order_laws.proofs.ReferenceFacts.{added, reading, taken-sum, named-sum}
-use Rattle.order_laws.proofs.SetFacts.{is_in, set-top, set-at, follow-all, named-digits}
-use Rattle.order_laws.proofs.CellFacts.{IsAt, axes-sizes, cell-there, number-there, cell-digits, cell-cube, digits-long, leaf-is, is_in_area, area-each, measure, measure-is}
+use Rattle.order_laws.proofs.SetFacts.{set-top, set-at, follow-all, named-digits}
+use Rattle.order_laws.proofs.CellFacts.{IsAt, axes-sizes, cell-there, number-there, cell-digits, digits-long, leaf-is, is_in_area, area-each, measure, measure-is}
 
 not-not : (t : Bool) → not (not t) ≡ t
 not-not true = refl

@@ -1,12 +1,11 @@
 -- The decision by dimension is the order that is checked.
-use Rattle.std.proofs.Common.{◌≡◌, refl, sym, ap, ◌∙◌, arith, subst, ℕ, zero, suc, ◌+◌, ◌<◌, ◌≤◌, Bool, true, false, ◌||◌, ◌&&◌, not, ℤ, pos, negsuc, ◌+ℤ◌, ◌-ℤ◌, ◌≤ℤ◌, Option, Some, None, List, [], ◌∷◌, length, nat_lt, if◌then◌else◌, inl, inr, ◌⊎◌, ◌↔◌, IsTrue, int_lt, int_le}
+use Rattle.std.proofs.Common.{◌≡◌, refl, sym, ap, arith, subst, ℕ, zero, suc, ◌+◌, ◌<◌, ◌≤◌, Bool, true, false, ◌||◌, ◌&&◌, ℤ, pos, negsuc, ◌-ℤ◌, ◌≤ℤ◌, Option, Some, None, length, if◌then◌else◌, inl, inr, ◌⊎◌}
 use Rattle.std.proofs.lemmas.Int.{ints}
-use Rattle.std.proofs.lemmas.Bool.{cases_lt, lt-ltb, and_parts}
-use Rattle.cube_space.specs.Layout.{Layout, axes, sizes}
+use Rattle.std.proofs.lemmas.Bool.{cases_lt, lt-ltb}
 use Rattle.cube_space.specs.Cells.{IsSpace}
 use Rattle.rule_laws.specs.Meaning.{Precedent, Named, Components}
-use Rattle.rule_laws.specs.Order.{IsCellOf, HasPrecedent, Throughout}
-use Rattle.rule_laws.specs.OrderByPlace.{IsDecidedByPosition, IsDecidedByLevel, IsNoneGreaterBefore}
+use Rattle.rule_laws.specs.Order.{Throughout}
+use Rattle.rule_laws.specs.OrderByPlace.{IsDecidedByPosition, IsDecidedByLevel}
 use Rattle.rule_model.specs.declared.rules.Statement.{Statement}
 use Rattle.rule_model.specs.BoundModel.{BoundModel}
 use Rattle.rule_model.specs.Order.{most_positions, number_at, cell_level}

@@ -1,10 +1,9 @@
 -- The greatest sum bounds just what each sum is at most.
-use Rattle.std.proofs.Common.{◌≡◌, refl, sym, ap, ◌∙◌, arith, subst, ℕ, zero, suc, ◌+◌, ◌<◌, ◌≤◌, Bool, true, false, ◌||◌, not, ℤ, pos, negsuc, ◌+ℤ◌, ◌-ℤ◌, ◌≤ℤ◌, Option, Some, None, IfSome, List, [], ◌∷◌, length, ◌↔◌, inl, inr, ◌⊎◌}
+use Rattle.std.proofs.Common.{◌≡◌, refl, sym, ap, ◌∙◌, arith, subst, ℕ, zero, suc, ◌<◌, Bool, true, false, ◌||◌, ℤ, pos, ◌+ℤ◌, ◌-ℤ◌, ◌≤ℤ◌, Option, Some, None, List, [], ◌∷◌, length, inl, inr}
 use Rattle.std.specs.Prelude.{⊤}
 use Rattle.std.proofs.lemmas.Int.{ints, clamps}
 use Rattle.std.proofs.lemmas.Bool.{cases_lt}
-use Rattle.std.specs.Int.{int_max}
-use Rattle.order_laws.specs.Greatest.{plus, larger, IsAtMost, greatest, sum_from, any_from, greatest_sum, greatest_passing_sum, only}
+use Rattle.order_laws.specs.Greatest.{plus, larger, IsAtMost, greatest, sum_from, any_from, greatest_sum, greatest_passing_sum}
 
 pub larger-parts : (a b : Option ℤ) (z : ℤ) → IsAtMost (larger a b) z → IsAtMost a z × IsAtMost b z
 larger-parts None b z h = (tt, h)

@@ -1,12 +1,11 @@
 -- What a cell that a reference names has on a scale, by what the source's elements add.
-use Rattle.std.proofs.Common.{◌≡◌, refl, sym, ap, ◌∙◌, arith, subst, ℕ, zero, suc, ◌+◌, ◌<◌, ◌≤◌, Bool, true, false, ◌||◌, ◌&&◌, not, ℤ, pos, negsuc, ◌+ℤ◌, ◌-ℤ◌, neg_ℤ, ◌≤ℤ◌, Option, Some, None, List, [], ◌∷◌, length, get_or, ◌==◌, nat_lt, if◌then◌else◌}
+use Rattle.std.proofs.Common.{◌≡◌, refl, sym, ap, ◌∙◌, arith, ℕ, zero, suc, ◌+◌, ◌<◌, Bool, true, false, ℤ, pos, ◌+ℤ◌, neg_ℤ, Option, Some, None, List, [], ◌∷◌, length, get_or, ◌==◌, if◌then◌else◌}
 use Rattle.std.specs.Prelude.{slice_get, slice_index_or, slice_set, unwrap_or, option_map, option_and_then, set}
 use Rattle.std.specs.List.{zip, AllZip}
 use Rattle.std.specs.Prelude.{sum_by}
 use Rattle.std.proofs.lemmas.Int.{ints}
 use Rattle.std.proofs.lemmas.List.Sums.{sum_by-cons}
 use Rattle.dim_core.specs.Outline.{Outline, level}
-use Rattle.cube_space.specs.Layout.{sizes_of}
 use Rattle.rule_laws.specs.declared.reference.Arg.{Arg}
 use Rattle.rule_laws.specs.declared.reference.Arg.TheVariants.{Fixed, Moved}
 use Rattle.rule_model.specs.declared.order.Position.{Position}
@@ -14,10 +13,9 @@ use Rattle.rule_model.specs.declared.order.Position.TheVariants.{Constant, Ranks
 use Rattle.rule_model.specs.Order.{number_by}
 use Rattle.rule_model.specs.Named.{with_element}
 use Rattle.rule_model.specs.Targets.{element_by, elements_by}
-use Rattle.rule_model.specs.Conditions.{IsArg}
-use Rattle.order_laws.specs.Greatest.{plus, sum_from, any_from, only}
-use Rattle.order_laws.specs.Decision.{Scale, position_scale, level_scale, level_in, rank_at, fixed_sum, moved_sum}
-use Rattle.order_laws.proofs.SumFacts.{plus-swap, plus-none, plus-zero, zero-plus, plus-same, sum-plus, sum-zero, sum-same, at_dim, sum-dim, sum-shift}
+use Rattle.order_laws.specs.Greatest.{plus, sum_from}
+use Rattle.order_laws.specs.Decision.{Scale, position_scale, level_in, rank_at, fixed_sum, moved_sum}
+use Rattle.order_laws.proofs.SumFacts.{zero-plus, sum-plus, sum-zero, sum-same, at_dim, sum-dim}
 
 -- what elements add by a scale
 abbrev pub added : (ℕ → ℕ → ℕ) → ℕ → List ℕ → ℕ

@@ -1,7 +1,7 @@
 -- The elements of a set by place, and the cells that arguments name.
-use Rattle.std.proofs.Common.{◌≡◌, refl, sym, ap, ◌∙◌, arith, subst, ℕ, zero, suc, ◌+◌, ◌<◌, ◌≤◌, Bool, true, false, ◌||◌, ◌&&◌, not, ℤ, pos, ◌≤ℤ◌, Option, Some, None, IfSome, List, [], ◌∷◌, length, get_or, ◌==◌, nat_lt, All, Contains}
-use Rattle.std.specs.Prelude.{slice_get, slice_index_or, unwrap_or, option_map, option_and_then}
-use Rattle.std.specs.List.{list_any, AllZip, filter_map}
+use Rattle.std.proofs.Common.{◌≡◌, refl, sym, ap, ◌∙◌, arith, subst, ℕ, zero, suc, ◌<◌, Bool, true, false, ◌||◌, ◌&&◌, ℤ, Option, Some, None, IfSome, List, [], ◌∷◌, length, get_or, ◌==◌, nat_lt, All}
+use Rattle.std.specs.Prelude.{slice_get, slice_index_or, unwrap_or}
+use Rattle.std.specs.List.{list_any, AllZip}
 use Rattle.std.proofs.lemmas.Bool.{eq-eqb, and_parts, and_from, ltb-true, lt-ltb}
 use Rattle.std.proofs.lemmas.Bool.Decides.{Decides-eqb}
 use Rattle.cube_space.specs.Radix.{are_digits}
@@ -11,7 +11,7 @@ use Rattle.rule_model.specs.Areas.{in_set}
 use Rattle.rule_model.specs.Named.{with_element}
 use Rattle.rule_model.specs.Targets.{element_by, elements_by}
 use Rattle.rule_model.specs.Conditions.{IsArg, IsSet}
-use Rattle.order_laws.specs.Greatest.{IsAtMost, greatest, only}
+use Rattle.order_laws.specs.Greatest.{IsAtMost, only}
 use Rattle.order_laws.specs.Decision.{set_count, set_element, greatest_in}
 use Rattle.order_laws.proofs.GreatestFacts.{IsTop, greatest-top}
 use Rattle.order_laws.proofs.ReferenceFacts.{AllFollow, moved-element}
@@ -102,7 +102,7 @@ with-parts None rest ts h = absurd (cc)
 with-parts (Some t) None ts h = absurd (cc)
 with-parts (Some t) (Some us) ts h = let same : t ∷ us ≡ ts = cc in (t, us, refl, refl, same)
 
-named-below : (to : List (Option ℕ)) (e t size : ℕ) → All (λ target. IfSome target (λ element. element < size)) to → unwrap_or (slice_get to e) None ≡ Some t → t < size
+pub named-below : (to : List (Option ℕ)) (e t size : ℕ) → All (λ target. IfSome target (λ element. element < size)) to → unwrap_or (slice_get to e) None ≡ Some t → t < size
 named-below [] e t size all h = absurd (cc)
 named-below (x ∷ to) zero t size all h = subst (λ target. IfSome target (λ element. element < size)) h (all 0 None (omega arith))
 named-below (x ∷ to) (suc e) t size all h = named-below to e t size (λ k d low. all (suc k) d (omega arith)) h

@@ -1,15 +1,15 @@
 -- Whether what a formula reads stands before its cell in the declared order, decided dimension by dimension. At each
--- position, and at the level, 'the cell that is read less the cell' is a start plus one number for each dimension, so the
--- greatest of it over all cells of a kind is found from the greatest numbers of each dimension.
-use Rattle.std.specs.Prelude.{ℕ, zero, suc, ◌+◌, ◌==◌, Bool, true, false, not, ◌&&◌, ◌||◌, nat_lt, if◌then◌else◌, ℤ, pos, ◌+ℤ◌, ◌-ℤ◌}
+-- position, and at the level, 'the cell that is read less the cell' is a start plus one number for each dimension, so
+-- the greatest of it over all cells of a kind is found from the greatest numbers of each dimension.
+use Rattle.std.specs.Prelude.{ℕ, zero, suc, ◌+◌, ◌==◌, Bool, true, false, not, ◌&&◌, ◌||◌, nat_lt}
+use Rattle.std.specs.Prelude.{if◌then◌else◌, ℤ, pos, ◌-ℤ◌}
 use Rattle.std.specs.Prelude.{neg_ℤ, int_lt, int_le, Option, Some, None, option_map, unwrap_or, List, [], ◌∷◌, length}
 use Rattle.std.specs.Prelude.{slice_get, slice_index_or}
 use Rattle.std.specs.Option.{option_map_or}
 use Rattle.dim_core.specs.Outline.{Outline, level, components_of}
 use Rattle.dim_weights.specs.Table.{is_nonzero}
-use Rattle.cube_space.specs.Layout.{Layout, axes, sizes}
+use Rattle.cube_space.specs.Layout.{axes, sizes}
 use Rattle.cube_space.specs.Cells.{is_leaf}
-use Rattle.rule_laws.specs.declared.reference.Reference.{Reference}
 use Rattle.rule_laws.specs.declared.reference.Arg.{Arg}
 use Rattle.rule_laws.specs.declared.reference.Arg.TheVariants.{Fixed, Moved}
 use Rattle.rule_laws.specs.Meaning.{Precedent, Named, Components}
@@ -49,8 +49,8 @@ fixed_sum worth j [] = 0
 fixed_sum worth j (Fixed element ∷ args) = worth j element + fixed_sum worth (suc j) args
 fixed_sum worth j (Moved from to ∷ args) = fixed_sum worth (suc j) args
 
--- what an element of a dimension of the source adds to the target by the arguments that follow that dimension; None where
--- one of them names nothing from it
+-- what an element of a dimension of the source adds to the target by the arguments that follow that dimension; None
+-- where one of them names nothing from it
 abbrev pub moved_sum : (ℕ → ℕ → ℕ) → ℕ → List Arg → ℕ → ℕ → Option ℤ
 moved_sum worth j [] i element = Some (pos 0)
 moved_sum worth j (Fixed fixed ∷ args) i element = moved_sum worth (suc j) args i element
@@ -76,7 +76,8 @@ excess model cube place (Named r) i element =
     plus (moved_sum (scale_of model r.cube place).worth 0 r.args i element)
     (Some (neg_ℤ (pos ((scale_of model cube place).worth i element))))
 excess model cube place (Components dim) i element = if i == dim
-    then components_excess ((scale_of model cube place).worth dim) element (parts_in (axes model.space cube) dim element)
+    then components_excess ((scale_of model cube place).worth dim) element
+    (parts_in (axes model.space cube) dim element)
     else Some (pos 0)
 
 -- what the cell that is read has more than its cell, whatever elements that has
@@ -125,8 +126,8 @@ excess_sum model cube area false p place =
     greatest_passing_sum (greatest_by model cube area place p each)
     (greatest_by model cube area place p (is_total (axes model.space cube))) 0 (length (axes model.space cube))
 
--- the most that a cell that is read has more than its cell, over the cells of an area of this kind; None where there is no
--- such cell
+-- the most that a cell that is read has more than its cell, over the cells of an area of this kind; None where there is
+-- no such cell
 unfoldable pub most_excess : BoundModel → ℕ → Area → Bool → Precedent → ℕ → Option ℤ
 most_excess model cube area kind p place =
     plus (Some (start model cube place p)) (excess_sum model cube area kind p place)
@@ -147,4 +148,5 @@ earlier_from most last place (suc count) =
 -- whether what a precedent reads stands before each cell of this kind in an area of a cube
 unfoldable pub is_earlier : BoundModel → ℕ → Area → Bool → Precedent → Bool
 is_earlier model cube area kind p =
-    earlier_from (most_excess model cube area kind p) (most_excess model cube area kind p most_positions) 0 most_positions
+    earlier_from (most_excess model cube area kind p) (most_excess model cube area kind p most_positions) 0
+    most_positions

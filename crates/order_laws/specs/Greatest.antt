@@ -1,6 +1,6 @@
 -- The greatest of the sums of one number a dimension, where an element of a dimension may have no number.
-use Rattle.std.specs.Prelude.{ℕ, zero, suc, Bool, true, false, ◌||◌, ℤ, pos, ◌+ℤ◌, ◌≤ℤ◌, Option, Some, None, IfSome, List, [], ◌∷◌}
-use Rattle.std.specs.Prelude.{if◌then◌else◌}
+use Rattle.std.specs.Prelude.{ℕ, zero, suc, Bool, true, false, ◌||◌, ℤ, pos, ◌+ℤ◌, ◌≤ℤ◌, Option, Some, None, IfSome}
+use Rattle.std.specs.Prelude.{List, [], ◌∷◌}
 use Rattle.std.specs.Int.{int_max}
 
 -- the sum of two numbers, where both are there
@@ -39,8 +39,8 @@ abbrev pub greatest_sum : (ℕ → Option ℤ) → ℕ → ℕ → Option ℤ
 greatest_sum most dim zero = Some (pos 0)
 greatest_sum most dim (suc count) = plus (most dim) (greatest_sum most (suc dim) count)
 
--- the greatest sum in which some number is that of an element that passes: by the greatest number of each dimension, and
--- the greatest among those of elements that pass
+-- the greatest sum in which some number is that of an element that passes: by the greatest number of each dimension,
+-- and the greatest among those of elements that pass
 abbrev pub greatest_passing_sum : (ℕ → Option ℤ) → (ℕ → Option ℤ) → ℕ → ℕ → Option ℤ
 greatest_passing_sum most passing dim zero = None
 greatest_passing_sum most passing dim (suc count) =

@@ -1,7 +1,7 @@
 //! The law of the order check: that what a formula reads stands before its cell is decided dimension by dimension.
 //!
-//! `specs/Greatest.antt` has the greatest of sums with one number a dimension, `specs/Decision.antt` the decision over the
-//! tables of a model. The law is the contract of [`order_is_decided_by_dimension`]; the order itself is that of
+//! `specs/Greatest.antt` has the greatest of sums with one number a dimension, `specs/Decision.antt` the decision over
+//! the tables of a model. The law is the contract of [`order_is_decided_by_dimension`]; the order itself is that of
 //! `rule_laws`, which speaks of every cell.
 #![tactic(auto)]
 

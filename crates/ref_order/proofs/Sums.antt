@@ -1,0 +1,58 @@
+-- Steps of the sums over dimensions, and the sets of an area.
+use Rattle.std.proofs.Common.{◌≡◌, refl, sym, ap, ◌∙◌, arith, subst, ℕ, zero, suc, ◌+◌, ◌-◌, ◌<◌, Option, Some, None, List, [], ◌∷◌, length, ℤ, pos, nat_lt}
+use Rattle.std.specs.Prelude.{slice_index_or}
+use Rattle.std.proofs.lemmas.Bool.{and_parts, ltb-true}
+use Rattle.cube_space.specs.Layout.{Layout, axes, sizes}
+use Rattle.rule_model.specs.declared.area.Area.{Area}
+use Rattle.rule_model.specs.Areas.{in_set}
+use Rattle.rule_model.specs.Conditions.{IsSet, IsArea}
+use Rattle.order_laws.specs.Greatest.{plus, larger, greatest_sum, greatest_passing_sum}
+use Rattle.order_laws.specs.Decision.{set_count, set_element}
+use Rattle.order_laws.proofs.SetFacts.{place-in, set-at, zip-long}
+use Rattle.order_laws.proofs.CellFacts.{axes-sizes}
+
+pub sum-none : (f : ℕ → Option ℤ) (dim n : ℕ) → n ≡ 0 → Some (pos 0) ≡ greatest_sum f dim n
+sum-none f dim zero e = refl
+sum-none f dim (suc n) e = absurd (omega arith)
+
+pub sum-more : (f : ℕ → Option ℤ) (dim n : ℕ) (here rest all : Option ℤ) → (n ≡ 0 → ⊥) → here ≡ f dim → rest ≡ greatest_sum f (dim + 1) (n - 1) → all ≡ plus here rest → all ≡ greatest_sum f dim n
+sum-more f dim zero here rest all e h r a = absurd (e refl)
+sum-more f dim (suc n) here rest all e h r a =
+    let next : dim + 1 ≡ suc dim = omega arith in
+    let back : suc n - 1 ≡ n = omega arith in
+    a ∙ ap (λ x. plus x rest) h ∙ ap (plus (f dim)) (r ∙ ap (λ k. greatest_sum f k (suc n - 1)) next ∙ ap (greatest_sum f (suc dim)) back)
+
+pub passing-none : (f g : ℕ → Option ℤ) (dim n : ℕ) → n ≡ 0 → None ≡ greatest_passing_sum f g dim n
+passing-none f g dim zero e = refl
+passing-none f g dim (suc n) e = absurd (omega arith)
+
+pub passing-more : (f g : ℕ → Option ℤ) (dim n : ℕ) (here passing rest rest_passing first second all : Option ℤ) → (n ≡ 0 → ⊥) → here ≡ f dim → passing ≡ g dim → rest ≡ greatest_sum f (dim + 1) (n - 1)
+    → rest_passing ≡ greatest_passing_sum f g (dim + 1) (n - 1) → first ≡ plus here rest_passing → second ≡ plus passing rest → all ≡ larger first second → all ≡ greatest_passing_sum f g dim n
+passing-more f g dim zero here passing rest rest_passing first second all e h p r q a b c = absurd (e refl)
+passing-more f g dim (suc n) here passing rest rest_passing first second all e h p r q a b c =
+    let next : dim + 1 ≡ suc dim = omega arith in
+    let back : suc n - 1 ≡ n = omega arith in
+    let sum = r ∙ ap (λ k. greatest_sum f k (suc n - 1)) next ∙ ap (greatest_sum f (suc dim)) back in
+    let with_one = q ∙ ap (λ k. greatest_passing_sum f g k (suc n - 1)) next ∙ ap (greatest_passing_sum f g (suc dim)) back in
+    c ∙ ap (λ x. larger x second) (a ∙ ap (λ x. plus x rest_passing) h ∙ ap (plus (f dim)) with_one)
+    ∙ ap (larger (plus (f dim) (greatest_passing_sum f g (suc dim) n))) (b ∙ ap (λ x. plus x rest) p ∙ ap (plus (g dim)) sum)
+
+-- the sets of an area
+pub sets-long : (space : Layout) (cube : ℕ) (area : Area) → IsArea space cube area → length area.sets ≡ length (axes space cube)
+sets-long space cube area is = zip-long IsSet (sizes space cube) area.sets is ∙ axes-sizes space cube
+
+pub set-found : (sets own : List (Option (List ℕ))) (dim : ℕ) (set : Option (List ℕ)) → sets ≡ own → dim < length own → set ≡ slice_index_or sets dim set → set ≡ slice_index_or own dim None
+set-found sets own dim set same low is = is ∙ ap (λ xs. slice_index_or xs dim set) same ∙ any-default own dim low
+  where
+    any-default : (xs : List (Option (List ℕ))) (k : ℕ) → k < length xs → slice_index_or xs k set ≡ slice_index_or xs k None
+    any-default [] k low = absurd (omega arith)
+    any-default (x ∷ xs) zero low = refl
+    any-default (x ∷ xs) (suc k) low = any-default xs k (omega arith)
+
+pub element-below : (space : Layout) (cube dim k : ℕ) (area : Area) (set : Option (List ℕ)) → IsArea space cube area → set ≡ slice_index_or area.sets dim None → k < set_count (slice_index_or (sizes space cube) dim 0) set
+    → set_element set k < slice_index_or (sizes space cube) dim 0
+element-below space cube dim k area set is same low =
+    let size = slice_index_or (sizes space cube) dim 0 in
+    let is_set = subst (IsSet size) (sym same) (set-at (sizes space cube) area.sets dim is) in
+    let inside = place-in size set k is_set low in
+    ltb-true (set_element set k) size (and_parts (nat_lt (set_element set k) size) (in_set set (set_element set k)) inside).0
