@@ -7,3 +7,4 @@ pub mod ChildFacts
 pub mod Components
 pub mod Decided
 pub mod Earlier
+pub mod Ordered

@@ -5,6 +5,7 @@ use Rattle.std.specs.Prelude.{ℕ, zero, suc, ◌+◌, ◌==◌, Bool, true, fal
 use Rattle.std.specs.Prelude.{if◌then◌else◌, ℤ, pos, ◌-ℤ◌}
 use Rattle.std.specs.Prelude.{neg_ℤ, int_lt, int_le, Option, Some, None, option_map, unwrap_or, List, [], ◌∷◌, length}
 use Rattle.std.specs.Prelude.{slice_get, slice_index_or}
+use Rattle.std.specs.Prelude.{◌≡◌, ◌<◌, All, IsTrue}
 use Rattle.std.specs.Option.{option_map_or}
 use Rattle.dim_core.specs.Outline.{Outline, level, components_of}
 use Rattle.dim_weights.specs.Table.{is_nonzero}
@@ -12,11 +13,15 @@ use Rattle.cube_space.specs.Layout.{axes, sizes}
 use Rattle.cube_space.specs.Cells.{is_leaf}
 use Rattle.rule_laws.specs.declared.reference.Arg.{Arg}
 use Rattle.rule_laws.specs.declared.reference.Arg.TheVariants.{Fixed, Moved}
-use Rattle.rule_laws.specs.Meaning.{Precedent, Named, Components}
+use Rattle.rule_laws.specs.declared.formula.Formula.{Formula}
+use Rattle.rule_laws.specs.Meaning.{Precedent, Named, Components, precedents}
+use Rattle.rule_laws.specs.RuleSystem.{part_of}
+use Rattle.rule_model.specs.declared.rules.Statement.{Statement}
+use Rattle.rule_model.specs.System.{rule_of}
 use Rattle.rule_model.specs.declared.order.Position.{Position}
 use Rattle.rule_model.specs.declared.order.Position.TheVariants.{Constant, Ranks}
 use Rattle.rule_model.specs.declared.area.Area.{Area}
-use Rattle.rule_model.specs.BoundModel.{BoundModel}
+use Rattle.rule_model.specs.BoundModel.{BoundModel, rules_of}
 use Rattle.rule_model.specs.Order.{most_positions, position_of}
 use Rattle.order_laws.specs.Greatest.{plus, greatest, greatest_sum, greatest_passing_sum, only}
 
@@ -150,3 +155,15 @@ unfoldable pub is_earlier : BoundModel → ℕ → Area → Bool → Precedent �
 is_earlier model cube area kind p =
     earlier_from (most_excess model cube area kind p) (most_excess model cube area kind p most_positions) 0
     most_positions
+
+-- what the parts of a statement of a cube read stands before the cells that they are for
+abbrev pub IsEarlierStatement : BoundModel → ℕ → Statement → Type 0
+IsEarlierStatement model cube s =
+    (kind : Bool) (f : Formula) → part_of (rule_of model.space cube s) kind ≡ Some f
+    → All (λ p. IsTrue (is_earlier model cube s.area kind p)) (precedents f)
+
+-- and that of every statement of every cube
+abbrev pub IsOrderedByDimension : BoundModel → Type 0
+IsOrderedByDimension model =
+    (cube : ℕ) → cube < length model.space.cubes
+    → All (IsEarlierStatement model cube) (rules_of model cube).statements
