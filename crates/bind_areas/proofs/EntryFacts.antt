@@ -1,12 +1,12 @@
 -- Lists by the places of dimensions, and the places of entries.
-use Rattle.std.proofs.Common.{◌≡◌, ◌≤◌, ℕ, ◌+◌, List, [], ◌∷◌, ◌++◌, Bool, true, false, if◌then◌else◌, Some, length, drop, slice_get, Ok, Err, refl, sym, ap, ◌∙◌, append_assoc, append-nil}
+use Rattle.std.proofs.Common.{◌≡◌, ◌≤◌, ◌<◌, arith, get_or, ℕ, suc, ◌+◌, List, [], ◌∷◌, ◌++◌, Bool, true, false, if◌then◌else◌, Some, length, drop, slice_get, Ok, Err, refl, sym, ap, ◌∙◌, append_assoc, append-nil}
 use Rattle.std.proofs.lemmas.List.{drop_more, drop_all}
 use Rattle.std.proofs.lemmas.Option.{slice_get_within, get_or_from_slice_get}
 use Rattle.dim_core.specs.Outline.{Outline}
 use Rattle.rule_tree.specs.declared.rule.EntryText.{EntryText}
 use Rattle.bind_areas.specs.declared.cause.BindCause.{BindCause}
 use Rattle.bind_areas.specs.Meaning.{Meaning, Answers}
-use Rattle.bind_areas.specs.Areas.{places_where, each_at, free_place, placed}
+use Rattle.bind_areas.specs.Areas.{places_where, owns, each_at, free_place, placed}
 use Rattle.bind_areas.proofs.Meanings.{stops}
 
 -- the next item stands in front of what is still to come
@@ -52,3 +52,32 @@ pub placed_stops : (ds : List Outline) (taken : List ℕ) (rest later : List Ent
 placed_stops ds taken rest later entry cause whole is here before =
     let stopped : Answers (placed ds taken (entry ∷ later)) (Err cause) = stops (free_place ds taken entry) (λ place. placed ds (taken ++ place ∷ []) later) cause here in
     rw (sym before, is) stopped
+
+-- the places that pass a test are places
+Each : (ℕ → Type 0) → List ℕ → Type 0
+Each P [] = Unit {0}
+Each P (x ∷ xs) = P x × Each P xs
+
+each_weaker : (P Q : ℕ → Type 0) (xs : List ℕ) → ((n : ℕ) → P n → Q n) → Each P xs → Each Q xs
+unfolding Each
+each_weaker P Q [] weaker each = tt
+each_weaker P Q (x ∷ xs) weaker each = (weaker x each.0, each_weaker P Q xs weaker each.1)
+
+places_below : (test : Outline → Bool) (i : ℕ) (ds : List Outline) → Each (λ p. p < i + length ds) (places_where test i ds)
+unfolding Each
+places_below test i [] = tt
+places_below test i (d ∷ ds) = by (each_weaker (λ p. p < i + 1 + length ds) (λ p. p < i + suc (length ds)) (places_where test (i + 1) ds) (λ n low. omega (arith, low)) (places_below test (i + 1) ds)) (test d)
+  where
+    by : Each (λ p. p < i + suc (length ds)) (places_where test (i + 1) ds) → (b : Bool) → Each (λ p. p < i + suc (length ds)) (if b then i ∷ places_where test (i + 1) ds else places_where test (i + 1) ds)
+    by later true = (omega arith, later)
+    by later false = later
+
+first_holds : (P : ℕ → Type 0) (xs : List ℕ) → Each P xs → 1 ≤ length xs → P (get_or xs 0 0)
+unfolding Each
+first_holds P [] each some = absurd (omega arith)
+first_holds P (x ∷ xs) each some = each.0
+
+pub place_within : (entry : EntryText) (ds : List Outline) → 1 ≤ length (places_where (owns entry) 0 ds) → get_or (places_where (owns entry) 0 ds) 0 0 < length ds
+place_within entry ds some =
+    let low = first_holds (λ p. p < 0 + length ds) (places_where (owns entry) 0 ds) (places_below (owns entry) 0 ds) some in
+    omega (arith, low)

@@ -70,8 +70,8 @@ fn owners(
     Ok(places)
 }
 
-// The place of the one dimension that they belong to.
-fn place_of(
+/// The place of the one dimension of a cube that has this name, where one is given, and elements of these names.
+pub fn place_of(
     alloc: Global,
     space: &Space,
     cube: u32,
@@ -79,7 +79,8 @@ fn place_of(
     names: &[Name],
 ) -> Result<u32, BindCause>
     requires { cube < length space.now.cubes }
-    ensures { Answers (place_of (axes space.now cube) (record { dim = dim.now; elements = names.now })) result }
+    ensures meant { Answers (place_of (axes space.now cube) (record { dim = dim.now; elements = names.now })) result }
+    ensures within { IfOk result (λ place. place < length (axes space.now cube)) }
 {
     let places = owners(alloc, space, cube, dim, names)?;
     match places.as_slice() {

@@ -1,0 +1,4 @@
+pub mod Functions
+pub mod References
+pub mod Formulas
+pub mod Rules

@@ -1,0 +1,35 @@
+ghost use Rattle.std.specs.Prelude.{◌≡◌};
+ghost use Rattle.rule_bind.specs.Functions.{operator_of};
+
+use rule_laws::{Op, Rel};
+use rule_tree::TreeOp;
+
+/// What an operator stands for: a value of two values, a truth of two values, or a truth of two truths.
+#[derive(Clone, Copy, Debug, PartialEq, Eq)]
+pub(crate) enum Operator {
+    Operation(Op),
+    Comparison(Rel),
+    And,
+    Or,
+}
+
+/// What an operator stands for.
+pub(crate) fn operator_of(op: TreeOp) -> Operator
+    ensures { result ≡ operator_of op }
+{
+    match op {
+        TreeOp::Or => Operator::Or,
+        TreeOp::And => Operator::And,
+        TreeOp::Equal => Operator::Comparison(Rel::Equal),
+        TreeOp::Unequal => Operator::Comparison(Rel::Unequal),
+        TreeOp::Less => Operator::Comparison(Rel::Less),
+        TreeOp::Greater => Operator::Comparison(Rel::Greater),
+        TreeOp::AtMost => Operator::Comparison(Rel::AtMost),
+        TreeOp::AtLeast => Operator::Comparison(Rel::AtLeast),
+        TreeOp::Add => Operator::Operation(Op::Add),
+        TreeOp::Sub => Operator::Operation(Op::Sub),
+        TreeOp::Mul => Operator::Operation(Op::Mul),
+        TreeOp::Div => Operator::Operation(Op::Div),
+        TreeOp::DivSafe => Operator::Operation(Op::DivSafe),
+    }
+}
