@@ -64,7 +64,6 @@ module _ (space : Layout) (cube : ℕ) where
   trees_again [] = refl
   trees_again (tree ∷ arguments) = ap (λ l. tree ∷ l) (trees_again arguments)
 
-
   -- a call, whose parts the code has taken out
   pub call_is : (at : Standing) (tree : Tree) (word w : List ℕ) (arguments given : List Tree) (f : Function) (answer : Result Formula BindCause) → tree ≡ trees.Call word arguments → w ≡ word → given ≡ arguments → f ≡ function_of w
       → Answers (call_value space cube at f (map (meant space cube) given)) answer → Answers (value_of space cube at tree) answer

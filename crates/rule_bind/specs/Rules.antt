@@ -1,5 +1,5 @@
 -- What the text of a cube's rules means.
-use Rattle.std.specs.Prelude.{◌≡◌, ◌⊎◌, ℕ, ◌+◌, List, [], ◌∷◌, ◌++◌, map, Some, None, Result, Ok, Err}
+use Rattle.std.specs.Prelude.{◌≡◌, ◌⊎◌, ℕ, ◌+◌, List, [], ◌∷◌, ◌++◌, map, Option, Some, None, Result, Ok, Err}
 use Rattle.cube_space.specs.Layout.{Layout}
 use Rattle.rule_laws.specs.declared.formula.Formula.{Formula}
 use Rattle.rule_laws.specs.declared.reference.Reference.{Reference}
@@ -7,6 +7,7 @@ use Rattle.rule_model.specs.declared.area.Area.{Area}
 use Rattle.rule_model.specs.declared.rules.CubeRules.{CubeRules}
 use Rattle.rule_model.specs.declared.rules.Statement.{Statement}
 use Rattle.rule_model.specs.declared.rules.Feeder.{Feeder}
+use Rattle.rule_model.specs.declared.rules.Form.{Form}
 use Rattle.rule_model.specs.declared.rules.Form.TheVariants.{Both, LeafFirst, ConsFirst}
 use Rattle.rule_tree.specs.declared.rule.BodyText.{BodyText}
 use Rattle.rule_tree.specs.declared.rule.BodyText.TheVariants as bodies
@@ -33,30 +34,36 @@ part_of space cube tree = value_of space cube standings.Part tree
 abbrev pub consolidated_of : Layout → ℕ → Tree → Meaning Formula
 consolidated_of space cube tree = value_of space cube standings.ConsolidatedPart tree
 
--- a statement for these cells
-abbrev pub statement_for : Layout → ℕ → Area → BodyText → Meaning Statement
-statement_for space cube cells (bodies.Both tree) = do
-  f ← part_of space cube tree
-  done (record { area = cells; leaf = Some f; cons = Some f; form = Both })
-statement_for space cube cells (bodies.Leaf tree) = do
-  f ← part_of space cube tree
-  done (record { area = cells; leaf = Some f; cons = None; form = LeafFirst })
-statement_for space cube cells (bodies.Cons tree) = do
-  f ← consolidated_of space cube tree
-  done (record { area = cells; leaf = None; cons = Some f; form = ConsFirst })
-statement_for space cube cells (bodies.LeafCons leaf cons) = do
+-- the parts of a statement, for leaf cells and for consolidated cells, in the order in which they are written
+abbrev pub Parts : Type 0
+Parts = Option Formula × Option Formula
+
+abbrev pub parts_of : Layout → ℕ → BodyText → Meaning Parts
+parts_of space cube (bodies.Both tree) = do f ← part_of space cube tree; done (Some f, Some f)
+parts_of space cube (bodies.Leaf tree) = do f ← part_of space cube tree; done (Some f, None)
+parts_of space cube (bodies.Cons tree) = do g ← consolidated_of space cube tree; done (None, Some g)
+parts_of space cube (bodies.LeafCons leaf cons) = do
   f ← part_of space cube leaf
   g ← consolidated_of space cube cons
-  done (record { area = cells; leaf = Some f; cons = Some g; form = LeafFirst })
-statement_for space cube cells (bodies.ConsLeaf cons leaf) = do
+  done (Some f, Some g)
+parts_of space cube (bodies.ConsLeaf cons leaf) = do
   g ← consolidated_of space cube cons
   f ← part_of space cube leaf
-  done (record { area = cells; leaf = Some f; cons = Some g; form = ConsFirst })
+  done (Some f, Some g)
+
+-- the part that stands first or alone
+abbrev pub form_of : BodyText → Form
+form_of (bodies.Both tree) = Both
+form_of (bodies.Leaf tree) = LeafFirst
+form_of (bodies.Cons tree) = ConsFirst
+form_of (bodies.LeafCons leaf cons) = LeafFirst
+form_of (bodies.ConsLeaf cons leaf) = ConsFirst
 
 unfoldable pub statement_of : Layout → ℕ → StatementText → Meaning Statement
 statement_of space cube statement = do
   cells ← area_of space cube statement.area
-  statement_for space cube cells statement.body
+  parts ← parts_of space cube statement.body
+  done (record { area = cells; leaf = parts.0; cons = parts.1; form = form_of statement.body })
 
 -- a cell that a feeder feeds
 abbrev pub target_of : Layout → ℕ → TargetText → Meaning Reference

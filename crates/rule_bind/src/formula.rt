@@ -63,12 +63,7 @@ fn binary(alloc: Global, op: Op, left: Formula, right: Formula) -> Result<Formul
 }
 
 // An `IF`.
-fn choice(
-    alloc: Global,
-    truth: Truth,
-    left: Formula,
-    right: Formula,
-) -> Result<Formula, BindCause>
+fn choice(alloc: Global, truth: Truth, left: Formula, right: Formula) -> Result<Formula, BindCause>
     ensures { Answers (Ok (formulas.If truth left right)) result }
 {
     let truth = Boxed::new(alloc, truth)?;
@@ -141,12 +136,7 @@ pub fn value_of(
 /// What a formula means as a truth.
 #[cycle(values)]
 #[tactic(auto, using(crate::proofs::FormulaFacts::means))]
-pub fn truth_of(
-    alloc: Global,
-    space: &Space,
-    cube: u32,
-    tree: &Tree,
-) -> Result<Truth, BindCause>
+pub fn truth_of(alloc: Global, space: &Space, cube: u32, tree: &Tree) -> Result<Truth, BindCause>
     requires { cube < length space.now.cubes }
     ensures { Answers (truth_of space.now cube tree.now) result }
 {

@@ -29,13 +29,7 @@ fn cause_of(fault: ArgumentFault) -> BindCause
 }
 
 // An element argument.
-fn arg_of(
-    alloc: Global,
-    space: &Space,
-    cube: u32,
-    dim: u32,
-    tree: &Tree,
-) -> Result<Arg, BindCause>
+fn arg_of(alloc: Global, space: &Space, cube: u32, dim: u32, tree: &Tree) -> Result<Arg, BindCause>
     requires cube { cube < length space.now.cubes }
     requires dim { dim < length space.now.dimensions }
     ensures { Answers (caused (argument_of space.now cube dim tree.now)) result }
@@ -116,12 +110,7 @@ fn dimension_called(
 
 /// The place of the dimension that a `ConsolidateChildren` names.
 #[tactic(auto, unfolding(crate::specs::References::children_of))]
-pub fn children_of(
-    alloc: Global,
-    space: &Space,
-    cube: u32,
-    tree: &Tree,
-) -> Result<u32, BindCause>
+pub fn children_of(alloc: Global, space: &Space, cube: u32, tree: &Tree) -> Result<u32, BindCause>
     requires { cube < length space.now.cubes }
     ensures { Answers (children_of space.now cube tree.now) result }
 {

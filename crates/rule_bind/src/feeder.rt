@@ -1,0 +1,108 @@
+ghost use Rattle.std.specs.Prelude.{◌≡◌, ◌<◌, length, IfOk};
+ghost use Rattle.bind_areas.specs.Meaning.{Answers};
+ghost use Rattle.rule_bind.specs.Rules.{target_of, feeders_to, feeders_of};
+
+use crate::reference::db_of;
+use bind_areas::{BindCause, bind_area, bind_bracket};
+use cube_space::Space;
+use lists::ListOf;
+use rule_laws::Reference;
+use rule_model::{Area, Feeder};
+use rule_tree::{FeederText, TargetText};
+use std::alloc::{AllocError, Global};
+
+// A cell that a feeder feeds.
+fn target_of(
+    alloc: Global,
+    space: &Space,
+    cube: u32,
+    target: &TargetText,
+) -> Result<Reference, BindCause>
+    requires { cube < length space.now.cubes }
+    ensures { Answers (target_of space.now cube target.now) result }
+{
+    match target {
+        TargetText::Bracket(simples) => bind_bracket(alloc, space, cube, simples.as_slice()),
+        TargetText::Db(trees) => db_of(alloc, space, cube, trees.as_slice()),
+    }
+}
+
+fn copy_of_set(alloc: Global, set: &Option<ListOf<u32>>) -> Result<Option<ListOf<u32>>, AllocError>
+    ensures { IfOk result (λ copy. copy ≡ set.now) }
+{
+    match set {
+        None => Ok(None),
+        Some(elements) => {
+            let elements = Vec::from_slice(alloc, elements.as_slice())?;
+            Ok(Some(ListOf::new(elements)))
+        }
+    }
+}
+
+fn copies_of(
+    alloc: Global,
+    sets: &[Option<ListOf<u32>>],
+) -> Result<ListOf<Option<ListOf<u32>>>, AllocError>
+    ensures { IfOk result (λ copies. copies ≡ sets.now) }
+{
+    let mut copies = Vec::new(alloc);
+    for set in sets {
+        copies.push(copy_of_set(alloc, set)?)?;
+    }
+    Ok(ListOf::new(copies))
+}
+
+fn copy_of(alloc: Global, area: &Area) -> Result<Area, AllocError>
+    ensures { IfOk result (λ copy. copy ≡ area.now) }
+{
+    let sets = copies_of(alloc, area.sets.as_slice())?;
+    Ok(Area { sets })
+}
+
+// A feeder for each target.
+fn feeders_to(
+    alloc: Global,
+    space: &Space,
+    cube: u32,
+    statement: u32,
+    area: &Area,
+    targets: &[TargetText],
+) -> Result<ListOf<Feeder>, BindCause>
+    requires { cube < length space.now.cubes }
+    ensures { Answers (feeders_to space.now cube statement area.now targets.now) result }
+{
+    let mut feeders = Vec::new(alloc);
+    for target in targets {
+        let target = target_of(alloc, space, cube, target)?;
+        let area = copy_of(alloc, area)?;
+        feeders.push(Feeder {
+            area,
+            target,
+            statement,
+        })?;
+    }
+    Ok(ListOf::new(feeders))
+}
+
+/// The feeders that a text stands for, which has this number among the feeder statements, from 0.
+#[tactic(auto, unfolding(crate::specs::Rules::feeders_of))]
+pub fn feeders_of(
+    alloc: Global,
+    space: &Space,
+    cube: u32,
+    statement: u32,
+    text: &FeederText,
+) -> Result<ListOf<Feeder>, BindCause>
+    requires { cube < length space.now.cubes }
+    ensures { Answers (feeders_of space.now cube statement text.now) result }
+{
+    let area = bind_area(alloc, space, cube, text.area.as_slice())?;
+    feeders_to(
+        alloc,
+        space,
+        cube,
+        statement,
+        &area,
+        text.targets.as_slice(),
+    )
+}

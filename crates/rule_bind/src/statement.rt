@@ -1,0 +1,82 @@
+ghost use Rattle.std.specs.Prelude.{◌≡◌, ◌<◌, length};
+ghost use Rattle.bind_areas.specs.Meaning.{Answers};
+ghost use Rattle.rule_bind.specs.Rules.{parts_of, form_of, statement_of};
+
+use crate::formula::value_of;
+use crate::standing::Standing;
+use bind_areas::{BindCause, bind_area};
+use cube_space::Space;
+use rule_laws::Formula;
+use rule_model::{Form, Statement};
+use rule_tree::{BodyText, StatementText};
+use std::alloc::Global;
+
+// The part that stands first, or alone.
+fn form_of(body: &BodyText) -> Form
+    ensures { result ≡ form_of body.now }
+{
+    match body {
+        BodyText::Both(_) => Form::Both,
+        BodyText::Leaf(_) | BodyText::LeafCons(_, _) => Form::LeafFirst,
+        BodyText::Cons(_) | BodyText::ConsLeaf(_, _) => Form::ConsFirst,
+    }
+}
+
+// The parts of a statement, for leaf cells and for consolidated cells. A formula for both is bound once for each.
+fn parts_of(
+    alloc: Global,
+    space: &Space,
+    cube: u32,
+    body: &BodyText,
+) -> Result<(Option<Formula>, Option<Formula>), BindCause>
+    requires { cube < length space.now.cubes }
+    ensures { Answers (parts_of space.now cube body.now) result }
+{
+    match body {
+        BodyText::Both(tree) => {
+            let leaf = value_of(alloc, space, cube, Standing::Part, tree)?;
+            let cons = value_of(alloc, space, cube, Standing::Part, tree)?;
+            Ok((Some(leaf), Some(cons)))
+        }
+        BodyText::Leaf(leaf) => {
+            let leaf = value_of(alloc, space, cube, Standing::Part, leaf)?;
+            Ok((Some(leaf), None))
+        }
+        BodyText::Cons(cons) => {
+            let cons = value_of(alloc, space, cube, Standing::ConsolidatedPart, cons)?;
+            Ok((None, Some(cons)))
+        }
+        BodyText::LeafCons(leaf, cons) => {
+            let leaf = value_of(alloc, space, cube, Standing::Part, leaf)?;
+            let cons = value_of(alloc, space, cube, Standing::ConsolidatedPart, cons)?;
+            Ok((Some(leaf), Some(cons)))
+        }
+        BodyText::ConsLeaf(cons, leaf) => {
+            let cons = value_of(alloc, space, cube, Standing::ConsolidatedPart, cons)?;
+            let leaf = value_of(alloc, space, cube, Standing::Part, leaf)?;
+            Ok((Some(leaf), Some(cons)))
+        }
+    }
+}
+
+/// The statement that a text stands for.
+#[tactic(auto, unfolding(crate::specs::Rules::statement_of))]
+pub fn statement_of(
+    alloc: Global,
+    space: &Space,
+    cube: u32,
+    text: &StatementText,
+) -> Result<Statement, BindCause>
+    requires { cube < length space.now.cubes }
+    ensures { Answers (statement_of space.now cube text.now) result }
+{
+    let area = bind_area(alloc, space, cube, text.area.as_slice())?;
+    let (leaf, cons) = parts_of(alloc, space, cube, &text.body)?;
+    let form = form_of(&text.body);
+    Ok(Statement {
+        area,
+        leaf,
+        cons,
+        form,
+    })
+}
