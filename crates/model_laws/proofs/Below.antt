@@ -99,7 +99,7 @@ among value P (leaf ∷ leaves) each =
     (λ on. All-cons P (leaf, value leaf) (nonzero_among value leaves) (All-head (λ leaf. is_nonzero (value leaf) ≡ true → P (leaf, value leaf)) leaf leaves each on) rest)
     (λ off. rest)
 
-range-below : (n : ℕ) → All (λ x. x < n) (range_with_len 0 n)
+pub range-below : (n : ℕ) → All (λ x. x < n) (range_with_len 0 n)
 range-below n k d less =
     let within : k < n = omega (arith, less, length-range_with_len 0 n) in
     omega (arith, within, get_or-range_with_len 0 n k d within)

@@ -27,17 +27,17 @@ digits-by f g a zero below = refl
 digits-by f g a (suc n) below = and_from _ _ (lt-ltb (g a) (f a) (below a)) (digits-by f g (a + 1) n below)
 
 module _ (m : BoundModel) where
-  number-below_size : (c place : ℕ) → IsCell m.space c → number_at m place c < position_size m place
+  pub number-below_size : (c place : ℕ) → IsCell m.space c → number_at m place c < position_size m place
   unfolding position_size
   number-below_size c place cell = omega (arith, at_most-greatest (number_at m place) _ c cell)
 
-  digits-of : (c : ℕ) → IsCell m.space c → are_digits (position_sizes m) (numbers_of m c) ≡ true
+  pub digits-of : (c : ℕ) → IsCell m.space c → are_digits (position_sizes m) (numbers_of m c) ≡ true
   digits-of c cell = digits-by (position_size m) (λ place. number_at m place c) 0 most_positions (λ place. number-below_size c place cell)
 
-  number-of : (c place : ℕ) → place < most_positions → get_or (numbers_of m c) place 0 ≡ number_at m place c
+  pub number-of : (c place : ℕ) → place < most_positions → get_or (numbers_of m c) place 0 ≡ number_at m place c
   number-of c place less = get_or-map-range_with_len (λ place. number_at m place c) 0 most_positions place place 0 less (omega arith)
 
-  positions-many : length (position_sizes m) ≡ most_positions
+  pub positions-many : length (position_sizes m) ≡ most_positions
   positions-many = length-map-range_with_len (position_size m) 0 most_positions
 
   -- a cell that has no greater number ranks no higher

@@ -1,0 +1,5 @@
+mod Places
+mod Ranges
+mod Ranks
+mod Depths
+mod LeafSums
