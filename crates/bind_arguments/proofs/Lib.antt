@@ -1,0 +1,6 @@
+mod Parts
+mod PartsBound
+mod Around
+mod Cubes
+mod NamesGiven
+mod Tables

@@ -1,10 +1,12 @@
 -- Element arguments with their names bound, and the name that one gives by the element of the dimension that it
 -- follows.
-use Rattle.std.specs.Prelude.{ℕ, suc, ℤ, pos, ◌+ℤ◌, List, [], map, Option, Some, None, slice_get, slice_index_or, if◌then◌else◌}
+use Rattle.std.specs.Prelude.{ℕ, suc, ℤ, pos, ◌+ℤ◌, List, [], Option, Some, None, position, slice_get, slice_index_or}
+use Rattle.std.specs.Prelude.{if◌then◌else◌}
+use Rattle.std.specs.List.{list_any}
 use Rattle.std.specs.Option.{option_map, option_map_or, option_and_then}
-use Rattle.dim_name.specs.Name.{is_name, has_name, place_of}
+use Rattle.dim_name.specs.Name.{is_name, is_same_name, place_of}
 use Rattle.dim_core.specs.Outline.{Outline, index_of, names_of, attribute_of}
-use Rattle.cube_space.specs.Layout.{Layout, axes, dims_of, dimension_names}
+use Rattle.cube_space.specs.Layout.{Layout, dims_of, dimension_names}
 use Rattle.bind_arguments.specs.Written.{Written, Quoted, Current, AtIndex, AtPlace, AttributeOf}
 use Rattle.bind_arguments.specs.declared.bound_argument.BoundArgument.{BoundArgument, fold-BoundArgument}
 use Rattle.bind_arguments.specs.declared.bound_argument.BoundArgument.TheOpen.{BoundArgument-F}
@@ -24,12 +26,12 @@ dimension_named space text = option_and_then (place_of (dimension_names space)) 
 
 -- the place in a cube of its dimension of this name
 abbrev pub place_in_cube : Layout → ℕ → List ℕ → Option ℕ
-place_in_cube space cube name = place_of (map (λ dimension. dimension.name) (axes space cube)) name
+place_in_cube space cube name = position (λ dim. is_same_name name (dimension_at space dim).name) (dims_of space cube)
 
 -- the name of an attribute that some element of a dimension has
 abbrev pub attribute_named : Outline → List ℕ → Option (List ℕ)
 attribute_named dimension text = option_and_then
-    (λ name. if has_name (map (λ a. a.name) dimension.attributes) name then Some name else None) (name_in text)
+    (λ name. if list_any (λ a. is_same_name name a.name) dimension.attributes then Some name else None) (name_in text)
 
 -- an argument with its names bound; None where a dimension isn't there, one behind ! isn't the cube's, or no element
 -- of a dimension has an attribute
@@ -55,7 +57,7 @@ followed_step (BoundArgument-F.AtPlace dim source of shift) = of
 followed_step (BoundArgument-F.AttributeOf dim of attribute) = of
 
 -- the place in the statement's cube of the dimension that an argument follows: the one behind its !
-unfoldable pub followed : BoundArgument → Option ℕ
+abbrev pub followed : BoundArgument → Option ℕ
 followed = fold-BoundArgument (Option ℕ) followed_step
 
 -- the name of the element of an index, from 1
@@ -85,7 +87,7 @@ given_step space element (BoundArgument-F.AttributeOf dim of attribute) =
     attribute_in (dimension_at space dim) attribute of
 
 -- the name that an argument gives, where the dimension that it follows has this element
-unfoldable pub name_given : Layout → ℕ → BoundArgument → Option (List ℕ)
+abbrev pub name_given : Layout → ℕ → BoundArgument → Option (List ℕ)
 name_given space element = fold-BoundArgument (Option (List ℕ)) (given_step space element)
 
 -- the element of the target's dimension that it means there

@@ -18,10 +18,9 @@ pub data Written : Type 0 where
   AtPlace : List ℕ → List ℕ → Written → ℤ → Written
   AttributeOf : List ℕ → Written → List ℕ → Written
 
--- What a formula is within an element argument: a text, a whole number, another argument, DIMIX alone, DIMIX and a
--- whole number behind + or -, or nothing that may stand there.
+-- What a formula is within an element argument: a whole number, another argument, DIMIX alone, DIMIX and a whole number
+-- behind + or -, or nothing that may stand there.
 pub data Part : Type 0 where
-  Text : List ℕ → Part
   Whole : ℤ → Part
   Element : Written → Part
   Place : List ℕ → Written → Part
@@ -38,7 +37,6 @@ number_part millionths = option_map_or Whole (whole_number millionths) Other
 
 -- a part as an element argument
 abbrev pub argument_of_part : Part → Option Written
-argument_of_part (Text text) = Some (Quoted text)
 argument_of_part (Element argument) = Some argument
 argument_of_part _ = None
 
@@ -51,15 +49,15 @@ at_index dim _ = Other
 
 -- DIMNM, DIMIX and ATTRS of these arguments
 abbrev pub name_call : List Part → Part
-name_call (Text dim ∷ index ∷ []) = at_index dim index
+name_call (Element (Quoted dim) ∷ index ∷ []) = at_index dim index
 name_call _ = Other
 
 abbrev pub index_call : List Part → Part
-index_call (Text source ∷ of ∷ []) = option_map_or (Place source) (argument_of_part of) Other
+index_call (Element (Quoted source) ∷ of ∷ []) = option_map_or (Place source) (argument_of_part of) Other
 index_call _ = Other
 
 abbrev pub attribute_call : List Part → Part
-attribute_call (Text dim ∷ of ∷ Text attribute ∷ []) =
+attribute_call (Element (Quoted dim) ∷ of ∷ Element (Quoted attribute) ∷ []) =
     option_map_or (λ argument. Element (AttributeOf dim argument attribute)) (argument_of_part of) Other
 attribute_call _ = Other
 
@@ -78,7 +76,7 @@ operation_part _ _ _ = Other
 
 abbrev pub part_step : Tree-F Part → Part
 part_step (Tree-F.Number millionths) = number_part millionths
-part_step (Tree-F.Text text) = Text text
+part_step (Tree-F.Text text) = Element (Quoted text)
 part_step (Tree-F.Current dim) = Element (Current dim)
 part_step (Tree-F.Call function arguments) = call_part function arguments
 part_step (Tree-F.Binary op left right) = operation_part op left right

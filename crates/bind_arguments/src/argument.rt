@@ -1,14 +1,26 @@
-ghost use Rattle.std.specs.Prelude.{◌<◌, length, IfOk};
-ghost use Rattle.cube_space.specs.Layout.{sizes};
+ghost use Rattle.std.specs.Prelude.{◌≡◌, ◌<◌, ℕ, length, Some, None, IfOk, IsTrue};
+ghost use Rattle.std.specs.Option.{option_map, option_and_then, ok_or};
+ghost use Rattle.cube_space.specs.Cells.{IsSpace};
+ghost use Rattle.cube_space.specs.Layout.{dims_of, sizes};
+ghost use Rattle.dim_core.specs.Outline.{index_of};
 ghost use Rattle.rule_model.specs.Conditions.{IsArg};
-ghost use Rattle.bind_arguments.specs.Bound.{dimension_at};
-ghost use Rattle.bind_arguments.specs.Argument.{argument_of, IsAnsweredBy};
+ghost use Rattle.rule_laws.specs.declared.reference.Arg.TheVariants.{Fixed};
+ghost use Rattle.bind_arguments.specs.Bound as bound;
+ghost use Rattle.bind_arguments.specs.Bound.{name_in, dimension_at};
+ghost use Rattle.bind_arguments.specs.declared.bound_argument.BoundArgument.TheVariants as variants;
+ghost use Rattle.bind_arguments.specs.Argument as bindings;
+ghost use Rattle.bind_arguments.specs.Argument.{argument_of, size_at, table, IsAnsweredBy};
+ghost use Rattle.bind_arguments.specs.Private.Within.{is_within};
+ghost use Rattle.bind_arguments.specs.declared.fault.ArgumentFault.TheVariants.{UnknownName};
 
+use crate::binding::bind_element;
+use crate::bound_argument::BoundArgument;
 use crate::fault::ArgumentFault;
+use crate::giving::{element_given, element_named, elements_given, followed};
 use cube_space::Space;
-use rule_laws::Arg;
+use rule_laws::{Arg, ElementMap};
 use rule_tree::Tree;
-use std::alloc::Global;
+use std::alloc::{AllocError, Global};
 
 /// Binds an element argument of a `DB` in a statement of a cube. `dim` is the number, in the model, of the dimension
 /// of the target's cube at the argument's place.
@@ -27,5 +39,120 @@ pub fn bind_argument(
     ensures answered { IsAnsweredBy (argument_of space.now cube dim tree.now) result }
     ensures arg { IfOk result (IsArg (sizes space.now cube) (length (dimension_at space.now dim).elements)) }
 {
-    Err(ArgumentFault::Memory)
+    // a space says of itself that it is one
+    let _cells = space.size();
+    match tree {
+        Tree::Text(text) => bind_text(alloc, space, dim, text.as_slice()),
+        _ => {
+            let argument = bind_element(alloc, space, cube, tree)?;
+            let arg = arg_of(alloc, space, cube, dim, &argument)?;
+            Ok(arg)
+        }
+    }
+}
+
+// A text that is itself the argument: an element of the target's dimension.
+fn bind_text(alloc: Global, space: &Space, dim: u32, text: &[u8]) -> Result<Arg, ArgumentFault>
+    requires { dim < length space.now.dimensions }
+    ensures { IsAnsweredBy (ok_or (option_map Fixed (option_and_then
+        (index_of (dimension_at space.now dim)) (name_in text.now))) UnknownName) result }
+{
+    match element_named(alloc, space.dimension(dim), text)? {
+        Some(element) => Ok(Arg::Fixed(element)),
+        None => Err(ArgumentFault::UnknownName),
+    }
+}
+
+// What is bound of an argument whose names are known.
+fn arg_of(
+    alloc: Global,
+    space: &Space,
+    cube: u32,
+    dim: u32,
+    argument: &BoundArgument,
+) -> Result<Arg, AllocError>
+    requires valid { IsSpace space.now }
+    requires cube { cube < length space.now.cubes }
+    requires dim { dim < length space.now.dimensions }
+    requires within { IsTrue (is_within space.now cube argument.now) }
+    ensures { IfOk result (λ arg. arg ≡ bindings.arg_of space.now cube dim argument.now) }
+{
+    match followed(argument) {
+        Some(from) => {
+            let to = elements_from(alloc, space, cube, dim, argument, from)?;
+            Ok(Arg::Moved { from, to })
+        }
+        None => still(alloc, space, cube, dim, argument),
+    }
+}
+
+// For each element of the dimension at this place of the cube, the element of the target's dimension.
+fn elements_from(
+    alloc: Global,
+    space: &Space,
+    cube: u32,
+    dim: u32,
+    argument: &BoundArgument,
+    place: u32,
+) -> Result<ElementMap, AllocError>
+    requires valid { IsSpace space.now }
+    requires cube { cube < length space.now.cubes }
+    requires dim { dim < length space.now.dimensions }
+    requires within { IsTrue (is_within space.now cube argument.now) }
+    requires followed { bound.followed argument.now ≡ Some place }
+    ensures { IfOk result (λ to. to ≡ table space.now cube dim argument.now place) }
+{
+    let len = axis_len(space, cube, place);
+    if is_own(argument, dim) {
+        Ok(ElementMap::identity(len))
+    } else {
+        elements_given(alloc, space, space.dimension(dim), argument, len)
+    }
+}
+
+// Whether an argument is the cell's own element of this dimension.
+fn is_own(argument: &BoundArgument, dim: u32) -> bool
+    ensures { IsTrue result → (place : ℕ) × (argument.now ≡ variants.Current place dim) }
+{
+    match argument {
+        BoundArgument::Current { dim: own, .. } => *own == dim,
+        _ => false,
+    }
+}
+
+// An argument that follows no dimension.
+fn still(
+    alloc: Global,
+    space: &Space,
+    cube: u32,
+    dim: u32,
+    argument: &BoundArgument,
+) -> Result<Arg, AllocError>
+    requires valid { IsSpace space.now }
+    requires cube { cube < length space.now.cubes }
+    requires dim { dim < length space.now.dimensions }
+    requires within { IsTrue (is_within space.now cube argument.now) }
+    ensures { IfOk result (λ arg. arg ≡ bindings.arg_following space.now cube dim argument.now None) }
+{
+    match element_given(alloc, space, space.dimension(dim), argument, 0)? {
+        Some(element) => Ok(Arg::Fixed(element)),
+        None => {
+            let len = axis_len(space, cube, 0);
+            Ok(Arg::Moved {
+                from: 0,
+                to: ElementMap::nowhere(len),
+            })
+        }
+    }
+}
+
+// How many elements the dimension at a place of a cube has.
+fn axis_len(space: &Space, cube: u32, place: u32) -> u32
+    requires valid { IsSpace space.now }
+    requires cube { cube < length space.now.cubes }
+    requires place { place < length (dims_of space.now cube) }
+    ensures { result ≡ size_at space.now cube place }
+{
+    let dims = space.shape(cube).dims.as_slice();
+    space.dimension(dims[place as usize]).len()
 }

@@ -10,5 +10,9 @@ pub use argument::bind_argument;
 pub use fault::ArgumentFault;
 
 mod argument;
+mod binding;
 mod bound_argument;
 mod fault;
+mod giving;
+mod naming;
+mod reading;

@@ -1,0 +1,143 @@
+ghost use Rattle.std.specs.Prelude.{◌≡◌, ◌≤◌, ◌^◌, suc, unsigned_abs, pos, ℕ, IfOk, IsTrue, length, map, slice_get};
+ghost use Rattle.std.specs.List.{range_with_len};
+ghost use Rattle.std.specs.Option.{option_and_then, option_map_or};
+ghost use Rattle.dim_core.specs.Outline.{index_of, names_of};
+ghost use Rattle.bind_arguments.specs.Bound as bound;
+ghost use Rattle.bind_arguments.specs.Bound.{name_in, name_at, name_given};
+ghost use Rattle.bind_arguments.specs.Private.Within.{is_within};
+
+use crate::bound_argument::BoundArgument;
+use crate::naming::name_in;
+use cube_space::Space;
+use dim_core::Dimension;
+use dim_name::Name;
+use rule_laws::ElementMap;
+use std::alloc::{AllocError, Global};
+
+/// The place in the statement's cube of the dimension that an argument follows.
+pub(crate) fn followed(argument: &BoundArgument) -> Option<u32>
+    ensures { result ≡ bound.followed argument.now }
+{
+    match argument {
+        BoundArgument::Text(_) => None,
+        BoundArgument::Current { place, .. } => Some(*place),
+        BoundArgument::AtIndex { .. } => None,
+        BoundArgument::AtPlace { of, .. } => followed(of.get()),
+        BoundArgument::AttributeOf { of, .. } => followed(of.get()),
+    }
+}
+
+/// The element that a text names.
+pub(crate) fn element_named(
+    alloc: Global,
+    dimension: &Dimension,
+    text: &[u8],
+) -> Result<Option<u32>, AllocError>
+    ensures { IfOk result (λ element. element ≡ option_and_then (index_of dimension.now) (name_in text.now)) }
+{
+    let name = name_in(alloc, text)?;
+    Ok(element_called(dimension, &name))
+}
+
+// The element of this name, if there is a name.
+fn element_called(dimension: &Dimension, name: &Option<Name>) -> Option<u32>
+    ensures { result ≡ option_and_then (index_of dimension.now) name.now }
+{
+    match name {
+        Some(name) => dimension.index_of(name),
+        None => None,
+    }
+}
+
+// The element that has the name of an element of another dimension.
+fn same_element(dimension: &Dimension, other: &Dimension, element: u32) -> Option<u32>
+    ensures { result ≡ option_and_then (index_of dimension.now) (slice_get (names_of other.now.elements) element) }
+{
+    if element < other.len() {
+        dimension.index_of(other.name_of(element))
+    } else {
+        None
+    }
+}
+
+// The element that has the name of that of this index, from 1, in another dimension.
+fn element_at(dimension: &Dimension, other: &Dimension, index: i64) -> Option<u32>
+    ensures { result ≡ option_and_then (index_of dimension.now) (name_at other.now index) }
+{
+    if index < 1 || index > i64::from(other.len()) {
+        None
+    } else {
+        same_element(dimension, other, (index - 1) as u32)
+    }
+}
+
+// The index, from 1, of an element; 0 where there is none.
+fn index_of(element: Option<u32>) -> i64
+    ensures value { result ≡ option_map_or (λ e. pos (suc e)) element (pos 0) }
+    ensures small { unsigned_abs result ≤ 2 ^ 32 }
+{
+    match element {
+        Some(element) => i64::from(element) + 1,
+        None => 0,
+    }
+}
+
+/// The element of a dimension that an argument means, where the dimension that it follows has this element.
+pub(crate) fn element_given(
+    alloc: Global,
+    space: &Space,
+    dimension: &Dimension,
+    argument: &BoundArgument,
+    element: u32,
+) -> Result<Option<u32>, AllocError>
+    requires { (cube : ℕ) × IsTrue (is_within space.now cube argument.now) }
+    ensures { IfOk result (λ given. given
+        ≡ option_and_then (index_of dimension.now) (name_given space.now element argument.now)) }
+{
+    match argument {
+        BoundArgument::Text(name) => Ok(element_called(dimension, name)),
+        BoundArgument::Current { dim, .. } => {
+            Ok(same_element(dimension, space.dimension(*dim), element))
+        }
+        BoundArgument::AtIndex { dim, index } => {
+            Ok(element_at(dimension, space.dimension(*dim), *index))
+        }
+        BoundArgument::AtPlace {
+            dim,
+            source,
+            of,
+            shift,
+        } => {
+            let place = element_given(alloc, space, space.dimension(*source), of.get(), element)?;
+            let index = index_of(place) + *shift;
+            Ok(element_at(dimension, space.dimension(*dim), index))
+        }
+        BoundArgument::AttributeOf { dim, of, attribute } => {
+            let owner = space.dimension(*dim);
+            match element_given(alloc, space, owner, of.get(), element)? {
+                Some(owned) => element_named(alloc, dimension, owner.attribute(owned, attribute)),
+                None => Ok(None),
+            }
+        }
+    }
+}
+
+/// For each of so many elements of the dimension that an argument follows, the element of a dimension that it means.
+pub(crate) fn elements_given(
+    alloc: Global,
+    space: &Space,
+    dimension: &Dimension,
+    argument: &BoundArgument,
+    len: u32,
+) -> Result<ElementMap, AllocError>
+    requires { (cube : ℕ) × IsTrue (is_within space.now cube argument.now) }
+    ensures { IfOk result (λ given. given ≡ map
+        (λ element. option_and_then (index_of dimension.now) (name_given space.now element argument.now))
+        (range_with_len 0 len)) }
+{
+    let mut to = Vec::with_capacity(alloc, len as usize)?;
+    for element in 0..len {
+        to.push(element_given(alloc, space, dimension, argument, element)?)?;
+    }
+    Ok(ElementMap::listed(to))
+}
