@@ -1,5 +1,5 @@
 -- What is written of a model text is a text again, in which nothing is refused.
-use Rattle.std.proofs.Common.{◌≡◌, ◌<◌, ◌≤◌, ℕ, nat_eq, nat_le, List, [], ◌∷◌, ◌++◌, length, map, get_or, codes, true, false, Bool, Option, Some, IfSome, Ok, refl, sym, ap, ◌∙◌, subst, inl, inr, arith, length-append, IsTrue}
+use Rattle.std.proofs.Common.{◌≡◌, ◌<◌, ◌≤◌, ℕ, nat_eq, nat_le, List, [], ◌∷◌, ◌++◌, length, map, get_or, codes, true, false, Bool, Option, Some, None, IfSome, Ok, refl, sym, ap, ◌∙◌, subst, inl, inr, arith, length-append, IsTrue}
 use Rattle.std.proofs.Math.Seq.{get_or-append_seam}
 use Rattle.std.proofs.lemmas.Bool.{lt-leb}
 use Rattle.std.proofs.lemmas.Cmp.{nat_eq_equiv}
@@ -26,8 +26,8 @@ use Rattle.dim_text.specs.Spelled.{head_spelled, body_spelled}
 use Rattle.dim_text.proofs.PrintedBack.{body_of}
 use Rattle.dim_text.specs.Statement.{body}
 use Rattle.model_text.specs.Readers.Views.{IsValid}
-use Rattle.model_text.specs.Contents.{dimensions_limit, cubes_limit, scripts_limit, AreDimensions, cube_names, script_names}
-use Rattle.model_text.specs.Gathering.{Current, Nothing, DimensionDue, DimensionOpen, DimensionBody, CubeDue, CubeOpen, ScriptDue, ScriptOpen, ScriptWhole, Parts, at, unless, with_cube, with_script, with_dimension, gathered, dimensions_are_full, cubes_are_full, scripts_are_full, has_dimension, has_cube, has_script}
+use Rattle.model_text.specs.Contents.{dimensions_limit, cubes_limit, scripts_limit, AreDimensions, IsOrderedIn, cube_names, script_names}
+use Rattle.model_text.specs.Gathering.{Current, Nothing, DimensionDue, DimensionOpen, DimensionBody, CubeDue, CubeOpen, ScriptDue, ScriptOpen, ScriptWhole, Parts, at, unless, order_of, cube_of, with_cube, with_script, with_dimension, gathered, dimensions_are_full, cubes_are_full, scripts_are_full, has_dimension, has_cube, has_script}
 use Rattle.model_text.specs.Printed.{IsSameCube, IsSameScript}
 use Rattle.model_text.specs.Spelled.{dim_spelled, cube_head_spelled, dimension_spelled, cube_dimensions_spelled, cube_end_spelled, next_dimension_spelled, cube_spelled, script_spelled}
 use Rattle.model_text.specs.Statement.{Piece, piece, closing, naming, dimension_behind, dimension_head, dimension, next_dimension, cube_head, cube_dimensions, cube, script}
@@ -36,12 +36,13 @@ use Rattle.model_text.specs.Writable.{IsFileText, IsWritableOrder, IsWritableCub
 use Rattle.model_text.specs.declared.fault.ModelTextCause.{ModelTextCause}
 use Rattle.model_text.specs.declared.fault.ModelTextCause.TheVariants as causes
 use Rattle.model_text.specs.declared.order.OrderLine.{OrderLine}
+use Rattle.model_text.specs.declared.order.OrderWord.{OrderWord}
 use Rattle.model_text.specs.declared.parts.CubeText.{CubeText}
 use Rattle.model_text.specs.declared.parts.ScriptText.{ScriptText}
 use Rattle.model_text.proofs.Going.{Goes, goes_piece, goes_both, goes_unit, goes_as, goes_many}
 use Rattle.model_text.proofs.ModelExact.{naming_into, file_into}
 use Rattle.model_text.proofs.Sound.{any-map}
-use Rattle.model_text.proofs.SpelledPieces.{IsSameBehind, closing_spells, dimension_word_spells, cube_word_spells, script_word_spells, naming_spells, script_file_spells, dimension_behind_spells, cube_end_spells}
+use Rattle.model_text.proofs.SpelledPieces.{IsSameBehind, HasPositions, closing_spells, dimension_word_spells, cube_word_spells, script_word_spells, naming_spells, script_file_spells, dimension_behind_spells, cube_end_spells}
 
 -- Lists.
 
@@ -198,6 +199,15 @@ module _ (blocks : List Progress) (parts : Parts) (line : ℕ) (shown : List ℕ
       (λ front more number split numbers equal. number_goes (codes ",") (λ u x h. inr (inr (inr (inr (inr (inr (inr (inl h)))))))) (first ∷ front) more number (subst (AreDimensions (length parts.names)) (ap (λ ns. first ∷ ns) split) are) numbers equal)
       so_far same))
 
+-- in a text of the version that it had, an order line is as it was
+same_order : (version : ℕ) (o : Option (ℕ × OrderLine)) (again : Option (ℕ × List OrderWord)) → IfSome o (λ x. x.1.version ≡ version) → HasPositions o again → IsSameBehind o (order_of version again)
+same_order version None None is same = refl
+same_order version None (Some a) is same = cc
+same_order version (Some o) None is same = cc
+same_order version (Some o) (Some a) is same =
+    let positions : a.1 ≡ o.1.words = cc in
+    ap (λ list. Some (record { version = version; words = list })) positions ∙ ap (λ v. Some (record { version = v; words = o.1.words })) (sym is)
+
 -- it has this name, these dimensions and this end
 record Has (shown numbers : List ℕ) (r : Option (ℕ × List ℕ)) (o : Option (ℕ × OrderLine)) (c : CubeText) : Type 0 where
   name : c.name ≡ shown
@@ -207,17 +217,17 @@ record Has (shown numbers : List ℕ) (r : Option (ℕ × List ℕ)) (o : Option
 
 cube_goes : (blocks : List Progress) (parts : Parts) (shown numbers : List ℕ) (r : Option (ℕ × List ℕ)) (o : Option (ℕ × OrderLine))
     → All (λ name. IsTrue (is_name name)) parts.names → IsDistinct is_same_name parts.names → AreDimensions (length parts.names) numbers → 0 < length numbers → IsTrue (is_name shown)
-    → IfSome r (λ x. IsFileText x.1) → IfSome o (λ x. IsWritableOrder x.1) → cubes_are_full parts ≡ false → has_cube parts shown ≡ false
+    → IfSome r (λ x. IsFileText x.1) → IfSome o (λ x. IsWritableOrder x.1.words) → IfSome o (λ x. x.1.version ≡ parts.version) → cubes_are_full parts ≡ false → has_cube parts shown ≡ false
     → Goes {E = CubeText} cube (cube_head_spelled shown ++ (cube_dimensions_spelled parts.names numbers ++ cube_end_spelled r o)) (outside_of blocks parts Nothing) (λ again. outside_of blocks (with_cube parts again) Nothing) (Has shown numbers r o)
-cube_goes blocks parts shown [] r o named distinct are some is r_is o_is few new = absurd (omega (arith, some))
-cube_goes blocks parts shown (first ∷ rest) r o named distinct are some is r_is o_is few new =
+cube_goes blocks parts shown [] r o named distinct are some is r_is o_is in_version few new = absurd (omega (arith, some))
+cube_goes blocks parts shown (first ∷ rest) r o named distinct are some is r_is o_is in_version few new =
     goes_both {xs = cube_head_spelled shown} {ys = cube_dimensions_spelled parts.names (first ∷ rest) ++ cube_end_spelled r o} (cube_head_goes blocks parts shown is few new)
     (λ line _. goes_both {xs = cube_dimensions_spelled parts.names (first ∷ rest)} {ys = cube_end_spelled r o} (numbers_go blocks parts line shown named distinct first rest are)
     (λ numbers same. goes_unit (goes_piece (outside_of blocks parts (CubeOpen line shown numbers)) (λ again. at (with_cube parts again) Nothing) (λ u x h. inr (inr (inr (inr (inr (inr (inr (inr h)))))))) (cube_end_spells r o r_is o_is)
     (λ x end. (
-      record { line = line; name = shown; dims = numbers; rules = end.r_again; order = end.o_again },
+      cube_of parts line shown numbers end.r_again end.o_again,
       ap (gathered (at parts (CubeOpen line shown numbers))) end.is,
-      record { name = refl; dims = same; rules = end.r_same; order = end.o_same },
+      record { name = refl; dims = same; rules = end.r_same; order = same_order parts.version o end.o_again in_version end.o_same },
     )))))
 
 same_names_of : (xs ys : List CubeText) → AllZip IsSameCube xs ys → cube_names ys ≡ cube_names xs
@@ -230,9 +240,9 @@ module _ (blocks : List Progress) (version : ℕ) (names : List (List ℕ)) wher
   abbrev pub cubes_seen : List CubeText → Seen
   cubes_seen cubes = outside_of blocks (record { version = version; names = names; cubes = cubes; scripts = [] }) Nothing
 
-  pub cubes_go : (all : List CubeText) → All (λ name. IsTrue (is_name name)) names → IsDistinct is_same_name names → All (λ (c : CubeText). AreDimensions (length names) c.dims) all → All IsWritableCube all → length all ≤ cubes_limit → IsDistinct is_same_name (cube_names all)
+  pub cubes_go : (all : List CubeText) → All (λ name. IsTrue (is_name name)) names → IsDistinct is_same_name names → All (λ (c : CubeText). AreDimensions (length names) c.dims) all → All (IsOrderedIn version) all → All IsWritableCube all → length all ≤ cubes_limit → IsDistinct is_same_name (cube_names all)
       → Goes {E = List CubeText} (many cube) (flat_map (cube_spelled names) all) (cubes_seen []) cubes_seen (AllZip IsSameCube all)
-  cubes_go all named distinct dims good few apart = goes_many cube (cube_spelled names) cubes_seen (AllZip IsSameCube) all
+  cubes_go all named distinct dims ordered good few apart = goes_many cube (cube_spelled names) cubes_seen (AllZip IsSameCube) all
       (λ front rest x split so_far zip.
       let now : Parts = record { version = version; names = names; cubes = so_far; scripts = [] } in
       let is : IsWritableCube x = among IsWritableCube all front rest x split good in
@@ -240,7 +250,7 @@ module _ (blocks : List Progress) (version : ℕ) (names : List (List ℕ)) wher
       let full : cubes_are_full now ≡ false = ap (nat_le cubes_limit) (sym (length_all_zip IsSameCube front so_far zip)) ∙ room all front rest x cubes_limit split few in
       let new : has_cube now x.name ≡ false = sym (any-map (is_same_name x.name) (λ (c : CubeText). c.name) so_far) ∙ ap (λ ns. has_name ns x.name) (same_names_of front so_far zip) ∙ fresh_name (λ (c : CubeText). c.name) all front rest x split apart in
       goes_as (λ again has. (so_far ++ again ∷ [], refl, zip_last IsSameCube front so_far x again zip (record { name = has.name; dims = has.dims; rules = has.rules; order = has.order })))
-      (cube_goes blocks now x.name x.dims x.rules x.order named distinct are is.dims is.name.0 is.rules is.order full new))
+      (cube_goes blocks now x.name x.dims x.rules x.order named distinct are is.dims is.name.0 is.rules is.order (among (IsOrderedIn version) all front rest x split ordered) full new))
       [] tt
 
 -- Scripts.

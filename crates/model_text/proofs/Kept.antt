@@ -1,5 +1,5 @@
 -- What is read of cubes and scripts can be written as tokens again.
-use Rattle.std.proofs.Common.{◌≡◌, ◌<◌, ◌^◌, ℕ, List, [], ◌∷◌, ◌++◌, length, true, Ok, Option, IfSome, sym, ap, ◌∙◌, subst, inl, inr, ◌&&◌, arith}
+use Rattle.std.proofs.Common.{◌≡◌, ◌<◌, ◌^◌, ℕ, List, [], ◌∷◌, ◌++◌, length, true, Ok, Option, Some, None, IfSome, sym, ap, ◌∙◌, subst, inl, inr, ◌&&◌, arith}
 use Rattle.std.proofs.lemmas.Bool.{ltb-true}
 use Rattle.std.proofs.lemmas.List.Elements.{All-nil, All-cons}
 use Rattle.std.specs.List.{All, list_all}
@@ -18,11 +18,12 @@ use Rattle.grammar.proofs.Kept.{AreTokens, first_tokens, Keeps, keeps_any, keeps
 use Rattle.grammar.proofs.Tokens.{when_picks, and_is}
 use Rattle.grammar.proofs.Top.{read_told}
 use Rattle.dim_text.proofs.Quotable.{text_quotable, name_quotable}
+use Rattle.model_text.specs.Gathering.{order_of}
 use Rattle.model_text.specs.Readers.Reading.{Plain, read_naming, read_script_file, read_cube_end}
 use Rattle.model_text.specs.Statement.{Piece, QuotedText, CubeEnd, naming, script_file, rules, rank, rank_list, position, position_list, order, cube_end}
 use Rattle.model_text.specs.Writable.{IsNameText, IsFileText, IsWritableRank, IsWritableWord, IsWritableOrder}
 use Rattle.model_text.specs.declared.fault.ModelTextFault.{ModelTextFault}
-use Rattle.model_text.specs.declared.order.OrderLine.{OrderLine}
+use Rattle.model_text.specs.declared.order.OrderWord.{OrderWord}
 use Rattle.model_text.proofs.ModelExact.{file_is_text}
 use Rattle.model_text.proofs.PieceExact.{free, located_is, naming_exact, script_file_exact, cube_end_exact}
 
@@ -119,5 +120,9 @@ taken_name ts left n u v read tokens = naming_told ts left n.0 n.1 u v (ap (λ r
 pub script_file_told : (ts left : List Lexeme) (line : ℕ) (bytes : List ℕ) (u v : Unwatched) → read_script_file u ts ≡ Ok (QuotedText line bytes, v, left) → AreTokens ts → IsFileText bytes
 script_file_told ts left line bytes u v read tokens = told script_file_exact script_file_kept ts left (QuotedText line bytes) u v read tokens
 
-pub cube_end_told : (ts left : List Lexeme) (r : Option (ℕ × List ℕ)) (o : Option (ℕ × OrderLine)) (u v : Unwatched) → read_cube_end u ts ≡ Ok (CubeEnd r o, v, left) → AreTokens ts → IfSome r (λ x. IsFileText x.1) × IfSome o (λ x. IsWritableOrder x.1)
+pub cube_end_told : (ts left : List Lexeme) (r : Option (ℕ × List ℕ)) (o : Option (ℕ × List OrderWord)) (u v : Unwatched) → read_cube_end u ts ≡ Ok (CubeEnd r o, v, left) → AreTokens ts → IfSome r (λ x. IsFileText x.1) × IfSome o (λ x. IsWritableOrder x.1)
 cube_end_told ts left r o u v read tokens = told cube_end_exact cube_end_kept ts left (CubeEnd r o) u v read tokens
+
+pub order_written : (version : ℕ) (o : Option (ℕ × List OrderWord)) → IfSome o (λ x. IsWritableOrder x.1) → IfSome (order_of version o) (λ x. IsWritableOrder x.1.words)
+order_written version None is = tt
+order_written version (Some o) is = is

@@ -19,10 +19,9 @@ use Rattle.grammar.proofs.Exact.{Exact, Always, Not, exact_one, exact_gives, exa
 use Rattle.grammar.proofs.Begins.{Begins, begins_one, begins_both, begins_behind, exact_or, exact_option, exact_before_next}
 use Rattle.grammar.proofs.Tokens.{IsValue, exact_sign, exact_word, exact_name, exact_whole_number, exact_file, sign_begins, word_begins, when_picks, and_is}
 use Rattle.model_text.specs.declared.fault.ModelTextFault.{ModelTextFault}
-use Rattle.model_text.specs.declared.order.OrderLine.{OrderLine}
 use Rattle.model_text.specs.declared.order.OrderWord.{OrderWord}
 use Rattle.model_text.specs.declared.order.OrderWord.TheVariants as words
-use Rattle.model_text.specs.Statement.{Version, Closing, DimensionWord, CubeWord, ScriptWord, QuotedText, CubeDimension, CubeEnd, line_of, version, closing, dimension_word, cube_word, script_word, naming, script_file, dimension_behind, rule_file, rules, rank, ranks, position, order_line, order, cube_end}
+use Rattle.model_text.specs.Statement.{Version, Closing, DimensionWord, CubeWord, ScriptWord, QuotedText, CubeDimension, CubeEnd, version, closing, dimension_word, cube_word, script_word, naming, script_file, dimension_behind, rule_file, rules, rank, ranks, position, order_line, order, cube_end}
 use Rattle.model_text.specs.Readers.Reading.{read_version, read_closing, read_dimension_word, read_cube_word, read_script_word, read_naming, read_script_file, read_dimension_behind, read_rules, read_rank, read_ranks, read_position, read_order, read_cube_end}
 
 -- nothing watches the parts of a piece
@@ -132,10 +131,10 @@ position_exact = exact_or is_number (begins_both whole_begins) (begins_both name
     (exact_before (λ _ _. tt) (exact_then (exact_whole_number unscanned) (λ n. exact_gives free (words.Constant n))))
     (exact_then (exact_name unscanned) (λ shown. ranks_exact shown))
 
-order_line_exact : Exact free order_line order_line (both_of (take_one unscanned (word (codes "ORDER"))) (λ line. both_of (read_listed unscanned read_position) (λ list. both_of (take_one unscanned (sign (codes ";"))) (λ _. gives (Some (line, line_of list)))))) Always
+order_line_exact : Exact free order_line order_line (both_of (take_one unscanned (word (codes "ORDER"))) (λ line. both_of (read_listed unscanned read_position) (λ list. both_of (take_one unscanned (sign (codes ";"))) (λ _. gives (Some (line, list)))))) Always
 order_line_exact = exact_then (exact_word unscanned (codes "ORDER")) (λ line. exact_both (listed_exact (is_sign (codes "(")) (sign_begins (codes ",") (codes "(")) position_exact)
-    (λ list. exact_then (exact_sign unscanned (codes ";")) (λ _. exact_gives free (Some (line, line_of list))))
-    (λ list v b rest l _. behind_list (codes ";") (done (Some (line, line_of list))) (is_sign (codes "(")) (sign_begins (codes ";") (codes "(")) refl v b rest l))
+    (λ list. exact_then (exact_sign unscanned (codes ";")) (λ _. exact_gives free (Some (line, list))))
+    (λ list v b rest l _. behind_list (codes ";") (done (Some (line, list))) (is_sign (codes "(")) (sign_begins (codes ";") (codes "(")) refl v b rest l))
 
 order_exact : Exact free order order read_order (Not (is_word (codes "ORDER")))
 unfolding read_order
@@ -146,7 +145,7 @@ order_exact = exact_option (is_word (codes "ORDER")) None (begins_both (word_beg
 order_line_begins : Begins order_line (is_word (codes "RULES")) false
 order_line_begins = begins_both (word_begins (codes "ORDER") (codes "RULES"))
 
-order_first : (u : List Lexeme) (o : Option (ℕ × OrderLine)) → order u o → (u ≡ []) ⊎ ((t : Lexeme) × (v : List Lexeme) × (u ≡ t ∷ v) × (is_word (codes "RULES") t ≡ false))
+order_first : (u : List Lexeme) (o : Option (ℕ × List OrderWord)) → order u o → (u ≡ []) ⊎ ((t : Lexeme) × (v : List Lexeme) × (u ≡ t ∷ v) × (is_word (codes "RULES") t ≡ false))
 order_first u o (inl h) = inr (order_line_begins.at u o h)
 order_first u o (inr h) = inl h.0
 

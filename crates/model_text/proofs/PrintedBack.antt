@@ -1,5 +1,5 @@
 -- What is written of a model text is read as a text with equal contents, but for lines.
-use Rattle.std.proofs.Common.{◌≡◌, ◌≤◌, ℕ, List, [], ◌∷◌, ◌++◌, length, map, codes, Result, Ok, Err, is_ok, OnOk, if◌then◌else◌, refl, sym, ap, ◌∙◌, subst, inl, arith, IsTrue}
+use Rattle.std.proofs.Common.{◌≡◌, ◌<◌, ◌≤◌, ◌^◌, ℕ, Bool, true, false, List, [], ◌∷◌, ◌++◌, length, map, codes, Result, Ok, Err, is_ok, OnOk, if◌then◌else◌, refl, sym, ap, ◌∙◌, subst, inl, arith, IsTrue}
 use Rattle.std.proofs.lemmas.List.{length-map}
 use Rattle.std.proofs.lemmas.List.Elements.{All-map, All-weaker}
 use Rattle.std.specs.List.{All, AllZip, IsDistinct, flat_map}
@@ -13,32 +13,39 @@ use Rattle.dim_text.specs.Progress.{IsBuilt}
 use Rattle.cube_lex.specs.Written.{word_token, sign_token}
 use Rattle.dim_text.specs.Spelled.{whole_token}
 use Rattle.model_text.specs.Answers.{IsModelText}
-use Rattle.model_text.specs.Contents.{Contents, IsContents, AreDimensions, dimension_names}
-use Rattle.model_text.specs.Gathering.{Nothing, Parts, at, gathered}
+use Rattle.model_text.specs.Contents.{Contents, IsContents, is_version, AreDimensions, dimension_names}
+use Rattle.model_text.specs.Gathering.{Nothing, Parts, Given, at, refused, gathered}
 use Rattle.model_text.specs.Printed.{IsSameCube, IsSameScript, AreSameContents, IsTextOf, IsPrinted}
 use Rattle.model_text.specs.Spelled.{dim_spelled, opening_spelled, cube_spelled, script_spelled, contents_spelled}
 use Rattle.model_text.specs.Readers.Views.{IsValid}
-use Rattle.model_text.specs.Statement.{Version, opening, dimension, model}
+use Rattle.model_text.specs.Statement.{opening, dimension, model}
 use Rattle.model_text.specs.Watching.{Seen, no_parts, nothing_seen, watching}
+use Rattle.model_text.specs.declared.fault.ModelTextFault.{ModelTextFault}
+use Rattle.model_text.specs.declared.fault.ModelTextCause.TheVariants as causes
 use Rattle.model_text.specs.declared.parts.CubeText.{CubeText}
 use Rattle.model_text.specs.declared.parts.ScriptText.{ScriptText}
 use Rattle.model_text.proofs.Going.{Goes, goes_piece, goes_both, goes_unit, goes_as}
 use Rattle.model_text.proofs.Again.{outside_of, into_closing, Dims, dims_seen, block_name, AreDims, dims_go, cubes_seen, cubes_go, scripts_seen, scripts_go}
 use Rattle.model_text.proofs.SpelledPieces.{version_spells, closing_spells}
 
+-- the versions are small numbers
+small_version : (n : ℕ) → IsTrue (is_version n) → n < 2 ^ 31
+small_version n known = grind (arith, known)
+
 abbrev no_dims : Dims
 no_dims = record { blocks = []; names = []; texts = [] }
 
-opening_goes : (version : ℕ) → version ≡ 1 → Goes {E = Unit {0}} opening (opening_spelled version) nothing_seen (λ _. dims_seen version no_dims) (λ _. Unit {0})
-opening_goes version one =
+opening_goes : (version : ℕ) → IsTrue (is_version version) → Goes {E = Unit {0}} opening (opening_spelled version) nothing_seen (λ _. dims_seen version no_dims) (λ _. Unit {0})
+opening_goes version known =
     let first : Parts = record { version = version; names = []; cubes = []; scripts = [] } in
     goes_both {xs = word_token (codes "MODEL") ∷ whole_token version ∷ []} {ys = sign_token (codes ";") ∷ []}
-    (goes_unit (goes_piece {P = λ (_ : Unit {0}). Unit {0}} nothing_seen (λ _. at first Nothing) (λ u x h. inl h) (version_spells version (omega (arith, one)))
-    (λ x (line, same). (tt, ap (gathered (at no_parts Nothing)) same ∙ taken version line one, tt))))
+    (goes_unit (goes_piece {P = λ (_ : Unit {0}). Unit {0}} nothing_seen (λ _. at first Nothing) (λ u x h. inl h) (version_spells version (small_version version known))
+    (λ x (line, same). (tt, ap (gathered (at no_parts Nothing)) same ∙ taken (is_version version) version line known, tt))))
     (λ _ _. goes_unit (goes_piece {P = λ (_ : Unit {0}). Unit {0}} (outside_of [] first Nothing) (λ _. at first Nothing) into_closing closing_spells
     (λ x same. (tt, ap (gathered (at first Nothing)) same, tt)))) where
-      taken : (n line : ℕ) → n ≡ 1 → gathered (at no_parts Nothing) (Version line n) ≡ Ok (at (record { version = n; names = []; cubes = []; scripts = [] }) Nothing)
-      taken n line e = subst (λ m. gathered (at no_parts Nothing) (Version line m) ≡ Ok (at (record { version = m; names = []; cubes = []; scripts = [] }) Nothing)) (sym e) refl
+      taken : (known : Bool) (n line : ℕ) → known ≡ true → ◌≡◌ {A = Result Given ModelTextFault} (if known then Ok (at (record no_parts { version = n }) Nothing) else refused line causes.WrongVersion) (Ok (at (record { version = n; names = []; cubes = []; scripts = [] }) Nothing))
+      taken true n line e = refl
+      taken false n line e = cc
 
 -- the whole text: the blocks as they were built, the dimensions that they are, the cubes and the scripts
 record Whole : Type 0 where
@@ -73,9 +80,9 @@ model_goes contents is each =
     let named : All (λ name. IsTrue (is_name name)) names = All-map (λ name. IsTrue (is_name name)) block_name contents.dims (All-weaker IsValid (λ text. IsTrue (is_name (block_name text))) (λ text valid. valid.is_named) contents.dims each) in
     let counted : length contents.dims ≡ length names = sym (length-map contents.dims block_name) in
     let in_cubes : All (λ (c : CubeText). AreDimensions (length names) c.dims) contents.cubes = subst (λ k. All (λ (c : CubeText). AreDimensions k c.dims) contents.cubes) counted is.cube_dims in
-    goes_both {xs = opening_spelled n} {ys = dims_tokens ++ (cubes_tokens ++ scripts_tokens)} (opening_goes n is.first_version)
+    goes_both {xs = opening_spelled n} {ys = dims_tokens ++ (cubes_tokens ++ scripts_tokens)} (opening_goes n is.known_version)
     (λ _ _. goes_both {xs = dims_tokens} {ys = cubes_tokens ++ scripts_tokens} (goes_unit (named_dims_go contents is each))
-    (λ dims are. goes_both {xs = cubes_tokens} {ys = scripts_tokens} (goes_unit (cubes_go dims.blocks n names contents.cubes named is.dims in_cubes is.writable_cubes is.few_cubes is.cubes))
+    (λ dims are. goes_both {xs = cubes_tokens} {ys = scripts_tokens} (goes_unit (cubes_go dims.blocks n names contents.cubes named is.dims in_cubes is.cube_orders is.writable_cubes is.few_cubes is.cubes))
     (λ cubes same. goes_as (λ scripts equal. (
       record { dims = dims; cubes = cubes; scripts = scripts },
       refl,

@@ -10,11 +10,11 @@ use Rattle.std.proofs.lemmas.Map.Keys.{IsDistinct-push}
 use Rattle.cube_lex.specs.Lexeme.{Lexeme}
 use Rattle.grammar.specs.Watch.{AllPass, Passes}
 use Rattle.dim_name.specs.Name.{is_same_name, key_of, place_of}
-use Rattle.model_text.specs.Contents.{cube_names, script_names, AreDimensions}
-use Rattle.model_text.specs.Gathering.{Current, Nothing, DimensionDue, CubeDue, ScriptDue, DimensionOpen, CubeOpen, ScriptOpen, DimensionBody, ScriptWhole, Parts, Given, at, refused, unless, dimensions_are_full, cubes_are_full, scripts_are_full, has_dimension, has_cube, has_script, with_text, with_dimension, with_end, closed, gathered}
+use Rattle.model_text.specs.Contents.{is_version, cube_names, script_names, AreDimensions}
+use Rattle.model_text.specs.Gathering.{Current, Nothing, DimensionDue, CubeDue, ScriptDue, DimensionOpen, CubeOpen, ScriptOpen, DimensionBody, ScriptWhole, Parts, Given, at, refused, unless, dimensions_are_full, cubes_are_full, scripts_are_full, has_dimension, has_cube, has_script, with_text, with_dimension, cube_of, with_end, closed, gathered}
 use Rattle.model_text.specs.Statement.{Piece, Version, Closing, DimensionWord, CubeWord, ScriptWord, QuotedText, CubeDimension, CubeEnd}
 use Rattle.model_text.specs.Watching.{Seen, with_name_of, with_given, added, nothing_seen, watching}
-use Rattle.model_text.specs.declared.order.OrderLine.{OrderLine}
+use Rattle.model_text.specs.declared.order.OrderWord.{OrderWord}
 use Rattle.model_text.specs.declared.parts.CubeText.{CubeText}
 use Rattle.model_text.specs.declared.parts.ScriptText.{ScriptText}
 use Rattle.model_text.specs.declared.fault.ModelTextFault.{ModelTextFault}
@@ -126,9 +126,9 @@ any-map p f (x ∷ xs) = ap (λ b. p (f x) || b) (any-map p f xs)
 one_more : {X : Type 0} (xs : List X) (x : X) (n : ℕ) → length xs < n → length (xs ++ x ∷ []) ≤ n
 one_more xs x n h = omega (arith, h, length-append xs (x ∷ []))
 
-end_then : (parts : Parts) (rules : Option (ℕ × List ℕ)) (order : Option (ℕ × OrderLine)) (current : Current) → IsSound parts → IsDue parts current → Holds (with_end parts rules order current)
+end_then : (parts : Parts) (rules : Option (ℕ × List ℕ)) (order : Option (ℕ × List OrderWord)) (current : Current) → IsSound parts → IsDue parts current → Holds (with_end parts rules order current)
 end_then parts rules order (CubeOpen line shown dims) sound due =
-    let cube : CubeText = record { line = line; name = shown; dims = dims; rules = rules; order = order } in
+    let cube : CubeText = cube_of parts line shown dims rules order in
     record {
       sound = record {
         few_names = sound.few_names;
@@ -193,7 +193,7 @@ version_then g line number true h = record {
 }
 
 gathered_then : (g : Given) (x : Piece) → Holds g → Then (gathered g x)
-gathered_then g (Version line number) h = version_then g line number (number == 1) h
+gathered_then g (Version line number) h = version_then g line number (is_version number) h
 gathered_then g Closing h = closed_then g.parts g.current h.sound h.due
 gathered_then g (DimensionWord line) h = unless_then (dimensions_are_full g.parts) line causes.TooMany g.parts (DimensionDue line) h.sound (λ e. room_256 (length g.parts.names) e)
 gathered_then g (CubeWord line) h = unless_then (cubes_are_full g.parts) line causes.TooMany g.parts (CubeDue line) h.sound (λ e. room_64 (length g.parts.cubes) e)

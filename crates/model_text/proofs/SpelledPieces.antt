@@ -14,7 +14,7 @@ use Rattle.grammar.proofs.Spells.{Spells, Picks, spells_done, spells_next, spell
 use Rattle.dim_text.proofs.SpelledStatements.{picks_word, picks_sign, picks_name, picks_whole}
 use Rattle.grammar.specs.Lists.{next}
 use Rattle.model_text.specs.Spelled.{dimension_spelled, rules_spelled, rank_spelled, next_rank_spelled, ranks_spelled, position_spelled, next_position_spelled, positions_spelled, order_spelled, ending_spelled, cube_end_spelled}
-use Rattle.model_text.specs.Statement.{Piece, Version, Closing, DimensionWord, CubeWord, ScriptWord, QuotedText, CubeDimension, CubeEnd, line_of, version, closing, dimension_word, cube_word, script_word, naming, script_file, dimension_behind, rules, rank, rank_list, in_parentheses, position, position_list, order, cube_end}
+use Rattle.model_text.specs.Statement.{Piece, Version, Closing, DimensionWord, CubeWord, ScriptWord, QuotedText, CubeDimension, CubeEnd, version, closing, dimension_word, cube_word, script_word, naming, script_file, dimension_behind, rules, rank, rank_list, in_parentheses, position, position_list, order, cube_end}
 use Rattle.model_text.specs.Writable.{IsFileText, IsWritableRank, IsWritableWord, IsWritableOrder}
 use Rattle.model_text.specs.declared.order.OrderLine.{OrderLine}
 use Rattle.model_text.specs.declared.order.OrderWord.{OrderWord}
@@ -122,22 +122,26 @@ position_list_spells (first ∷ rest) some all = spells_both {xs = position_spel
     (λ head same. spells_made (λ more. head ∷ more) (spells_many next_position_spelled IsWritableWord (λ p x. x ≡ p) next_position_spells rest (All-tail IsWritableWord first rest all))
     (λ more zip. ap (λ x. x ∷ more) same ∙ ap (λ xs. first ∷ xs) (same_list rest more zip)))
 
-order_spells : (o : Option (ℕ × OrderLine)) → IfSome o (λ x. IsWritableOrder x.1) → Spells order (order_spelled o) (IsSameBehind o)
+-- the positions of this order line, whatever the line of its word
+abbrev pub HasPositions : Option (ℕ × OrderLine) → Option (ℕ × List OrderWord) → Type 0
+HasPositions o again = option_map (λ a. a.1) again ≡ option_map (λ a. a.1.words) o
+
+order_spells : (o : Option (ℕ × OrderLine)) → IfSome o (λ x. IsWritableOrder x.1.words) → Spells order (order_spelled o) (HasPositions o)
 order_spells None is = spells_right (spells_done None refl)
 order_spells (Some o) is = spells_left (spells_next (picks_word (codes "ORDER")) (λ line _. spells_both {xs = positions_spelled o.1.words} {ys = sign_token (codes ";") ∷ []} (position_list_spells o.1.words is.0 is.1)
-    (λ list same. spells_next (picks_sign (codes ";")) (λ _ _. spells_done (Some (line, line_of list)) (ap (λ x. Some (line_of x)) same)))))
+    (λ list same. spells_next (picks_sign (codes ";")) (λ _ _. spells_done (Some (line, list)) (ap (λ x. Some x) same)))))
 
 -- The end of a cube.
 
 -- it is that end of a cube, but for its lines
 pub record IsEnd (r : Option (ℕ × List ℕ)) (o : Option (ℕ × OrderLine)) (x : Piece) : Type 0 where
   pub r_again : Option (ℕ × List ℕ)
-  pub o_again : Option (ℕ × OrderLine)
+  pub o_again : Option (ℕ × List OrderWord)
   pub is : x ≡ CubeEnd r_again o_again
   pub r_same : IsSameBehind r r_again
-  pub o_same : IsSameBehind o o_again
+  pub o_same : HasPositions o o_again
 
-pub cube_end_spells : (r : Option (ℕ × List ℕ)) (o : Option (ℕ × OrderLine)) → IfSome r (λ x. IsFileText x.1) → IfSome o (λ x. IsWritableOrder x.1) → Spells cube_end (cube_end_spelled r o) (IsEnd r o)
+pub cube_end_spells : (r : Option (ℕ × List ℕ)) (o : Option (ℕ × OrderLine)) → IfSome r (λ x. IsFileText x.1) → IfSome o (λ x. IsWritableOrder x.1.words) → Spells cube_end (cube_end_spelled r o) (IsEnd r o)
 cube_end_spells r o r_is o_is = spells_next (picks_sign (codes ")")) (λ _ _. spells_next (picks_sign (codes ";")) (λ _ _. spells_both {xs = rules_spelled r} {ys = order_spelled o ++ ending_spelled} (rules_spells r r_is)
     (λ r_again r_same. spells_both {xs = order_spelled o} {ys = ending_spelled} (order_spells o o_is)
     (λ o_again o_same. spells_next (picks_word (codes "END")) (λ _ _. spells_next (picks_sign (codes ";"))

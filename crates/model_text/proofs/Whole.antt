@@ -1,5 +1,5 @@
 -- From what the parts of a model text give to what is answered of its bytes.
-use Rattle.std.proofs.Common.{◌≡◌, ℕ, ◌≤◌, ◌==◌, if◌then◌else◌, List, [], ◌∷◌, length, Option, Some, None, Bool, true, false, Result, Ok, Err, refl, sym, ◌∙◌, ap, subst, inl, inr}
+use Rattle.std.proofs.Common.{IsTrue, ◌≡◌, ℕ, ◌≤◌, ◌==◌, if◌then◌else◌, List, [], ◌∷◌, length, Option, Some, None, Bool, true, false, Result, Ok, Err, refl, sym, ◌∙◌, ap, subst, inl, inr}
 use Rattle.std.specs.List.{All, AllZip, IsDistinct, list_any}
 use Rattle.std.proofs.lemmas.List.{length-map}
 use Rattle.std.specs.Prelude.{nat_eq, IfOk}
@@ -16,7 +16,7 @@ use Rattle.grammar.proofs.WholeTexts.{whole_read_told, whole_left_told, whole_st
 use Rattle.dim_text.specs.Progress.{Progress, Text, IsBuilt}
 use Rattle.dim_name.specs.Name.{is_same_name, place_of}
 use Rattle.model_text.specs.Answers.{IsModelText, IsFault}
-use Rattle.model_text.specs.Contents.{Contents, IsContents, AreDimensions, dimension_names}
+use Rattle.model_text.specs.Contents.{Contents, IsContents, is_version, AreDimensions, IsOrderedIn, dimension_names}
 use Rattle.model_text.specs.Gathering.{Current, Nothing, DimensionDue, CubeDue, ScriptDue, DimensionOpen, CubeOpen, ScriptOpen, DimensionBody, ScriptWhole, Parts, Given, at, refused, unless, dimensions_are_full, cubes_are_full, scripts_are_full, has_dimension, has_cube, has_script, with_text, with_dimension, gathered}
 use Rattle.model_text.specs.Statement.{Piece, Version, Closing, DimensionWord, CubeWord, ScriptWord, QuotedText, CubeDimension, CubeEnd, model}
 use Rattle.model_text.specs.Watching.{Seen, with_given, no_parts, nothing_seen, added, watching}
@@ -110,7 +110,7 @@ version_cause g line number true = tt
 version_cause g line number false = tt
 
 gathered_cause : (g : Given) (x : Piece) → HasCause (gathered g x)
-gathered_cause g (Version line number) = version_cause g line number (number == 1)
+gathered_cause g (Version line number) = version_cause g line number (is_version number)
 gathered_cause g Closing = tt
 gathered_cause g (DimensionWord line) = unless_cause (dimensions_are_full g.parts) line causes.TooMany g.parts (DimensionDue line) tt
 gathered_cause g (CubeWord line) = unless_cause (cubes_are_full g.parts) line causes.TooMany g.parts (CubeDue line) tt
@@ -164,16 +164,16 @@ contents_of bytes dims blocks parts is built = record { seen = seen blocks parts
 names_count : (dims : List Text) (names : List (List ℕ)) → names ≡ dimension_names dims → length names ≡ length dims
 names_count dims names e = ap length e ∙ length-map dims (λ d. d.dimension.name)
 
--- the cubes and the scripts can be written
-abbrev pub IsWritable : Parts → Type 0
-IsWritable parts = All IsWritableCube parts.cubes × All IsWritableScript parts.scripts
+-- the order lines stand in a text of this version, and the cubes and the scripts can be written
+abbrev pub IsKept : Parts → Type 0
+IsKept parts = All (IsOrderedIn parts.version) parts.cubes × All IsWritableCube parts.cubes × All IsWritableScript parts.scripts
 
-pub contents_sound : (bytes : List ℕ) (dims : List Text) (blocks : List Progress) (parts : Parts) → IsWholeText model watching nothing_seen bytes tt (seen blocks parts) → parts.version ≡ 1 → parts.names ≡ dimension_names dims → IsWritable parts → IsContents (record { version = parts.version; dims = dims; cubes = parts.cubes; scripts = parts.scripts })
-contents_sound bytes dims blocks parts is one names writable =
+pub contents_sound : (bytes : List ℕ) (dims : List Text) (blocks : List Progress) (parts : Parts) → IsWholeText model watching nothing_seen bytes tt (seen blocks parts) → IsTrue (is_version parts.version) → parts.names ≡ dimension_names dims → IsKept parts → IsContents (record { version = parts.version; dims = dims; cubes = parts.cubes; scripts = parts.scripts })
+contents_sound bytes dims blocks parts is known names kept =
     let sound : IsSound parts = passes_sound is.lexed.lexemes (seen blocks parts) is.text.passes in
     let count : length parts.names ≡ length dims = names_count dims parts.names names in
     record {
-      first_version = one;
+      known_version = known;
       few_dims = subst (λ n. n ≤ 256) count sound.few_names;
       few_cubes = sound.few_cubes;
       few_scripts = sound.few_scripts;
@@ -181,8 +181,9 @@ contents_sound bytes dims blocks parts is one names writable =
       cubes = sound.cubes;
       scripts = sound.scripts;
       cube_dims = subst (λ n. All (λ (cube : CubeText). AreDimensions n cube.dims) parts.cubes) count sound.cube_dims;
-      writable_cubes = writable.0;
-      writable_scripts = writable.1;
+      cube_orders = kept.0;
+      writable_cubes = kept.1;
+      writable_scripts = kept.2;
     }
 
 settled_ok : {X : Type 0} (lexed : Lexed) (fault : Option LexFault) (read : Result X (Stop ModelTextFault)) (left : List Lexeme) (x : X) → ◌≡◌ {A = Result X (TextFault ModelTextFault)} (answer_of_text lexed fault read left) (Ok x) → ◌≡◌ {A = Result X (Stop ModelTextFault)} read (Ok x)
@@ -197,14 +198,14 @@ settled_ok lexed fault (Err (stops.Refused f)) left x e = cc
 abbrev contents : Parts → List Text → Contents
 contents parts dims = record { version = parts.version; dims = dims; cubes = parts.cubes; scripts = parts.scripts }
 
-told_contents : (bytes : List ℕ) (dims : List Text) (parts : Parts) → (blocks : List Progress) × IsWholeText model watching nothing_seen bytes tt (seen blocks parts) × AllZip IsBuilt dims blocks → parts.version ≡ 1 → parts.names ≡ dimension_names dims → IsWritable parts → IsModelText bytes (contents parts dims) × IsContents (contents parts dims)
-told_contents bytes dims parts (blocks, is, built) one names writable = (contents_of bytes dims blocks parts is built, contents_sound bytes dims blocks parts is one names writable)
+told_contents : (bytes : List ℕ) (dims : List Text) (parts : Parts) → (blocks : List Progress) × IsWholeText model watching nothing_seen bytes tt (seen blocks parts) × AllZip IsBuilt dims blocks → IsTrue (is_version parts.version) → parts.names ≡ dimension_names dims → IsKept parts → IsModelText bytes (contents parts dims) × IsContents (contents parts dims)
+told_contents bytes dims parts (blocks, is, built) known names kept = (contents_of bytes dims blocks parts is built, contents_sound bytes dims blocks parts is known names kept)
 
 -- a text was read
-pub answer_ok : {X : Type 0} (dims : X → List Text) (parts : X → Parts) (bytes : List ℕ) (lexed : Lexed) (fault : Option LexFault) (read : Result X (Stop ModelTextFault)) (left : List Lexeme) (x : X) → IsReading bytes lexed fault → GivesBlocks dims parts read left (read_model nothing_seen lexed.lexemes) → IfOk read (λ y. (parts y).version ≡ 1) → IfOk read (λ y. (parts y).names ≡ dimension_names (dims y)) → IsWritable (parts x) → ◌≡◌ {A = Result X (TextFault ModelTextFault)} (Ok x) (answer_of_text lexed fault read left) → IsModelText bytes (contents (parts x) (dims x)) × IsContents (contents (parts x) (dims x))
-answer_ok {X = X} dims parts bytes lexed fault read left x reading given one names writable e =
+pub answer_ok : {X : Type 0} (dims : X → List Text) (parts : X → Parts) (bytes : List ℕ) (lexed : Lexed) (fault : Option LexFault) (read : Result X (Stop ModelTextFault)) (left : List Lexeme) (x : X) → IsReading bytes lexed fault → GivesBlocks dims parts read left (read_model nothing_seen lexed.lexemes) → IfOk read (λ y. IsTrue (is_version (parts y).version)) → IfOk read (λ y. (parts y).names ≡ dimension_names (dims y)) → IsKept (parts x) → ◌≡◌ {A = Result X (TextFault ModelTextFault)} (Ok x) (answer_of_text lexed fault read left) → IsModelText bytes (contents (parts x) (dims x)) × IsContents (contents (parts x) (dims x))
+answer_ok {X = X} dims parts bytes lexed fault read left x reading given known names kept e =
     let same : ◌≡◌ {A = Result X (Stop ModelTextFault)} read (Ok x) = settled_ok lexed fault read left x (sym e) in
-    told_contents bytes (dims x) (parts x) (subst (Told dims parts bytes) (sym e) (told dims parts bytes lexed fault read left reading given)) (subst (λ r. IfOk r (λ y. (parts y).version ≡ 1)) same one) (subst (λ r. IfOk r (λ y. (parts y).names ≡ dimension_names (dims y))) same names) writable
+    told_contents bytes (dims x) (parts x) (subst (Told dims parts bytes) (sym e) (told dims parts bytes lexed fault read left reading given)) (subst (λ r. IfOk r (λ y. IsTrue (is_version (parts y).version))) same known) (subst (λ r. IfOk r (λ y. (parts y).names ≡ dimension_names (dims y))) same names) kept
 
 -- a text was refused
 pub answer_err : {X : Type 0} (dims : X → List Text) (parts : X → Parts) (bytes : List ℕ) (lexed : Lexed) (fault : Option LexFault) (read : Result X (Stop ModelTextFault)) (left : List Lexeme) (f : TextFault ModelTextFault) → IsReading bytes lexed fault → GivesBlocks dims parts read left (read_model nothing_seen lexed.lexemes) → ◌≡◌ {A = Result X (TextFault ModelTextFault)} (Err f) (answer_of_text lexed fault read left) → IsFault bytes (fault_from f).line (fault_from f).cause

@@ -1,11 +1,15 @@
 -- What a model text says.
-use Rattle.std.specs.Prelude.{◌≡◌, ℕ, ◌<◌, ◌≤◌, nat_eq, List, length, map, All}
+use Rattle.std.specs.Prelude.{◌≡◌, ℕ, ◌<◌, ◌≤◌, ◌==◌, ◌||◌, nat_eq, Bool, List, length, map, IfSome, IsTrue, All}
 use Rattle.std.specs.List.{IsDistinct}
 use Rattle.dim_name.specs.Name.{is_same_name}
 use Rattle.dim_text.specs.Progress.{Text}
 use Rattle.model_text.specs.declared.parts.CubeText.{CubeText}
 use Rattle.model_text.specs.declared.parts.ScriptText.{ScriptText}
 use Rattle.model_text.specs.Writable.{IsWritableCube, IsWritableScript}
+
+-- the versions of model texts: the first, and the second, in which consolidated elements may have ranks of their own
+abbrev pub is_version : ℕ → Bool
+is_version number = (number == 1) || (number == 2)
 
 -- how many dimensions, cubes and scripts a model may have
 abbrev pub dimensions_limit : ℕ
@@ -42,9 +46,13 @@ pub record AreDimensions (count : ℕ) (numbers : List ℕ) : Type 0 where
   pub there : All (λ number. number < count) numbers
   pub distinct : IsDistinct nat_eq numbers
 
+-- the order line of a cube, where it has one, stands in a text of this version
+abbrev pub IsOrderedIn : ℕ → CubeText → Type 0
+IsOrderedIn version cube = IfSome cube.order (λ order. order.1.version ≡ version)
+
 -- what holds of every model text that is read
 pub record IsContents (contents : Contents) : Type 0 where
-  pub first_version : contents.version ≡ 1
+  pub known_version : IsTrue (is_version contents.version)
   pub few_dims : length contents.dims ≤ dimensions_limit
   pub few_cubes : length contents.cubes ≤ cubes_limit
   pub few_scripts : length contents.scripts ≤ scripts_limit
@@ -52,5 +60,6 @@ pub record IsContents (contents : Contents) : Type 0 where
   pub cubes : IsDistinct is_same_name (cube_names contents.cubes)
   pub scripts : IsDistinct is_same_name (script_names contents.scripts)
   pub cube_dims : All (λ cube. AreDimensions (length contents.dims) cube.dims) contents.cubes
+  pub cube_orders : All (IsOrderedIn contents.version) contents.cubes
   pub writable_cubes : All IsWritableCube contents.cubes
   pub writable_scripts : All IsWritableScript contents.scripts

@@ -1,12 +1,13 @@
 -- What the pieces of a model text add, one after the other, and what is refused.
-use Rattle.std.specs.Prelude.{ℕ, Bool, ◌==◌, nat_le, nat_eq, List, [], ◌∷◌, ◌++◌, length, if◌then◌else◌}
+use Rattle.std.specs.Prelude.{ℕ, Bool, nat_le, nat_eq, List, [], ◌∷◌, ◌++◌, length, if◌then◌else◌}
 use Rattle.std.specs.Prelude.{Option, Some, None, Result, Ok, Err}
 use Rattle.std.specs.List.{list_any}
 use Rattle.dim_name.specs.Name.{has_name, is_same_name, place_of}
-use Rattle.model_text.specs.Contents.{dimensions_limit, cubes_limit, scripts_limit}
+use Rattle.model_text.specs.Contents.{is_version, dimensions_limit, cubes_limit, scripts_limit}
 use Rattle.model_text.specs.Statement.{Piece, Version, Closing, DimensionWord, CubeWord, ScriptWord}
 use Rattle.model_text.specs.Statement.{QuotedText, CubeDimension, CubeEnd}
 use Rattle.model_text.specs.declared.order.OrderLine.{OrderLine}
+use Rattle.model_text.specs.declared.order.OrderWord.{OrderWord}
 use Rattle.model_text.specs.declared.parts.CubeText.{CubeText}
 use Rattle.model_text.specs.declared.parts.ScriptText.{ScriptText}
 use Rattle.model_text.specs.declared.fault.ModelTextFault.{ModelTextFault}
@@ -99,9 +100,19 @@ with_cube parts cube = record parts { cubes = parts.cubes ++ cube ∷ [] }
 abbrev pub with_script : Parts → ScriptText → Parts
 with_script parts script = record parts { scripts = parts.scripts ++ script ∷ [] }
 
-abbrev pub with_end : Parts → Option (ℕ × List ℕ) → Option (ℕ × OrderLine) → Current → Given
+-- an order line with these positions, in a text of this version
+abbrev pub order_of : ℕ → Option (ℕ × List OrderWord) → Option (ℕ × OrderLine)
+order_of version None = None
+order_of version (Some order) = Some (order.0, record { version = version; words = order.1 })
+
+-- a whole cube, with the dimensions so far
+abbrev pub cube_of : Parts → ℕ → List ℕ → List ℕ → Option (ℕ × List ℕ) → Option (ℕ × List OrderWord) → CubeText
+cube_of parts line shown dims rules order =
+    record { line = line; name = shown; dims = dims; rules = rules; order = order_of parts.version order }
+
+abbrev pub with_end : Parts → Option (ℕ × List ℕ) → Option (ℕ × List OrderWord) → Current → Given
 with_end parts rules order (CubeOpen line shown dims) =
-    at (with_cube parts (record { line = line; name = shown; dims = dims; rules = rules; order = order })) Nothing
+    at (with_cube parts (cube_of parts line shown dims rules order)) Nothing
 with_end parts rules order other = at parts other
 
 -- a `;`
@@ -114,7 +125,7 @@ closed parts other = at parts other
 -- one more piece: what it adds, or why it is refused and on which line
 abbrev pub gathered : Given → Piece → Result Given ModelTextFault
 gathered g (Version line number) =
-    if number == 1 then Ok (at (record g.parts { version = number }) g.current) else refused line causes.WrongVersion
+    if is_version number then Ok (at (record g.parts { version = number }) g.current) else refused line causes.WrongVersion
 gathered g Closing = Ok (closed g.parts g.current)
 gathered g (DimensionWord line) = unless (dimensions_are_full g.parts) line causes.TooMany g.parts (DimensionDue line)
 gathered g (CubeWord line) = unless (cubes_are_full g.parts) line causes.TooMany g.parts (CubeDue line)

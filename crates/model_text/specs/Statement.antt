@@ -5,7 +5,6 @@ use Rattle.grammar.specs.Grammar.{Grammar, done, one, either, many, ◌>>=◌, �
 use Rattle.grammar.specs.Lists.{listed}
 use Rattle.grammar.specs.Tokens.{sign, word, whole, name, text, file, located}
 use Rattle.dim_text.specs.Statement.{unit, body}
-use Rattle.model_text.specs.declared.order.OrderLine.{OrderLine}
 use Rattle.model_text.specs.declared.order.OrderWord.{OrderWord}
 use Rattle.model_text.specs.declared.order.OrderWord.TheVariants as words
 
@@ -22,8 +21,8 @@ pub data Piece : Type 0 where
   QuotedText : ℕ → List ℕ → Piece
   -- the name of one more dimension of a cube, with its line
   CubeDimension : ℕ → List ℕ → Piece
-  -- the rest of a cube: its rule file and its order line, each with the line of its word
-  CubeEnd : Option (ℕ × List ℕ) → Option (ℕ × OrderLine) → Piece
+  -- the rest of a cube: its rule file and the positions of its order line, each with the line of its word
+  CubeEnd : Option (ℕ × List ℕ) → Option (ℕ × List OrderWord) → Piece
 
 -- "MODEL" whole
 abbrev pub version : Grammar Lexeme Piece
@@ -131,19 +130,16 @@ position = either constant index
 abbrev pub position_list : Grammar Lexeme (List OrderWord)
 position_list = listed position position
 
-abbrev pub line_of : List OrderWord → OrderLine
-line_of list = record { words = list }
-
 -- "ORDER" position { "," position } ";"
-abbrev pub order_line : Grammar Lexeme (Option (ℕ × OrderLine))
+abbrev pub order_line : Grammar Lexeme (Option (ℕ × List OrderWord))
 order_line = do
   line ← one (word (codes "ORDER"))
   list ← position_list
   one (sign (codes ";"))
-  done (Some (line, line_of list))
+  done (Some (line, list))
 
 -- [ "ORDER" position { "," position } ";" ]
-abbrev pub order : Grammar Lexeme (Option (ℕ × OrderLine))
+abbrev pub order : Grammar Lexeme (Option (ℕ × List OrderWord))
 order = either order_line (done None)
 
 -- ")" ";" [ "RULES" file ";" ] [ "ORDER" position { "," position } ";" ] "END" ";"

@@ -3,7 +3,6 @@ use Rattle.std.specs.Prelude.{ℕ, ◌<◌, ◌^◌, List, length, IfSome, IsTru
 use Rattle.dim_name.specs.Name.{is_name}
 use Rattle.cube_lex.specs.Written.{IsQuotable}
 use Rattle.grammar.specs.Tokens.{is_file}
-use Rattle.model_text.specs.declared.order.OrderLine.{OrderLine}
 use Rattle.model_text.specs.declared.order.OrderWord.{OrderWord}
 use Rattle.model_text.specs.declared.order.OrderWord.TheVariants as words
 use Rattle.model_text.specs.declared.parts.CubeText.{CubeText}
@@ -25,14 +24,14 @@ IsWritableWord (words.Constant n) = n < 2 ^ 31
 IsWritableWord (words.Index shown) = IsNameText shown
 IsWritableWord (words.Ranks shown list) = IsNameText shown × (0 < length list) × All IsWritableRank list
 
-abbrev pub IsWritableOrder : OrderLine → Type 0
-IsWritableOrder order = (0 < length order.words) × All IsWritableWord order.words
+abbrev pub IsWritableOrder : List OrderWord → Type 0
+IsWritableOrder list = (0 < length list) × All IsWritableWord list
 
 pub record IsWritableCube (cube : CubeText) : Type 0 where
   pub name : IsNameText cube.name
   pub dims : 0 < length cube.dims
   pub rules : IfSome cube.rules (λ rules. IsFileText rules.1)
-  pub order : IfSome cube.order (λ order. IsWritableOrder order.1)
+  pub order : IfSome cube.order (λ order. IsWritableOrder order.1.words)
 
 pub record IsWritableScript (script : ScriptText) : Type 0 where
   pub name : IsNameText script.name

@@ -119,7 +119,7 @@ fn write_end(
     order: &Option<(u32, OrderLine)>,
 ) -> Result<(), AllocError>
     requires rules { IfSome rules.now (λ r. IsFileText r.1) }
-    requires order { IfSome order.now (λ o. IsWritableOrder o.1) }
+    requires order { IfSome order.now (λ o. IsWritableOrder o.1.words) }
     ensures { OnOk result (Writes out.old.items out.new.items (cube_end_spelled rules.now order.now)) }
 {
     write_line(alloc, out, &[Piece::Sign(b")"), Piece::Sign(b";")])?;

@@ -8,7 +8,7 @@ ghost use Rattle.model_text.specs.Readers.Views.{LeadsTo, Collects, GathersDimen
 ghost use Rattle.model_text.specs.Writable.{IsNameText};
 
 use crate::fault::{ModelTextCause, ModelTextFault, refused};
-use crate::order_line::cube_end_at;
+use crate::order_line::{cube_end_at, order_of};
 use crate::partial::PartialModel;
 use crate::parts::CubeText;
 use crate::pieces::dimension_behind;
@@ -135,6 +135,7 @@ fn cube_at(
     let dims = dimensions_at(alloc, cursor, partial)?;
     let (rules, order) = cube_end_at(alloc, cursor)?;
     let dims = ListOf::new(dims);
+    let order = order_of(partial.version(), order);
     partial.add_cube(CubeText {
         line,
         name,

@@ -17,7 +17,7 @@ pub enum ModelTextCause {
     /// The line has the first token with which the tokens so far begin no model text; a lexical fault counts as such a
     /// token. Where all tokens begin one but are none, it is the line of the text's end.
     Syntax,
-    /// The version isn't 1. The line is the number's.
+    /// The version is neither 1 nor 2. The line is the number's.
     WrongVersion,
     /// A second dimension, cube or script of a name, or a dimension twice in one cube, on the line of the second
     /// naming.

@@ -42,7 +42,7 @@ impl ModelText {
         }
     }
 
-    /// The version of the text, which is 1.
+    /// The version of the text, 1 or 2. Its order lines have the same.
     pub fn version(&self) -> u32
         ensures version { result ≡ self.now.version }
         ensures valid { IsContents self.now }

@@ -1,9 +1,12 @@
 use dim_name::Name;
 use lists::ListOf;
 
-/// The `ORDER` line of a cube, as it is written: its positions in order. Names aren't looked up yet.
+/// The `ORDER` line of a cube, as it is written. Names aren't looked up yet.
 #[derive(Debug, Drop)]
 pub struct OrderLine {
+    /// The version of the model text in which it stands, 1 or 2.
+    pub version: u32,
+    /// Its positions in order, one at least.
     pub words: ListOf<OrderWord>,
 }
 

@@ -1,5 +1,6 @@
 ghost use Rattle.std.specs.Prelude.{◌≡◌, codes};
 ghost use Rattle.grammar.specs.Cursor.{lexemes, Reads};
+ghost use Rattle.model_text.specs.Gathering as gathering;
 ghost use Rattle.model_text.specs.Readers.Reading as reading;
 ghost use Rattle.model_text.specs.Statement.{CubeEnd};
 
@@ -98,26 +99,26 @@ impl Item<OrderWord, ModelTextFault, Unwatched> for Position {
     }
 }
 
-/// Reads the order line of a cube, if there is one: `ORDER position { , position } ;`.
+/// Reads the order line of a cube, if there is one, and gives its positions: `ORDER position { , position } ;`.
 #[tactic(auto, unfolding(crate::specs::Readers::Reading::read_order))]
 fn order_at(
     alloc: Global,
     cursor: &mut Cursor<'_, Unwatched>,
-) -> Result<Option<(u32, OrderLine)>, Stop<ModelTextFault>>
+) -> Result<Option<(u32, ListOf<OrderWord>)>, Stop<ModelTextFault>>
     ensures { Reads (λ order. order) reading.read_order cursor.old result cursor.new }
 {
     if word_comes(cursor, b"ORDER") {
         let line = word(cursor, b"ORDER")?;
         let words = listed(alloc, cursor, &Position)?;
         sign(cursor, b";")?;
-        Ok(Some((line, OrderLine { words })))
+        Ok(Some((line, words)))
     } else {
         Ok(None)
     }
 }
 
-/// The rule file of a cube and its order line, where they are given, each with the line of its word.
-pub type CubeEnd = (Option<(u32, ListOf<u8>)>, Option<(u32, OrderLine)>);
+/// The rule file of a cube and the positions of its order line, where they are given, each with the line of its word.
+pub type CubeEnd = (Option<(u32, ListOf<u8>)>, Option<(u32, ListOf<OrderWord>)>);
 
 /// Reads the rest of a cube, from the `)` behind its dimensions on.
 #[tactic(auto, unfolding(crate::specs::Readers::Reading::read_cube_end))]
@@ -134,4 +135,14 @@ pub fn cube_end_at(
     word(cursor, b"END")?;
     sign(cursor, b";")?;
     Ok((rules, order))
+}
+
+/// The order line of a cube, where its positions are given, in a text of this version.
+pub fn order_of(version: u32, order: Option<(u32, ListOf<OrderWord>)>) -> Option<(u32, OrderLine)>
+    ensures { result ≡ gathering.order_of version order }
+{
+    match order {
+        Some((line, words)) => Some((line, OrderLine { version, words })),
+        None => None,
+    }
 }

@@ -158,7 +158,7 @@ pub fn write_order(
     out: &mut Vec<u8>,
     order: &Option<(u32, OrderLine)>,
 ) -> Result<(), AllocError>
-    requires { IfSome order.now (λ o. IsWritableOrder o.1) }
+    requires { IfSome order.now (λ o. IsWritableOrder o.1.words) }
     ensures { OnOk result (Writes out.old.items out.new.items (order_spelled order.now)) }
 {
     match order {

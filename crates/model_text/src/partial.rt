@@ -1,6 +1,6 @@
 ghost use Rattle.std.specs.Prelude.{◌≡◌, ◌<◌, [], length, OnOk, OnErr, IfSome, All};
 ghost use Rattle.dim_name.specs.Name.{place_of};
-ghost use Rattle.model_text.specs.Contents.{dimensions_limit};
+ghost use Rattle.model_text.specs.Contents.{dimensions_limit, IsOrderedIn};
 ghost use Rattle.model_text.specs.Gathering as gathering;
 ghost use Rattle.model_text.specs.Gathering.{with_name, with_cube, with_script};
 ghost use Rattle.model_text.specs.Readers.Sections as sections;
@@ -33,7 +33,7 @@ pub struct PartialModel {
 
 impl Model for PartialModel {
     ghost use Rattle.std.specs.Prelude.{◌≤◌, length, All};
-    ghost use Rattle.model_text.specs.Contents.{dimensions_limit};
+    ghost use Rattle.model_text.specs.Contents.{dimensions_limit, IsOrderedIn};
     ghost use Rattle.model_text.specs.Gathering.{Parts};
     ghost use Rattle.model_text.specs.Writable.{IsWritableCube, IsWritableScript};
 
@@ -47,6 +47,7 @@ impl Model for PartialModel {
     } };
 
     ghost invariant = { λ p. (length p.names.items ≤ dimensions_limit)
+        × All (IsOrderedIn p.version) p.cubes.items
         × All IsWritableCube p.cubes.items × All IsWritableScript p.scripts.items };
 }
 
@@ -71,6 +72,13 @@ impl PartialModel {
             cubes: Vec::new(alloc),
             scripts: Vec::new(alloc),
         }
+    }
+
+    /// The version of the text.
+    pub fn version(&self) -> u32
+        ensures { result ≡ self.now.version }
+    {
+        self.version
     }
 
     /// Whether a further statement in this section would be one too many.
@@ -135,7 +143,8 @@ impl PartialModel {
 
     /// Takes a further cube.
     pub fn add_cube(&mut self, cube: CubeText) -> Result<(), AllocError>
-        requires { IsWritableCube cube }
+        requires writable { IsWritableCube cube }
+        requires ordered { IsOrderedIn self.old.version cube }
         ensures ok { OnOk result (self.new ≡ with_cube self.old cube) }
         ensures err { OnErr result (self.new ≡ self.old) }
     {
@@ -158,6 +167,7 @@ impl PartialModel {
         ensures version { result.0 ≡ self.version }
         ensures cubes { result.1.items ≡ self.cubes }
         ensures scripts { result.2.items ≡ self.scripts }
+        ensures cube_orders { All (IsOrderedIn self.version) self.cubes }
         ensures writable_cubes { All IsWritableCube self.cubes }
         ensures writable_scripts { All IsWritableScript self.scripts }
     {

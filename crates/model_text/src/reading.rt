@@ -1,7 +1,8 @@
-ghost use Rattle.std.specs.Prelude.{◌≡◌, [], IfOk, All};
+ghost use Rattle.std.specs.Prelude.{◌≡◌, [], IfOk, IsTrue, All};
 ghost use Rattle.cube_lex.specs.Lexed.{IsWellFormed};
 ghost use Rattle.dim_text.specs.Readers.Views.{ahead};
 ghost use Rattle.model_text.specs.Answers.{Answers};
+ghost use Rattle.model_text.specs.Contents as contents;
 ghost use Rattle.model_text.specs.Contents.{dimension_names};
 ghost use Rattle.model_text.specs.Readers.Reading as reading;
 ghost use Rattle.model_text.specs.Readers.Views.{Collects, GivesBlocks, fault_from};
@@ -19,15 +20,22 @@ use dim_text::DimText;
 use grammar::{Cursor, Stop, TextFault, Unwatched, answer_of_text};
 use std::alloc::Global;
 
-// Reads `MODEL whole`, where the number is 1.
+// Whether there are texts of this version.
+fn is_version(number: u32) -> bool
+    ensures { result ≡ contents.is_version number }
+{
+    number == 1 || number == 2
+}
+
+// Reads `MODEL whole`, where there are texts of that version.
 #[tactic(auto, unfolding(crate::specs::Readers::Reading::gather_version))]
 fn number_at(cursor: &mut Cursor<'_, Unwatched>) -> Result<u32, Stop<ModelTextFault>>
     ensures read { Collects reading.gather_version no_parts (λ version. record no_parts { version = version })
         cursor.old result cursor.new }
-    ensures one { IfOk result (λ version. version ≡ 1) }
+    ensures known { IfOk result (λ version. IsTrue (contents.is_version version)) }
 {
     let (line, version) = version_at(cursor)?;
-    if version != 1 {
+    if !is_version(version) {
         return Err(refused(line, ModelTextCause::WrongVersion));
     }
     Ok(version)
@@ -40,7 +48,7 @@ fn opening_at(
     cursor: &mut Cursor<'_, Unwatched>,
 ) -> Result<PartialModel, Stop<ModelTextFault>>
     ensures read { Collects reading.read_opening no_parts (λ partial. partial) cursor.old result cursor.new }
-    ensures begun { IfOk result (λ partial. (partial.version ≡ 1) × (partial.names ≡ [])) }
+    ensures begun { IfOk result (λ partial. IsTrue (contents.is_version partial.version) × (partial.names ≡ [])) }
 {
     let version = number_at(cursor)?;
     closing_at(cursor)?;
@@ -55,7 +63,7 @@ fn model_at(
     requires { All IsWellFormed (ahead cursor.old) }
     ensures read { GivesBlocks (λ x. x.0.items) (λ x. x.1) result (ahead cursor.new)
         (reading.read_model nothing_seen (ahead cursor.old)) }
-    ensures version { IfOk result (λ x. x.1.version ≡ 1) }
+    ensures version { IfOk result (λ x. IsTrue (contents.is_version x.1.version)) }
     ensures names { IfOk result (λ x. x.1.names ≡ dimension_names x.0.items) }
 {
     let mut partial = opening_at(alloc, cursor)?;

@@ -48,7 +48,10 @@ fn add_cube(out: &mut String, cube: &CubeText) -> Result<(), AllocError> {
         add_line(out, &(*line, "RULES", shown(file.as_slice())))?;
     }
     match &cube.order {
-        Some((line, order)) => add_line(out, &(*line, "ORDER", order.words.as_slice().len())),
+        Some((line, order)) => add_line(
+            out,
+            &(*line, "ORDER", order.version, order.words.as_slice().len()),
+        ),
         None => Ok(()),
     }
 }

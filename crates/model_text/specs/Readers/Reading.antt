@@ -10,10 +10,9 @@ use Rattle.grammar.specs.declared.cursor.Unwatched.{Unwatched}
 use Rattle.dim_text.specs.Progress.{Progress}
 use Rattle.dim_text.specs.Readers.Reading.{read_body}
 use Rattle.model_text.specs.Statement.{Piece, Version, Closing, DimensionWord, CubeWord, ScriptWord, QuotedText}
-use Rattle.model_text.specs.Statement.{CubeDimension, CubeEnd, line_of}
+use Rattle.model_text.specs.Statement.{CubeDimension, CubeEnd}
 use Rattle.model_text.specs.Gathering.{Given, gathered}
 use Rattle.model_text.specs.Watching.{Seen, with_given, head_of, with_block, of_block}
-use Rattle.model_text.specs.declared.order.OrderLine.{OrderLine}
 use Rattle.model_text.specs.declared.order.OrderWord.{OrderWord}
 use Rattle.model_text.specs.declared.order.OrderWord.TheVariants as words
 use Rattle.model_text.specs.declared.fault.ModelTextFault.{ModelTextFault}
@@ -98,13 +97,13 @@ read_position = choose is_number
       shown ← take_one unscanned name
       read_ranks shown)
 
-unfoldable pub read_order : Plain (Option (ℕ × OrderLine))
+unfoldable pub read_order : Plain (Option (ℕ × List OrderWord))
 read_order = choose (is_word (codes "ORDER"))
     (do
       line ← take_one unscanned (word (codes "ORDER"))
       list ← read_listed unscanned read_position
       take_one unscanned (sign (codes ";"))
-      gives (Some (line, line_of list)))
+      gives (Some (line, list)))
     (gives None)
 
 unfoldable pub read_cube_end : Plain Piece

@@ -12,7 +12,7 @@ new-requires c =
     rw (c.into_parts-version.ensures.version, c.into_parts-version.ensures.cubes, c.into_parts-version.ensures.scripts)
     ((answer_ok (λ x. x.0.items) (λ x. x.1) c.args.text.now c.in-Ok.tokens c.in-Ok.fault c.model_at-model.result (lexemes c.model_at-model.new.cursor.tokens.now) (c.in-Ok-answer_of_text.dims, c.in-Ok-answer_of_text.partial) c.in-Ok.ensures.found
     (subst (λ ts. GivesBlocks (λ x. x.0.items) (λ x. x.1) c.model_at-model.result (lexemes c.model_at-model.new.cursor.tokens.now) (read_model nothing_seen ts)) same c.model_at-model.ensures.read)
-    c.model_at-model.ensures.version c.model_at-model.ensures.names (c.into_parts-version.ensures.writable_cubes, c.into_parts-version.ensures.writable_scripts) c.in-Ok-answer_of_text.ensures).1)
+    c.model_at-model.ensures.version c.model_at-model.ensures.names (c.into_parts-version.ensures.cube_orders, c.into_parts-version.ensures.writable_cubes, c.into_parts-version.ensures.writable_scripts) c.in-Ok-answer_of_text.ensures).1)
 
 pub returns-in-Ok-answer_of_text : goal.returns-in-Ok-answer_of_text
 returns-in-Ok-answer_of_text c =
@@ -20,7 +20,7 @@ returns-in-Ok-answer_of_text c =
     rw (c.new.ensures, c.into_parts-version.ensures.version, c.into_parts-version.ensures.cubes, c.into_parts-version.ensures.scripts)
     ((answer_ok (λ x. x.0.items) (λ x. x.1) c.args.text.now c.in-Ok.tokens c.in-Ok.fault c.model_at-model.result (lexemes c.model_at-model.new.cursor.tokens.now) (c.in-Ok-answer_of_text.dims, c.in-Ok-answer_of_text.partial) c.in-Ok.ensures.found
     (subst (λ ts. GivesBlocks (λ x. x.0.items) (λ x. x.1) c.model_at-model.result (lexemes c.model_at-model.new.cursor.tokens.now) (read_model nothing_seen ts)) same c.model_at-model.ensures.read)
-    c.model_at-model.ensures.version c.model_at-model.ensures.names (c.into_parts-version.ensures.writable_cubes, c.into_parts-version.ensures.writable_scripts) c.in-Ok-answer_of_text.ensures).0)
+    c.model_at-model.ensures.version c.model_at-model.ensures.names (c.into_parts-version.ensures.cube_orders, c.into_parts-version.ensures.writable_cubes, c.into_parts-version.ensures.writable_scripts) c.in-Ok-answer_of_text.ensures).0)
 
 pub returns : goal.returns
 returns c =
