@@ -1,0 +1,55 @@
+use crate::files::Files;
+use crate::models::{accepted, rules_of};
+use crate::refusal::Refusal;
+use case_lines::{Texts, write_answer};
+use std::alloc::{AllocError, Global};
+
+/// The cases with their answers.
+pub fn answered(alloc: Global, cases: &str) -> Result<Vec<u8>, AllocError> {
+    let mut texts = Texts::new(alloc);
+    let mut written = Vec::new(alloc);
+    for case in cases.trim_end_matches('\n').split("\n\n") {
+        let case = case.trim_matches('\n');
+        written.extend_from_slice(case.as_bytes())?;
+        written.push(b'\n')?;
+        if let Some(answer) = answer_to(alloc, &mut texts, case)? {
+            write_answer(&mut written, answer.as_bytes())?;
+        }
+        written.push(b'\n')?;
+    }
+    Ok(written)
+}
+
+// The answer to a case, where it has one. The text of a case `text: NAME` gets that name.
+fn answer_to(alloc: Global, texts: &mut Texts, case: &str) -> Result<Option<String>, AllocError> {
+    if case.starts_with('#') {
+        return Ok(None);
+    }
+    let (heading, lines) = case.split_once('\n').unwrap_or((case, ""));
+    if let Some(name) = heading.strip_prefix("text: ") {
+        let Some(text) = texts.text_of(alloc, lines)? else {
+            return unread(alloc);
+        };
+        texts.name(alloc, name, text)?;
+        return Ok(None);
+    }
+    let Some(files) = Files::of(alloc, texts, lines)? else {
+        return unread(alloc);
+    };
+    match answer_of(alloc, &files) {
+        Ok(answer) => Ok(Some(answer)),
+        Err(Refusal::Told(answer)) => Ok(Some(answer)),
+        Err(Refusal::Memory) => Err(AllocError),
+    }
+}
+
+fn unread(alloc: Global) -> Result<Option<String>, AllocError> {
+    Ok(Some(String::from_str(alloc, "a line of this case is none of a text")?))
+}
+
+// What is told of the rules of these files.
+fn answer_of(alloc: Global, files: &Files) -> Result<String, Refusal> {
+    let rules = rules_of(alloc, files)?;
+    let told = accepted(alloc, &rules)?;
+    Ok(told)
+}

@@ -1,0 +1,36 @@
+//! Cases of rules: what is bound or refused, in which order cells are evaluated, and the values that the rule equations
+//! give. `stdin` holds the cases and `stdout` what must come; a case costs its run alone, and no proof.
+//!
+//! A case is a heading, its files, and an empty line:
+//!
+//! ```text
+//! rules: a product of two cells        KIND: TITLE
+//! file model                           the model text, of the lines that follow
+//! +plan                                the lines of the text that is named `plan`
+//! file rules                           the rules of the first cube; `file rules 2` those of the second
+//! |['Sales'] = N: 1;                   a line, with its line end
+//! file user                            PUT and GET commands
+//! |GET 'Plan' ('Actual', 'Q1', 'Sales');
+//! ```
+//!
+//! Lines of a file are those of [`case_lines::spell`]. A case `text: NAME` gives its lines a name, for later cases. Lines
+//! that begin with `#` head a section.
+//!
+//! The program writes each case again, and behind it the answer, each line of it behind `> `: the first refusal, or how
+//! many statements and feeders were bound, and then for each command whether its number is stored, or the value.
+#![tactic(auto)]
+
+mod cases;
+mod files;
+mod models;
+mod refusal;
+
+use crate::cases::answered;
+use std::io;
+use std::io::Write;
+
+fn main(rt: HostRuntime) -> io::Result<()> {
+    let cases = io::read_to_string(rt.alloc(), rt.reader())?;
+    let answers = answered(rt.alloc(), &cases)?;
+    io::writer(&rt).write_all(&answers)
+}
