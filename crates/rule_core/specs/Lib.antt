@@ -1,0 +1,9 @@
+pub use Rattle.rule_model.specs.BoundModel
+pub use Rattle.rule_model.specs.Weights
+pub use Rattle.rule_model.specs.Named
+pub use Rattle.rule_model.specs.Areas
+pub use Rattle.rule_model.specs.Targets
+pub use Rattle.rule_model.specs.Order
+pub use Rattle.rule_model.specs.Conditions
+pub use Rattle.rule_model.specs.System
+pub use Rattle.rule_model.specs.Governing

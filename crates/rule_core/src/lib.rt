@@ -1,0 +1,12 @@
+//! The bound model and what its rules give: what crates above use of `rule_model`.
+//!
+//! [`Model`] is the bound model, whose cells [`cell_of`] finds by name; [`governing`] and [`governing_after`] say which
+//! statements give a cell its value, [`target`] which cell a reference names, [`weight`] how much a leaf cell counts,
+//! and [`is_input`] where a number can be stored.
+#![tactic(auto)]
+
+pub use rule_model::{
+    Area, Arg, CubeRules, ElementMap, Feeder, Form, Formula, Fun, MAX_WEIGHT_PRODUCT, Model, Op,
+    Order, Position, Reference, Rel, Statement, Truth, cell_of, governing, governing_after,
+    is_input, target, weight,
+};
