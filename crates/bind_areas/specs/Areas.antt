@@ -1,5 +1,6 @@
 -- The cells that the entries of an area speak of, and the cell that a bracket names.
-use Rattle.std.specs.Prelude.{ℕ, ◌+◌, ◌==◌, Bool, true, ◌&&◌, if◌then◌else◌, List, [], ◌∷◌, ◌++◌, length, map, filter, position, filter_map}
+use Rattle.std.specs.Prelude.{ℕ, ◌+◌, ◌==◌, Bool, true, ◌&&◌, if◌then◌else◌, List}
+use Rattle.std.specs.Prelude.{[], ◌∷◌, ◌++◌, length, map, filter, position, filter_map}
 use Rattle.std.specs.Prelude.{Option, Some, None, option_map, option_and_then, is_some, slice_get, Ok, Err}
 use Rattle.std.specs.List.{list_all, list_any, range_with_len}
 use Rattle.dim_name.specs.Name.{is_same_name}

@@ -1,5 +1,5 @@
 -- Lists that are bound item by item.
-use Rattle.std.proofs.Common.{◌≡◌, List, [], ◌∷◌, ◌++◌, Result, Ok, Err, refl, sym, ap, ◌∙◌, append_assoc, append-nil}
+use Rattle.std.proofs.Common.{◌≡◌, List, [], ◌∷◌, ◌++◌, Result, Ok, Err, refl, sym, ap, append_assoc}
 use Rattle.bind_areas.specs.Meaning.{◌>>=◌}
 
 -- what is bound so far, before what is still to be bound

@@ -1,5 +1,5 @@
 -- What a formula means: as a value, by where it stands, and as a truth.
-use Rattle.std.specs.Prelude.{ℕ, List, [], ◌∷◌, map, Ok, Err}
+use Rattle.std.specs.Prelude.{ℕ, List, [], ◌∷◌, map, Err}
 use Rattle.cube_space.specs.Layout.{Layout}
 use Rattle.rule_laws.specs.declared.formula.Formula.{Formula}
 use Rattle.rule_laws.specs.declared.formula.Formula.TheVariants as formulas

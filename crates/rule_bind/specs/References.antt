@@ -1,5 +1,6 @@
 -- What a DB names, and the dimension of a ConsolidateChildren.
-use Rattle.std.specs.Prelude.{ℕ, ◌==◌, List, [], ◌∷◌, length, Option, Some, None, Result, Ok, Err, option_and_then, ok_or, if◌then◌else◌}
+use Rattle.std.specs.Prelude.{ℕ, ◌==◌, List, [], ◌∷◌, length, Option}
+use Rattle.std.specs.Prelude.{Some, None, Result, Ok, Err, option_and_then, ok_or, if◌then◌else◌}
 use Rattle.dim_name.specs.Name.{place_of}
 use Rattle.cube_space.specs.Layout.{Layout, dims_of, axes, cube_names}
 use Rattle.rule_laws.specs.declared.reference.Arg.{Arg}

@@ -7,7 +7,7 @@ use Rattle.bind_arguments.specs.Bound.{name_in, dimension_at}
 use Rattle.bind_arguments.specs.Argument.{IsAnsweredBy}
 use Rattle.bind_arguments.specs.declared.fault.ArgumentFault.TheVariants.{UnknownName}
 use Rattle.bind_arguments.proofs.Parts.{part_text, not_text}
-use Rattle.bind_arguments.proofs.Tables.{argument_answered, argument_refused, argument_text, bound_arg, followed_low, cube_dims}
+use Rattle.bind_arguments.proofs.Tables.{argument_answered, argument_refused, argument_text, text_arg, bound_arg, followed_low, cube_dims}
 use Rattle.bind_arguments.proofs.argument.bind_argument.Goals as goal
 
 pub returns-in_err-argument-in_default : goal.returns-in_err-argument-in_default
@@ -31,3 +31,8 @@ returns-in_ok-arg-in_default c =
       arg = bound_arg c.args.space.now c.args.cube c.args.dim (subst (λ n. 0 < n) (sym known.sized) known.some) c.in_ok-argument-in_default.argument c.in_ok-arg-in_default.arg c.in_ok-arg-in_default.ensures
           (λ place is. subst (λ n. place < n) (sym known.sized) (followed_low c.args.space.now c.args.cube c.in_ok-argument-in_default.argument place is c.in_ok-argument-in_default.ensures.within));
     }
+
+pub returns-in-Text-clause-arg : goal.returns-in-Text-clause-arg
+returns-in-Text-clause-arg c =
+    let known = cube_dims c.args.space.now c.args.cube c.size-cells.ensures.valid c.requires.cube in
+    text_arg c.args.space.now c.args.cube c.args.dim (subst (λ n. 0 < n) (sym known.sized) known.some) (name_in c.as_slice.result.now) c.bind_text.result c.bind_text.ensures
