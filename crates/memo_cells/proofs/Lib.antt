@@ -1,0 +1,4 @@
+mod Words
+mod Keeps
+mod Growth
+mod Tells

@@ -1,0 +1,4 @@
+pub mod Values
+pub mod Knowledge
+pub mod Seats
+pub mod Inside

@@ -1,0 +1,28 @@
+//! Values of cells that are kept with a version, without a lock, for all who read that version.
+//!
+//! - [`Version`] is what the values are of: a version's number, its model and what is stored.
+//! - [`Memo`] has the values, and a [`MemoSeat`] is one reader's place at it. [`Memo::look`] looks for a cell's value,
+//!   [`Memo::keep`] keeps one, [`Memo::split`] makes a seat for another reader, and [`Memo::join`] takes one back.
+//! - [`Look`] and [`Kept`] are what the two answer.
+//!
+//! A memo has a fixed count of slots. Each cell falls into one of them, by its number, and each slot has the value of
+//! one cell, the first that is kept there, for as long as the memo lasts. So a memo takes no memory once it is made,
+//! and no call waits for another reader.
+//!
+//! Contracts speak of what a seat knows, `specs/Knowledge.antt`, and of the values on a version, `specs/Values.antt`.
+#![tactic(auto)]
+
+pub use answers::{Kept, Look};
+pub use memo::Memo;
+pub use seat::MemoSeat;
+pub use version::Version;
+
+mod answers;
+mod coding;
+mod looks;
+mod memo;
+mod plays;
+mod seat;
+mod seats;
+mod steps;
+mod version;

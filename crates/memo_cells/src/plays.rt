@@ -1,0 +1,57 @@
+//! The rule of the table, and what each kind of step tells.
+use crate::seat::View;
+use crate::version::About;
+use atomic_table::{Join, Play, Split, TableRule};
+
+pub struct MemoRule;
+
+impl TableRule<(), View, About> for MemoRule {
+    ghost use Rattle.memo_cells.specs.Inside.Rule.{IsMemo, newcomer};
+
+    ghost holds = { IsMemo };
+
+    ghost first = { newcomer };
+}
+
+pub(crate) struct Loads;
+
+impl Play<(), View> for Loads {
+    ghost use Rattle.memo_cells.specs.Inside.Plays.{loads};
+
+    ghost then = { loads };
+}
+
+pub(crate) struct Claims;
+
+impl Play<(), View> for Claims {
+    ghost use Rattle.memo_cells.specs.Inside.Plays.{claims};
+
+    ghost then = { claims };
+}
+
+pub(crate) struct Puts;
+
+impl Play<(), View> for Puts {
+    ghost use Rattle.memo_cells.specs.Inside.Plays.{puts};
+
+    ghost then = { puts };
+}
+
+pub(crate) struct Meets;
+
+impl Split<View> for Meets {
+    ghost use Rattle.memo_cells.specs.Inside.Plays.{another};
+
+    ghost left = { λ v. v };
+
+    ghost right = { another };
+}
+
+impl Join<View> for Meets {
+    ghost use Rattle.memo_cells.specs.Inside.Plays.{together};
+    ghost use Rattle.memo_cells.specs.Inside.Rule.{nobody};
+
+    ghost both = { together };
+
+    ghost spent = { nobody };
+}
