@@ -77,8 +77,8 @@ pub grew-kept : (v w x : View) (at key found place value there : ℕ) → w ≡ 
     → x ≡ after_put w place value there → Grew (known_by v) (known_by x)
 grew-kept v w x at key found place value there claim put =
     grew-longer v x (longer-then v w x
-        (subst (Longer v) (sym claim) (longer-claim v at key found))
-        (subst (Longer w) (sym put) (longer-put w place value there)))
+    (subst (Longer v) (sym claim) (longer-claim v at key found))
+    (subst (Longer w) (sym put) (longer-put w place value there)))
 
 times-append : (x : ℕ) (xs ys : List ℕ) → times x (xs ++ ys) ≡ times x xs + times x ys
 times-append x [] ys = omega arith
@@ -87,21 +87,21 @@ times-append x (y ∷ xs) ys = let later = times-append x xs ys in omega arith
 pub grew-own : (v w x : View) → x ≡ together v w → Grew (known_by v) (known_by x)
 grew-own v w x is =
     subst (λ (x : View). Grew (known_by v) (known_by x)) (sym is)
-        (grew-longer v (together v w)
-            record {
-              slots = refl;
-              word = λ i word has. list_any-append _ v.known w.known ∙ or_left _ _ has;
-              more = λ i has. list_any-append _ v.known w.known ∙ or_left _ _ has;
-              zeros = λ i. let e = times-append i v.zeros w.zeros in omega arith;
-            })
+    (grew-longer v (together v w)
+    record {
+      slots = refl;
+      word = λ i word has. list_any-append _ v.known w.known ∙ or_left _ _ has;
+      more = λ i has. list_any-append _ v.known w.known ∙ or_left _ _ has;
+      zeros = λ i. let e = times-append i v.zeros w.zeros in omega arith;
+    })
 
 pub grew-other : (v w x : View) → w.slots ≡ v.slots → x ≡ together v w → Grew (known_by w) (known_by x)
 grew-other v w x slots is =
     subst (λ (x : View). Grew (known_by w) (known_by x)) (sym is)
-        (grew-longer w (together v w)
-            record {
-              slots = slots;
-              word = λ i word has. list_any-append _ v.known w.known ∙ or_right _ _ has;
-              more = λ i has. list_any-append _ v.known w.known ∙ or_right _ _ has;
-              zeros = λ i. let e = times-append i v.zeros w.zeros in omega arith;
-            })
+    (grew-longer w (together v w)
+    record {
+      slots = slots;
+      word = λ i word has. list_any-append _ v.known w.known ∙ or_right _ _ has;
+      more = λ i has. list_any-append _ v.known w.known ∙ or_right _ _ has;
+      zeros = λ i. let e = times-append i v.zeros w.zeros in omega arith;
+    })

@@ -57,9 +57,9 @@ moved about s at n id me w memo grows holds fits =
       slots = holds;
       views = λ seat view version is live.
           ⊎_elim
-              (λ here. subst (Fits about (set s.words at n)) here.1 fits)
-              (λ there. fits-grows about s.words (set s.words at n) view grows (memo.views seat view version there.1 live))
-              (at_set s.views id seat w view is);
+          (λ here. subst (Fits about (set s.words at n)) here.1 fits)
+          (λ there. fits-grows about s.words (set s.words at n) view grows (memo.views seat view version there.1 live))
+          (at_set s.views id seat w view is);
     }
 
 -- the same where the word stays
@@ -68,20 +68,19 @@ stayed : (about : About) (s : St) (at id : ℕ) (me : Sitting) (w : View) → Is
 stayed about s at id me w memo fits =
     let same = sym (set-get_or s.words at 0) in
     moved about s at (get_or s.words at 0) id me w memo
-        (λ i more. ap (λ (ws : List ℕ). get_or ws i 0) (sym same))
-        (subst (HoldSlots about) same memo.slots)
-        (subst (λ (ws : List ℕ). Fits about ws w) same fits)
+    (λ i more. ap (λ (ws : List ℕ). get_or ws i 0) (sym same))
+    (subst (HoldSlots about) same memo.slots)
+    (subst (λ (ws : List ℕ). Fits about ws w) same fits)
 
 pub load_allowed : (about : About) (slots id : ℕ) (me : Sitting) (at : ℕ) → me.0.version ≡ Some about.version
     → at < 2 * about.slots → Allows (IsMemo about) slots id me at (λ n. n) (loads (step slots at 0 0 none) me)
-load_allowed about slots id me at live below s memo _ is _ =
-    (
-      w,
-      keeps,
-      tt,
-      stayed about s at id me w memo fits,
-      (refl, finds about s me.0 at memo old below),
-    )
+load_allowed about slots id me at live below s memo _ is _ = (
+  w,
+  keeps,
+  tt,
+  stayed about s at id me w memo fits,
+  (refl, finds about s me.0 at memo old below),
+)
   where
     n : ℕ
     n = get_or s.words at 0
@@ -98,9 +97,9 @@ load_allowed about slots id me at live below s memo _ is _ =
     fits : Fits about s.words w
     fits =
         dite (ℕ_discrete n 0)
-            (λ none. subst (λ (v : View). Fits about s.words v) (sym (loads_none none)) fits_missed)
-            (λ more. subst (λ (v : View). Fits about s.words v) (sym (loads_some more))
-                (fits-learned about s.words me.0 at n refl more old))
+        (λ none. subst (λ (v : View). Fits about s.words v) (sym (loads_none none)) fits_missed)
+        (λ more. subst (λ (v : View). Fits about s.words v) (sym (loads_some more))
+        (fits-learned about s.words me.0 at n refl more old))
       where
         loads_none : n ≡ 0 → after_load me.0 at n ≡ missed me.0 at
         loads_none e = ap (λ b. cond b (missed me.0 at) (learned me.0 at n)) (eq-eqb n 0 e)
@@ -115,23 +114,22 @@ exchanged_allowed : (about : About) (s : St) (at new id : ℕ) (me : Sitting) (w
     → IsMemo about (stepped s at (either (eqb (get_or s.words at 0) 0) new (get_or s.words at 0)) id me.1 w keeps)
 exchanged_allowed about s at new id me w memo hit miss =
     exchanged (get_or s.words at 0) 0 new (λ z. IsMemo about (stepped s at z id me.1 w keeps))
-        (λ none. let h = hit none in moved about s at new id me w memo (grows-set s.words at new none) h.0 h.1)
-        (λ more. stayed about s at id me w memo (miss more))
+    (λ none. let h = hit none in moved about s at new id me w memo (grows-set s.words at new none) h.0 h.1)
+    (λ more. stayed about s at id me w memo (miss more))
 
 pub claim_allowed : (about : About) (slots id : ℕ) (me : Sitting) (slot cell : ℕ) → me.0.version ≡ Some about.version
     → slot < about.slots → cell % about.slots ≡ slot
     → Allows (IsMemo about) slots id me (key_at slot) (λ n. either (eqb n 0) (cell + 1) n)
-        (claims (step slots (key_at slot) 0 (cell + 1) none) me)
-claim_allowed about slots id me slot cell live below of_slot s memo _ is _ =
-    (
-      w,
-      keeps,
-      tt,
-      exchanged_allowed about s at (cell + 1) id me w memo
-          (λ none. (holds-key about s.words slot cell memo.size below of_slot none memo.slots, hit none))
-          miss,
-      (refl, finds about s me.0 at memo old (let size = memo.size in omega arith)),
-    )
+    (claims (step slots (key_at slot) 0 (cell + 1) none) me)
+claim_allowed about slots id me slot cell live below of_slot s memo _ is _ = (
+  w,
+  keeps,
+  tt,
+  exchanged_allowed about s at (cell + 1) id me w memo
+      (λ none. (holds-key about s.words slot cell memo.size below of_slot none memo.slots, hit none))
+      miss,
+  (refl, finds about s me.0 at memo old (let size = memo.size in omega arith)),
+)
   where
     at : ℕ
     at = key_at slot
@@ -154,7 +152,7 @@ claim_allowed about slots id me slot cell live below of_slot s memo _ is _ =
         learns : Fits about us (learned me.0 at (cell + 1))
         learns = let size = memo.size in
             fits-learned about us me.0 at (cell + 1) (get_or-set_same s.words at (cell + 1) 0 (omega arith)) (λ e. omega arith)
-                (fits-grows about s.words us me.0 (grows-set s.words at (cell + 1) empty) old)
+            (fits-grows about s.words us me.0 (grows-set s.words at (cell + 1) empty) old)
 
         claims_it : Fits about us (claiming (learned me.0 at (cell + 1)) (cell + 1 - 1))
         claims_it = record { version = learns.version; slots = learns.slots; known = learns.known; some = learns.some }
@@ -174,17 +172,16 @@ pub put_allowed : (about : About) (slots id : ℕ) (me : Sitting) (slot cell wor
     → slot < about.slots → has_word me.0.known (key_at slot) (cell + 1) ≡ true → 0 < word
     → value_in word ≡ cell_value about.version cell
     → Allows (IsMemo about) slots id me (value_at slot) (λ n. either (eqb n 0) word n)
-        (puts (step slots (value_at slot) 0 word none) me)
-put_allowed about slots id me slot cell word live below has more right s memo _ is _ =
-    (
-      w,
-      keeps,
-      tt,
-      exchanged_allowed about s at word id me w memo
-          (λ none. (holds-value about s.words slot cell word memo.size below key more right memo.slots, hit none))
-          miss,
-      (refl, finds about s me.0 at memo old (let size = memo.size in omega arith)),
-    )
+    (puts (step slots (value_at slot) 0 word none) me)
+put_allowed about slots id me slot cell word live below has more right s memo _ is _ = (
+  w,
+  keeps,
+  tt,
+  exchanged_allowed about s at word id me w memo
+      (λ none. (holds-value about s.words slot cell word memo.size below key more right memo.slots, hit none))
+      miss,
+  (refl, finds about s me.0 at memo old (let size = memo.size in omega arith)),
+)
   where
     at : ℕ
     at = value_at slot
@@ -210,7 +207,7 @@ put_allowed about slots id me slot cell word live below has more right s memo _ 
         learns : Fits about us (learned me.0 at word)
         learns = let size = memo.size in
             fits-learned about us me.0 at word (get_or-set_same s.words at word 0 (omega arith)) (λ e. omega arith)
-                (fits-grows about s.words us me.0 (grows-set s.words at word empty) old)
+            (fits-grows about s.words us me.0 (grows-set s.words at word empty) old)
 
         is_put : w ≡ learned me.0 at word
         is_put = ap (λ b. cond b (learned me.0 at word) (learned me.0 at n)) (eq-eqb n 0 empty)
@@ -230,12 +227,12 @@ split_allowed about id v live s memo is =
       slots = memo.slots;
       views = λ seat view version at here.
           ⊎_elim
-              (λ old. ⊎_elim
-                  (λ own. subst (Fits about s.words) own.1 fits)
-                  (λ other. memo.views seat view version other.1 here)
-                  (at_set s.views id seat v view old))
-              (λ new. subst (Fits about s.words) new fits_another)
-              (at_snoc (set s.views id v) (another v) view seat at);
+          (λ old. ⊎_elim
+          (λ own. subst (Fits about s.words) own.1 fits)
+          (λ other. memo.views seat view version other.1 here)
+          (at_set s.views id seat v view old))
+          (λ new. subst (Fits about s.words) new fits_another)
+          (at_snoc (set s.views id v) (another v) view seat at);
     }
   where
     fits : Fits about s.words v
@@ -252,12 +249,12 @@ join_allowed about id v other w live there s memo is apart at =
       slots = memo.slots;
       views = λ seat view version place here.
           ⊎_elim
-              (λ spent. absurd (none_left view version spent.1 here))
-              (λ left. ⊎_elim
-                  (λ own. subst (Fits about s.words) own.1 (fits-together about s.words v w fits fits_other))
-                  (λ old. memo.views seat view version old.1 here)
-                  (at_set s.views id seat (together v w) view left.1))
-              (at_set (set s.views id (together v w)) other seat nobody view place);
+          (λ spent. absurd (none_left view version spent.1 here))
+          (λ left. ⊎_elim
+          (λ own. subst (Fits about s.words) own.1 (fits-together about s.words v w fits fits_other))
+          (λ old. memo.views seat view version old.1 here)
+          (at_set s.views id seat (together v w) view left.1))
+          (at_set (set s.views id (together v w)) other seat nobody view place);
     }
   where
     fits : Fits about s.words v

@@ -27,4 +27,4 @@ value-found v w slot cell key word version value is loaded found live more read 
     has : has_word w.known (key_at slot) (cell + 1) ≡ true
     has =
         subst (λ (x : View). has_word x.known (key_at slot) (cell + 1) ≡ true) (sym (loaded ∙ learns))
-            (or_left _ _ (and_from _ _ (eq-eqb (key_at slot) (key_at slot) refl) (eq-eqb key (cell + 1) is)))
+        (or_left _ _ (and_from _ _ (eq-eqb (key_at slot) (key_at slot) refl) (eq-eqb key (cell + 1) is)))

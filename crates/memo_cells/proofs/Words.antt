@@ -37,11 +37,11 @@ pub holds-key : (about : About) (ws : List ℕ) (slot cell : ℕ) → length ws 
     → HoldSlots about (set ws (key_at slot) (cell + 1))
 holds-key about ws slot cell size below of_slot none h k k_below =
     dite (ℕ_discrete k slot)
-        (λ same. subst (HoldsSlot about us) (sym same) here)
-        (λ other. holds-same about ws us k
-            (get_or-set_other ws (key_at slot) (key_at k) (cell + 1) 0 (λ e. other (omega arith)))
-            (get_or-set_other ws (key_at slot) (value_at k) (cell + 1) 0 (λ e. omega arith))
-            (h k k_below))
+    (λ same. subst (HoldsSlot about us) (sym same) here)
+    (λ other. holds-same about ws us k
+    (get_or-set_other ws (key_at slot) (key_at k) (cell + 1) 0 (λ e. other (omega arith)))
+    (get_or-set_other ws (key_at slot) (value_at k) (cell + 1) 0 (λ e. omega arith))
+    (h k k_below))
   where
     us : List ℕ
     us = set ws (key_at slot) (cell + 1)
@@ -66,11 +66,11 @@ pub holds-value : (about : About) (ws : List ℕ) (slot cell word : ℕ) → len
     → HoldSlots about ws → HoldSlots about (set ws (value_at slot) word)
 holds-value about ws slot cell word size below named more right h k k_below =
     dite (ℕ_discrete k slot)
-        (λ same. subst (HoldsSlot about us) (sym same) here)
-        (λ other. holds-same about ws us k
-            (get_or-set_other ws (value_at slot) (key_at k) word 0 (λ e. omega arith))
-            (get_or-set_other ws (value_at slot) (value_at k) word 0 (λ e. other (omega arith)))
-            (h k k_below))
+    (λ same. subst (HoldsSlot about us) (sym same) here)
+    (λ other. holds-same about ws us k
+    (get_or-set_other ws (value_at slot) (key_at k) word 0 (λ e. omega arith))
+    (get_or-set_other ws (value_at slot) (value_at k) word 0 (λ e. other (omega arith)))
+    (h k k_below))
   where
     us : List ℕ
     us = set ws (value_at slot) word
@@ -112,20 +112,20 @@ fits-learned about ws v at word is more fits =
       slots = fits.slots;
       known = λ i w has.
           ⊎_elim
-              (λ here.
-                  let parts = and_parts _ _ here in
-                  let place : at ≡ i = eqb-true at i parts.0 in
-                  let same : word ≡ w = eqb-true word w parts.1 in
-                  (ap (λ k. get_or ws k 0) (sym place) ∙ (is ∙ same), λ none. more (same ∙ none)))
-              (λ later. fits.known i w later)
-              (or_cases _ _ has);
+          (λ here.
+          let parts = and_parts _ _ here in
+          let place : at ≡ i = eqb-true at i parts.0 in
+          let same : word ≡ w = eqb-true word w parts.1 in
+          (ap (λ k. get_or ws k 0) (sym place) ∙ (is ∙ same), λ none. more (same ∙ none)))
+          (λ later. fits.known i w later)
+          (or_cases _ _ has);
       some = λ i has none.
           ⊎_elim
-              (λ here.
-                  let place : at ≡ i = eqb-true at i here in
-                  more (sym is ∙ (ap (λ k. get_or ws k 0) place ∙ none)))
-              (λ later. fits.some i later none)
-              (or_cases _ _ has);
+          (λ here.
+          let place : at ≡ i = eqb-true at i here in
+          more (sym is ∙ (ap (λ k. get_or ws k 0) place ∙ none)))
+          (λ later. fits.some i later none)
+          (or_cases _ _ has);
     }
 
 -- what both knew is known

@@ -1,4 +1,5 @@
 pub mod Values
 pub mod Knowledge
 pub mod Seats
+pub mod Shared
 pub mod Inside

@@ -4,6 +4,8 @@
 //! - [`Memo`] has the values, and a [`MemoSeat`] is one reader's place at it. [`Memo::look`] looks for a cell's value,
 //!   [`Memo::keep`] keeps one, [`Memo::split`] makes a seat for another reader, and [`Memo::join`] takes one back.
 //! - [`Look`] and [`Kept`] are what the two answer.
+//! - [`SharedMemo`] is a memo with the seat of one reader, and [`SharedMemo::share`] makes one for another.
+//! - [`Memory`] is what a reader needs of it, for readers over any memory.
 //!
 //! A memo has a fixed count of slots. Each cell falls into one of them, by its number, and each slot has the value of
 //! one cell, the first that is kept there, for as long as the memo lasts. So a memo takes no memory once it is made,
@@ -14,15 +16,20 @@
 
 pub use answers::{Kept, Look};
 pub use memo::Memo;
+pub use memory::Memory;
 pub use seat::MemoSeat;
+pub use shared::SharedMemo;
 pub use version::Version;
 
 mod answers;
 mod coding;
 mod looks;
 mod memo;
+mod memory;
 mod plays;
 mod seat;
 mod seats;
+mod shared;
+mod sharing;
 mod steps;
 mod version;

@@ -14,4 +14,4 @@ returns-clause-own c =
 pub returns-clause-other : goal.returns-clause-other
 returns-clause-other c =
     grew-other c.args.seat.now.seat.me.0 c.args.other.seat.me.0 _ (c.requires.other.slots ∙ sym c.requires.seat.slots)
-        (ap (λ (m : Sitting). m.0) c.join_seat.ensures.2)
+    (ap (λ (m : Sitting). m.0) c.join_seat.ensures.2)

@@ -1,0 +1,18 @@
+-- What clauses say of a memo with the seat of one reader.
+use Rattle.std.specs.Arc.{arc_value}
+use Rattle.memo_cells.specs.declared.version.Version.{Version}
+use Rattle.memo_cells.specs.declared.memo.Memo.{Memo}
+use Rattle.memo_cells.specs.declared.shared.SharedMemo.{SharedMemo}
+use Rattle.memo_cells.specs.Knowledge.{Knowledge}
+use Rattle.memo_cells.specs.Seats.{knowledge, version_of}
+
+-- the memo that is shared, and the version that it is of
+abbrev pub memo_of : SharedMemo → Memo
+memo_of shared = arc_value shared.memo
+
+abbrev pub version_kept : SharedMemo → Version
+version_kept shared = version_of (memo_of shared)
+
+-- what its reader knows
+abbrev pub known_to : SharedMemo → Knowledge
+known_to shared = knowledge shared.seat

@@ -1,0 +1,38 @@
+ghost use Rattle.std.specs.Prelude.{◌≡◌, ℕ, true};
+ghost use Rattle.cube_fixed.specs.declared.value.Value.{Value};
+ghost use Rattle.memo_cells.specs.Knowledge.{Grew, IsNumber, IsRight, KeepsAt, Knowledge, Knows, LooksAt, Names, is_value};
+ghost use Rattle.memo_cells.specs.declared.answers.Look.TheVariants.{Other as look_other};
+ghost use Rattle.memo_cells.specs.declared.answers.Kept.TheVariants.{Here, Other as kept_other};
+
+use crate::answers::{Kept, Look};
+use cube_fixed::Value;
+
+/// Where a reader looks for values of cells, and keeps those that it has worked out. Who reads over any memory needs no
+/// more of it than this.
+pub trait Memory {
+    /// The values of the cells. They stay the same.
+    ghost values: { Self → ℕ → Value };
+    /// What is known of the values that are kept.
+    ghost known: { Self → Knowledge };
+
+    /// A cell's value, where it is kept.
+    fn look(&mut self, cell: u64) -> Look
+        requires cell { IsNumber cell }
+        ensures value { IsRight (values self.old) cell result }
+        ensures learned { LooksAt (known self.old) (known self.new) cell result }
+        ensures known { Knows (known self.old) cell → is_value result ≡ true }
+        ensures named { (other : ℕ) → Names (known self.old) cell other → result ≡ look_other other }
+        ensures grew { Grew (known self.old) (known self.new) }
+        ensures values { values self.new ≡ values self.old };
+
+    /// Keeps a cell's value, unless its slot is for another cell.
+    fn keep(&mut self, cell: u64, value: &Value) -> Kept
+        requires cell { IsNumber cell }
+        requires value { value.now ≡ values self.old cell }
+        ensures learned { KeepsAt (known self.new) cell result }
+        ensures known { Knows (known self.old) cell → result ≡ Here }
+        ensures named { (other : ℕ) → Names (known self.old) cell other → result ≡ kept_other other }
+        ensures grew { Grew (known self.old) (known self.new) }
+        ensures zeros { (known self.new).zeros ≡ (known self.old).zeros }
+        ensures values { values self.new ≡ values self.old };
+}
