@@ -1,11 +1,11 @@
 -- Nothing that was known is lost.
-use Rattle.std.proofs.Common.{◌≡◌, ◌≢◌, ℕ, ◌+◌, ◌-◌, ◌%◌, ◌≤◌, Bool, true, false, not, cond, List, [], ◌∷◌, ◌++◌, sym, refl, ap, ◌∙◌, subst, arith, eqb, le_refl, le_trans}
+use Rattle.std.proofs.Common.{◌≡◌, ℕ, ◌+◌, ◌-◌, ◌%◌, ◌≤◌, Bool, true, false, cond, List, [], ◌∷◌, ◌++◌, sym, refl, ◌∙◌, subst, arith, eqb, le_refl, le_trans}
 use Rattle.std.proofs.lemmas.Bool.{and_parts, and_from, or_left, or_right}
 use Rattle.std.proofs.lemmas.List.Folds.{list_any-append}
 use Rattle.memo_cells.specs.declared.seat.View.{View}
-use Rattle.memo_cells.specs.Knowledge.{Grew, Knows, Names}
+use Rattle.memo_cells.specs.Knowledge.{Grew}
 use Rattle.memo_cells.specs.Seats.{key_at, value_at, has_word, has_some, times, knows_in, names_in, zeros_in, known_by}
-use Rattle.memo_cells.specs.Inside.Plays.{learned, missed, claiming, after_claim, after_put, together}
+use Rattle.memo_cells.specs.Inside.Plays.{learned, claiming, after_claim, after_put, together}
 
 -- what is known of words is known still
 record Longer (v w : View) : Type 0 where

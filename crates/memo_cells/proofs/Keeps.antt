@@ -1,20 +1,20 @@
 -- Each step keeps the rule, and tells what it should.
-use Rattle.std.proofs.Common.{◌≡◌, ◌≢◌, ℕ, suc, ◌+◌, ◌-◌, ◌*◌, ◌%◌, ◌<◌, Bool, true, false, cond, List, [], ◌∷◌, ◌++◌, length, get_or, set, Some, None, sym, refl, ap, ◌∙◌, subst, ⊎_elim, arith, eqb, length-set, get_or-set_same}
+use Rattle.std.proofs.Common.{◌≡◌, ◌≢◌, ℕ, ◌+◌, ◌-◌, ◌*◌, ◌%◌, ◌<◌, true, cond, List, get_or, set, Some, None, sym, refl, ap, ◌∙◌, subst, ⊎_elim, arith, eqb, length-set, get_or-set_same}
 use mathlib.Core.Logic.{dite}
-use mathlib.Core.Option.{none, some, some-injective}
+use mathlib.Core.Option.{none, some}
 use native.Mathlib.Decide.{ℕ_discrete}
 use lib.ListN.{get_elem?}
 use prog.Atomic.{either}
 use Rattle.std.proofs.lemmas.Bool.{eq-eqb, ne_eqb}
 use Rattle.std.proofs.lemmas.List.{set-get_or}
-use Rattle.atomic_table.specs.Table.{State, Me, keeps, stepped, step, Allows, Splits, Joins}
+use Rattle.atomic_table.specs.Table.{State, keeps, stepped, step, Allows, Splits, Joins}
 use Rattle.atomic_table.proofs.Lists.{at_set, at_snoc, exchanged}
 use Rattle.memo_cells.specs.declared.version.Version.{Version}
 use Rattle.memo_cells.specs.declared.version.About.{About}
 use Rattle.memo_cells.specs.declared.seat.View.{View}
 use Rattle.memo_cells.specs.Values.{cell_value, value_in}
-use Rattle.memo_cells.specs.Seats.{key_at, value_at, has_word, has_some}
-use Rattle.memo_cells.specs.Inside.Rule.{HoldsSlot, Fits, IsMemo, nobody}
+use Rattle.memo_cells.specs.Seats.{key_at, value_at, has_word}
+use Rattle.memo_cells.specs.Inside.Rule.{Fits, IsMemo, nobody}
 use Rattle.memo_cells.specs.Inside.Plays.{Found, Sitting, learned, missed, claiming, after_load, after_claim, after_put, loads, claims, puts, another, together}
 use Rattle.memo_cells.proofs.Words.{Grows, HoldSlots, grows-set, holds-key, holds-value, fits-grows, fits-learned, fits-together}
 
@@ -107,66 +107,61 @@ load_allowed about slots id me at live below s memo _ is _ = (
         loads_some : n ≢ 0 → after_load me.0 at n ≡ learned me.0 at n
         loads_some e = ap (λ b. cond b (missed me.0 at) (learned me.0 at n)) (ne_eqb n 0 e)
 
--- an exchange of 0 for a word that fits its slot: the rule holds of what is then known
-exchanged_allowed : (about : About) (s : St) (at new id : ℕ) (me : Sitting) (w : View) → IsMemo about s
-    → (get_or s.words at 0 ≡ 0 → HoldSlots about (set s.words at new) × Fits about (set s.words at new) w)
-    → (get_or s.words at 0 ≢ 0 → Fits about s.words w)
-    → IsMemo about (stepped s at (either (eqb (get_or s.words at 0) 0) new (get_or s.words at 0)) id me.1 w keeps)
-exchanged_allowed about s at new id me w memo hit miss =
-    exchanged (get_or s.words at 0) 0 new (λ z. IsMemo about (stepped s at z id me.1 w keeps))
-    (λ none. let h = hit none in moved about s at new id me w memo (grows-set s.words at new none) h.0 h.1)
-    (λ more. stayed about s at id me w memo (miss more))
+-- after an exchange of 0 for a word that fits its slot: where the word was 0 the seat is as `x`, which knows the new one
+exchanged_allowed : (about : About) (s : St) (at new id : ℕ) (me : Sitting) (x : View) → IsMemo about s
+    → at < 2 * about.slots → 0 < new → Fits about s.words me.0
+    → (get_or s.words at 0 ≡ 0 → HoldSlots about (set s.words at new))
+    → (Fits about (set s.words at new) (learned me.0 at new) → Fits about (set s.words at new) x)
+    → IsMemo about (stepped s at (either (eqb (get_or s.words at 0) 0) new (get_or s.words at 0)) id me.1
+    (cond (eqb (get_or s.words at 0) 0) x (learned me.0 at (get_or s.words at 0))) keeps)
+exchanged_allowed about s at new id me x memo below more old holds fits =
+    exchanged n 0 new (λ z. IsMemo about (stepped s at z id me.1 w keeps))
+    (λ empty. moved about s at new id me w memo (grows-set s.words at new empty) (holds empty) (hit empty))
+    (λ full. stayed about s at id me w memo (miss full))
+  where
+    n : ℕ
+    n = get_or s.words at 0
+
+    w : View
+    w = cond (eqb n 0) x (learned me.0 at n)
+
+    us : List ℕ
+    us = set s.words at new
+
+    hit : n ≡ 0 → Fits about us w
+    hit empty =
+        let size = memo.size in
+        let there = get_or-set_same s.words at new 0 (omega arith) in
+        let grown = fits-grows about s.words us me.0 (grows-set s.words at new empty) old in
+        let is : w ≡ x = ap (λ b. cond b x (learned me.0 at n)) (eq-eqb n 0 empty) in
+        subst (λ (v : View). Fits about us v) (sym is)
+        (fits (fits-learned about us me.0 at new there (λ e. omega arith) grown))
+
+    miss : n ≢ 0 → Fits about s.words w
+    miss full =
+        let is : w ≡ learned me.0 at n = ap (λ b. cond b x (learned me.0 at n)) (ne_eqb n 0 full) in
+        subst (λ (v : View). Fits about s.words v) (sym is) (fits-learned about s.words me.0 at n refl full old)
 
 pub claim_allowed : (about : About) (slots id : ℕ) (me : Sitting) (slot cell : ℕ) → me.0.version ≡ Some about.version
     → slot < about.slots → cell % about.slots ≡ slot
     → Allows (IsMemo about) slots id me (key_at slot) (λ n. either (eqb n 0) (cell + 1) n)
     (claims (step slots (key_at slot) 0 (cell + 1) none) me)
 claim_allowed about slots id me slot cell live below of_slot s memo _ is _ = (
-  w,
+  after_claim me.0 at (cell + 1) (get_or s.words at 0),
   keeps,
   tt,
-  exchanged_allowed about s at (cell + 1) id me w memo
-      (λ none. (holds-key about s.words slot cell memo.size below of_slot none memo.slots, hit none))
-      miss,
-  (refl, finds about s me.0 at memo old (let size = memo.size in omega arith)),
+  exchanged_allowed about s at (cell + 1) id me (claiming (learned me.0 at (cell + 1)) (cell + 1 - 1)) memo
+      (omega arith) (omega arith) old
+      (λ empty. holds-key about s.words slot cell memo.size below of_slot empty memo.slots)
+      (λ fits. record { version = fits.version; slots = fits.slots; known = fits.known; some = fits.some }),
+  (refl, finds about s me.0 at memo old (omega arith)),
 )
   where
     at : ℕ
     at = key_at slot
 
-    n : ℕ
-    n = get_or s.words at 0
-
-    w : View
-    w = after_claim me.0 at (cell + 1) n
-
     old : Fits about s.words me.0
     old = fits-of about s id me.0 memo is live
-
-    hit : n ≡ 0 → Fits about (set s.words at (cell + 1)) w
-    hit empty = subst (λ (v : View). Fits about us v) (sym is_claimed) claims_it
-      where
-        us : List ℕ
-        us = set s.words at (cell + 1)
-
-        learns : Fits about us (learned me.0 at (cell + 1))
-        learns = let size = memo.size in
-            fits-learned about us me.0 at (cell + 1) (get_or-set_same s.words at (cell + 1) 0 (omega arith)) (λ e. omega arith)
-            (fits-grows about s.words us me.0 (grows-set s.words at (cell + 1) empty) old)
-
-        claims_it : Fits about us (claiming (learned me.0 at (cell + 1)) (cell + 1 - 1))
-        claims_it = record { version = learns.version; slots = learns.slots; known = learns.known; some = learns.some }
-
-        is_claimed : w ≡ claiming (learned me.0 at (cell + 1)) (cell + 1 - 1)
-        is_claimed =
-            ap (λ b. cond b (claiming (learned me.0 at (cell + 1)) (cell + 1 - 1)) (learned me.0 at n)) (eq-eqb n 0 empty)
-
-    miss : n ≢ 0 → Fits about s.words w
-    miss more = subst (λ (v : View). Fits about s.words v) (sym is_learned) (fits-learned about s.words me.0 at n refl more old)
-      where
-        is_learned : w ≡ learned me.0 at n
-        is_learned =
-            ap (λ b. cond b (claiming (learned me.0 at (cell + 1)) (cell + 1 - 1)) (learned me.0 at n)) (ne_eqb n 0 more)
 
 pub put_allowed : (about : About) (slots id : ℕ) (me : Sitting) (slot cell word : ℕ) → me.0.version ≡ Some about.version
     → slot < about.slots → has_word me.0.known (key_at slot) (cell + 1) ≡ true → 0 < word
@@ -174,50 +169,23 @@ pub put_allowed : (about : About) (slots id : ℕ) (me : Sitting) (slot cell wor
     → Allows (IsMemo about) slots id me (value_at slot) (λ n. either (eqb n 0) word n)
     (puts (step slots (value_at slot) 0 word none) me)
 put_allowed about slots id me slot cell word live below has more right s memo _ is _ = (
-  w,
+  after_put me.0 at word (get_or s.words at 0),
   keeps,
   tt,
-  exchanged_allowed about s at word id me w memo
-      (λ none. (holds-value about s.words slot cell word memo.size below key more right memo.slots, hit none))
-      miss,
-  (refl, finds about s me.0 at memo old (let size = memo.size in omega arith)),
+  exchanged_allowed about s at word id me (learned me.0 at word) memo (omega arith) more old
+      (λ _. holds-value about s.words slot cell word memo.size below key more right memo.slots)
+      (λ fits. fits),
+  (refl, finds about s me.0 at memo old (omega arith)),
 )
   where
     at : ℕ
     at = value_at slot
-
-    n : ℕ
-    n = get_or s.words at 0
-
-    w : View
-    w = after_put me.0 at word n
 
     old : Fits about s.words me.0
     old = fits-of about s id me.0 memo is live
 
     key : get_or s.words (key_at slot) 0 ≡ cell + 1
     key = (old.known (key_at slot) (cell + 1) has).0
-
-    hit : n ≡ 0 → Fits about (set s.words at word) w
-    hit empty = subst (λ (v : View). Fits about us v) (sym is_put) learns
-      where
-        us : List ℕ
-        us = set s.words at word
-
-        learns : Fits about us (learned me.0 at word)
-        learns = let size = memo.size in
-            fits-learned about us me.0 at word (get_or-set_same s.words at word 0 (omega arith)) (λ e. omega arith)
-            (fits-grows about s.words us me.0 (grows-set s.words at word empty) old)
-
-        is_put : w ≡ learned me.0 at word
-        is_put = ap (λ b. cond b (learned me.0 at word) (learned me.0 at n)) (eq-eqb n 0 empty)
-
-    miss : n ≢ 0 → Fits about s.words w
-    miss some_word = subst (λ (v : View). Fits about s.words v) (sym is_learned)
-        (fits-learned about s.words me.0 at n refl some_word old)
-      where
-        is_learned : w ≡ learned me.0 at n
-        is_learned = ap (λ b. cond b (learned me.0 at word) (learned me.0 at n)) (ne_eqb n 0 some_word)
 
 pub split_allowed : (about : About) (id : ℕ) (v : View) → v.version ≡ Some about.version
     → Splits (IsMemo about) id v v (another v)

@@ -1,5 +1,5 @@
 -- What the words that a look or a keep finds say of cells.
-use Rattle.std.proofs.Common.{◌≡◌, ◌≢◌, ℕ, ◌+◌, ◌-◌, ◌%◌, Some, true, cond, sym, refl, ap, ◌∙◌, subst, arith, eqb}
+use Rattle.std.proofs.Common.{◌≡◌, ◌≢◌, ℕ, ◌+◌, ◌-◌, ◌%◌, Some, true, cond, sym, refl, ap, ◌∙◌, subst, arith}
 use Rattle.std.proofs.lemmas.Bool.{and_from, or_left, eq-eqb, ne_eqb}
 use Rattle.cube_fixed.specs.declared.value.Value.{Value}
 use Rattle.memo_cells.specs.declared.version.Version.{Version}

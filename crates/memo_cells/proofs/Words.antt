@@ -1,5 +1,5 @@
 -- The words of a memo after one of them is written: what its slots hold, and what is known of them.
-use Rattle.std.proofs.Common.{◌≡◌, ◌≢◌, ℕ, suc, ◌+◌, ◌*◌, ◌%◌, ◌<◌, Bool, true, false, List, [], ◌∷◌, ◌++◌, length, get_or, set, sym, refl, ap, ◌∙◌, subst, ⊎_elim, arith, get_or-set_same, get_or-set_other}
+use Rattle.std.proofs.Common.{◌≡◌, ◌≢◌, ℕ, ◌+◌, ◌*◌, ◌%◌, ◌<◌, List, length, get_or, set, sym, ap, ◌∙◌, subst, ⊎_elim, arith, get_or-set_same, get_or-set_other}
 use mathlib.Core.Logic.{dite}
 use native.Mathlib.Decide.{ℕ_discrete}
 use Rattle.std.proofs.lemmas.Bool.{or_cases, and_parts, eqb-true}
@@ -7,7 +7,7 @@ use Rattle.std.proofs.lemmas.List.Folds.{list_any-append}
 use Rattle.memo_cells.specs.declared.version.About.{About}
 use Rattle.memo_cells.specs.declared.seat.View.{View}
 use Rattle.memo_cells.specs.Values.{cell_value, value_in}
-use Rattle.memo_cells.specs.Seats.{key_at, value_at, has_word, has_some}
+use Rattle.memo_cells.specs.Seats.{key_at, value_at}
 use Rattle.memo_cells.specs.Inside.Rule.{HoldsSlot, Fits}
 use Rattle.memo_cells.specs.Inside.Plays.{learned, together}
 

@@ -1,8 +1,7 @@
 -- What a seat knows, by the words that it has seen.
-use Rattle.std.specs.Prelude.{◌≡◌, ℕ, ◌+◌, ◌*◌, ◌%◌, ◌==◌, Bool, not, ◌&&◌, List, [], ◌∷◌, length, Some, if◌then◌else◌}
+use Rattle.std.specs.Prelude.{◌≡◌, ℕ, ◌+◌, ◌*◌, ◌%◌, ◌==◌, Bool, not, ◌&&◌, List, [], ◌∷◌, Some, if◌then◌else◌}
 use Rattle.std.specs.List.{list_any}
 use Rattle.memo_cells.specs.declared.version.Version.{Version}
-use Rattle.memo_cells.specs.declared.version.About.{About}
 use Rattle.memo_cells.specs.declared.seat.View.{View}
 use Rattle.memo_cells.specs.declared.seat.MemoSeat.{MemoSeat}
 use Rattle.memo_cells.specs.declared.memo.Memo.{Memo}

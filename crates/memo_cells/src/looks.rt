@@ -34,23 +34,6 @@ impl Memo {
         ensures claims { claimed seat.new ≡ claimed seat.old }
     {
         let slot = self.slot_of(cell);
-        self.look_in(seat, slot, cell)
-    }
-
-    fn look_in(&self, seat: &mut MemoSeat, slot: usize, cell: u64) -> Look
-        requires seat { IsAt self.now seat.old }
-        requires cell { IsNumber cell }
-        requires slot { slot ≡ cell % slots_of self.now }
-        requires below { slot < slots_of self.now }
-        ensures seat { IsAt self.now seat.new }
-        ensures value { IsRight (cell_value (version_of self.now)) cell result }
-        ensures learned { LooksAt (knowledge seat.old) (knowledge seat.new) cell result }
-        ensures slot { (other : ℕ) → result ≡ look_other other → other % slots_of self.now ≡ slot }
-        ensures known { Knows (knowledge seat.old) cell → is_value result ≡ true }
-        ensures named { (other : ℕ) → Names (knowledge seat.old) cell other → result ≡ look_other other }
-        ensures grew { Grew (knowledge seat.old) (knowledge seat.new) }
-        ensures claims { claimed seat.new ≡ claimed seat.old }
-    {
         let key = self.load(seat, 2 * slot);
         if key == 0 {
             return Look::Empty;
@@ -80,24 +63,6 @@ impl Memo {
         ensures claims { (claimed seat.new ≡ claimed seat.old) ⊎ (claimed seat.new ≡ cell ∷ claimed seat.old) }
     {
         let slot = self.slot_of(cell);
-        self.keep_in(seat, slot, cell, value)
-    }
-
-    fn keep_in(&self, seat: &mut MemoSeat, slot: usize, cell: u64, value: &Value) -> Kept
-        requires seat { IsAt self.now seat.old }
-        requires cell { IsNumber cell }
-        requires slot { slot ≡ cell % slots_of self.now }
-        requires below { slot < slots_of self.now }
-        requires value { value.now ≡ cell_value (version_of self.now) cell }
-        ensures seat { IsAt self.now seat.new }
-        ensures learned { KeepsAt (knowledge seat.new) cell result }
-        ensures slot { (other : ℕ) → result ≡ kept_other other → other % slots_of self.now ≡ slot }
-        ensures known { Knows (knowledge seat.old) cell → result ≡ Here }
-        ensures named { (other : ℕ) → Names (knowledge seat.old) cell other → result ≡ kept_other other }
-        ensures grew { Grew (knowledge seat.old) (knowledge seat.new) }
-        ensures zeros { (knowledge seat.new).zeros ≡ (knowledge seat.old).zeros }
-        ensures claims { (claimed seat.new ≡ claimed seat.old) ⊎ (claimed seat.new ≡ cell ∷ claimed seat.old) }
-    {
         let key = self.claim(seat, slot, cell);
         if key != 0 && key != cell + 1 {
             return Kept::Other(key - 1);

@@ -1,5 +1,5 @@
 -- What each step on a word changes of what a seat knows, and what it tells of the word that it found.
-use Rattle.std.specs.Prelude.{◌≡◌, ◌≢◌, ℕ, ◌+◌, ◌-◌, ◌%◌, ◌==◌, true, List, [], ◌∷◌, ◌++◌, Some, if◌then◌else◌}
+use Rattle.std.specs.Prelude.{◌≡◌, ◌≢◌, ℕ, ◌+◌, ◌-◌, ◌%◌, ◌==◌, true, [], ◌∷◌, ◌++◌, Some, if◌then◌else◌}
 use Rattle.atomic_table.specs.Table.{Step, Me}
 use Rattle.memo_cells.specs.declared.version.Version.{Version}
 use Rattle.memo_cells.specs.declared.seat.View.{View}
