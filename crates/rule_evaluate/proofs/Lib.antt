@@ -1,0 +1,8 @@
+pub mod Parts
+pub mod FormulaWeights
+pub mod CourseFacts
+pub mod StatementRuns
+pub mod SceneFacts
+pub mod EndFacts
+pub mod TableReadings
+pub mod AskedFacts

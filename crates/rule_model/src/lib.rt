@@ -8,7 +8,8 @@
 //! - [`target`] is the cell that a reference names from a cell, and [`has_components`] tells whether the cell's element
 //!   has components; [`governing`] and [`governing_after`] are the statements that give a cell its value, one after the
 //!   other, and [`part_of`] is the formula of one; [`is_input`] tells whether a number can be stored in a cell.
-//! - [`target_from`] and [`governing_in`] are told of the cell by its elements, for callers that have them already.
+//! - [`target_from`] and [`governing_in`] are told of the cell by its elements, for callers that have them already;
+//!   [`place_of`] tells these.
 //!
 //! None of these takes memory.
 #![tactic(auto)]
@@ -19,6 +20,7 @@ pub use governed::{governing, governing_after, governing_in, part_of};
 pub use input::is_input;
 pub use model::{MAX_WEIGHT_PRODUCT, Model};
 pub use order::{Order, Position};
+pub use places::place_of;
 pub use rule_laws::{Arg, ElementMap, Formula, Fun, Op, Reference, Rel, Truth};
 pub use rules::{CubeRules, Feeder, Form, Statement};
 pub use targets::{has_components, target, target_from};

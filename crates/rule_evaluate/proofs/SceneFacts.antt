@@ -1,0 +1,169 @@
+-- The statements of the cell that is evaluated, one after the other.
+use Rattle.std.proofs.Common.{IsSome, false, arith, subst, ◌≡◌, refl, sym, ◌∙◌, ap, ℕ, suc, ◌+◌, Bool, true, ◌&&◌, List, [], ◌∷◌, drop, Option, None, Some}
+use Rattle.std.specs.Prelude.{option_and_then, slice_get, if◌then◌else◌}
+use Rattle.std.specs.Option.{option_map_or}
+use Rattle.std.specs.List.{position}
+use Rattle.cube_fixed.specs.declared.value.Value.{Value}
+use Rattle.rule_laws.specs.declared.formula.Formula.{Formula}
+use Rattle.rule_laws.specs.RuleSystem.{RuleSystem, Rule, part_at}
+use Rattle.rule_laws.proofs.SystemFacts.{both}
+use Rattle.rule_model.specs.Governing.{rules_for, has_part, governing_from, formula_at}
+use Rattle.rule_model.specs.System.{system_of}
+use Rattle.rule_evaluate.specs.declared.ask.Ask.{Ask}
+use Rattle.rule_evaluate.specs.declared.ask.Ask.TheVariants.{Base as of_base}
+use Rattle.rule_evaluate.specs.Readings.{Readings, statements_value, formula_by}
+use Rattle.rule_evaluate.specs.Course.{course_before, passes, entered, sources_of}
+use Rattle.rule_evaluate.specs.Inside.Scene.{Scene, sources_at, course_at, value_from, passes_from, entered_from, entered_on}
+use Rattle.rule_evaluate.proofs.CourseFacts.{course_is}
+use Rattle.rule_evaluate.proofs.FormulaWeights.{weight}
+use Rattle.rule_evaluate.proofs.StatementRuns.{run, run-none, run-some, slice_get-drop_at, drop_after}
+
+-- how much there is to evaluate of the statements from a place on
+abbrev cost_step : List Rule → ℕ → Formula → ℕ
+cost_step rules cost f = 4 + (weight f + cost)
+
+unfoldable pub cost_from : Scene → ℕ → ℕ
+cost_from s from = run (system_of s.model) s.cell 0 cost_step (drop from (rules_for s.model s.cell))
+
+module _ (s : Scene) where
+  abbrev w : RuleSystem
+  w = system_of s.model
+
+  abbrev rules : List Rule
+  rules = rules_for s.model s.cell
+
+  abbrev first : ℕ → Option ℕ
+  first from = position (has_part s.model s.cell) (drop from rules)
+
+  none-first : (from : ℕ) → governing_from s.model s.cell from ≡ None → first from ≡ None
+  unfolding governing_from
+  none-first from is = by (first from) refl
+    where
+      by : (o : Option ℕ) → first from ≡ o → first from ≡ None
+      by None e = e
+      by (Some k) e = let clash : Some (from + k) ≡ None = rw e at is in cc
+
+  some-first : (from p : ℕ) → governing_from s.model s.cell from ≡ Some p → (k : ℕ) × (first from ≡ Some k) × (from + k ≡ p)
+  unfolding governing_from
+  some-first from p is = by (first from) refl
+    where
+      by : (o : Option ℕ) → first from ≡ o → (k : ℕ) × (first from ≡ Some k) × (from + k ≡ p)
+      by None e = let clash : None ≡ Some p = rw e at is in cc
+      by (Some k) e = let same : Some (from + k) ≡ Some p = rw e at is in (k, e, cc)
+
+  module _ {X : Type 0} (none : X) (step : List Rule → X → Formula → X) where
+    abbrev from_place : ℕ → X
+    from_place from = run w s.cell none step (drop from rules)
+
+    pub place-none : (from : ℕ) → governing_from s.model s.cell from ≡ None → from_place from ≡ none
+    place-none from is = run-none w s.cell none step (drop from rules) (none-first from is)
+
+    pub place-some : (from p : ℕ) (f : Formula) → governing_from s.model s.cell from ≡ Some p → formula_at s.model s.cell p ≡ Some f
+        → from_place from ≡ step (drop (suc p) rules) (from_place (suc p)) f
+    place-some from p f is part =
+        let (k, here, add) = some-first from p is in
+        let there : option_and_then (part_at w s.cell) (slice_get (drop from rules) k) ≡ Some f =
+        ap (option_and_then (part_at w s.cell)) (slice_get-drop_at rules from k ∙ ap (slice_get rules) add) ∙ part in
+        let after : drop (suc k) (drop from rules) ≡ drop (suc p) rules = drop_after rules from k ∙ ap (λ n. drop (suc n) rules) add in
+        run-some w s.cell none step (drop from rules) k here f there
+        ∙ ap (λ later. step later (run w s.cell none step later) f) after
+
+  pub cost-some : (from p : ℕ) (f : Formula) → governing_from s.model s.cell from ≡ Some p → formula_at s.model s.cell p ≡ Some f
+      → cost_from s from ≡ 4 + (weight f + cost_from s (suc p))
+  unfolding cost_from
+  cost-some from p f is part = place-some 0 cost_step from p f is part
+
+  module _ (t : Readings) where
+    value_step : List Rule → Value → Formula → Value
+    value_step later x f = formula_by w t s.cell x f
+
+    value-runs : (rs : List Rule) → statements_value w t s.cell rs ≡ run w s.cell (t.base s.cell) value_step rs
+    unfolding value_step
+    value-runs [] = refl
+    value-runs (rule ∷ rs) = ap (λ x. option_map_or (formula_by w t s.cell x) (part_at w s.cell rule) x) (value-runs rs)
+
+    pub value-none : (from : ℕ) → governing_from s.model s.cell from ≡ None → (sources_at s t).stet.value ≡ value_from s t from
+    unfolding value_from sources_at sources_of
+    value-none from is = sym (value-runs (drop from rules) ∙ place-none (t.base s.cell) value_step from is)
+
+    pub value-some : (from p : ℕ) (f : Formula) → governing_from s.model s.cell from ≡ Some p → formula_at s.model s.cell p ≡ Some f
+        → value_from s t from ≡ (course_at s t (value_from s t (suc p)) f).value
+    unfolding value_from value_step sources_at
+    value-some from p f is part =
+        value-runs (drop from rules) ∙ place-some (t.base s.cell) value_step from p f is part
+        ∙ ap (λ x. formula_by w t s.cell x f) (sym (value-runs (drop (suc p) rules)))
+        ∙ sym ((course_is w t s.cell (statements_value w t s.cell (drop (suc p) rules)) f).1)
+
+    entered_step : List Rule → ℕ → Formula → ℕ
+    entered_step later x f = suc (entered_on (course_before w t s.cell later f) x)
+
+    entered-runs : (rs : List Rule) → entered w t s.cell rs ≡ run w s.cell 0 entered_step rs
+    unfolding entered_step
+    entered-runs [] = refl
+    entered-runs (rule ∷ rs) = ap (λ x. option_map_or (λ f. suc (entered_on (course_before w t s.cell rs f) x)) (part_at w s.cell rule) x) (entered-runs rs)
+
+    pub entered-none : (from : ℕ) → governing_from s.model s.cell from ≡ None → entered_from s t from ≡ 0
+    unfolding entered_from
+    entered-none from is = entered-runs (drop from rules) ∙ place-none 0 entered_step from is
+
+    pub entered-some : (from p : ℕ) (f : Formula) → governing_from s.model s.cell from ≡ Some p → formula_at s.model s.cell p ≡ Some f
+        → entered_from s t from ≡ suc (entered_on (course_at s t (value_from s t (suc p)) f) (entered_from s t (suc p)))
+    unfolding entered_from entered_step value_from sources_at
+    entered-some from p f is part =
+        entered-runs (drop from rules) ∙ place-some 0 entered_step from p f is part
+        ∙ ap (λ x. suc (entered_on (course_before w t s.cell (drop (suc p) rules) f) x)) (sym (entered-runs (drop (suc p) rules)))
+
+    module _ (may : Ask → Bool) where
+      passes_step : List Rule → Bool → Formula → Bool
+      passes_step later x f = (course_before w t s.cell later f).passes may && (if (course_before w t s.cell later f).goes_on then x else true)
+
+      passes-runs : (rs : List Rule) → passes w t s.cell may rs ≡ run w s.cell (may (of_base s.cell)) passes_step rs
+      unfolding passes_step
+      passes-runs [] = refl
+      passes-runs (rule ∷ rs) =
+          ap (λ x. option_map_or (λ f. (course_before w t s.cell rs f).passes may && (if (course_before w t s.cell rs f).goes_on then x else true)) (part_at w s.cell rule) x) (passes-runs rs)
+
+      pub passes-none : (from : ℕ) → governing_from s.model s.cell from ≡ None → passes_from s t may from ≡ true → (sources_at s t).stet.passes may ≡ true
+      unfolding passes_from sources_at sources_of
+      passes-none from is p = sym (passes-runs (drop from rules) ∙ place-none (may (of_base s.cell)) passes_step from is) ∙ p
+
+      when_on : (b x : Bool) → (if b then x else true) ≡ true → b ≡ true → x ≡ true
+      when_on b x e on = rw on at e
+
+      pub passes-some : (from p : ℕ) (f : Formula) → governing_from s.model s.cell from ≡ Some p → formula_at s.model s.cell p ≡ Some f → passes_from s t may from ≡ true
+          → ((course_at s t (value_from s t (suc p)) f).passes may ≡ true)
+          × ((course_at s t (value_from s t (suc p)) f).goes_on ≡ true → passes_from s t may (suc p) ≡ true)
+      unfolding passes_from passes_step value_from sources_at
+      passes-some from p f is part ok =
+          let x = course_before w t s.cell (drop (suc p) rules) f in
+          let e = passes-runs (drop from rules) ∙ place-some (may (of_base s.cell)) passes_step from p f is part
+          ∙ ap (λ b. x.passes may && (if x.goes_on then b else true)) (sym (passes-runs (drop (suc p) rules))) in
+          let (own, rest) = both (x.passes may) (if x.goes_on then passes w t s.cell may (drop (suc p) rules) else true) (sym e ∙ ok) in
+          (own, when_on x.goes_on (passes w t s.cell may (drop (suc p) rules)) rest)
+
+abbrev any_step : List Rule → Bool → Formula → Bool
+any_step later x f = true
+
+some-part : (s : Scene) (rs : List Rule) → IsSome (option_and_then (part_at (system_of s.model) s.cell) (slice_get rs 0))
+    → run (system_of s.model) s.cell false any_step rs ≡ true
+some-part s [] some = let clash : false ≡ true = some in absurd (cc clash)
+some-part s (rule ∷ rs) some = by (part_at (system_of s.model) s.cell rule) refl
+  where
+    by : (o : Option Formula) → part_at (system_of s.model) s.cell rule ≡ o → run (system_of s.model) s.cell false any_step (rule ∷ rs) ≡ true
+    by None is = let clash : false ≡ true = rw is at some in absurd (cc clash)
+    by (Some f) is = rw is refl
+
+-- a statement that has a part for the cell is the first from its own place on
+pub part-governs : (s : Scene) (place : ℕ) → IsSome (formula_at s.model s.cell place) → IsSome (governing_from s.model s.cell place)
+part-governs s place part = by (governing_from s.model s.cell place) refl
+  where
+    there : slice_get (drop place (rules_for s.model s.cell)) 0 ≡ slice_get (rules_for s.model s.cell) place
+    there = slice_get-drop_at (rules_for s.model s.cell) place 0 ∙ ap (slice_get (rules_for s.model s.cell)) (omega arith)
+
+    by : (o : Option ℕ) → governing_from s.model s.cell place ≡ o → IsSome (governing_from s.model s.cell place)
+    by None is =
+        let off = place-none s false any_step place is in
+        let on = some-part s (drop place (rules_for s.model s.cell)) (subst (λ o. IsSome (option_and_then (part_at (system_of s.model) s.cell) o)) (sym there) part) in
+        let clash : true ≡ false = sym on ∙ off in
+        absurd (cc clash)
+    by (Some k) is = subst IsSome (sym is) refl
