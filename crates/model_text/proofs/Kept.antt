@@ -1,14 +1,14 @@
 -- What is read of cubes and scripts can be written as tokens again.
-use Rattle.std.proofs.Common.{◌≡◌, ◌<◌, ◌^◌, ℕ, List, [], ◌∷◌, ◌++◌, length, true, Ok, Option, Some, None, IfSome, sym, ap, ◌∙◌, subst, inl, inr, ◌&&◌, arith}
+use Rattle.std.proofs.Common.{◌≡◌, ◌<◌, ◌^◌, ℕ, List, ◌∷◌, length, true, Ok, Option, Some, None, IfSome, sym, ap, ◌∙◌, subst, ◌&&◌, arith}
 use Rattle.std.proofs.lemmas.Bool.{ltb-true}
-use Rattle.std.proofs.lemmas.List.Elements.{All-nil, All-cons}
+use Rattle.std.proofs.lemmas.List.Elements.{All-cons}
 use Rattle.std.specs.List.{All, list_all}
 use Rattle.std.specs.Char.{is_ascii_digit}
 use Rattle.std.specs.Str.Parse.{digits_value}
 use Rattle.cube_lex.specs.Lexeme.{Lexeme}
 use Rattle.cube_lex.specs.Quoted.{unquoted}
 use Rattle.dim_name.specs.Name.{is_name}
-use Rattle.grammar.specs.Grammar.{Grammar, done, one, both, either, many}
+use Rattle.grammar.specs.Grammar.{Grammar, one}
 use Rattle.grammar.specs.Tokens.{located, is_text_kind, is_number_kind, is_file, is_whole, name, file, whole}
 use Rattle.grammar.specs.Reading.{take_one, bound, gives}
 use Rattle.grammar.specs.Watch.{unscanned}

@@ -4,6 +4,7 @@ pub mod Sound
 pub mod Whole
 pub mod Gathered
 pub mod Heads
+mod Later
 pub mod PieceExact
 pub mod ModelExact
 pub mod Kept

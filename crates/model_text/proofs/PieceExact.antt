@@ -1,12 +1,11 @@
 -- The readers of pieces are exact.
-use Rattle.std.proofs.Common.{◌≡◌, ℕ, zero, suc, ◌<◌, slice_index, arith, ◌&&◌, List, [], ◌∷◌, ◌++◌, Option, Some, None, option_map, true, false, codes, refl, ◌∙◌, ap, inl, inr, ◌⊎◌, if◌then◌else◌}
-use Rattle.std.specs.Str.{bytes_eq}
+use Rattle.std.proofs.Common.{◌≡◌, ℕ, zero, suc, ◌<◌, slice_index, arith, ◌&&◌, List, [], ◌∷◌, Option, Some, None, option_map, true, false, codes, refl, ◌∙◌, ap, inl, inr, ◌⊎◌, if◌then◌else◌}
 use Rattle.std.proofs.lemmas.Str.{IsUtf8-from_ascii, is_utf8-from_IsUtf8}
 use Rattle.cube_lex.specs.Lexeme.{Lexeme}
 use Rattle.cube_lex.specs.declared.token.Kind.{Kind}
 use Rattle.cube_lex.specs.declared.token.Kind.TheVariants as kinds
 use Rattle.cube_lex.specs.Quoted.{unquoted}
-use Rattle.grammar.specs.Grammar.{Grammar, one, both, many, done}
+use Rattle.grammar.specs.Grammar.{one, done}
 use Rattle.grammar.specs.Watch.{Watch, unwatched, unscanned}
 use Rattle.grammar.specs.Reading.{take_one, both_of, gives}
 use Rattle.grammar.specs.Lists.{read_listed}
@@ -15,7 +14,7 @@ use Rattle.grammar.specs.Tokens.{sign, word, whole, name, file, located, is_sign
 use Rattle.grammar.specs.declared.cursor.Unwatched.{Unwatched}
 use Rattle.dim_name.specs.Name.{is_name}
 use Rattle.std.specs.Str.Parse.{digits_value}
-use Rattle.grammar.proofs.Exact.{Exact, Always, Not, exact_one, exact_gives, exact_then, exact_both, exact_made, exact_before}
+use Rattle.grammar.proofs.Exact.{Exact, Always, Not, exact_one, exact_gives, exact_then, exact_both, exact_before}
 use Rattle.grammar.proofs.Begins.{Begins, begins_one, begins_both, begins_behind, exact_or, exact_option, exact_before_next}
 use Rattle.grammar.proofs.Tokens.{IsValue, exact_sign, exact_word, exact_name, exact_whole_number, exact_file, sign_begins, word_begins, when_picks, and_is}
 use Rattle.model_text.specs.declared.fault.ModelTextFault.{ModelTextFault}

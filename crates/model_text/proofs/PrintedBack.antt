@@ -1,12 +1,12 @@
 -- What is written of a model text is read as a text with equal contents, but for lines.
-use Rattle.std.proofs.Common.{◌≡◌, ◌<◌, ◌≤◌, ◌^◌, ℕ, Bool, true, false, List, [], ◌∷◌, ◌++◌, length, map, codes, Result, Ok, Err, is_ok, OnOk, if◌then◌else◌, refl, sym, ap, ◌∙◌, subst, inl, arith, IsTrue}
+use Rattle.std.proofs.Common.{◌≡◌, ◌<◌, ◌^◌, ℕ, Bool, true, false, List, [], ◌∷◌, ◌++◌, length, map, codes, Result, Ok, Err, is_ok, OnOk, if◌then◌else◌, refl, sym, ap, ◌∙◌, subst, inl, arith, IsTrue}
 use Rattle.std.proofs.lemmas.List.{length-map}
 use Rattle.std.proofs.lemmas.List.Elements.{All-map, All-weaker}
-use Rattle.std.specs.List.{All, AllZip, IsDistinct, flat_map}
+use Rattle.std.specs.List.{All, AllZip, flat_map}
 use Rattle.std.proofs.lemmas.List.{append_cancel_left}
 use Rattle.cube_lex.proofs.WrittenTexts.{written-reading}
 use Rattle.cube_lex.specs.Written.{Spelling, IsWritten, Writes}
-use Rattle.dim_name.specs.Name.{is_name, is_same_name}
+use Rattle.dim_name.specs.Name.{is_name}
 use Rattle.grammar.specs.Grammar.{many}
 use Rattle.grammar.specs.Whole.{IsWholeText}
 use Rattle.dim_text.specs.Progress.{IsBuilt}

@@ -22,7 +22,7 @@ use Rattle.grammar.proofs.Kept.{last_tokens}
 use Rattle.model_text.specs.Gathering.{Nothing, DimensionBody, Parts, Given, at, gathered}
 use Rattle.model_text.specs.Statement.{Piece}
 use Rattle.model_text.specs.Watching.{Seen, with_given, with_block, of_block}
-use Rattle.model_text.specs.Readers.Reading.{Plain, gather, unit_of, read_dimension_behind, gather_first_dimension, gather_further_dimensions, read_cube_dimensions, read_dimension_head, read_dimension_body, read_dimension}
+use Rattle.model_text.specs.Readers.Reading.{Plain, gather, unit_of, read_dimension_behind, gather_further_dimensions, read_cube_dimensions, read_dimension_head, read_dimension_body, read_dimension}
 use Rattle.model_text.specs.Readers.Views.{Stops, Gathers, GivesPiece, stop_of, seen}
 use Rattle.model_text.proofs.Gathered.{piece_ok, piece_refused, piece_halt}
 use Rattle.model_text.specs.declared.fault.ModelTextFault.{ModelTextFault}

@@ -2,3 +2,4 @@
 pub mod Reading
 pub mod Views
 pub mod Sections
+pub mod Later

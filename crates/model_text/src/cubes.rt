@@ -14,7 +14,7 @@ use crate::parts::CubeText;
 use crate::pieces::dimension_behind;
 use crate::section::{Section, line_at, new_name_at};
 use dim_name::Name;
-use grammar::{Cursor, Stop, Unwatched, sign_comes, word_comes};
+use grammar::{Cursor, Stop, Unwatched, sign_comes};
 use lists::ListOf;
 use std::alloc::{AllocError, Global};
 
@@ -122,7 +122,7 @@ fn dimensions_at(
 
 /// Reads a cube.
 #[tactic(auto, unfolding(crate::specs::Readers::Reading::read_cube, crate::specs::Readers::Reading::gather_cube_end))]
-fn cube_at(
+pub fn cube_at(
     alloc: Global,
     cursor: &mut Cursor<'_, Unwatched>,
     partial: &mut PartialModel,
@@ -143,22 +143,5 @@ fn cube_at(
         rules,
         order,
     })?;
-    Ok(())
-}
-
-/// Reads the cubes.
-#[tactic(auto, unfolding(crate::specs::Readers::Reading::read_cubes))]
-pub fn cubes_at(
-    alloc: Global,
-    cursor: &mut Cursor<'_, Unwatched>,
-    partial: &mut PartialModel,
-) -> Result<(), Stop<ModelTextFault>>
-    requires { All IsWellFormed (ahead cursor.old) }
-    ensures read { Collects reading.read_cubes partial.old (λ _. partial.new) cursor.old result cursor.new }
-    ensures same { OnOk result (AreSame partial.old partial.new) }
-{
-    'cube: while word_comes(cursor, b"CUBE") {
-        cube_at(alloc, cursor, partial)?;
-    }
     Ok(())
 }

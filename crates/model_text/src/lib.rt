@@ -19,6 +19,7 @@ mod printing;
 mod reading;
 mod scripts;
 mod section;
+mod statements;
 
 pub use fault::{ModelTextCause, ModelTextFault};
 pub use model::ModelText;

@@ -8,13 +8,12 @@ ghost use Rattle.model_text.specs.Readers.Reading as reading;
 ghost use Rattle.model_text.specs.Readers.Views.{Collects, GivesBlocks, fault_from};
 ghost use Rattle.model_text.specs.Watching.{no_parts, nothing_seen};
 
-use crate::cubes::cubes_at;
 use crate::dimensions::dimensions_at;
 use crate::fault::{ModelTextCause, ModelTextFault, refused};
 use crate::model::ModelText;
 use crate::partial::PartialModel;
 use crate::pieces::{closing_at, version_at};
-use crate::scripts::scripts_at;
+use crate::statements::{LaterSection, statements_at};
 use cube_lex::tokens_until;
 use dim_text::DimText;
 use grammar::{Cursor, Stop, TextFault, Unwatched, answer_of_text};
@@ -68,8 +67,8 @@ fn model_at(
 {
     let mut partial = opening_at(alloc, cursor)?;
     let dims = dimensions_at(alloc, cursor, &mut partial)?;
-    cubes_at(alloc, cursor, &mut partial)?;
-    scripts_at(alloc, cursor, &mut partial)?;
+    statements_at(alloc, cursor, &mut partial, LaterSection::Cube)?;
+    statements_at(alloc, cursor, &mut partial, LaterSection::Script)?;
     Ok((dims, partial))
 }
 

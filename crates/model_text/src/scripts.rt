@@ -9,12 +9,12 @@ use crate::partial::PartialModel;
 use crate::parts::ScriptText;
 use crate::pieces::{closing_at, script_file_at};
 use crate::section::{Section, line_at, new_name_at};
-use grammar::{Cursor, Stop, Unwatched, word_comes};
+use grammar::{Cursor, Stop, Unwatched};
 use std::alloc::Global;
 
 /// Reads a script.
 #[tactic(auto, unfolding(crate::specs::Readers::Reading::read_script))]
-fn script_at(
+pub fn script_at(
     alloc: Global,
     cursor: &mut Cursor<'_, Unwatched>,
     partial: &mut PartialModel,
@@ -28,22 +28,5 @@ fn script_at(
     let (_, file) = script_file_at(alloc, cursor)?;
     closing_at(cursor)?;
     partial.add_script(ScriptText { line, name, file })?;
-    Ok(())
-}
-
-/// Reads the scripts.
-#[tactic(auto, unfolding(crate::specs::Readers::Reading::read_scripts))]
-pub fn scripts_at(
-    alloc: Global,
-    cursor: &mut Cursor<'_, Unwatched>,
-    partial: &mut PartialModel,
-) -> Result<(), Stop<ModelTextFault>>
-    requires { All IsWellFormed (ahead cursor.old) }
-    ensures read { Collects reading.read_scripts partial.old (λ _. partial.new) cursor.old result cursor.new }
-    ensures same { OnOk result (AreSame partial.old partial.new) }
-{
-    'script: while word_comes(cursor, b"SCRIPT") {
-        script_at(alloc, cursor, partial)?;
-    }
     Ok(())
 }

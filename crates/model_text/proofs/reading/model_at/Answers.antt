@@ -18,29 +18,29 @@ returns-in_err-dims-clause-read c =
     let p = err_from_is_err_and c.from_residual-in_err-dims.result c.from_residual-in_err-dims.ensures.1 in
     rw (p.1, p.2) (dimensions_stop (lexemes c.args.cursor.now.tokens.now) (lexemes c.opening_at.new.cursor.tokens.now) c.in_ok-partial.partial c.in_err-dims.field-0.0 c.in_ok-partial.ensures.read c.in_err-dims.ensures.read)
 
-pub returns-in_err-cubes_at-clause-read : goal.returns-in_err-cubes_at-clause-read
-returns-in_err-cubes_at-clause-read c =
+pub returns-in_err-statements_at-clause-read : goal.returns-in_err-statements_at-clause-read
+returns-in_err-statements_at-clause-read c =
     let (blocks, read, built) = c.in_ok-dims.ensures.read in
-    let p = err_from_is_err_and c.from_residual-in_err-cubes_at.result c.from_residual-in_err-cubes_at.ensures.1 in
-    rw (p.1, p.2) (cubes_stop (lexemes c.args.cursor.now.tokens.now) (lexemes c.opening_at.new.cursor.tokens.now) (lexemes c.dimensions_at.new.cursor.tokens.now) c.in_ok-partial.partial c.dimensions_at.new.partial blocks c.in_err-cubes_at.field-0.0 c.in_ok-partial.ensures.read read c.in_err-cubes_at.ensures.read)
+    let p = err_from_is_err_and c.from_residual-in_err-statements_at.result c.from_residual-in_err-statements_at.ensures.1 in
+    rw (p.1, p.2) (cubes_stop (lexemes c.args.cursor.now.tokens.now) (lexemes c.opening_at.new.cursor.tokens.now) (lexemes c.dimensions_at.new.cursor.tokens.now) c.in_ok-partial.partial c.dimensions_at.new.partial blocks c.in_err-statements_at.field-0.0 c.in_ok-partial.ensures.read read c.in_err-statements_at.ensures.read)
 
-pub returns-in_err-scripts_at-clause-read : goal.returns-in_err-scripts_at-clause-read
-returns-in_err-scripts_at-clause-read c =
+pub returns-in_err-statements_at-2-clause-read : goal.returns-in_err-statements_at-2-clause-read
+returns-in_err-statements_at-2-clause-read c =
     let (blocks, read, built) = c.in_ok-dims.ensures.read in
-    let p = err_from_is_err_and c.from_residual-in_err-scripts_at.result c.from_residual-in_err-scripts_at.ensures.1 in
-    rw (p.1, p.2) (scripts_stop (lexemes c.args.cursor.now.tokens.now) (lexemes c.opening_at.new.cursor.tokens.now) (lexemes c.dimensions_at.new.cursor.tokens.now) (lexemes c.cubes_at.new.cursor.tokens.now) c.in_ok-partial.partial c.dimensions_at.new.partial c.cubes_at.new.partial blocks c.in_err-scripts_at.field-0.0 c.in_ok-partial.ensures.read read c.in_ok-cubes_at.ensures.read c.in_err-scripts_at.ensures.read)
+    let p = err_from_is_err_and c.from_residual-in_err-statements_at-2.result c.from_residual-in_err-statements_at-2.ensures.1 in
+    rw (p.1, p.2) (scripts_stop (lexemes c.args.cursor.now.tokens.now) (lexemes c.opening_at.new.cursor.tokens.now) (lexemes c.dimensions_at.new.cursor.tokens.now) (lexemes c.statements_at.new.cursor.tokens.now) c.in_ok-partial.partial c.dimensions_at.new.partial c.statements_at.new.partial blocks c.in_err-statements_at-2.field-0.0 c.in_ok-partial.ensures.read read c.in_ok-statements_at.ensures.read c.in_err-statements_at-2.ensures.read)
 
 pub returns-clause-read : goal.returns-clause-read
 returns-clause-read c =
     let (blocks, read, built) = c.in_ok-dims.ensures.read in
-    (blocks, scripts_read (lexemes c.args.cursor.now.tokens.now) (lexemes c.opening_at.new.cursor.tokens.now) (lexemes c.dimensions_at.new.cursor.tokens.now) (lexemes c.cubes_at.new.cursor.tokens.now) _ c.in_ok-partial.partial c.dimensions_at.new.partial c.cubes_at.new.partial c.scripts_at.new.partial blocks c.in_ok-partial.ensures.read read c.in_ok-cubes_at.ensures.read c.in_ok-scripts_at.ensures.read, built)
+    (blocks, scripts_read (lexemes c.args.cursor.now.tokens.now) (lexemes c.opening_at.new.cursor.tokens.now) (lexemes c.dimensions_at.new.cursor.tokens.now) (lexemes c.statements_at.new.cursor.tokens.now) _ c.in_ok-partial.partial c.dimensions_at.new.partial c.statements_at.new.partial c.statements_at-2.new.partial blocks c.in_ok-partial.ensures.read read c.in_ok-statements_at.ensures.read c.in_ok-statements_at-2.ensures.read, built)
 
-pub cubes_at-requires : goal.cubes_at-requires
-cubes_at-requires c =
+pub statements_at-requires : goal.statements_at-requires
+statements_at-requires c =
     let (blocks, read, built) = c.in_ok-dims.ensures.read in
     rests dimensions_exact _ _ _ _ _ read (rests opening_exact _ _ _ _ _ c.in_ok-partial.ensures.read c.requires)
 
-pub scripts_at-requires : goal.scripts_at-requires
-scripts_at-requires c =
+pub statements_at-requires-2 : goal.statements_at-requires-2
+statements_at-requires-2 c =
     let (blocks, read, built) = c.in_ok-dims.ensures.read in
-    rests cubes_exact _ _ _ _ _ c.in_ok-cubes_at.ensures.read (rests dimensions_exact _ _ _ _ _ read (rests opening_exact _ _ _ _ _ c.in_ok-partial.ensures.read c.requires))
+    rests cubes_exact _ _ _ _ _ c.in_ok-statements_at.ensures.read (rests dimensions_exact _ _ _ _ _ read (rests opening_exact _ _ _ _ _ c.in_ok-partial.ensures.read c.requires))

@@ -1,0 +1,20 @@
+use Rattle.std.proofs.Common.{List, length}
+use Rattle.std.specs.List.{All}
+use Rattle.cube_lex.specs.Lexed.{IsWellFormed}
+use Rattle.grammar.specs.Cursor.{lexemes}
+use Rattle.grammar.specs.Reading.{all_of}
+use Rattle.grammar.specs.Tokens.{is_word}
+use Rattle.grammar.proofs.Loops.{Going}
+use Rattle.model_text.specs.Gathering.{Nothing, at}
+use Rattle.model_text.specs.Readers.Later.{word_of, read_one}
+use Rattle.model_text.specs.Readers.Views.{AreSame}
+use Rattle.model_text.proofs.statements.statements_at.Given as goal
+
+abbrev pub invariant-statement : goal.invariant-statement
+invariant-statement l = (front : List (Unit {0}))
+    × Going (is_word (word_of l.section)) (read_one l.section) front (at l.partial Nothing) (lexemes l.cursor.tokens.now) (all_of (is_word (word_of l.section)) (read_one l.section) (at l.fn.partial Nothing) (lexemes l.fn.cursor.tokens.now))
+    × AreSame l.fn.partial l.partial
+    × All IsWellFormed (lexemes l.cursor.tokens.now)
+
+abbrev pub decreases-statement : goal.decreases-statement
+decreases-statement l = length l.cursor.tokens.now
