@@ -32,7 +32,7 @@ slice_get-after : {X : Type 0} (xs ys : List X) (n : ℕ) → slice_get (xs ++ y
 slice_get-after [] ys n = let e : 0 + n ≡ n = omega arith in rw e refl
 slice_get-after (x ∷ xs) ys n = let e : suc (length xs) + n ≡ suc (length xs + n) = omega arith in rw e (slice_get-after xs ys n)
 
-range-split : (a k n : ℕ) → range_with_len a (k + n) ≡ range_with_len a k ++ range_with_len (a + k) n
+pub range-split : (a k n : ℕ) → range_with_len a (k + n) ≡ range_with_len a k ++ range_with_len (a + k) n
 range-split a zero n = let e : 0 + n ≡ n = omega arith in let d : a + 0 ≡ a = omega arith in rw (e, d) refl
 range-split a (suc k) n =
     let e : suc k + n ≡ suc (k + n) = omega arith in

@@ -13,18 +13,11 @@ use Rattle.cube_space.specs.Cells.{IsCell, size_of, cube_of, elements_of, first_
 use Rattle.cube_space.proofs.Places.{cell-place, run_within}
 use Rattle.cube_space.proofs.Radix.{number-below}
 use Rattle.dim_weights.specs.Table.{is_nonzero, nonzero_among}
+use Rattle.model_laws.proofs.Statements.{range-split}
 use Rattle.rule_laws.proofs.SystemFacts.{add_pair}
 use Rattle.rule_model.specs.Weights.{weight, leaf_cells, leaves_below}
 use Rattle.rule_model.specs.Targets.{with_element_at, with_components}
 use Rattle.rule_dense.specs.Private.Plain.{with_leaf}
-
-range-append : (a n m : ℕ) → range_with_len a (n + m) ≡ range_with_len a n ++ range_with_len (a + n) m
-range-append a zero m = let e : a + 0 ≡ a = omega arith in let f : 0 + m ≡ m = omega arith in rw (e, f) refl
-range-append a (suc n) m =
-    let rest = range-append (a + 1) n m in
-    let e : (a + 1) + n ≡ a + suc n = omega arith in
-    let f : suc n + m ≡ suc (n + m) = omega arith in
-    rw f (ap (λ (xs : List ℕ). a ∷ xs) (rw e at rest))
 
 fold-append : {X T : Type 0} (f : T → X → T) (total : T) (xs ys : List X) → fold f total (xs ++ ys) ≡ fold f (fold f total xs) ys
 fold-append f total [] ys = refl
@@ -100,8 +93,8 @@ module _ (space : Layout) (table : ℕ → Value) (cell : ℕ) where
         let rest = size_of space - (first + count) in
         let whole : size_of space ≡ first + (count + rest) = omega (arith, within) in
         let split : range_with_len 0 (size_of space) ≡ range_with_len 0 first ++ (range_with_len first count ++ range_with_len (first + count) rest) =
-        ap (range_with_len 0) whole ∙ range-append 0 first (count + rest) ∙ ap (λ (k : ℕ). range_with_len 0 first ++ range_with_len k (count + rest)) (let e : 0 + first ≡ first = omega arith in e)
-        ∙ ap (λ (xs : List ℕ). range_with_len 0 first ++ xs) (range-append first count rest) in
+        ap (range_with_len 0) whole ∙ range-split 0 first (count + rest) ∙ ap (λ (k : ℕ). range_with_len 0 first ++ range_with_len k (count + rest)) (let e : 0 + first ≡ first = omega arith in e)
+        ∙ ap (λ (xs : List ℕ). range_with_len 0 first ++ xs) (range-split first count rest) in
         let before : with_leaves no_terms (range_with_len 0 first) ≡ no_terms =
         nothing-added no_terms 0 first (λ x from less. apart x (λ same. (let run = in_run x (omega (arith, less, within)) same in omega (arith, run.0, less)))) in
         let own = with_leaves no_terms (range_with_len first count) in
@@ -117,7 +110,7 @@ module _ (space : Layout) (table : ℕ → Value) (cell : ℕ) where
   -- one cell more
   pub with_leaves-more : (a n : ℕ) → with_leaves no_terms (range_with_len a (n + 1)) ≡ with_leaf space table cell (with_leaves no_terms (range_with_len a n)) (a + n)
   with_leaves-more a n =
-      ap (with_leaves no_terms) (range-append a n 1) ∙ fold-append (with_leaf space table cell) no_terms (range_with_len a n) (range_with_len (a + n) 1)
+      ap (with_leaves no_terms) (range-split a n 1) ∙ fold-append (with_leaf space table cell) no_terms (range_with_len a n) (range_with_len (a + n) 1)
 
 -- ---- the cells of a cube, by their places in its run
 

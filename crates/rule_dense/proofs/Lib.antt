@@ -3,3 +3,4 @@ mod Ranges
 mod Ranks
 mod Depths
 mod LeafSums
+mod Rights

@@ -4,9 +4,13 @@
 //! later. It takes memory for the table and for the list of the cells in that order, and nothing else.
 #![tactic(auto)]
 
+pub use table::dense;
+
 mod depth;
 mod level;
 mod order;
 mod place;
 mod plain;
+mod refs;
 mod sums;
+mod table;

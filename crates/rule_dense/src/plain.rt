@@ -1,12 +1,9 @@
 ghost use Rattle.std.specs.Prelude.{◌≡◌, ◌<◌, ◌≤◌, length, All};
 ghost use Rattle.dim_core.specs.Outline.{IsWeight, components_of, most_components};
 ghost use Rattle.cube_space.specs.Cells.{IsCell, elements_of};
-ghost use Rattle.rule_laws.specs.RuleSystem.{base, children_value};
-ghost use Rattle.rule_model.specs.System.{system_of};
 ghost use Rattle.rule_model.specs.Targets.{parts_at};
-ghost use Rattle.stored_values.specs.Stored.{stored_in};
 ghost use Rattle.rule_dense.specs.Limits.{HasSmallCubes};
-ghost use Rattle.rule_dense.specs.Private.Plain.{table_of};
+ghost use Rattle.rule_dense.specs.Private.Plain.{base_in, children_in};
 
 use crate::place::place_of;
 use crate::sums::{sum_below, sum_of_parts};
@@ -56,11 +53,18 @@ impl<'a> Plain<'a> {
         }
     }
 
+    /// Its values.
+    pub fn values(&self) -> &[Value]
+        ensures { result.now ≡ self.now.values }
+    {
+        self.values
+    }
+
     /// What a cell has where no statement governs it.
     #[tactic(auto, unfolding(rule_model::specs::System::system_of))]
-    fn base_of(&self, cell: u64) -> Value
+    pub fn base_of(&self, cell: u64) -> Value
         requires { IsCell self.now.model.space cell }
-        ensures { result ≡ base (system_of self.now.model) (stored_in self.now.entries) (table_of self.now.values) cell }
+        ensures { result ≡ base_in self.now cell }
     {
         if self.model.space().is_leaf(cell) {
             Value::Num(self.store.get(cell))
@@ -71,10 +75,9 @@ impl<'a> Plain<'a> {
 
     /// The weighted sum over the components of a cell's element, or what the cell has where no statement governs it.
     #[tactic(auto, unfolding(rule_model::specs::System::system_of, rule_model::specs::Targets::component_cells))]
-    fn children_of(&self, cell: u64, dim: usize) -> Value
+    pub fn children_of(&self, cell: u64, dim: usize) -> Value
         requires { IsCell self.now.model.space cell }
-        ensures { result ≡ children_value (system_of self.now.model) (stored_in self.now.entries) (table_of self.now.values)
-            cell dim }
+        ensures { result ≡ children_in self.now cell dim }
     {
         let parts = parts_at(self.model.space(), cell, dim);
         if parts.is_empty() {

@@ -3,10 +3,12 @@ use Rattle.std.specs.Prelude.{◌≡◌, ℕ, ◌*◌, List, map, All, Contains}
 use Rattle.std.specs.List.{range_with_len}
 use Rattle.std.specs.List.Sorted.{IsNonDecreasingBy}
 use Rattle.dim_core.specs.Outline.{most_elements}
+use Rattle.cube_fixed.specs.declared.value.Value.{Value}
 use Rattle.cube_space.specs.Cells.{IsCell, size_of}
-use Rattle.rule_laws.specs.RuleSystem.{depth}
+use Rattle.rule_laws.specs.RuleSystem.{Stored, depth, dense_value}
 use Rattle.rule_model.specs.BoundModel.{BoundModel}
 use Rattle.rule_model.specs.System.{system_of}
+use Rattle.rule_dense.specs.Private.Plain.{table_of}
 
 -- no cell has a greater level: it has at most 16 elements, each of a level below the most elements
 abbrev pub most_levels : ℕ
@@ -25,3 +27,8 @@ pub record IsByDepth (model : BoundModel) (pairs : List (ℕ × ℕ)) : Type 0 w
   pub deep : All (λ pair. IsCell model.space pair.1 × (pair.0 ≡ depth (system_of model) pair.1)) pairs
   pub each : (cell : ℕ) → IsCell model.space cell → Contains pairs (with_depth model cell)
   pub rising : IsNonDecreasingBy (λ pair. pair.0) pairs
+
+-- each cell has its dense value
+abbrev pub AreDense : BoundModel → Stored → List Value → Type 0
+AreDense model stored values =
+    (cell : ℕ) → IsCell model.space cell → table_of values cell ≡ dense_value (system_of model) stored cell
