@@ -12,8 +12,8 @@ pub fn place_of<'a>(space: &'a Space, cell: u64, at: &mut [u32; 16]) -> (u32, &'
     ensures there { result.0 < length space.now.cubes }
     ensures few { length result.1.now ≤ 16 }
     ensures dims { All (λ dim. dim < length space.now.dimensions) result.1.now }
-    ensures digits { are_digits (sizes_of (axes_of space.now.dimensions result.1.now)) (take (length result.1.now) at.new)
-        ≡ true }
+    ensures digits { are_digits (sizes_of (axes_of space.now.dimensions result.1.now))
+        (take (length result.1.now) at.new) ≡ true }
     ensures axes { axes_of space.now.dimensions result.1.now ≡ axes space.now (cube_of space.now cell) }
     ensures elements { take (length result.1.now) at.new ≡ elements_of space.now cell }
 {

@@ -21,9 +21,9 @@ use std::alloc::{AllocError, Global};
 use std::marker::Brand;
 use std::sync::ledger::{Blank, Ledger};
 
-/// The value of a cell, over what is stored: a table is filled with the values of all cells of the model, each when those
-/// that it reads are known. The rules are ordered, the height of the order is within its limit, and no cube has more than
-/// 1,000,000 cells. It fails for want of memory alone.
+/// The value of a cell, over what is stored: a table is filled with the values of all cells of the model, each when
+/// those that it reads are known. The rules are ordered, the height of the order is within its limit, and no cube has
+/// more than 1,000,000 cells. It fails for want of memory alone.
 ///
 /// The time grows with the square of a cube's cells, since a total looks at each cell of its cube.
 pub fn dense(alloc: Global, model: &Model, store: &Store, cell: u64) -> Result<Value, AllocError>
