@@ -7,3 +7,7 @@ pub use Rattle.rule_model.specs.Order
 pub use Rattle.rule_model.specs.Conditions
 pub use Rattle.rule_model.specs.System
 pub use Rattle.rule_model.specs.Governing
+pub use Rattle.rule_evaluate.specs.Readings
+pub use Rattle.rule_evaluate.specs.Course
+pub use Rattle.rule_evaluate.specs.Known
+pub use Rattle.rule_dense.specs.Limits
