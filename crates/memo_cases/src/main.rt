@@ -1,0 +1,33 @@
+//! Two readers at a memo of one slot, over a model whose text is read from stdin: each looks for the value of a leaf
+//! cell and keeps it, and finds what the other kept; the slot is then for that cell alone. Last they look and keep in
+//! two threads at once.
+#![tactic(auto)]
+
+mod leaf;
+mod readers;
+
+use crate::leaf::leaf_value;
+use crate::readers::{at_once, in_turn};
+use cell_store::Store;
+use cube_fixed::Money;
+use std::io;
+use std::io::Write;
+
+// What is stored in the two cells, in millionths.
+const NUMBER: i64 = 25_000_000;
+
+fn main(rt: HostRuntime) -> io::Result<()> {
+    let text = io::read_to_string(rt.alloc(), rt.reader())?;
+    let mut out = String::new(rt.alloc());
+    let number = Money::of(NUMBER).unwrap_or(Money::ZERO);
+    if let Ok(text) = model_text::read(rt.alloc(), text.as_bytes())
+        && let Ok(model) = model_deploy::deploy(rt.alloc(), text)
+        && let Ok(store) = Store::new(rt.alloc()).apply(rt.alloc(), &[(0, number), (1, number)])
+        && let Some(first) = leaf_value(&model, &store, 0)
+        && let Some(second) = leaf_value(&model, &store, 1)
+    {
+        in_turn(rt.alloc(), &model, &store, &first, &second, &mut out)?;
+        at_once(&rt, rt.alloc(), &model, &store, &first, &mut out)?;
+    }
+    io::writer(&rt).write_all(out.as_bytes())
+}
