@@ -1,3 +1,4 @@
+use crate::dimensions::Part;
 use crate::{commands, dimensions, models, numbers, texts, tokens};
 use std::alloc::{AllocError, Global};
 use std::fmt::{Debug, Write};
@@ -26,9 +27,34 @@ pub fn refused(alloc: Global, fault: &impl Debug) -> Result<Answer, AllocError> 
     Ok(Answer::Refused(format!(in alloc; "{fault:?}")?))
 }
 
-/// Adds a line with these values. It is the one place where values are formatted, since each place costs its proof.
-pub fn add_line(out: &mut String, values: &impl Debug) -> Result<(), AllocError> {
-    writeln!(out, "{values:?}")
+/// The lines that are shown of what was read. Want of memory is told at the end alone, so that what adds lines has one
+/// way out.
+#[derive(Drop)]
+pub struct Lines {
+    text: String,
+    outcome: Result<(), AllocError>,
+}
+
+impl Lines {
+    pub fn new(alloc: Global) -> Lines {
+        Lines {
+            text: String::new(alloc),
+            outcome: Ok(()),
+        }
+    }
+
+    /// Adds a line with these values. It is the one place where values are formatted, since each place costs its proof.
+    pub fn add(&mut self, values: &impl Debug) {
+        if self.outcome.is_ok() {
+            self.outcome = writeln!(self.text, "{values:?}");
+        }
+    }
+
+    /// All the lines.
+    pub fn answer(self) -> Result<Answer, AllocError> {
+        self.outcome?;
+        Ok(Answer::Shown(self.text.into_bytes()))
+    }
 }
 
 /// The bytes of a name or of a text, if they are UTF-8.
@@ -61,9 +87,9 @@ pub fn answer_to(alloc: Global, kind: &str, text: &[u8]) -> Result<Answer, Alloc
         "tokens" => tokens::tokens(alloc, text),
         "names" => numbers::names(alloc, text),
         "numbers" => numbers::numbers(alloc, text),
-        "dim" => texts::dim(alloc, text),
-        "elements" => dimensions::elements(alloc, text),
-        "weights" => dimensions::weights(alloc, text),
+        "dim" => dimensions::block(alloc, text, Part::Text),
+        "elements" => dimensions::block(alloc, text, Part::Elements),
+        "weights" => dimensions::block(alloc, text, Part::Weights),
         "model" => texts::model(alloc, text),
         "lines" => models::lines(alloc, text),
         "space" => models::space(alloc, text),

@@ -21,22 +21,27 @@ fn answer_case(alloc: Global, case: &str, out: &mut Vec<u8>) -> Result<(), Alloc
     let (heading, lines) = case.split_once('\n').unwrap_or((case, ""));
     let (kind, _title) = heading.split_once(':').unwrap_or((heading, ""));
     let mut text = Vec::new(alloc);
-    if !spell_lines(lines, &mut text)? {
-        return write_answer(out, b"a line of this case spells nothing");
+    if spell_lines(lines, &mut text)? {
+        answer_text(alloc, kind, &text, out)
+    } else {
+        write_answer(out, b"a line of this case spells nothing")
     }
+}
+
+fn answer_text(
+    alloc: Global,
+    kind: &str,
+    text: &[u8],
+    out: &mut Vec<u8>,
+) -> Result<(), AllocError> {
     if let Some(kind) = kind.strip_prefix("cuts ") {
-        return answer_cuts(alloc, kind, &text, out);
+        return answer_cuts(alloc, kind, text, out);
     }
-    let last = kind.strip_prefix("last ");
-    let shown = answer_to(alloc, last.unwrap_or(kind), &text)?.into_shown();
-    write_answer(
-        out,
-        if last.is_some() {
-            last_line(&shown)
-        } else {
-            &shown
-        },
-    )
+    if let Some(kind) = kind.strip_prefix("last ") {
+        let shown = answer_to(alloc, kind, text)?.into_shown();
+        return write_answer(out, last_line(&shown));
+    }
+    write_answer(out, &answer_to(alloc, kind, text)?.into_shown())
 }
 
 fn spell_lines(lines: &str, text: &mut Vec<u8>) -> Result<bool, AllocError> {
@@ -50,7 +55,13 @@ fn spell_lines(lines: &str, text: &mut Vec<u8>) -> Result<bool, AllocError> {
 
 fn last_line(shown: &[u8]) -> &[u8] {
     let shown = shown.strip_suffix(b"\n").unwrap_or(shown);
-    shown.rsplit(|byte| *byte == b'\n').next().unwrap_or(shown)
+    let mut last = shown;
+    for at in 0..shown.len() {
+        if shown[at] == b'\n' {
+            last = &shown[at + 1..];
+        }
+    }
+    last
 }
 
 // How each beginning of the text is answered, where that is another answer than before.
@@ -62,10 +73,7 @@ fn answer_cuts(
 ) -> Result<(), AllocError> {
     let mut before = String::new(alloc);
     for len in 0..=text.len() {
-        let found = match answer_to(alloc, kind, &text[..len])? {
-            Answer::Shown(_) => String::from_str(alloc, "is read")?,
-            Answer::Refused(fault) => fault,
-        };
+        let found = outcome_of(alloc, kind, &text[..len])?;
         if found != before {
             let line = format!(in alloc; "from {len} bytes: {found}")?;
             write_answer(out, line.as_bytes())?;
@@ -73,4 +81,11 @@ fn answer_cuts(
         }
     }
     Ok(())
+}
+
+fn outcome_of(alloc: Global, kind: &str, text: &[u8]) -> Result<String, AllocError> {
+    match answer_to(alloc, kind, text)? {
+        Answer::Shown(_) => String::from_str(alloc, "is read"),
+        Answer::Refused(fault) => Ok(fault),
+    }
 }

@@ -1,67 +1,83 @@
 ghost use Rattle.std.specs.Prelude.{◌<◌, length};
 
-use crate::answers::{Answer, add_line, refused, shown};
+use crate::answers::{Answer, Lines, refused, shown};
 use cube_lex::Tokens;
 use dim_core::{Dimension, Name};
 use dim_text::DimText;
 use dim_weights::Weights;
 use std::alloc::{AllocError, Global};
 
-/// The elements and attributes of a block, and what the names behind the block name.
-pub fn elements(alloc: Global, text: &[u8]) -> Result<Answer, AllocError> {
+/// What is shown of a block.
+#[derive(Clone, Copy)]
+pub enum Part {
+    /// The block, printed.
+    Text,
+    /// Its elements and attributes, and what the names behind it name.
+    Elements,
+    /// The leaves that count in each of its elements, and how much some elements do.
+    Weights,
+}
+
+/// A part of a block.
+pub fn block(alloc: Global, text: &[u8], part: Part) -> Result<Answer, AllocError> {
     let (tokens, _fault) = cube_lex::tokens_until(alloc, text)?;
     match dim_text::read(alloc, &tokens, 0) {
-        Ok((block, next)) => {
-            let mut out = String::new(alloc);
-            add_elements(&mut out, &block)?;
-            add_attributes(&mut out, block.dimension())?;
-            add_line(&mut out, &next)?;
-            for i in next..tokens.len() {
-                add_named(alloc, &mut out, block.dimension(), &tokens, i)?;
-            }
-            Ok(Answer::Shown(out.into_bytes()))
-        }
+        Ok((block, next)) => match part {
+            Part::Text => printed(alloc, &block),
+            Part::Elements => elements(alloc, &tokens, &block, next),
+            Part::Weights => weights(alloc, block.dimension()),
+        },
         Err(fault) => refused(alloc, &fault),
     }
 }
 
-fn add_elements(out: &mut String, block: &DimText) -> Result<(), AllocError> {
+fn printed(alloc: Global, block: &DimText) -> Result<Answer, AllocError> {
+    let mut out = Vec::new(alloc);
+    dim_text::print(alloc, block, &mut out)?;
+    Ok(Answer::Shown(out))
+}
+
+fn elements(
+    alloc: Global,
+    tokens: &Tokens<'_>,
+    block: &DimText,
+    next: usize,
+) -> Result<Answer, AllocError> {
+    let mut lines = Lines::new(alloc);
+    add_elements(&mut lines, block);
+    lines.add(&next);
+    for i in next..tokens.len() {
+        add_named(alloc, &mut lines, block.dimension(), tokens, i)?;
+    }
+    lines.answer()
+}
+
+fn add_elements(lines: &mut Lines, block: &DimText) {
     let dimension = block.dimension();
     let name = shown(dimension.name().shown());
-    add_line(out, &(name, block.head(), dimension.order()))?;
+    lines.add(&(name, block.head(), dimension.order()));
     for element in 0..dimension.len() {
-        add_element(out, block, element)?;
+        add_element(lines, block, element);
     }
-    Ok(())
+    for attribute in dimension.attributes() {
+        let name = shown(attribute.name.shown());
+        lines.add(&(attribute.element, name, shown(attribute.text.as_slice())));
+    }
 }
 
-fn add_element(out: &mut String, block: &DimText, element: u32) -> Result<(), AllocError>
+fn add_element(lines: &mut Lines, block: &DimText, element: u32)
     requires { element < length block.now.dimension.elements }
 {
-    let (line, dimension) = (block.line(element), block.dimension());
+    let dimension = block.dimension();
     let name = shown(dimension.name_of(element).shown());
-    let components = dimension.components(element);
-    add_line(
-        out,
-        &(element, name, line, dimension.is_leaf(element), components),
-    )
-}
-
-fn add_attributes(out: &mut String, dimension: &Dimension) -> Result<(), AllocError> {
-    for attribute in dimension.attributes() {
-        let (name, text) = (
-            shown(attribute.name.shown()),
-            shown(attribute.text.as_slice()),
-        );
-        add_line(out, &(attribute.element, name, text))?;
-    }
-    Ok(())
+    let (line, is_leaf) = (block.line(element), dimension.is_leaf(element));
+    lines.add(&(element, name, line, is_leaf, dimension.components(element)));
 }
 
 // The element that a token names, and the text that each element has under that name.
 fn add_named(
     alloc: Global,
-    out: &mut String,
+    lines: &mut Lines,
     dimension: &Dimension,
     tokens: &Tokens<'_>,
     i: usize,
@@ -76,38 +92,31 @@ fn add_named(
     for element in 0..dimension.len() {
         texts.push(shown(dimension.attribute(element, &name)))?;
     }
-    add_line(
-        out,
-        &(shown(name.shown()), dimension.index_of(&name), texts),
-    )
+    lines.add(&(shown(name.shown()), dimension.index_of(&name), texts));
+    Ok(())
 }
 
-/// The leaves that count in each element of a block, and how much some elements do.
-pub fn weights(alloc: Global, text: &[u8]) -> Result<Answer, AllocError> {
-    let (tokens, _fault) = cube_lex::tokens_until(alloc, text)?;
-    match dim_text::read(alloc, &tokens, 0) {
-        Ok((block, _next)) => weights_of(alloc, block.dimension()),
-        Err(fault) => refused(alloc, &fault),
-    }
-}
-
-fn weights_of(alloc: Global, dimension: &Dimension) -> Result<Answer, AllocError> {
+fn weights(alloc: Global, dimension: &Dimension) -> Result<Answer, AllocError> {
     match Weights::of(alloc, dimension) {
         Ok(weights) => {
-            let mut out = String::new(alloc);
-            add_line(&mut out, &weights.greatest())?;
-            for element in 0..dimension.len() {
-                if (element as usize) < weights.len() {
-                    add_weights(&mut out, &weights, element)?;
-                }
-            }
-            Ok(Answer::Shown(out.into_bytes()))
+            let mut lines = Lines::new(alloc);
+            add_each_weights(&mut lines, &weights, dimension.len());
+            lines.answer()
         }
         Err(fault) => refused(alloc, &fault),
     }
 }
 
-fn add_weights(out: &mut String, weights: &Weights, element: u32) -> Result<(), AllocError>
+fn add_each_weights(lines: &mut Lines, weights: &Weights, elements: u32) {
+    lines.add(&weights.greatest());
+    for element in 0..elements {
+        if (element as usize) < weights.len() {
+            add_weights(lines, weights, element);
+        }
+    }
+}
+
+fn add_weights(lines: &mut Lines, weights: &Weights, element: u32)
     requires { element < length weights.now }
 {
     let leaves = weights.leaves(element);
@@ -118,13 +127,6 @@ fn add_weights(out: &mut String, weights: &Weights, element: u32) -> Result<(), 
         weights.coef(element, 3),
         weights.coef(element, 1_000),
     ];
-    add_line(
-        out,
-        &(
-            element,
-            leaves.len(),
-            &leaves[..leaves.len().min(4)],
-            coefficients,
-        ),
-    )
+    let first = &leaves[..leaves.len().min(4)];
+    lines.add(&(element, leaves.len(), first, coefficients));
 }

@@ -1,6 +1,5 @@
-use crate::answers::{Answer, add_line, refused, shown};
+use crate::answers::{Answer, Lines, refused, shown};
 use cube_space::Space;
-use dim_name::Name;
 use model_text::{CubeText, ModelText};
 use std::alloc::{AllocError, Global};
 
@@ -8,87 +7,70 @@ use std::alloc::{AllocError, Global};
 pub fn lines(alloc: Global, text: &[u8]) -> Result<Answer, AllocError> {
     match model_text::read(alloc, text) {
         Ok(model) => {
-            let mut out = String::new(alloc);
-            add_model(&mut out, &model)?;
-            Ok(Answer::Shown(out.into_bytes()))
+            let mut lines = Lines::new(alloc);
+            add_model(&mut lines, &model);
+            lines.answer()
         }
         Err(fault) => refused(alloc, &fault),
     }
 }
 
-fn add_model(out: &mut String, model: &ModelText) -> Result<(), AllocError> {
-    add_line(out, &("MODEL", model.version()))?;
+fn add_model(lines: &mut Lines, model: &ModelText) {
+    lines.add(&("MODEL", model.version()));
     for dim in model.dims() {
-        add_line(
-            out,
-            &(dim.head(), "DIM", shown(dim.dimension().name().shown())),
-        )?;
+        lines.add(&(dim.head(), "DIM", shown(dim.dimension().name().shown())));
     }
     for cube in model.cubes() {
-        add_cube(out, cube)?;
+        add_cube(lines, cube);
     }
     for script in model.scripts() {
-        let (name, file) = (shown(script.name.shown()), shown(script.file.as_slice()));
-        add_line(out, &(script.line, "SCRIPT", name, file))?;
+        let name = shown(script.name.shown());
+        lines.add(&(script.line, "SCRIPT", name, shown(script.file.as_slice())));
     }
-    Ok(())
 }
 
-fn add_cube(out: &mut String, cube: &CubeText) -> Result<(), AllocError> {
-    add_line(
-        out,
-        &(
-            cube.line,
-            "CUBE",
-            shown(cube.name.shown()),
-            cube.dims.as_slice(),
-        ),
-    )?;
+fn add_cube(lines: &mut Lines, cube: &CubeText) {
+    let name = shown(cube.name.shown());
+    lines.add(&(cube.line, "CUBE", name, cube.dims.as_slice()));
     if let Some((line, file)) = &cube.rules {
-        add_line(out, &(*line, "RULES", shown(file.as_slice())))?;
+        lines.add(&(*line, "RULES", shown(file.as_slice())));
     }
-    match &cube.order {
-        Some((line, order)) => add_line(
-            out,
-            &(*line, "ORDER", order.version, order.words.as_slice().len()),
-        ),
-        None => Ok(()),
+    if let Some((line, order)) = &cube.order {
+        let words = order.words.as_slice().len();
+        lines.add(&(*line, "ORDER", order.version, words));
     }
 }
 
 /// The cells of a model's cubes, by number, and the cubes and dimensions that have its scripts' names.
 pub fn space(alloc: Global, text: &[u8]) -> Result<Answer, AllocError> {
-    let (model, again) = match (model_text::read(alloc, text), model_text::read(alloc, text)) {
-        (Ok(model), Ok(again)) => (model, again),
-        (Err(fault), _) | (_, Err(fault)) => return refused(alloc, &fault),
-    };
+    match model_text::read(alloc, text) {
+        Ok(model) => space_of(alloc, model, text),
+        Err(fault) => refused(alloc, &fault),
+    }
+}
+
+fn space_of(alloc: Global, model: ModelText, text: &[u8]) -> Result<Answer, AllocError> {
     match model_deploy::deploy(alloc, model) {
         Ok(model) => {
-            let mut out = String::new(alloc);
-            add_space(&mut out, model.space())?;
-            for script in again.scripts() {
-                add_named(&mut out, model.space(), &script.name)?;
-            }
-            Ok(Answer::Shown(out.into_bytes()))
+            let mut lines = Lines::new(alloc);
+            add_space(&mut lines, model.space());
+            add_scripts(alloc, &mut lines, model.space(), text);
+            lines.answer()
         }
         Err(fault) => refused(alloc, &fault),
     }
 }
 
-fn add_space(out: &mut String, space: &Space) -> Result<(), AllocError> {
-    add_line(out, &(space.cubes(), space.dimensions(), space.size()))?;
+fn add_space(lines: &mut Lines, space: &Space) {
+    lines.add(&(space.cubes(), space.dimensions(), space.size()));
     for cube in 0..space.cubes() {
-        let (name, dims) = (
-            shown(space.shape(cube).name.shown()),
-            space.shape(cube).dims.as_slice(),
-        );
-        add_line(
-            out,
-            &(cube, name, dims, space.cells(cube), space.first(cube)),
-        )?;
+        let shape = space.shape(cube);
+        let (cells, first) = (space.cells(cube), space.first(cube));
+        let name = shown(shape.name.shown());
+        lines.add(&(cube, name, shape.dims.as_slice(), cells, first));
     }
     for cell in 0..space.size().min(32) {
-        add_cell(out, space, cell)?;
+        add_cell(lines, space, cell);
     }
     for cube in 0..=space.cubes() {
         let numbers = [
@@ -97,43 +79,36 @@ fn add_space(out: &mut String, space: &Space) -> Result<(), AllocError> {
             space.number(cube, &[0]),
             space.number(cube, &[0, 0, 0]),
         ];
-        add_line(out, &(cube, numbers))?;
+        lines.add(&(cube, numbers));
     }
-    Ok(())
 }
 
 // A cell by its number, which is found again by the cell's place.
-fn add_cell(out: &mut String, space: &Space, cell: u64) -> Result<(), AllocError> {
+fn add_cell(lines: &mut Lines, space: &Space, cell: u64) {
     if cell >= space.size() {
-        return Ok(());
+        return;
     }
     let mut at = [9; 16];
     let cube = space.place(cell, &mut at);
     if cube >= space.cubes() {
-        return Ok(());
+        return;
     }
     let dims = space.shape(cube).dims.as_slice().len();
     let place = &at[..dims.min(16)];
-    add_line(
-        out,
-        &(
-            cell,
-            space.is_leaf(cell),
-            cube,
-            place,
-            at[15],
-            space.number(cube, place),
-        ),
-    )
+    let (is_leaf, number) = (space.is_leaf(cell), space.number(cube, place));
+    lines.add(&(cell, is_leaf, cube, place, at[15], number));
 }
 
-fn add_named(out: &mut String, space: &Space, name: &Name) -> Result<(), AllocError> {
-    add_line(
-        out,
-        &(
-            shown(name.shown()),
-            space.cube_of(name),
-            space.dimension_of(name),
-        ),
-    )
+// Deployment takes the model, so its scripts are read again.
+fn add_scripts(alloc: Global, lines: &mut Lines, space: &Space, text: &[u8]) {
+    match model_text::read(alloc, text) {
+        Ok(model) => {
+            for script in model.scripts() {
+                let name = &script.name;
+                let (cube, dimension) = (space.cube_of(name), space.dimension_of(name));
+                lines.add(&(shown(name.shown()), cube, dimension));
+            }
+        }
+        Err(fault) => lines.add(&fault),
+    }
 }

@@ -1,18 +1,18 @@
-use crate::answers::{Answer, add_line, refused, shown};
+use crate::answers::{Answer, Lines, refused, shown};
 use cube_fixed::{NumberFault, Value};
 use dim_name::Name;
 use std::alloc::{AllocError, Global};
 
 /// The key of each name, a name a line, or why it is none.
 pub fn names(alloc: Global, text: &[u8]) -> Result<Answer, AllocError> {
-    let mut out = String::new(alloc);
+    let mut lines = Lines::new(alloc);
     for line in shown(text).lines() {
         match Name::new(alloc, line.as_bytes()) {
-            Ok(name) => add_line(&mut out, &(shown(name.shown()), shown(name.key())))?,
-            Err(fault) => add_line(&mut out, &fault)?,
+            Ok(name) => lines.add(&(shown(name.shown()), shown(name.key()))),
+            Err(fault) => lines.add(&fault),
         }
     }
-    Ok(Answer::Shown(out.into_bytes()))
+    lines.answer()
 }
 
 /// The result of each operation, an operation a line: a word and its numbers.

@@ -1,25 +1,24 @@
-use crate::answers::{Answer, add_line, shown};
-use cube_lex::Kind;
+use crate::answers::{Answer, Lines, shown};
+use cube_lex::{Kind, Tokens};
 use std::alloc::{AllocError, Global};
 
 /// The tokens of a text, and its first fault, as both calls give it.
 pub fn tokens(alloc: Global, text: &[u8]) -> Result<Answer, AllocError> {
-    let mut out = String::new(alloc);
     let (found, fault) = cube_lex::tokens_until(alloc, text)?;
+    let mut lines = Lines::new(alloc);
+    add_tokens(alloc, &mut lines, &found)?;
+    let whole = cube_lex::tokens(alloc, text).err();
+    lines.add(&(fault, whole, found.end_line()));
+    lines.answer()
+}
+
+fn add_tokens(alloc: Global, lines: &mut Lines, found: &Tokens<'_>) -> Result<(), AllocError> {
     for i in 0..found.len() {
-        let (kind, start, len, line) = (
-            found.kind(i),
-            found.start(i),
-            found.piece(i).len(),
-            found.line(i),
-        );
-        add_line(&mut out, &(kind, start, len, line))?;
+        let kind = found.kind(i);
+        lines.add(&(kind, found.start(i), found.piece(i).len(), found.line(i)));
         if kind == Kind::Text {
-            let text = found.text(alloc, i)?;
-            add_line(&mut out, &shown(&text))?;
+            lines.add(&shown(&found.text(alloc, i)?));
         }
     }
-    let whole = cube_lex::tokens(alloc, text).err();
-    add_line(&mut out, &(fault, whole, found.end_line()))?;
-    Ok(Answer::Shown(out.into_bytes()))
+    Ok(())
 }
