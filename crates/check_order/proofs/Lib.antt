@@ -1,0 +1,4 @@
+pub mod PartsRead
+pub mod Walks
+pub mod FirstLate
+pub mod Firsts

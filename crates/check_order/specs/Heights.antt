@@ -1,0 +1,18 @@
+-- The heights of the declared order, which no more than the limit of cells' ranks may come of.
+use Rattle.std.specs.Prelude.{ℕ, suc, nat_lt, Option, List, map, take}
+use Rattle.std.specs.List.{range_with_len, find}
+use Rattle.cube_space.specs.Radix.{product}
+use Rattle.rule_model.specs.BoundModel.{BoundModel}
+use Rattle.rule_model.specs.Order.{most_positions, position_sizes}
+
+-- the greatest height that an order may have
+abbrev pub greatest_height : ℕ
+greatest_height = 65536
+
+-- the height up to each position: the product of the sizes of the positions up to it
+abbrev pub heights : List ℕ → List ℕ
+heights sizes = map (λ n. product (take (suc n) sizes)) (range_with_len 0 most_positions)
+
+-- the height up to the first position at which it is too great
+unfoldable pub first_too_high : BoundModel → Option ℕ
+first_too_high model = find (nat_lt greatest_height) (heights (position_sizes model))
