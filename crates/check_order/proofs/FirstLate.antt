@@ -1,10 +1,9 @@
 -- The first reference that a walk finds late is the first of the marks that fails.
-use Rattle.std.proofs.Common.{inl, inr, nat_lt, ◌≡◌, refl, sym, ap, ◌∙◌, subst, arith, ℕ, zero, suc, ◌+◌, ◌<◌, ◌≤◌, min, Bool, true, false, not, ◌&&◌, Option, Some, None, option_map, if◌then◌else◌, List, [], ◌∷◌, ◌++◌, length, map, fold}
+use Rattle.std.proofs.Common.{inl, inr, nat_lt, ◌≡◌, refl, sym, ap, ◌∙◌, arith, ℕ, suc, ◌+◌, min, Bool, true, false, not, Option, Some, None, option_map, if◌then◌else◌, List, [], ◌∷◌, ◌++◌, length, map}
 use Rattle.std.specs.List.{position, position_or_len}
 use Rattle.std.proofs.lemmas.Bool.{cases_lt, lt-ltb, le-ltb}
 use Rattle.std.proofs.lemmas.List.Sums.{fold-append}
 use Rattle.rule_model.specs.declared.rules.Form.{Form}
-use Rattle.rule_model.specs.declared.rules.Form.TheVariants.{Both, LeafFirst, ConsFirst}
 use Rattle.rule_model.specs.declared.rules.Statement.{Statement}
 use Rattle.rule_model.specs.BoundModel.{BoundModel}
 use Rattle.rule_model.specs.Conditions.{read_count}
@@ -18,11 +17,11 @@ use Rattle.check_order.specs.References.{both_marks, marks_by, marks_of, part_ma
 use Rattle.check_order.specs.Private.Walk.{seen_next, seen_after, none_seen, earliest}
 
 -- the first mark that fails is the first one, where that does
-fails-first : (marks : List Bool) → position not (false ∷ marks) ≡ Some 0
+pub fails-first : (marks : List Bool) → position not (false ∷ marks) ≡ Some 0
 fails-first marks = ap (λ t. if t then Some 0 else None) (lt-ltb 0 (suc (length marks)) (omega arith))
 
 -- else the first one of the marks after it
-passes-first : (marks : List Bool) → position not (true ∷ marks) ≡ option_map suc (position not marks)
+pub passes-first : (marks : List Bool) → position not (true ∷ marks) ≡ option_map suc (position not marks)
 passes-first marks = by (position_or_len not marks) (length marks)
   where
     by : (k n : ℕ) → (if nat_lt (1 + k) (suc n) then Some (1 + k) else None) ≡ option_map suc (if nat_lt k n then Some k else None)
@@ -75,7 +74,7 @@ zero-second : (a : Option ℕ) → Some 0 ≡ earliest (option_map suc a) (Some 
 zero-second None = refl
 zero-second (Some a) = ap Some (let e : 0 ≡ min (suc a) 0 = omega arith in e)
 
-both-first : (l c : List Bool) → position not (both_marks l c) ≡ earliest (position not l) (position not c)
+pub both-first : (l c : List Bool) → position not (both_marks l c) ≡ earliest (position not l) (position not c)
 both-first [] c = refl
 both-first (a ∷ l) [] = earliest-none (position not (a ∷ l))
 both-first (true ∷ l) (true ∷ c) =

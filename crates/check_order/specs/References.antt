@@ -1,5 +1,6 @@
 -- Which references of a model don't stand before the cells of their statement in the declared order.
-use Rattle.std.specs.Prelude.{ℕ, suc, ◌+◌, Bool, true, false, not, ◌&&◌, Option, None, List, [], ◌∷◌, ◌++◌, map, length, option_map, slice_get}
+use Rattle.std.specs.Prelude.{ℕ, suc, ◌+◌, Bool, true, false, not, ◌&&◌, Option, None, option_map}
+use Rattle.std.specs.Prelude.{List, [], ◌∷◌, ◌++◌, map, length, slice_get}
 use Rattle.std.specs.List.{flat_map, filter_map, range_with_len, position}
 use Rattle.std.specs.Option.{option_map_or}
 use Rattle.rule_laws.specs.declared.formula.Formula.{Formula}

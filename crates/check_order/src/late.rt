@@ -1,4 +1,5 @@
 ghost use Rattle.std.specs.Prelude.{◌≡◌, ◌<◌, ◌≤◌, ◌^◌, length, slice_get, IfSome};
+ghost use Rattle.cube_space.specs.Cells.{IsSpace};
 ghost use Rattle.rule_model.specs.Conditions.{IsStatement, AreRules};
 ghost use Rattle.check_order.specs.References.{marks_of, first_late, late_of, late_references};
 
@@ -56,7 +57,9 @@ fn late_in_cube(model: &Model, cube: u32) -> Option<OrderFault>
 /// The first reference of a model that doesn't stand before its cells.
 #[tactic(auto, unfolding(crate::specs::References::late_references))]
 pub fn first_late(model: &Model) -> Option<OrderFault>
-    ensures { result ≡ slice_get (late_references model.now) 0 }
+    ensures value { result ≡ slice_get (late_references model.now) 0 }
+    ensures valid { IsSpace model.now.space }
+    ensures rules { AreRules model.now.space model.now.rules }
 {
     'each: for cube in 0..model.space().cubes() {
         if let Some(fault) = late_in_cube(model, cube) {

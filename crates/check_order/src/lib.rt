@@ -5,8 +5,12 @@
 //! is. Nothing here takes memory.
 #![tactic(auto)]
 
+pub use check::check_order;
 pub use fault::OrderFault;
+pub use height::MAX_HEIGHT;
 
+mod check;
 mod fault;
+mod height;
 mod late;
 mod walk;

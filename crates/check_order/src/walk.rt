@@ -7,8 +7,8 @@ ghost use Rattle.check_order.specs.References.{part_marks};
 ghost use Rattle.check_order.specs.Private.Walk.{AreReads, seen_next, seen_after, earliest};
 
 use ref_order::{Read, is_earlier};
-use rule_model::{Area, Model};
 use rule_laws::{Formula, Truth};
+use rule_model::{Area, Model};
 
 /// What a walk over the references of a statement has seen.
 #[derive(Clone, Copy)]

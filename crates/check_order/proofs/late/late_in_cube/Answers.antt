@@ -1,7 +1,7 @@
-use Rattle.std.proofs.Common.{◌≡◌, ◌∙◌, sym, ap, arith, ℕ, suc, ◌+◌, ◌-◌, Some, None, List, length, slice_get}
+use Rattle.std.proofs.Common.{◌≡◌, ◌∙◌, sym, ap, arith, suc, ◌+◌, ◌-◌, Some, None, List, length, slice_get}
 use Rattle.rule_model.specs.declared.rules.CubeRules.{CubeRules}
 use Rattle.rule_model.specs.declared.rules.Statement.{Statement}
-use Rattle.check_order.specs.References.{first_late, marks_of, late_in, late_of}
+use Rattle.check_order.specs.References.{late_in, late_of}
 use Rattle.check_order.specs.Private.Walk.{late_statements}
 use Rattle.check_order.proofs.Firsts.{option-first, option-past, late_there, none_there}
 use Rattle.check_order.proofs.late.late_in_cube.Goals as goal

@@ -1,4 +1,4 @@
-use Rattle.std.proofs.Common.{◌≡◌, ◌∙◌, true, false, arith}
+use Rattle.std.proofs.Common.{◌∙◌, true, false, arith}
 use Rattle.rule_model.specs.declared.rules.Form.TheVariants.{Both, LeafFirst, ConsFirst}
 use Rattle.check_order.specs.References.{part_marks}
 use Rattle.check_order.proofs.FirstLate.{late_in_turn, late_of_both, marks_are, part_seen}

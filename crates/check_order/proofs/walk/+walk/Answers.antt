@@ -1,6 +1,6 @@
-use Rattle.std.proofs.Common.{rules, ◌≡◌, refl, List, ◌++◌, sym, ap, ◌∙◌}
+use Rattle.std.proofs.Common.{rules, ◌≡◌, refl, ◌++◌, sym, ap, ◌∙◌}
 use Rattle.rule_laws.specs.declared.formula.Formula.TheViews.{the_lemmas}
-use Rattle.rule_laws.specs.Meaning.{Precedent, precedents, truth_precedents}
+use Rattle.rule_laws.specs.Meaning.{precedents, truth_precedents}
 use Rattle.order_laws.specs.Decision.{is_earlier}
 use Rattle.check_order.proofs.PartsRead.{reads_binary, reads_if, reads_compare, reads_and, reads_or}
 use Rattle.check_order.proofs.Walks.{first, second, both}
