@@ -1,0 +1,7 @@
+pub mod PartsRead
+pub mod Walks
+pub mod FirstLate
+pub mod Firsts
+pub mod TopFacts
+pub mod HeightFacts
+pub mod OrderedFacts

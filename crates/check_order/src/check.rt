@@ -1,0 +1,29 @@
+ghost use Rattle.std.specs.Prelude.{◌≡◌, ◌≤◌, Some, None, IfErr, OnOk, OnErr};
+ghost use Rattle.cube_space.specs.Radix.{product};
+ghost use Rattle.rule_laws.specs.OrderByPlace.{IsOrderedByPlace};
+ghost use Rattle.rule_model.specs.System.{system_of, positions_of};
+ghost use Rattle.rule_model.specs.Order.{position_sizes};
+ghost use Rattle.check_order.specs.Heights.{greatest_height};
+ghost use Rattle.check_order.specs.Verdict.{order_fault};
+
+use crate::fault::OrderFault;
+use crate::height::too_high;
+use crate::late::first_late;
+use rule_model::Model;
+
+/// Checks the declared order of a model: that its height is at most [`MAX_HEIGHT`](crate::MAX_HEIGHT), and that what
+/// each statement reads stands before each cell that it governs.
+pub fn check_order(model: &Model) -> Result<(), OrderFault>
+    ensures ordered { OnOk result (IsOrderedByPlace (system_of model.now) (positions_of model.now)) }
+    ensures low { OnOk result (product (position_sizes model.now) ≤ greatest_height) }
+    ensures accepted { OnOk result (order_fault model.now ≡ None) }
+    ensures fault { IfErr result (λ fault. order_fault model.now ≡ Some fault) }
+{
+    if let Some(height) = too_high(model) {
+        return Err(OrderFault::TooHigh(height));
+    }
+    match first_late(model) {
+        Some(fault) => Err(fault),
+        None => Ok(()),
+    }
+}
