@@ -29,6 +29,11 @@ module _ {Y : Type 0} (h : ℕ → Option Y) where
         | inr before ↦ let same : n ≡ a = omega (arith, before, from) in ap h same ∙ is
       ]
 
+  pub options-none : (a k : ℕ) → ((n : ℕ) → a ≤ n → n < a + k → h n ≡ None) → slice_get (filter_map h (range_with_len a k)) 0 ≡ None
+  options-none a zero none = refl
+  options-none a (suc k) none =
+      sym (option-past a (suc k) k refl (none a (omega arith) (omega arith))) ∙ options-none (a + 1) k (λ n from low. none n (omega (arith, from)) (omega (arith, low)))
+
 module _ {Y : Type 0} (h : ℕ → List Y) where
   first-of : (xs ys : List Y) (y : Y) → slice_get xs 0 ≡ Some y → slice_get (xs ++ ys) 0 ≡ Some y
   first-of [] ys y is = absurd (cc)
@@ -54,6 +59,11 @@ module _ {Y : Type 0} (h : ℕ → List Y) where
         | inl after ↦ next (list-past a (suc k) k refl is ∙ none) after
         | inr before ↦ let same : n ≡ a = omega (arith, before, from) in ap (λ k. slice_get (h k) 0) same ∙ is
       ]
+
+  pub lists-none : (a k : ℕ) → ((n : ℕ) → a ≤ n → n < a + k → slice_get (h n) 0 ≡ None) → slice_get (flat_map h (range_with_len a k)) 0 ≡ None
+  lists-none a zero none = refl
+  lists-none a (suc k) none =
+      sym (list-past a (suc k) k refl (none a (omega arith) (omega arith))) ∙ lists-none (a + 1) k (λ n from low. none n (omega (arith, from)) (omega (arith, low)))
 
 pub found_at : {X : Type 0} (xs : List X) (n : ℕ) (x : X) → n < length xs → x ≡ get_or xs n x → slice_get xs n ≡ Some x
 found_at [] n x low is = absurd (omega arith)

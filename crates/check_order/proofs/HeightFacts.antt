@@ -1,12 +1,16 @@
 -- Heights are found position by position.
-use Rattle.std.proofs.Common.{◌≡◌, refl, sym, ap, ◌∙◌, arith, ℕ, zero, suc, ◌+◌, ◌*◌, ◌<◌, ◌≤◌, Bool, Option, Some, None, if◌then◌else◌, List, [], ◌∷◌, length, get_or, take, inl, inr}
+use Rattle.std.proofs.Common.{◌≡◌, refl, sym, ap, ◌∙◌, arith, ℕ, zero, suc, ◌+◌, ◌*◌, ◌<◌, ◌≤◌, Bool, Option, Some, None, if◌then◌else◌, List, [], ◌∷◌, length, get_or, take, All, inl, inr}
+use Rattle.std.specs.List.{range_with_len}
 use Rattle.std.proofs.lemmas.Bool.{cases_lt, lt-ltb, le-ltb}
-use Rattle.std.proofs.Math.Nat.{mul_assoc}
+use Rattle.std.proofs.Math.Nat.{mul_assoc, mul-pos}
+use Rattle.std.proofs.lemmas.Nat.{mul-le}
+use Rattle.std.proofs.lemmas.List.Elements.{All-map, All-tail}
 use Rattle.std.proofs.lemmas.List.FromFn.{get_or-map-range_with_len}
 use Rattle.cube_space.specs.Radix.{product}
 use Rattle.rule_model.specs.BoundModel.{BoundModel}
 use Rattle.rule_model.specs.Order.{most_positions, position_size, position_sizes}
-use Rattle.check_order.specs.Heights.{greatest_height, high_from, first_too_high}
+use Rattle.check_order.specs.Heights.{greatest_height, first_too_high}
+use Rattle.check_order.specs.Private.Heights.{high_from}
 
 pub product-next : (sizes : List ℕ) (n : ℕ) → n < length sizes → product (take (n + 1) sizes) ≡ product (take n sizes) * get_or sizes n 0
 product-next [] n low = absurd (omega arith)
@@ -53,3 +57,34 @@ module _ (m : BoundModel) where
   pub none-low : first_too_high m ≡ None → product (position_sizes m) ≤ greatest_height
   unfolding first_too_high
   none-low none = none-high (position_sizes m) 0 most_positions 7 none (omega arith) (omega arith)
+
+-- no height is greater than the whole, since no size is 0
+record IsPart (sizes : List ℕ) (n : ℕ) : Type 0 where
+  within : product (take n sizes) ≤ product sizes
+  some : 0 < product sizes
+
+product-part : (sizes : List ℕ) (n : ℕ) → All (λ size. 0 < size) sizes → IsPart sizes n
+product-part [] zero some = record { within = omega arith; some = omega arith }
+product-part [] (suc n) some = record { within = omega arith; some = omega arith }
+product-part (s ∷ ss) zero some =
+    let rest = product-part ss 0 (All-tail (λ size. 0 < size) s ss some) in
+    let more : 0 < s * product ss = mul-pos (some 0 0 (omega arith)) rest.some in
+    record { within = omega (arith, more); some = more }
+product-part (s ∷ ss) (suc n) some =
+    let rest = product-part ss n (All-tail (λ size. 0 < size) s ss some) in
+    record {
+      within = mul-le s (product (take n ss)) s (product ss) (omega arith) rest.within;
+      some = mul-pos (some 0 0 (omega arith)) rest.some;
+    }
+
+none-from : (sizes : List ℕ) (a k : ℕ) → ((n : ℕ) → product (take (n + 1) sizes) ≤ greatest_height) → high_from sizes a k ≡ None
+none-from sizes a zero low = refl
+none-from sizes a (suc k) low = sym (high-past sizes a (suc k) k refl (low a)) ∙ none-from sizes (a + 1) k low
+
+sizes-some : (m : BoundModel) → All (λ size. 0 < size) (position_sizes m)
+unfolding position_size
+sizes-some m = All-map (λ size. 0 < size) (position_size m) (range_with_len 0 most_positions) (λ k d low. omega arith)
+
+pub low-none : (m : BoundModel) → product (position_sizes m) ≤ greatest_height → first_too_high m ≡ None
+unfolding first_too_high
+low-none m low = none-from (position_sizes m) 0 most_positions (λ n. let part = product-part (position_sizes m) (n + 1) (sizes-some m) in omega (arith, part.within, low))

@@ -1,8 +1,10 @@
 -- A model is ordered just where no reference is late.
-use Rattle.std.proofs.Common.{◌≡◌, refl, sym, ◌∙◌, subst, arith, ℕ, zero, suc, ◌<◌, Bool, true, false, not, IsTrue, Option, Some, None, option_map, List, [], ◌∷◌, ◌++◌, length, map, get_or, All}
+use Rattle.std.proofs.Common.{ap, ◌≡◌, refl, sym, ◌∙◌, subst, arith, ℕ, zero, suc, ◌<◌, Bool, true, false, not, IsTrue, Option, Some, None, option_map, List, [], ◌∷◌, ◌++◌, length, map, get_or, All}
 use Rattle.std.specs.Prelude.{slice_get}
 use Rattle.std.specs.List.{position}
+use Rattle.std.proofs.lemmas.List.Elements.{All-append, All-map, All-nil, All-tail}
 use Rattle.cube_space.specs.Cells.{IsSpace}
+use Rattle.rule_laws.specs.declared.formula.Formula.{Formula}
 use Rattle.rule_laws.specs.Meaning.{precedents}
 use Rattle.rule_laws.specs.OrderByPlace.{IsOrderedByPlace}
 use Rattle.rule_model.specs.declared.rules.Form.{Form}
@@ -12,12 +14,12 @@ use Rattle.rule_model.specs.BoundModel.{BoundModel, rules_of}
 use Rattle.rule_model.specs.Conditions.{AreRules}
 use Rattle.rule_model.specs.System.{system_of, positions_of}
 use Rattle.order_laws.specs.Decision.{is_earlier, IsEarlierStatement, IsOrderedByDimension}
-use Rattle.order_laws.proofs.Ordered.{dimension-place}
+use Rattle.order_laws.proofs.Ordered.{dimension-place, place-dimension}
 use Rattle.check_order.specs.References.{marks_by, marks_of, part_marks, first_late, late_in, late_of, late_references}
 use Rattle.check_order.specs.Private.Walk.{earliest}
 use Rattle.check_order.proofs.Walks.{all-first, all-second}
 use Rattle.check_order.proofs.FirstLate.{fails-first, passes-first, both-first}
-use Rattle.check_order.proofs.Firsts.{no-options, no-lists, no_fault}
+use Rattle.check_order.proofs.Firsts.{no-options, no-lists, no_fault, none_there, options-none, lists-none}
 
 -- no mark fails just where all pass
 unmapped : (a : Option ℕ) → option_map suc a ≡ None → a ≡ None
@@ -97,3 +99,44 @@ module _ (m : BoundModel) where
 
   pub none-ordered_by_place : IsSpace m.space → AreRules m.space m.rules → slice_get (late_references m) 0 ≡ None → IsOrderedByPlace (system_of m) (positions_of m)
   none-ordered_by_place valid ruled none = dimension-place m valid ruled (none-ordered none)
+
+-- where each statement is ordered, nothing is late
+no_statement : Statement
+no_statement = record { area = record { sets = [] }; leaf = None; cons = None; form = Both }
+
+none-fails : (marks : List Bool) → All IsTrue marks → position not marks ≡ None
+none-fails [] all = refl
+none-fails (true ∷ marks) all = passes-first marks ∙ ap (option_map suc) (none-fails marks (All-tail IsTrue true marks all))
+none-fails (false ∷ marks) all = absurd (let wrong : false ≡ true = all 0 false (omega arith) in cc)
+
+form-none : (form : Form) (l c : List Bool) → All IsTrue l → All IsTrue c → position not (marks_by form l c) ≡ None
+form-none Both l c leaf cons = both-first l c ∙ ap (λ a. earliest a (position not c)) (none-fails l leaf) ∙ none-fails c cons
+form-none LeafFirst l c leaf cons = none-fails (l ++ c) (All-append IsTrue l c leaf cons)
+form-none ConsFirst l c leaf cons = none-fails (c ++ l) (All-append IsTrue c l cons leaf)
+
+module _ (m : BoundModel) where
+  part-passes : (cube : ℕ) (s : Statement) (kind : Bool) (part : Option Formula) → ((f : Formula) → part ≡ Some f → All (λ p. IsTrue (is_earlier m cube s.area kind p)) (precedents f)) → All IsTrue (part_marks m cube s.area kind part)
+  part-passes cube s kind None each = All-nil IsTrue
+  part-passes cube s kind (Some f) each = All-map IsTrue (is_earlier m cube s.area kind) (precedents f) (each f refl)
+
+  statement-none : (cube : ℕ) (s : Statement) → IsEarlierStatement m cube s → first_late (marks_of m cube s) ≡ None
+  unfolding marks_of
+  statement-none cube s h =
+      ap (option_map suc) (form-none s.form (part_marks m cube s.area true s.leaf) (part_marks m cube s.area false s.cons)
+      (part-passes cube s true s.leaf (h true)) (part-passes cube s false s.cons (h false)))
+
+  cube-none : (cube : ℕ) → All (IsEarlierStatement m cube) (rules_of m cube).statements → slice_get (late_of m cube) 0 ≡ None
+  unfolding late_of
+  cube-none cube all =
+      let ss : List Statement = (rules_of m cube).statements in
+      options-none (late_in m cube ss) 0 (length ss) (λ n from low.
+      let there : n < length ss = omega (arith, low) in
+      let s : Statement = get_or ss n no_statement in
+      none_there m cube ss n s there (own-default m ss n no_statement there) (statement-none cube s (all n no_statement there)))
+
+  pub ordered-none : IsOrderedByDimension m → slice_get (late_references m) 0 ≡ None
+  unfolding late_references
+  ordered-none h = lists-none (late_of m) 0 (length m.space.cubes) (λ cube from low. let there : cube < length m.space.cubes = omega (arith, low) in cube-none cube (h cube there))
+
+  pub place-none : IsSpace m.space → AreRules m.space m.rules → IsOrderedByPlace (system_of m) (positions_of m) → slice_get (late_references m) 0 ≡ None
+  place-none valid ruled h = ordered-none (place-dimension m valid ruled h)

@@ -1,8 +1,8 @@
 -- The greatest number of a position is the greatest of what the cubes have there.
 use Rattle.std.proofs.Common.{◌≡◌, refl, sym, ap, ◌∙◌, subst, arith, ℕ, zero, suc, ◌+◌, ◌*◌, ◌<◌, ◌≤◌, ◌==◌, max, Bool, true, false, if◌then◌else◌, List, [], ◌∷◌, length, map, get_or, drop, drop-cons, add-one, All, inl, inr}
-use Rattle.std.specs.Prelude.{slice_get, slice_index_or}
+use Rattle.std.specs.Prelude.{slice_index_or}
 use Rattle.std.specs.List.{range_with_len}
-use Rattle.std.proofs.lemmas.Bool.{cases_lt, eqb-true, ne_eqb}
+use Rattle.std.proofs.lemmas.Bool.{and_from, cases_lt, eqb-false, lt-ltb, ne_eqb}
 use Rattle.dim_core.specs.Outline.{Outline}
 use Rattle.cube_space.specs.Radix.{product, are_digits, number_of}
 use Rattle.cube_space.proofs.Radix.{number-below, number-digits}
@@ -50,33 +50,24 @@ module _ (f : ℕ → ℕ) where
   pub mapped-from : (a k j : ℕ) → k ≡ suc j → greatest (map f (range_with_len a k)) ≡ max (f a) (greatest (map f (range_with_len (a + 1) j)))
   mapped-from a k j e = ap (λ k. greatest (map f (range_with_len a k))) e
 
+-- both factors of a product that isn't 0
+left-some : (a b : ℕ) → 0 < a * b → 0 < a
+left-some zero b h = absurd (omega arith)
+left-some (suc a) b h = omega arith
+
+right-some : (a b : ℕ) → 0 < a * b → 0 < b
+right-some a zero h = absurd (omega arith)
+right-some a (suc b) h = omega arith
+
 -- digits with this one at a place
 digits-with : (sizes : List ℕ) (dim e : ℕ) → 0 < product sizes → e < get_or sizes dim 0 → (es : List ℕ) × (are_digits sizes es ≡ true) × (get_or es dim 0 ≡ e)
 digits-with [] dim e some low = absurd (omega arith)
 digits-with (size ∷ sizes) zero e some low =
-    let rest = number-digits sizes 0 (rest-some size (product sizes) some) in
-    (e ∷ rest.0, both-true (Rattle.std.proofs.lemmas.Bool.lt-ltb e size low) rest.1, refl)
-  where
-    rest-some : (a b : ℕ) → 0 < a * b → 0 < b
-    rest-some a zero h = absurd (omega arith)
-    rest-some a (suc b) h = omega arith
-
-    both-true : {a b : Bool} → a ≡ true → b ≡ true → Rattle.std.specs.Prelude.◌&&◌ a b ≡ true
-    both-true e g = rw (e, g) refl
+    let rest = number-digits sizes 0 (right-some size (product sizes) some) in
+    (e ∷ rest.0, and_from _ _ (lt-ltb e size low) rest.1, refl)
 digits-with (size ∷ sizes) (suc dim) e some low =
-    let rest = digits-with sizes dim e (rest-some size (product sizes) some) low in
-    (0 ∷ rest.0, both-true (Rattle.std.proofs.lemmas.Bool.lt-ltb 0 size (first-some size (product sizes) some)) rest.1, rest.2)
-  where
-    rest-some : (a b : ℕ) → 0 < a * b → 0 < b
-    rest-some a zero h = absurd (omega arith)
-    rest-some a (suc b) h = omega arith
-
-    first-some : (a b : ℕ) → 0 < a * b → 0 < a
-    first-some zero b h = absurd (omega arith)
-    first-some (suc a) b h = omega arith
-
-    both-true : {a b : Bool} → a ≡ true → b ≡ true → Rattle.std.specs.Prelude.◌&&◌ a b ≡ true
-    both-true e g = rw (e, g) refl
+    let rest = digits-with sizes dim e (right-some size (product sizes) some) low in
+    (0 ∷ rest.0, and_from _ _ (lt-ltb 0 size (left-some size (product sizes) some)) rest.1, rest.2)
 
 get_or-any : (xs : List ℕ) (k d e : ℕ) → k < length xs → get_or xs k d ≡ get_or xs k e
 get_or-any [] k d e low = absurd (omega arith)
@@ -161,7 +152,7 @@ module _ (m : BoundModel) (ruled : AreRules m.space m.rules) (place : ℕ) where
     where
       by : (t : Bool) → cell_count m.space cube == 0 ≡ t → (if t then 0 else position_top (position_of m cube place)) ≤ most
       by true e = omega arith
-      by false e = position-within cube there (omega (arith, Rattle.std.proofs.lemmas.Bool.eqb-false (cell_count m.space cube) 0 e)) (position_of m cube place) refl
+      by false e = position-within cube there (omega (arith, eqb-false (cell_count m.space cube) 0 e)) (position_of m cube place) refl
 
   -- the greatest of the cubes is the greatest of the cells
   pub top-is : top m place + 1 ≡ position_size m place

@@ -1,6 +1,8 @@
 -- A walk over one list of what is read, and then over another.
-use Rattle.std.proofs.Common.{◌≡◌, sym, ap, ◌∙◌, subst, arith, ℕ, zero, suc, ◌+◌, Bool, List, [], ◌∷◌, ◌++◌, length, length-append, map, All}
+use Rattle.std.proofs.Common.{◌≡◌, sym, ap, ◌∙◌, subst, arith, ℕ, ◌+◌, Bool, List, [], ◌∷◌, ◌++◌, length, length-append, map, All}
 use Rattle.std.proofs.lemmas.List.{map-append, length-map}
+use Rattle.std.proofs.lemmas.List.Elements.{All-drop, All-take}
+use Rattle.std.proofs.Math.Seq.{drop-append_seam, take-append_seam}
 use Rattle.std.proofs.lemmas.List.Sums.{fold-append}
 use Rattle.cube_space.specs.Layout.{Layout}
 use Rattle.rule_laws.specs.Meaning.{Precedent}
@@ -8,14 +10,12 @@ use Rattle.rule_model.specs.Conditions.{IsPrecedent}
 use Rattle.check_order.specs.declared.walk.Seen.{Seen}
 use Rattle.check_order.specs.Private.Walk.{AreReads, seen_next, seen_after}
 
+-- what holds of all of two lists holds of all of each
 pub all-first : {X : Type 0} (P : X → Type 0) (ps qs : List X) → All P (ps ++ qs) → All P ps
-all-first P [] qs all k d low = absurd (omega arith)
-all-first P (p ∷ ps) qs all zero d low = all 0 d (omega arith)
-all-first P (p ∷ ps) qs all (suc k) d low = all-first P ps qs (λ j e l. all (suc j) e (omega arith)) k d (omega arith)
+all-first P ps qs all = subst (All P) (take-append_seam ps qs) (All-take P (length ps) (ps ++ qs) all)
 
 pub all-second : {X : Type 0} (P : X → Type 0) (ps qs : List X) → All P (ps ++ qs) → All P qs
-all-second P [] qs all = all
-all-second P (p ∷ ps) qs all = all-second P ps qs (λ j e l. all (suc j) e (omega arith))
+all-second P ps qs all = subst (All P) (drop-append_seam ps qs) (All-drop P (length ps) (ps ++ qs) all)
 
 -- a walk has seen as many more as the list has
 pub seen-count : (s : Seen) (marks : List Bool) → (seen_after s marks).count ≡ s.count + length marks

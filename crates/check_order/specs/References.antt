@@ -41,7 +41,7 @@ marks_of model cube s =
 abbrev pub first_late : List Bool → Option ℕ
 first_late marks = option_map suc (position not marks)
 
--- the statement of a cube that has this number, from 0
+-- the first reference that is late of the statement of a cube at this place, counted from 0
 abbrev pub late_in : BoundModel → ℕ → List Statement → ℕ → Option OrderFault
 late_in model cube statements n =
     option_map_or (λ s. option_map (NotEarlier cube (n + 1)) (first_late (marks_of model cube s)))

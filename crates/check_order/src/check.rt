@@ -1,4 +1,4 @@
-ghost use Rattle.std.specs.Prelude.{◌≡◌, ◌≤◌, Some, None, IfErr, OnOk, OnErr};
+ghost use Rattle.std.specs.Prelude.{◌≡◌, ◌≤◌, Some, None, IfErr, OnErr, OnOk};
 ghost use Rattle.cube_space.specs.Radix.{product};
 ghost use Rattle.rule_laws.specs.OrderByPlace.{IsOrderedByPlace};
 ghost use Rattle.rule_model.specs.System.{system_of, positions_of};
@@ -16,6 +16,8 @@ use rule_model::Model;
 pub fn check_order(model: &Model) -> Result<(), OrderFault>
     ensures ordered { OnOk result (IsOrderedByPlace (system_of model.now) (positions_of model.now)) }
     ensures low { OnOk result (product (position_sizes model.now) ≤ greatest_height) }
+    ensures refused { OnErr result (IsOrderedByPlace (system_of model.now) (positions_of model.now)
+        → product (position_sizes model.now) ≤ greatest_height → ⊥) }
     ensures accepted { OnOk result (order_fault model.now ≡ None) }
     ensures fault { IfErr result (λ fault. order_fault model.now ≡ Some fault) }
 {

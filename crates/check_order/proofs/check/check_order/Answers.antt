@@ -1,6 +1,6 @@
-use Rattle.std.proofs.Common.{◌∙◌, sym}
-use Rattle.check_order.proofs.HeightFacts.{none-low}
-use Rattle.check_order.proofs.OrderedFacts.{none-ordered_by_place}
+use Rattle.std.proofs.Common.{◌≡◌, ◌∙◌, sym, Some, None}
+use Rattle.check_order.proofs.HeightFacts.{none-low, low-none}
+use Rattle.check_order.proofs.OrderedFacts.{none-ordered_by_place, place-none}
 use Rattle.check_order.proofs.check.check_order.Goals as goal
 
 pub returns-in-None-clause-ordered : goal.returns-in-None-clause-ordered
@@ -9,3 +9,12 @@ returns-in-None-clause-ordered c =
 
 pub returns-in-None-clause-low : goal.returns-in-None-clause-low
 returns-in-None-clause-low c = none-low c.args.model.now (sym c.too_high.ensures ∙ c.in_default.is)
+
+pub returns-in-Some-clause-refused : goal.returns-in-Some-clause-refused
+returns-in-Some-clause-refused c = λ ordered low.
+    absurd (let wrong : Some c.in-Some.height ≡ None = sym c.in-Some.is ∙ c.too_high.ensures ∙ low-none c.args.model.now low in cc)
+
+pub returns-in-Some-first_late-clause-refused : goal.returns-in-Some-first_late-clause-refused
+returns-in-Some-first_late-clause-refused c = λ ordered low.
+    absurd (let wrong : Some c.in-Some-first_late.fault ≡ None =
+    sym c.in-Some-first_late.is ∙ c.first_late.ensures.value ∙ place-none c.args.model.now c.first_late.ensures.valid c.first_late.ensures.rules ordered in cc)
