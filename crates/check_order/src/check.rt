@@ -12,7 +12,8 @@ use crate::late::first_late;
 use rule_model::Model;
 
 /// Checks the declared order of a model: that its height is at most [`MAX_HEIGHT`](crate::MAX_HEIGHT), and that what
-/// each statement reads stands before each cell that it governs.
+/// each part of a statement reads stands before each cell of the statement's area that the part is for, where it reads
+/// a cell from there. Which statement governs a cell doesn't count.
 pub fn check_order(model: &Model) -> Result<(), OrderFault>
     ensures ordered { OnOk result (IsOrderedByPlace (system_of model.now) (positions_of model.now)) }
     ensures low { OnOk result (product (position_sizes model.now) ≤ greatest_height) }

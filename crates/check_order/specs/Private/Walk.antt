@@ -36,7 +36,7 @@ pub record AreReads (space : Layout) (cube before : ℕ) (ps : List Precedent) :
   pub each : All (IsPrecedent space cube) ps
   pub few : before + length ps < 2 ^ 32
 
--- the first of what the statements of a cube, or the cubes, from a place on have late
+-- what the statements of a cube, or the cubes, from a place on have late: of each statement the first reference
 abbrev pub late_statements : BoundModel → ℕ → List Statement → ℕ → ℕ → List OrderFault
 late_statements model cube statements from count = filter_map (late_in model cube statements) (range_with_len from count)
 
