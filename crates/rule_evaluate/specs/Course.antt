@@ -1,6 +1,7 @@
--- The course of an evaluation: which questions it asks, and whether it takes what the statements after it give. Of an IF
--- the branch that is taken is evaluated alone, and a condition only as far as it is open.
-use Rattle.std.specs.Prelude.{◌≡◌, ℕ, suc, Some, is_some, Bool, true, false, not, ◌&&◌, ◌||◌, List, [], ◌∷◌, if◌then◌else◌}
+-- The course of an evaluation: which questions it asks, and whether it takes what the statements after it give. Of an
+-- IF the branch that is taken is evaluated alone, and a condition only as far as it is open.
+use Rattle.std.specs.Prelude.{◌≡◌, ℕ, suc, Some, is_some, Bool, true, false, not}
+use Rattle.std.specs.Prelude.{◌&&◌, ◌||◌, List, [], ◌∷◌, if◌then◌else◌}
 use Rattle.std.specs.Option.{option_map_or}
 use Rattle.cube_fixed.specs.declared.value.Value.{Value}
 use Rattle.cube_fixed.specs.declared.value.Value.TheVariants.{Num}
@@ -14,7 +15,8 @@ use Rattle.rule_laws.specs.Meaning.{Precedent, Named, Components}
 use Rattle.rule_laws.specs.Operation.{operation_of, function_of, comparison_of}
 use Rattle.rule_laws.specs.RuleSystem.{RuleSystem, Rule, part_at}
 use Rattle.rule_evaluate.specs.declared.ask.Ask.{Ask}
-use Rattle.rule_evaluate.specs.declared.ask.Ask.TheVariants.{Value as of_value, Base as of_base, Children as of_children}
+use Rattle.rule_evaluate.specs.declared.ask.Ask.TheVariants.{Value as of_value, Base as of_base}
+use Rattle.rule_evaluate.specs.declared.ask.Ask.TheVariants.{Children as of_children}
 use Rattle.rule_evaluate.specs.Readings.{Readings, statements_value}
 
 -- of a formula: its value; whether a test passes each question that is asked for it; whether CONTINUE stands in it; and
@@ -140,5 +142,5 @@ passes w t c may (rule ∷ rules) =
 abbrev pub entered : RuleSystem → Readings → ℕ → List Rule → ℕ
 entered w t c [] = 0
 entered w t c (rule ∷ rules) =
-    option_map_or (λ f. suc (if (course_before w t c rules f).goes_on then entered w t c rules else 0)) (part_at w c rule)
-    (entered w t c rules)
+    option_map_or (λ f. suc (if (course_before w t c rules f).goes_on then entered w t c rules else 0))
+    (part_at w c rule) (entered w t c rules)

@@ -5,7 +5,8 @@ use Rattle.std.specs.Option.{option_map_or}
 use Rattle.cube_fixed.specs.declared.value.Value.{Value}
 use Rattle.cube_fixed.specs.Arithmetic.{zero_value}
 use Rattle.rule_evaluate.specs.declared.ask.Ask.{Ask}
-use Rattle.rule_evaluate.specs.declared.ask.Ask.TheVariants.{Value as of_value, Base as of_base, Children as of_children}
+use Rattle.rule_evaluate.specs.declared.ask.Ask.TheVariants.{Value as of_value, Base as of_base}
+use Rattle.rule_evaluate.specs.declared.ask.Ask.TheVariants.{Children as of_children}
 use Rattle.rule_evaluate.specs.Readings.{Readings}
 
 abbrev pub Known : Type 0

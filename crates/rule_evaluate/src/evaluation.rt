@@ -28,17 +28,21 @@ pub fn evaluate<R: Refs<M>, M, L: Ledger>(
 ) -> Result<Value, R::Fault>
     requires cell { IsCell model.now.space cell }
     requires part { IsSome (formula_at model.now cell statement) }
-    requires may_ask { passes (system_of model.now) (R.readings (R.terms refs.now memory.old)) cell (R.may_ask (R.terms refs.now memory.old))
+    requires may_ask { passes (system_of model.now) (R.readings (R.terms refs.now memory.old)) cell
+        (R.may_ask (R.terms refs.now memory.old))
         (drop statement (rules_for model.now cell)) ≡ true }
-    ensures value { IfOk result (λ v. v ≡ statements_value (system_of model.now) (R.readings (R.terms refs.now memory.old)) cell
+    ensures value { IfOk result (λ v. v
+        ≡ statements_value (system_of model.now) (R.readings (R.terms refs.now memory.old)) cell
         (drop statement (rules_for model.now cell))) }
     ensures fault { IfErr result (λ e. R.may_fail (R.terms refs.now memory.old) e) }
     ensures terms { R.terms refs.now memory.new ≡ R.terms refs.now memory.old }
     ensures later { R.later memory.old memory.new }
-    ensures counted { IfOk result (λ _. steps.new ≡ steps.old + entered (system_of model.now) (R.readings (R.terms refs.now memory.old)) cell
+    ensures counted { IfOk result (λ _. steps.new
+        ≡ steps.old + entered (system_of model.now) (R.readings (R.terms refs.now memory.old)) cell
         (drop statement (rules_for model.now cell))) }
     ensures started { steps.old < steps.new }
-    ensures most { steps.new ≤ steps.old + entered (system_of model.now) (R.readings (R.terms refs.now memory.old)) cell
+    ensures most { steps.new ≤ steps.old
+        + entered (system_of model.now) (R.readings (R.terms refs.now memory.old)) cell
         (drop statement (rules_for model.now cell)) }
 {
     let mut at = [0u32; 16];

@@ -10,8 +10,10 @@ use rule_laws::{Formula, Reference, Truth};
 /// What `STET` gives.
 #[tactic(auto, unfolding(crate::specs::Inside::Scene::sources_at, crate::specs::Course::sources_of))]
 pub(crate) fn stet<M, R: Refs<M>>(here: &Here, refs: &R, memory: &mut M) -> Result<Value, R::Fault>
-    requires { ((sources_at here.now (R.readings (R.terms refs.now memory.old))).stet).passes (R.may_ask (R.terms refs.now memory.old)) ≡ true }
-    ensures value { IfOk result (λ v. v ≡ ((sources_at here.now (R.readings (R.terms refs.now memory.old))).stet).value) }
+    requires { ((sources_at here.now (R.readings (R.terms refs.now memory.old))).stet).passes
+        (R.may_ask (R.terms refs.now memory.old)) ≡ true }
+    ensures value { IfOk result (λ v. v
+        ≡ ((sources_at here.now (R.readings (R.terms refs.now memory.old))).stet).value) }
     ensures fault { IfErr result (λ e. R.may_fail (R.terms refs.now memory.old) e) }
     ensures terms { R.terms refs.now memory.new ≡ R.terms refs.now memory.old }
     ensures later { R.later memory.old memory.new }
@@ -27,8 +29,10 @@ fn named<M, R: Refs<M>>(
     refs: &R,
     memory: &mut M,
 ) -> Result<Value, R::Fault>
-    requires { ((sources_at here.now (R.readings (R.terms refs.now memory.old))).named reference.now).passes (R.may_ask (R.terms refs.now memory.old)) ≡ true }
-    ensures value { IfOk result (λ v. v ≡ ((sources_at here.now (R.readings (R.terms refs.now memory.old))).named reference.now).value) }
+    requires { ((sources_at here.now (R.readings (R.terms refs.now memory.old))).named reference.now).passes
+        (R.may_ask (R.terms refs.now memory.old)) ≡ true }
+    ensures value { IfOk result (λ v. v
+        ≡ ((sources_at here.now (R.readings (R.terms refs.now memory.old))).named reference.now).value) }
     ensures fault { IfErr result (λ e. R.may_fail (R.terms refs.now memory.old) e) }
     ensures terms { R.terms refs.now memory.new ≡ R.terms refs.now memory.old }
     ensures later { R.later memory.old memory.new }
@@ -47,8 +51,10 @@ fn children<M, R: Refs<M>>(
     refs: &R,
     memory: &mut M,
 ) -> Result<Value, R::Fault>
-    requires { ((sources_at here.now (R.readings (R.terms refs.now memory.old))).children dim).passes (R.may_ask (R.terms refs.now memory.old)) ≡ true }
-    ensures value { IfOk result (λ v. v ≡ ((sources_at here.now (R.readings (R.terms refs.now memory.old))).children dim).value) }
+    requires { ((sources_at here.now (R.readings (R.terms refs.now memory.old))).children dim).passes
+        (R.may_ask (R.terms refs.now memory.old)) ≡ true }
+    ensures value { IfOk result (λ v. v
+        ≡ ((sources_at here.now (R.readings (R.terms refs.now memory.old))).children dim).value) }
     ensures fault { IfErr result (λ e. R.may_fail (R.terms refs.now memory.old) e) }
     ensures terms { R.terms refs.now memory.new ≡ R.terms refs.now memory.old }
     ensures later { R.later memory.old memory.new }
@@ -69,8 +75,10 @@ pub(crate) fn value_of<M, R: Refs<M>>(
     refs: &R,
     memory: &mut M,
 ) -> Result<Value, R::Fault>
-    requires { (course_at here.now (R.readings (R.terms refs.now memory.old)) rest.now formula.now).passes (R.may_ask (R.terms refs.now memory.old)) ≡ true }
-    ensures value { IfOk result (λ v. v ≡ (course_at here.now (R.readings (R.terms refs.now memory.old)) rest.now formula.now).value) }
+    requires { (course_at here.now (R.readings (R.terms refs.now memory.old)) rest.now formula.now).passes
+        (R.may_ask (R.terms refs.now memory.old)) ≡ true }
+    ensures value { IfOk result (λ v. v
+        ≡ (course_at here.now (R.readings (R.terms refs.now memory.old)) rest.now formula.now).value) }
     ensures fault { IfErr result (λ e. R.may_fail (R.terms refs.now memory.old) e) }
     ensures terms { R.terms refs.now memory.new ≡ R.terms refs.now memory.old }
     ensures later { R.later memory.old memory.new }
@@ -109,8 +117,10 @@ pub(crate) fn holds<M, R: Refs<M>>(
     refs: &R,
     memory: &mut M,
 ) -> Result<bool, R::Fault>
-    requires { (trial_at here.now (R.readings (R.terms refs.now memory.old)) rest.now truth.now).passes (R.may_ask (R.terms refs.now memory.old)) ≡ true }
-    ensures value { IfOk result (λ v. v ≡ (trial_at here.now (R.readings (R.terms refs.now memory.old)) rest.now truth.now).holds) }
+    requires { (trial_at here.now (R.readings (R.terms refs.now memory.old)) rest.now truth.now).passes
+        (R.may_ask (R.terms refs.now memory.old)) ≡ true }
+    ensures value { IfOk result (λ v. v
+        ≡ (trial_at here.now (R.readings (R.terms refs.now memory.old)) rest.now truth.now).holds) }
     ensures fault { IfErr result (λ e. R.may_fail (R.terms refs.now memory.old) e) }
     ensures terms { R.terms refs.now memory.new ≡ R.terms refs.now memory.old }
     ensures later { R.later memory.old memory.new }

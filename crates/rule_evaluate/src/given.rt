@@ -63,7 +63,8 @@ fn is_same(left: &Ask, right: &Ask) -> bool
 
 impl<'a> Refs<()> for Given<'a> {
     ghost use Rattle.std.specs.Prelude.{◌≡◌, true, None, IfOk, IfErr, ⊤};
-    ghost use Rattle.rule_evaluate.specs.declared.ask.Ask.TheVariants.{Value as of_value, Base as of_base, Children as of_children};
+    ghost use Rattle.rule_evaluate.specs.declared.ask.Ask.TheVariants.{Value as of_value, Base as of_base};
+    ghost use Rattle.rule_evaluate.specs.declared.ask.Ask.TheVariants.{Children as of_children};
     ghost use Rattle.rule_evaluate.specs.Known.{Known, listed, listed_readings, answer_in};
 
     type Fault = Ask;

@@ -1,7 +1,7 @@
 //! What statements give a cell, by what is known of other cells.
 //!
-//! [`evaluate`] goes from a statement on. It asks a [`Refs`] for the values of cells, which may answer at once, remember,
-//! or stop the evaluation by a fault; [`Given`] answers from a list, for who evaluates by restarts.
+//! [`evaluate`] goes from a statement on. It asks a [`Refs`] for the values of cells, which may answer at once,
+//! remember, or stop the evaluation by a fault; [`Given`] answers from a list, for who evaluates by restarts.
 //!
 //! `specs/Readings.antt` says what statements give by the answers, `specs/Course.antt` which questions are asked for it
 //! and how many statements are entered. [`a_table_gives_the_equations`] ties it to the rule equations, and

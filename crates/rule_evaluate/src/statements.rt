@@ -20,15 +20,26 @@ fn whole<M, R: Refs<M>, L: Ledger>(
     memory: &mut M,
     steps: &mut Steps<L>,
 ) -> Result<Option<Value>, R::Fault>
-    requires passes { (course_at here.now (R.readings (R.terms refs.now memory.old)) (value_from here.now (R.readings (R.terms refs.now memory.old)) next) formula.now).passes (R.may_ask (R.terms refs.now memory.old)) ≡ true }
-    requires rest { has_continue formula.now ≡ true → passes_from here.now (R.readings (R.terms refs.now memory.old)) (R.may_ask (R.terms refs.now memory.old)) next ≡ true }
-    requires same { (course_at here.now (R.readings (R.terms refs.now memory.old)) (value_from here.now (R.readings (R.terms refs.now memory.old)) next) formula.now).goes_on ≡ has_continue formula.now }
-    ensures end { IfOk result (IsEnd (course_at here.now (R.readings (R.terms refs.now memory.old)) (value_from here.now (R.readings (R.terms refs.now memory.old)) next) formula.now) (value_from here.now (R.readings (R.terms refs.now memory.old)) next) (entered_from here.now (R.readings (R.terms refs.now memory.old)) next) steps.old steps.new) }
+    requires passes { (course_at here.now (R.readings (R.terms refs.now memory.old))
+        (value_from here.now (R.readings (R.terms refs.now memory.old)) next) formula.now).passes
+        (R.may_ask (R.terms refs.now memory.old)) ≡ true }
+    requires rest { has_continue formula.now ≡ true
+        → passes_from here.now (R.readings (R.terms refs.now memory.old))
+        (R.may_ask (R.terms refs.now memory.old)) next ≡ true }
+    requires same { (course_at here.now (R.readings (R.terms refs.now memory.old))
+        (value_from here.now (R.readings (R.terms refs.now memory.old)) next) formula.now).goes_on
+        ≡ has_continue formula.now }
+    ensures end { IfOk result (IsEnd (course_at here.now (R.readings (R.terms refs.now memory.old))
+        (value_from here.now (R.readings (R.terms refs.now memory.old)) next) formula.now)
+        (value_from here.now (R.readings (R.terms refs.now memory.old)) next)
+        (entered_from here.now (R.readings (R.terms refs.now memory.old)) next) steps.old steps.new) }
     ensures fault { IfErr result (λ e. R.may_fail (R.terms refs.now memory.old) e) }
     ensures terms { R.terms refs.now memory.new ≡ R.terms refs.now memory.old }
     ensures later { R.later memory.old memory.new }
     ensures from { steps.old ≤ steps.new }
-    ensures most { steps.new ≤ steps.old + entered_on (course_at here.now (R.readings (R.terms refs.now memory.old)) (value_from here.now (R.readings (R.terms refs.now memory.old)) next) formula.now) (entered_from here.now (R.readings (R.terms refs.now memory.old)) next) }
+    ensures most { steps.new ≤ steps.old + entered_on (course_at here.now (R.readings (R.terms refs.now memory.old))
+        (value_from here.now (R.readings (R.terms refs.now memory.old)) next) formula.now)
+        (entered_from here.now (R.readings (R.terms refs.now memory.old)) next) }
 {
     if !continues(formula) {
         let value = value_of(here, &Value::ZERO, formula, refs, memory)?;
@@ -50,14 +61,24 @@ fn end_of<M, R: Refs<M>, L: Ledger>(
     memory: &mut M,
     steps: &mut Steps<L>,
 ) -> Result<Option<Value>, R::Fault>
-    requires passes { (course_at here.now (R.readings (R.terms refs.now memory.old)) (value_from here.now (R.readings (R.terms refs.now memory.old)) next) formula.now).passes (R.may_ask (R.terms refs.now memory.old)) ≡ true }
-    requires rest { (course_at here.now (R.readings (R.terms refs.now memory.old)) (value_from here.now (R.readings (R.terms refs.now memory.old)) next) formula.now).goes_on ≡ true → passes_from here.now (R.readings (R.terms refs.now memory.old)) (R.may_ask (R.terms refs.now memory.old)) next ≡ true }
-    ensures end { IfOk result (IsEnd (course_at here.now (R.readings (R.terms refs.now memory.old)) (value_from here.now (R.readings (R.terms refs.now memory.old)) next) formula.now) (value_from here.now (R.readings (R.terms refs.now memory.old)) next) (entered_from here.now (R.readings (R.terms refs.now memory.old)) next) steps.old steps.new) }
+    requires passes { (course_at here.now (R.readings (R.terms refs.now memory.old))
+        (value_from here.now (R.readings (R.terms refs.now memory.old)) next) formula.now).passes
+        (R.may_ask (R.terms refs.now memory.old)) ≡ true }
+    requires rest { (course_at here.now (R.readings (R.terms refs.now memory.old))
+        (value_from here.now (R.readings (R.terms refs.now memory.old)) next) formula.now).goes_on ≡ true
+        → passes_from here.now (R.readings (R.terms refs.now memory.old))
+        (R.may_ask (R.terms refs.now memory.old)) next ≡ true }
+    ensures end { IfOk result (IsEnd (course_at here.now (R.readings (R.terms refs.now memory.old))
+        (value_from here.now (R.readings (R.terms refs.now memory.old)) next) formula.now)
+        (value_from here.now (R.readings (R.terms refs.now memory.old)) next)
+        (entered_from here.now (R.readings (R.terms refs.now memory.old)) next) steps.old steps.new) }
     ensures fault { IfErr result (λ e. R.may_fail (R.terms refs.now memory.old) e) }
     ensures terms { R.terms refs.now memory.new ≡ R.terms refs.now memory.old }
     ensures later { R.later memory.old memory.new }
     ensures from { steps.old ≤ steps.new }
-    ensures most { steps.new ≤ steps.old + entered_on (course_at here.now (R.readings (R.terms refs.now memory.old)) (value_from here.now (R.readings (R.terms refs.now memory.old)) next) formula.now) (entered_from here.now (R.readings (R.terms refs.now memory.old)) next) }
+    ensures most { steps.new ≤ steps.old + entered_on (course_at here.now (R.readings (R.terms refs.now memory.old))
+        (value_from here.now (R.readings (R.terms refs.now memory.old)) next) formula.now)
+        (entered_from here.now (R.readings (R.terms refs.now memory.old)) next) }
 {
     match formula {
         Formula::Continue => Ok(None),
@@ -84,12 +105,14 @@ pub(crate) fn statements<M, R: Refs<M>, L: Ledger>(
     memory: &mut M,
     steps: &mut Steps<L>,
 ) -> Result<Value, R::Fault>
-    requires { passes_from here.now (R.readings (R.terms refs.now memory.old)) (R.may_ask (R.terms refs.now memory.old)) first ≡ true }
+    requires { passes_from here.now (R.readings (R.terms refs.now memory.old))
+        (R.may_ask (R.terms refs.now memory.old)) first ≡ true }
     ensures value { IfOk result (λ v. v ≡ value_from here.now (R.readings (R.terms refs.now memory.old)) first) }
     ensures fault { IfErr result (λ e. R.may_fail (R.terms refs.now memory.old) e) }
     ensures terms { R.terms refs.now memory.new ≡ R.terms refs.now memory.old }
     ensures later { R.later memory.old memory.new }
-    ensures counted { IfOk result (λ _. steps.new ≡ steps.old + entered_from here.now (R.readings (R.terms refs.now memory.old)) first) }
+    ensures counted { IfOk result (λ _. steps.new
+        ≡ steps.old + entered_from here.now (R.readings (R.terms refs.now memory.old)) first) }
     ensures from { steps.old ≤ steps.new }
     ensures most { steps.new ≤ steps.old + entered_from here.now (R.readings (R.terms refs.now memory.old)) first }
     ensures started { IsSome (governing_from here.now.model here.now.cell first) → steps.old < steps.new }
