@@ -37,6 +37,7 @@ pub one_more : (count : ℕ) → plain_rules (count + 1) ≡ plain_rules count +
 one_more count = ap plain_rules (add_one count) ∙ more count where
   add_one : (n : ℕ) → n + 1 ≡ suc n
   add_one n = omega arith
+
   more : (n : ℕ) → plain_rules (suc n) ≡ plain_rules n ++ no_rules ∷ []
   more zero = refl
   more (suc n) = ap (λ rest. no_rules ∷ rest) (more n)

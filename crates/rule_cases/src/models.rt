@@ -30,12 +30,7 @@ pub fn rules_of(alloc: Global, files: &Files) -> Result<Vec<CubeRules>, Refusal>
 }
 
 // The rules of a cube: those of the file `rules` for the first, `rules 2` for the second.
-fn bound_rules(
-    alloc: Global,
-    space: &Space,
-    cube: u32,
-    files: &Files,
-) -> Result<CubeRules, Refusal>
+fn bound_rules(alloc: Global, space: &Space, cube: u32, files: &Files) -> Result<CubeRules, Refusal>
     requires { cube < length space.now.cubes }
 {
     let text = rule_text(alloc, cube, files)?;
