@@ -4,3 +4,4 @@ mod Around
 mod Cubes
 mod NamesGiven
 mod Tables
+pub mod ArgumentFacts

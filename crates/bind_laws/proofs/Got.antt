@@ -1,0 +1,17 @@
+-- What an answer that is there was made of.
+use Rattle.std.proofs.Common.{◌≡◌, Bool, true, false, Result, Ok, Err, refl, if◌then◌else◌}
+use Rattle.bind_areas.specs.Meaning.{Meaning, ◌>>=◌}
+
+-- what is meant
+abbrev pub answer : {A : Type 0} → A → Meaning A
+answer a = Ok a
+
+-- the first line of a `do` block that answers, and the rest of it
+pub got : {E A B : Type 0} (first : Result A E) (next : A → Result B E) (b : B) → (first >>= next) ≡ Ok b → (a : A) × (first ≡ Ok a) × (next a ≡ Ok b)
+got (Ok a) next b is = (a, refl, is)
+got (Err e) next b is = absurd (cc is)
+
+-- a test that has to hold before there is an answer
+pub passed : {E A : Type 0} (b : Bool) (whole : Result A E) (e : E) (a : A) → (if b then whole else Err e) ≡ Ok a → (b ≡ true) × (whole ≡ Ok a)
+passed true whole e a is = (refl, is)
+passed false whole e a is = absurd (cc is)
