@@ -1,0 +1,3 @@
+pub mod ListFacts
+pub mod RankFacts
+pub mod ListedFacts

@@ -1,0 +1,118 @@
+-- The ranks that a list gives, entry by entry.
+use Rattle.std.proofs.Common.{◌≡◌, ◌≢◌, ◌<◌, ◌≤◌, ℕ, zero, suc, ◌+◌, Bool, true, false, cond, ◌&&◌, eqb, ◌==◌, List, [], ◌∷◌, ◌++◌, map, length, Option, Some, None, is_some, find, option_map, if◌then◌else◌, refl, sym, ap, ◌∙◌, subst, arith, slice_index_or, slice_set}
+use Rattle.std.specs.List.{range_with_len}
+use Rattle.std.specs.Option.{option_map_or}
+use Rattle.std.proofs.lemmas.Bool.{ne_eqb, eq-eqb}
+use Rattle.std.proofs.lemmas.List.FromFn.{get_or-map-range_with_len}
+use Rattle.dim_core.specs.Outline.{Outline, index_of}
+use Rattle.bind_areas.proofs.ElementFacts.{called_within}
+use Rattle.bind_order.specs.Orders.{is_named, listed_rank, listed_ranks, may_list, entry_element, are_listed}
+
+-- the rank that a list gives an element, by the list of all
+pub rank_at : (d : Outline) (before : List (List ℕ × ℕ)) (given : List (Option ℕ)) (element : ℕ) → given ≡ listed_ranks d before → element < length d.elements
+    → slice_index_or given element None ≡ listed_rank d before element
+rank_at d before given element is low =
+    ap (λ l. slice_index_or l element None) is ∙ get_or-map-range_with_len (listed_rank d before) 0 (length d.elements) element element None low (omega arith)
+
+pub entry_is : (d : Outline) (version : ℕ) (before : List (List ℕ × ℕ)) (name : List ℕ) (given : List (Option ℕ)) (element : ℕ) (b : Bool) → index_of d name ≡ Some element
+    → given ≡ listed_ranks d before → may_list d version (slice_index_or given element None) element ≡ b
+    → (if b then Some element else None) ≡ entry_element d version before name
+entry_is d version before name given element b called is may =
+    let same = rank_at d before given element is (called_within d name element called) in
+    let may2 : may_list d version (listed_rank d before element) element ≡ b = ap (λ o. may_list d version o element) (sym same) ∙ may in
+    let whole : entry_element d version before name ≡ (if b then Some element else None) = rw called (ap (λ b. if b then Some element else None) may2) in
+    sym whole
+
+-- an entry that lists an element
+or_else : Option ℕ → Option ℕ → Option ℕ
+or_else (Some a) b = Some a
+or_else None b = b
+
+pushed : (d : Outline) (before : List (List ℕ × ℕ)) (entry : List ℕ × ℕ) (k : ℕ)
+    → listed_rank d (before ++ entry ∷ []) k ≡ or_else (listed_rank d before k) (if is_named d k entry.0 then Some entry.1 else None)
+unfolding or_else
+pushed d [] entry k = by (is_named d k entry.0)
+  where
+    by : (b : Bool) → option_map (λ (e : List ℕ × ℕ). e.1) (cond b (Some entry) None) ≡ (if b then Some entry.1 else None)
+    by true = refl
+    by false = refl
+pushed d (first ∷ before) entry k = by (is_named d k first.0) (pushed d before entry k)
+  where
+    by : (b : Bool) → listed_rank d (before ++ entry ∷ []) k ≡ or_else (listed_rank d before k) (if is_named d k entry.0 then Some entry.1 else None)
+        → option_map (λ (e : List ℕ × ℕ). e.1) (cond b (Some first) (find (λ e. is_named d k e.0) (before ++ entry ∷ [])))
+        ≡ or_else (option_map (λ (e : List ℕ × ℕ). e.1) (cond b (Some first) (find (λ e. is_named d k e.0) before))) (if is_named d k entry.0 then Some entry.1 else None)
+    by true later = refl
+    by false later = later
+
+entry_free : (d : Outline) (version : ℕ) (before : List (List ℕ × ℕ)) (name : List ℕ) (element : ℕ) → entry_element d version before name ≡ Some element
+    → (index_of d name ≡ Some element) × (listed_rank d before element ≡ None)
+entry_free d version before name element is = by (index_of d name) refl
+  where
+    by : (o : Option ℕ) → index_of d name ≡ o → (index_of d name ≡ Some element) × (listed_rank d before element ≡ None)
+    by None called = absurd (let none : entry_element d version before name ≡ None = rw called refl in let e : None ≡ Some element = sym none ∙ is in cc e)
+    by (Some found) called = may (listed_rank d before found) refl (may_list d version (listed_rank d before found) found) refl
+      where
+        may : (r : Option ℕ) → listed_rank d before found ≡ r → (b : Bool) → may_list d version (listed_rank d before found) found ≡ b
+            → (index_of d name ≡ Some element) × (listed_rank d before element ≡ None)
+        may r rank false bad = absurd (let none : entry_element d version before name ≡ None = rw called (ap (λ b. if b then Some found else None) bad) in let e : None ≡ Some element = sym none ∙ is in cc e)
+        may (Some r) rank true good = absurd (let e : false ≡ true = ap (λ o. may_list d version o found) (sym rank) ∙ good in cc e)
+        may None rank true good =
+            let some : entry_element d version before name ≡ Some found = rw called (ap (λ b. if b then Some found else None) good) in
+            let e : Some found ≡ Some element = sym some ∙ is in
+            let same : found ≡ element = cc in
+            (called ∙ ap Some same, subst (λ k. listed_rank d before k ≡ None) same rank)
+
+same_later : (f g : ℕ → Option ℕ) (a n : ℕ) → ((k : ℕ) → a ≤ k → g k ≡ f k) → map f (range_with_len a n) ≡ map g (range_with_len a n)
+same_later f g a zero same = refl
+same_later f g a (suc n) same =
+    ap (λ r. r ∷ map f (range_with_len (a + 1) n)) (sym (same a (omega arith))) ∙ ap (λ l. g a ∷ l) (same_later f g (a + 1) n (λ k low. same k (omega (arith, low))))
+
+set_later : (f g : ℕ → Option ℕ) (a n i : ℕ) (rank : Option ℕ) → i < n → g (a + i) ≡ rank → ((k : ℕ) → k ≢ a + i → g k ≡ f k)
+    → slice_set (map f (range_with_len a n)) i rank ≡ map g (range_with_len a n)
+set_later f g a zero i rank low here other = absurd (omega (arith, low))
+set_later f g a (suc n) zero rank low here other =
+    let same : a + 0 ≡ a = omega arith in
+    ap (λ r. r ∷ map f (range_with_len (a + 1) n)) (sym here ∙ ap g same) ∙ ap (λ l. g a ∷ l) (same_later f g (a + 1) n (λ k above. other k (λ e. omega (arith, e, above))))
+set_later f g a (suc n) (suc i) rank low here other =
+    let same : a + suc i ≡ a + 1 + i = omega arith in
+    ap (λ r. r ∷ slice_set (map f (range_with_len (a + 1) n)) i rank) (sym (other a (λ e. omega (arith, e))))
+    ∙ ap (λ l. g a ∷ l) (set_later f g (a + 1) n i rank (omega (arith, low)) (ap g (sym same) ∙ here) (λ k differs. other k (λ e. differs (e ∙ same))))
+
+-- the ranks with one more entry
+pub given_more : (d : Outline) (version : ℕ) (before : List (List ℕ × ℕ)) (entry : List ℕ × ℕ) (element : ℕ) (given next : List (Option ℕ)) → given ≡ listed_ranks d before
+    → entry_element d version before entry.0 ≡ Some element → next ≡ slice_set given element (Some entry.1) → next ≡ listed_ranks d (before ++ entry ∷ [])
+unfolding or_else
+given_more d version before entry element given next is lists set =
+    set ∙ ap (λ l. slice_set l element (Some entry.1)) is
+    ∙ set_later (listed_rank d before) (listed_rank d (before ++ entry ∷ [])) 0 (length d.elements) element (Some entry.1) (called_within d entry.0 element free.0) here other
+  where
+    free : (index_of d entry.0 ≡ Some element) × (listed_rank d before element ≡ None)
+    free = entry_free d version before entry.0 element lists
+
+    named : (k : ℕ) → is_named d k entry.0 ≡ eqb element k
+    named k = ap (λ o. option_map_or (λ index. index == k) o false) free.0
+
+    here : listed_rank d (before ++ entry ∷ []) (0 + element) ≡ Some entry.1
+    here = let same : 0 + element ≡ element = omega arith in ap (listed_rank d (before ++ entry ∷ [])) same ∙ pushed d before entry element ∙ ap (λ o. or_else o (if is_named d element entry.0 then Some entry.1 else None)) free.1
+        ∙ ap (λ b. if b then Some entry.1 else None) (named element ∙ eq-eqb element element refl)
+
+    same_or : (o : Option ℕ) → or_else o None ≡ o
+    same_or None = refl
+    same_or (Some a) = refl
+
+    other : (k : ℕ) → k ≢ 0 + element → listed_rank d (before ++ entry ∷ []) k ≡ listed_rank d before k
+    other k differs = pushed d before entry k
+        ∙ ap (λ b. or_else (listed_rank d before k) (if b then Some entry.1 else None)) (named k ∙ ne_eqb element k (λ e. differs (omega (arith, e))))
+        ∙ same_or (listed_rank d before k)
+
+pub listed_more : (d : Outline) (version element : ℕ) (before next : List (List ℕ × ℕ)) (rest later : List (List ℕ × ℕ)) (entry : List ℕ × ℕ) (whole : Bool) → rest ≡ entry ∷ later
+    → next ≡ before ++ entry ∷ [] → entry_element d version before entry.0 ≡ Some element → are_listed d version before rest ≡ whole → are_listed d version next later ≡ whole
+listed_more d version element before next rest later entry whole is pushed lists so =
+    let step : are_listed d version before (entry ∷ later) ≡ are_listed d version (before ++ entry ∷ []) later = ap (λ o. is_some o && are_listed d version (before ++ entry ∷ []) later) lists in
+    ap (λ l. are_listed d version l later) pushed ∙ sym step ∙ ap (are_listed d version before) (sym is) ∙ so
+
+pub listed_stops : (d : Outline) (version : ℕ) (before : List (List ℕ × ℕ)) (rest later : List (List ℕ × ℕ)) (entry : List ℕ × ℕ) (whole : Bool) → rest ≡ entry ∷ later
+    → entry_element d version before entry.0 ≡ None → are_listed d version before rest ≡ whole → whole ≡ false
+listed_stops d version before rest later entry whole is lists so =
+    let step : are_listed d version before (entry ∷ later) ≡ false = ap (λ o. is_some o && are_listed d version (before ++ entry ∷ []) later) lists in
+    sym so ∙ ap (are_listed d version before) is ∙ step

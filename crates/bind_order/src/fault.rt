@@ -1,0 +1,35 @@
+use std::alloc::{AllocError, AllocFailed};
+
+/// Why an order line stands for no order of its cube.
+#[derive(Clone, Copy, Debug, PartialEq, Eq)]
+pub enum BindOrderFault {
+    /// The line of this cube has more than 8 positions, it names a dimension that isn't the cube's, it lists an element
+    /// that isn't in the dimension, it lists an element twice or, in a text of version 1, a consolidated element, a
+    /// listed rank is smaller than that of a leaf which counts in the element, or a constant or a rank is above 65,535.
+    /// Where a dimension stands alone, a leaf's rank is its index, which counts from 1: an index above 65,535 is bad too.
+    BadOrder(u32),
+    /// Want of memory. It may come in place of any answer.
+    Memory,
+}
+
+impl From<AllocError> for BindOrderFault {
+    ghost use Rattle.std.specs.Prelude.{◌≡◌};
+    ghost use Rattle.bind_order.specs.declared.fault.BindOrderFault.TheVariants.{Memory};
+
+    ghost from_gives = { λ _ e. e ≡ Memory };
+
+    fn from(_: AllocError) -> BindOrderFault {
+        BindOrderFault::Memory
+    }
+}
+
+impl<T: Drop> From<AllocFailed<T>> for BindOrderFault {
+    ghost use Rattle.std.specs.Prelude.{◌≡◌};
+    ghost use Rattle.bind_order.specs.declared.fault.BindOrderFault.TheVariants.{Memory};
+
+    ghost from_gives = { λ _ e. e ≡ Memory };
+
+    fn from(_: AllocFailed<T>) -> BindOrderFault {
+        BindOrderFault::Memory
+    }
+}

@@ -1,0 +1,95 @@
+ghost use Rattle.std.specs.Prelude.{◌≡◌, ◌<◌, ◌≤◌, None, All, length, map, max, unwrap_or, slice_index_or, IfOk, IfSome};
+ghost use Rattle.std.specs.List.{range_with_len};
+ghost use Rattle.dim_weights.specs.Table.{IsWeightsOf};
+ghost use Rattle.rule_model.specs.Order.{greatest};
+ghost use Rattle.rule_model.specs.Conditions.{AreRanks};
+ghost use Rattle.bind_order.specs.Orders.{leaf_rank, fitting, rank_of, ranks_of};
+
+use dim_core::Dimension;
+use dim_weights::Weights;
+use lists::ListOf;
+use std::alloc::{AllocError, Global};
+
+/// The greatest number at a position of an order.
+pub const MAX_RANK: u32 = 65_535;
+
+// The rank of a leaf, where these are given.
+fn leaf_rank(given: &[Option<u32>], leaf: u32) -> u32
+    requires { leaf < length given.now }
+    ensures { result ≡ leaf_rank given.now leaf }
+{
+    match given[leaf as usize] {
+        Some(rank) => rank,
+        None => 0,
+    }
+}
+
+// The greatest rank of these leaves.
+fn greatest_leaf(given: &[Option<u32>], leaves: &[(u32, i64)]) -> u32
+    requires { All (λ pair. pair.0 < length given.now) leaves.now }
+    ensures { result ≡ greatest (map (λ pair. leaf_rank given.now pair.0) leaves.now) }
+{
+    let mut best = 0;
+    for pair in leaves {
+        best = larger(best, leaf_rank(given, pair.0));
+    }
+    best
+}
+
+fn larger(a: u32, b: u32) -> u32
+    ensures { result ≡ max a b }
+{
+    if a < b { b } else { a }
+}
+
+// A rank that is at least this and not too great.
+fn fitting(least: u32, rank: u32) -> Option<u32>
+    ensures { result ≡ fitting least rank }
+{
+    if least <= rank && rank <= MAX_RANK {
+        Some(rank)
+    } else {
+        None
+    }
+}
+
+// The rank of an element.
+fn rank_of(
+    dimension: &Dimension,
+    weights: &Weights,
+    given: &[Option<u32>],
+    element: u32,
+) -> Option<u32>
+    requires weights { IsWeightsOf dimension.now weights.now }
+    requires whole { length given.now ≡ length dimension.now.elements }
+    requires within { element < length dimension.now.elements }
+    ensures { result ≡ rank_of dimension.now given.now element }
+{
+    let least = greatest_leaf(given, weights.leaves(element));
+    match given[element as usize] {
+        Some(rank) => fitting(least, rank),
+        None => fitting(least, least),
+    }
+}
+
+/// The ranks of all elements, or None where one doesn't fit.
+pub fn ranks_of(
+    alloc: Global,
+    dimension: &Dimension,
+    weights: &Weights,
+    given: &[Option<u32>],
+) -> Result<Option<ListOf<u32>>, AllocError>
+    requires weights { IsWeightsOf dimension.now weights.now }
+    requires whole { length given.now ≡ length dimension.now.elements }
+    ensures bound { IfOk result (λ found. found ≡ ranks_of dimension.now given.now) }
+    ensures valid { IfOk result (λ found. IfSome found (AreRanks dimension.now)) }
+{
+    let mut ranks = Vec::new(alloc);
+    for element in 0..dimension.len() {
+        match rank_of(dimension, weights, given, element) {
+            Some(rank) => ranks.push(rank)?,
+            None => return Ok(None),
+        }
+    }
+    Ok(Some(ListOf::new(ranks)))
+}

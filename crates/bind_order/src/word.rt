@@ -1,0 +1,143 @@
+ghost use Rattle.std.specs.Prelude.{◌≡◌, ◌<◌, Some, length, option_map, IfOk, IfSome};
+ghost use Rattle.dim_weights.specs.Table.{IsWeightsOf};
+ghost use Rattle.cube_space.specs.Layout.{axes};
+ghost use Rattle.rule_model.specs.Conditions.{AreRanks, IsPosition};
+ghost use Rattle.rule_model.specs.Weights.{AreWeightsOf};
+ghost use Rattle.rule_model.specs.declared.order.Position.TheVariants.{Ranks};
+ghost use Rattle.bind_order.specs.Orders.{axis_called, position_of, index_position, list_position, list_ranks};
+
+use crate::axes::{axis, axis_count, axis_weights};
+use crate::listed::{index_ranks, listed_ranks};
+use crate::ranks::{MAX_RANK, ranks_of};
+use cube_space::Space;
+use dim_core::Dimension;
+use dim_name::Name;
+use dim_weights::Weights;
+use lists::ListOf;
+use model_text::OrderWord;
+use rule_model::Position;
+use std::alloc::{AllocError, Global};
+
+// The place of the dimension of a cube that has this name.
+fn axis_called(space: &Space, cube: u32, name: &Name) -> Option<u32>
+    requires { cube < length space.now.cubes }
+    ensures place { result ≡ axis_called space.now cube name.now }
+    ensures within { IfSome result (λ place. place < length (axes space.now cube)) }
+{
+    for place in 0..axis_count(space, cube) {
+        if name == axis(space, cube, place).name() {
+            return Some(place);
+        }
+    }
+    None
+}
+
+// The position by these ranks of the dimension at a place.
+fn position_by(place: u32, ranks: Option<ListOf<u32>>) -> Option<Position>
+    ensures { result ≡ option_map (Ranks place) ranks }
+{
+    match ranks {
+        Some(ranks) => Some(Position::Ranks { dim: place, ranks }),
+        None => None,
+    }
+}
+
+// The position that a dimension alone stands for.
+fn index_position(
+    alloc: Global,
+    space: &Space,
+    weights: &[Weights],
+    cube: u32,
+    name: &Name,
+) -> Result<Option<Position>, AllocError>
+    requires cube { cube < length space.now.cubes }
+    requires weights { AreWeightsOf space.now.dimensions weights.now }
+    ensures bound { IfOk result (λ found. found ≡ index_position (axes space.now cube)
+        (axis_called space.now cube name.now)) }
+    ensures valid { IfOk result (λ found. IfSome found (IsPosition (axes space.now cube))) }
+{
+    match axis_called(space, cube, name) {
+        Some(place) => {
+            let dimension = axis(space, cube, place);
+            let given = index_ranks(alloc, dimension)?;
+            let weights = axis_weights(space, weights, cube, place);
+            let ranks = ranks_of(alloc, dimension, weights, &given)?;
+            Ok(position_by(place, ranks))
+        }
+        None => Ok(None),
+    }
+}
+
+// The ranks of a dimension by a list.
+fn list_ranks(
+    alloc: Global,
+    dimension: &Dimension,
+    weights: &Weights,
+    version: u32,
+    list: &[(Name, u32)],
+) -> Result<Option<ListOf<u32>>, AllocError>
+    requires { IsWeightsOf dimension.now weights.now }
+    ensures bound { IfOk result (λ found. found ≡ list_ranks version list.now dimension.now) }
+    ensures valid { IfOk result (λ found. IfSome found (AreRanks dimension.now)) }
+{
+    match listed_ranks(alloc, dimension, version, list)? {
+        Some(given) => ranks_of(alloc, dimension, weights, &given),
+        None => Ok(None),
+    }
+}
+
+// The position that a dimension with a list of ranks stands for.
+fn list_position(
+    alloc: Global,
+    space: &Space,
+    weights: &[Weights],
+    cube: u32,
+    version: u32,
+    name: &Name,
+    list: &[(Name, u32)],
+) -> Result<Option<Position>, AllocError>
+    requires cube { cube < length space.now.cubes }
+    requires weights { AreWeightsOf space.now.dimensions weights.now }
+    ensures bound { IfOk result (λ found. found ≡ list_position (axes space.now cube) version list.now
+        (axis_called space.now cube name.now)) }
+    ensures valid { IfOk result (λ found. IfSome found (IsPosition (axes space.now cube))) }
+{
+    match axis_called(space, cube, name) {
+        Some(place) => {
+            let dimension = axis(space, cube, place);
+            let weights = axis_weights(space, weights, cube, place);
+            let ranks = list_ranks(alloc, dimension, weights, version, list)?;
+            Ok(position_by(place, ranks))
+        }
+        None => Ok(None),
+    }
+}
+
+/// The position that a word of an order line stands for, or None where it stands for none.
+pub fn position_of(
+    alloc: Global,
+    space: &Space,
+    weights: &[Weights],
+    cube: u32,
+    version: u32,
+    word: &OrderWord,
+) -> Result<Option<Position>, AllocError>
+    requires cube { cube < length space.now.cubes }
+    requires weights { AreWeightsOf space.now.dimensions weights.now }
+    ensures bound { IfOk result (λ found. found ≡ position_of space.now cube version word.now) }
+    ensures valid { IfOk result (λ found. IfSome found (IsPosition (axes space.now cube))) }
+{
+    match word {
+        OrderWord::Constant(number) => {
+            if *number <= MAX_RANK {
+                Ok(Some(Position::Constant(*number)))
+            } else {
+                Ok(None)
+            }
+        }
+        OrderWord::Index(name) => index_position(alloc, space, weights, cube, name),
+        OrderWord::Ranks(name, list) => {
+            list_position(alloc, space, weights, cube, version, name, list.as_slice())
+        }
+    }
+}
