@@ -78,7 +78,8 @@ may_list dimension version before element =
 abbrev pub entry_element : Outline → ℕ → List (List ℕ × ℕ) → List ℕ → Option ℕ
 entry_element dimension version before name =
     option_and_then
-    (λ element. if may_list dimension version (listed_rank dimension before element) element then Some element else None)
+    (λ element.
+        if may_list dimension version (listed_rank dimension before element) element then Some element else None)
     (index_of dimension name)
 
 -- whether each entry, behind those before it, lists an element

@@ -1,7 +1,7 @@
 //! Binding of order lines: the declared order of a cube that an `ORDER` line of a model text stands for.
 //!
-//! Read in this order: [`bind_order`]; [`BindOrderFault`], why a line stands for no order. `specs/Orders.antt` says what
-//! lines mean.
+//! Read in this order: [`bind_order`]; [`BindOrderFault`], why a line stands for no order. `specs/Orders.antt` says
+//! what lines mean.
 #![tactic(auto)]
 
 pub use bind::bind_order;
