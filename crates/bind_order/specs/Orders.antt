@@ -79,7 +79,7 @@ abbrev pub entry_element : Outline → ℕ → List (List ℕ × ℕ) → List �
 entry_element dimension version before name =
     option_and_then
     (λ element.
-        if may_list dimension version (listed_rank dimension before element) element then Some element else None)
+    if may_list dimension version (listed_rank dimension before element) element then Some element else None)
     (index_of dimension name)
 
 -- whether each entry, behind those before it, lists an element

@@ -14,7 +14,7 @@ use dim_core::Dimension;
 use rule_model::Model;
 
 /// What doesn't come: nothing fails in a table.
-#[derive(Clone, Copy, Debug)]
+#[derive(Clone, Copy)]
 pub enum Never {}
 
 /// A table of values, over what is stored, as what formulas read.

@@ -43,7 +43,7 @@ returns c d is =
     let k = slice_index_or c.as_slice-dims.result.now c.args.place 0 in
     let here = weights_at c.args.space.now.dimensions c.args.weights.now k nothing [] c.requires.weights (within a) in
     let own = axis_is c.args.space.now c.args.cube c.args.place c.shape.result.now c.as_slice-dims.result.now (slice_index_or c.args.space.now.dimensions k nothing) c.size-cells.ensures.valid c.shape.ensures c.as_slice-dims.ensures
-        (low a) (slice_get-get_or c.args.space.now.dimensions k nothing (within a)) in
+    (low a) (slice_get-get_or c.args.space.now.dimensions k nothing (within a)) in
     let e : Some (slice_index_or c.args.space.now.dimensions k nothing) ≡ Some d = sym own ∙ is in
     let same : slice_index_or c.args.space.now.dimensions k nothing ≡ d = cc in
     let row : slice_index_or c.args.weights.now k [] ≡ c.index-weights-dims.result = get_or_any c.args.weights.now k [] c.index-weights-dims.result here.0 ∙ sym c.index-weights-dims.is in
