@@ -1,5 +1,6 @@
+use crate::commands::answer_commands;
 use crate::files::Files;
-use crate::models::{accepted, rules_of};
+use crate::models::{accepted, model_of};
 use crate::refusal::Refusal;
 use case_lines::{Texts, write_answer};
 use std::alloc::{AllocError, Global};
@@ -47,9 +48,10 @@ fn unread(alloc: Global) -> Result<Option<String>, AllocError> {
     Ok(Some(String::from_str(alloc, "a line of this case is none of a text")?))
 }
 
-// What is told of the rules of these files.
+// What is told of the rules of these files, and of each command.
 fn answer_of(alloc: Global, files: &Files) -> Result<String, Refusal> {
-    let rules = rules_of(alloc, files)?;
-    let told = accepted(alloc, &rules)?;
+    let model = model_of(alloc, files)?;
+    let mut told = accepted(alloc, &model)?;
+    answer_commands(alloc, &model, files.file("user"), &mut told)?;
     Ok(told)
 }

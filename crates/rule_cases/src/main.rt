@@ -20,7 +20,9 @@
 //! many statements and feeders were bound, and then for each command whether its number is stored, or the value.
 #![tactic(auto)]
 
+mod bound;
 mod cases;
+mod commands;
 mod files;
 mod models;
 mod refusal;

@@ -1,0 +1,127 @@
+ghost use Rattle.cube_space.specs.Cells.{IsCell};
+ghost use Rattle.rule_laws.specs.OrderByPlace.{IsOrderedByPlace};
+ghost use Rattle.rule_model.specs.System.{system_of, positions_of};
+ghost use Rattle.rule_dense.specs.Limits.{IsLow, HasSmallCubes};
+ghost use Rattle.std.specs.Prelude.{IsTrue};
+
+use crate::refusal::Refusal;
+use cell_store::{Store, StoreFault};
+use cube_fixed::{Money, print};
+use rule_core::{Model, cell_of, dense, is_input};
+use std::alloc::Global;
+use user_text::UserBody;
+
+/// The most cells of a cube.
+const MOST_CELLS: u64 = 1_000_000;
+
+/// Adds what each command comes to, a line each.
+pub fn answer_commands(
+    alloc: Global,
+    model: &Model,
+    text: &[u8],
+    told: &mut String,
+) -> Result<(), Refusal>
+    requires ordered { IsOrderedByPlace (system_of model.now) (positions_of model.now) }
+    requires low { IsLow model.now }
+{
+    let commands = match user_text::parse(alloc, text, 0) {
+        Ok(commands) => commands,
+        Err(fault) => return Err(Refusal::of(alloc, &fault)),
+    };
+    if !has_small_cubes(model) {
+        return Err(Refusal::Memory);
+    }
+    let mut store = Store::new(alloc);
+    for command in &commands {
+        told.push('\n')?;
+        let line = answer_to(alloc, model, &mut store, &command.body)?;
+        told.push_str(&line)?;
+    }
+    Ok(())
+}
+
+fn has_small_cubes(model: &Model) -> bool
+    ensures { IsTrue result → HasSmallCubes model.now.space }
+{
+    for cube in 0..model.space().cubes() {
+        if model.space().cells(cube) > MOST_CELLS {
+            return false;
+        }
+    }
+    true
+}
+
+fn answer_to(
+    alloc: Global,
+    model: &Model,
+    store: &mut Store,
+    command: &UserBody,
+) -> Result<String, Refusal>
+    requires ordered { IsOrderedByPlace (system_of model.now) (positions_of model.now) }
+    requires low { IsLow model.now }
+    requires small { HasSmallCubes model.now.space }
+{
+    match command {
+        UserBody::Put(text, number) => {
+            let cell = cell_of(model, &text.cube, text.elements.as_slice());
+            put(alloc, model, store, cell, *number)
+        }
+        UserBody::Get(text) => {
+            let cell = cell_of(model, &text.cube, text.elements.as_slice());
+            value_text(alloc, model, store, cell)
+        }
+        _ => Ok(String::from_str(alloc, "neither PUT nor GET")?),
+    }
+}
+
+fn put(
+    alloc: Global,
+    model: &Model,
+    store: &mut Store,
+    cell: Option<u64>,
+    number: Money,
+) -> Result<String, Refusal> {
+    let Some(cell) = cell else {
+        return Ok(String::from_str(alloc, "no cell")?);
+    };
+    if cell >= model.space().size() {
+        return Ok(String::from_str(alloc, "no cell")?);
+    }
+    if !model.space().is_leaf(cell) {
+        return Ok(String::from_str(alloc, "no leaf cell")?);
+    }
+    if !is_input(model, cell) {
+        return Ok(String::from_str(alloc, "not open for input")?);
+    }
+    match store.apply(alloc, &[(cell, number)]) {
+        Ok(more) => *store = more,
+        Err(StoreFault::StoreLimit(_)) => return Ok(String::from_str(alloc, "StoreLimit")?),
+        Err(StoreFault::Memory) => return Err(Refusal::Memory),
+    }
+    Ok(String::from_str(alloc, "stored")?)
+}
+
+fn value_text(
+    alloc: Global,
+    model: &Model,
+    store: &Store,
+    cell: Option<u64>,
+) -> Result<String, Refusal>
+    requires ordered { IsOrderedByPlace (system_of model.now) (positions_of model.now) }
+    requires low { IsLow model.now }
+    requires small { HasSmallCubes model.now.space }
+{
+    let Some(cell) = cell else {
+        return Ok(String::from_str(alloc, "no cell")?);
+    };
+    if cell >= model.space().size() {
+        return Ok(String::from_str(alloc, "no cell")?);
+    }
+    let value = dense(alloc, model, store, cell)?;
+    let mut text = Vec::new(alloc);
+    print(alloc, value, &mut text)?;
+    match String::from_utf8(text) {
+        Ok(text) => Ok(text),
+        Err(_) => Err(Refusal::Memory),
+    }
+}
