@@ -35,7 +35,7 @@ abbrev pub listed_rank : Outline → List (List ℕ × ℕ) → ℕ → Option �
 listed_rank dimension list element =
     option_map (λ entry. entry.1) (find (λ entry. is_named dimension element entry.0) list)
 
--- the rank that a dimension without a list gives an element: to a leaf its index, counted from 1 (decided by the lead)
+-- the rank that a dimension without a list gives an element: to a leaf its index, counted from 1
 abbrev pub index_rank : Outline → ℕ → Option ℕ
 index_rank dimension element = if is_leaf dimension element then Some (element + 1) else None
 
@@ -123,7 +123,8 @@ position_of space cube version (words.Ranks name list) =
 abbrev pub order_of : Layout → ℕ → OrderLine → Option Order
 order_of space cube line =
     if nat_lt most_positions (length line.words) then None
-    else option_map (λ list. record { positions = list }) (all_of (map (position_of space cube line.version) line.words))
+    else option_map (λ list. record { positions = list })
+    (all_of (map (position_of space cube line.version) line.words))
 
 -- an answer for this cube is the order, and it is bad exactly where there is none; want of memory may come in its place
 abbrev pub IsAnsweredBy : Option Order → ℕ → Result Order BindOrderFault → Type 0

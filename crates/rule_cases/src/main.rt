@@ -13,8 +13,8 @@
 //! |GET 'Plan' ('Actual', 'Q1', 'Sales');
 //! ```
 //!
-//! Lines of a file are those of [`case_lines::spell`]. A case `text: NAME` gives its lines a name, for later cases. Lines
-//! that begin with `#` head a section.
+//! Lines of a file are those of [`case_lines::spell`]. A case `text: NAME` gives its lines a name, for later cases.
+//! Lines that begin with `#` head a section.
 //!
 //! The program writes each case again, and behind it the answer, each line of it behind `> `: the first refusal, or how
 //! many statements and feeders were bound, and then for each command whether its number is stored, or the value.

@@ -7,7 +7,7 @@ use rule_laws::Formula;
 use rule_model::{CubeRules, Statement};
 
 /// Whether numbers of 32 bits have room for the statements and the feeders of a cube, and for what each statement reads
-/// and its operands. Rules of a text have room: it has at most 1,000 statements.
+/// and its operands.
 pub fn are_countable(rules: &CubeRules) -> bool
     ensures { IsTrue result → AreCountable rules.now }
 {
@@ -39,7 +39,8 @@ fn is_countable(statement: &Statement) -> bool
 
 fn both_counts(statement: &Statement) -> Option<Counts>
     ensures read { IfSome result (λ c. c.read ≡ read_count statement.now.leaf + read_count statement.now.cons) }
-    ensures operands { IfSome result (λ c. c.operands ≡ operand_count statement.now.leaf + operand_count statement.now.cons) }
+    ensures operands { IfSome result (λ c. c.operands
+        ≡ operand_count statement.now.leaf + operand_count statement.now.cons) }
 {
     let leaf = part_counts(&statement.leaf)?;
     let cons = part_counts(&statement.cons)?;

@@ -13,7 +13,8 @@ use Rattle.rule_model.specs.System.{system_of}
 use Rattle.rule_model.specs.Weights.{weight}
 use Rattle.stored_values.specs.Stored.{stored_in}
 use Rattle.rule_evaluate.specs.declared.ask.Ask.{Ask}
-use Rattle.rule_evaluate.specs.declared.ask.Ask.TheVariants.{Value as of_value, Base as of_base, Children as of_children}
+use Rattle.rule_evaluate.specs.declared.ask.Ask.TheVariants.{Value as of_value, Base as of_base}
+use Rattle.rule_evaluate.specs.declared.ask.Ask.TheVariants.{Children as of_children}
 use Rattle.rule_evaluate.specs.Readings.{Readings, readings_of}
 
 -- a table of values, over what is stored
