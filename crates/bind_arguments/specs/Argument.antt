@@ -26,7 +26,8 @@ still space cube None = Moved 0 (nowhere (size_at space cube 0))
 
 -- for each element of a dimension at this place of the cube: the element of the target's dimension
 abbrev pub table : Layout → ℕ → ℕ → BoundArgument → ℕ → List (Option ℕ)
-table space cube dim argument place = map (element_given space dim argument) (range_with_len 0 (size_at space cube place))
+table space cube dim argument place =
+    map (element_given space dim argument) (range_with_len 0 (size_at space cube place))
 
 abbrev pub arg_following : Layout → ℕ → ℕ → BoundArgument → Option ℕ → Arg
 arg_following space cube dim argument None = still space cube (element_given space dim argument 0)

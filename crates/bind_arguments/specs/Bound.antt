@@ -38,7 +38,8 @@ attribute_named dimension text = option_and_then
 abbrev pub bound_argument : Layout → ℕ → Written → Option BoundArgument
 bound_argument space cube (Quoted text) = Some (bound.Text (name_in text))
 bound_argument space cube (Current dim) =
-    option_map (λ place. bound.Current place (slice_index_or (dims_of space cube) place 0)) (place_in_cube space cube dim)
+    option_map (λ place. bound.Current place (slice_index_or (dims_of space cube) place 0))
+    (place_in_cube space cube dim)
 bound_argument space cube (AtIndex dim index) = option_map (λ d. bound.AtIndex d index) (dimension_named space dim)
 bound_argument space cube (AtPlace dim source of shift) =
     option_and_then (λ argument. option_and_then (λ s. option_map

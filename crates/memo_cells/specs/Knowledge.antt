@@ -6,8 +6,8 @@ use Rattle.memo_cells.specs.declared.answers.Look.TheVariants as look
 use Rattle.memo_cells.specs.declared.answers.Kept.{Kept}
 use Rattle.memo_cells.specs.declared.answers.Kept.TheVariants as kept
 
--- what is known: which cells have their value there; of a cell and another one, whether the slot of the cell is for that
--- other one; and how often a word of a cell's slot was found empty
+-- what is known: which cells have their value there; of a cell and another one, whether the slot of the cell is for
+-- that other one; and how often a word of a cell's slot was found empty
 pub record Knowledge : Type 0 where
   pub knows : ℕ → Bool
   pub names : ℕ → ℕ → Bool

@@ -1,6 +1,7 @@
 ghost use Rattle.std.specs.Prelude.{◌≡◌, ℕ, true};
 ghost use Rattle.cube_fixed.specs.declared.value.Value.{Value};
-ghost use Rattle.memo_cells.specs.Knowledge.{Grew, IsNumber, IsRight, KeepsAt, Knowledge, Knows, LooksAt, Names, is_value};
+ghost use Rattle.memo_cells.specs.Knowledge.{Grew, IsNumber, IsRight, KeepsAt, Knowledge, Knows, LooksAt, Names};
+ghost use Rattle.memo_cells.specs.Knowledge.{is_value};
 ghost use Rattle.memo_cells.specs.declared.answers.Look.TheVariants.{Other as look_other};
 ghost use Rattle.memo_cells.specs.declared.answers.Kept.TheVariants.{Here, Other as kept_other};
 

@@ -125,7 +125,9 @@ closed parts other = at parts other
 -- one more piece: what it adds, or why it is refused and on which line
 abbrev pub gathered : Given → Piece → Result Given ModelTextFault
 gathered g (Version line number) =
-    if is_version number then Ok (at (record g.parts { version = number }) g.current) else refused line causes.WrongVersion
+    if is_version number
+    then Ok (at (record g.parts { version = number }) g.current)
+    else refused line causes.WrongVersion
 gathered g Closing = Ok (closed g.parts g.current)
 gathered g (DimensionWord line) = unless (dimensions_are_full g.parts) line causes.TooMany g.parts (DimensionDue line)
 gathered g (CubeWord line) = unless (cubes_are_full g.parts) line causes.TooMany g.parts (CubeDue line)

@@ -1,5 +1,6 @@
 -- The walk over what a statement reads: how much it has seen, and the first of it that doesn't stand before.
-use Rattle.std.specs.Prelude.{ℕ, suc, ◌+◌, ◌<◌, ◌^◌, min, Bool, true, false, Option, Some, None, List, length, All, fold}
+use Rattle.std.specs.Prelude.{ℕ, suc, ◌+◌, ◌<◌, ◌^◌, min, Bool, true, false, Option, Some, None}
+use Rattle.std.specs.Prelude.{List, length, All, fold}
 use Rattle.cube_space.specs.Layout.{Layout}
 use Rattle.rule_laws.specs.Meaning.{Precedent}
 use Rattle.rule_model.specs.Conditions.{IsPrecedent}
@@ -38,7 +39,8 @@ pub record AreReads (space : Layout) (cube before : ℕ) (ps : List Precedent) :
 
 -- what the statements of a cube, or the cubes, from a place on have late: of each statement the first reference
 abbrev pub late_statements : BoundModel → ℕ → List Statement → ℕ → ℕ → List OrderFault
-late_statements model cube statements from count = filter_map (late_in model cube statements) (range_with_len from count)
+late_statements model cube statements from count =
+    filter_map (late_in model cube statements) (range_with_len from count)
 
 abbrev pub late_cubes : BoundModel → ℕ → ℕ → List OrderFault
 late_cubes model from count = flat_map (late_of model) (range_with_len from count)

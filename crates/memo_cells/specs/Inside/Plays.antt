@@ -22,8 +22,8 @@ abbrev pub claiming : View → ℕ → View
 claiming v cell =
     record { version = v.version; slots = v.slots; known = v.known; zeros = v.zeros; claimed = cell ∷ v.claimed }
 
--- the word found is the one that was known; a key is of a cell of its slot; a value is that of the cell which the key is
--- known to name
+-- the word found is the one that was known; a key is of a cell of its slot; a value is that of the cell which the key
+-- is known to name
 pub record Found (v : View) (at word : ℕ) : Type 0 where
   pub known : (w : ℕ) → has_word v.known at w ≡ true → word ≡ w
   pub some : has_some v.known at ≡ true → word ≢ 0

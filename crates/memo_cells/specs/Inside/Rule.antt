@@ -9,7 +9,8 @@ use Rattle.memo_cells.specs.declared.seat.View.{View}
 use Rattle.memo_cells.specs.Values.{cell_value, value_in}
 use Rattle.memo_cells.specs.Seats.{key_at, value_at, has_word, has_some}
 
--- a slot: no value without a key, a key is one more than the number of a cell of this slot, and the value is that cell's
+-- a slot: no value without a key, a key is one more than the number of a cell of this slot, and the value is that
+-- cell's
 pub record HoldsSlot (about : About) (words : List ℕ) (slot : ℕ) : Type 0 where
   pub empty : slice_index words (key_at slot) ≡ 0 → slice_index words (value_at slot) ≡ 0
   pub named : (cell : ℕ) → slice_index words (key_at slot) ≡ cell + 1 → cell % about.slots ≡ slot
