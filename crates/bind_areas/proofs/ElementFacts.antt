@@ -8,7 +8,7 @@ use Rattle.std.proofs.lemmas.List.Quantifiers.{position-Some}
 use Rattle.dim_name.specs.Name.{is_same_name}
 use Rattle.dim_core.specs.Outline.{Outline, index_of, names_of}
 use Rattle.bind_areas.specs.Areas.{elements_called}
-use Rattle.bind_areas.proofs.RisingFacts.{among, rises, kept_rises, rising_same, among_kept, past_kept, among_dedup, among_moved}
+use Rattle.rising_lists.proofs.Rising.{among, rises, kept_rises, rising_same, among_kept, past_kept, among_dedup, among_moved}
 
 -- an element that a name calls is one
 pub called_within : (d : Outline) (name : List ℕ) (element : ℕ) → index_of d name ≡ Some element → element < length d.elements
