@@ -75,13 +75,18 @@ impl<E: Stored, T: Part<E>> Part<E> for Level<T> {
         level: &Level<T>,
         writes: &[E],
     ) -> Result<(), AllocError> {
+        // one more, for where a node is split
+        self.nodes
+            .reserve_exact(level.nodes.len().saturating_add(1))?;
         let mut rest = writes;
         for node in &level.nodes {
             let count = count_up_to(rest, node.last);
             add_node(alloc, self, node, &rest[..count])?;
             rest = above(rest, node.last);
         }
-        add_part(alloc, self, &level.last, rest)
+        add_part(alloc, self, &level.last, rest)?;
+        // else a level would lack this node, and be merged with the next one
+        close(alloc, self)
     }
 
     fn cut(&mut self, alloc: Global) -> Result<Level<T>, AllocError> {

@@ -7,7 +7,7 @@ use crate::places::{above, count_below, first_at_least};
 use std::alloc::{AllocError, Global};
 
 /// The fewest entries of a page that versions share. It has fewer than twice as many.
-pub const HALF_PAGE: usize = 64;
+pub const HALF_PAGE: usize = 32;
 
 /// Entries in the order of their cells, which are copied where one changes.
 #[derive(Debug, Drop)]
@@ -56,6 +56,8 @@ impl<E: Stored> Part<E> for Page<E> {
     }
 
     fn add_changed(&mut self, _: Global, page: &Page<E>, writes: &[E]) -> Result<(), AllocError> {
+        self.entries
+            .reserve_exact(page.entries.len().saturating_add(writes.len()))?;
         let mut rest = page.entries.as_slice();
         for write in writes {
             let cell = write.cell();

@@ -8,7 +8,7 @@ use crate::part::Part;
 use std::alloc::{AllocError, Global};
 
 /// Entries in pages, under levels of nodes.
-pub type Tree<E> = Level<Level<Level<Level<Page<E>>>>>;
+pub type Tree<E> = Level<Level<Level<Level<Level<Page<E>>>>>>;
 
 /// The most writes that are made at once. More would make parts that are long to split.
 const MOST_AT_ONCE: usize = 256;

@@ -7,7 +7,7 @@ use Rattle.cell_store.specs.declared.level.TheConstants.{HALF_LEVEL}
 use Rattle.cell_store.specs.Private.Levels.{level_entries, IsLevel}
 
 abbrev pub Tree : Type 0 → Type 0
-Tree E = Level (Level (Level (Level (Page E))))
+Tree E = Level (Level (Level (Level (Level (Page E)))))
 
 abbrev page_entries : {E : Type 0} → Page E → List E
 page_entries page = page.entries.items
@@ -20,7 +20,7 @@ level_size level = length level.nodes.items
 
 -- the entries of a tree, in their order
 abbrev pub all_entries : {E : Type 0} → Tree E → List E
-all_entries tree = level_entries (level_entries (level_entries (level_entries page_entries))) tree
+all_entries tree = level_entries (level_entries (level_entries (level_entries (level_entries page_entries)))) tree
 
 -- the sizes of a level of pages, and of a level of levels
 abbrev IsOfPages : {E : Type 0} → (E → ℕ) → Level (Page E) → Type 0
@@ -32,5 +32,6 @@ IsOfLevels cell entries is_sized level = IsLevel cell (level_entries entries) is
 -- the sizes of a tree
 abbrev pub IsTree : {E : Type 0} → (E → ℕ) → Tree E → Type 0
 IsTree cell tree =
-    IsOfLevels cell (level_entries (level_entries page_entries))
-    (IsOfLevels cell (level_entries page_entries) (IsOfLevels cell page_entries (IsOfPages cell))) tree
+    IsOfLevels cell (level_entries (level_entries (level_entries page_entries)))
+    (IsOfLevels cell (level_entries (level_entries page_entries))
+    (IsOfLevels cell (level_entries page_entries) (IsOfLevels cell page_entries (IsOfPages cell)))) tree

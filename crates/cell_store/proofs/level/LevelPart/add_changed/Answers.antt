@@ -38,5 +38,5 @@ loop-node-preserved g c =
     record {
       sized = c.in_ok-add_node.ensures.sized;
       writes = rising-above cell is_gone c.node-item.result.last rest later c.above-rest.ensures c.loop-node.invariant.writes;
-      entries = changed-next cell last_of (entries_under g.T.Part.entries) level.nodes.items (g.T.Part.entries level.last) (nodes_end cell g.T.Part.entries g.T.Part.is_sized g.T.Part.size g.T.Part.half level.nodes.items c.requires.part.nodes) c.requires.rising is_gone c.loop-node.node-index c.node-item.result rest (take count rest) later (level_entries g.T.Part.entries c.loop-node.self) (level_entries g.T.Part.entries c.add_node.new.level) (level_entries g.T.Part.entries c.args.self.now ++ after_entries cell is_gone (level_entries g.T.Part.entries level) c.args.writes.now) low is parts c.count_up_to-count.ensures.front c.above-rest.ensures c.in_ok-add_node.ensures.entries c.loop-node.invariant.entries;
+      entries = changed-next cell last_of (entries_under g.T.Part.entries) level.nodes.items (g.T.Part.entries level.last) (nodes_end cell g.T.Part.entries g.T.Part.is_sized g.T.Part.size g.T.Part.half level.nodes.items c.requires.part.nodes) c.requires.rising is_gone c.loop-node.node-index c.node-item.result rest (take count rest) later (level_entries g.T.Part.entries c.loop-node.self) (level_entries g.T.Part.entries c.add_node.new.level) (level_entries g.T.Part.entries record { nodes = c.reserve_exact.new.self; last = c.args.self.now.last } ++ after_entries cell is_gone (level_entries g.T.Part.entries level) c.args.writes.now) low is parts c.count_up_to-count.ensures.front c.above-rest.ensures c.in_ok-add_node.ensures.entries c.loop-node.invariant.entries;
     }
