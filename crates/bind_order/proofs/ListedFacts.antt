@@ -1,12 +1,16 @@
 -- The ranks that a list gives, entry by entry.
-use Rattle.std.proofs.Common.{◌≡◌, ◌≢◌, ◌<◌, ◌≤◌, ℕ, zero, suc, ◌+◌, Bool, true, false, cond, ◌&&◌, eqb, ◌==◌, List, [], ◌∷◌, ◌++◌, map, length, Option, Some, None, is_some, find, option_map, if◌then◌else◌, refl, sym, ap, ◌∙◌, subst, arith, slice_index_or, slice_set}
+use Rattle.std.proofs.Common.{◌≡◌, ◌≢◌, ◌<◌, ◌≤◌, ℕ, zero, suc, ◌+◌, Bool, true, false, cond, ◌&&◌, eqb, ◌==◌, List, [], ◌∷◌, ◌++◌, map, length, Option, Some, None, IfSome, is_some, find, option_map, if◌then◌else◌, nat_le, refl, sym, ap, ◌∙◌, subst, arith, slice_index_or, slice_set}
 use Rattle.std.specs.List.{range_with_len}
 use Rattle.std.specs.Option.{option_map_or}
-use Rattle.std.proofs.lemmas.Bool.{ne_eqb, eq-eqb}
+use Rattle.std.proofs.lemmas.Bool.{ne_eqb, eq-eqb, and_parts, leb-true}
 use Rattle.std.proofs.lemmas.List.FromFn.{get_or-map-range_with_len}
-use Rattle.dim_core.specs.Outline.{Outline, index_of}
+use Rattle.std.proofs.lemmas.List.FromFn.{length-map-range_with_len}
+use Rattle.dim_core.specs.Outline.{Outline, IsDimension, index_of}
+use Rattle.cube_space.specs.Cells.{is_leaf}
+use Rattle.rule_model.specs.Conditions.{greatest_rank}
 use Rattle.bind_areas.proofs.ElementFacts.{called_within}
-use Rattle.bind_order.specs.Orders.{is_named, listed_rank, listed_ranks, may_list, entry_element, are_listed}
+use Rattle.bind_order.specs.Orders.{greatest_written, is_named, listed_rank, listed_ranks, index_rank, index_ranks, may_list, entry_element, are_listed, are_writable}
+use Rattle.bind_order.specs.Inside.Given.{AreWithin}
 
 -- the rank that a list gives an element, by the list of all
 pub rank_at : (d : Outline) (before : List (List ℕ × ℕ)) (given : List (Option ℕ)) (element : ℕ) → given ≡ listed_ranks d before → element < length d.elements
@@ -116,3 +120,31 @@ pub listed_stops : (d : Outline) (version : ℕ) (before : List (List ℕ × ℕ
 listed_stops d version before rest later entry whole is lists so =
     let step : are_listed d version before (entry ∷ later) ≡ false = ap (λ o. is_some o && are_listed d version (before ++ entry ∷ []) later) lists in
     sym so ∙ ap (are_listed d version before) is ∙ step
+
+-- an index is within the dimension, and a rank that is listed isn't too great to be written
+pub index_within : (d : Outline) → IsDimension d → AreWithin (index_ranks d)
+index_within d dim k x low =
+    let here : k < length d.elements = omega (arith, low, length-map-range_with_len (index_rank d) 0 (length d.elements)) in
+    let is : slice_index_or (index_ranks d) k x ≡ index_rank d k = get_or-map-range_with_len (index_rank d) 0 (length d.elements) k k x here (omega arith) in
+    subst (λ o. IfSome o (λ r. r ≤ greatest_rank)) (sym is) (by here (is_leaf d k))
+  where
+    by : k < length d.elements → (b : Bool) → IfSome (if b then Some (k + 1) else None) (λ r. r ≤ greatest_rank)
+    by here true = omega (arith, here, dim.few)
+    by here false = tt
+
+small_found : (list : List (List ℕ × ℕ)) (test : List ℕ × ℕ → Bool) → are_writable list ≡ true → IfSome (option_map (λ entry. entry.1) (find test list)) (λ r. r ≤ greatest_rank)
+small_found [] test all = tt
+small_found (entry ∷ list) test all =
+    let both = and_parts (nat_le entry.1 greatest_written) (are_writable list) all in
+    by (leb-true entry.1 greatest_written both.0) (test entry) (small_found list test both.1)
+  where
+    by : entry.1 ≤ greatest_written → (b : Bool) → IfSome (option_map (λ entry. entry.1) (find test list)) (λ r. r ≤ greatest_rank)
+        → IfSome (option_map (λ (e : List ℕ × ℕ). e.1) (cond b (Some entry) (find test list))) (λ r. r ≤ greatest_rank)
+    by low true later = omega (arith, low)
+    by low false later = later
+
+pub listed_within : (d : Outline) (list : List (List ℕ × ℕ)) → are_writable list ≡ true → AreWithin (listed_ranks d list)
+listed_within d list all k x low =
+    let here : k < length d.elements = omega (arith, low, length-map-range_with_len (listed_rank d list) 0 (length d.elements)) in
+    let is : slice_index_or (listed_ranks d list) k x ≡ listed_rank d list k = get_or-map-range_with_len (listed_rank d list) 0 (length d.elements) k k x here (omega arith) in
+    subst (λ o. IfSome o (λ r. r ≤ greatest_rank)) (sym is) (small_found list (λ entry. is_named d k entry.0) all)

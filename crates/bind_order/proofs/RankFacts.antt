@@ -1,5 +1,5 @@
 -- The ranks of elements hold the leaves below them.
-use Rattle.std.proofs.Common.{◌≡◌, ◌<◌, ◌≤◌, ℕ, zero, suc, max, Bool, true, false, cond, nat_le, eqb, ℤ, pos, negsuc, List, [], ◌∷◌, map, length, Option, Some, None, unwrap_or, if◌then◌else◌, refl, sym, ap, ◌∙◌, subst, arith, get_or, slice_index_or}
+use Rattle.std.proofs.Common.{◌≡◌, ◌<◌, ◌≤◌, ℕ, zero, suc, max, Bool, true, false, cond, nat_le, eqb, ℤ, pos, negsuc, List, [], ◌∷◌, map, length, Option, Some, None, IfSome, unwrap_or, if◌then◌else◌, refl, sym, ap, ◌∙◌, subst, arith, get_or, slice_index_or}
 use Rattle.std.specs.List.{range_with_len}
 use Rattle.std.proofs.lemmas.Bool.{leb-true, eqb-true}
 use Rattle.std.proofs.lemmas.List.FromFn.{length-range_with_len, get_or-range_with_len}
@@ -9,6 +9,7 @@ use Rattle.dim_weights.specs.Table.{is_nonzero, nonzero_among}
 use Rattle.dim_weights.proofs.Equations.{coef-solves, only-leaves}
 use Rattle.rule_model.specs.Order.{greatest}
 use Rattle.rule_model.specs.Conditions.{greatest_rank, AreRanks}
+use Rattle.bind_order.specs.Inside.Given.{AreWithin}
 use Rattle.bind_order.specs.Orders.{leaf_rank, greatest_leaf, fitting, rank_of, ranks_of}
 use Rattle.bind_order.proofs.ListFacts.{all_at, all_long}
 
@@ -70,16 +71,28 @@ leaf_low d dim given leaf here none = by (slice_index_or given leaf None) refl
         (λ x some. subst (λ e. leaf_rank given e ≤ 0) (alone d dim leaf x here none some) (let low : leaf_rank given leaf ≡ 0 = ap (λ p. unwrap_or p 0) is in omega (arith, low)))
 
 -- a rank that fits
-fits : (least rank found : ℕ) → fitting least rank ≡ Some found → (found ≡ rank) × (least ≤ rank) × (rank ≤ greatest_rank)
-fits least rank found is = by (nat_le least rank) refl (nat_le rank greatest_rank) refl
+fits : (least rank found : ℕ) → fitting least rank ≡ Some found → (found ≡ rank) × (least ≤ rank)
+fits least rank found is = by (nat_le least rank) refl
   where
-    by : (a : Bool) → nat_le least rank ≡ a → (b : Bool) → nat_le rank greatest_rank ≡ b → (found ≡ rank) × (least ≤ rank) × (rank ≤ greatest_rank)
-    by true low true high =
-        let some : fitting least rank ≡ Some rank = rw (low, high) refl in
+    by : (a : Bool) → nat_le least rank ≡ a → (found ≡ rank) × (least ≤ rank)
+    by true low =
+        let some : fitting least rank ≡ Some rank = rw low refl in
         let e : Some rank ≡ Some found = sym some ∙ is in
-        ((let same : rank ≡ found = cc in sym same), leb-true least rank low, leb-true rank greatest_rank high)
-    by true low false high = absurd (let none : fitting least rank ≡ None = rw (low, high) refl in let e : None ≡ Some found = sym none ∙ is in cc e)
-    by false low b high = absurd (let none : fitting least rank ≡ None = rw low refl in let e : None ≡ Some found = sym none ∙ is in cc e)
+        ((let same : rank ≡ found = cc in sym same), leb-true least rank low)
+    by false low = absurd (let none : fitting least rank ≡ None = rw low refl in let e : None ≡ Some found = sym none ∙ is in cc e)
+
+-- the ranks that are made are no greater than those that are given
+small_at : (given : List (Option ℕ)) → AreWithin given → (k : ℕ) → IfSome (slice_index_or given k None) (λ r. r ≤ greatest_rank)
+small_at [] small k = tt
+small_at (g ∷ given) small zero = small 0 None (omega arith)
+small_at (g ∷ given) small (suc k) = small_at given (λ j d low. small (suc j) d (omega (arith, low))) k
+
+small_leaf : (given : List (Option ℕ)) → AreWithin given → (leaf : ℕ) → leaf_rank given leaf ≤ greatest_rank
+small_leaf given small leaf = by (slice_index_or given leaf None) (small_at given small leaf)
+  where
+    by : (o : Option ℕ) → IfSome o (λ r. r ≤ greatest_rank) → unwrap_or o 0 ≤ greatest_rank
+    by (Some rank) low = low
+    by None low = omega arith
 
 no_components : (d : Outline) → IsDimension d → (element leaf : ℕ) → IsElement d element → (coef d element leaf ≡ pos 0 → ⊥) → components_of d leaf ≡ []
 no_components d dim element leaf here other = by (components_of d leaf) refl
@@ -88,11 +101,11 @@ no_components d dim element leaf here other = by (components_of d leaf) refl
     by [] is = is
     by (part ∷ parts) is = absurd (other (only-leaves d dim leaf (λ none. let e : part ∷ parts ≡ [] = sym is ∙ none in cc e) element here))
 
-pub ranks_hold : (d : Outline) → IsDimension d → (given : List (Option ℕ)) (ranks : List ℕ) → ranks_of d given ≡ Some ranks → AreRanks d ranks
+pub ranks_hold : (d : Outline) → IsDimension d → (given : List (Option ℕ)) (ranks : List ℕ) → AreWithin given → ranks_of d given ≡ Some ranks → AreRanks d ranks
 unfolding ranks_of
-ranks_hold d dim given ranks is = record {
+ranks_hold d dim given ranks within is = record {
   each = long ∙ length-range_with_len 0 n;
-  small = λ k x low. let e = (at k x (omega (arith, low, long, length-range_with_len 0 n))) in omega (arith, e.0, e.2);
+  small = λ k x low. let e = at k x (omega (arith, low, long, length-range_with_len 0 n)) in omega (arith, e.0, most k);
   holds_leaves = λ element leaf here below counts.
       let top = at element 0 here in
       let bottom = at leaf 0 below in
@@ -112,8 +125,15 @@ ranks_hold d dim given ranks is = record {
     wanted : ℕ → ℕ
     wanted k = unwrap_or (slice_index_or given k None) (greatest_leaf d given k)
 
-    at : (k x : ℕ) → k < n → (get_or ranks k x ≡ wanted k) × (greatest_leaf d given k ≤ wanted k) × (wanted k ≤ greatest_rank)
+    at : (k x : ℕ) → k < n → (get_or ranks k x ≡ wanted k) × (greatest_leaf d given k ≤ wanted k)
     at k x low =
         let here = all_at (rank_of d given) (range_with_len 0 n) ranks k 0 x is (omega (arith, low, length-range_with_len 0 n)) in
         let same : get_or (range_with_len 0 n) k 0 ≡ k = get_or-range_with_len 0 n k 0 low ∙ (omega arith) in
         fits (greatest_leaf d given k) (wanted k) (get_or ranks k x) (subst (λ e. rank_of d given e ≡ Some (get_or ranks k x)) same here)
+
+    most : (k : ℕ) → wanted k ≤ greatest_rank
+    most k = by (slice_index_or given k None) (small_at given within k)
+      where
+        by : (o : Option ℕ) → IfSome o (λ r. r ≤ greatest_rank) → unwrap_or o (greatest_leaf d given k) ≤ greatest_rank
+        by (Some rank) low = low
+        by None low = all_small (coef d k) (leaf_rank given) greatest_rank (range_with_len 0 n) (λ x some. small_leaf given within x)

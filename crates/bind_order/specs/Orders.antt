@@ -2,7 +2,7 @@
 use Rattle.std.specs.Prelude.{◌≡◌, ⊤, ℕ, ◌+◌, ◌==◌, nat_le, nat_lt, Bool, true, false, not, ◌&&◌, ◌||◌, if◌then◌else◌}
 use Rattle.std.specs.Prelude.{List, [], ◌∷◌, ◌++◌, length, map, find, position, slice_get, slice_index_or}
 use Rattle.std.specs.Prelude.{Option, Some, None, is_some, unwrap_or, option_map, option_and_then, Result, Ok, Err}
-use Rattle.std.specs.List.{range_with_len}
+use Rattle.std.specs.List.{range_with_len, list_all}
 use Rattle.std.specs.Option.{option_map_or}
 use Rattle.dim_name.specs.Name.{is_same_name}
 use Rattle.dim_core.specs.Outline.{Outline, index_of}
@@ -16,9 +16,12 @@ use Rattle.rule_model.specs.declared.order.Order.{Order}
 use Rattle.rule_model.specs.declared.order.Position.{Position}
 use Rattle.rule_model.specs.declared.order.Position.TheVariants as positions
 use Rattle.rule_model.specs.Order.{greatest, most_positions}
-use Rattle.rule_model.specs.Conditions.{greatest_rank}
 use Rattle.bind_order.specs.declared.fault.BindOrderFault.{BindOrderFault}
 use Rattle.bind_order.specs.declared.fault.BindOrderFault.TheVariants.{BadOrder, Memory}
+
+-- the greatest number that an order line may write, as a constant or as the rank of an element
+abbrev pub greatest_written : ℕ
+greatest_written = 65535
 
 -- all of these, or None where one isn't there
 abbrev pub all_of : {A : Type 0} → List (Option A) → Option (List A)
@@ -54,9 +57,9 @@ leaf_rank given leaf = unwrap_or (slice_index_or given leaf None) 0
 abbrev pub greatest_leaf : Outline → List (Option ℕ) → ℕ → ℕ
 greatest_leaf dimension given element = greatest (map (λ pair. leaf_rank given pair.0) (leaves_of dimension element))
 
--- a rank that is neither smaller than this one nor too great
+-- a rank that isn't smaller than this one
 abbrev pub fitting : ℕ → ℕ → Option ℕ
-fitting least rank = if nat_le least rank && nat_le rank greatest_rank then Some rank else None
+fitting least rank = if nat_le least rank then Some rank else None
 
 -- the rank of an element: the one that is given, which no leaf that counts in it exceeds, or the greatest of these
 abbrev pub rank_of : Outline → List (Option ℕ) → ℕ → Option ℕ
@@ -89,10 +92,15 @@ are_listed dimension version before (entry ∷ entries) =
     is_some (entry_element dimension version before entry.0)
     && are_listed dimension version (before ++ entry ∷ []) entries
 
+-- whether no entry has a rank that is too great to be written
+abbrev pub are_writable : List (List ℕ × ℕ) → Bool
+are_writable list = list_all (λ entry. nat_le entry.1 greatest_written) list
+
 -- the ranks of a dimension by a list
 unfoldable pub list_ranks : ℕ → List (List ℕ × ℕ) → Outline → Option (List ℕ)
 list_ranks version list dimension =
-    if are_listed dimension version [] list then ranks_of dimension (listed_ranks dimension list) else None
+    if are_writable list && are_listed dimension version [] list then ranks_of dimension (listed_ranks dimension list)
+    else None
 
 -- the place of the dimension of a cube that has this name
 abbrev pub axis_called : Layout → ℕ → List ℕ → Option ℕ
@@ -114,7 +122,7 @@ list_position dimensions version list place = option_and_then (position_by dimen
 -- the position that a word of an order line stands for; None where it is bad
 abbrev pub position_of : Layout → ℕ → ℕ → OrderWord → Option Position
 position_of space cube version (words.Constant number) =
-    if nat_le number greatest_rank then Some (positions.Constant number) else None
+    if nat_le number greatest_written then Some (positions.Constant number) else None
 position_of space cube version (words.Index name) = index_position (axes space cube) (axis_called space cube name)
 position_of space cube version (words.Ranks name list) =
     list_position (axes space cube) version list (axis_called space cube name)

@@ -5,9 +5,9 @@ use std::alloc::{AllocError, AllocFailed};
 pub enum BindOrderFault {
     /// The line of this cube has more than 8 positions, it names a dimension that isn't the cube's, it lists an element
     /// that isn't in the dimension, it lists an element twice or, in a text of version 1, a consolidated element, a
-    /// listed rank is smaller than that of a leaf which counts in the element, or a constant or a rank is above 65,535.
-    /// Where a dimension stands alone, a leaf's rank is its index, which counts from 1: an index above 65,535 is bad
-    /// too.
+    /// listed rank is smaller than that of a leaf which counts in the element, or the line writes a constant or a rank
+    /// above 65,535. Where a dimension stands alone, a leaf's rank is its index, which counts from 1; an index is never
+    /// bad, whatever its size.
     BadOrder(u32),
     /// Want of memory. It may come in place of any answer.
     Memory,

@@ -2,10 +2,22 @@ ghost use Rattle.std.specs.Prelude.{◌≡◌, ◌<◌, ℕ, List, None, [], len
 ghost use Rattle.dim_name.specs.Name.{place_of};
 ghost use Rattle.cube_space.specs.Cells.{is_leaf};
 ghost use Rattle.bind_order.specs.Orders.{may_list, entry_element, are_listed, listed_ranks, index_rank, index_ranks};
+ghost use Rattle.bind_order.specs.Orders.{are_writable};
+ghost use Rattle.bind_order.specs.Inside.Given.{AreWithin};
 
 use dim_core::Dimension;
 use dim_name::Name;
 use std::alloc::{AllocError, Global};
+
+/// The greatest number that an order line may write. An index, which it doesn't write, may be greater.
+pub const MAX_WRITTEN: u32 = 65_535;
+
+/// Whether no entry of a list has a rank that is too great to be written.
+pub fn are_writable(list: &[(Name, u32)]) -> bool
+    ensures { result ≡ are_writable list.now }
+{
+    list.iter().all(|entry| entry.1 <= MAX_WRITTEN)
+}
 
 fn is_leaf(dimension: &Dimension, element: u32) -> bool
     requires { element < length dimension.now.elements }
@@ -30,7 +42,8 @@ fn index_rank(dimension: &Dimension, element: u32) -> Option<u32>
 
 /// The ranks that a dimension alone gives: each leaf its index, which counts from 1.
 pub fn index_ranks(alloc: Global, dimension: &Dimension) -> Result<Vec<Option<u32>>, AllocError>
-    ensures { IfOk result (λ given. given.items ≡ index_ranks dimension.now) }
+    ensures given { IfOk result (λ given. given.items ≡ index_ranks dimension.now) }
+    ensures small { IfOk result (λ given. AreWithin given.items) }
 {
     let mut given = Vec::new(alloc);
     for element in 0..dimension.len() {

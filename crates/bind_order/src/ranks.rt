@@ -5,14 +5,12 @@ ghost use Rattle.dim_weights.specs.Table.{IsWeightsOf};
 ghost use Rattle.rule_model.specs.Order.{greatest};
 ghost use Rattle.rule_model.specs.Conditions.{AreRanks};
 ghost use Rattle.bind_order.specs.Orders.{leaf_rank, fitting, rank_of, ranks_of};
+ghost use Rattle.bind_order.specs.Inside.Given.{AreWithin};
 
 use dim_core::Dimension;
 use dim_weights::Weights;
 use lists::ListOf;
 use std::alloc::{AllocError, Global};
-
-/// The greatest number at a position of an order.
-pub const MAX_RANK: u32 = 65_535;
 
 // The rank of a leaf, where these are given.
 fn leaf_rank(given: &[Option<u32>], leaf: u32) -> u32
@@ -43,15 +41,11 @@ fn larger(a: u32, b: u32) -> u32
     if a < b { b } else { a }
 }
 
-// A rank that is at least this and not too great.
+// A rank that is at least this.
 fn fitting(least: u32, rank: u32) -> Option<u32>
     ensures { result ≡ fitting least rank }
 {
-    if least <= rank && rank <= MAX_RANK {
-        Some(rank)
-    } else {
-        None
-    }
+    if least <= rank { Some(rank) } else { None }
 }
 
 // The rank of an element.
@@ -82,6 +76,7 @@ pub fn ranks_of(
 ) -> Result<Option<ListOf<u32>>, AllocError>
     requires weights { IsWeightsOf dimension.now weights.now }
     requires whole { length given.now ≡ length dimension.now.elements }
+    requires small { AreWithin given.now }
     ensures bound { IfOk result (λ found. found ≡ ranks_of dimension.now given.now) }
     ensures valid { IfOk result (λ found. IfSome found (AreRanks dimension.now)) }
 {

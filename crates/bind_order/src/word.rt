@@ -7,8 +7,8 @@ ghost use Rattle.rule_model.specs.declared.order.Position.TheVariants.{Ranks};
 ghost use Rattle.bind_order.specs.Orders.{axis_called, position_of, index_position, list_position, list_ranks};
 
 use crate::axes::{axis, axis_count, axis_weights};
-use crate::listed::{index_ranks, listed_ranks};
-use crate::ranks::{MAX_RANK, ranks_of};
+use crate::listed::{MAX_WRITTEN, are_writable, index_ranks, listed_ranks};
+use crate::ranks::ranks_of;
 use cube_space::Space;
 use dim_core::Dimension;
 use dim_name::Name;
@@ -80,6 +80,9 @@ fn list_ranks(
     ensures bound { IfOk result (λ found. found ≡ list_ranks version list.now dimension.now) }
     ensures valid { IfOk result (λ found. IfSome found (AreRanks dimension.now)) }
 {
+    if !are_writable(list) {
+        return Ok(None);
+    }
     match listed_ranks(alloc, dimension, version, list)? {
         Some(given) => ranks_of(alloc, dimension, weights, &given),
         None => Ok(None),
@@ -129,7 +132,7 @@ pub fn position_of(
 {
     match word {
         OrderWord::Constant(number) => {
-            if *number <= MAX_RANK {
+            if *number <= MAX_WRITTEN {
                 Ok(Some(Position::Constant(*number)))
             } else {
                 Ok(None)

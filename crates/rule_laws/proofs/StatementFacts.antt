@@ -15,18 +15,18 @@ some-none k e = cc
 some-same : (k n : ℕ) → Some k ≡ Some n → k ≡ n
 some-same k n e = cc
 
-slice_get-drop_at : {X : Type 0} (xs : List X) (n k : ℕ) → slice_get (drop n xs) k ≡ slice_get xs (n + k)
+pub slice_get-drop_at : {X : Type 0} (xs : List X) (n k : ℕ) → slice_get (drop n xs) k ≡ slice_get xs (n + k)
 slice_get-drop_at xs zero k = let e : 0 + k ≡ k = omega arith in rw e refl
 slice_get-drop_at [] (suc n) k = refl
 slice_get-drop_at (x ∷ xs) (suc n) k = let e : suc n + k ≡ suc (n + k) = omega arith in rw e (slice_get-drop_at xs n k)
 
-drop_after : {X : Type 0} (xs : List X) (n k : ℕ) → drop (suc k) (drop n xs) ≡ drop (suc (n + k)) xs
+pub drop_after : {X : Type 0} (xs : List X) (n k : ℕ) → drop (suc k) (drop n xs) ≡ drop (suc (n + k)) xs
 drop_after xs zero k = let e : suc (0 + k) ≡ suc k = omega arith in rw e refl
 drop_after [] (suc n) k = refl
 drop_after (x ∷ xs) (suc n) k = let e : suc (suc n + k) ≡ suc (suc (n + k)) = omega arith in rw e (drop_after xs n k)
 
 -- the place of the first that passes, by the first element
-position-cons : {X : Type 0} (p : X → Bool) (x : X) (xs : List X)
+pub position-cons : {X : Type 0} (p : X → Bool) (x : X) (xs : List X)
     → position p (x ∷ xs) ≡ (if p x then Some 0 else option_map (λ k. suc k) (position p xs))
 position-cons p x xs = by (p x) refl (nat_lt (position_or_len p xs) (length xs)) refl
   where

@@ -68,8 +68,8 @@ has_continue = fold-Formula Bool Bool continue_step either_step
 abbrev pub is_open : BoundModel → ℕ → List Rule → Bool
 is_open model cell [] = true
 is_open model cell (rule ∷ rules) =
-    option_map_or (λ f. has_stet f || (has_continue f && is_open model cell rules)) (part_at (system_of model) cell rule)
-    (is_open model cell rules)
+    option_map_or (λ f. has_stet f || (has_continue f && is_open model cell rules))
+    (part_at (system_of model) cell rule) (is_open model cell rules)
 
 -- whether a number can be stored in a cell: it is a leaf cell, and open for input
 unfoldable pub is_input : BoundModel → ℕ → Bool

@@ -24,7 +24,8 @@ number_by (Ranks dim ranks) elements = slice_index_or ranks (slice_index_or elem
 
 -- the number of a cell at a position of the order
 unfoldable pub number_at : BoundModel → ℕ → ℕ → ℕ
-number_at model place cell = number_by (position_of model (cube_of model.space cell) place) (elements_of model.space cell)
+number_at model place cell =
+    number_by (position_of model (cube_of model.space cell) place) (elements_of model.space cell)
 
 -- the greatest of these numbers, 0 where there are none
 abbrev pub greatest : List ℕ → ℕ

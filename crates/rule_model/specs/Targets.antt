@@ -11,8 +11,8 @@ use Rattle.rule_laws.specs.declared.reference.Arg.{Arg}
 use Rattle.rule_laws.specs.declared.reference.Arg.TheVariants.{Fixed, Moved}
 use Rattle.rule_model.specs.Named.{with_element}
 
--- the element that an argument names from a cell of these elements: always the same, or by a map from the cell's element
--- in one dimension
+-- the element that an argument names from a cell of these elements: always the same, or by a map from the cell's
+-- element in one dimension
 abbrev pub element_by : List ℕ → Arg → Option ℕ
 element_by elements (Fixed element) = Some element
 element_by elements (Moved from to) =
@@ -46,7 +46,8 @@ with_components space cell dim parts =
 -- place
 abbrev pub parts_at : Layout → ℕ → ℕ → List (ℕ × ℤ)
 parts_at space cell dim =
-    option_map_or (λ d. components_of d (element_at space cell dim)) (slice_get (axes space (cube_of space cell)) dim) []
+    option_map_or (λ d. components_of d (element_at space cell dim))
+    (slice_get (axes space (cube_of space cell)) dim) []
 
 -- the same as cells; None where the element is a leaf
 unfoldable pub component_cells : Layout → ℕ → ℕ → Option (List (ℕ × ℤ))

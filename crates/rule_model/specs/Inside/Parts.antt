@@ -33,14 +33,15 @@ part_for statement elements leaf = if in_sets statement.area.sets elements then 
 -- the first statement from a place on that has a part for these elements
 unfoldable pub first_part : List Statement → List ℕ → Bool → ℕ → Option ℕ
 first_part statements elements leaf place =
-    option_map (λ k. place + k) (position (λ statement. is_some (part_for statement elements leaf)) (drop place statements))
+    option_map (λ k. place + k)
+    (position (λ statement. is_some (part_for statement elements leaf)) (drop place statements))
 
 -- whether a leaf cell of these elements is open for input
 abbrev pub is_open_by : List Statement → List ℕ → Bool
 is_open_by [] elements = true
 is_open_by (statement ∷ statements) elements =
-    option_map_or (λ f. has_stet f || (has_continue f && is_open_by statements elements)) (part_for statement elements true)
-    (is_open_by statements elements)
+    option_map_or (λ f. has_stet f || (has_continue f && is_open_by statements elements))
+    (part_for statement elements true) (is_open_by statements elements)
 
 -- whether STET stands in a condition, and whether CONTINUE does
 abbrev pub truth_has_stet : Truth → Bool

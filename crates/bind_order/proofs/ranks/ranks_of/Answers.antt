@@ -30,7 +30,7 @@ pub returns-clause-valid : goal.returns-clause-valid
 unfolding ranks_of
 returns-clause-valid c =
     let n = length c.args.dimension.now.elements in
-    ranks_hold c.args.dimension.now c.len-element-end.ensures.valid c.args.given.now c.new.result
+    ranks_hold c.args.dimension.now c.len-element-end.ensures.valid c.args.given.now c.new.result c.requires.small
     (sym (ap Some c.new.ensures
     ∙ all_done (rank_of c.args.dimension.now c.args.given.now) c.loop-element.ranks.items (drop c.loop-element.element (range_with_len 0 n)) (all_of (map (rank_of c.args.dimension.now c.args.given.now) (range_with_len 0 n)))
     (no_number n c.loop-element.element (omega (arith, c.loop-element-test.false, c.len-element-end.ensures.len))) c.loop-element.invariant))
