@@ -154,7 +154,7 @@ module _ (m : BoundModel) (ruled : AreRules m.space m.rules) (cube : ℕ) (there
   abbrev pub IsMore : ℕ → ℤ → ℕ → ℕ → Type 0
   IsMore q z c t = (pos (measure m q t) -ℤ pos (measure m q c)) ≤ℤ z
 
-  target-at : (r : Reference) (c t : ℕ) (es : List ℕ) → IsReference m.space cube r → IsAt m.space cube es c → length es ≡ length (axes m.space cube) → target m.space r c ≡ Some t
+  pub target-at : (r : Reference) (c t : ℕ) (es : List ℕ) → IsReference m.space cube r → IsAt m.space cube es c → length es ≡ length (axes m.space cube) → target m.space r c ≡ Some t
       → (ts : List ℕ) × (elements_by es r.args ≡ Some ts) × IsAt m.space r.cube ts t × (length ts ≡ length (axes m.space r.cube))
   unfolding target
   target-at r c t es is at long names = by (elements_by es r.args) refl (ap (λ x. option_and_then (cell_number m.space r.cube) (elements_by x r.args)) (sym at.elements) ∙ names)
@@ -166,7 +166,7 @@ module _ (m : BoundModel) (ruled : AreRules m.space m.rules) (cube : ℕ) (there
           let digits = named-digits (sizes m.space cube) (sizes m.space r.cube) r.args es ts (long ∙ sym (axes-sizes m.space cube)) is.1 e in
           (ts, e, number-there m.space r.cube ts t is.0 digits h, digits-long m.space r.cube ts digits)
 
-  at-target : (r : Reference) (c : ℕ) (es ts : List ℕ) → IsReference m.space cube r → IsAt m.space cube es c → length es ≡ length (axes m.space cube) → elements_by es r.args ≡ Some ts
+  pub at-target : (r : Reference) (c : ℕ) (es ts : List ℕ) → IsReference m.space cube r → IsAt m.space cube es c → length es ≡ length (axes m.space cube) → elements_by es r.args ≡ Some ts
       → (t : ℕ) × (target m.space r c ≡ Some t) × IsAt m.space r.cube ts t × (length ts ≡ length (axes m.space r.cube))
   unfolding target
   at-target r c es ts is at long named =

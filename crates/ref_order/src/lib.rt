@@ -6,8 +6,9 @@
 #![tactic(auto)]
 
 pub use earlier::is_earlier;
+pub use most::{count, element_at};
 pub use reads::Read;
-pub use scale::MOST_POSITIONS;
+pub use scale::{MOST_POSITIONS, axis, axis_count};
 
 mod earlier;
 mod excess;

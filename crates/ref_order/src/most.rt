@@ -58,7 +58,8 @@ fn passing(
     excess(model, cube, place, read, dim, element)
 }
 
-fn count(set: &Option<ListOf<u32>>, size: u32) -> usize
+/// How many elements a set of an area has in a dimension of this size.
+pub fn count(set: &Option<ListOf<u32>>, size: u32) -> usize
     ensures { result ≡ set_count size set.now }
 {
     match set {
@@ -67,7 +68,8 @@ fn count(set: &Option<ListOf<u32>>, size: u32) -> usize
     }
 }
 
-fn element_at(set: &Option<ListOf<u32>>, size: u32, k: usize) -> u32
+/// The element at a place of a set of an area in a dimension of this size.
+pub fn element_at(set: &Option<ListOf<u32>>, size: u32, k: usize) -> u32
     requires { k < set_count size set.now }
     ensures { result ≡ set_element set.now k }
 {

@@ -1,0 +1,9 @@
+pub mod Looks
+pub mod Pairs
+pub mod Named
+pub mod Reached
+pub mod Counted
+pub mod Fed
+pub mod Totals
+pub mod Wide
+pub mod Covered
