@@ -1,0 +1,2 @@
+mod OrderFacts
+mod TextFacts
