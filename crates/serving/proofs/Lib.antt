@@ -1,0 +1,2 @@
+pub mod OneUser
+pub mod AllUsers
