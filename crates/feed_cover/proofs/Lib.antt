@@ -1,0 +1,6 @@
+pub mod Tables
+pub mod Steps
+pub mod Covers
+pub mod Listed
+pub mod Sources
+pub mod Ways

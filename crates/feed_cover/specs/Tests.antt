@@ -1,0 +1,25 @@
+-- What may be asked about by the tests of elements.
+use Rattle.std.specs.Prelude.{◌≡◌, ℕ, ◌<◌, Some, length, List, Option, slice_index_or}
+use Rattle.cube_space.specs.Layout.{axes, sizes}
+use Rattle.rule_model.specs.BoundModel.{BoundModel}
+use Rattle.cover_laws.specs.Looking.{sent}
+use Rattle.feed_cover.specs.declared.view.View.{View}
+use Rattle.feed_cover.specs.Views.{IsView}
+
+-- a dimension of a cube of the model
+pub record IsAxis (model : BoundModel) (cube dim : ℕ) : Type 0 where
+  pub there : cube < length model.space.cubes
+  pub inside : dim < length (axes model.space cube)
+
+-- an element of it
+pub record IsElementOf (model : BoundModel) (cube dim element : ℕ) : Type 0 where
+  pub axis : IsAxis model cube dim
+  pub within : element < slice_index_or (sizes model.space cube) dim 0
+
+-- a dimension of the cube that is looked from, and a dimension of the reference's cube with a map to the former
+pub record IsWay (model : BoundModel) (view : View) (dim place : ℕ) (to : List (Option ℕ)) : Type 0 where
+  pub is_view : IsView model view
+  pub own : dim < length (axes model.space view.cube)
+  pub its : place < length (axes model.space view.reference.now.cube)
+  pub sends : (leaf over : ℕ) → sent to leaf ≡ Some over
+      → over < slice_index_or (sizes model.space view.cube) dim 0

@@ -1,0 +1,40 @@
+-- What is looked at, as the code has it.
+use Rattle.std.specs.Prelude.{ℕ, ◌<◌, ⊤, Bool, None, slice_index_or}
+use Rattle.cube_space.specs.Layout.{axes}
+use Rattle.cube_space.specs.Cells.{IsSpace}
+use Rattle.rule_model.specs.BoundModel.{BoundModel}
+use Rattle.rule_model.specs.Areas.{in_set}
+use Rattle.rule_model.specs.Conditions.{IsArea, IsReference}
+use Rattle.std.specs.Prelude.{length}
+use Rattle.cover_laws.specs.Looking.{Look}
+use Rattle.cover_laws.specs.Decision.{has_leaves}
+use Rattle.feed_cover.specs.declared.view.Counted.{Counted}
+use Rattle.feed_cover.specs.declared.view.Counted.TheVariants.{Leaves, Within}
+use Rattle.feed_cover.specs.declared.view.View.{View}
+
+-- which elements count of a cube's dimensions
+abbrev pub counts_of : Counted → BoundModel → ℕ → ℕ → ℕ → Bool
+counts_of Leaves model cube j = has_leaves (axes model.space cube) j
+counts_of (Within area) model cube j = in_set (slice_index_or area.now.sets j None)
+
+abbrev pub look_of : BoundModel → View → Look
+look_of model view = record {
+  space = model.space;
+  cube = view.cube;
+  area = view.area.now;
+  args = view.reference.now.args;
+  counts = counts_of view.counted model view.reference.now.cube;
+}
+
+-- an area in which elements count is one of the reference's cube
+abbrev pub IsCounted : BoundModel → ℕ → Counted → Type 0
+IsCounted model cube Leaves = ⊤
+IsCounted model cube (Within area) = IsArea model.space cube area.now
+
+-- a cube of the model, an area of it, and a reference from it
+pub record IsView (model : BoundModel) (view : View) : Type 0 where
+  pub valid : IsSpace model.space
+  pub cube : view.cube < length model.space.cubes
+  pub area : IsArea model.space view.cube view.area.now
+  pub reference : IsReference model.space view.cube view.reference.now
+  pub counted : IsCounted model view.reference.now.cube view.counted

@@ -1,0 +1,146 @@
+ghost use Rattle.std.specs.Prelude.{◌≡◌, ◌<◌, ◌==◌, not, length};
+ghost use Rattle.std.specs.List.{list_any};
+ghost use Rattle.rule_model.specs.BoundModel.{rules_of};
+ghost use Rattle.rule_model.specs.Conditions.{IsArea, IsReference, IsFeeder};
+ghost use Rattle.cover_laws.specs.Looking.{some_below};
+ghost use Rattle.cover_laws.specs.Decision.{names_no_total, names_no_governed, feeds_all, has_cover, is_covered};
+ghost use Rattle.feed_cover.specs.declared.view.Counted.TheVariants.{Leaves};
+ghost use Rattle.feed_cover.specs.Views.{IsView};
+
+use crate::named::{name_leaves, name_sources};
+use crate::possible::is_possible;
+use crate::reach::all_reach;
+use crate::view::{Counted, View};
+use rule_laws::Reference;
+use rule_model::{Area, Feeder, Model};
+
+// Whether from no leaf cell of the area the reference names a consolidated cell of an area of its cube.
+#[tactic(auto, unfolding(cover_laws::specs::Decision::names_no_total))]
+fn names_no_total<'a>(
+    model: &'a Model,
+    cube: u32,
+    area: &'a Area,
+    reference: &'a Reference,
+    governed: &'a Area,
+) -> bool
+    requires cube { cube < length model.now.space.cubes }
+    requires area { IsArea model.now.space cube area.now }
+    requires reference { IsReference model.now.space cube reference.now }
+    requires governed { IsArea model.now.space reference.now.cube governed.now }
+    ensures { result ≡ names_no_total model.now cube area.now reference.now governed.now }
+{
+    let _space = model.space();
+    let view = View {
+        cube,
+        area,
+        reference,
+        counted: Counted::Within(governed),
+    };
+    name_leaves(model, view, 0) || !is_possible(model, view)
+}
+
+// Whether the reference names no consolidated cell that a statement governs.
+#[tactic(auto, unfolding(cover_laws::specs::Decision::names_no_governed))]
+fn names_no_governed<'a>(
+    model: &'a Model,
+    cube: u32,
+    area: &'a Area,
+    reference: &'a Reference,
+) -> bool
+    requires cube { cube < length model.now.space.cubes }
+    requires area { IsArea model.now.space cube area.now }
+    requires reference { IsReference model.now.space cube reference.now }
+    ensures { result ≡ names_no_governed model.now cube area.now reference.now }
+{
+    let _space = model.space();
+    let statements = model.rules(reference.cube).statements.as_slice();
+    'each: for k in 0..statements.len() {
+        let statement = &statements[k];
+        if statement.cons.is_some()
+            && !names_no_total(model, cube, area, reference, &statement.area)
+        {
+            return false;
+        }
+    }
+    true
+}
+
+// Whether a feeder of a cube feeds the leaf cells of the area from each leaf cell at or below what the reference names,
+// where there is such a cell.
+#[tactic(auto, unfolding(cover_laws::specs::Decision::feeds_all))]
+fn feeds_all<'a>(model: &'a Model, view: View<'a>, own: u32, feeder: &'a Feeder) -> bool
+    requires view { IsView model.now view }
+    requires counted { view.counted ≡ Leaves }
+    requires feeder { IsFeeder model.now.space own feeder.now }
+    ensures { result ≡ feeds_all model.now view.entry.cube view.entry.area.now view.entry.reference.now own feeder.now }
+{
+    if own != view.reference.cube || feeder.target.cube != view.cube {
+        return false;
+    }
+    name_sources(model, view, &feeder.area, 0) && all_reach(model, view, &feeder.target, 0)
+}
+
+// Whether some feeder of a cube does.
+fn feeds_from<'a>(model: &'a Model, view: View<'a>, own: u32) -> bool
+    requires view { IsView model.now view }
+    requires counted { view.counted ≡ Leaves }
+    requires own { own < length model.now.space.cubes }
+    ensures { result ≡ list_any (feeds_all model.now view.entry.cube view.entry.area.now view.entry.reference.now own)
+        (rules_of model.now own).feeders }
+{
+    let _space = model.space();
+    let feeders = model.rules(own).feeders.as_slice();
+    'each: for k in 0..feeders.len() {
+        if feeds_all(model, view, own, &feeders[k]) {
+            return true;
+        }
+    }
+    false
+}
+
+// Whether some feeder of the model covers the reference.
+#[tactic(auto, unfolding(cover_laws::specs::Decision::has_cover))]
+fn has_cover<'a>(model: &'a Model, cube: u32, area: &'a Area, reference: &'a Reference) -> bool
+    requires cube { cube < length model.now.space.cubes }
+    requires area { IsArea model.now.space cube area.now }
+    requires reference { IsReference model.now.space cube reference.now }
+    ensures { result ≡ has_cover model.now cube area.now reference.now }
+{
+    let _space = model.space();
+    let view = View {
+        cube,
+        area,
+        reference,
+        counted: Counted::Leaves,
+    };
+    if is_possible(model, view) {
+        feeds_from(model, view, reference.cube)
+    } else {
+        has_feeder(model)
+    }
+}
+
+// Whether the model has any feeder.
+fn has_feeder(model: &Model) -> bool
+    ensures { result ≡ some_below (λ own. not (length (rules_of model.now own).feeders == 0)) (length model.now.space.cubes) }
+{
+    'each: for own in 0..model.space().cubes() {
+        if !model.rules(own).feeders.as_slice().is_empty() {
+            return true;
+        }
+    }
+    false
+}
+
+/// Whether feeders cover a reference of a statement of a cube with this area: it names no consolidated cell that a
+/// statement governs, and one feeder feeds each leaf cell of the area from each leaf cell at or below the one that it
+/// names from there. Where there is no such cell, any feeder of the model does.
+#[tactic(auto, unfolding(cover_laws::specs::Decision::is_covered))]
+pub fn is_covered<'a>(model: &'a Model, cube: u32, area: &'a Area, reference: &'a Reference) -> bool
+    requires cube { cube < length model.now.space.cubes }
+    requires area { IsArea model.now.space cube area.now }
+    requires reference { IsReference model.now.space cube reference.now }
+    ensures { result ≡ is_covered model.now cube area.now reference.now }
+{
+    names_no_governed(model, cube, area, reference) && has_cover(model, cube, area, reference)
+}

@@ -1,0 +1,21 @@
+//! Whether feeders cover a reference of a statement, decided dimension by dimension over the tables of a model. Nothing
+//! here takes memory.
+//!
+//! [`is_covered`] decides it for one reference of one statement. That its answer is right for every cell of the area is
+//! the law of `cover_laws`.
+#![tactic(auto)]
+
+pub use covered::is_covered;
+
+mod covered;
+mod each;
+mod named;
+mod narrow;
+mod possible;
+mod reach;
+mod set;
+mod source;
+mod table;
+mod test;
+mod tests;
+mod view;

@@ -1,0 +1,82 @@
+ghost use Rattle.std.specs.Prelude.{◌≡◌, ◌<◌, ◌≤◌, length, drop, slice_index_or};
+ghost use Rattle.cube_space.specs.Layout.{axes};
+ghost use Rattle.rule_laws.specs.declared.reference.Arg.TheVariants.{Fixed};
+ghost use Rattle.rule_model.specs.Conditions.{IsReference};
+ghost use Rattle.cover_laws.specs.Decision.{reaches_from, reaches, all_reach};
+ghost use Rattle.feed_cover.specs.Views.{look_of, IsView};
+ghost use Rattle.feed_cover.specs.Tests.{IsWay};
+
+use crate::each::each_narrow;
+use crate::named::each_named;
+use crate::test::ElementTest;
+use crate::tests::{SendsBack, SendsOver, StandsOver};
+use crate::view::View;
+use rule_laws::{Arg, ElementMap, Reference};
+use rule_model::Model;
+
+// Whether a feeder's argument for a dimension, by a map from the dimension that the reference's argument at this place
+// names elements of, names one over each narrow element from which the leaf is named.
+fn reaches_from<'a>(
+    model: &'a Model,
+    view: View<'a>,
+    dim: usize,
+    to: &'a ElementMap,
+    place: usize,
+) -> bool
+    requires way { IsWay model.now view dim place to.now }
+    requires place { place < length view.reference.now.args }
+    ensures { result ≡ reaches_from (look_of model.now view.entry)
+        (axes model.now.space view.entry.reference.now.cube) dim to.now place
+        (slice_index_or view.entry.reference.now.args place (Fixed 0)) }
+{
+    let over = SendsOver {
+        model,
+        view,
+        dim,
+        place,
+        to,
+    };
+    match &view.reference.args.as_slice()[place] {
+        Arg::Moved { from, to: by } if *from as usize == dim => {
+            let back = SendsBack {
+                model,
+                view,
+                dim,
+                place,
+                to,
+                by,
+            };
+            each_narrow(model, view, dim, &back)
+        }
+        _ => each_named(model, view, place, &over),
+    }
+}
+
+// Whether a feeder's argument for a dimension names an element over each narrow element of it.
+fn reaches<'a>(model: &'a Model, view: View<'a>, target: &'a Reference, dim: usize) -> bool
+    requires view { IsView model.now view }
+    requires target { IsReference model.now.space view.reference.now.cube target.now }
+    requires cube { target.now.cube ≡ view.cube }
+    requires dim { dim < length target.now.args }
+    ensures { result ≡ reaches (look_of model.now view.entry)
+        (axes model.now.space view.entry.reference.now.cube) dim (slice_index_or target.now.args dim (Fixed 0)) }
+{
+    match &target.args.as_slice()[dim] {
+        Arg::Fixed(over) => StandsOver { model, view, dim }.passes(*over),
+        Arg::Moved { from, to } => reaches_from(model, view, dim, to, *from as usize),
+    }
+}
+
+/// Whether each argument of a feeder from this dimension on does.
+#[cycle(all_reach)]
+pub fn all_reach<'a>(model: &'a Model, view: View<'a>, target: &'a Reference, dim: usize) -> bool
+    requires view { IsView model.now view }
+    requires target { IsReference model.now.space view.reference.now.cube target.now }
+    requires cube { target.now.cube ≡ view.cube }
+    requires dim { dim ≤ length target.now.args }
+    ensures { result ≡ all_reach (look_of model.now view.entry)
+        (axes model.now.space view.entry.reference.now.cube) dim (drop dim target.now.args) }
+{
+    dim == target.args.as_slice().len()
+        || (reaches(model, view, target, dim) && all_reach(model, view, target, dim + 1))
+}

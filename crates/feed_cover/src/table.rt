@@ -1,0 +1,43 @@
+ghost use Rattle.std.specs.Prelude.{◌≡◌, ◌<◌, length, slice_get, slice_index_or, Some, All};
+ghost use Rattle.dim_core.specs.Outline.{Outline};
+ghost use Rattle.dim_weights.specs.Table.{IsWeightsOf};
+ghost use Rattle.cube_space.specs.Layout.{axes, sizes};
+ghost use Rattle.cover_laws.specs.Decision.{leaves_at, counts_in};
+
+use dim_weights::Weights;
+use ref_order::axis;
+use rule_model::Model;
+
+// How much the leaves of a dimension of a cube, by its place, count in its elements.
+fn weights(model: &Model, cube: u32, dim: usize) -> &Weights
+    requires cube { cube < length model.now.space.cubes }
+    requires dim { dim < length (axes model.now.space cube) }
+    ensures { (d : Outline) → slice_get (axes model.now.space cube) dim ≡ Some d → IsWeightsOf d result.now }
+{
+    let number = model.space().shape(cube).dims.as_slice()[dim];
+    &model.weights()[number as usize]
+}
+
+/// The leaves that count in an element of a dimension of a cube, each with how much.
+pub fn leaves(model: &Model, cube: u32, dim: usize, element: u32) -> &[(u32, i64)]
+    requires cube { cube < length model.now.space.cubes }
+    requires dim { dim < length (axes model.now.space cube) }
+    requires element { element < slice_index_or (sizes model.now.space cube) dim 0 }
+    ensures leaves { result.now ≡ leaves_at (axes model.now.space cube) dim element }
+    ensures within { All (λ pair. pair.0 < slice_index_or (sizes model.now.space cube) dim 0) result.now }
+{
+    let _axis = axis(model, cube, dim);
+    weights(model, cube, dim).leaves(element)
+}
+
+/// Whether a leaf counts in an element.
+pub fn counts_in(model: &Model, cube: u32, dim: usize, element: u32, leaf: u32) -> bool
+    requires cube { cube < length model.now.space.cubes }
+    requires dim { dim < length (axes model.now.space cube) }
+    requires element { element < slice_index_or (sizes model.now.space cube) dim 0 }
+    requires leaf { leaf < slice_index_or (sizes model.now.space cube) dim 0 }
+    ensures { result ≡ counts_in (axes model.now.space cube) dim element leaf }
+{
+    let _axis = axis(model, cube, dim);
+    weights(model, cube, dim).coef(element, leaf) != 0
+}
