@@ -2,7 +2,7 @@
 use Rattle.std.proofs.Common.{◌≡◌, refl, subst, arith, ℕ, suc, ◌+◌, List, [], ◌∷◌, ◌++◌}
 use Rattle.solver.specs.declared.machine.Waiting.{Waiting}
 
-module _ {Q F : Type 0} (waits : F → Q → Q → Type 0) (left : F → ℕ) where
+module _ {Q F : Type 0} (waits : F → Q → Q → Type 0) (left : F → Q → ℕ) where
   -- from the root question the waiting frames lead to the one that is wanted
   abbrev pub Stacked : Q → List (Waiting Q F) → Q → Type 0
   Stacked root [] wanted = root ≡ wanted
@@ -11,7 +11,7 @@ module _ {Q F : Type 0} (waits : F → Q → Q → Type 0) (left : F → ℕ) wh
   -- what the waiting frames have left, and one for each
   abbrev pub left_below : List (Waiting Q F) → ℕ
   left_below [] = 0
-  left_below (w ∷ ws) = suc (left w.frame) + left_below ws
+  left_below (w ∷ ws) = suc (left w.frame w.question) + left_below ws
 
   pub Stacked-push : (root : Q) (ws : List (Waiting Q F)) (w : Waiting Q F) (next : Q) → Stacked root ws w.question → waits w.frame w.question next → Stacked root (ws ++ (w ∷ [])) next
   Stacked-push root [] w next is waiting = (is, (next, waiting, refl))
@@ -21,6 +21,6 @@ module _ {Q F : Type 0} (waits : F → Q → Q → Type 0) (left : F → ℕ) wh
   Stacked-pop root [] w wanted is = (is.0, subst (waits w.frame w.question) is.1.2 is.1.1)
   Stacked-pop root (v ∷ ws) w wanted is = let (down, waiting) = Stacked-pop is.1.0 ws w wanted is.1.2 in ((is.0, (is.1.0, is.1.1, down)), waiting)
 
-  pub left_below-push : (ws : List (Waiting Q F)) (w : Waiting Q F) → left_below (ws ++ (w ∷ [])) ≡ left_below ws + suc (left w.frame)
+  pub left_below-push : (ws : List (Waiting Q F)) (w : Waiting Q F) → left_below (ws ++ (w ∷ [])) ≡ left_below ws + suc (left w.frame w.question)
   left_below-push [] w = omega arith
   left_below-push (v ∷ ws) w = let more = left_below-push ws w in omega arith

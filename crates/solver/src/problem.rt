@@ -45,8 +45,8 @@ pub trait Problem<M, C> {
     ghost serves: { World → Self.Frame → Self.Question → Type 0 };
     /// The frame is a state of the work on the first question, and waits for the answer to the second.
     ghost waits: { World → Self.Frame → Self.Question → Self.Question → Type 0 };
-    /// How much work a frame has left.
-    ghost left: { World → Self.Frame → ℕ };
+    /// How much work on this question a frame has left.
+    ghost left: { World → Self.Frame → Self.Question → ℕ };
     /// How what is remembered may change: the second is what a first may have become.
     ghost later: { M → M → Type 0 };
 
@@ -62,8 +62,8 @@ pub trait Problem<M, C> {
         ensures turn { IfOk result (λ turn. MatchTurn turn
             (λ next. is_question (world self.old memory.old) next
             × waits (world self.old memory.old) frame.new question next
-            × (left (world self.old memory.old) frame.new + work (world self.old memory.old) next
-            < left (world self.old memory.old) frame.old))
+            × (left (world self.old memory.old) frame.new question + work (world self.old memory.old) next
+            < left (world self.old memory.old) frame.old question))
             (λ v. v ≡ answer_of (world self.old memory.old) question)) }
         ensures world { world self.new memory.new ≡ world self.old memory.old }
         ensures later { later memory.old memory.new };
@@ -78,7 +78,7 @@ pub trait Problem<M, C> {
         ensures opened { IfOk result (λ opened. MatchOpened opened
             (λ v. v ≡ answer_of (world self.old memory.old) question)
             (λ frame. serves (world self.old memory.old) frame question
-            × (left (world self.old memory.old) frame < work (world self.old memory.old) question))) }
+            × (left (world self.old memory.old) frame question < work (world self.old memory.old) question))) }
         ensures world { world self.new memory.new ≡ world self.old memory.old }
         ensures later { later memory.old memory.new };
 
@@ -94,8 +94,8 @@ pub trait Problem<M, C> {
         requires waits { waits (world self.old memory.old) frame.old question asked }
         requires right { answer.now ≡ answer_of (world self.old memory.old) asked }
         ensures serves { OnOk result (serves (world self.old memory.old) frame.new question) }
-        ensures left { OnOk result (left (world self.old memory.old) frame.new
-            ≤ left (world self.old memory.old) frame.old) }
+        ensures left { OnOk result (left (world self.old memory.old) frame.new question
+            ≤ left (world self.old memory.old) frame.old question) }
         ensures world { world self.new memory.new ≡ world self.old memory.old }
         ensures later { later memory.old memory.new };
 

@@ -9,8 +9,8 @@ turns-smaller-in-Begun g c =
     let opened = rw (c.in_ok-next.ensures.world, c.turns.invariant.world, c.in-Begun.is) at c.in_ok-value-in-Asks.ensures.opened in
     let more = ap (left_below (g.P.Problem.waits w) (g.P.Problem.left w)) c.in_ok-push-in-Begun.ensures.items
     ∙ left_below-push (g.P.Problem.waits w) (g.P.Problem.left w) c.turns.below.items _ in
-    let top = ap (g.P.Problem.left w) c.replace-frame.ensures.after in
-    let waiting = ap (g.P.Problem.left w) c.replace-frame.ensures.value in
+    let top = ap (λ f. g.P.Problem.left w f c.in-Asks.next) c.replace-frame.ensures.after in
+    let waiting = ap (λ f. g.P.Problem.left w f c.turns.wanted) c.replace-frame.ensures.value in
     omega (arith, turn.2, opened.1, more, top, waiting)
 
 pub turns-preserved-in-Begun : goal.turns-preserved-in-Begun

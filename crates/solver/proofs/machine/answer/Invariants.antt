@@ -12,5 +12,5 @@ invariant-turns g l = record {
 
 abbrev pub decreases-turns : goal.decreases-turns
 decreases-turns g l =
-    g.P.Problem.left (g.P.Problem.world l.initial.problem l.initial.memory) l.top
+    g.P.Problem.left (g.P.Problem.world l.initial.problem l.initial.memory) l.top l.wanted
     + left_below (g.P.Problem.waits (g.P.Problem.world l.initial.problem l.initial.memory)) (g.P.Problem.left (g.P.Problem.world l.initial.problem l.initial.memory)) l.below.items
