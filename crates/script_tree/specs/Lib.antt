@@ -1,0 +1,4 @@
+pub mod Expression
+pub mod Statement
+pub mod ScriptText
+pub mod Counting

@@ -1,0 +1,279 @@
+ghost use Rattle.std.specs.Prelude.{◌≡◌, IfOk, codes};
+ghost use Rattle.std.specs.List.{list_any};
+ghost use Rattle.cube_lex.specs.Lexeme.{lexeme_of};
+ghost use Rattle.grammar.specs.Cursor.{lexemes};
+ghost use Rattle.grammar.specs.Reading.{starts};
+ghost use Rattle.grammar.specs.Tokens as tokens;
+ghost use Rattle.grammar.specs.Variables.{function_words};
+ghost use Rattle.script_tree.specs.Counting as counting;
+
+use crate::excess::Excess;
+use cube_lex::{Kind, Token};
+use expression_grammar::Limits;
+use grammar::{Scan, is_sign, is_word};
+use lists::ListOf;
+use std::alloc::{AllocError, Global};
+
+/// How many parentheses and blocks may be open at once.
+const MOST_OPEN: u32 = 32;
+
+/// Where in a script a token stands.
+#[derive(Clone, Copy, Debug)]
+pub enum Place {
+    /// Before a statement or a part of one, or before a section.
+    Between,
+    /// In a statement, behind its first word or its parentheses.
+    Head,
+    /// In the whole expression that a variable is set to.
+    Formula(Limits),
+    /// In a whole expression in the parentheses of a statement.
+    Argument(Limits),
+}
+
+/// How deep a token stands, and where.
+#[derive(Clone, Copy, Debug)]
+pub struct Stage {
+    /// Blocks that are open.
+    pub blocks: u32,
+    /// Blocks that are open behind the statement's or part's `;`.
+    pub next: u32,
+    pub place: Place,
+}
+
+/// What was counted so far.
+#[derive(Debug, Drop)]
+pub struct Counted {
+    /// Of each token of the text, whether a `(` stands behind it.
+    pub called: ListOf<bool>,
+    /// How many tokens are left.
+    pub left: usize,
+    pub stage: Stage,
+}
+
+/// Whether a `(` is the first of these tokens.
+fn opens(behind: &[Token<'_>]) -> bool
+    ensures { result ≡ starts (tokens.is_sign (codes "(")) (lexemes behind.now) }
+{
+    match behind {
+        [token, ..] => is_sign(token, b"("),
+        [] => false,
+    }
+}
+
+/// Of each token, whether a `(` stands behind it.
+fn calls_in(alloc: Global, tokens: &[Token<'_>]) -> Result<ListOf<bool>, AllocError>
+    ensures { IfOk result (λ called. called ≡ counting.calls_in (lexemes tokens.now)) }
+{
+    let mut called = Vec::new(alloc);
+    let mut rest = tokens;
+    'token: while let [_, behind @ ..] = rest {
+        called.push(opens(behind))?;
+        rest = behind;
+    }
+    Ok(ListOf::new(called))
+}
+
+/// Before the first token of a text.
+pub fn begun(alloc: Global, tokens: &[Token<'_>]) -> Result<Counted, AllocError>
+    ensures { IfOk result (λ counted. counted ≡ counting.start (lexemes tokens.now)) }
+{
+    let called = calls_in(alloc, tokens)?;
+    Ok(Counted {
+        called,
+        left: tokens.len(),
+        stage: Stage {
+            blocks: 0,
+            next: 0,
+            place: Place::Between,
+        },
+    })
+}
+
+/// One more `(`, `IF` or `WHILE`, inside so many parentheses and blocks that are open.
+fn one_more(opened: u32, token: &Token<'_>) -> Result<u32, Excess>
+    ensures { result ≡ counting.one_more opened (lexeme_of token.now) }
+{
+    if opened < MOST_OPEN {
+        Ok(opened + 1)
+    } else {
+        Err(Excess::TooDeep(token.line))
+    }
+}
+
+/// Whether a token is one of these words.
+fn is_among(words: &[&[u8]], token: &Token<'_>) -> bool
+    ensures { result ≡ list_any (λ word. tokens.is_word word.now (lexeme_of token.now)) words.now }
+{
+    words.iter().any(|word| is_word(token, word))
+}
+
+/// Whether a token is a function's word.
+fn is_function(token: &Token<'_>) -> bool
+    ensures { result ≡ list_any (λ word. tokens.is_word word (lexeme_of token.now)) function_words }
+{
+    is_among(
+        &[
+            b"CELLGETN",
+            b"ABS",
+            b"SIGN",
+            b"INT",
+            b"ROUND",
+            b"STRINGTONUMBER",
+            b"NUMBERTOSTRING",
+            b"MAX",
+            b"MIN",
+        ],
+        token,
+    )
+}
+
+/// Whether a token is a word that is no function.
+fn is_unknown(token: &Token<'_>) -> bool
+    ensures { result ≡ counting.is_unknown (lexeme_of token.now) }
+{
+    token.kind == Kind::Word && !is_function(token)
+}
+
+/// A whole expression with one more token, which has a `(` behind it or not.
+fn with(limits: &Limits, token: &Token<'_>, calls: bool) -> Result<Limits, Excess>
+    ensures { result ≡ counting.with_token calls limits.now (lexeme_of token.now) }
+{
+    if calls && (limits.due && is_unknown(token)) {
+        return Err(Excess::UnknownFunction(token.line));
+    }
+    match limits.with(token) {
+        Some(more) => Ok(more),
+        None => Err(Excess::TooDeep(token.line)),
+    }
+}
+
+impl Stage {
+    /// Behind the first word of a statement, or of a part of one.
+    fn behind_word(&self, token: &Token<'_>) -> Result<Stage, Excess>
+        ensures { result ≡ counting.behind_word self.now (lexeme_of token.now) }
+    {
+        let place = Place::Head;
+        let blocks = self.blocks;
+        if is_word(token, b"IF") || is_word(token, b"WHILE") {
+            let next = one_more(blocks, token)?;
+            Ok(Stage {
+                blocks,
+                next,
+                place,
+            })
+        } else if is_word(token, b"ENDIF") || is_word(token, b"END") {
+            let blocks = blocks.saturating_sub(1);
+            Ok(Stage {
+                blocks,
+                next: blocks,
+                place,
+            })
+        } else {
+            Ok(Stage {
+                blocks,
+                next: blocks,
+                place,
+            })
+        }
+    }
+
+    /// Behind a token of a statement outside of its expressions.
+    fn behind_head(&self, token: &Token<'_>) -> Result<Stage, Excess>
+        ensures { result ≡ counting.behind_head self.now (lexeme_of token.now) }
+    {
+        if is_sign(token, b"=") {
+            let place = Place::Formula(Limits::within(self.blocks));
+            Ok(Stage { place, ..*self })
+        } else if is_sign(token, b"(") {
+            let depth = one_more(self.blocks, token)?;
+            let place = Place::Argument(Limits::within(depth));
+            Ok(Stage { place, ..*self })
+        } else {
+            Ok(Stage {
+                blocks: self.next,
+                next: self.next,
+                place: Place::Between,
+            })
+        }
+    }
+
+    /// Behind a token of what a variable is set to.
+    fn behind_formula(
+        &self,
+        limits: &Limits,
+        token: &Token<'_>,
+        calls: bool,
+    ) -> Result<Stage, Excess>
+        ensures { result ≡ counting.behind_formula calls self.now limits.now (lexeme_of token.now) }
+    {
+        if is_sign(token, b";") {
+            let place = Place::Between;
+            return Ok(Stage { place, ..*self });
+        }
+        let more = with(limits, token, calls)?;
+        let place = Place::Formula(more);
+        Ok(Stage { place, ..*self })
+    }
+
+    /// Behind a token in the parentheses of a statement.
+    fn behind_argument(
+        &self,
+        limits: &Limits,
+        token: &Token<'_>,
+        calls: bool,
+    ) -> Result<Stage, Excess>
+        ensures { result ≡ counting.behind_argument calls self.now limits.now (lexeme_of token.now) }
+    {
+        let outermost = limits.depth.saturating_sub(self.blocks) == 1;
+        if outermost && is_sign(token, b",") {
+            let place = Place::Argument(Limits::within(limits.depth));
+            return Ok(Stage { place, ..*self });
+        }
+        if outermost && is_sign(token, b")") {
+            let place = Place::Head;
+            return Ok(Stage { place, ..*self });
+        }
+        let more = with(limits, token, calls)?;
+        let place = Place::Argument(more);
+        Ok(Stage { place, ..*self })
+    }
+
+    /// With one more token, which has a `(` behind it or not.
+    fn with(&self, token: &Token<'_>, calls: bool) -> Result<Stage, Excess>
+        ensures { result ≡ counting.behind_place calls self.now self.now.place (lexeme_of token.now) }
+    {
+        match &self.place {
+            Place::Between => self.behind_word(token),
+            Place::Head => self.behind_head(token),
+            Place::Formula(limits) => self.behind_formula(limits, token, calls),
+            Place::Argument(limits) => self.behind_argument(limits, token, calls),
+        }
+    }
+}
+
+impl Counted {
+    /// Whether a `(` stands behind the next token.
+    fn is_called(&self) -> bool
+        ensures { result ≡ counting.is_called self.now }
+    {
+        let called = self.called.as_slice();
+        match called.get(called.len().saturating_sub(self.left)) {
+            Some(called) => *called,
+            None => false,
+        }
+    }
+}
+
+impl Scan<Excess> for Counted {
+    ghost use Rattle.script_tree.specs.Counting.{count};
+
+    ghost scanned = { count };
+
+    #[tactic(auto, unfolding(crate::specs::Counting::count))]
+    fn scan(&mut self, token: &Token<'_>) -> Result<(), Excess> {
+        let calls = self.is_called();
+        self.stage = self.stage.with(token, calls)?;
+        self.left = self.left.saturating_sub(1);
+        Ok(())
+    }
+}

@@ -1,0 +1,8 @@
+/// What a script is refused for besides its grammar, with the line of the token at which it is.
+#[derive(Clone, Copy, Debug)]
+pub enum Excess {
+    /// A word that is no function, where an operand may begin and with a `(` behind it.
+    UnknownFunction(u32),
+    /// Open parentheses and blocks together, or primaries of one whole expression.
+    TooDeep(u32),
+}

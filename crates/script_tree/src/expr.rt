@@ -1,0 +1,77 @@
+use cube_fixed::Money;
+use lists::ListOf;
+use sqlite_items::{Boxed, Items};
+
+/// A function of load scripts.
+#[derive(Clone, Copy, Debug, PartialEq, Eq)]
+pub enum ScriptFun {
+    /// The value of a cell: its cube and elements, at least two arguments.
+    CellGetN,
+    Abs,
+    Sign,
+    /// The greatest whole number that isn't above the argument.
+    Int,
+    Round,
+    StringToNumber,
+    NumberToString,
+    /// Of two arguments.
+    Max,
+    /// Of two arguments.
+    Min,
+}
+
+/// An operator between two expressions.
+#[derive(Clone, Copy, Debug, PartialEq, Eq)]
+pub enum ScriptOp {
+    /// `%`
+    Or,
+    /// `&`
+    And,
+    /// `=`
+    Equal,
+    /// `<>`
+    Unequal,
+    /// `<`
+    Less,
+    /// `>`
+    Greater,
+    /// `<=`
+    AtMost,
+    /// `>=`
+    AtLeast,
+    /// `@=`, of texts, as names are compared.
+    SameText,
+    /// `@<>`, of texts.
+    OtherText,
+    /// `+`
+    Add,
+    /// `-`
+    Sub,
+    /// `|`, which joins texts.
+    Join,
+    /// `*`
+    Mul,
+    /// `/`
+    Div,
+    /// `\`, a division that gives 0 where the divisor is 0.
+    DivSafe,
+}
+
+/// An expression. Parentheses leave nothing in it. It is at most some thousand levels deep, since a whole expression
+/// has at most 1,000 primaries.
+#[derive(Debug, Drop)]
+pub enum Expr {
+    Number(Money),
+    /// The bytes that stand between the quotes, each doubled quote being one.
+    Text(ListOf<u8>),
+    /// A variable or a column of the record, whose word is kept in capitals. It is a column where it is `V` and a
+    /// number from 1 to 9,999 without a leading zero.
+    Variable(ListOf<u8>),
+    /// A function and its arguments, as many as it takes.
+    Call(ScriptFun, Items<Expr>),
+    /// `-`
+    Minus(Boxed<Expr>),
+    /// `~`
+    Not(Boxed<Expr>),
+    Binary(ScriptOp, Boxed<Expr>, Boxed<Expr>),
+}
