@@ -1,14 +1,14 @@
-ghost use Rattle.std.specs.Prelude.{◌≡◌, ◌==◌, ◌<◌, true};
+ghost use Rattle.std.specs.Prelude.{◌≡◌, ◌==◌, ◌<◌, true, ⊤};
 ghost use Rattle.rule_laws.specs.ZeroTest.{operands};
 ghost use Rattle.rule_laws.specs.Meaning.{each_reference};
 
 use cube_fixed::Money;
-use feed_check::{Cover, zero_verdict};
 use lists::ListOf;
 use rule_laws::{Formula, Fun, Op, Reference, Rel, Truth};
 use sqlite_items::Boxed;
 use std::alloc::{AllocError, Global};
 use std::test::Fail;
+use zero_check::{Cover, zero_verdict};
 
 /// Covers the references to one cube.
 #[derive(Drop)]
@@ -17,6 +17,8 @@ struct Covered {
 }
 
 impl Cover for Covered {
+    ghost is_ready = { λ _. ⊤ };
+
     ghost knows = { λ _ _. true };
 
     ghost covers = { λ s r. r.cube == s.cube };

@@ -1,16 +1,29 @@
-ghost use Rattle.std.specs.Prelude.{◌≡◌, Bool, true};
-ghost use Rattle.rule_laws.specs.declared.reference.Reference.{Reference};
+ghost use Rattle.std.specs.Prelude.{◌≡◌, ◌<◌, length};
+ghost use Rattle.rule_model.specs.Conditions.{IsArea};
+ghost use Rattle.cover_laws.specs.Decision.{is_covered};
+ghost use Rattle.feed_check.specs.Private.References.{is_reference};
 
+use feed_cover::is_covered;
 use rule_laws::Reference;
+use rule_model::{Area, Model};
+use zero_check::Cover;
 
-/// Tells which references of a rule are covered by feeders.
-pub trait Cover {
-    /// The references that may be asked about.
-    ghost knows: { Self → Reference → Bool };
+/// Tells which references of a statement of a cube feeders cover.
+#[derive(Clone, Copy)]
+pub struct Covered<'a> {
+    pub model: &'a Model,
+    pub cube: u32,
+    pub area: &'a Area,
+}
 
-    ghost covers: { Self → Reference → Bool };
+impl Cover for Covered<'_> {
+    ghost is_ready = { λ s. (s.cube < length s.model.now.space.cubes) × IsArea s.model.now.space s.cube s.area.now };
 
-    fn covers(&self, reference: &Reference) -> bool
-        requires { knows self.now reference.now ≡ true }
-        ensures { result ≡ covers self.now reference.now };
+    ghost knows = { λ s r. is_reference s.model.now.space s.cube r };
+
+    ghost covers = { λ s r. is_covered s.model.now s.cube s.area.now r };
+
+    fn covers(&self, reference: &Reference) -> bool {
+        is_covered(self.model, self.cube, self.area, reference)
+    }
 }

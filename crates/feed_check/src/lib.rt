@@ -1,21 +1,16 @@
-//! The feeder check: a test that shows the formula of a rule to be 0 wherever its cell is neither stored nor fed, and
-//! the operand that is blamed where it fails.
+//! The feeder check of a model: that the rules of each cube with `SKIPCHECK` are covered by feeders, so that a leaf cell
+//! that is neither stored nor fed is 0, and that no dense cube is too large to be fed whole.
 //!
-//! Verdict and operand come from one pass over the formula, in which a [`Cover`] is asked once about each reference.
-//! `specs/ZeroTest.antt` of `rule_laws` says what is found of each part.
+//! [`check_feeders`] decides it, and names the first fault as a [`FeedCheckFault`]. `specs/Verdict.antt` says which that
+//! is. Nothing here takes memory.
 #![tactic(auto)]
 
-pub use blame::{blamed_branch, blamed_side};
-pub use count::{operands, operands_of_truth};
-pub use cover::Cover;
-pub use find::{finding, truth_finding, zero_verdict};
-pub use operation::{
-    is_divisor, known_value, sure_and, sure_comparison, sure_not, sure_or, written_as, zero_choice,
-    zero_operation,
-};
+pub use check::check_feeders;
+pub use fault::FeedCheckFault;
+pub use size::MAX_DENSE;
 
-mod blame;
-mod count;
+mod check;
 mod cover;
-mod find;
-mod operation;
+mod fault;
+mod size;
+mod statement;

@@ -1,6 +1,6 @@
 use Rattle.std.proofs.Common.{ℕ, ◌+◌, ◌*◌, max}
 use Rattle.rule_laws.proofs.formula.Formula.TheLaws.{the_size}
-use Rattle.feed_check.proofs.find.+find.Given as goal
+use Rattle.zero_check.proofs.find.+find.Given as goal
 
 abbrev pub decreases-finding : goal.decreases-finding
 decreases-finding g l = 2 * goal.size-finding g l

@@ -83,6 +83,7 @@ fn of_choice(truth: &TruthFinding, left: &Finding, right: &Finding) -> Finding
 /// What is found of a formula.
 #[cycle(find)]
 pub fn finding<C: Cover>(cover: &C, formula: &Formula) -> Finding
+    requires ready { C.is_ready cover.now }
     requires known { each_reference (C.knows cover.now) formula.now ≡ true }
     requires few { operands formula.now < 2 ^ 32 }
     ensures value { result ≡ finding (C.covers cover.now) formula.now }
@@ -125,6 +126,7 @@ fn choice_finding<C: Cover>(
     left: &Formula,
     right: &Formula,
 ) -> Finding
+    requires ready { C.is_ready cover.now }
     requires left { each_reference (C.knows cover.now) left.now ≡ true }
     requires right { each_reference (C.knows cover.now) right.now ≡ true }
     requires few { truth.now.operands + operands left.now + operands right.now < 2 ^ 32 }
@@ -141,6 +143,7 @@ fn choice_finding<C: Cover>(
 /// What is found of a condition.
 #[cycle(find)]
 pub fn truth_finding<C: Cover>(cover: &C, truth: &Truth) -> TruthFinding
+    requires ready { C.is_ready cover.now }
     requires known { each_reference_of_truth (C.knows cover.now) truth.now ≡ true }
     requires few { operands_of_truth truth.now < 2 ^ 32 }
     ensures value { result ≡ truth_finding (C.covers cover.now) truth.now }
@@ -184,6 +187,7 @@ pub fn truth_finding<C: Cover>(cover: &C, truth: &Truth) -> TruthFinding
 /// Whether a formula is 0 wherever its covered references, `STET` and `CONTINUE` are; where the test fails, the operand
 /// that it is blamed on, counted from 1 in reading order.
 pub fn zero_verdict<C: Cover>(cover: &C, formula: &Formula) -> Result<(), u32>
+    requires ready { C.is_ready cover.now }
     requires known { each_reference (C.knows cover.now) formula.now ≡ true }
     requires few { operands formula.now < 2 ^ 32 }
     ensures { result ≡ zero_verdict (C.covers cover.now) formula.now }

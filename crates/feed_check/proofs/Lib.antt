@@ -1,0 +1,4 @@
+pub mod LeafCounts
+pub mod References
+pub mod Verdicts
+pub mod Products
