@@ -1,0 +1,10 @@
+pub mod PrimaryExact
+pub mod ValueExact
+pub mod FirstWords
+pub mod StatementExact
+pub mod WithinExact
+pub mod NoHeading
+pub mod PiecesExact
+pub mod Sections
+pub mod ScriptExact
+pub mod Answering
