@@ -1,0 +1,372 @@
+-- The cells whose elements are leaves that count in a cell's elements are the leaf cells below it; those of any leaves are
+-- the leaf cells of a cube.
+use Rattle.std.proofs.Common.{◌≡◌, refl, sym, ap, ◌∙◌, subst, ℕ, zero, suc, ◌+◌, ◌*◌, ◌<◌, ◌≤◌, ◌⊎◌, inl, inr, Bool, true, false, cond, ℤ, pos, negsuc, ◌*ℤ◌, unsigned_abs, List, [], ◌∷◌, ◌++◌, append_assoc, length, map, get_or, Option, Some, None, nat_lt, arith, zero-add}
+use Rattle.std.specs.Prelude.{slice_get}
+use Rattle.std.specs.List.{Contains, filter, range_with_len}
+use Rattle.std.specs.Option.{option_map}
+use Rattle.std.proofs.Math.Nat.{mul-le-mul}
+use Rattle.std.proofs.lemmas.Bool.{and_parts, and_from, ltb-true, lt-ltb, cond_both, eq-eqb}
+use Rattle.std.proofs.lemmas.Int.{ints, unsigned_abs-mul}
+use Rattle.std.proofs.lemmas.Option.{cond_some, option_and_then_some, slice_get_within, slice_get-get_or, get_or_from_slice_get}
+use Rattle.std.proofs.lemmas.List.FromFn.{get_or-range_with_len, length-range_with_len}
+use Rattle.std.proofs.lemmas.List.Elements.{All-contains}
+use Rattle.dim_core.specs.Outline.{Outline}
+use Rattle.dim_weights.specs.Coefficients.{coef}
+use Rattle.dim_weights.specs.Table.{is_nonzero, nonzero_among, leaves_of}
+use Rattle.cube_space.specs.Radix.{are_digits}
+use Rattle.cube_space.specs.Layout.{Layout, axes, sizes_of}
+use Rattle.cube_space.specs.Cells.{IsCell, size_of, cube_of, elements_of, is_leaf, are_leaves, is_leaf_cell, cell_number, is_place}
+use Rattle.cube_space.proofs.Places.{cell-place, cell_number-cell, place_number, is_place-parts, place-within, cell_at-place}
+use Rattle.rule_model.specs.Weights.{coef_product, weight, leaf_cells, leaves_below}
+use Rattle.model_laws.proofs.Below.{weight-counted, leaf_cells-are}
+use Rattle.feed_map.specs.Private.Leaves.{candidates, candidate, leaf_at, IsChosen, AreChosen, GoesOn, GoesOnWithin, IsLeafCellOf}
+use Rattle.feed_map.proofs.Members.{none-there, at-front, behind, front-or-behind}
+
+-- ---- values other than 0
+
+nonzero-size : (z : ℤ) → is_nonzero z ≡ true → 1 ≤ unsigned_abs z
+nonzero-size (pos zero) on = absurd (cc)
+nonzero-size (pos (suc n)) on = omega (arith, ints)
+nonzero-size (negsuc n) on = omega (arith, ints)
+
+size-nonzero : (z : ℤ) → 1 ≤ unsigned_abs z → is_nonzero z ≡ true
+size-nonzero (pos zero) low = absurd (omega (arith, ints, low))
+size-nonzero (pos (suc n)) low = refl
+size-nonzero (negsuc n) low = refl
+
+product-nonzero : (a b : ℤ) → is_nonzero a ≡ true → is_nonzero b ≡ true → is_nonzero (a *ℤ b) ≡ true
+product-nonzero a b one other =
+    let least : 1 * 1 ≤ unsigned_abs a * unsigned_abs b = mul-le-mul (nonzero-size a one) (nonzero-size b other) in
+    size-nonzero (a *ℤ b) (omega (arith, least, unsigned_abs-mul a b))
+
+factors-nonzero : (a b : ℤ) → is_nonzero (a *ℤ b) ≡ true → (is_nonzero a ≡ true) × (is_nonzero b ≡ true)
+factors-nonzero a b on = (size-nonzero a (first (unsigned_abs a) refl), size-nonzero b (second (unsigned_abs b) refl))
+  where
+    whole : 1 ≤ unsigned_abs a * unsigned_abs b
+    whole = subst (λ (n : ℕ). 1 ≤ n) (unsigned_abs-mul a b) (nonzero-size (a *ℤ b) on)
+
+    first : (n : ℕ) → unsigned_abs a ≡ n → 1 ≤ unsigned_abs a
+    first zero none = absurd (let w : 1 ≤ 0 * unsigned_abs b = subst (λ (n : ℕ). 1 ≤ n * unsigned_abs b) none whole in omega (arith, w))
+    first (suc n) is = omega (arith, is)
+
+    second : (n : ℕ) → unsigned_abs b ≡ n → 1 ≤ unsigned_abs b
+    second zero none = absurd (let w : 1 ≤ unsigned_abs a * 0 = subst (λ (n : ℕ). 1 ≤ unsigned_abs a * n) none whole in omega (arith, w))
+    second (suc n) is = omega (arith, is)
+
+-- ---- the leaves with a value other than 0
+
+nonzero-has : (value : ℕ → ℤ) (leaves : List ℕ) (l : ℕ) → Contains leaves l → is_nonzero (value l) ≡ true → Contains (nonzero_among value leaves) (l, value l)
+nonzero-has value [] l has on = absurd (none-there l has)
+nonzero-has value (x ∷ leaves) l has on =
+    elim (front-or-behind x leaves l has) [
+      | inl is ↦ (let here : is_nonzero (value x) ≡ true = ap (λ (y : ℕ). is_nonzero (value y)) is ∙ on in
+          rw here (subst (λ (y : ℕ). Contains ((x, value x) ∷ nonzero_among value leaves) (y, value y)) is (at-front (x, value x) (nonzero_among value leaves))))
+      | inr more ↦ (let later = nonzero-has value leaves l more on in
+          cond_both (is_nonzero (value x)) ((x, value x) ∷ nonzero_among value leaves) (nonzero_among value leaves) (λ (ps : List (ℕ × ℤ)). Contains ps (l, value l))
+          (λ on. behind (x, value x) (nonzero_among value leaves) (l, value l) later) (λ off. later))
+    ]
+
+has-nonzero : (value : ℕ → ℤ) (leaves : List ℕ) (p : ℕ × ℤ) → Contains (nonzero_among value leaves) p → Contains leaves p.0 × (is_nonzero (value p.0) ≡ true)
+has-nonzero value [] p has = absurd (none-there p has)
+has-nonzero value (x ∷ leaves) p has = by (λ (more : Contains (nonzero_among value leaves) p). has-nonzero value leaves p more) (is_nonzero (value x)) refl
+  where
+    later : (Contains (nonzero_among value leaves) p → Contains leaves p.0 × (is_nonzero (value p.0) ≡ true)) → Contains (nonzero_among value leaves) p → Contains (x ∷ leaves) p.0 × (is_nonzero (value p.0) ≡ true)
+    later again more = let rest = again more in (behind x leaves p.0 rest.0, rest.1)
+
+    by : (Contains (nonzero_among value leaves) p → Contains leaves p.0 × (is_nonzero (value p.0) ≡ true)) → (b : Bool) → is_nonzero (value x) ≡ b → Contains (x ∷ leaves) p.0 × (is_nonzero (value p.0) ≡ true)
+    by again true on =
+        elim (front-or-behind (x, value x) (nonzero_among value leaves) p (rw on at has)) [
+          | inl is ↦ (let same : x ≡ p.0 = ap (λ (q : ℕ × ℤ). q.0) is in
+              (subst (Contains (x ∷ leaves)) same (at-front x leaves), ap (λ (y : ℕ). is_nonzero (value y)) (sym same) ∙ on))
+          | inr more ↦ later again more
+        ]
+    by again false off = later again (rw off at has)
+
+-- the cells of the leaf cells below a cell
+below-has : (space : Layout) (t c : ℕ) → Contains (map (λ pair. pair.0) (leaves_below space t)) c → Contains (leaf_cells space) c × (is_nonzero (weight space t c) ≡ true)
+below-has space t c (k, low, is) =
+    let found = slice_get_map_at (leaves_below space t) k c (omega (arith, low)) is in
+    subst (λ (y : ℕ). Contains (leaf_cells space) y × (is_nonzero (weight space t y) ≡ true)) found.2 (has-nonzero (weight space t) (leaf_cells space) found.0 found.1)
+  where
+    slice_get_map_at : (ps : List (ℕ × ℤ)) (k c : ℕ) → k < length (map (λ (pair : ℕ × ℤ). pair.0) ps) → get_or (map (λ (pair : ℕ × ℤ). pair.0) ps) k c ≡ c → (p : ℕ × ℤ) × Contains ps p × (p.0 ≡ c)
+    slice_get_map_at [] k c low is = absurd (omega (arith, low))
+    slice_get_map_at (p ∷ ps) zero c low is = (p, at-front p ps, is)
+    slice_get_map_at (p ∷ ps) (suc k) c low is = let later = slice_get_map_at ps k c (omega (arith, low)) is in (later.0, behind p ps later.0 later.1, later.2)
+
+has-below : (space : Layout) (t c : ℕ) → Contains (leaf_cells space) c → is_nonzero (weight space t c) ≡ true → Contains (map (λ pair. pair.0) (leaves_below space t)) c
+has-below space t c leaf on = mapped (leaves_below space t) (c, weight space t c) (nonzero-has (weight space t) (leaf_cells space) c leaf on)
+  where
+    mapped : (ps : List (ℕ × ℤ)) (p : ℕ × ℤ) → Contains ps p → Contains (map (λ (pair : ℕ × ℤ). pair.0) ps) p.0
+    mapped [] p has = absurd (none-there p has)
+    mapped (q ∷ ps) p has =
+        elim (front-or-behind q ps p has) [
+          | inl is ↦ subst (λ (r : ℕ × ℤ). Contains (q.0 ∷ map (λ (pair : ℕ × ℤ). pair.0) ps) r.0) is (at-front q.0 (map (λ (pair : ℕ × ℤ). pair.0) ps))
+          | inr more ↦ behind q.0 (map (λ (pair : ℕ × ℤ). pair.0) ps) p.0 (mapped ps p more)
+        ]
+
+-- all leaf cells are listed
+leaf_cells-has : (space : Layout) (c : ℕ) → IsCell space c → is_leaf_cell space c ≡ true → Contains (leaf_cells space) c
+unfolding leaf_cells
+leaf_cells-has space c cell leaf =
+    kept (range_with_len 0 (size_of space)) c (c, omega (arith, cell, length-range_with_len 0 (size_of space)), get_or-range_with_len 0 (size_of space) c c cell ∙ zero-add c) leaf
+  where
+    kept : (xs : List ℕ) (c : ℕ) → Contains xs c → is_leaf_cell space c ≡ true → Contains (filter (is_leaf_cell space) xs) c
+    kept [] c has on = absurd (none-there c has)
+    kept (x ∷ xs) c has on =
+        elim (front-or-behind x xs c has) [
+          | inl is ↦ (let here : is_leaf_cell space x ≡ true = ap (is_leaf_cell space) is ∙ on in
+              rw here (subst (Contains (x ∷ filter (is_leaf_cell space) xs)) is (at-front x (filter (is_leaf_cell space) xs))))
+          | inr more ↦ (let later = kept xs c more on in
+              cond_both (is_leaf_cell space x) (x ∷ filter (is_leaf_cell space) xs) (filter (is_leaf_cell space) xs) (λ (ys : List ℕ). Contains ys c)
+              (λ on. behind x (filter (is_leaf_cell space) xs) c later) (λ off. later))
+        ]
+
+-- ---- one dimension
+
+-- what is asked of a leaf of a dimension: that it counts in the root
+abbrev CountsIn : Outline → Option ℕ → ℕ → Type 0
+CountsIn d None l = Unit {0}
+CountsIn d (Some e) l = is_nonzero (coef d e l) ≡ true
+
+record IsLeafIn (d : Outline) (root : Option ℕ) (l : ℕ) : Type 0 where
+  pub there : l < length d.elements
+  pub leaf : is_leaf d l ≡ true
+  pub counts : CountsIn d root l
+
+is-there : (d : Outline) (e l : ℕ) (place : ℕ) → candidate d (Some e) place ≡ Some l → (l < length d.elements) × (is_nonzero (coef d e l) ≡ true)
+is-there d e l place is = by (slice_get (leaves_of d e) place) refl
+  where
+    by : (o : Option (ℕ × ℤ)) → slice_get (leaves_of d e) place ≡ o → (l < length d.elements) × (is_nonzero (coef d e l) ≡ true)
+    by None none = absurd (let clash : None ≡ Some l = ap (option_map (λ (pair : ℕ × ℤ). pair.0)) (sym none) ∙ is in cc)
+    by (Some p) found =
+        let same : Some p.0 ≡ Some l = ap (option_map (λ (pair : ℕ × ℤ). pair.0)) (sym found) ∙ is in
+        let own : p.0 ≡ l = cc in
+        let low = slice_get_within (leaves_of d e) place p found in
+        let has : Contains (leaves_of d e) p = (place, low, get_or_from_slice_get (leaves_of d e) place p p found) in
+        let parts = has-nonzero (coef d e) (range_with_len 0 (length d.elements)) p has in
+        let few = length-range_with_len 0 (length d.elements) in
+        let within : parts.0.0 < length d.elements = omega (arith, parts.0.1, few) in
+        let at : parts.0.0 ≡ p.0 = sym (zero-add parts.0.0) ∙ sym (get_or-range_with_len 0 (length d.elements) parts.0.0 p.0 within) ∙ parts.0.2 in
+        (omega (arith, within, at, own), ap (λ (y : ℕ). is_nonzero (coef d e y)) (sym own) ∙ parts.1)
+
+chosen-at : (d : Outline) (root : Option ℕ) (place leaf l : ℕ) → place < candidates d root → candidate d root place ≡ Some leaf → is_leaf d leaf ≡ true → leaf ≡ l → IsLeafIn d root l
+chosen-at d None place leaf l low own on same =
+    let at : place ≡ leaf = cc in
+    record { there = omega (arith, low, at, same); leaf = ap (is_leaf d) (sym same) ∙ on; counts = tt }
+chosen-at d (Some e) place leaf l low own on same =
+    let here = is-there d e leaf place own in
+    record { there = omega (arith, here.0, same); leaf = ap (is_leaf d) (sym same) ∙ on; counts = ap (λ (y : ℕ). is_nonzero (coef d e y)) (sym same) ∙ here.1 }
+
+chosen-leaf : (d : Outline) (root : Option ℕ) (l : ℕ) → IsChosen d root (candidates d root) l → IsLeafIn d root l
+chosen-leaf d root l (place, low, is) =
+    option_and_then_some (λ leaf. cond (is_leaf d leaf) (Some leaf) None) (candidate d root place) l is (λ leaf own some.
+    let parts = cond_some (is_leaf d leaf) leaf l some in
+    chosen-at d root place leaf l low own parts.0 parts.1)
+
+leaf-chosen : (d : Outline) (root : Option ℕ) (l : ℕ) → IsLeafIn d root l → IsChosen d root (candidates d root) l
+leaf-chosen d None l is = (l, is.there, rw is.leaf refl)
+leaf-chosen d (Some e) l is =
+    let listed : Contains (range_with_len 0 (length d.elements)) l = (l, omega (arith, is.there, length-range_with_len 0 (length d.elements)), get_or-range_with_len 0 (length d.elements) l l is.there ∙ zero-add l) in
+    let has = nonzero-has (coef d e) (range_with_len 0 (length d.elements)) l listed is.counts in
+    let found : slice_get (leaves_of d e) has.0 ≡ Some (l, coef d e l) = slice_get-get_or (leaves_of d e) has.0 (l, coef d e l) has.1 ∙ ap Some has.2 in
+    let own : candidate d (Some e) has.0 ≡ Some l = ap (option_map (λ (pair : ℕ × ℤ). pair.0)) found in
+    (has.0, has.1, rw own (rw is.leaf refl))
+
+-- one place more
+pub chosen-more : (d : Outline) (root : Option ℕ) (n l : ℕ) → IsChosen d root (n + 1) l → IsChosen d root n l ⊎ (leaf_at d root n ≡ Some l)
+chosen-more d root n l (place, low, is) =
+    elim (cases_at place n (omega (arith, low))) [
+      | inl before ↦ inl (place, before, is)
+      | inr same ↦ inr (subst (λ (k : ℕ). leaf_at d root k ≡ Some l) same is)
+    ]
+  where
+    cases_at : (a b : ℕ) → a ≤ b → (a < b) ⊎ (a ≡ b)
+    cases_at zero zero le = inr refl
+    cases_at zero (suc b) le = inl (omega arith)
+    cases_at (suc a) zero le = absurd (omega (arith, le))
+    cases_at (suc a) (suc b) le =
+        elim (cases_at a b (omega (arith, le))) [
+          | inl low ↦ inl (omega (arith, low))
+          | inr same ↦ inr (ap suc same)
+        ]
+
+pub chosen-before : (d : Outline) (root : Option ℕ) (n l : ℕ) → IsChosen d root n l → IsChosen d root (n + 1) l
+chosen-before d root n l (place, low, is) = (place, omega (arith, low), is)
+
+pub chosen-here : (d : Outline) (root : Option ℕ) (n l : ℕ) → leaf_at d root n ≡ Some l → IsChosen d root (n + 1) l
+chosen-here d root n l is = (n, omega arith, is)
+
+-- ---- all dimensions
+
+-- what is asked of leaves of these dimensions
+record AreLeavesIn (roots : List ℕ) (place : ℕ) (ds : List Outline) (ls : List ℕ) : Type 0 where
+  pub digits : are_digits (sizes_of ds) ls ≡ true
+  pub leaves : are_leaves ds ls ≡ true
+  pub counts : (k : ℕ) (d : Outline) (l : ℕ) → slice_get ds k ≡ Some d → slice_get ls k ≡ Some l → CountsIn d (slice_get roots (place + k)) l
+
+chosen-leaves : (roots : List ℕ) (place : ℕ) (ds : List Outline) (ls : List ℕ) → AreChosen roots place ds ls → AreLeavesIn roots place ds ls
+chosen-leaves roots place [] [] are = record { digits = refl; leaves = refl; counts = λ k d l none. absurd (cc) }
+chosen-leaves roots place [] (l ∷ ls) are = absurd are
+chosen-leaves roots place (d ∷ ds) [] are = absurd are
+chosen-leaves roots place (d ∷ ds) (l ∷ ls) are =
+    let here = chosen-leaf d (slice_get roots place) l are.0 in
+    let rest = chosen-leaves roots (place + 1) ds ls are.1 in
+    record {
+      digits = and_from _ _ (lt-ltb l (length d.elements) here.there) rest.digits;
+      leaves = and_from _ _ here.leaf rest.leaves;
+      counts = by here.counts rest.counts;
+    }
+  where
+    by : CountsIn d (slice_get roots place) l → ((k : ℕ) (o : Outline) (x : ℕ) → slice_get ds k ≡ Some o → slice_get ls k ≡ Some x → CountsIn o (slice_get roots (place + 1 + k)) x)
+        → (k : ℕ) (o : Outline) (x : ℕ) → slice_get (d ∷ ds) k ≡ Some o → slice_get (l ∷ ls) k ≡ Some x → CountsIn o (slice_get roots (place + k)) x
+    by first later zero o x own other =
+        let a : d ≡ o = cc in
+        let b : l ≡ x = cc in
+        let e : place ≡ place + 0 = omega arith in
+        subst (λ (n : ℕ). CountsIn o (slice_get roots n) x) e (subst (λ (z : Outline). CountsIn z (slice_get roots place) x) a (subst (λ (y : ℕ). CountsIn d (slice_get roots place) y) b first))
+    by first later (suc k) o x own other =
+        let e : place + 1 + k ≡ place + suc k = omega arith in
+        subst (λ (n : ℕ). CountsIn o (slice_get roots n) x) e (later k o x own other)
+
+leaves-chosen : (roots : List ℕ) (place : ℕ) (ds : List Outline) (ls : List ℕ) → AreLeavesIn roots place ds ls → AreChosen roots place ds ls
+leaves-chosen roots place [] [] are = tt
+leaves-chosen roots place [] (l ∷ ls) are = absurd (let d = are.digits in cc)
+leaves-chosen roots place (d ∷ ds) [] are = absurd (let d = are.digits in cc)
+leaves-chosen roots place (d ∷ ds) (l ∷ ls) are =
+    let low = and_parts (nat_lt l (length d.elements)) (are_digits (sizes_of ds) ls) are.digits in
+    let leaf = and_parts (is_leaf d l) (are_leaves ds ls) are.leaves in
+    let e : place + 0 ≡ place = omega arith in (
+      leaf-chosen d (slice_get roots place) l (record {
+        there = ltb-true l (length d.elements) low.0;
+        leaf = leaf.0;
+        counts = subst (λ (n : ℕ). CountsIn d (slice_get roots n) l) e (are.counts 0 d l refl refl);
+      }),
+      leaves-chosen roots (place + 1) ds ls (record {
+        digits = low.1;
+        leaves = leaf.1;
+        counts = λ k o x own other. (let f : place + suc k ≡ place + 1 + k = omega arith in subst (λ (n : ℕ). CountsIn o (slice_get roots n) x) f (are.counts (suc k) o x own other));
+      }),
+    )
+
+-- each counts in the root there exactly where the product isn't 0
+counts-product : (ds : List Outline) (es ls : List ℕ) → are_digits (sizes_of ds) es ≡ true → are_digits (sizes_of ds) ls ≡ true
+    → ((k : ℕ) (d : Outline) (l : ℕ) → slice_get ds k ≡ Some d → slice_get ls k ≡ Some l → CountsIn d (slice_get es k) l) → is_nonzero (coef_product ds es ls) ≡ true
+counts-product [] es ls are also each = refl
+counts-product (d ∷ ds) [] ls are also each = absurd (cc)
+counts-product (d ∷ ds) (e ∷ es) [] are also each = absurd (cc)
+counts-product (d ∷ ds) (e ∷ es) (l ∷ ls) are also each =
+    let one = and_parts (nat_lt e (length d.elements)) (are_digits (sizes_of ds) es) are in
+    let two = and_parts (nat_lt l (length d.elements)) (are_digits (sizes_of ds) ls) also in
+    product-nonzero (coef d e l) (coef_product ds es ls) (each 0 d l refl refl) (counts-product ds es ls one.1 two.1 (λ k o x own other. each (suc k) o x own other))
+
+product-counts : (ds : List Outline) (es ls : List ℕ) → is_nonzero (coef_product ds es ls) ≡ true
+    → (k : ℕ) (d : Outline) (l : ℕ) → slice_get ds k ≡ Some d → slice_get ls k ≡ Some l → CountsIn d (slice_get es k) l
+product-counts [] es ls on k d l own other = absurd (cc)
+product-counts (x ∷ ds) [] ls on k d l own other = absurd (cc)
+product-counts (x ∷ ds) (e ∷ es) [] on k d l own other = absurd (cc)
+product-counts (x ∷ ds) (e ∷ es) (y ∷ ls) on zero d l own other =
+    let parts = factors-nonzero (coef x e y) (coef_product ds es ls) on in
+    let a : x ≡ d = cc in
+    let b : y ≡ l = cc in
+    subst (λ (z : ℕ). is_nonzero (coef d e z) ≡ true) b (subst (λ (z : Outline). is_nonzero (coef z e y) ≡ true) a parts.0)
+product-counts (x ∷ ds) (e ∷ es) (y ∷ ls) on (suc k) d l own other =
+    product-counts ds es ls (factors-nonzero (coef x e y) (coef_product ds es ls) on).1 k d l own other
+
+-- ---- cells
+
+-- a cell of these elements
+record IsAt (space : Layout) (cube : ℕ) (elements : List ℕ) (c : ℕ) : Type 0 where
+  pub cell : IsCell space c
+  pub own : cube_of space c ≡ cube
+  pub its : elements_of space c ≡ elements
+
+number-at : (space : Layout) (cube : ℕ) (elements : List ℕ) (c : ℕ) → cell_number space cube elements ≡ Some c → IsAt space cube elements c
+unfolding cell_number
+number-at space cube elements c is =
+    let parts = cond_some (is_place space cube elements) (place_number space cube elements) c is in
+    let place = is_place-parts space cube elements parts.0 in
+    let same = cell_at-place space cube elements place in
+    subst (IsAt space cube elements) parts.1 (record { cell = place-within space cube elements place; own = ap (λ at. at.cube) same; its = ap (λ at. at.elements) same })
+
+-- leaves of each dimension make a leaf cell
+leaf-cell : (space : Layout) (cube : ℕ) (roots ls : List ℕ) (c : ℕ) → AreLeavesIn roots 0 (axes space cube) ls → IsAt space cube ls c → is_leaf_cell space c ≡ true
+unfolding is_leaf_cell
+leaf-cell space cube roots ls c are at = rw at.own (rw at.its are.leaves)
+
+cell-leaves : (space : Layout) (c : ℕ) → is_leaf_cell space c ≡ true → are_leaves (axes space (cube_of space c)) (elements_of space c) ≡ true
+unfolding is_leaf_cell
+cell-leaves space c leaf = leaf
+
+-- the leaf cells of a cube
+pub goes-on-cube : (space : Layout) (cube c : ℕ) → GoesOn space cube [] 0 (axes space cube) [] c → IsLeafCellOf space cube c
+goes-on-cube space cube c (ls, chosen, is) =
+    let at = number-at space cube ls c is in
+    (at.cell, leaf-cell space cube [] ls c (chosen-leaves [] 0 (axes space cube) ls chosen) at, at.own)
+
+pub cube-goes-on : (space : Layout) (cube c : ℕ) → IsLeafCellOf space cube c → GoesOn space cube [] 0 (axes space cube) [] c
+cube-goes-on space cube c (cell, leaf, own) =
+    let place = (cell-place space c cell).place in
+    let number : cell_number space cube (elements_of space c) ≡ Some c = ap (λ (k : ℕ). cell_number space k (elements_of space c)) (sym own) ∙ cell_number-cell space c cell in
+    let Digits : ℕ → Type 0 = λ k. are_digits (sizes_of (axes space k)) (elements_of space c) ≡ true in
+    let Leaves : ℕ → Type 0 = λ k. are_leaves (axes space k) (elements_of space c) ≡ true in (
+      elements_of space c,
+      leaves-chosen [] 0 (axes space cube) (elements_of space c) (record {
+        digits = subst Digits own place.digits;
+        leaves = subst Leaves own (cell-leaves space c leaf);
+        counts = λ k d l found other. tt;
+      }),
+      number,
+    )
+
+-- the leaf cells below a cell
+module _ (space : Layout) (t : ℕ) (cell : IsCell space t) where
+  weight-product : (c : ℕ) → cube_of space c ≡ cube_of space t → weight space t c ≡ coef_product (axes space (cube_of space t)) (elements_of space t) (elements_of space c)
+  unfolding weight
+  weight-product c own = rw own (rw (eq-eqb (cube_of space t) (cube_of space t) refl) refl)
+
+  pub goes-on-below : (c : ℕ) → GoesOn space (cube_of space t) (elements_of space t) 0 (axes space (cube_of space t)) [] c → Contains (map (λ pair. pair.0) (leaves_below space t)) c
+  goes-on-below c (ls, chosen, is) =
+      let at = number-at space (cube_of space t) ls c is in
+      let are = chosen-leaves (elements_of space t) 0 (axes space (cube_of space t)) ls chosen in
+      let place = (cell-place space t cell).place in
+      let counts : (k : ℕ) (d : Outline) (l : ℕ) → slice_get (axes space (cube_of space t)) k ≡ Some d → slice_get ls k ≡ Some l → CountsIn d (slice_get (elements_of space t) k) l =
+      λ k d l own other. subst (λ (n : ℕ). CountsIn d (slice_get (elements_of space t) n) l) (zero-add k) (are.counts k d l own other) in
+      let on = counts-product (axes space (cube_of space t)) (elements_of space t) ls place.digits are.digits counts in
+      let same : weight space t c ≡ coef_product (axes space (cube_of space t)) (elements_of space t) ls =
+      weight-product c at.own ∙ ap (coef_product (axes space (cube_of space t)) (elements_of space t)) at.its in
+      has-below space t c (leaf_cells-has space c at.cell (leaf-cell space (cube_of space t) (elements_of space t) ls c are at)) (ap is_nonzero same ∙ on)
+
+  pub below-goes-on : (c : ℕ) → Contains (map (λ pair. pair.0) (leaves_below space t)) c → GoesOn space (cube_of space t) (elements_of space t) 0 (axes space (cube_of space t)) [] c
+  below-goes-on c has =
+      let parts = below-has space t c has in
+      let leaf = All-contains (λ x. IsCell space x × (is_leaf_cell space x ≡ true)) (leaf_cells space) c (leaf_cells-are space) parts.0 in
+      let counted = weight-counted space t c parts.1 in
+      let own : cube_of space c ≡ cube_of space t = sym counted.same_cube in
+      let on : is_nonzero (coef_product (axes space (cube_of space t)) (elements_of space t) (elements_of space c)) ≡ true = ap is_nonzero (sym (weight-product c own)) ∙ parts.1 in
+      let each = product-counts (axes space (cube_of space t)) (elements_of space t) (elements_of space c) on in
+      let place = (cell-place space c leaf.0).place in
+      let Digits : ℕ → Type 0 = λ k. are_digits (sizes_of (axes space k)) (elements_of space c) ≡ true in
+      let Leaves : ℕ → Type 0 = λ k. are_leaves (axes space k) (elements_of space c) ≡ true in
+      let number : cell_number space (cube_of space t) (elements_of space c) ≡ Some c = ap (λ (k : ℕ). cell_number space k (elements_of space c)) (sym own) ∙ cell_number-cell space c leaf.0 in (
+        elements_of space c,
+        leaves-chosen (elements_of space t) 0 (axes space (cube_of space t)) (elements_of space c) (record {
+          digits = subst Digits own place.digits;
+          leaves = subst Leaves own (cell-leaves space c leaf.1);
+          counts = λ k d l found other. subst (λ (n : ℕ). CountsIn d (slice_get (elements_of space t) n) l) (sym (zero-add k)) (each k d l found other);
+        }),
+        number,
+      )
+
+-- ---- one dimension after another
+
+module _ (space : Layout) (cube : ℕ) (roots : List ℕ) (place : ℕ) (d : Outline) (ds : List Outline) (front : List ℕ) where
+  pub goes-on-next : (c : ℕ) → GoesOn space cube roots place (d ∷ ds) front c → GoesOnWithin space cube roots place d ds front (candidates d (slice_get roots place)) c
+  goes-on-next c ([], are, is) = absurd are
+  goes-on-next c (l ∷ ls, are, is) =
+      let e : front ++ l ∷ ls ≡ (front ++ l ∷ []) ++ ls = sym (append_assoc front (l ∷ []) ls) in
+      (l, are.0, (ls, are.1, ap (cell_number space cube) (sym e) ∙ is))
+
+  pub next-goes-on : (c : ℕ) → GoesOnWithin space cube roots place d ds front (candidates d (slice_get roots place)) c → GoesOn space cube roots place (d ∷ ds) front c
+  next-goes-on c (l, chosen, (ls, are, is)) =
+      let e : (front ++ l ∷ []) ++ ls ≡ front ++ l ∷ ls = append_assoc front (l ∷ []) ls in
+      (l ∷ ls, (chosen, are), ap (cell_number space cube) (sym e) ∙ is)

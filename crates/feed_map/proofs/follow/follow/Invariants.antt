@@ -1,0 +1,8 @@
+-- What the feeders so far feed.
+use Rattle.std.proofs.Common.{take}
+use Rattle.feed_map.specs.Private.Gains.{Gains}
+use Rattle.feed_map.specs.Private.Follows.{FeedsByOne}
+use Rattle.feed_map.proofs.follow.follow.Given as goal
+
+abbrev pub invariant-each : goal.invariant-each
+invariant-each l = Gains (FeedsByOne l.model l.cube (take l.n l.feeders) l.cell) l.fn.growth l.growth

@@ -1,0 +1,8 @@
+-- What the cells so far feed.
+use Rattle.std.proofs.Common.{take}
+use Rattle.feed_map.specs.Private.Gains.{Gains}
+use Rattle.feed_map.specs.Private.Follows.{FeedsFrom}
+use Rattle.feed_map.proofs.follow.follow_cells.Given as goal
+
+abbrev pub invariant-each : goal.invariant-each
+invariant-each l = Gains (FeedsFrom l.model (take l.place l.cells)) l.fn.growth l.growth

@@ -1,0 +1,2 @@
+pub mod FedCells
+pub mod Private

@@ -1,0 +1,4 @@
+-- What the code keeps. No public clause cites it.
+pub mod Gains
+pub mod Leaves
+pub mod Follows

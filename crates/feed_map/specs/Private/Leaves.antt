@@ -1,0 +1,62 @@
+-- Cells whose elements are leaves, dimension by dimension.
+use Rattle.std.specs.Prelude.{◌≡◌, ℕ, ◌+◌, ◌<◌, true, ⊤}
+use Rattle.std.specs.Prelude.{Option, Some, None, IfSome, if◌then◌else◌, option_map, option_and_then}
+use Rattle.std.specs.Prelude.{List, [], ◌∷◌, ◌++◌, length, slice_get}
+use Rattle.dim_core.specs.Outline.{Outline}
+use Rattle.dim_weights.specs.Table.{leaves_of}
+use Rattle.cube_space.specs.Layout.{Layout}
+use Rattle.cube_space.specs.Cells.{IsCell, is_leaf, is_leaf_cell, cube_of, cell_number}
+
+-- the elements to choose leaves from: those that count in an element, or all
+abbrev pub candidates : Outline → Option ℕ → ℕ
+candidates dimension None = length dimension.elements
+candidates dimension (Some element) = length (leaves_of dimension element)
+
+abbrev pub candidate : Outline → Option ℕ → ℕ → Option ℕ
+candidate dimension None place = Some place
+candidate dimension (Some element) place = option_map (λ pair. pair.0) (slice_get (leaves_of dimension element) place)
+
+-- the leaf at a place, or None where what stands there is no leaf
+abbrev pub leaf_at : Outline → Option ℕ → ℕ → Option ℕ
+leaf_at dimension root place =
+    option_and_then (λ leaf. if is_leaf dimension leaf then Some leaf else None) (candidate dimension root place)
+
+-- the leaf is at one of the first so many places
+abbrev pub IsChosen : Outline → Option ℕ → ℕ → ℕ → Type 0
+IsChosen dimension root places leaf = (place : ℕ) × (place < places) × (leaf_at dimension root place ≡ Some leaf)
+
+-- there are roots for these dimensions from a place on: an element of each, or none of those from some place on
+abbrev pub AreRoots : List ℕ → ℕ → List Outline → Type 0
+AreRoots roots place [] = ⊤
+AreRoots roots place (d ∷ ds) =
+    IfSome (slice_get roots place) (λ element. element < length d.elements) × AreRoots roots (place + 1) ds
+
+-- each is a leaf of its dimension, from a place on, that counts in the root there; any leaf where there is none
+abbrev pub AreChosen : List ℕ → ℕ → List Outline → List ℕ → Type 0
+AreChosen roots place [] [] = ⊤
+AreChosen roots place [] (leaf ∷ leaves) = ⊥
+AreChosen roots place (d ∷ ds) [] = ⊥
+AreChosen roots place (d ∷ ds) (leaf ∷ leaves) =
+    IsChosen d (slice_get roots place) (candidates d (slice_get roots place)) leaf
+    × AreChosen roots (place + 1) ds leaves
+
+-- a cell of the cube whose elements are these and then such leaves
+abbrev pub GoesOn : Layout → ℕ → List ℕ → ℕ → List Outline → List ℕ → ℕ → Type 0
+GoesOn space cube roots place ds front cell =
+    (leaves : List ℕ) × AreChosen roots place ds leaves × (cell_number space cube (front ++ leaves) ≡ Some cell)
+
+-- the same, where the next leaf is at one of the first so many places
+abbrev pub GoesOnWithin : Layout → ℕ → List ℕ → ℕ → Outline → List Outline → List ℕ → ℕ → ℕ → Type 0
+GoesOnWithin space cube roots place d ds front places cell =
+    (leaf : ℕ) × IsChosen d (slice_get roots place) places leaf
+    × GoesOn space cube roots (place + 1) ds (front ++ leaf ∷ []) cell
+
+-- the same, where the next leaf is this one; none where there is none
+abbrev pub GoesOnBy : Layout → ℕ → List ℕ → ℕ → List Outline → List ℕ → Option ℕ → ℕ → Type 0
+GoesOnBy space cube roots place ds front None cell = ⊥
+GoesOnBy space cube roots place ds front (Some leaf) cell =
+    GoesOn space cube roots (place + 1) ds (front ++ leaf ∷ []) cell
+
+-- a leaf cell of the cube
+abbrev pub IsLeafCellOf : Layout → ℕ → ℕ → Type 0
+IsLeafCellOf space cube cell = IsCell space cell × (is_leaf_cell space cell ≡ true) × (cube_of space cell ≡ cube)

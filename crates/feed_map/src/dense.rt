@@ -1,0 +1,53 @@
+ghost use Rattle.std.specs.Prelude.{◌≡◌, ◌<◌, IfErr, OnOk, length};
+ghost use Rattle.rule_laws.specs.Feeding.{is_dense, IsDenseCell};
+ghost use Rattle.rule_model.specs.System.{system_of};
+ghost use Rattle.feed_map.specs.Private.Gains.{Gains, StopsBy};
+ghost use Rattle.feed_map.specs.Private.Leaves.{IsLeafCellOf};
+ghost use Rattle.feed_map.specs.Private.Follows.{IsDenseOf};
+
+use crate::fault::FedFault;
+use crate::growth::Growth;
+use crate::leaves::add_product;
+use rule_model::Model;
+
+/// Finds the leaf cells of the dense cubes.
+pub fn add_dense(model: &Model, growth: &mut Growth) -> Result<(), FedFault>
+    ensures gains { OnOk result (Gains (IsDenseCell (system_of model.now)) growth.old growth.new) }
+    ensures stops { IfErr result (StopsBy (IsDenseCell (system_of model.now)) growth.old growth.new) }
+{
+    'each: for cube in 0..model.space().cubes() {
+        add_if_dense(model, cube, growth)?;
+    }
+    Ok(())
+}
+
+// Finds the leaf cells of a cube, where it is dense.
+fn add_if_dense(model: &Model, cube: u32, growth: &mut Growth) -> Result<(), FedFault>
+    requires { cube < length model.now.space.cubes }
+    ensures gains { OnOk result (Gains (IsDenseOf model.now cube) growth.old growth.new) }
+    ensures stops { IfErr result (StopsBy (IsDenseOf model.now cube) growth.old growth.new) }
+{
+    if !is_dense(model, cube) {
+        return Ok(());
+    }
+    add_cube(model, cube, growth)
+}
+
+// Finds all leaf cells of a cube.
+fn add_cube(model: &Model, cube: u32, growth: &mut Growth) -> Result<(), FedFault>
+    requires { cube < length model.now.space.cubes }
+    ensures gains { OnOk result (Gains (IsLeafCellOf model.now.space cube) growth.old growth.new) }
+    ensures stops { IfErr result (StopsBy (IsLeafCellOf model.now.space cube) growth.old growth.new) }
+{
+    let mut at = [0u32; 16];
+    add_product(model, cube, &[], 0, &mut at, growth)
+}
+
+// Whether a cube has statements and doesn't say SKIPCHECK.
+fn is_dense(model: &Model, cube: u32) -> bool
+    requires { cube < length model.now.space.cubes }
+    ensures { result ≡ is_dense (system_of model.now) cube }
+{
+    let rules = model.rules(cube);
+    !rules.skipcheck && !rules.statements.as_slice().is_empty()
+}

@@ -1,0 +1,151 @@
+ghost use Rattle.std.specs.Prelude.{◌≡◌, ℕ, ◌≤◌, [], true, false, IsTrue, IsFalse, IfErr, OnOk, length};
+ghost use Rattle.cube_space.specs.Cells.{IsCell, cube_of, elements_of, is_leaf_cell};
+ghost use Rattle.cell_store.specs.Entries.{cells_of};
+ghost use Rattle.rule_laws.specs.Feeding.{FeedsBy, Feeds};
+ghost use Rattle.rule_model.specs.Conditions.{IsFeeder};
+ghost use Rattle.rule_model.specs.System.{system_of, feed_of};
+ghost use Rattle.feed_map.specs.FedCells.{most_fed};
+ghost use Rattle.feed_map.specs.Private.Gains.{Gains, StopsBy};
+ghost use Rattle.feed_map.specs.Private.Follows.{FeedsFrom, EndsChain, AreOpen, StandsFor};
+
+use crate::fault::FedFault;
+use crate::growth::Growth;
+use crate::leaves::add_leaves_of;
+use crate::source::is_source;
+use cell_store::Store;
+use cube_space::Space;
+use rule_laws::Reference;
+use rule_model::{Feeder, Model, place_of, target};
+
+/// Whether the model has feeders.
+pub fn has_feeders(model: &Model) -> bool
+    ensures { result ≡ false → (x c : ℕ) → Feeds (system_of model.now) x c → ⊥ }
+{
+    'each: for cube in 0..model.space().cubes() {
+        if !model.rules(cube).feeders.as_slice().is_empty() {
+            return true;
+        }
+    }
+    false
+}
+
+/// Finds what the stored cells feed.
+pub fn follow_stored(model: &Model, store: &Store, growth: &mut Growth) -> Result<(), FedFault>
+    ensures gains { OnOk result (Gains (FeedsFrom model.now (cells_of store.now)) growth.old growth.new) }
+    ensures stops { IfErr result (StopsBy (FeedsFrom model.now (cells_of store.now)) growth.old growth.new) }
+{
+    if !has_feeders(model) {
+        return Ok(());
+    }
+    let size = model.space().size();
+    let mut from = 0;
+    'each: while let Some(entry) = store.entry_from(from) {
+        if entry.cell >= size {
+            return Ok(());
+        }
+        follow(model, entry.cell, growth)?;
+        from = entry.cell + 1;
+    }
+    Ok(())
+}
+
+/// Finds what these cells feed.
+pub fn follow_cells(model: &Model, cells: &[u64], growth: &mut Growth) -> Result<(), FedFault>
+    ensures gains { OnOk result (Gains (FeedsFrom model.now cells.now) growth.old growth.new) }
+    ensures stops { IfErr result (StopsBy (FeedsFrom model.now cells.now) growth.old growth.new) }
+{
+    if !has_feeders(model) {
+        return Ok(());
+    }
+    'each: for place in 0..cells.len() {
+        follow(model, cells[place], growth)?;
+    }
+    Ok(())
+}
+
+/// Finds all that chains of feeds lead to from what is known or found.
+pub fn follow_opened(model: &Model, growth: &mut Growth) -> Result<(), FedFault>
+    requires open { AreOpen model.now growth.old }
+    requires few { length growth.old.known ≤ most_fed }
+    ensures gains { OnOk result (Gains (EndsChain model.now growth.old) growth.old growth.new) }
+    ensures stops { IfErr result (StopsBy (EndsChain model.now growth.old) growth.old growth.new) }
+    ensures none { OnOk result (growth.new.found.items ≡ []) }
+{
+    if !has_feeders(model) {
+        return growth.settle();
+    }
+    let mut place = 0;
+    'each: while let Some(cell) = growth.open_at(place)? {
+        follow(model, cell, growth)?;
+        place += 1;
+    }
+    Ok(())
+}
+
+// Finds what a cell feeds. A number that is no cell's feeds none.
+fn follow(model: &Model, cell: u64, growth: &mut Growth) -> Result<(), FedFault>
+    ensures gains { OnOk result (Gains (Feeds (system_of model.now) cell) growth.old growth.new) }
+    ensures stops { IfErr result (StopsBy (Feeds (system_of model.now) cell) growth.old growth.new) }
+{
+    if !is_leaf_cell(model.space(), cell) {
+        return Ok(());
+    }
+    let mut at = [0u32; 16];
+    let (cube, len) = place_of(model, cell, &mut at);
+    let feeders = model.rules(cube).feeders.as_slice();
+    'each: for n in 0..feeders.len() {
+        follow_by(model, &feeders[n], cube, &at[..len], cell, growth)?;
+    }
+    Ok(())
+}
+
+// Whether a number is a leaf cell's.
+fn is_leaf_cell(space: &Space, cell: u64) -> bool
+    ensures cell { IsTrue result → IsCell space.now cell }
+    ensures leaf { IsTrue result → is_leaf_cell space.now cell ≡ true }
+    ensures other { IsFalse result → IsCell space.now cell → is_leaf_cell space.now cell ≡ false }
+{
+    cell < space.size() && space.is_leaf(cell)
+}
+
+// Finds what a leaf cell of these elements feeds by one feeder of its cube.
+fn follow_by(
+    model: &Model,
+    feeder: &Feeder,
+    cube: u32,
+    elements: &[u32],
+    cell: u64,
+    growth: &mut Growth,
+) -> Result<(), FedFault>
+    requires cell { IsCell model.now.space cell }
+    requires leaf { is_leaf_cell model.now.space cell ≡ true }
+    requires cube { cube_of model.now.space cell ≡ cube }
+    requires elements { elements_of model.now.space cell ≡ elements.now }
+    requires feeder { IsFeeder model.now.space cube feeder.now }
+    ensures gains { OnOk result (Gains (FeedsBy (system_of model.now) (feed_of model.now.space cube feeder.now) cell)
+        growth.old growth.new) }
+    ensures stops { IfErr result (StopsBy (FeedsBy (system_of model.now) (feed_of model.now.space cube feeder.now) cell)
+        growth.old growth.new) }
+{
+    if !is_source(model, cube, &feeder.area, elements) {
+        return Ok(());
+    }
+    add_target(model, &feeder.target, cell, growth)
+}
+
+// Finds the leaf cells of the cell that a reference names from a cell.
+fn add_target(
+    model: &Model,
+    reference: &Reference,
+    cell: u64,
+    growth: &mut Growth,
+) -> Result<(), FedFault>
+    requires { IsCell model.now.space cell }
+    ensures gains { OnOk result (Gains (StandsFor model.now reference.now cell) growth.old growth.new) }
+    ensures stops { IfErr result (StopsBy (StandsFor model.now reference.now cell) growth.old growth.new) }
+{
+    match target(model, reference, cell) {
+        Some(target) => add_leaves_of(model, target, growth),
+        None => Ok(()),
+    }
+}

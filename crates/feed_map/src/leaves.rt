@@ -1,0 +1,210 @@
+ghost use Rattle.std.specs.Prelude.{◌≡◌, ◌+◌, ◌<◌, ◌≤◌, false, Some, IfSome, IfErr, OnOk, ◌∷◌, length, take, drop};
+ghost use Rattle.std.specs.Prelude.{slice_get, Contains};
+ghost use Rattle.dim_weights.specs.Table.{IsWeightsOf};
+ghost use Rattle.cube_space.specs.Layout.{axes_of, dims_of};
+ghost use Rattle.cube_space.specs.Cells.{IsCell, cube_of, elements_of, is_leaf_cell, cell_number};
+ghost use Rattle.rule_laws.specs.Feeding.{leaves_of};
+ghost use Rattle.rule_model.specs.System.{system_of};
+ghost use Rattle.feed_map.specs.Private.Gains.{Gains, StopsBy};
+ghost use Rattle.feed_map.specs.Private.Leaves.{candidates, candidate, leaf_at, AreRoots, GoesOn, GoesOnBy};
+
+use crate::fault::FedFault;
+use crate::growth::Growth;
+use cube_space::Space;
+use dim_core::Dimension;
+use dim_weights::Weights;
+use rule_model::{Model, place_of};
+
+/// Finds the leaf cells that a cell stands for: itself, or those below it.
+pub fn add_leaves_of(model: &Model, cell: u64, growth: &mut Growth) -> Result<(), FedFault>
+    requires { IsCell model.now.space cell }
+    ensures gains { OnOk result (Gains (Contains (leaves_of (system_of model.now) cell)) growth.old growth.new) }
+    ensures stops { IfErr result (StopsBy (Contains (leaves_of (system_of model.now) cell)) growth.old growth.new) }
+{
+    if model.space().is_leaf(cell) {
+        return growth.add(cell);
+    }
+    let mut roots = [0u32; 16];
+    let (cube, len) = place_of(model, cell, &mut roots);
+    add_below(model, cell, cube, &roots[..len], growth)
+}
+
+// Finds the leaf cells below a consolidated cell of these elements.
+fn add_below(
+    model: &Model,
+    cell: u64,
+    cube: u32,
+    elements: &[u32],
+    growth: &mut Growth,
+) -> Result<(), FedFault>
+    requires cell { IsCell model.now.space cell }
+    requires total { is_leaf_cell model.now.space cell ≡ false }
+    requires cube { cube ≡ cube_of model.now.space cell }
+    requires elements { elements.now ≡ elements_of model.now.space cell }
+    ensures gains { OnOk result (Gains (Contains (leaves_of (system_of model.now) cell)) growth.old growth.new) }
+    ensures stops { IfErr result (StopsBy (Contains (leaves_of (system_of model.now) cell)) growth.old growth.new) }
+{
+    let mut at = [0u32; 16];
+    add_product(model, cube, elements, 0, &mut at, growth)
+}
+
+/// Finds the cells of a cube whose elements are, up to a place, those of `at`, and from there on leaves that count in
+/// the roots: any leaf in a dimension that has no root.
+#[cycle(add_product)]
+pub fn add_product(
+    model: &Model,
+    cube: u32,
+    roots: &[u32],
+    place: usize,
+    at: &mut [u32; 16],
+    growth: &mut Growth,
+) -> Result<(), FedFault>
+    requires cube { cube < length model.now.space.cubes }
+    requires place { place ≤ length (dims_of model.now.space cube) }
+    requires roots { AreRoots roots.now place
+        (axes_of model.now.space.dimensions (drop place (dims_of model.now.space cube))) }
+    ensures gains { OnOk result (Gains (GoesOn model.now.space cube roots.now place
+        (axes_of model.now.space.dimensions (drop place (dims_of model.now.space cube))) (take place at.old))
+        growth.old growth.new) }
+    ensures stops { IfErr result (StopsBy (GoesOn model.now.space cube roots.now place
+        (axes_of model.now.space.dimensions (drop place (dims_of model.now.space cube))) (take place at.old))
+        growth.old growth.new) }
+    ensures front { take place at.new ≡ take place at.old }
+{
+    if place == rank_of(model, cube) {
+        return add_number(model.space(), cube, &at[..place], growth);
+    }
+    let (dimension, weights) = axis_of(model, cube, place);
+    let root = root_of(roots, place);
+    'each: for choice in 0..candidates(dimension, weights, root) {
+        let leaf = leaf_at(dimension, weights, root, choice);
+        add_choice(model, cube, roots, place, leaf, at, growth)?;
+    }
+    Ok(())
+}
+
+// The same where the element at the place is this leaf: none where there is no leaf.
+#[cycle(add_product)]
+fn add_choice(
+    model: &Model,
+    cube: u32,
+    roots: &[u32],
+    place: usize,
+    leaf: Option<u32>,
+    at: &mut [u32; 16],
+    growth: &mut Growth,
+) -> Result<(), FedFault>
+    requires cube { cube < length model.now.space.cubes }
+    requires place { place < length (dims_of model.now.space cube) }
+    requires roots { AreRoots roots.now (place + 1)
+        (axes_of model.now.space.dimensions (drop (place + 1) (dims_of model.now.space cube))) }
+    ensures gains { OnOk result (Gains (GoesOnBy model.now.space cube roots.now place
+        (axes_of model.now.space.dimensions (drop (place + 1) (dims_of model.now.space cube))) (take place at.old) leaf)
+        growth.old growth.new) }
+    ensures stops { IfErr result (StopsBy (GoesOnBy model.now.space cube roots.now place
+        (axes_of model.now.space.dimensions (drop (place + 1) (dims_of model.now.space cube))) (take place at.old) leaf)
+        growth.old growth.new) }
+    ensures front { take place at.new ≡ take place at.old }
+{
+    let Some(leaf) = leaf else {
+        return Ok(());
+    };
+    // a cube has no more dimensions than there are places
+    let _rank = rank_of(model, cube);
+    at[place] = leaf;
+    add_product(model, cube, roots, place + 1, at, growth)
+}
+
+// How many dimensions a cube has.
+fn rank_of(model: &Model, cube: u32) -> usize
+    requires { cube < length model.now.space.cubes }
+    ensures rank { result ≡ length (dims_of model.now.space cube) }
+    ensures few { length (dims_of model.now.space cube) ≤ 16 }
+{
+    let space = model.space();
+    space.shape(cube).dims.as_slice().len()
+}
+
+// The dimension of a cube at a place, and its coefficients.
+fn axis_of(model: &Model, cube: u32, place: usize) -> (&Dimension, &Weights)
+    requires cube { cube < length model.now.space.cubes }
+    requires place { place < length (dims_of model.now.space cube) }
+    ensures axis { axes_of model.now.space.dimensions (drop place (dims_of model.now.space cube))
+        ≡ result.0.now ∷ axes_of model.now.space.dimensions (drop (place + 1) (dims_of model.now.space cube)) }
+    ensures weights { IsWeightsOf result.0.now result.1.now }
+{
+    let space = model.space();
+    let dim = space.shape(cube).dims.as_slice()[place];
+    (space.dimension(dim), &model.weights()[dim as usize])
+}
+
+// The element at a place, if there is one.
+fn root_of(roots: &[u32], place: usize) -> Option<u32>
+    ensures { result ≡ slice_get roots.now place }
+{
+    roots.get(place).copied()
+}
+
+// Finds the cell of a cube with these elements, where there is one.
+fn add_number(
+    space: &Space,
+    cube: u32,
+    elements: &[u32],
+    growth: &mut Growth,
+) -> Result<(), FedFault>
+    ensures gains { OnOk result (Gains (λ cell. cell_number space.now cube elements.now ≡ Some cell)
+        growth.old growth.new) }
+    ensures stops { IfErr result (StopsBy (λ cell. cell_number space.now cube elements.now ≡ Some cell)
+        growth.old growth.new) }
+{
+    match space.number(cube, elements) {
+        Some(cell) => growth.add(cell),
+        None => Ok(()),
+    }
+}
+
+// How many elements there are to choose leaves from: those that count in the root, or all.
+fn candidates(dimension: &Dimension, weights: &Weights, root: Option<u32>) -> usize
+    requires weights { IsWeightsOf dimension.now weights.now }
+    requires root { IfSome root (λ element. element < length dimension.now.elements) }
+    ensures { result ≡ candidates dimension.now root }
+{
+    match root {
+        Some(element) => weights.leaves(element).len(),
+        None => dimension.len() as usize,
+    }
+}
+
+// The leaf at a place among them.
+fn leaf_at(dimension: &Dimension, weights: &Weights, root: Option<u32>, place: usize) -> Option<u32>
+    requires weights { IsWeightsOf dimension.now weights.now }
+    requires root { IfSome root (λ element. element < length dimension.now.elements) }
+    requires place { place < candidates dimension.now root }
+    ensures leaf { result ≡ leaf_at dimension.now root place }
+    ensures within { IfSome result (λ leaf. leaf < length dimension.now.elements) }
+{
+    let leaf = candidate(dimension, weights, root, place);
+    if dimension.is_leaf(leaf) {
+        Some(leaf)
+    } else {
+        None
+    }
+}
+
+// The element at a place among them.
+fn candidate(dimension: &Dimension, weights: &Weights, root: Option<u32>, place: usize) -> u32
+    requires weights { IsWeightsOf dimension.now weights.now }
+    requires root { IfSome root (λ element. element < length dimension.now.elements) }
+    requires place { place < candidates dimension.now root }
+    ensures element { candidate dimension.now root place ≡ Some result }
+    ensures within { result < length dimension.now.elements }
+{
+    match root {
+        Some(element) => weights.leaves(element)[place].0,
+        None => {
+            // a dimension says of itself how many elements it has at most
+            let _len = dimension.len();
+            place as u32
+        }
+    }
+}

@@ -1,0 +1,22 @@
+//! The fed cells of a version: which leaf cells may have a value other than 0 though nothing is stored in them.
+//!
+//! [`Fed`] is the list of them, rising. [`Fed::of`] finds them anew, and [`Fed::grown`] from those of a version in
+//! which fewer cells were stored. Both follow each cell by the feeders of its cube whose area has it, and a fed cell
+//! once.
+//!
+//! The feeder check promises that a leaf cell that is neither stored nor fed is 0: see [`cells_off_the_map_are_zero`].
+#![tactic(auto)]
+
+pub use fault::FedFault;
+pub use fed::Fed;
+pub use growth::MAX_FED;
+pub use laws::{cells_off_the_map_are_zero, fed_cells_are_leaf_cells};
+
+mod dense;
+mod fault;
+mod fed;
+mod follow;
+mod growth;
+mod laws;
+mod leaves;
+mod source;
