@@ -16,7 +16,8 @@ use Rattle.rule_evaluate.specs.Course.{course_before, passes, entered, sources_o
 use Rattle.rule_evaluate.specs.Inside.Scene.{Scene, sources_at, course_at, value_from, passes_from, entered_from, entered_on}
 use Rattle.rule_evaluate.proofs.CourseFacts.{course_is}
 use Rattle.rule_evaluate.proofs.FormulaWeights.{weight}
-use Rattle.rule_evaluate.proofs.StatementRuns.{run, run-none, run-some, slice_get-drop_at, drop_after}
+use Rattle.rule_laws.proofs.StatementFacts.{slice_get-drop_at, drop_after}
+use Rattle.rule_evaluate.proofs.StatementRuns.{run, run-none, run-some}
 
 -- how much there is to evaluate of the statements from a place on
 abbrev cost_step : List Rule → ℕ → Formula → ℕ

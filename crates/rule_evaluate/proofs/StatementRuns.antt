@@ -1,43 +1,17 @@
 -- What is made of statements in turn: the first that has a part for a cell, before those after it.
-use Rattle.std.proofs.Common.{◌≡◌, refl, sym, ◌∙◌, ap, arith, ℕ, zero, suc, ◌+◌, subst, Bool, true, false, List, [], ◌∷◌, drop, Option, None, Some}
-use Rattle.std.specs.Prelude.{is_some, option_and_then, slice_get, nat_lt, length, if◌then◌else◌}
-use Rattle.std.specs.List.{position, position_or_len}
-use Rattle.std.proofs.lemmas.Bool.Decides.{nat_tests}
+use Rattle.std.proofs.Common.{◌≡◌, refl, sym, ◌∙◌, ℕ, suc, subst, Bool, List, [], ◌∷◌, drop, Option, None, Some}
+use Rattle.std.specs.Prelude.{is_some, option_and_then, slice_get, if◌then◌else◌}
+use Rattle.std.specs.List.{position}
 use Rattle.std.specs.Option.{option_map, option_map_or}
 use Rattle.rule_laws.specs.declared.formula.Formula.{Formula}
 use Rattle.rule_laws.specs.RuleSystem.{RuleSystem, Rule, part_at}
+use Rattle.rule_laws.proofs.StatementFacts.{position-cons}
 
 some-none : (k : ℕ) → Some k ≡ None → ⊥
 some-none k e = cc
 
 some-same : {X : Type 0} (k n : X) → Some k ≡ Some n → k ≡ n
 some-same k n e = cc
-
-pub slice_get-drop_at : {X : Type 0} (xs : List X) (n k : ℕ) → slice_get (drop n xs) k ≡ slice_get xs (n + k)
-slice_get-drop_at xs zero k = let e : 0 + k ≡ k = omega arith in rw e refl
-slice_get-drop_at [] (suc n) k = refl
-slice_get-drop_at (x ∷ xs) (suc n) k = let e : suc n + k ≡ suc (n + k) = omega arith in rw e (slice_get-drop_at xs n k)
-
-pub drop_after : {X : Type 0} (xs : List X) (n k : ℕ) → drop (suc k) (drop n xs) ≡ drop (suc (n + k)) xs
-drop_after xs zero k = let e : suc (0 + k) ≡ suc k = omega arith in rw e refl
-drop_after [] (suc n) k = refl
-drop_after (x ∷ xs) (suc n) k = let e : suc (suc n + k) ≡ suc (suc (n + k)) = omega arith in rw e (drop_after xs n k)
-
--- the place of the first that passes, by the first element
-position-cons : {X : Type 0} (p : X → Bool) (x : X) (xs : List X)
-    → position p (x ∷ xs) ≡ (if p x then Some 0 else option_map (λ k. suc k) (position p xs))
-position-cons p x xs = by (p x) refl (nat_lt (position_or_len p xs) (length xs)) refl
-  where
-    by : (on : Bool) → p x ≡ on → (b : Bool) → nat_lt (position_or_len p xs) (length xs) ≡ b
-        → position p (x ∷ xs) ≡ (if p x then Some 0 else option_map (λ k. suc k) (position p xs))
-    by true on b is = let less : nat_lt 0 (suc (length xs)) ≡ true = grind (arith, nat_tests) in rw (on, less) refl
-    by false off true is =
-        let more : nat_lt (1 + position_or_len p xs) (suc (length xs)) ≡ true = grind (arith, nat_tests) in
-        let add : 1 + position_or_len p xs ≡ suc (position_or_len p xs) = omega arith in
-        rw (off, is, more) (ap Some add)
-    by false off false is =
-        let more : nat_lt (1 + position_or_len p xs) (suc (length xs)) ≡ false = grind (arith, nat_tests) in
-        rw (off, is, more) refl
 
 module _ (w : RuleSystem) (c : ℕ) {X : Type 0} (none : X) (step : List Rule → X → Formula → X) where
   abbrev pub run : List Rule → X
