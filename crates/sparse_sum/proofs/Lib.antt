@@ -1,0 +1,11 @@
+mod Firsts
+mod Fewness
+mod Heads
+mod Lefts
+mod Nexts
+mod Pairs
+mod Placed
+mod Searches
+mod Steps
+mod Totals
+mod Weights

@@ -1,0 +1,4 @@
+pub mod Inside
+pub mod Live
+pub mod Totals
+pub mod Walking
