@@ -1,5 +1,5 @@
 -- How many live cells there can be.
-use Rattle.std.proofs.Common.{◌≡◌, ◌∙◌, refl, sym, ap, arith, ℕ, ◌+◌, ◌<◌, ◌≤◌, zero, suc, eqb, inl, inr, Bool, true, false, ◌||◌, ℤ, List, [], ◌∷◌, length, filter}
+use Rattle.std.proofs.Common.{◌≡◌, refl, arith, ℕ, ◌+◌, ◌<◌, ◌≤◌, zero, suc, eqb, Bool, true, false, ◌||◌, ℤ, List, [], ◌∷◌, length, filter}
 use Rattle.std.specs.List.{range_with_len}
 use Rattle.std.proofs.lemmas.Bool.{eqb-true, ne_eqb}
 use Rattle.dim_weights.specs.Table.{is_nonzero, nonzero_among}

@@ -1,11 +1,11 @@
 -- The first of some dimensions, and the others.
-use Rattle.std.proofs.Common.{◌≡◌, ◌∙◌, refl, sym, ap, subst, arith, ℕ, zero, suc, ◌+◌, ◌*◌, ◌/◌, ◌<◌, ◌≤◌, max, true, ℤ, pos, ◌*ℤ◌, unsigned_abs, List, [], ◌∷◌, length, map, get_or, drop, take, ◌-◌, Some, find, nat_lt, Bool, false, inl, inr, Option, None, MatchOption, IfSome, leb}
+use Rattle.std.proofs.Common.{◌≡◌, ◌∙◌, refl, sym, ap, subst, arith, ℕ, zero, suc, ◌+◌, ◌*◌, ◌/◌, ◌<◌, ◌≤◌, true, ℤ, ◌*ℤ◌, unsigned_abs, List, [], ◌∷◌, length, map, get_or, drop, take, ◌-◌, Some, find, nat_lt, Bool, false, inl, inr, Option, None, MatchOption, IfSome, leb}
 use Rattle.std.specs.List.{All, AllZip, range_with_len, slice_get, cons_option}
 use Rattle.std.proofs.Math.Nat.{mul-le-mul}
 use Rattle.std.proofs.lemmas.Bool.{and_parts, ltb-true, cases_eq}
 use Rattle.std.proofs.lemmas.Int.{unsigned_abs-mul}
 use Rattle.std.proofs.lemmas.Nat.{div-mul-add}
-use Rattle.std.proofs.lemmas.List.Elements.{All-head, All-tail}
+use Rattle.std.proofs.lemmas.List.Elements.{All-tail}
 use Rattle.dim_core.specs.Outline.{Outline}
 use Rattle.dim_weights.specs.Coefficients.{coef}
 use Rattle.dim_weights.specs.Table.{IsWeightsOf, leaves_of, greatest_in, greatest_of}

@@ -1,8 +1,7 @@
 -- The next stored or fed cell.
-use Rattle.std.proofs.Common.{◌≡◌, ◌≢◌, ◌∙◌, refl, sym, ap, subst, arith, ℕ, ◌+◌, ◌<◌, ◌≤◌, zero, suc, leb, eqb, inl, inr, ◌⊎◌, Bool, true, false, ◌||◌, ℤ, List, [], ◌∷◌, map, Option, None, Some, find}
-use Rattle.std.specs.Option.{option_map}
-use Rattle.std.proofs.lemmas.Bool.{cases_lt, cases_eq, eqb-true, eq-eqb, ne_eqb}
-use Rattle.std.proofs.lemmas.Bool.Decides.{leb_tells, nat_tests}
+use Rattle.std.proofs.Common.{◌≡◌, ◌≢◌, ◌∙◌, refl, sym, ap, subst, arith, ℕ, ◌<◌, ◌≤◌, leb, eqb, inl, inr, Bool, true, false, List, [], ◌∷◌, map, Option, None, Some, find}
+use Rattle.std.proofs.lemmas.Bool.{cases_lt, eq-eqb, ne_eqb}
+use Rattle.std.proofs.lemmas.Bool.Decides.{leb_tells}
 use Rattle.std.proofs.lemmas.List.{map-id}
 use Rattle.cell_store.specs.declared.entry.Entry.{Entry}
 use Rattle.cube_fixed.specs.declared.money.Money.{Money}
@@ -24,8 +23,8 @@ module _ {X : Type 0} (key : X → ℕ) (k : ℕ) where
   next-none (x ∷ xs) is n low = elim (leb_tells k (key x)) [
     | inl t ↦ (let found : Some x ≡ None = rw t.0 at is in absurd (cc))
     | inr t ↦ (let other : eqb (key x) n ≡ false = ne_eqb (key x) n (λ same. omega (arith, low, t.1, same)) in
-      let rest : find (λ x. leb k (key x)) xs ≡ None = rw t.0 at is in
-      rw other (next-none xs rest n low))
+        let rest : find (λ x. leb k (key x)) xs ≡ None = rw t.0 at is in
+        rw other (next-none xs rest n low))
   ]
 
   pub next-some : (xs : List X) (found : X) → Rises (map key xs) → find (λ x. leb k (key x)) xs ≡ Some found
@@ -34,8 +33,8 @@ module _ {X : Type 0} (key : X → ℕ) (k : ℕ) where
   next-some (x ∷ xs) found rises is = elim (leb_tells k (key x)) [
     | inl t ↦ (let own : Some x ≡ Some found = rw t.0 at is in let same : x ≡ found = cc in subst (λ (y : X). (k ≤ key y) × (is_among (map key (x ∷ xs)) (key y) ≡ true) × ((n : ℕ) → k ≤ n → n < key y → is_among (map key (x ∷ xs)) n ≡ false)) same (here t.1))
     | inr t ↦ (let rest : find (λ x. leb k (key x)) xs ≡ Some found = rw t.0 at is in
-      let later = next-some xs found rises.1 rest in
-      (later.0, among later.1, λ n low less. (let other : eqb (key x) n ≡ false = ne_eqb (key x) n (λ same. omega (arith, low, t.1, same)) in rw other (later.2 n low less))))
+        let later = next-some xs found rises.1 rest in
+        (later.0, among later.1, λ n low less. (let other : eqb (key x) n ≡ false = ne_eqb (key x) n (λ same. omega (arith, low, t.1, same)) in rw other (later.2 n low less))))
   ]
     where
       here : k ≤ key x → (k ≤ key x) × (is_among (map key (x ∷ xs)) (key x) ≡ true) × ((n : ℕ) → k ≤ n → n < key x → is_among (map key (x ∷ xs)) n ≡ false)
@@ -65,12 +64,12 @@ unfolding stored_in
 stored-some [] k found rises is = absurd (cc)
 stored-some (e ∷ entries) k found rises is = elim (leb_tells k e.cell) [
   | inl t ↦ (let own : Some e ≡ Some found = rw t.0 at is in let same : e ≡ found = cc in
-    let at : eqb e.cell found.cell ≡ true = eq-eqb e.cell found.cell (ap (λ (x : Entry). x.cell) same) in
-    rw at (ap (λ (x : Entry). Some x.number) same))
+      let at : eqb e.cell found.cell ≡ true = eq-eqb e.cell found.cell (ap (λ (x : Entry). x.cell) same) in
+      rw at (ap (λ (x : Entry). Some x.number) same))
   | inr t ↦ (let rest : find (λ e. leb k e.cell) entries ≡ Some found = rw t.0 at is in
-    let later = next-some (λ (e : Entry). e.cell) k entries found rises.1 rest in
-    let other : eqb e.cell found.cell ≡ false = ne_eqb e.cell found.cell (λ same. omega (arith, later.0, t.1, same)) in
-    rw other (stored-some entries k found rises.1 rest))
+      let later = next-some (λ (e : Entry). e.cell) k entries found rises.1 rest in
+      let other : eqb e.cell found.cell ≡ false = ne_eqb e.cell found.cell (λ same. omega (arith, later.0, t.1, same)) in
+      rw other (stored-some entries k found rises.1 rest))
 ]
 
 -- neither is live where no one is
@@ -99,12 +98,14 @@ module _ (entries : List Entry) (fed : List ℕ) (k : ℕ) where
       → IsNext live k f × (stored_in entries f ≡ None)
   next-fed f rises is none =
       let found = fed-some fed k f rises is in
-      let own : is_among (cells_of entries) f ≡ false = none f found.0 (omega arith) in
-      (record {
-        least = found.0;
-        passes = rw (own, found.1) refl;
-        clear = λ n low less. quiet-both (cells_of entries) fed n (none n low (omega (arith, less))) (found.2 n low less);
-      }, stored-none entries f own)
+      let own : is_among (cells_of entries) f ≡ false = none f found.0 (omega arith) in (
+        record {
+          least = found.0;
+          passes = rw (own, found.1) refl;
+          clear = λ n low less. quiet-both (cells_of entries) fed n (none n low (omega (arith, less))) (found.2 n low less);
+        },
+        stored-none entries f own,
+      )
 
   pub next-fed-only : (f : ℕ) → Rises fed → find (λ c. leb k c) fed ≡ Some f → find (λ e. leb k e.cell) entries ≡ None → IsNext live k f × (stored_in entries f ≡ None)
   next-fed-only f rises is none = next-fed f rises is (λ n low upto. next-none (λ (e : Entry). e.cell) k entries none n low)
@@ -119,12 +120,14 @@ module _ (entries : List Entry) (fed : List ℕ) (k : ℕ) where
   next-stored : (e : Entry) → Rises (cells_of entries) → find (λ e. leb k e.cell) entries ≡ Some e → ((n : ℕ) → k ≤ n → n < e.cell → is_among fed n ≡ false)
       → IsNext live k e.cell × (stored_in entries e.cell ≡ Some e.number)
   next-stored e up is none =
-      let found = next-some (λ (x : Entry). x.cell) k entries e up is in
-      (record {
-        least = found.0;
-        passes = rw found.1 refl;
-        clear = λ n low less. quiet-both (cells_of entries) fed n (found.2 n low less) (none n low less);
-      }, stored-some entries k e up is)
+      let found = next-some (λ (x : Entry). x.cell) k entries e up is in (
+        record {
+          least = found.0;
+          passes = rw found.1 refl;
+          clear = λ n low less. quiet-both (cells_of entries) fed n (found.2 n low less) (none n low less);
+        },
+        stored-some entries k e up is,
+      )
 
   pub next-stored-only : (e : Entry) → Rises (cells_of entries) → find (λ e. leb k e.cell) entries ≡ Some e → find (λ c. leb k c) fed ≡ None
       → IsNext live k e.cell × (stored_in entries e.cell ≡ Some e.number)
@@ -141,9 +144,9 @@ module _ (entries : List Entry) (fed : List ℕ) (k : ℕ) where
       → (f < e.cell → first ≡ (f, None)) → (e.cell ≤ f → first ≡ (e.cell, Some e.number)) → IsNext live k first.0 × (first.1 ≡ stored_in entries first.0)
   next-of-both e f first up rises is other fed_first stored_first = elim (cases_lt f e.cell) [
     | inl less ↦ (let found = next-fed-first f e up rises other is less in
-      subst IsAnswer (sym (fed_first less)) (found.0, sym found.1))
+        subst IsAnswer (sym (fed_first less)) (found.0, sym found.1))
     | inr le ↦ (let found = next-stored-first e f up rises is other le in
-      subst IsAnswer (sym (stored_first le)) (found.0, sym found.1))
+        subst IsAnswer (sym (stored_first le)) (found.0, sym found.1))
   ]
     where
       IsAnswer : ℕ × Option Money → Type 0

@@ -1,12 +1,12 @@
 -- The first of the pairs of numbers that count.
-use Rattle.std.proofs.Common.{◌≡◌, ◌≢◌, ◌∙◌, refl, sym, ap, subst, arith, ℕ, ◌+◌, ◌<◌, ◌≤◌, zero, suc, leb, inl, inr, ◌⊎◌, Bool, true, false, ℤ, pos, negsuc, List, [], ◌∷◌, Option, None, Some, find, cond, length, get_or, drop, take, ◌-◌, ltb, map}
+use Rattle.std.proofs.Common.{◌≡◌, ◌≢◌, ◌∙◌, refl, sym, ap, subst, arith, ℕ, ◌+◌, ◌<◌, ◌≤◌, zero, suc, leb, inl, inr, ◌⊎◌, Bool, true, false, ℤ, pos, negsuc, List, [], ◌∷◌, Option, None, Some, find, length, get_or, drop, take, ◌-◌, ltb, map}
 use Rattle.std.specs.List.{range_with_len, slice_get}
 use Rattle.std.specs.List.Sorted.{IsNonDecreasingBy, IsPartitionedBy, IsPartitionPoint}
 use Rattle.std.proofs.lemmas.Bool.{ltb-true}
 use Rattle.std.proofs.lemmas.List.{get_or-map, length-map}
 use Rattle.std.proofs.lemmas.List.Kept.{AllPairs-from_increasing}
 use Rattle.std.proofs.lemmas.List.Sorted.{IsPartitionedBy-ltb}
-use Rattle.std.proofs.lemmas.Bool.{cases_lt, cases_eq}
+use Rattle.std.proofs.lemmas.Bool.{cases_eq}
 use Rattle.std.proofs.lemmas.Bool.Decides.{leb_tells, nat_tests}
 use Rattle.dim_weights.specs.Table.{is_nonzero, nonzero_among, IsRising}
 use Rattle.sparse_sum.specs.Inside.First.{IsClear, IsFirst}
@@ -118,11 +118,11 @@ rising-order : (ps : List (ℕ × ℤ)) → IsRising ps → IsNonDecreasingBy (�
 rising-order ps rising i j d le low = elim (cases_eq i j) [
   | inl same ↦ (let e : (get_or ps i d).0 ≡ (get_or ps j d).0 = ap (λ (n : ℕ). (get_or ps n d).0) same in omega (arith, e))
   | inr apart ↦ (let pairs = AllPairs-from_increasing (map (λ (p : ℕ × ℤ). p.0) ps) rising in
-    let long = length-map ps (λ (p : ℕ × ℤ). p.0) in
-    let less = pairs i j 0 (omega (arith, le, apart)) (omega (arith, low, long)) in
-    let one = get_or-map (λ (p : ℕ × ℤ). p.0) ps i d 0 (omega (arith, le, low)) in
-    let two = get_or-map (λ (p : ℕ × ℤ). p.0) ps j d 0 low in
-    omega (arith, less, one, two))
+      let long = length-map ps (λ (p : ℕ × ℤ). p.0) in
+      let less = pairs i j 0 (omega (arith, le, apart)) (omega (arith, low, long)) in
+      let one = get_or-map (λ (p : ℕ × ℤ). p.0) ps i d 0 (omega (arith, le, low)) in
+      let two = get_or-map (λ (p : ℕ × ℤ). p.0) ps j d 0 low in
+      omega (arith, less, one, two))
 ]
 
 pub parted-by : (ps : List (ℕ × ℤ)) (k : ℕ) → IsRising ps → IsPartitionedBy (λ (p : ℕ × ℤ). ltb p.0 k) ps

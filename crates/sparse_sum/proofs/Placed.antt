@@ -1,12 +1,11 @@
 -- What is known of a cell and of the dimensions of its cube, and what is found in the cube.
-use Rattle.std.proofs.Common.{◌≡◌, ◌≢◌, ◌∙◌, refl, sym, ap, subst, arith, ℕ, ◌+◌, ◌-◌, ◌<◌, ◌≤◌, true, List, ◌++◌, length, map, get_or, take, Some, inl, inr, pos, ℤ, unsigned_abs, w64, to_z, of_z}
+use Rattle.std.proofs.Common.{◌≡◌, ◌∙◌, sym, ap, subst, arith, ℕ, ◌+◌, ◌-◌, ◌<◌, ◌≤◌, true, List, ◌++◌, length, map, get_or, take, Some, inl, inr, pos, ℤ, unsigned_abs, w64, to_z, of_z}
 use mir.Val.{SFits}
 use Rattle.std.proofs.lemmas.Int.{to_z-of_z, ints}
 use Rattle.std.specs.List.{All, slice_get}
 use Rattle.std.proofs.lemmas.Bool.{cases_lt}
 use Rattle.std.proofs.lemmas.List.{get_or-map, take_at}
 use Rattle.std.proofs.lemmas.Option.{slice_get_within, get_or_from_slice_get}
-use Rattle.dim_core.specs.Outline.{Outline}
 use Rattle.cube_space.specs.declared.shape.CubeShape.{CubeShape}
 use Rattle.cube_space.specs.Radix.{product, are_digits}
 use Rattle.cube_space.specs.Layout.{Layout, dims_of, axes, axes_of, sizes_of}

@@ -1,15 +1,13 @@
 -- The search for the first number that counts, at the first of some dimensions.
-use Rattle.std.proofs.Common.{◌≡◌, ◌≢◌, ◌∙◌, refl, sym, ap, subst, arith, ℕ, zero, suc, ◌+◌, ◌*◌, ◌/◌, ◌%◌, ◌<◌, ◌≤◌, ◌^◌, true, ℤ, pos, ◌*ℤ◌, unsigned_abs, List, [], ◌∷◌, length, map, get_or, drop, Option, Some, None, MatchOption, IfSome, is_some, false}
-use Rattle.std.specs.List.{All, AllZip, slice_get}
+use Rattle.std.proofs.Common.{◌≡◌, ◌≢◌, ◌∙◌, refl, sym, ap, subst, arith, ℕ, zero, suc, ◌+◌, ◌*◌, ◌/◌, ◌%◌, ◌<◌, ◌≤◌, true, ℤ, pos, ◌*ℤ◌, unsigned_abs, List, ◌∷◌, length, map, get_or, Option, Some, None, MatchOption, IfSome, is_some, false}
 use Rattle.std.specs.Option.{option_map}
 use Rattle.std.proofs.Math.Nat.{mul-le-mul}
-use Rattle.std.proofs.lemmas.Nat.{mul-add-lt, div-mul-add, div_below, mod_below, div-add-mod'}
+use Rattle.std.proofs.lemmas.Nat.{mul-add-lt, div_below, mod_below, div-add-mod'}
 use Rattle.dim_core.specs.Outline.{Outline}
 use Rattle.dim_weights.specs.Coefficients.{coef}
-use Rattle.dim_weights.specs.Table.{IsWeightsOf}
 use Rattle.cube_space.specs.Layout.{axes_of, sizes_of}
-use Rattle.cube_space.specs.Radix.{product, are_digits}
-use Rattle.rule_model.specs.Weights.{greatest_coef, max_weight_product}
+use Rattle.cube_space.specs.Radix.{product}
+use Rattle.rule_model.specs.Weights.{greatest_coef}
 use Rattle.sparse_sum.specs.Inside.First.{IsClear, IsFirst}
 use Rattle.sparse_sum.specs.Inside.Numbers.{weight_at}
 use Rattle.sparse_sum.proofs.Firsts.{by_rows, IsRowClear, row-none, row-past, rows-clear, all-clear, first-in, size_positive}

@@ -1,5 +1,5 @@
 -- A step of a walk: what is left before and after it.
-use Rattle.std.proofs.Common.{◌≡◌, ◌≢◌, ◌∙◌, refl, sym, ap, subst, arith, ℕ, ◌+◌, ◌<◌, ◌≤◌, inl, inr, Bool, true, ℤ, pos, List, [], ◌∷◌, filter, leb}
+use Rattle.std.proofs.Common.{◌≡◌, ◌≢◌, ◌∙◌, sym, ap, subst, arith, ℕ, ◌+◌, ◌≤◌, inl, inr, Bool, true, ℤ, pos, List, [], ◌∷◌, filter, leb}
 use Rattle.std.specs.List.{range_with_len}
 use Rattle.std.proofs.lemmas.Bool.{cases_lt}
 use Rattle.cube_space.specs.Layout.{Layout}

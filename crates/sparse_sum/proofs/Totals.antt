@@ -1,13 +1,13 @@
 -- A total, as it grows.
-use Rattle.std.proofs.Common.{◌≡◌, ◌∙◌, refl, sym, ap, arith, ℕ, zero, suc, ◌+◌, ◌<◌, ◌≤◌, leb, true, ℤ, List, [], ◌∷◌, ◌++◌, length, map, filter, append_assoc}
+use Rattle.std.proofs.Common.{◌≡◌, ◌∙◌, refl, sym, ap, arith, ℕ, ◌+◌, leb, true, ℤ, List, [], ◌∷◌, ◌++◌, length, map, filter}
 use Rattle.std.proofs.lemmas.Bool.Decides.{nat_tests}
-use Rattle.std.specs.Prelude.{fold, Result, Ok, Err}
+use Rattle.std.specs.Prelude.{fold, Result, Ok}
 use Rattle.cube_fixed.specs.declared.value.Value.{Value}
-use Rattle.cube_fixed.specs.Total.{Total, no_terms, with_term}
+use Rattle.cube_fixed.specs.Total.{Total, with_term}
 use Rattle.cube_space.specs.Layout.{Layout}
 use Rattle.sparse_sum.specs.Live.{live_below}
-use Rattle.sparse_sum.specs.Walking.{Progress, begun, left}
-use Rattle.sparse_sum.specs.Totals.{Answered, after_calls, total_of}
+use Rattle.sparse_sum.specs.Walking.{begun, left}
+use Rattle.sparse_sum.specs.Totals.{Answered, after_calls}
 
 pub fold-push : {A B : Type 0} (f : B → A → B) (b : B) (xs : List A) (x : A) → fold f b (xs ++ x ∷ []) ≡ f (fold f b xs) x
 fold-push f b [] x = refl

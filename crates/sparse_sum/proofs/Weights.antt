@@ -1,8 +1,8 @@
 -- The weight of a leaf cell, by its number among the cells of its cube.
-use Rattle.std.proofs.Common.{◌≡◌, ◌≢◌, ◌∙◌, refl, sym, ap, subst, arith, ℕ, ◌+◌, ◌-◌, ◌*◌, ◌/◌, ◌%◌, ◌<◌, ◌≤◌, zero, suc, inl, inr, ◌⊎◌, Bool, true, false, eqb, nat_lt, ℤ, pos, ◌*ℤ◌, List, [], ◌∷◌, length}
-use Rattle.std.specs.List.{All, list_all, zip, range_with_len}
+use Rattle.std.proofs.Common.{◌≡◌, ◌≢◌, ◌∙◌, refl, sym, ap, subst, arith, ℕ, ◌+◌, ◌*◌, ◌%◌, ◌<◌, ◌≤◌, suc, inl, inr, true, eqb, nat_lt, ℤ, pos, ◌*ℤ◌, List, [], ◌∷◌, length}
+use Rattle.std.specs.List.{All}
 use Rattle.std.proofs.Math.IntN.{*ℤ-zero, zero-*ℤ}
-use Rattle.std.proofs.lemmas.Bool.{and_parts, ltb-true, eq-eqb, ne_eqb, cases_lt, cases_eq}
+use Rattle.std.proofs.lemmas.Bool.{and_parts, ltb-true, eq-eqb, ne_eqb, cases_lt}
 use Rattle.std.proofs.lemmas.List.Elements.{All-head, All-tail}
 use Rattle.std.proofs.lemmas.Nat.{div-mul-add, mod-mul-add}
 use Rattle.dim_core.specs.Outline.{Outline, IsDimension, IsElement, components_of}
@@ -11,7 +11,7 @@ use Rattle.dim_weights.specs.Table.{is_nonzero}
 use Rattle.dim_weights.proofs.Equations.{only-leaves}
 use Rattle.cube_space.specs.Radix.{product, are_digits, number_of}
 use Rattle.cube_space.specs.Layout.{Layout, axes, sizes, sizes_of}
-use Rattle.cube_space.specs.Cells.{IsSpace, IsCell, cube_of, elements_of, cell_count, first_cell, size_of, is_leaf, are_leaves, is_leaf_cell}
+use Rattle.cube_space.specs.Cells.{IsSpace, IsCell, cube_of, elements_of, cell_count, first_cell, is_leaf, are_leaves, is_leaf_cell}
 use Rattle.cube_space.proofs.Radix.{number-below}
 use Rattle.cube_space.proofs.Places.{cell-place, first_cell-next, first_cell-least, run_within}
 use Rattle.rule_model.specs.Weights.{coef_product, weight}
@@ -67,11 +67,11 @@ module _ (space : Layout) (cell : ℕ) where
     -- no cell outside the cube counts
     pub weight-outside : (x : ℕ) → IsCell space x → (first_cell space cube ≤ x → x < first_cell space cube + cell_count space cube → ⊥) → weight space cell x ≡ pos 0
     weight-outside x here out = weight-other x (λ same. (
-      let run = in-run x here in
-      let e : cube_of space x ≡ cube = sym same ∙ sym own in
-      let InRun : ℕ → Type 0 = λ (k : ℕ). (first_cell space k ≤ x) × (x < first_cell space k + cell_count space k) in
-      let moved : (first_cell space cube ≤ x) × (x < first_cell space cube + cell_count space cube) = subst InRun e run in
-      out moved.0 moved.1))
+        let run = in-run x here in
+        let e : cube_of space x ≡ cube = sym same ∙ sym own in
+        let InRun : ℕ → Type 0 = λ (k : ℕ). (first_cell space k ≤ x) × (x < first_cell space k + cell_count space k) in
+        let moved : (first_cell space cube ≤ x) × (x < first_cell space cube + cell_count space cube) = subst InRun e run in
+        out moved.0 moved.1))
 
     pub weight-inside : (n : ℕ) → cube < length space.cubes → n < cell_count space cube → weight space cell (first_cell space cube + n) ≡ weight_at (axes space cube) (elements_of space cell) n
     weight-inside n there low =

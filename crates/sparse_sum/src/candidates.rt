@@ -135,7 +135,7 @@ fn row_from(
     requires element { (d : Outline) → slice_get space.now.dimensions dim ≡ Some d → element < length d.elements }
     ensures first { (d : Outline) → slice_get space.now.dimensions dim ≡ Some d
         → MatchOption result (IsClear (coef d element) from (length d.elements))
-            (λ row. IsFirst (coef d element) (length d.elements) from row) }
+        (λ row. IsFirst (coef d element) (length d.elements) from row) }
     ensures size { (d : Outline) → slice_get space.now.dimensions dim ≡ Some d
         → IfSome result (λ row. unsigned_abs row.1 ≤ greatest_coef d) }
 {

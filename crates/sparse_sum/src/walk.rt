@@ -67,7 +67,7 @@ impl Walk {
         requires product { weight_product space.now (cube_of space.now self.old.cell) ≤ max_weight_product }
         ensures left { MatchOption result (left space.now (cells_of stored.now) (W.cells fed.now) self.old ≡ [])
             (λ leaf. left space.now (cells_of stored.now) (W.cells fed.now) self.old
-                ≡ (leaf.cell, leaf.weight) ∷ left space.now (cells_of stored.now) (W.cells fed.now) self.new) }
+            ≡ (leaf.cell, leaf.weight) ∷ left space.now (cells_of stored.now) (W.cells fed.now) self.new) }
         ensures weight { IfSome result (λ leaf. leaf.weight ≡ weight space.now self.old.cell leaf.cell) }
         ensures stored { IfSome result (λ leaf. leaf.stored ≡ stored_in stored.now leaf.cell) }
         ensures leaf { IfSome result (λ leaf. IsCell space.now leaf.cell) }
@@ -109,8 +109,8 @@ impl Walk {
         requires product { weight_product space.now (cube_of space.now self.old.cell) ≤ max_weight_product }
         ensures left { MatchOption result (left space.now (cells_of stored.now) (W.cells fed.now) self.old ≡ [])
             (λ cell. left space.now (cells_of stored.now) (W.cells fed.now) self.old
-                ≡ (cell, weight space.now self.old.cell cell)
-                ∷ left space.now (cells_of stored.now) (W.cells fed.now) self.new) }
+            ≡ (cell, weight space.now self.old.cell cell)
+            ∷ left space.now (cells_of stored.now) (W.cells fed.now) self.new) }
         ensures leaf { IfSome result (λ cell. IsCell space.now cell) }
         ensures ended { IfNone result (self.new ≡ self.old) }
         ensures cell { self.new.cell ≡ self.old.cell }
@@ -160,8 +160,8 @@ fn next_leaf<W: CellSet>(
     requires product { weight_product space.now (cube_of space.now cell) ≤ max_weight_product }
     ensures left { MatchOption result (live_from space.now (cells_of stored.now) (W.cells fed.now) cell from ≡ [])
         (λ leaf. live_from space.now (cells_of stored.now) (W.cells fed.now) cell from
-            ≡ (leaf.cell, leaf.weight)
-            ∷ live_from space.now (cells_of stored.now) (W.cells fed.now) cell (leaf.cell + 1)) }
+        ≡ (leaf.cell, leaf.weight)
+        ∷ live_from space.now (cells_of stored.now) (W.cells fed.now) cell (leaf.cell + 1)) }
     ensures weight { IfSome result (λ leaf. leaf.weight ≡ weight space.now cell leaf.cell) }
     ensures stored { IfSome result (λ leaf. leaf.stored ≡ stored_in stored.now leaf.cell) }
     ensures leaf { IfSome result (λ leaf. IsCell space.now leaf.cell) }

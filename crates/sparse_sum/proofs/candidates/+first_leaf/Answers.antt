@@ -2,8 +2,6 @@
 use Rattle.std.proofs.Common.{rules, ◌≡◌, ◌∙◌, sym, ap, arith, ◌<◌, ◌≤◌, ◌^◌, ◌/◌, ◌%◌, length, is_some, true, false}
 use Rattle.cube_space.specs.Layout.{axes_of, sizes_of}
 use Rattle.cube_space.specs.Radix.{product}
-use Rattle.sparse_sum.specs.Inside.First.{IsClear}
-use Rattle.sparse_sum.specs.Inside.Numbers.{weight_at}
 use Rattle.sparse_sum.proofs.Heads.{head, at-some}
 use Rattle.sparse_sum.proofs.Searches.{IsNode, some, no-row, no-later-row, later-row, next-row, own-rows, past-none, nothing-from, others-small, join-size, join-fits, join-room, rest-low}
 use Rattle.sparse_sum.proofs.candidates.+first_leaf.Goals.{After-row_from}

@@ -1,5 +1,5 @@
 -- A binary search ends at the first pair at or above the number.
-use Rattle.std.proofs.Common.{rules, ◌≡◌, ◌∙◌, ap, ltb}
+use Rattle.std.proofs.Common.{rules, ◌∙◌, ap, ltb}
 use Rattle.std.specs.List.{slice_get}
 use Rattle.std.proofs.lemmas.List.Sorted.{IsPartitionPoint-from_clause}
 use Rattle.sparse_sum.proofs.Pairs.{parted-by, first-of-point, up-to-end}

@@ -1,10 +1,7 @@
 -- The search in the cube of the cell.
-use Rattle.std.proofs.Common.{rules, ◌≡◌, ◌∙◌, sym, ap, subst, arith, ◌<◌, ◌≤◌, ◌+◌, length, take, w64, to_z, of_z, unsigned_abs}
-use Rattle.std.proofs.lemmas.Int.{to_z-of_z, ints}
-use mir.Val.{SFits}
+use Rattle.std.proofs.Common.{rules, ◌∙◌, arith, ◌<◌, ◌≤◌, ◌+◌, unsigned_abs}
 use Rattle.cube_space.specs.Cells.{size_of}
 use Rattle.sparse_sum.specs.Inside.First.{IsFirst}
-use Rattle.rule_model.specs.Weights.{weight}
 use Rattle.sparse_sum.proofs.Placed.{IsPlaced, cube-there, placed, none-in, none-past, first-of, cells-of, run-within, word-is}
 use Rattle.sparse_sum.proofs.candidates.leaf_from.Goals.{After-as_slice-dims}
 use Rattle.sparse_sum.proofs.candidates.leaf_from.Goals as goal

@@ -1,8 +1,6 @@
 -- The leaves of the element are those with a coefficient other than 0.
-use Rattle.std.proofs.Common.{rules, ◌≡◌, ◌∙◌, sym, ap, subst, arith, leb, find, Option, Some, None, MatchOption, IfSome, unsigned_abs, ◌≤◌, length}
-use Rattle.dim_core.specs.Outline.{Outline}
-use Rattle.dim_weights.specs.Coefficients.{coef}
-use Rattle.dim_weights.specs.Table.{IsWeightsOf, leaves_of}
+use Rattle.std.proofs.Common.{◌≡◌, ◌∙◌, sym, ap, subst, arith, leb, find}
+use Rattle.dim_weights.specs.Table.{IsWeightsOf}
 use Rattle.sparse_sum.proofs.Heads.{row-of, row-at, row-fits}
 use Rattle.sparse_sum.proofs.candidates.row_from.Goals as goal
 

@@ -1,6 +1,5 @@
 -- Which of the two comes first.
-use Rattle.std.proofs.Common.{◌≡◌, sym, ◌∙◌, ap, subst, arith, ◌≤◌, ◌<◌, Some, None}
-use Rattle.std.proofs.lemmas.Bool.{cases_lt}
+use Rattle.std.proofs.Common.{sym}
 use Rattle.cell_store.proofs.Rising.{Rises-from_increasing}
 use Rattle.sparse_sum.proofs.Nexts.{live-none, next-fed-only, next-stored-only, next-of-both}
 use Rattle.sparse_sum.proofs.live.next_live.Goals as goal

@@ -1,14 +1,13 @@
 -- One more leaf cell is asked for, and its value added.
-use Rattle.std.proofs.Common.{◌≡◌, ◌∙◌, refl, sym, ap, arith, ◌+◌, ◌≤◌, length, map, [], ◌∷◌, ◌++◌, to_z, of_z, w64}
+use Rattle.std.proofs.Common.{◌≡◌, ◌∙◌, refl, sym, ap, arith, ◌+◌, length, map, [], ◌∷◌, ◌++◌}
 use Rattle.std.specs.Prelude.{Ok}
 use Rattle.std.proofs.lemmas.List.{length-map}
 use Rattle.cell_store.specs.Entries.{cells_of}
 use Rattle.cube_fixed.specs.Total.{no_terms, with_term}
 use Rattle.sparse_sum.specs.Live.{live_below, live_from}
 use Rattle.sparse_sum.specs.Walking.{left}
-use Rattle.sparse_sum.specs.Totals.{after_calls, total_of}
 use Rattle.sparse_sum.proofs.Placed.{word-is}
-use Rattle.sparse_sum.proofs.Totals.{fold-push, firsts-push, terms-are, lengths-are, all-left, all-answered, count-is}
+use Rattle.sparse_sum.proofs.Totals.{fold-push, firsts-push, terms-are, lengths-are, all-left, count-is}
 use Rattle.sparse_sum.proofs.total.sum_under.Goals as goal
 
 pub leaves-init : goal.leaves-init

@@ -1,5 +1,5 @@
 -- What is passed by a jump isn't both stored or fed and below the cell.
-use Rattle.std.proofs.Common.{◌≡◌, ◌∙◌}
+use Rattle.std.proofs.Common.{◌∙◌}
 use Rattle.cell_store.specs.Entries.{cells_of}
 use Rattle.sparse_sum.proofs.Steps.{ended-live, ended-below, jumped, stepped}
 use Rattle.sparse_sum.proofs.Placed.{word-is}

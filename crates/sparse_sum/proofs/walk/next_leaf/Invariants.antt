@@ -1,4 +1,4 @@
-use Rattle.std.proofs.Common.{◌≡◌, ◌-◌, ◌≤◌, ◌^◌}
+use Rattle.std.proofs.Common.{◌≡◌, ◌-◌, ◌^◌}
 use Rattle.cell_store.specs.Entries.{cells_of}
 use Rattle.sparse_sum.specs.Live.{live_from}
 use Rattle.sparse_sum.proofs.walk.next_leaf.Given as goal
