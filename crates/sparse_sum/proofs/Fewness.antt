@@ -6,7 +6,8 @@ use Rattle.dim_weights.specs.Table.{is_nonzero, nonzero_among}
 use Rattle.cube_space.specs.Layout.{Layout}
 use Rattle.cube_space.specs.Cells.{size_of, is_leaf_cell}
 use Rattle.rule_model.specs.Weights.{weight, leaf_cells}
-use Rattle.sparse_sum.specs.Live.{is_among, is_live, live_below}
+use Rattle.dim_order.specs.Members.{is_among}
+use Rattle.sparse_sum.specs.Live.{is_live, live_below}
 
 either-few : (a b : ℕ → Bool) (xs : List ℕ) → length (filter (λ n. a n || b n) xs) ≤ length (filter a xs) + length (filter b xs)
 either-few a b [] = omega arith
@@ -19,19 +20,19 @@ either-few a b (x ∷ xs) = by (a x) refl (b x) refl (either-few a b xs)
     by false is true also rest = rw (is, also) (omega (arith, rest))
     by false is false also rest = rw (is, also) rest
 
-none-equal : (c s m : ℕ) → c < s → length (filter (eqb c) (range_with_len s m)) ≡ 0
+none-equal : (c s m : ℕ) → c < s → length (filter (λ n. eqb n c) (range_with_len s m)) ≡ 0
 none-equal c s zero less = refl
 none-equal c s (suc m) less =
-    let other : eqb c s ≡ false = ne_eqb c s (λ same. omega (arith, less, same)) in
+    let other : eqb s c ≡ false = ne_eqb s c (λ same. omega (arith, less, same)) in
     rw other (none-equal c (s + 1) m (omega (arith, less)))
 
-one-equal : (c s m : ℕ) → length (filter (eqb c) (range_with_len s m)) ≤ 1
+one-equal : (c s m : ℕ) → length (filter (λ n. eqb n c) (range_with_len s m)) ≤ 1
 one-equal c s zero = omega arith
-one-equal c s (suc m) = by (eqb c s) refl (one-equal c (s + 1) m)
+one-equal c s (suc m) = by (eqb s c) refl (one-equal c (s + 1) m)
   where
-    by : (b : Bool) → eqb c s ≡ b → length (filter (eqb c) (range_with_len (s + 1) m)) ≤ 1 → length (filter (eqb c) (range_with_len s (suc m))) ≤ 1
+    by : (b : Bool) → eqb s c ≡ b → length (filter (λ n. eqb n c) (range_with_len (s + 1) m)) ≤ 1 → length (filter (λ n. eqb n c) (range_with_len s (suc m))) ≤ 1
     by true same rest =
-        let none = none-equal c (s + 1) m (omega (arith, eqb-true c s same)) in
+        let none = none-equal c (s + 1) m (omega (arith, eqb-true s c same)) in
         rw same (omega (arith, none))
     by false other rest = rw other rest
 
@@ -42,7 +43,7 @@ none-false (x ∷ xs) = none-false xs
 among-few : (cells : List ℕ) (s m : ℕ) → length (filter (is_among cells) (range_with_len s m)) ≤ length cells
 among-few [] s m = omega (arith, none-false (range_with_len s m))
 among-few (c ∷ cells) s m =
-    omega (arith, either-few (eqb c) (is_among cells) (range_with_len s m), one-equal c s m, among-few cells s m)
+    omega (arith, either-few (λ n. eqb n c) (is_among cells) (range_with_len s m), one-equal c s m, among-few cells s m)
 
 -- no more pairs than numbers that are live
 pairs-few : (w : ℕ → ℤ) (leaf live : ℕ → Bool) (xs : List ℕ) → length (filter (λ pair. live pair.0) (nonzero_among w (filter leaf xs))) ≤ length (filter live xs)

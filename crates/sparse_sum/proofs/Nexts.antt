@@ -1,6 +1,6 @@
 -- The next stored or fed cell.
 use Rattle.std.proofs.Common.{◌≡◌, ◌≢◌, ◌∙◌, refl, sym, ap, subst, arith, ℕ, ◌<◌, ◌≤◌, leb, eqb, inl, inr, Bool, true, false, List, [], ◌∷◌, map, Option, None, Some, find}
-use Rattle.std.proofs.lemmas.Bool.{cases_lt, eq-eqb, ne_eqb}
+use Rattle.std.proofs.lemmas.Bool.{cases_lt, eqb-true, eq-eqb, ne_eqb}
 use Rattle.std.proofs.lemmas.Bool.Decides.{leb_tells}
 use Rattle.std.proofs.lemmas.List.{map-id}
 use Rattle.cell_store.specs.declared.entry.Entry.{Entry}
@@ -8,13 +8,14 @@ use Rattle.cube_fixed.specs.declared.money.Money.{Money}
 use Rattle.cell_store.specs.Entries.{cells_of}
 use Rattle.cell_store.proofs.Rising.{AllAbove, Rises}
 use Rattle.stored_values.specs.Stored.{stored_in}
-use Rattle.sparse_sum.specs.Live.{is_among, is_live}
+use Rattle.dim_order.specs.Members.{is_among}
+use Rattle.sparse_sum.specs.Live.{is_live}
 use Rattle.sparse_sum.specs.Inside.First.{IsNext}
 
 above-other : (a n : ℕ) (cells : List ℕ) → n ≤ a → AllAbove a cells → is_among cells n ≡ false
 above-other a n [] le above = refl
 above-other a n (x ∷ cells) le above =
-    let e : eqb x n ≡ false = ne_eqb x n (λ same. omega (arith, le, above.0, same)) in
+    let e : eqb n x ≡ false = ne_eqb n x (λ same. omega (arith, le, above.0, same)) in
     rw e (above-other a n cells le above.1)
 
 module _ {X : Type 0} (key : X → ℕ) (k : ℕ) where
@@ -22,7 +23,7 @@ module _ {X : Type 0} (key : X → ℕ) (k : ℕ) where
   next-none [] is n low = refl
   next-none (x ∷ xs) is n low = elim (leb_tells k (key x)) [
     | inl t ↦ (let found : Some x ≡ None = rw t.0 at is in absurd (cc))
-    | inr t ↦ (let other : eqb (key x) n ≡ false = ne_eqb (key x) n (λ same. omega (arith, low, t.1, same)) in
+    | inr t ↦ (let other : eqb n (key x) ≡ false = ne_eqb n (key x) (λ same. omega (arith, low, t.1, same)) in
         let rest : find (λ x. leb k (key x)) xs ≡ None = rw t.0 at is in
         rw other (next-none xs rest n low))
   ]
@@ -34,18 +35,18 @@ module _ {X : Type 0} (key : X → ℕ) (k : ℕ) where
     | inl t ↦ (let own : Some x ≡ Some found = rw t.0 at is in let same : x ≡ found = cc in subst (λ (y : X). (k ≤ key y) × (is_among (map key (x ∷ xs)) (key y) ≡ true) × ((n : ℕ) → k ≤ n → n < key y → is_among (map key (x ∷ xs)) n ≡ false)) same (here t.1))
     | inr t ↦ (let rest : find (λ x. leb k (key x)) xs ≡ Some found = rw t.0 at is in
         let later = next-some xs found rises.1 rest in
-        (later.0, among later.1, λ n low less. (let other : eqb (key x) n ≡ false = ne_eqb (key x) n (λ same. omega (arith, low, t.1, same)) in rw other (later.2 n low less))))
+        (later.0, among later.1, λ n low less. (let other : eqb n (key x) ≡ false = ne_eqb n (key x) (λ same. omega (arith, low, t.1, same)) in rw other (later.2 n low less))))
   ]
     where
       here : k ≤ key x → (k ≤ key x) × (is_among (map key (x ∷ xs)) (key x) ≡ true) × ((n : ℕ) → k ≤ n → n < key x → is_among (map key (x ∷ xs)) n ≡ false)
       here low =
           let own : eqb (key x) (key x) ≡ true = eq-eqb (key x) (key x) refl in
-          (low, rw own refl, λ n from less. (let other : eqb (key x) n ≡ false = ne_eqb (key x) n (λ same. omega (arith, less, same)) in rw other (above-other (key x) n (map key xs) (omega (arith, less)) rises.0)))
+          (low, rw own refl, λ n from less. (let other : eqb n (key x) ≡ false = ne_eqb n (key x) (λ same. omega (arith, less, same)) in rw other (above-other (key x) n (map key xs) (omega (arith, less)) rises.0)))
 
       among : is_among (map key xs) (key found) ≡ true → is_among (map key (x ∷ xs)) (key found) ≡ true
-      among is = by (eqb (key x) (key found)) refl
+      among is = by (eqb (key found) (key x)) refl
         where
-          by : (b : Bool) → eqb (key x) (key found) ≡ b → is_among (map key (x ∷ xs)) (key found) ≡ true
+          by : (b : Bool) → eqb (key found) (key x) ≡ b → is_among (map key (x ∷ xs)) (key found) ≡ true
           by true e = rw e refl
           by false e = rw (e, is) refl
 
@@ -56,8 +57,14 @@ stored-none [] n none = refl
 stored-none (e ∷ entries) n none = by (eqb e.cell n) refl (λ rest. stored-none entries n rest)
   where
     by : (b : Bool) → eqb e.cell n ≡ b → (is_among (cells_of entries) n ≡ false → stored_in entries n ≡ None) → stored_in (e ∷ entries) n ≡ None
-    by true is later = let clash : true ≡ false = rw is at none in absurd (cc)
-    by false is later = let rest : is_among (cells_of entries) n ≡ false = rw is at none in rw is (later rest)
+    by true is later =
+        let turned : eqb n e.cell ≡ true = eq-eqb n e.cell (sym (eqb-true e.cell n is)) in
+        let clash : true ≡ false = rw turned at none in
+        absurd (cc)
+    by false is later =
+        let turned : eqb n e.cell ≡ false = ne_eqb n e.cell (λ same. (let own = eq-eqb e.cell n (sym same) in let clash : true ≡ false = sym own ∙ is in cc)) in
+        let rest : is_among (cells_of entries) n ≡ false = rw turned at none in
+        rw is (later rest)
 
 pub stored-some : (entries : List Entry) (k : ℕ) (found : Entry) → Rises (cells_of entries) → find (λ e. leb k e.cell) entries ≡ Some found → stored_in entries found.cell ≡ Some found.number
 unfolding stored_in

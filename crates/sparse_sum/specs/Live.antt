@@ -1,12 +1,8 @@
 -- The leaf cells that a total is made of: a leaf cell that is neither stored nor fed is 0.
-use Rattle.std.specs.Prelude.{ℕ, nat_le, ◌==◌, Bool, ◌||◌, ℤ, List, filter}
-use Rattle.std.specs.List.{list_any}
+use Rattle.std.specs.Prelude.{ℕ, nat_le, Bool, ◌||◌, ℤ, List, filter}
+use Rattle.dim_order.specs.Members.{is_among}
 use Rattle.cube_space.specs.Layout.{Layout}
 use Rattle.rule_model.specs.Weights.{leaves_below}
-
--- whether a cell is among these
-abbrev pub is_among : List ℕ → ℕ → Bool
-is_among cells cell = list_any (λ other. other == cell) cells
 
 -- whether a cell is stored or fed
 abbrev pub is_live : List ℕ → List ℕ → ℕ → Bool
