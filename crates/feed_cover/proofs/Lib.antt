@@ -4,3 +4,4 @@ pub mod Covers
 pub mod Listed
 pub mod Sources
 pub mod Ways
+pub mod Kept

@@ -1,6 +1,6 @@
 -- Sources of a feeder in a dimension, listed or all.
 use Rattle.std.proofs.Common.{◌≡◌, refl, sym, ap, ◌∙◌, arith, subst, ℕ, ◌<◌, ◌≤◌, Bool, true, false, Option, Some, None, ℤ, List, [], ◌∷◌, length, get_or, take}
-use Rattle.std.specs.Prelude.{slice_get, slice_index_or}
+use Rattle.std.specs.Prelude.{slice_get, slice_index_or, is_some}
 use Rattle.std.specs.List.{list_all, list_any}
 use Rattle.std.specs.Option.{option_map_or}
 use Rattle.std.proofs.lemmas.List.{take_all}
@@ -43,3 +43,7 @@ pub sources-fail : (ds : List Outline) (sets : List (Option (List ℕ))) (j e k 
     → k < length pairs → is_listed_source ds j listed (get_or pairs k d) ≡ false → false ≡ are_sources ds sets j e
 sources-fail ds sets j e k d listed pairs some is low off =
     sym (list_all_at (is_listed_source ds j listed) pairs k d low off) ∙ ap (list_all (is_listed_source ds j listed)) is ∙ listed-sources ds sets j e listed some
+
+pub no-list : (set : Option (List ℕ)) → is_some set ≡ false → set ≡ None
+no-list None h = refl
+no-list (Some listed) h = absurd (cc)

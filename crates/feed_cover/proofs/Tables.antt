@@ -15,6 +15,7 @@ use Rattle.cube_space.specs.Cells.{IsSpace}
 use Rattle.rule_model.specs.Weights.{AreWeightsOf}
 use Rattle.ref_order.proofs.Axes.{axis-low, axis-is, size-of-axis}
 use Rattle.cover_laws.specs.Decision.{leaves_at, counts_in}
+use Rattle.cover_laws.proofs.Pairs.{arg-there}
 
 zip-at : (ds : List Outline) (ts : List (List (List (ℕ × ℤ)))) (k : ℕ) (t : List (List (ℕ × ℤ))) → AllZip IsWeightsOf ds ts → k < length ds → (k < length ts) × ((d : Outline) × (slice_get ds k ≡ Some d) × IsWeightsOf d (get_or ts k t))
 zip-at [] ts k t all low = absurd (omega (arith, low))
@@ -41,6 +42,14 @@ table-at space own cube dim shape dims tables same valid found named low are =
           let equal : o ≡ d = cc in
           subst (λ (o : Outline). IsWeightsOf o table) equal (subst (IsWeightsOf o) (sym is) holds);
     }
+
+-- a dimension of a cube is the one of the model that has its number
+pub number-is : (space own : Layout) (cube dim : ℕ) (shape : CubeShape) (dims : List ℕ) → own ≡ space → IsSpace space → slice_get own.cubes cube ≡ Some shape → dims ≡ shape.dims
+    → dim < length (axes space cube) → slice_get space.dimensions (slice_index_or dims dim 0) ≡ slice_get (axes space cube) dim
+number-is space own cube dim shape dims same valid found named low =
+    let axis = axis-low space own cube dim shape dims same valid found named low in
+    let (d, at) = arg-there own.dimensions (slice_index_or dims dim 0) axis.number in
+    ap (λ (l : Layout). slice_get l.dimensions (slice_index_or dims dim 0)) (sym same) ∙ at ∙ sym (axis-is space own cube dim shape dims d same valid found named low at)
 
 -- what it says
 pub leaves-are : (ds : List Outline) (j e : ℕ) (d : Outline) (pairs : List (ℕ × ℤ)) → slice_get ds j ≡ Some d → pairs ≡ leaves_of d e → pairs ≡ leaves_at ds j e

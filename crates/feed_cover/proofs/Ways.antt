@@ -15,6 +15,7 @@ use Rattle.cover_laws.specs.Looking.{sent}
 pub record IsMove (space : Layout) (cube : ℕ) (r : Reference) (place from : ℕ) (to : List (Option ℕ)) : Type 0 where
   pub followed : from < length (axes space cube)
   pub target : place < length (axes space r.cube)
+  pub whole : length to ≡ slice_index_or (sizes space cube) from 0
   pub below : (e t : ℕ) → sent to e ≡ Some t → t < slice_index_or (sizes space r.cube) place 0
 
 pub move-at : (space : Layout) (cube : ℕ) (r : Reference) (args : List Arg) (place from : ℕ) (to : List (Option ℕ)) (arg : Arg) → IsReference space cube r → args ≡ r.args → place < length r.args
@@ -26,6 +27,7 @@ move-at space cube r args place from to arg is same low at moved =
     record {
       followed = omega (arith, shown.0, axes-sizes space cube);
       target = omega (arith, low, args-long space cube r is);
+      whole = shown.1;
       below = λ e t sends. named-below to e t (slice_index_or (sizes space r.cube) place 0) shown.2 sends;
     }
 
@@ -38,3 +40,10 @@ pub some-arg : {X : Type 0} (xs : List X) (j : ℕ) (d : X) → j < length xs �
 some-arg [] j d low = absurd (omega (arith, low))
 some-arg (x ∷ xs) zero d low = refl
 some-arg (x ∷ xs) (suc j) d low = some-arg xs j d (omega (arith, low))
+
+pub any-arg : {X : Type 0} (own xs : List X) (j : ℕ) (x d : X) → own ≡ xs → j < length xs → x ≡ slice_index_or own j x → x ≡ slice_index_or xs j d
+any-arg own xs j x d same low is =
+    let one = some-arg xs j x low in
+    let two = some-arg xs j d low in
+    let equal : slice_index_or xs j x ≡ slice_index_or xs j d = cc in
+    is ∙ ap (λ xs. slice_index_or xs j x) same ∙ equal

@@ -21,5 +21,6 @@ pub record IsWay (model : BoundModel) (view : View) (dim place : ℕ) (to : List
   pub is_view : IsView model view
   pub own : dim < length (axes model.space view.cube)
   pub its : place < length (axes model.space view.reference.now.cube)
+  pub whole : length to ≡ slice_index_or (sizes model.space view.reference.now.cube) place 0
   pub sends : (leaf over : ℕ) → sent to leaf ≡ Some over
       → over < slice_index_or (sizes model.space view.cube) dim 0

@@ -122,7 +122,8 @@ fn has_cover<'a>(model: &'a Model, cube: u32, area: &'a Area, reference: &'a Ref
 
 // Whether the model has any feeder.
 fn has_feeder(model: &Model) -> bool
-    ensures { result ≡ some_below (λ own. not (length (rules_of model.now own).feeders == 0)) (length model.now.space.cubes) }
+    ensures { result ≡ some_below (λ own. not (length (rules_of model.now own).feeders == 0))
+        (length model.now.space.cubes) }
 {
     'each: for own in 0..model.space().cubes() {
         if !model.rules(own).feeders.as_slice().is_empty() {

@@ -61,8 +61,8 @@ fn name_each(model: &Model, view: View, place: usize, dim: usize, element: u32) 
             && name_each(model, view, place + 1, dim, element))
 }
 
-/// Whether an element of a dimension is a leaf from which each argument that follows the dimension names an element that
-/// counts.
+/// Whether an element of a dimension is a leaf from which each argument that follows the dimension names an element
+/// that counts.
 #[tactic(auto, unfolding(cover_laws::specs::Looking::is_narrow))]
 pub fn is_narrow(model: &Model, view: View, dim: usize, element: u32) -> bool
     requires view { IsView model.now view }

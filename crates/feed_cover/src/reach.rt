@@ -1,18 +1,54 @@
-ghost use Rattle.std.specs.Prelude.{◌≡◌, ◌<◌, ◌≤◌, length, drop, slice_index_or};
-ghost use Rattle.cube_space.specs.Layout.{axes};
+ghost use Rattle.std.specs.Prelude.{◌≡◌, ◌<◌, ◌≤◌, ℕ, Some, true, length, drop, slice_index_or};
+ghost use Rattle.std.specs.Option.{option_map_or};
+ghost use Rattle.cube_space.specs.Layout.{axes, sizes};
 ghost use Rattle.rule_laws.specs.declared.reference.Arg.TheVariants.{Fixed};
 ghost use Rattle.rule_model.specs.Conditions.{IsReference};
-ghost use Rattle.cover_laws.specs.Decision.{reaches_from, reaches, all_reach};
+ghost use Rattle.cover_laws.specs.Looking.{sent, each_narrow};
+ghost use Rattle.cover_laws.specs.Decision.{counts_in, each_sent, reaches_from, reaches, all_reach};
 ghost use Rattle.feed_cover.specs.Views.{look_of, IsView};
 ghost use Rattle.feed_cover.specs.Tests.{IsWay};
 
 use crate::each::each_narrow;
 use crate::named::each_named;
+use crate::table::is_shared;
 use crate::test::ElementTest;
 use crate::tests::{SendsBack, SendsOver, StandsOver};
 use crate::view::View;
 use rule_laws::{Arg, ElementMap, Reference};
 use rule_model::Model;
+
+// Whether each leaf that counts in what a narrow element is sent to is sent back to one over the element. Where both
+// maps keep the elements of one dimension, that is the element itself.
+fn reaches_back<'a>(
+    model: &'a Model,
+    view: View<'a>,
+    dim: usize,
+    to: &'a ElementMap,
+    place: usize,
+    by: &'a ElementMap,
+) -> bool
+    requires way { IsWay model.now view dim place to.now }
+    requires sends { (element target : ℕ) → sent by.now element ≡ Some target
+        → target < slice_index_or (sizes model.now.space view.reference.now.cube) place 0 }
+    ensures { result ≡ each_narrow (look_of model.now view.entry) dim (λ element. option_map_or
+        (each_sent (axes model.now.space view.entry.reference.now.cube) place to.now
+        (λ over. counts_in (axes model.now.space view.entry.cube) dim over element)) (sent by.now element) true) }
+{
+    let there = by.is_identity();
+    let home = to.is_identity();
+    if there && home && is_shared(model, view.cube, dim, view.reference.cube, place) {
+        return true;
+    }
+    let back = SendsBack {
+        model,
+        view,
+        dim,
+        place,
+        to,
+        by,
+    };
+    each_narrow(model, view, dim, &back)
+}
 
 // Whether a feeder's argument for a dimension, by a map from the dimension that the reference's argument at this place
 // names elements of, names one over each narrow element from which the leaf is named.
@@ -38,15 +74,7 @@ fn reaches_from<'a>(
     };
     match &view.reference.args.as_slice()[place] {
         Arg::Moved { from, to: by } if *from as usize == dim => {
-            let back = SendsBack {
-                model,
-                view,
-                dim,
-                place,
-                to,
-                by,
-            };
-            each_narrow(model, view, dim, &back)
+            reaches_back(model, view, dim, to, place, by)
         }
         _ => each_named(model, view, place, &over),
     }

@@ -1,4 +1,4 @@
-ghost use Rattle.std.specs.Prelude.{◌≡◌, ◌<◌, length, slice_get, slice_index_or, Some, All};
+ghost use Rattle.std.specs.Prelude.{◌≡◌, ◌<◌, length, slice_get, slice_index_or, Some, All, IsTrue};
 ghost use Rattle.dim_core.specs.Outline.{Outline};
 ghost use Rattle.dim_weights.specs.Table.{IsWeightsOf};
 ghost use Rattle.cube_space.specs.Layout.{axes, sizes};
@@ -40,4 +40,24 @@ pub fn counts_in(model: &Model, cube: u32, dim: usize, element: u32, leaf: u32) 
 {
     let _axis = axis(model, cube, dim);
     weights(model, cube, dim).coef(element, leaf) != 0
+}
+
+// The number of a dimension of a cube among those of the model.
+fn number(model: &Model, cube: u32, dim: usize) -> u32
+    requires cube { cube < length model.now.space.cubes }
+    requires dim { dim < length (axes model.now.space cube) }
+    ensures { slice_get model.now.space.dimensions result ≡ slice_get (axes model.now.space cube) dim }
+{
+    model.space().shape(cube).dims.as_slice()[dim]
+}
+
+/// Whether a dimension of a cube is also one of another, at this place.
+pub fn is_shared(model: &Model, cube: u32, dim: usize, other: u32, place: usize) -> bool
+    requires cube { cube < length model.now.space.cubes }
+    requires dim { dim < length (axes model.now.space cube) }
+    requires other { other < length model.now.space.cubes }
+    requires place { place < length (axes model.now.space other) }
+    ensures { IsTrue result → slice_get (axes model.now.space cube) dim ≡ slice_get (axes model.now.space other) place }
+{
+    number(model, cube, dim) == number(model, other, place)
 }

@@ -27,7 +27,8 @@ pub struct CountsIn<'a> {
 }
 
 impl ElementTest for CountsIn<'_> {
-    ghost may_ask = { λ t leaf. IsElementOf t.model.now t.cube t.dim t.over × IsElementOf t.model.now t.cube t.dim leaf };
+    ghost may_ask = { λ t leaf. IsElementOf t.model.now t.cube t.dim t.over
+        × IsElementOf t.model.now t.cube t.dim leaf };
 
     ghost passes = { λ t leaf. counts_in (axes t.model.now.space t.cube) t.dim t.over leaf };
 
@@ -46,7 +47,8 @@ pub struct Over<'a> {
 }
 
 impl ElementTest for Over<'_> {
-    ghost may_ask = { λ t over. IsElementOf t.model.now t.cube t.dim t.leaf × IsElementOf t.model.now t.cube t.dim over };
+    ghost may_ask = { λ t over. IsElementOf t.model.now t.cube t.dim t.leaf
+        × IsElementOf t.model.now t.cube t.dim over };
 
     ghost passes = { λ t over. counts_in (axes t.model.now.space t.cube) t.dim over t.leaf };
 
@@ -131,7 +133,8 @@ impl ElementTest for SendsBack<'_> {
         → IsElementOf t.model.now t.view.reference.now.cube t.place target) };
 
     ghost passes = { λ t element. option_map_or (each_sent (axes t.model.now.space t.view.reference.now.cube) t.place
-        t.to.now (λ over. counts_in (axes t.model.now.space t.view.cube) t.dim over element)) (sent t.by.now element) true };
+        t.to.now (λ over. counts_in (axes t.model.now.space t.view.cube) t.dim over element))
+        (sent t.by.now element) true };
 
     fn passes(&self, element: u32) -> bool {
         let test = Over {

@@ -28,6 +28,7 @@ reaches_from-requires-clause-way c =
       is_view = c.requires.view;
       own = subst (λ k. c.args.dim < length (axes c.args.model.now.space k)) c.requires.cube move.target;
       its = move.followed;
+      whole = move.whole;
       sends = λ leaf over sends. subst (λ k. over < slice_index_or (sizes c.args.model.now.space k) c.args.dim 0) c.requires.cube (move.below leaf over sends);
     }
 
