@@ -1,0 +1,29 @@
+ghost use Rattle.std.specs.Prelude.{IfOk, map, option_map};
+ghost use Rattle.cell_versions.specs.Private.Changes.{IsAddedIf};
+
+use cell_store::{CellSet, Store};
+use cube_fixed::Money;
+use std::alloc::{AllocError, Global};
+
+/// The cells of these writes that are stored now and weren't before; None where one that was stored isn't any more.
+pub(crate) fn added_by(
+    alloc: Global,
+    before: &Store,
+    after: &Store,
+    writes: &[(u64, Money)],
+) -> Result<Option<Vec<u64>>, AllocError>
+    ensures { IfOk result (λ added.
+        IsAddedIf before.now after.now (map (λ write. write.0) writes.now) (option_map (λ cells. cells.items) added)) }
+{
+    let mut added = Vec::new(alloc);
+    for write in writes {
+        let (was, is) = (before.has(write.0), after.has(write.0));
+        if was && !is {
+            return Ok(None);
+        }
+        if is && !was {
+            added.push(write.0)?;
+        }
+    }
+    Ok(Some(added))
+}

@@ -1,0 +1,4 @@
+pub mod Deployment
+pub mod Rules
+pub mod Foundation
+pub mod Stages

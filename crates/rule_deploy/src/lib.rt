@@ -1,0 +1,21 @@
+//! From a model text and the files of its cubes' rules to a bound model, or to the first refusal.
+//!
+//! Read in this order: [`deploy`], which makes the model; [`RuleFile`], what it is given beside the text;
+//! [`DeployFault`], why it refuses. `specs/Deployment.antt` has the checks in their order, `specs/Rules.antt` those of
+//! rules, and `specs/Foundation.antt` those of dimensions and cubes.
+#![tactic(auto)]
+
+mod binding;
+mod coefficients;
+mod cubes;
+mod deploying;
+mod fault;
+mod file;
+mod foundation;
+mod ordering;
+mod products;
+mod texts;
+
+pub use deploying::deploy;
+pub use fault::{At, DeployCause, DeployFault};
+pub use file::{RuleFile, no_rule_files};
