@@ -1,7 +1,9 @@
 use crate::commands::answer_commands;
 use crate::files::Files;
+use crate::kind::Kind;
 use crate::models::{accepted, model_of};
 use crate::refusal::Refusal;
+use crate::verdict::add_verdict;
 use case_lines::{Texts, write_answer};
 use std::alloc::{AllocError, Global};
 
@@ -37,7 +39,7 @@ fn answer_to(alloc: Global, texts: &mut Texts, case: &str) -> Result<Option<Stri
     let Some(files) = Files::of(alloc, texts, lines)? else {
         return unread(alloc);
     };
-    match answer_of(alloc, &files) {
+    match answer_of(alloc, &files, Kind::of(heading)) {
         Ok(answer) => Ok(Some(answer)),
         Err(Refusal::Told(answer)) => Ok(Some(answer)),
         Err(Refusal::Memory) => Err(AllocError),
@@ -48,10 +50,14 @@ fn unread(alloc: Global) -> Result<Option<String>, AllocError> {
     Ok(Some(String::from_str(alloc, "a line of this case is none of a text")?))
 }
 
-// What is told of the rules of these files, and of each command.
-fn answer_of(alloc: Global, files: &Files) -> Result<String, Refusal> {
+// What is told of the rules of these files, and then of their feeders or of each command.
+fn answer_of(alloc: Global, files: &Files, kind: Kind) -> Result<String, Refusal> {
     let model = model_of(alloc, files)?;
     let mut told = accepted(alloc, &model)?;
-    answer_commands(alloc, &model, files.file("user"), &mut told)?;
+    if kind == Kind::Feeders {
+        add_verdict(alloc, &model, &mut told)?;
+        return Ok(told);
+    }
+    answer_commands(alloc, &model, files.file("user"), kind, &mut told)?;
     Ok(told)
 }

@@ -4,9 +4,13 @@ ghost use Rattle.rule_model.specs.System.{system_of, positions_of};
 ghost use Rattle.rule_dense.specs.Limits.{IsLow, HasSmallCubes};
 ghost use Rattle.std.specs.Prelude.{IsTrue};
 
+use crate::courses::add_course;
+use crate::fed::{add_cells, add_count, add_walked};
+use crate::kind::Kind;
 use crate::refusal::Refusal;
+use crate::values::value_text;
 use cell_store::{Store, StoreFault};
-use cube_fixed::{Money, print};
+use cube_fixed::Money;
 use rule_core::{Model, cell_of, dense, is_input};
 use std::alloc::Global;
 use user_text::UserBody;
@@ -14,11 +18,12 @@ use user_text::UserBody;
 /// The most cells of a cube.
 const MOST_CELLS: u64 = 1_000_000;
 
-/// Adds what each command comes to, a line each.
+/// Adds what each command comes to, a line each, with what a case of this kind tells besides.
 pub fn answer_commands(
     alloc: Global,
     model: &Model,
     text: &[u8],
+    kind: Kind,
     told: &mut String,
 ) -> Result<(), Refusal>
     requires ordered { IsOrderedByPlace (system_of model.now) (positions_of model.now) }
@@ -34,8 +39,11 @@ pub fn answer_commands(
     let mut store = Store::new(alloc);
     for command in &commands {
         told.push('\n')?;
-        let line = answer_to(alloc, model, &mut store, &command.body)?;
+        let line = answer_to(alloc, model, &mut store, &command.body, kind)?;
         told.push_str(&line)?;
+    }
+    if kind == Kind::Fed {
+        add_cells(alloc, model, &store, told)?;
     }
     Ok(())
 }
@@ -56,6 +64,7 @@ fn answer_to(
     model: &Model,
     store: &mut Store,
     command: &UserBody,
+    kind: Kind,
 ) -> Result<String, Refusal>
     requires ordered { IsOrderedByPlace (system_of model.now) (positions_of model.now) }
     requires low { IsLow model.now }
@@ -64,11 +73,11 @@ fn answer_to(
     match command {
         UserBody::Put(text, number) => {
             let cell = cell_of(model, &text.cube, text.elements.as_slice());
-            put(alloc, model, store, cell, *number)
+            put(alloc, model, store, cell, *number, kind)
         }
         UserBody::Get(text) => {
             let cell = cell_of(model, &text.cube, text.elements.as_slice());
-            value_text(alloc, model, store, cell)
+            told_of(alloc, model, store, cell, kind)
         }
         _ => Ok(String::from_str(alloc, "neither PUT nor GET")?),
     }
@@ -80,6 +89,7 @@ fn put(
     store: &mut Store,
     cell: Option<u64>,
     number: Money,
+    kind: Kind,
 ) -> Result<String, Refusal> {
     let Some(cell) = cell else {
         return Ok(String::from_str(alloc, "no cell")?);
@@ -98,14 +108,20 @@ fn put(
         Err(StoreFault::StoreLimit(_)) => return Ok(String::from_str(alloc, "StoreLimit")?),
         Err(StoreFault::Memory) => return Err(Refusal::Memory),
     }
-    Ok(String::from_str(alloc, "stored")?)
+    let mut told = String::from_str(alloc, "stored")?;
+    if kind == Kind::Fed {
+        add_count(alloc, model, store, &mut told)?;
+    }
+    Ok(told)
 }
 
-fn value_text(
+// The value of a cell, and how it is evaluated.
+fn told_of(
     alloc: Global,
     model: &Model,
     store: &Store,
     cell: Option<u64>,
+    kind: Kind,
 ) -> Result<String, Refusal>
     requires ordered { IsOrderedByPlace (system_of model.now) (positions_of model.now) }
     requires low { IsLow model.now }
@@ -118,10 +134,12 @@ fn value_text(
         return Ok(String::from_str(alloc, "no cell")?);
     }
     let value = dense(alloc, model, store, cell)?;
-    let mut text = Vec::new(alloc);
-    print(alloc, value, &mut text)?;
-    match String::from_utf8(text) {
-        Ok(text) => Ok(text),
-        Err(_) => Err(Refusal::Memory),
+    let mut told = value_text(alloc, value)?;
+    if kind == Kind::Courses {
+        add_course(alloc, model, store, cell, &mut told)?;
     }
+    if kind == Kind::Fed {
+        add_walked(alloc, model, store, cell, &mut told)?;
+    }
+    Ok(told)
 }
