@@ -14,7 +14,7 @@ all_read w c (Named r) = λ x is. refl
 all_read w c (Components dim) = λ is. refl
 
 pub evaluate-requires-clause-may_ask : goal.evaluate-requires-clause-may_ask
-evaluate-requires-clause-may_ask c =
+evaluate-requires-clause-may_ask g c =
     c.only_what_formulas_read_is_asked.ensures (system_of c.args.model.now) _ c.args.cell (λ question. true)
     (drop c.args.statement (rules_for c.args.model.now c.args.cell)) refl
     (λ rule f has is p read. all_read (system_of c.args.model.now) c.args.cell p)
