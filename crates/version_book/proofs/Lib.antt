@@ -1,0 +1,6 @@
+mod Lists
+mod Keeps
+mod Hands
+mod Splits
+mod Joins
+mod Ends
