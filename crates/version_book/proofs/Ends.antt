@@ -1,5 +1,5 @@
 -- How a book begins and how it ends.
-use Rattle.std.proofs.Common.{◌≡◌, ◌≢◌, ℕ, ◌+◌, ◌<◌, true, false, zero, suc, List, [], ◌∷◌, ◌++◌, length, Option, Some, None, sym, refl, ap, ◌∙◌, subst, ⊎_elim, arith}
+use Rattle.std.proofs.Common.{◌≡◌, ℕ, ◌+◌, ◌<◌, true, false, zero, suc, List, [], ◌∷◌, ◌++◌, length, Option, Some, None, sym, refl, ap, ◌∙◌, subst, arith}
 use mathlib.Core.Option as maybe
 use lib.ListN.{get_elem?}
 use Rattle.std.specs.List.{slice_get}
@@ -9,10 +9,8 @@ use Rattle.history.specs.declared.entry.Entry.{Entry}
 use Rattle.version_book.specs.declared.view.View.{View}
 use Rattle.version_book.specs.declared.view.Stage.{Stage}
 use Rattle.version_book.specs.declared.view.Stage.TheVariants.{Idle, Turn, Looked, Away}
-use Rattle.version_book.specs.Lists.{GoesOn}
 use Rattle.version_book.specs.Inside.Rule.{has_turn, home, LiveAt, Fits, IsNext, Keeps, IsBook, founder}
 use Rattle.version_book.proofs.Lists.{has-first, has-one, same-goes, get_right, empty}
-use Rattle.history.proofs.Runs.{none_in_nothing}
 use Rattle.version_book.specs.Numbers.{has, numbers}
 
 idle_of : (t : Stage) → (has_turn t ≡ true → ⊥) → t ≡ Idle

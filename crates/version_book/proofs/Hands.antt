@@ -1,5 +1,5 @@
 -- What a seat has in hand between its steps, and what a meeting looks at.
-use Rattle.std.proofs.Common.{◌≡◌, ℕ, List, [], ◌∷◌, length, Option, Some, None, sym, ap, ◌∙◌}
+use Rattle.std.proofs.Common.{◌≡◌, ℕ, List, [], ◌∷◌, Some, None, sym, ap, ◌∙◌}
 use Rattle.std.specs.List.{slice_get}
 use Rattle.atomic_table.specs.Table.{rest}
 use Rattle.history.specs.declared.entry.Entry.{Entry}

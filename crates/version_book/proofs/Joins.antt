@@ -1,5 +1,5 @@
 -- A join keeps the rule.
-use Rattle.std.proofs.Common.{◌≡◌, ◌≢◌, ℕ, ◌+◌, ◌<◌, ◌≤◌, true, false, cond, zero, suc, ltb, List, [], ◌∷◌, ◌++◌, length, set, Option, Some, None, sym, refl, ap, ◌∙◌, subst, ⊎_elim, ◌⊎◌, inl, inr, arith}
+use Rattle.std.proofs.Common.{◌≡◌, ◌≢◌, ℕ, ◌<◌, ◌≤◌, true, false, cond, zero, suc, ltb, List, ◌++◌, length, set, Option, Some, None, sym, refl, ap, ◌∙◌, subst, ⊎_elim, ◌⊎◌, inl, inr, arith}
 use mathlib.Core.Option as maybe
 use lib.ListN.{get_elem?}
 use Rattle.std.specs.List.{slice_get}
@@ -9,13 +9,11 @@ use Rattle.atomic_table.proofs.Lists.{at_set, set_else}
 use Rattle.history.specs.declared.entry.Entry.{Entry}
 use Rattle.version_book.specs.declared.view.View.{View}
 use Rattle.version_book.specs.declared.view.Older.{Older}
-use Rattle.version_book.specs.declared.view.Stage.{Stage}
 use Rattle.version_book.specs.declared.view.Stage.TheVariants.{Idle}
 use Rattle.version_book.specs.Lists.{GoesOn}
-use Rattle.version_book.specs.Inside.Rule.{has_turn, has_looked, LiveAt, Among, Fits, IsNext, IsBook, nobody}
-use Rattle.version_book.specs.Inside.Plays.{together, longer}
+use Rattle.version_book.specs.Inside.Rule.{has_turn, has_looked, LiveAt, Among, Fits, IsBook, nobody}
+use Rattle.version_book.specs.Inside.Plays.{together}
 use Rattle.version_book.proofs.Lists.{has-append, has-left, has-right, goes-both}
-use Rattle.version_book.proofs.Keeps.{set_at}
 use Rattle.version_book.specs.Numbers.{has, numbers, next_of_both}
 
 next_of_one : (one other : Option ℕ) (n : ℕ) → next_of_both one other ≡ Some n → (one ≡ Some n) ⊎ (other ≡ Some n)

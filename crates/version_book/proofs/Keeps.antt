@@ -1,13 +1,13 @@
 -- Each step keeps the rule, and tells what it should.
-use Rattle.std.proofs.Common.{◌≡◌, ◌≢◌, ℕ, ◌+◌, ◌<◌, ◌≤◌, Bool, true, false, cond, zero, suc, List, [], ◌∷◌, ◌++◌, length, get_or, set, Option, Some, None, sym, refl, ap, ◌∙◌, subst, ⊎_elim, ◌⊎◌, inl, inr, arith, eqb}
+use Rattle.std.proofs.Common.{◌≡◌, ◌≢◌, ℕ, ◌<◌, ◌≤◌, true, false, cond, zero, suc, List, [], ◌∷◌, ◌++◌, length, get_or, set, Option, Some, sym, refl, ap, ◌∙◌, subst, ⊎_elim, ◌⊎◌, inl, inr, arith, eqb}
 use mathlib.Core.Option as maybe
 use lib.ListN.{get_elem?}
 use prog.Atomic.{either}
 use Rattle.std.specs.List.{slice_get}
 use Rattle.std.proofs.lemmas.Bool.{eq-eqb, ne_eqb}
 use Rattle.std.proofs.lemmas.List.{append-nil, set-get_or}
-use Rattle.atomic_table.specs.Table.{State, Act, keeps, takes, gives, put_back, rest, stepped, step, Allows, Me}
-use Rattle.atomic_table.proofs.Lists.{at_set, at_snoc, set_again, exchanged}
+use Rattle.atomic_table.specs.Table.{State, keeps, takes, gives, put_back, stepped, step, Allows}
+use Rattle.atomic_table.proofs.Lists.{at_set, set_again, exchanged}
 use Rattle.history.specs.declared.entry.Entry.{Entry}
 use Rattle.history.proofs.Lists.{get_split}
 use Rattle.version_book.specs.declared.view.View.{View}

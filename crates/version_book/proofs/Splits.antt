@@ -9,8 +9,6 @@ use Rattle.atomic_table.specs.Table.{State, Splits}
 use Rattle.atomic_table.proofs.Lists.{set_else, at_longer}
 use Rattle.history.specs.declared.entry.Entry.{Entry}
 use Rattle.version_book.specs.declared.view.View.{View}
-use Rattle.version_book.specs.declared.view.Stage.{Stage}
-use Rattle.version_book.specs.Lists.{GoesOn}
 use Rattle.version_book.specs.Inside.Rule.{has_turn, LiveAt, Fits, IsNext, IsBook}
 use Rattle.version_book.specs.Inside.Plays.{giving, another, number_given}
 use Rattle.version_book.proofs.Lists.{has-one, get_right}

@@ -1,6 +1,6 @@
 use Rattle.std.proofs.Common.{ap, ◌∙◌}
 use Rattle.history.specs.Version.{content_after}
-use Rattle.version_book.specs.Passes.{opening_of, seen}
+use Rattle.version_book.specs.Passes.{opening_of}
 use Rattle.version_book.proofs.Ends.{closes, ended_with, ended_none}
 use Rattle.version_book.proofs.passes.Book+W.close.Goals as goal
 

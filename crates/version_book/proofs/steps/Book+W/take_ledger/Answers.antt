@@ -1,4 +1,4 @@
-use Rattle.std.proofs.Common.{rules, ap, ◌∙◌, Some}
+use Rattle.std.proofs.Common.{rules, ap, Some}
 use Rattle.version_book.proofs.Keeps.{take_allowed}
 use Rattle.version_book.proofs.Hands.{held_first}
 use Rattle.version_book.proofs.steps.Book+W.take_ledger.Goals as goal
