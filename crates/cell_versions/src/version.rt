@@ -58,7 +58,8 @@ impl Version {
         })
     }
 
-    /// The version after these writes, in their order: a later write of a cell wins, and a written 0 takes the cell out.
+    /// The version after these writes, in their order: a later write of a cell wins, and a written 0 takes the cell
+    /// out.
     pub fn next(&self, alloc: Global, writes: &[(u64, Money)]) -> Result<Version, NextFault>
         requires { AreLeafWrites self.now.model.space writes.now }
         ensures number { IfOk result (λ next. next.number ≡ number_after self.now.number) }

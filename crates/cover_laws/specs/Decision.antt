@@ -28,7 +28,8 @@ abbrev pub has_leaves : List Outline → ℕ → ℕ → Bool
 has_leaves dimensions j element = not (length (leaves_at dimensions j element) == 0)
 
 abbrev pub counts_in : List Outline → ℕ → ℕ → ℕ → Bool
-counts_in dimensions j element leaf = option_map_or (λ d. is_nonzero (coef d element leaf)) (slice_get dimensions j) false
+counts_in dimensions j element leaf =
+    option_map_or (λ d. is_nonzero (coef d element leaf)) (slice_get dimensions j) false
 
 -- ---- the reference names no total that a statement governs
 
@@ -51,7 +52,8 @@ names_no_total model cube area r governed =
 -- and no statement of its cube that has a C part is for such a cell
 unfoldable pub names_no_governed : BoundModel → ℕ → Area → Reference → Bool
 names_no_governed model cube area r =
-    list_all (λ (s : Statement). is_none s.cons || names_no_total model cube area r s.area) (rules_of model r.cube).statements
+    list_all (λ (s : Statement). is_none s.cons || names_no_total model cube area r s.area)
+    (rules_of model r.cube).statements
 
 -- ---- a feeder covers the reference
 
@@ -93,15 +95,16 @@ reaches_from look dimensions i to j (Moved from by) = if from == i
 -- a feeder's argument for a dimension names an element over each narrow element
 abbrev pub reaches : Look → List Outline → ℕ → Arg → Bool
 reaches look dimensions i (Fixed over) = stands_over look i over
-reaches look dimensions i (Moved j to) = option_map_or (reaches_from look dimensions i to j) (slice_get look.args j) false
+reaches look dimensions i (Moved j to) =
+    option_map_or (reaches_from look dimensions i to j) (slice_get look.args j) false
 
 -- and each of these arguments does, which begin at this dimension
 abbrev pub all_reach : Look → List Outline → ℕ → List Arg → Bool
 all_reach look dimensions i [] = true
 all_reach look dimensions i (arg ∷ args) = reaches look dimensions i arg && all_reach look dimensions (suc i) args
 
--- a feeder of a cube feeds the leaf cells of the area from all leaf cells below what the reference names, where there is
--- such a cell
+-- a feeder of a cube feeds the leaf cells of the area from all leaf cells below what the reference names, where there
+-- is such a cell
 unfoldable pub feeds_all : BoundModel → ℕ → Area → Reference → ℕ → Feeder → Bool
 feeds_all model cube area r own feeder =
     ((own == r.cube) && (feeder.target.cube == cube))

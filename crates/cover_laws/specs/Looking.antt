@@ -49,7 +49,8 @@ names_one counts (Moved from to) i element = not (i == from) || option_map_or co
 -- whether each argument from this place on that follows the dimension does
 abbrev pub name_each : (ℕ → ℕ → Bool) → ℕ → List Arg → ℕ → ℕ → Bool
 name_each counts j [] i element = true
-name_each counts j (arg ∷ args) i element = names_one (counts j) arg i element && name_each counts (suc j) args i element
+name_each counts j (arg ∷ args) i element =
+    names_one (counts j) arg i element && name_each counts (suc j) args i element
 
 -- a narrow element is a leaf from which each argument that follows its dimension names an element that counts
 unfoldable pub is_narrow : Look → ℕ → ℕ → Bool
@@ -66,8 +67,8 @@ fixed_count counts j [] = true
 fixed_count counts j (Fixed target ∷ args) = counts j target && fixed_count counts (suc j) args
 fixed_count counts j (Moved from to ∷ args) = fixed_count counts (suc j) args
 
--- whether from some leaf cell of the area every argument names an element that counts: there is a narrow element in each
--- dimension
+-- whether from some leaf cell of the area every argument names an element that counts: there is a narrow element in
+-- each dimension
 unfoldable pub is_possible : Look → Bool
 is_possible look =
     each_below (λ i. some_in look i (is_narrow look i)) (length (axes look.space look.cube))

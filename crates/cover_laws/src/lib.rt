@@ -1,8 +1,8 @@
 //! The law of the feeder check: that feeders cover a reference is decided dimension by dimension.
 //!
-//! `specs/Looking.antt` has what arguments name from the leaf cells of an area, narrowed to the elements from which they
-//! do; `specs/Decision.antt` has the decision over the tables of a model. That it is the cover of `rule_laws`, which
-//! speaks of every cell, is the contract of [`cover_is_decided_by_dimension`].
+//! `specs/Looking.antt` has what arguments name from the leaf cells of an area, narrowed to the elements from which
+//! they do; `specs/Decision.antt` has the decision over the tables of a model. That it is the cover of `rule_laws`,
+//! which speaks of every cell, is the contract of [`cover_is_decided_by_dimension`].
 #![tactic(auto)]
 
 ghost use Rattle.std.specs.Prelude.{◌≡◌, ℕ, ◌<◌, ◌↔◌, length, IsTrue};

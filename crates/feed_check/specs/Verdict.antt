@@ -36,7 +36,8 @@ pub record IsSound (model : BoundModel) (cube : ℕ) : Type 0 where
 -- what is wrong with a cube: it is dense and has this many leaf cells, too many, or its first rule that isn't covered
 abbrev pub IsFaultOf : BoundModel → ℕ → FeedCheckFault → Type 0
 IsFaultOf model cube (DenseTooLarge own count) =
-    (own ≡ cube) × (is_dense (system_of model) cube ≡ true) × (count ≡ leaf_count model.space cube) × (most_dense < count)
+    (own ≡ cube) × (is_dense (system_of model) cube ≡ true)
+    × (count ≡ leaf_count model.space cube) × (most_dense < count)
 IsFaultOf model cube (NotFed own statement operand) =
     (own ≡ cube) × ((place : ℕ) × (statement ≡ suc place) × IsFirstBlamed model cube place operand)
 

@@ -55,8 +55,8 @@ fn check_cube(model: &Model, cube: u32) -> Result<(), FeedCheckFault>
 }
 
 /// Checks the feeders of a model, cube by cube: a cube that has rules without `SKIPCHECK` is dense, so all its leaf
-/// cells are fed, and may have at most [`MAX_DENSE`](crate::MAX_DENSE) of them; in a cube with `SKIPCHECK` the N part of
-/// each statement has to pass the zero test, by the references that feeders cover.
+/// cells are fed, and may have at most [`MAX_DENSE`](crate::MAX_DENSE) of them; in a cube with `SKIPCHECK` the N part
+/// of each statement has to pass the zero test, by the references that feeders cover.
 pub fn check_feeders(model: &Model) -> Result<(), FeedCheckFault>
     ensures covered { OnOk result (IsCovered (system_of model.now)) }
     ensures small { OnOk result (AreSmall model.now) }

@@ -19,12 +19,12 @@
 //! The program writes each case again, and behind it the answer, each line of it behind `> `: the first refusal, or how
 //! many statements and feeders were bound, and then for each command whether its number is stored, or the value.
 //!
-//! - In a case `course: TITLE` each value has behind it how it comes: by which statements, which cell a single reference
-//!   names, and what an evaluation asks that begins again with each answer.
+//! - In a case `course: TITLE` each value has behind it how it comes: by which statements, which cell a single
+//!   reference names, and what an evaluation asks that begins again with each answer.
 //! - A case `feeders: TITLE` has no commands. It tells that feeders cover the rules, or the fault of the feeder check.
-//! - In a case `fed: TITLE` a stored number has behind it how many cells are then fed, and the value of a total how many
-//!   stored or fed cells a walk finds below it. After the commands stand the fed cells, rising; of more than 40 the first
-//!   and the last.
+//! - In a case `fed: TITLE` a stored number has behind it how many cells are then fed, and the value of a total how
+//!   many stored or fed cells a walk finds below it. After the commands stand the fed cells, rising; of more than 40
+//!   the first and the last.
 #![tactic(auto)]
 
 mod bound;

@@ -50,7 +50,8 @@ pub trait Problem<M, C> {
     /// How what is remembered may change: the second is what a first may have become.
     ghost later: { M → M → Type 0 };
 
-    /// Goes on with a frame: up to its question's answer, or up to a question that is less work than the frame gives up.
+    /// Goes on with a frame: up to its question's answer, or up to a question that is less work than the frame gives
+    /// up.
     fn step(
         &mut self,
         memory: &mut M,

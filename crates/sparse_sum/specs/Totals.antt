@@ -8,7 +8,8 @@ abbrev pub Answered : Type 0
 Answered = (ℕ × ℤ) × Value
 
 -- what is known of the calls after each of these cells was asked for, once and in this order
-abbrev pub after_calls : {Calls Fault : Type 0} → (Calls → ℕ → Result Value Fault → Calls) → Calls → List Answered → Calls
+abbrev pub after_calls
+    : {Calls Fault : Type 0} → (Calls → ℕ → Result Value Fault → Calls) → Calls → List Answered → Calls
 after_calls after_call before answered = fold (λ calls one. after_call calls one.0.0 (Ok one.1)) before answered
 
 -- the exact sum of the answers, each times its cell's weight

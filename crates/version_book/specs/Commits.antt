@@ -35,7 +35,8 @@ pub record SettlesAt {C K T R : Type 0} (effect : C → K → Effect T R) (after
 
 -- what was seen before goes on, by entries of others, to the list on which the command's effect decides
 pub record Settles {C K T R : Type 0} (effect : C → K → Effect T R) (after : C → T → C) (first : C)
-    (before later : List (Entry T)) (users : List ℕ) (user number : ℕ) (command : K) (settled : Settled R) : Type 0 where
+    (before later : List (Entry T)) (users : List ℕ) (user number : ℕ) (command : K) (settled : Settled R)
+    : Type 0 where
   pub log : List (Entry T)
   pub others : GoesOn before log users
   pub settles : SettlesAt effect after first log later user number command settled

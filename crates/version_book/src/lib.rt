@@ -1,7 +1,7 @@
 //! One history of commits that many users share, each on a thread of its own, with the state after it.
 //!
-//! - [`Book::begin`] opens a book over a state of any `World` and gives the first [`Pass`]; [`Book::split`] makes a pass
-//!   for another user.
+//! - [`Book::begin`] opens a book over a state of any `World` and gives the first [`Pass`]; [`Book::split`] makes a
+//!   pass for another user.
 //! - [`Book::pin`] gives a state of the newest version, on which [`Pin::attempt`] tries commands while others commit.
 //! - [`Book::commit`] puts an accepted command into the history. Where another commit came after the try, the command
 //!   runs again, and that run decides.
