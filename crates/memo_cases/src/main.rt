@@ -10,6 +10,7 @@ use crate::leaf::leaf_value;
 use crate::readers::{at_once, in_turn};
 use cell_store::Store;
 use cube_fixed::Money;
+use model_deploy::{deploy, no_rule_files};
 use std::io;
 use std::io::Write;
 
@@ -21,7 +22,8 @@ fn main(rt: HostRuntime) -> io::Result<()> {
     let mut out = String::new(rt.alloc());
     let number = Money::of(NUMBER).unwrap_or(Money::ZERO);
     if let Ok(text) = model_text::read(rt.alloc(), text.as_bytes())
-        && let Ok(model) = model_deploy::deploy(rt.alloc(), text)
+        && let Ok(rules) = no_rule_files(rt.alloc(), text.cubes().len())
+        && let Ok(model) = deploy(rt.alloc(), text, rules)
         && let Ok(store) = Store::new(rt.alloc()).apply(rt.alloc(), &[(0, number), (1, number)])
         && let Some(first) = leaf_value(&model, &store, 0)
         && let Some(second) = leaf_value(&model, &store, 1)

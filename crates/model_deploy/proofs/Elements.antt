@@ -1,11 +1,11 @@
 -- An element that a dimension is refused for is one of its elements.
-use Rattle.std.proofs.Common.{◌≡◌, ℕ, zero, suc, ◌+◌, ◌<◌, ◌≤◌, Bool, true, false, Option, Some, None, List, [], ◌∷◌, ◌++◌, length, filter, take, get_or, refl, ap, sym, ◌∙◌, subst, arith, nat_lt, cond, ◌⊎◌, inl, inr, Result, Err, IfSome, IfNone, IsOkUnless}
+use Rattle.std.proofs.Common.{◌≡◌, ℕ, zero, suc, ◌+◌, ◌<◌, ◌≤◌, Bool, true, false, Option, Some, None, List, [], ◌∷◌, ◌++◌, length, filter, take, get_or, refl, ap, ◌∙◌, subst, arith, nat_lt, cond, ◌⊎◌, inl, inr, Result, Err, IfSome, IfNone, IsOkUnless}
 use Rattle.std.specs.List.{range_with_len, flat_map}
 use Rattle.dim_core.specs.Outline.{Outline}
 use Rattle.dim_weights.specs.declared.fault.WeightFault.{WeightFault}
 use Rattle.dim_weights.specs.declared.fault.WeightFault.TheVariants.{CoefficientTooLarge, TooManyPairs, Memory}
 use Rattle.dim_weights.specs.Table.{leaves_of, greatest_in}
-use Rattle.dim_weights.specs.Refusal.{of_level, by_level, pair_count, fault_of, fault_at, first_of_two, first_fault, refusal_of}
+use Rattle.dim_weights.specs.Refusal.{of_level, by_level, pair_count, fault_at, first_of_two, first_fault, refusal_of}
 
 abbrev AreBelow : ℕ → List ℕ → Type 0
 AreBelow n [] = Unit {0}

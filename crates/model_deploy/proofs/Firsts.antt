@@ -1,10 +1,10 @@
 -- The first refusal is the answer.
-use Rattle.std.proofs.Common.{◌≡◌, ◌⊎◌, inl, inr, ℕ, ◌+◌, ◌<◌, ◌≤◌, Option, Some, None, Result, Ok, Err, List, [], ◌∷◌, ◌++◌, length, get_or, drop, refl, ap, sym, ◌∙◌, subst, arith, IsErrAnd}
+use Rattle.std.proofs.Common.{◌≡◌, inr, ℕ, ◌+◌, ◌<◌, ◌≤◌, Option, Some, None, Result, Ok, Err, List, [], ◌∷◌, ◌++◌, length, get_or, drop, refl, ap, sym, ◌∙◌, subst, IsErrAnd}
 use Rattle.std.specs.Option.{option_or}
 use Rattle.std.specs.List.{AllZip}
 use Rattle.std.proofs.lemmas.List.{drop_more, drop_all}
 use Rattle.model_deploy.specs.declared.fault.DeployFault.{DeployFault}
-use Rattle.model_deploy.specs.Deployment.{first_refusal, memory, IsAnsweredBy}
+use Rattle.model_deploy.specs.Foundation.{first_refusal, memory, IsAnsweredBy}
 
 -- an Ok has no cause
 pub unrefused : {T : Type 0} (cause : Option DeployFault) (x : T) → IsAnsweredBy cause (Ok x) → cause ≡ None

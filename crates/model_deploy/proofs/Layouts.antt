@@ -1,5 +1,5 @@
 -- What a model text says of its dimensions and cubes is what a space asks for.
-use Rattle.std.proofs.Common.{◌≡◌, ℕ, ◌<◌, ◌≤◌, ◌⊎◌, inl, inr, Option, Some, None, Result, Ok, Err, List, [], ◌∷◌, length, map, refl, ap, sym, ◌∙◌, subst, arith, All, nat_eq, IsErrAnd}
+use Rattle.std.proofs.Common.{◌≡◌, ℕ, ◌<◌, Option, Some, None, Result, Ok, Err, List, [], ◌∷◌, length, map, refl, ap, sym, ◌∙◌, subst, arith, All, nat_eq, IsErrAnd}
 use Rattle.std.specs.List.{IsDistinct}
 use Rattle.std.specs.Option.{option_or}
 use Rattle.std.proofs.lemmas.List.{length-map}
@@ -12,8 +12,8 @@ use Rattle.model_text.specs.declared.parts.CubeText.{CubeText}
 use Rattle.cube_space.specs.declared.shape.CubeShape.{CubeShape}
 use Rattle.cube_space.specs.Layout.{Layout, IsLayout}
 use Rattle.model_deploy.specs.declared.fault.DeployFault.{DeployFault}
-use Rattle.model_deploy.specs.Deployment.{shape_of, layout_of, cube_lines, dimensions_refusal, space_refusal, products_refusal, refusal_of, IsAnsweredBy}
-use Rattle.model_deploy.proofs.Firsts.{refused-as, wanting-as}
+use Rattle.model_deploy.specs.Foundation.{shape_of, layout_of, cube_lines, dimensions_refusal, space_refusal, products_refusal, foundation_refusal, IsAnsweredBy}
+use Rattle.model_deploy.proofs.Firsts.{refused-as}
 
 map-twice : {A B C : Type 0} (f : A → B) (g : B → C) (xs : List A) → map (λ x. g (f x)) xs ≡ map g (map f xs)
 map-twice f g [] = refl
@@ -48,16 +48,16 @@ parts-layout contents layout is same =
 
 module _ (A B : Type 0) (contents : Contents) (fault : DeployFault) (answer : Result B DeployFault) (told : IsErrAnd answer (λ e. e ≡ fault)) where
   -- the coefficients are refused
-  pub coefficients-refused : IsAnsweredBy {T = A} (dimensions_refusal contents.dims) (Err fault) → IsAnsweredBy {T = B} (refusal_of contents) answer
-  unfolding refusal_of
+  pub coefficients-refused : IsAnsweredBy {T = A} (dimensions_refusal contents.dims) (Err fault) → IsAnsweredBy {T = B} (foundation_refusal contents) answer
+  unfolding foundation_refusal
   coefficients-refused h =
       refused-as A B (dimensions_refusal contents.dims)
       (option_or (space_refusal (cube_lines contents.cubes) (layout_of contents)) (products_refusal (cube_lines contents.cubes) (layout_of contents))) fault answer told h
 
   -- the cells are refused
   pub cells-refused : (lines : List ℕ) (layout : Layout) → lines ≡ cube_lines contents.cubes → layout ≡ layout_of contents → dimensions_refusal contents.dims ≡ None
-      → IsAnsweredBy {T = A} (space_refusal lines layout) (Err fault) → IsAnsweredBy {T = B} (refusal_of contents) answer
-  unfolding refusal_of
+      → IsAnsweredBy {T = A} (space_refusal lines layout) (Err fault) → IsAnsweredBy {T = B} (foundation_refusal contents) answer
+  unfolding foundation_refusal
   cells-refused lines layout l s none h =
       let P : Option DeployFault → Type 0 = λ o. IsAnsweredBy {T = B} o answer in
       let later = products_refusal (cube_lines contents.cubes) (layout_of contents) in
@@ -67,8 +67,8 @@ module _ (A B : Type 0) (contents : Contents) (fault : DeployFault) (answer : Re
 
   -- the weight products are refused
   pub products-refused : (lines : List ℕ) (layout space : Layout) → lines ≡ cube_lines contents.cubes → layout ≡ layout_of contents → space ≡ layout → dimensions_refusal contents.dims ≡ None
-      → space_refusal lines layout ≡ None → IsAnsweredBy {T = A} (products_refusal lines space) (Err fault) → IsAnsweredBy {T = B} (refusal_of contents) answer
-  unfolding refusal_of
+      → space_refusal lines layout ≡ None → IsAnsweredBy {T = A} (products_refusal lines space) (Err fault) → IsAnsweredBy {T = B} (foundation_refusal contents) answer
+  unfolding foundation_refusal
   products-refused lines layout space l s is none fits h =
       let P : Option DeployFault → Type 0 = λ o. IsAnsweredBy {T = B} o answer in
       let shown = is ∙ s in
@@ -84,8 +84,8 @@ module _ (A B : Type 0) (contents : Contents) (fault : DeployFault) (answer : Re
 
 -- nothing is refused
 pub nothing-refused : {T : Type 0} (contents : Contents) (lines : List ℕ) (layout space : Layout) (value : T) → lines ≡ cube_lines contents.cubes → layout ≡ layout_of contents → space ≡ layout
-    → dimensions_refusal contents.dims ≡ None → space_refusal lines layout ≡ None → products_refusal lines space ≡ None → IsAnsweredBy {T = T} (refusal_of contents) (Ok value)
-unfolding refusal_of
+    → dimensions_refusal contents.dims ≡ None → space_refusal lines layout ≡ None → products_refusal lines space ≡ None → IsAnsweredBy {T = T} (foundation_refusal contents) (Ok value)
+unfolding foundation_refusal
 nothing-refused {T} contents lines layout space value l s is none fits small =
     let P : Option DeployFault → Type 0 = λ o. IsAnsweredBy {T = T} o (Ok value) in
     let later = products_refusal (cube_lines contents.cubes) (layout_of contents) in

@@ -1,6 +1,8 @@
 pub mod Elements
 pub mod Firsts
-pub mod PlainRules
 pub mod Greatest
 pub mod Layouts
 pub mod SmallProducts
+pub mod CubeRules
+pub mod InStages
+pub mod Stages

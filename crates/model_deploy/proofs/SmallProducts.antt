@@ -1,5 +1,5 @@
 -- Weight products, cube by cube.
-use Rattle.std.proofs.Common.{◌≡◌, ◌⊎◌, inl, inr, ℕ, ◌+◌, ◌<◌, ◌≤◌, min, Option, Some, None, Err, Ok, List, length, get_or, drop, refl, ap, sym, ◌∙◌, subst, arith, cond, slice_index}
+use Rattle.std.proofs.Common.{◌≡◌, ◌⊎◌, inl, inr, ℕ, ◌+◌, ◌<◌, ◌≤◌, min, Option, Some, None, Err, Ok, List, length, get_or, drop, ap, sym, ◌∙◌, subst, arith, cond, slice_index}
 use Rattle.std.specs.List.{range_with_len}
 use Rattle.std.specs.Option.{option_or}
 use Rattle.std.proofs.lemmas.Bool.{cases_lt, lt-ltb, le-ltb}
@@ -9,7 +9,7 @@ use Rattle.cube_space.specs.Layout.{Layout}
 use Rattle.rule_model.specs.Weights.{weight_product}
 use Rattle.model_deploy.specs.declared.fault.DeployFault.{DeployFault}
 use Rattle.model_deploy.specs.declared.fault.DeployCause.TheVariants as causes
-use Rattle.model_deploy.specs.Deployment.{refused_on, first_refusal, product_refusal, products_refusal, IsAnsweredBy}
+use Rattle.model_deploy.specs.Foundation.{refused_on, first_refusal, product_refusal, products_refusal, IsAnsweredBy}
 use Rattle.model_deploy.proofs.Firsts.{first-at, first-after, first-none}
 
 -- what is held down below a top says which numbers below the top are passed

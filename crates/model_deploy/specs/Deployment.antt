@@ -1,108 +1,33 @@
--- What the contents of a model text are as a model, and why they are refused.
-use Rattle.std.specs.Prelude.{◌≡◌, ℕ, ◌⊎◌, ⊤, nat_lt, if◌then◌else◌, List, [], ◌∷◌, length, map, replicate, slice_index}
-use Rattle.std.specs.Prelude.{Option, Some, None, option_map, Result, Ok, Err}
-use Rattle.std.specs.List.{range_with_len}
-use Rattle.std.specs.Option.{option_or}
-use Rattle.dim_text.specs.Progress.{Text}
-use Rattle.dim_weights.specs.declared.fault.WeightFault.{WeightFault}
-use Rattle.dim_weights.specs.declared.fault.WeightFault.TheVariants as weights
-use Rattle.dim_weights.specs.Refusal.{refusal_of as weights_refused}
-use Rattle.cube_space.specs.declared.shape.CubeShape.{CubeShape}
-use Rattle.cube_space.specs.declared.fault.SpaceFault.{SpaceFault}
-use Rattle.cube_space.specs.declared.fault.SpaceFault.TheVariants as spaces
-use Rattle.cube_space.specs.Layout.{Layout}
-use Rattle.cube_space.specs.Refusal.{refusal_of as space_refused}
-use Rattle.rule_model.specs.declared.rules.CubeRules.{CubeRules}
-use Rattle.rule_model.specs.BoundModel.{BoundModel, no_rules}
-use Rattle.rule_model.specs.Weights.{weight_product, max_weight_product}
+-- Deployment: the checks of a model text and its rule files, in order, and the model that passes them.
+use Rattle.std.specs.Prelude.{List, Option, option_map}
 use Rattle.model_text.specs.Contents.{Contents}
-use Rattle.model_text.specs.declared.parts.CubeText.{CubeText}
+use Rattle.check_order.specs.Verdict.{order_fault}
+use Rattle.check_order.specs.declared.fault.OrderFault.{OrderFault}
+use Rattle.check_order.specs.declared.fault.OrderFault.TheVariants as orders
+use Rattle.rule_model.specs.BoundModel.{BoundModel}
+use Rattle.model_deploy.specs.declared.file.RuleFile.{RuleFile}
+use Rattle.model_deploy.specs.declared.fault.At.TheVariants.{Statement}
 use Rattle.model_deploy.specs.declared.fault.DeployFault.{DeployFault}
-use Rattle.model_deploy.specs.declared.fault.DeployCause.{DeployCause}
 use Rattle.model_deploy.specs.declared.fault.DeployCause.TheVariants as causes
+use Rattle.model_deploy.specs.Foundation.{layout_of, order_lines, refused_on, foundation_refusal}
+use Rattle.model_deploy.specs.Rules.{file_name, rules_stage}
+use Rattle.model_deploy.specs.Stages.{Stage, found, unless, ◌>>=◌}
 
--- a cube of the text, without its lines and its rules
-abbrev pub shape_of : CubeText → CubeShape
-shape_of cube = record { name = cube.name; dims = cube.dims }
+-- what is wrong with the order: a height is one of the whole model, a reference stands in its cube's file
+abbrev pub order_refusal : List (Option RuleFile) → OrderFault → DeployFault
+order_refusal files (orders.TooHigh height) = refused_on 1 (causes.TooHigh height)
+order_refusal files (orders.NotEarlier cube statement reference) =
+    record { file = file_name files cube; at = Statement statement; cause = causes.NotEarlier reference }
 
--- the dimensions and the cubes of a model text
-abbrev pub layout_of : Contents → Layout
-layout_of contents = record {
-  dimensions = map (λ text. text.dimension) contents.dims;
-  cubes = map shape_of contents.cubes;
-}
+-- a bound model that passes the checks of the whole model
+abbrev pub checked : List (Option RuleFile) → BoundModel → Stage BoundModel
+checked files model = do
+  _ ← unless (option_map (order_refusal files) (order_fault model))
+  found model
 
--- rules for so many cubes, where none is looked at yet
-abbrev pub plain_rules : ℕ → List CubeRules
-plain_rules count = replicate count no_rules
-
--- the model of a model text
-abbrev pub model_of : Contents → BoundModel
-model_of contents = record { space = layout_of contents; rules = plain_rules (length contents.cubes) }
-
--- the line of each cube's `CUBE`
-abbrev pub cube_lines : List CubeText → List ℕ
-cube_lines cubes = map (λ cube. cube.line) cubes
-
-abbrev pub refused_on : ℕ → DeployCause → DeployFault
-refused_on line cause = record { line = line; cause = cause }
-
--- want of memory has no line
-abbrev pub memory : DeployFault
-memory = refused_on 0 causes.Memory
-
--- what is wrong with a dimension's coefficients: on the line of the element that has one too large, and where there are
--- too many pairs on the line of its `DIM`
-abbrev pub on_dimension : Text → WeightFault → DeployFault
-on_dimension text (weights.CoefficientTooLarge element) =
-    refused_on (slice_index text.lines element) causes.CoefficientTooLarge
-on_dimension text (weights.TooManyPairs count) = refused_on text.head (causes.TooManyPairs count)
-on_dimension text weights.Memory = memory
-
-abbrev pub dimension_refusal : Text → Option DeployFault
-dimension_refusal text = option_map (on_dimension text) (weights_refused text.dimension)
-
--- what is wrong with a cube's cells: on the line of its `CUBE`
-abbrev pub on_cube : List ℕ → SpaceFault → DeployFault
-on_cube lines (spaces.DimensionCount cube) = refused_on (slice_index lines cube) causes.DimensionCount
-on_cube lines (spaces.CubeTooLarge cube) = refused_on (slice_index lines cube) causes.CubeTooLarge
-on_cube lines (spaces.ModelTooLarge cube) = refused_on (slice_index lines cube) causes.ModelTooLarge
-on_cube lines spaces.Memory = memory
-
-abbrev pub space_refusal : List ℕ → Layout → Option DeployFault
-space_refusal lines layout = option_map (on_cube lines) (space_refused layout)
-
--- the weight product of a cube is above the greatest: on the line of its `CUBE`
-abbrev pub product_refusal : List ℕ → Layout → ℕ → Option DeployFault
-product_refusal lines layout cube =
-    if nat_lt max_weight_product (weight_product layout cube)
-    then Some (refused_on (slice_index lines cube) causes.WeightProduct)
-    else None
-
--- what the first of these is refused for that is refused
-abbrev pub first_refusal : {A : Type 0} → (A → Option DeployFault) → List A → Option DeployFault
-first_refusal refusal [] = None
-first_refusal refusal (x ∷ xs) = option_or (refusal x) (first_refusal refusal xs)
-
-abbrev pub dimensions_refusal : List Text → Option DeployFault
-dimensions_refusal dims = first_refusal dimension_refusal dims
-
-abbrev pub products_refusal : List ℕ → Layout → Option DeployFault
-products_refusal lines layout =
-    first_refusal (product_refusal lines layout) (range_with_len 0 (length layout.cubes))
-
--- the first refusal: first of all dimensions by their coefficients, then of the cubes by their cells, then of the cubes
--- by their weight products
-unfoldable pub refusal_of : Contents → Option DeployFault
-refusal_of contents =
-    option_or (dimensions_refusal contents.dims)
-    (option_or
-    (space_refusal (cube_lines contents.cubes) (layout_of contents))
-    (products_refusal (cube_lines contents.cubes) (layout_of contents)))
-
--- an answer has this cause: it is Ok where there is none, and else the cause; want of memory may always come
-abbrev pub IsAnsweredBy : {T : Type 0} → Option DeployFault → Result T DeployFault → Type 0
-IsAnsweredBy None (Ok value) = ⊤
-IsAnsweredBy (Some cause) (Ok value) = ⊥
-IsAnsweredBy None (Err fault) = fault ≡ memory
-IsAnsweredBy (Some cause) (Err fault) = (fault ≡ cause) ⊎ (fault ≡ memory)
+-- the coefficients, the cells and the weight products; the rules; and the checks of the whole model
+unfoldable pub deployment : Contents → List (Option RuleFile) → Stage BoundModel
+deployment contents files = do
+  _ ← unless (foundation_refusal contents)
+  rules ← rules_stage (layout_of contents) (order_lines contents.cubes) files
+  checked files (record { space = layout_of contents; rules = rules })

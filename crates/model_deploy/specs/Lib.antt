@@ -1,1 +1,4 @@
 pub mod Deployment
+pub mod Rules
+pub mod Foundation
+pub mod Stages

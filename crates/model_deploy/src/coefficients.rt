@@ -1,7 +1,7 @@
 ghost use Rattle.std.specs.Prelude.{IfOk, map};
 ghost use Rattle.dim_weights.specs.Table.{IsWeightsOf};
 ghost use Rattle.rule_model.specs.Weights.{AreWeightsOf};
-ghost use Rattle.model_deploy.specs.Deployment.{dimension_refusal, dimensions_refusal, IsAnsweredBy};
+ghost use Rattle.model_deploy.specs.Foundation.{dimension_refusal, dimensions_refusal, IsAnsweredBy};
 
 use crate::fault::{DeployCause, DeployFault};
 use dim_text::DimText;

@@ -1,12 +1,13 @@
 ghost use Rattle.std.specs.Prelude.{◌≡◌, IfOk, map, slice_index};
 ghost use Rattle.cube_space.specs.Layout.{IsLayout};
-ghost use Rattle.model_deploy.specs.Deployment.{shape_of, cube_lines, space_refusal, IsAnsweredBy};
+ghost use Rattle.model_deploy.specs.Foundation.{shape_of, cube_lines, order_lines, space_refusal, IsAnsweredBy};
 
 use crate::fault::{DeployCause, DeployFault};
 use cube_space::{CubeShape, Space, SpaceFault};
 use dim_core::Dimension;
 use dim_text::DimText;
-use model_text::CubeText;
+use lists::ListOf;
+use model_text::{CubeText, OrderLine};
 use std::alloc::{AllocError, Global};
 
 /// The line of each cube's `CUBE`.
@@ -38,24 +39,42 @@ pub fn dimensions_of(alloc: Global, texts: Vec<DimText>) -> Result<Vec<Dimension
     Ok(dimensions)
 }
 
-/// The shapes of the cubes.
-pub fn shapes_of(alloc: Global, cubes: Vec<CubeText>) -> Result<Vec<CubeShape>, AllocError>
-    ensures { IfOk result (λ shapes. shapes.items ≡ map shape_of cubes.items) }
-{
-    let mut shapes = Vec::with_capacity(alloc, cubes.len())?;
-    for cube in cubes {
-        shapes.push(shape_of(cube))?;
-    }
-    Ok(shapes)
+/// A cube's order line with the line on which it stands, where the cube has one.
+pub type OrderText = Option<(u32, OrderLine)>;
+
+/// The shapes of the cubes, and their order lines.
+#[derive(Drop)]
+pub struct Cubes {
+    pub shapes: Vec<CubeShape>,
+    pub orders: ListOf<OrderText>,
 }
 
-fn shape_of(cube: CubeText) -> CubeShape
-    ensures { result ≡ shape_of cube }
+/// The parts of the cubes' texts that aren't looked at yet.
+pub fn cubes_of(alloc: Global, cubes: Vec<CubeText>) -> Result<Cubes, AllocError>
+    ensures shapes { IfOk result (λ all. all.shapes.items ≡ map shape_of cubes.items) }
+    ensures orders { IfOk result (λ all. all.orders ≡ order_lines cubes.items) }
 {
-    CubeShape {
+    let mut shapes = Vec::with_capacity(alloc, cubes.len())?;
+    let mut orders = Vec::with_capacity(alloc, cubes.len())?;
+    for cube in cubes {
+        let (shape, order) = parts_of(cube);
+        shapes.push(shape)?;
+        orders.push(order)?;
+    }
+    Ok(Cubes {
+        shapes,
+        orders: ListOf::new(orders),
+    })
+}
+
+fn parts_of(cube: CubeText) -> (CubeShape, OrderText)
+    ensures { result ≡ (shape_of cube, cube.order) }
+{
+    let shape = CubeShape {
         name: cube.name,
         dims: cube.dims,
-    }
+    };
+    (shape, cube.order)
 }
 
 /// The space of these dimensions and cubes, or what it is refused for.

@@ -1,49 +1,93 @@
-ghost use Rattle.std.specs.Prelude.{◌≡◌, IfOk, OnOk};
-ghost use Rattle.rule_model.specs.Weights.{AreWeightsOf, HasSmallProducts};
-ghost use Rattle.model_deploy.specs.Deployment.{layout_of, model_of, refusal_of, IsAnsweredBy};
+ghost use Rattle.std.specs.Prelude.{◌≡◌, ◌⊎◌, ◌≤◌, length, IfOk};
+ghost use Rattle.cube_space.specs.Radix.{product};
+ghost use Rattle.check_order.specs.Heights.{greatest_height};
+ghost use Rattle.rule_laws.specs.OrderByPlace.{IsOrderedByPlace};
+ghost use Rattle.rule_model.specs.Conditions.{AreRules};
+ghost use Rattle.rule_model.specs.Order.{position_sizes};
+ghost use Rattle.rule_model.specs.System.{system_of, positions_of};
+ghost use Rattle.rule_model.specs.Weights.{AreWeightsOf};
+ghost use Rattle.model_deploy.specs.Foundation.{memory};
+ghost use Rattle.model_deploy.specs.Rules.{rules_stage};
+ghost use Rattle.model_deploy.specs.Stages.{Comes};
+ghost use Rattle.model_deploy.specs.Deployment.{order_refusal, checked, deployment};
 
-use crate::coefficients::weights_of;
-use crate::cubes::{dimensions_of, lines_of, shapes_of, space_of};
-use crate::fault::DeployFault;
-use crate::products::check_products;
-use crate::rules::plain_rules;
-use cube_space::Space;
-use dim_weights::Weights;
+use crate::binding::meanings_of;
+use crate::fault::{At, DeployCause, DeployFault};
+use crate::file::{RuleFile, fault_in};
+use crate::foundation::{Foundation, foundation_of};
+use crate::ordering::ordered_rules;
+use crate::texts::texts_of;
+use check_order::{OrderFault, check_order};
+use lists::ListOf;
 use model_text::ModelText;
-use rule_model::Model;
+use rule_model::{CubeRules, Model};
 use std::alloc::Global;
 
-/// What a model stands on: its dimensions and cubes, and the coefficients of each dimension.
-#[derive(Drop)]
-pub struct Foundation {
-    pub space: Space,
-    pub weights: Vec<Weights>,
+/// The model of a text that was read and of the rule files of its cubes, one entry a cube: None for a cube without
+/// rules. Scripts aren't looked at.
+///
+/// The first refusal is told. Each kind of check is made over the whole model before the next: coefficients by
+/// dimension, cells of the cubes, weight products, rule texts, what these mean, order lines, and then the order of all
+/// that formulas read.
+#[tactic(auto, unfolding(crate::specs::Deployment::deployment))]
+pub fn deploy(
+    alloc: Global,
+    text: ModelText,
+    rules: Vec<Option<RuleFile>>,
+) -> Result<Model, DeployFault>
+    requires one_each { length rules.items ≡ length text.cubes }
+    ensures comes { Comes (deployment text rules.items) result }
+    ensures ordered { IfOk result (λ model. IsOrderedByPlace (system_of model) (positions_of model)) }
+    ensures low { IfOk result (λ model. product (position_sizes model) ≤ greatest_height) }
+{
+    let found = foundation_of(alloc, text)?;
+    let bound = rules_of(alloc, &found, &rules)?;
+    let Foundation { space, weights, .. } = found;
+    let model = Model::of(space, weights, bound.into_vec())?;
+    checked(alloc, &rules, model)
 }
 
-/// The dimensions, the cubes and the coefficients of a text that was read.
-pub fn foundation_of(alloc: Global, text: ModelText) -> Result<Foundation, DeployFault>
-    ensures space { IfOk result (λ found. found.space ≡ layout_of text) }
-    ensures weights { IfOk result (λ found. AreWeightsOf found.space.dimensions found.weights.items) }
-    ensures products { IfOk result (λ found. HasSmallProducts found.space) }
-    ensures answered { IsAnsweredBy (refusal_of text) result }
+// The rules of each cube with its order.
+#[tactic(auto, unfolding(crate::specs::Rules::rules_stage))]
+fn rules_of(
+    alloc: Global,
+    found: &Foundation,
+    files: &[Option<RuleFile>],
+) -> Result<ListOf<CubeRules>, DeployFault>
+    requires one_each { length files.now ≡ length found.now.space.cubes }
+    requires weights { AreWeightsOf found.now.space.dimensions found.now.weights.items }
+    ensures comes { Comes (rules_stage found.now.space found.now.orders files.now) result }
+    ensures rules { IfOk result (AreRules found.now.space) }
 {
-    let weights = weights_of(alloc, text.dims())?;
-    let (dims, cubes, _scripts) = text.into_parts();
-    let lines = lines_of(alloc, &cubes)?;
-    let dimensions = dimensions_of(alloc, dims)?;
-    let shapes = shapes_of(alloc, cubes)?;
-    let space = space_of(alloc, dimensions, shapes, &lines)?;
-    check_products(&space, &weights, &lines)?;
-    Ok(Foundation { space, weights })
+    let texts = texts_of(alloc, files)?;
+    let meant = meanings_of(alloc, &found.space, files, texts.as_slice())?;
+    ordered_rules(alloc, found, meant)
 }
 
-/// The model of a text that was read. Files of rules and of scripts, and order lines, aren't looked at yet.
-pub fn deploy(alloc: Global, text: ModelText) -> Result<Model, DeployFault>
-    ensures deployed { IfOk result (λ model. model ≡ model_of text) }
-    ensures answered { IsAnsweredBy (refusal_of text) result }
+// The model, where it passes the checks of the whole model.
+fn checked(alloc: Global, files: &[Option<RuleFile>], model: Model) -> Result<Model, DeployFault>
+    ensures comes { Comes (checked files.now model) result }
+    ensures ordered { IfOk result (λ model. IsOrderedByPlace (system_of model) (positions_of model)) }
+    ensures low { IfOk result (λ model. product (position_sizes model) ≤ greatest_height) }
 {
-    let Foundation { space, weights } = foundation_of(alloc, text)?;
-    let rules = plain_rules(alloc, space.cubes())?;
-    let model = Model::of(space, weights, rules)?;
-    Ok(model)
+    match check_order(&model) {
+        Ok(()) => Ok(model),
+        Err(fault) => Err(order_fault(alloc, files, fault)),
+    }
+}
+
+fn order_fault(alloc: Global, files: &[Option<RuleFile>], fault: OrderFault) -> DeployFault
+    ensures { (result ≡ memory) ⊎ (result ≡ order_refusal files.now fault) }
+{
+    match fault {
+        OrderFault::TooHigh(height) => DeployFault::on(1, DeployCause::TooHigh(height)),
+        OrderFault::NotEarlier {
+            cube,
+            statement,
+            reference,
+        } => {
+            let cause = DeployCause::NotEarlier(reference);
+            fault_in(alloc, files, cube, At::Statement(statement), cause)
+        }
+    }
 }

@@ -1,14 +1,28 @@
-use std::alloc::{AllocError, AllocFailed};
+use lists::ListOf;
+use std::alloc::{AllocError, AllocFailed, Global};
 
-/// Why a model isn't deployed, and on which line of its text. For want of memory the line is 0.
-#[derive(Clone, Copy, Debug, PartialEq, Eq)]
+/// Why a model isn't deployed: in which file, where in it, and why. For want of memory it is line 0 of the model file.
+#[derive(Debug, Drop)]
 pub struct DeployFault {
-    pub line: u32,
+    /// The bytes of a rule file's name; None is the model file.
+    pub file: Option<ListOf<u8>>,
+    pub at: At,
     pub cause: DeployCause,
 }
 
-/// The cause of a refusal. The limits are our own. The first refusal is told: all dimensions are looked at for the
-/// first two causes, in the order of the text, then all cubes for the next three, then all cubes for the last.
+/// A place in a file. All count from 1.
+#[derive(Clone, Copy, Debug, PartialEq, Eq)]
+pub enum At {
+    Line(u32),
+    /// A statement of a rule file.
+    Statement(u32),
+    /// A feeder statement of a rule file.
+    Feeder(u32),
+}
+
+/// The cause of a refusal. The limits are our own. Causes stand here in the order in which they are looked for, each
+/// over the whole model before the next: in all dimensions for the first two, then in all cubes for the next three, and
+/// so on.
 #[derive(Clone, Copy, Debug, PartialEq, Eq)]
 pub enum DeployCause {
     /// A coefficient of an element is above 10^9 in size. The line is that of the element's statement.
@@ -17,7 +31,7 @@ pub enum DeployCause {
     /// which they become more than 4,000,000. The line is that of its `DIM`.
     TooManyPairs(u64),
     /// A cube has fewer than 2 or more than 16 dimensions. The line is that of its `CUBE`, as it is for the following
-    /// causes.
+    /// three causes.
     DimensionCount,
     /// A cube has more than 2^62 cells.
     CubeTooLarge,
@@ -26,18 +40,59 @@ pub enum DeployCause {
     /// The greatest sizes of a coefficient in the dimensions of a cube have a product above
     /// [`rule_model::MAX_WEIGHT_PRODUCT`].
     WeightProduct,
-    /// Want of memory.
+    /// What stands on this line of a rule file fits no rule text.
+    Syntax,
+    /// Parentheses of a formula in a rule file are too deep, or a formula has too many operands.
+    TooDeep,
+    /// A rule file has more than 1,000 statements or more than 1,000 feeder statements.
+    TooMany,
+    /// A statement or a feeder names a cube, a dimension, an element or an attribute that isn't there.
+    UnknownName,
+    /// An element without its dimension is in several dimensions of the cube.
+    Ambiguous,
+    /// Two entries for one dimension, or not as many arguments as there have to be.
+    WrongCount,
+    /// What names an element depends on more than can be made a table of.
+    DynamicReference,
+    /// What may stand in a rule of TM1 may not stand there, or not here.
+    Unsupported,
+    /// The order line of a cube, on this line, stands for no order.
+    BadOrder,
+    /// The height of the declared order is above 65,536, up to the first position with which it is. The line is the
+    /// model's first.
+    TooHigh(u64),
+    /// This reference of a statement, counted from 1 in reading order, doesn't stand before the statement's cells.
+    NotEarlier(u32),
+    /// Want of memory. It may come in place of any answer.
     Memory,
 }
 
 impl DeployFault {
-    ghost use Rattle.std.specs.Prelude.{◌≡◌};
-    ghost use Rattle.model_deploy.specs.Deployment.{refused_on, memory};
+    ghost use Rattle.std.specs.Prelude.{◌≡◌, ◌⊎◌, Some};
+    ghost use Rattle.model_deploy.specs.Foundation.{refused_on, memory};
 
     pub(crate) fn on(line: u32, cause: DeployCause) -> DeployFault
         ensures { result ≡ refused_on line cause }
     {
-        DeployFault { line, cause }
+        DeployFault {
+            file: None,
+            at: At::Line(line),
+            cause,
+        }
+    }
+
+    // The fault in the rule file of this name.
+    pub(crate) fn within(alloc: Global, name: &[u8], at: At, cause: DeployCause) -> DeployFault
+        ensures { (result ≡ memory) ⊎ (result ≡ record { file = Some name.now; at = at; cause = cause }) }
+    {
+        match Vec::from_slice(alloc, name) {
+            Ok(name) => DeployFault {
+                file: Some(ListOf::new(name)),
+                at,
+                cause,
+            },
+            Err(_) => DeployFault::memory(),
+        }
     }
 
     pub(crate) fn memory() -> DeployFault
@@ -49,7 +104,7 @@ impl DeployFault {
 
 impl From<AllocError> for DeployFault {
     ghost use Rattle.std.specs.Prelude.{◌≡◌};
-    ghost use Rattle.model_deploy.specs.Deployment.{memory};
+    ghost use Rattle.model_deploy.specs.Foundation.{memory};
 
     ghost from_gives = { λ _ e. e ≡ memory };
 
@@ -60,7 +115,7 @@ impl From<AllocError> for DeployFault {
 
 impl<T: Drop> From<AllocFailed<T>> for DeployFault {
     ghost use Rattle.std.specs.Prelude.{◌≡◌};
-    ghost use Rattle.model_deploy.specs.Deployment.{memory};
+    ghost use Rattle.model_deploy.specs.Foundation.{memory};
 
     ghost from_gives = { λ _ e. e ≡ memory };
 

@@ -1,15 +1,22 @@
-//! From a model text that was read to a bound model, or to the first refusal.
+//! From a model text and the files of its cubes' rules to a bound model, or to the first refusal.
 //!
-//! Read in this order: [`deploy`], which makes the model; [`DeployFault`], why it refuses. A model text is refused here
-//! for what no single statement of it shows: coefficients of dimensions, counts of cells, weight products of cubes.
+//! Read in this order: [`deploy`], which makes the model; [`RuleFile`], what it is given beside the text;
+//! [`DeployFault`], why it refuses. `specs/Deployment.antt` has the checks in their order, `specs/Rules.antt` those of
+//! rules, and `specs/Foundation.antt` those of dimensions and cubes.
 #![tactic(auto)]
 
+mod binding;
 mod coefficients;
 mod cubes;
 mod deploying;
 mod fault;
+mod file;
+mod foundation;
+mod ordering;
 mod products;
-mod rules;
+mod texts;
 
-pub use deploying::{Foundation, deploy, foundation_of};
-pub use fault::{DeployCause, DeployFault};
+pub use deploying::deploy;
+pub use fault::{At, DeployCause, DeployFault};
+pub use file::{RuleFile, no_rule_files};
+pub use foundation::{Foundation, foundation_of};

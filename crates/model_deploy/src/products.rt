@@ -1,6 +1,6 @@
 ghost use Rattle.std.specs.Prelude.{◌≡◌, ◌<◌, OnOk, length, min};
 ghost use Rattle.rule_model.specs.Weights.{AreWeightsOf, HasSmallProducts, weight_product};
-ghost use Rattle.model_deploy.specs.Deployment.{products_refusal, IsAnsweredBy};
+ghost use Rattle.model_deploy.specs.Foundation.{products_refusal, IsAnsweredBy};
 
 use crate::cubes::line_of;
 use crate::fault::{DeployCause, DeployFault};

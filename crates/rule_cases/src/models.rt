@@ -23,7 +23,7 @@ pub fn model_of(alloc: Global, files: &Files) -> Result<Model, Refusal>
     let (_dims, cubes, _scripts) = text_of(alloc, files)?.into_parts();
     let found = foundation(alloc, files)?;
     let rules = all_rules(alloc, &found, &cubes, files)?;
-    let Foundation { space, weights } = found;
+    let Foundation { space, weights, .. } = found;
     let model = Model::of(space, weights, rules)?;
     match check_order(&model) {
         Ok(()) => Ok(model),

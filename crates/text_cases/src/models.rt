@@ -1,5 +1,6 @@
 use crate::answers::{Answer, Lines, refused, shown};
 use cube_space::Space;
+use model_deploy::{deploy, no_rule_files};
 use model_text::{CubeText, ModelText};
 use std::alloc::{AllocError, Global};
 
@@ -50,7 +51,8 @@ pub fn space(alloc: Global, text: &[u8]) -> Result<Answer, AllocError> {
 }
 
 fn space_of(alloc: Global, model: ModelText, text: &[u8]) -> Result<Answer, AllocError> {
-    match model_deploy::deploy(alloc, model) {
+    let rules = no_rule_files(alloc, model.cubes().len())?;
+    match deploy(alloc, model, rules) {
         Ok(model) => {
             let mut lines = Lines::new(alloc);
             add_space(&mut lines, model.space());

@@ -7,7 +7,7 @@ use Rattle.cube_space.specs.Layout.{Layout}
 use Rattle.model_text.specs.Contents.{Contents, IsContents, IsOrderedIn}
 use Rattle.model_text.specs.declared.order.OrderLine.{OrderLine}
 use Rattle.model_text.specs.declared.parts.CubeText.{CubeText}
-use Rattle.model_deploy.specs.Deployment.{shape_of, layout_of, cube_lines, refusal_of, dimensions_refusal, space_refusal, products_refusal}
+use Rattle.model_deploy.specs.Foundation.{shape_of, layout_of, cube_lines, foundation_refusal, dimensions_refusal, space_refusal, products_refusal}
 use Rattle.model_deploy.specs.declared.fault.DeployFault.{DeployFault}
 use Rattle.rule_model.specs.declared.order.Order.{Order}
 use Rattle.rule_model.specs.declared.rules.CubeRules.{CubeRules}
@@ -28,8 +28,8 @@ same_layout version contents = ap laid (same_map shape_of version (λ cube. refl
     laid : List CubeShape → Layout
     laid cubes = record { dimensions = map (λ text. text.dimension) contents.dims; cubes = cubes }
 
-same_refusal : (version : ℕ) (contents : Contents) → refusal_of (contents_in version contents) ≡ refusal_of contents
-unfolding refusal_of
+same_refusal : (version : ℕ) (contents : Contents) → foundation_refusal (contents_in version contents) ≡ foundation_refusal contents
+unfolding foundation_refusal
 same_refusal version contents =
     ap (λ lines. refused lines (layout_of (contents_in version contents))) (same_map (λ cube. cube.line) version (λ cube. refl) contents.cubes)
     ∙ ap (refused (cube_lines contents.cubes)) (same_layout version contents)
@@ -75,7 +75,7 @@ cubes_too space rules cube (text ∷ texts) bound one is =
 -- the whole model
 pub model_too : (contents : Contents) (rules : Layout → ℕ → Option CubeRules) (model : BoundModel) → IsContents contents → contents.version ≡ 1 → model_bound rules contents ≡ Some model
     → model_bound rules (contents_in 2 contents) ≡ Some model
-model_too contents rules model valid one is = by (is_some (refusal_of contents)) refl
+model_too contents rules model valid one is = by (is_some (foundation_refusal contents)) refl
   where
     ordered : All (IsOrderedIn 1) contents.cubes
     ordered = subst (λ v. All (IsOrderedIn v) contents.cubes) one valid.cube_orders
@@ -83,7 +83,7 @@ model_too contents rules model valid one is = by (is_some (refusal_of contents))
     bound : Bool → Layout → List CubeText → Option BoundModel
     bound refused space cubes = if refused then None else option_map (λ bound. record { space = space; rules = bound }) (cubes_bound space (rules space) 0 cubes)
 
-    by : (b : Bool) → is_some (refusal_of contents) ≡ b → model_bound rules (contents_in 2 contents) ≡ Some model
+    by : (b : Bool) → is_some (foundation_refusal contents) ≡ b → model_bound rules (contents_in 2 contents) ≡ Some model
     by true refused = absurd (let e : None ≡ Some model = sym (ap (λ b. bound b (layout_of contents) contents.cubes) refused) ∙ is in cc e)
     by false accepted =
         let here : bound false (layout_of contents) contents.cubes ≡ Some model = sym (ap (λ b. bound b (layout_of contents) contents.cubes) accepted) ∙ is in

@@ -6,7 +6,7 @@ use Rattle.std.specs.Option.{option_map_or}
 use Rattle.cube_space.specs.Layout.{Layout}
 use Rattle.model_text.specs.Contents.{Contents}
 use Rattle.model_text.specs.declared.parts.CubeText.{CubeText}
-use Rattle.model_deploy.specs.Deployment.{layout_of, refusal_of}
+use Rattle.model_deploy.specs.Foundation.{layout_of, foundation_refusal}
 use Rattle.rule_model.specs.declared.order.Order.{Order}
 use Rattle.rule_model.specs.declared.rules.CubeRules.{CubeRules}
 use Rattle.rule_model.specs.BoundModel.{BoundModel}
@@ -34,6 +34,6 @@ cubes_bound space meant cube (text ∷ texts) =
 -- the model; None where a text is refused
 abbrev pub model_bound : (Layout → ℕ → Option CubeRules) → Contents → Option BoundModel
 model_bound meant contents =
-    if is_some (refusal_of contents) then None
+    if is_some (foundation_refusal contents) then None
     else option_map (λ bound. record { space = layout_of contents; rules = bound })
     (cubes_bound (layout_of contents) (meant (layout_of contents)) 0 contents.cubes)

@@ -1,4 +1,4 @@
-use Rattle.std.proofs.Common.{◌≡◌, ◌∙◌, ap, sym, length, arith}
+use Rattle.std.proofs.Common.{◌≡◌, ap, length, arith}
 use Rattle.dim_core.specs.Outline.{Outline}
 use Rattle.dim_weights.specs.declared.weights.Weights.{Weights}
 use Rattle.dim_weights.specs.declared.fault.WeightFault.TheVariants.{CoefficientTooLarge}

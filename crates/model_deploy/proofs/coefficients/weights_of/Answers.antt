@@ -1,11 +1,10 @@
-use Rattle.std.proofs.Common.{◌≡◌, ◌+◌, ◌∷◌, ◌++◌, [], ◌∙◌, Option, List, sym, ap, subst, drop, map, take}
+use Rattle.std.proofs.Common.{◌≡◌, ◌+◌, ◌∷◌, ◌++◌, [], ◌∙◌, Option, sym, ap, subst, drop, map, take}
 use Rattle.std.proofs.lemmas.List.{map-append, take_more}
 use Rattle.dim_text.specs.Progress.{Text}
 use Rattle.dim_weights.specs.Table.{IsWeightsOf}
-use Rattle.rule_model.specs.Weights.{AreWeightsOf}
 use Rattle.dim_core.specs.Outline.{Outline}
 use Rattle.model_deploy.specs.declared.fault.DeployFault.{DeployFault}
-use Rattle.model_deploy.specs.Deployment.{dimension_refusal, dimensions_refusal, IsAnsweredBy}
+use Rattle.model_deploy.specs.Foundation.{dimension_refusal, dimensions_refusal, IsAnsweredBy}
 use Rattle.model_deploy.proofs.Firsts.{first-at, first-after, refused-as, unrefused, zip-push}
 use Rattle.model_deploy.proofs.coefficients.weights_of.Goals as goal
 

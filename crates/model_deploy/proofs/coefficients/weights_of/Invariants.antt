@@ -1,6 +1,6 @@
 use Rattle.std.proofs.Common.{◌≡◌, take, drop, map}
 use Rattle.rule_model.specs.Weights.{AreWeightsOf}
-use Rattle.model_deploy.specs.Deployment.{dimensions_refusal}
+use Rattle.model_deploy.specs.Foundation.{dimensions_refusal}
 use Rattle.model_deploy.proofs.coefficients.weights_of.Given as goal
 
 -- the dimensions so far have their coefficients, so the first refusal is one of those that are left

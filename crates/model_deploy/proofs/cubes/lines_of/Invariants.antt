@@ -1,5 +1,5 @@
 use Rattle.std.proofs.Common.{◌≡◌, take}
-use Rattle.model_deploy.specs.Deployment.{cube_lines}
+use Rattle.model_deploy.specs.Foundation.{cube_lines}
 use Rattle.model_deploy.proofs.cubes.lines_of.Given as goal
 
 abbrev pub invariant-loop-cube : goal.invariant-loop-cube

@@ -1,4 +1,4 @@
-use Rattle.std.proofs.Common.{ℕ, ◌<◌, ◌≤◌, arith}
+use Rattle.std.proofs.Common.{arith}
 use Rattle.rule_model.specs.Weights.{weight_product}
 use Rattle.model_deploy.proofs.SmallProducts.{min-small, min-large, product-refused, product-passed, products-passed, small-more}
 use Rattle.model_deploy.proofs.products.check_products.Goals as goal

@@ -1,7 +1,7 @@
 use Rattle.std.proofs.Common.{◌≡◌, ℕ, ◌<◌, ◌≤◌, drop, length}
 use Rattle.std.specs.List.{range_with_len}
 use Rattle.rule_model.specs.Weights.{weight_product}
-use Rattle.model_deploy.specs.Deployment.{first_refusal, product_refusal, products_refusal}
+use Rattle.model_deploy.specs.Foundation.{first_refusal, product_refusal, products_refusal}
 use Rattle.model_deploy.proofs.products.check_products.Given as goal
 
 -- the cubes so far have small products, so the first refusal is one of those that are left

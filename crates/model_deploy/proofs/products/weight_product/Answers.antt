@@ -1,4 +1,4 @@
-use Rattle.std.proofs.Common.{w64, ◌≡◌, ◌<◌, ◌^◌, ◌*◌, ◌∙◌, arith, ap, refl, min, unsigned_abs, slice_index_or}
+use Rattle.std.proofs.Common.{w64, ◌<◌, ◌^◌, ◌*◌, ◌∙◌, arith, ap, refl, unsigned_abs, slice_index_or}
 use Rattle.std.proofs.Math.Nat.{min-le_right}
 use Rattle.std.proofs.lemmas.Int.{to_z-of_z, fits_signed_from_abs}
 use Rattle.std.proofs.lemmas.Slice.Zip.{AllZip-long}

@@ -1,0 +1,12 @@
+use Rattle.std.proofs.Common.{take}
+use Rattle.model_deploy.specs.Rules.{meaning_stage}
+use Rattle.model_deploy.proofs.CubeRules.{AreFirst}
+use Rattle.model_deploy.proofs.Stages.{AreFound}
+use Rattle.model_deploy.proofs.binding.meanings_of.Given as goal
+
+-- the texts so far mean these rules
+abbrev pub invariant-loop-cube : goal.invariant-loop-cube
+invariant-loop-cube l = record {
+  meant : AreFound (meaning_stage l.space l.files) 0 (take l.cube l.texts) l.all.items;
+  rules : AreFirst l.space l.all.items l.cube;
+}

@@ -1,0 +1,102 @@
+-- The rules of a model's cubes: from rule files to statements, feeders and orders over numbers.
+use Rattle.std.specs.Prelude.{◌≡◌, ℕ, false, List, [], slice_index_or, Option, Some, None, option_map, Result, Ok, Err}
+use Rattle.cube_space.specs.Layout.{Layout}
+use Rattle.model_text.specs.declared.order.OrderLine.{OrderLine}
+use Rattle.rule_tree.specs.declared.rule.RuleText.{RuleText}
+use Rattle.rule_reader.specs.Answers.{Answers}
+use Rattle.rule_reader.specs.declared.fault.RuleFault.{RuleFault}
+use Rattle.rule_reader.specs.declared.fault.RuleFault.TheVariants as texts
+use Rattle.bind_areas.specs.declared.cause.BindCause.{BindCause}
+use Rattle.bind_areas.specs.declared.cause.BindCause.TheVariants as binds
+use Rattle.rule_bind.specs.declared.fault.BindAt.{BindAt}
+use Rattle.rule_bind.specs.declared.fault.BindAt.TheVariants as places
+use Rattle.rule_bind.specs.declared.fault.BindFault.{BindFault}
+use Rattle.rule_bind.specs.Rules.{rules_of}
+use Rattle.bind_order.specs.Orders.{order_of}
+use Rattle.rule_model.specs.declared.rules.CubeRules.{CubeRules}
+use Rattle.rule_model.specs.declared.order.Order.{Order}
+use Rattle.model_deploy.specs.declared.file.RuleFile.{RuleFile}
+use Rattle.model_deploy.specs.declared.fault.At.{At}
+use Rattle.model_deploy.specs.declared.fault.At.TheVariants.{Line, Statement, Feeder}
+use Rattle.model_deploy.specs.declared.fault.DeployFault.{DeployFault}
+use Rattle.model_deploy.specs.declared.fault.DeployCause.{DeployCause}
+use Rattle.model_deploy.specs.declared.fault.DeployCause.TheVariants as causes
+use Rattle.model_deploy.specs.Foundation.{refused_on}
+use Rattle.model_deploy.specs.Stages.{Stage, found, meant, each, ◌>>=◌}
+
+-- the name of a cube's rule file
+abbrev pub file_name : List (Option RuleFile) → ℕ → Option (List ℕ)
+file_name files cube = option_map (λ file. file.name) (slice_index_or files cube None)
+
+-- a rule file is refused on this line
+abbrev pub refused_in : List ℕ → ℕ → DeployCause → DeployFault
+refused_in name line cause = record { file = Some name; at = Line line; cause = cause }
+
+-- what is wrong with the text of a rule file; want of memory is nothing of it
+abbrev pub text_refusal : List ℕ → RuleFault → Option DeployFault
+text_refusal name (texts.Syntax line) = Some (refused_in name line causes.Syntax)
+text_refusal name (texts.TooDeep line) = Some (refused_in name line causes.TooDeep)
+text_refusal name (texts.TooMany line) = Some (refused_in name line causes.TooMany)
+text_refusal name texts.Memory = None
+
+-- without statements and feeders
+abbrev pub no_text : RuleText
+no_text = record { skipcheck = false; statements = []; feeders = [] }
+
+-- the text of a cube's rules: what its file has, and nothing where it has no file
+abbrev pub text_stage : Option RuleFile → Stage RuleText
+text_stage None = found no_text
+text_stage (Some file) = record {
+  finds = λ text. Answers file.bytes (Ok text);
+  refuses = λ fault.
+      (first : RuleFault) × Answers file.bytes (Err first) × (text_refusal file.name first ≡ Some fault);
+}
+
+-- where a rule text has no meaning, and why
+abbrev pub place_of : BindAt → At
+place_of (places.Statement number) = Statement number
+place_of (places.Feeder number) = Feeder number
+
+abbrev pub cause_of : BindCause → DeployCause
+cause_of binds.UnknownName = causes.UnknownName
+cause_of binds.Ambiguous = causes.Ambiguous
+cause_of binds.WrongCount = causes.WrongCount
+cause_of binds.DynamicReference = causes.DynamicReference
+cause_of binds.Unsupported = causes.Unsupported
+cause_of binds.Memory = causes.Memory
+
+-- a meaning, or its first fault in this file
+abbrev pub meant_in : Option (List ℕ) → Result CubeRules BindFault → Result CubeRules DeployFault
+meant_in name (Ok rules) = Ok rules
+meant_in name (Err fault) = Err (record { file = name; at = place_of fault.at; cause = cause_of fault.cause })
+
+-- the rules that the text of a cube means, which declare no order yet
+abbrev pub meaning_stage : Layout → List (Option RuleFile) → ℕ → RuleText → Stage CubeRules
+meaning_stage space files cube text = meant (meant_in (file_name files cube) (rules_of space cube text))
+
+-- rules in the order that a line stands for; where it stands for none it is refused on its line
+abbrev pub in_order : CubeRules → ℕ → Option Order → Result CubeRules DeployFault
+in_order rules line None = Err (refused_on line causes.BadOrder)
+in_order rules line (Some order) =
+    Ok (record {
+      skipcheck = rules.skipcheck;
+      statements = rules.statements;
+      feeders = rules.feeders;
+      order = order;
+    })
+
+-- the rules of a cube with the order that its order line stands for, where it has one
+abbrev pub by_line : Layout → ℕ → CubeRules → Option (ℕ × OrderLine) → Stage CubeRules
+by_line space cube rules None = found rules
+by_line space cube rules (Some line) = meant (in_order rules line.0 (order_of space cube line.1))
+
+abbrev pub order_stage : Layout → List (Option (ℕ × OrderLine)) → ℕ → CubeRules → Stage CubeRules
+order_stage space lines cube rules = by_line space cube rules (slice_index_or lines cube None)
+
+-- the rules of each cube: all texts are read, then all are bound, and then all order lines
+unfoldable pub rules_stage
+    : Layout → List (Option (ℕ × OrderLine)) → List (Option RuleFile) → Stage (List CubeRules)
+rules_stage space lines files = do
+  texts ← each (λ _. text_stage) 0 files
+  meant ← each (meaning_stage space files) 0 texts
+  each (order_stage space lines) 0 meant

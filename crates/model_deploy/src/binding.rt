@@ -1,0 +1,98 @@
+ghost use Rattle.std.specs.Prelude.{◌≡◌, ◌⊎◌, ◌<◌, length, IfOk};
+ghost use Rattle.rule_model.specs.Conditions.{AreCubeRules, AreRules};
+ghost use Rattle.bind_areas.specs.declared.cause.BindCause.TheVariants.{Memory};
+ghost use Rattle.model_deploy.specs.Foundation.{memory};
+ghost use Rattle.model_deploy.specs.Rules.{file_name, place_of, cause_of, meaning_stage};
+ghost use Rattle.model_deploy.specs.Stages.{each, Comes};
+
+use crate::fault::{At, DeployCause, DeployFault};
+use crate::file::{RuleFile, fault_in};
+use bind_laws::bound_rules_meet_the_conditions;
+use cube_space::Space;
+use lists::ListOf;
+use rule_bind::{BindAt, BindCause, BindFault, CubeRules, bind};
+use rule_sizes::are_countable;
+use rule_tree::RuleText;
+use std::alloc::Global;
+
+// The most statements and the most feeder statements of a rule text. A text that was read has no more of them.
+const MOST: usize = 1_000;
+
+/// The rules that the texts of all cubes mean, or the first fault of the first that has one.
+pub fn meanings_of(
+    alloc: Global,
+    space: &Space,
+    files: &[Option<RuleFile>],
+    texts: &[RuleText],
+) -> Result<ListOf<CubeRules>, DeployFault>
+    requires { length texts.now ≡ length space.now.cubes }
+    ensures comes { Comes (each (meaning_stage space.now files.now) 0 texts.now) result }
+    ensures rules { IfOk result (AreRules space.now) }
+{
+    let mut all = Vec::with_capacity(alloc, texts.len())?;
+    for cube in 0..space.cubes() {
+        let rules = meaning_of(alloc, space, files, cube, &texts[cube as usize])?;
+        all.push(rules)?;
+    }
+    Ok(ListOf::new(all))
+}
+
+fn meaning_of(
+    alloc: Global,
+    space: &Space,
+    files: &[Option<RuleFile>],
+    cube: u32,
+    text: &RuleText,
+) -> Result<CubeRules, DeployFault>
+    requires { cube < length space.now.cubes }
+    ensures comes { Comes (meaning_stage space.now files.now cube text.now) result }
+    ensures rules { IfOk result (AreCubeRules space.now cube) }
+{
+    if text.statements.as_slice().len() > MOST || text.feeders.as_slice().len() > MOST {
+        return Err(DeployFault::memory());
+    }
+    // a space says of itself that it is one, and what is bound there meets the conditions on rules
+    let _cells = space.size();
+    bound_rules_meet_the_conditions();
+    match bind(alloc, space, cube, text) {
+        Ok(rules) if are_countable(&rules) => Ok(rules),
+        Ok(_) => Err(DeployFault::memory()),
+        Err(fault) => Err(meaning_fault(alloc, files, cube, fault)),
+    }
+}
+
+fn meaning_fault(
+    alloc: Global,
+    files: &[Option<RuleFile>],
+    cube: u32,
+    fault: BindFault,
+) -> DeployFault
+    ensures told { (result ≡ memory) ⊎ (result ≡ record {
+      file = file_name files.now cube;
+      at = place_of fault.at;
+      cause = cause_of fault.cause;
+    }) }
+    ensures memory { fault.cause ≡ Memory → result ≡ memory }
+{
+    if fault.cause == BindCause::Memory {
+        return DeployFault::memory();
+    }
+    let at = match fault.at {
+        BindAt::Statement(number) => At::Statement(number),
+        BindAt::Feeder(number) => At::Feeder(number),
+    };
+    fault_in(alloc, files, cube, at, cause_of(fault.cause))
+}
+
+fn cause_of(cause: BindCause) -> DeployCause
+    ensures { result ≡ cause_of cause }
+{
+    match cause {
+        BindCause::UnknownName => DeployCause::UnknownName,
+        BindCause::Ambiguous => DeployCause::Ambiguous,
+        BindCause::WrongCount => DeployCause::WrongCount,
+        BindCause::DynamicReference => DeployCause::DynamicReference,
+        BindCause::Unsupported => DeployCause::Unsupported,
+        BindCause::Memory => DeployCause::Memory,
+    }
+}

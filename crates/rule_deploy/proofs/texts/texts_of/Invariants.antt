@@ -1,8 +1,0 @@
-use Rattle.std.proofs.Common.{take}
-use Rattle.rule_deploy.specs.Rules.{text_stage}
-use Rattle.rule_deploy.proofs.Stages.{AreFound}
-use Rattle.rule_deploy.proofs.texts.texts_of.Given as goal
-
--- the files so far have these texts
-abbrev pub invariant-loop-file : goal.invariant-loop-file
-invariant-loop-file l = AreFound (λ _. text_stage) 0 (take l.file-index l.files) l.texts.items

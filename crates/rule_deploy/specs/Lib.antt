@@ -1,4 +1,0 @@
-pub mod Deployment
-pub mod Rules
-pub mod Foundation
-pub mod Stages
