@@ -1,50 +1,18 @@
 -- Each cause has its status.
 use Rattle.std.proofs.Common.{◌≡◌, ℕ, List, [], ◌∷◌, Option, Some, inl, inr, refl, sym, ap, subst, ◌∙◌}
-use Rattle.rule_model.specs.BoundModel.{BoundModel}
-use Rattle.user_session.specs.declared.command.PlanCommand.{PlanCommand}
-use Rattle.cube_server.specs.declared.job.Job.{Job}
-use Rattle.cube_server.specs.declared.job.Job.TheVariants.{Serve}
-use Rattle.cube_server.specs.declared.refusal.Refusal.{Refusal}
+use Rattle.run_passes.specs.declared.job.Job.{Job}
+use Rattle.run_passes.specs.declared.refusal.Refusal.{Refusal}
 use Rattle.cube_server.specs.declared.status.Status.{Status}
 use Rattle.cube_server.specs.declared.status.Status.TheVariants.{Done, Usage, Refused, ReadFault, WriteFault, NoMemory}
-use Rattle.cube_server.specs.Course.{IsCourse}
-use Rattle.cube_server.specs.Models.{model_judgement}
-use Rattle.cube_server.specs.Users.{users_judgement}
-use Rattle.cube_server.specs.Outside.{Outside}
-use Rattle.cube_server.specs.Pass.{Source, Readings, NotWords, Reads, Refuses, Pass, found, file, files, judged, ◌>>=◌}
-use Rattle.cube_server.specs.Run.{model_pass, users_pass, plan_pass, run_of}
+use Rattle.run_passes.specs.Course.{IsCourse}
+use Rattle.run_passes.specs.Outside.{Outside}
+use Rattle.run_passes.specs.Pass.{Readings, NotWords, Reads, Refuses}
+use Rattle.run_passes.specs.Run.{run_of}
 use Rattle.cube_server.specs.Status.{IsOneOf}
-use Rattle.cube_server.specs.Words.{Plan, Run, IsPlan}
+use Rattle.run_passes.specs.Words.{Plan, IsPlan}
 use Rattle.cube_server.specs.Inside.Ending.{Ends}
-use Rattle.cube_server.proofs.Judgements.{one_model_judgement, one_users_judgement}
-use Rattle.cube_server.proofs.PassFacts.{IsOne, one-the, one-bind, one-found, one-file, one-files, one-judged}
-use Rattle.cube_server.proofs.OneCourse.{same_course}
-
--- ---- a run comes to one thing at each point
-
-one_plan : (words : List (List ℕ)) (a b : Plan) → IsPlan words a → IsPlan words b → a ≡ b
-one_plan words (Run model users) (Run other more) p q =
-    let same : model ∷ users ≡ other ∷ more = sym p.all ∙ q.all in
-    cc
-
-one_model_pass : (name : List ℕ) → IsOne (model_pass name)
-one_model_pass name =
-    one-bind (file name) (λ source. judged (model_judgement source)) (one-file name)
-    (λ source. one-judged (model_judgement source) (one_model_judgement source))
-
-one_users_pass : (names : List (List ℕ)) → IsOne (users_pass names)
-one_users_pass names =
-    one-bind (files names) (λ sources. judged (users_judgement sources)) (one-files names)
-    (λ sources. one-judged (users_judgement sources) (one_users_judgement sources))
-
-one_plan_pass : (plan : Plan) → IsOne (plan_pass plan)
-one_plan_pass (Run model users) =
-    let serve : BoundModel → List (List PlanCommand) → Pass Job = λ bound commands. found (Serve bound commands) in
-    one-bind (model_pass model) (λ bound. users_pass users >>= serve bound) (one_model_pass model)
-    (λ bound. one-bind (users_pass users) (serve bound) (one_users_pass users) (λ commands. one-found (Serve bound commands)))
-
-one_run : (words : List (List ℕ)) → IsOne (run_of words)
-one_run words = one-bind _ plan_pass (one-the (IsPlan words) NotWords (one_plan words)) one_plan_pass
+use Rattle.run_passes.proofs.OneCourse.{same_course}
+use Rattle.run_passes.proofs.PlanFacts.{one_run}
 
 -- ---- ends of a course
 
@@ -53,8 +21,7 @@ found_ends words readings j finds name stops = (one_run words).not_both readings
 
 refused_ends : (words : List (List ℕ)) (readings : Readings) (refusal : Refusal)
     → (run_of words).stops readings (Refuses refusal) → (name : List ℕ) → ¬ (run_of words).stops readings (Reads name)
-refused_ends words readings refusal refuses name reads =
-    let clash = (one_run words).one_stop readings (Refuses refusal) (Reads name) refuses reads in cc
+refused_ends words readings refusal refuses name reads = (one_run words).one_stop readings (Refuses refusal) (Reads name) refuses reads
 
 -- a run that refuses a file finds no job
 not_both_ends : (words : List (List ℕ)) (map : List ℕ → Option (List ℕ)) (r s : Readings) (j : Job) (refusal : Refusal)
@@ -81,7 +48,7 @@ refuses-status words o old new before after Done ends map readings refusal told 
     let done = ends.0.is in
     absurd (not_both_ends words map done.readings readings done.job refusal (known_as words o map done.readings told done.course) done.accepted course refuses)
 refuses-status words o old new before after Usage ends map readings refusal told course refuses =
-    let clash = (one_run words).one_stop readings (Refuses refusal) NotWords refuses (misfit_stops words readings ends.0.is.misfit) in cc
+    absurd ((one_run words).one_stop readings (Refuses refusal) NotWords refuses (misfit_stops words readings ends.0.is.misfit))
 refuses-status words o old new before after Refused ends map readings refusal told course refuses = inl refl
 refuses-status words o old new before after ReadFault ends map readings refusal told course refuses = inr (inl refl)
 refuses-status words o old new before after WriteFault ends map readings refusal told course refuses = inr (inr (inl refl))

@@ -3,22 +3,21 @@ use Rattle.std.proofs.Common.{◌≡◌, ℕ, List, [], ◌∷◌, ◌++◌, Opt
 use Rattle.std.specs.Io.KnownBytes.{Appends}
 use Rattle.cube_outside.specs.Bytes.{AppendsPart}
 use Rattle.cube_server.specs.declared.answer.Answer.{Answer}
-use Rattle.cube_server.specs.declared.halt.Halt.{Halt}
-use Rattle.cube_server.specs.declared.halt.Halt.TheVariants as halts
-use Rattle.cube_server.specs.declared.job.Job.{Job}
+use Rattle.run_passes.specs.declared.halt.Halt.{Halt}
+use Rattle.run_passes.specs.declared.halt.Halt.TheVariants as halts
+use Rattle.run_passes.specs.declared.job.Job.{Job}
 use Rattle.cube_server.specs.declared.status.Status.{Status}
 use Rattle.cube_server.specs.declared.status.Status.TheVariants.{Done, Usage, Refused, ReadFault, WriteFault, NoMemory}
 use Rattle.cube_server.specs.Answer.{Allows, IsOutput, WritesPart}
-use Rattle.cube_server.specs.Course.{IsCourse}
-use Rattle.cube_server.specs.Models.{model_judgement}
-use Rattle.cube_server.specs.Users.{users_judgement}
-use Rattle.cube_server.specs.Outside.{Outside}
-use Rattle.cube_server.specs.Pass.{Readings, Judgement, NotWords, Reads, Pass, file, files, judged, ◌>>=◌}
-use Rattle.cube_server.specs.Run.{plan_pass, run_of}
-use Rattle.cube_server.specs.Words.{Plan, Run, IsPlan}
+use Rattle.run_passes.specs.Course.{IsCourse}
+use Rattle.run_passes.specs.Outside.{Outside}
+use Rattle.run_passes.specs.Pass.{Readings, NotWords, Reads}
+use Rattle.run_passes.specs.Run.{plan_pass, run_of}
+use Rattle.run_passes.specs.Words.{Plan, IsPlan}
 use Rattle.cube_server.specs.Inside.Ending.{Answers, Ends, joined}
-use Rattle.cube_server.specs.Inside.Halting.{Comes}
-use Rattle.cube_server.proofs.Going.{course-of}
+use Rattle.run_passes.specs.Inside.Halting.{Comes}
+use Rattle.run_passes.proofs.Going.{course-of}
+use Rattle.run_passes.proofs.PlanFacts.{steady-plan}
 
 pub Ends-whole : (words : List (List ℕ)) (o : Outside) (old new : Option (List ℕ)) (before after : ℕ) (status : Status) (text : List ℕ)
     → Allows words o status text → Appends old new text → after ≡ before → Ends words o old new before after status
@@ -29,29 +28,10 @@ Ends-whole words o old new before after ReadFault text allowed whole calm = (rec
 Ends-whole words o old new before after WriteFault text allowed whole calm = absurd allowed
 Ends-whole words o old new before after NoMemory text allowed whole calm = absurd allowed
 
-no_words_file : (name : List ℕ) (readings : Readings) → (file name).stops readings NotWords → ⊥
-no_words_file name readings stops = (let never : NotWords ≡ Reads name = stops.1 in cc)
-
-no_words_files : (names : List (List ℕ)) (readings : Readings) → (files names).stops readings NotWords → ⊥
-no_words_files [] readings stops = stops
-no_words_files (name ∷ more) readings (inl stops) = no_words_file name readings stops
-no_words_files (name ∷ more) readings (inr (first, is, inl stops)) = no_words_files more readings stops
-no_words_files (name ∷ more) readings (inr (first, is, inr stops)) = stops.2
-
-no_words_judged : {A : Type 0} (J : Judgement A) (readings : Readings) → (judged J).stops readings NotWords → ⊥
-no_words_judged J readings stops = (let never = stops.2 in cc)
-
-no_words_plan : (plan : Plan) (readings : Readings) → (plan_pass plan).stops readings NotWords → ⊥
-no_words_plan (Run model users) readings (inl (inl stops)) = no_words_file model readings stops
-no_words_plan (Run model users) readings (inl (inr (source, is, stops))) = no_words_judged (model_judgement source) readings stops
-no_words_plan (Run model users) readings (inr (bound, is, inl (inl stops))) = no_words_files users readings stops
-no_words_plan (Run model users) readings (inr (bound, is, inl (inr (sources, at, stops)))) = no_words_judged (users_judgement sources) readings stops
-no_words_plan (Run model users) readings (inr (bound, is, inr stops)) = stops.2
-
 -- only the words can be at fault for a usage, and then no file is asked for
 pub misfit_words : (words : List (List ℕ)) (readings : Readings) → (run_of words).stops readings NotWords → (plan : Plan) → ¬ IsPlan words plan
 misfit_words words readings (inl stops) = stops.0
-misfit_words words readings (inr (plan, is, stops)) = absurd (no_words_plan plan readings stops)
+misfit_words words readings (inr (plan, is, stops)) = absurd ((steady-plan plan).worded readings stops)
 
 no_course : (words : List (List ℕ)) (readings : Readings) → ((plan : Plan) → ¬ IsPlan words plan) → (name : List ℕ) → (run_of words).stops readings (Reads name) → ⊥
 no_course words readings misfit name (inl stops) = (let never : Reads name ≡ NotWords = stops.1 in cc)

@@ -1,15 +1,3 @@
-mod PassFacts
-mod KeptFacts
-mod Going
-mod Coming
-mod PlanFacts
-mod Obtaining
-mod ReadingsFacts
-mod WordFacts
-mod JudgeFacts
-mod UserFacts
-mod Judgements
-mod OneCourse
 mod Converses
 mod Pieces
 mod EndFacts

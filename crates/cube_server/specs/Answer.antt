@@ -8,17 +8,17 @@ use Rattle.history.specs.declared.told.Told.{Told}
 use Rattle.history.specs.History.{IsHistoryOf}
 use Rattle.user_session.specs.Content.{opening, after}
 use Rattle.user_session.specs.Planning.{effect}
-use Rattle.cube_server.specs.declared.job.Job.{Job}
-use Rattle.cube_server.specs.declared.job.Job.TheVariants.{Serve}
-use Rattle.cube_server.specs.declared.refusal.Refusal.{Refusal}
+use Rattle.run_passes.specs.declared.job.Job.{Job}
+use Rattle.run_passes.specs.declared.job.Job.TheVariants.{Serve}
+use Rattle.run_passes.specs.declared.refusal.Refusal.{Refusal}
 use Rattle.cube_server.specs.declared.status.Status.{Status}
 use Rattle.cube_server.specs.declared.status.Status.TheVariants.{Done, Usage, Refused, ReadFault, WriteFault, NoMemory}
-use Rattle.cube_server.specs.Course.{IsCourse, names_of}
-use Rattle.cube_server.specs.Outside.{Outside}
+use Rattle.run_passes.specs.Course.{IsCourse, names_of}
+use Rattle.run_passes.specs.Outside.{Outside}
 use Rattle.cube_server.specs.Output.{output, refused_text, unread_text, usage_text}
-use Rattle.cube_server.specs.Pass.{Readings, Reads, Refuses}
-use Rattle.cube_server.specs.Run.{run_of}
-use Rattle.cube_server.specs.Words.{Plan, IsPlan}
+use Rattle.run_passes.specs.Pass.{Readings, Reads, Refuses}
+use Rattle.run_passes.specs.Run.{run_of}
+use Rattle.run_passes.specs.Words.{Plan, IsPlan}
 
 -- these are the replies to the users' commands, and this is the one history of them
 abbrev pub IsServed : Job → List (List (Told (List ℕ))) → List (Entry (List (ℕ × ℤ))) → Type 0

@@ -1,5 +1,2 @@
 -- What the code's private functions promise one another. No public clause cites it.
-pub mod Reading
-pub mod Halting
 pub mod Ending
-pub mod Judging

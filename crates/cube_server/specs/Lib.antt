@@ -1,11 +1,3 @@
-pub mod Pass
-pub mod Course
-pub mod Words
-pub mod Refusals
-pub mod Models
-pub mod Users
-pub mod Run
-pub mod Outside
 pub mod Output
 pub mod Status
 pub mod Answer

@@ -2,11 +2,11 @@
 use Rattle.std.specs.Prelude.{ℕ, ℤ, ◌+◌, List, [], ◌∷◌, ◌++◌, length, codes, decimal}
 use Rattle.history.specs.declared.entry.Entry.{Entry}
 use Rattle.history.specs.declared.told.Told.{Told}
-use Rattle.cube_server.specs.declared.refusal.Cause.{Cause}
-use Rattle.cube_server.specs.declared.refusal.Cause.TheVariants as causes
-use Rattle.cube_server.specs.declared.refusal.Place.{Place}
-use Rattle.cube_server.specs.declared.refusal.Place.TheVariants.{Line, Statement, Feeder}
-use Rattle.cube_server.specs.declared.refusal.Refusal.{Refusal}
+use Rattle.run_passes.specs.declared.refusal.Cause.{Cause}
+use Rattle.run_passes.specs.declared.refusal.Cause.TheVariants as causes
+use Rattle.run_passes.specs.declared.refusal.Place.{Place}
+use Rattle.run_passes.specs.declared.refusal.Place.TheVariants.{Line, Statement, Feeder}
+use Rattle.run_passes.specs.declared.refusal.Refusal.{Refusal}
 
 -- the end of a line
 abbrev pub newline : List ℕ
@@ -69,6 +69,17 @@ cause_text causes.DimensionCount = codes "DimensionCount"
 cause_text causes.CubeTooLarge = codes "CubeTooLarge"
 cause_text causes.ModelTooLarge = codes "ModelTooLarge"
 cause_text causes.WeightProduct = codes "WeightProduct"
+cause_text causes.TooDeep = codes "TooDeep"
+cause_text causes.Ambiguous = codes "Ambiguous"
+cause_text causes.WrongCount = codes "WrongCount"
+cause_text causes.DynamicReference = codes "DynamicReference"
+cause_text causes.Unsupported = codes "Unsupported"
+cause_text causes.BadOrder = codes "BadOrder"
+cause_text (causes.TooHigh height) = codes "TooHigh " ++ decimal height
+cause_text (causes.NotEarlier reference) = codes "NotEarlier reference " ++ decimal reference
+cause_text (causes.DenseTooLarge count) = codes "DenseTooLarge " ++ decimal count
+cause_text (causes.NotFed operand) = codes "NotFed operand " ++ decimal operand
+cause_text (causes.FedLimit count) = codes "FedLimit " ++ decimal count
 cause_text causes.Unbuilt = codes "Unbuilt"
 
 -- `line L`, `statement S` or `feeder S`

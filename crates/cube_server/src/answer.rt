@@ -1,19 +1,16 @@
 ghost use Rattle.std.specs.Prelude.{◌≡◌, IfOk};
 ghost use Rattle.cube_server.specs.Answer.{IsOutput, Allows};
 ghost use Rattle.cube_server.specs.Inside.Ending.{Answers, joined};
-ghost use Rattle.cube_server.specs.Outside.{outside};
+ghost use Rattle.run_passes.specs.Outside.{outside};
 ghost use Rattle.cube_server.specs.Output.{users_text};
-ghost use Rattle.cube_server.specs.Words.{texts_of};
+ghost use Rattle.run_passes.specs.Words.{texts_of};
 
-use crate::halt::Halt;
-use crate::job::Job;
-use crate::passes::run_passes;
 use crate::print::{print_history, print_refusal, print_unread, print_usage, print_user};
-use crate::readings::Readings;
 use crate::status::Status;
 use cube_outside::Files;
 use history::Told;
 use lists::ListOf;
+use run_passes::{Halt, Job, Readings, run_passes};
 use std::alloc::{AllocError, Global};
 use user_session::{ReplyText, serve};
 
@@ -46,7 +43,7 @@ fn done(alloc: Global, job: &Job) -> Result<Answer, AllocError>
     ensures text { IfOk result (λ answer. IsOutput job.now (joined answer.pieces.items)) }
 {
     let Job::Serve(model, users) = job;
-    let served = serve(alloc, model, users.as_slice())?;
+    let served = serve(alloc, model.model(), users.as_slice())?;
     let mut pieces = print_users(alloc, &served.told)?;
     pieces.push(print_history(alloc, &served.log)?)?;
     Ok(Answer {

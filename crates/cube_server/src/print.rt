@@ -2,8 +2,8 @@ ghost use Rattle.std.specs.Prelude.{◌≡◌, ◌++◌, IfOk, OnOk, length, str
 ghost use Rattle.cube_server.specs.Output.{told_line, user_text, entry_line, history_text, cause_text, place_text};
 ghost use Rattle.cube_server.specs.Output.{refused_text, unread_text, usage_text};
 
-use crate::refusal::{Cause, Place, Refusal};
 use history::{Entry, Told};
+use run_passes::{Cause, Place, Refusal};
 use std::alloc::{AllocError, Global};
 use user_session::{ReplyText, Writes};
 
@@ -81,7 +81,7 @@ pub(crate) fn print_refusal(alloc: Global, refusal: &Refusal) -> Result<Vec<u8>,
     text.extend_from_slice(b": ")?;
     text.extend_from_slice(place_name(alloc, refusal.at)?.as_bytes())?;
     text.extend_from_slice(b": ")?;
-    print_cause(alloc, &mut text, refusal.cause)?;
+    text.extend_from_slice(cause_name(alloc, refusal.cause)?.as_bytes())?;
     text.push(b'\n')?;
     Ok(text)
 }
@@ -97,13 +97,18 @@ fn place_name(alloc: Global, at: Place) -> Result<String, AllocError>
 }
 
 // The name of a cause, and its number where it has one.
-fn print_cause(alloc: Global, text: &mut Vec<u8>, cause: Cause) -> Result<(), AllocError>
-    ensures { OnOk result (text.new.items ≡ text.old.items ++ cause_text cause) }
+fn cause_name(alloc: Global, cause: Cause) -> Result<String, AllocError>
+    ensures { IfOk result (λ text. string_bytes text ≡ cause_text cause) }
 {
     let name = match cause {
-        Cause::TooManyPairs(count) => {
-            return text.extend_from_slice(format!(in alloc; "TooManyPairs {count}")?.as_bytes());
+        Cause::TooManyPairs(count) => return format!(in alloc; "TooManyPairs {count}"),
+        Cause::TooHigh(height) => return format!(in alloc; "TooHigh {height}"),
+        Cause::NotEarlier(reference) => {
+            return format!(in alloc; "NotEarlier reference {reference}");
         }
+        Cause::DenseTooLarge(count) => return format!(in alloc; "DenseTooLarge {count}"),
+        Cause::NotFed(operand) => return format!(in alloc; "NotFed operand {operand}"),
+        Cause::FedLimit(count) => return format!(in alloc; "FedLimit {count}"),
         Cause::Syntax => "Syntax",
         Cause::WrongVersion => "WrongVersion",
         Cause::Duplicate => "Duplicate",
@@ -118,9 +123,15 @@ fn print_cause(alloc: Global, text: &mut Vec<u8>, cause: Cause) -> Result<(), Al
         Cause::CubeTooLarge => "CubeTooLarge",
         Cause::ModelTooLarge => "ModelTooLarge",
         Cause::WeightProduct => "WeightProduct",
+        Cause::TooDeep => "TooDeep",
+        Cause::Ambiguous => "Ambiguous",
+        Cause::WrongCount => "WrongCount",
+        Cause::DynamicReference => "DynamicReference",
+        Cause::Unsupported => "Unsupported",
+        Cause::BadOrder => "BadOrder",
         Cause::Unbuilt => "Unbuilt",
     };
-    text.extend_from_slice(name.as_bytes())
+    String::from_str(alloc, name)
 }
 
 /// The line `cannot read FILE`.

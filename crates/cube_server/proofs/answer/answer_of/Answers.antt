@@ -1,5 +1,5 @@
-use Rattle.cube_server.specs.Outside.{outside}
-use Rattle.cube_server.specs.Words.{texts_of}
+use Rattle.run_passes.specs.Outside.{outside}
+use Rattle.run_passes.specs.Words.{texts_of}
 use Rattle.cube_server.proofs.EndFacts.{Allows-result, Allows-done}
 use Rattle.cube_server.proofs.answer.answer_of.Goals as goal
 

@@ -1,0 +1,121 @@
+-- What was read is judged to be one thing.
+use Rattle.std.proofs.Common.{◌≡◌, ◌≢◌, ℕ, ◌+◌, List, [], ◌∷◌, length, map, Option, Some, None, option_map, ◌⊎◌, inl, inr, refl, sym, ◌∙◌, ap, subst}
+use Rattle.rule_model.specs.BoundModel.{BoundModel}
+use Rattle.user_session.specs.declared.command.PlanCommand.{PlanCommand}
+use Rattle.user_text.specs.declared.command.UserCommand.{UserCommand}
+use Rattle.user_text.specs.declared.fault.UserFault.{UserFault}
+use Rattle.user_text.specs.declared.fault.UserFault.TheVariants as user_faults
+use Rattle.model_text.specs.Contents.{Contents}
+use Rattle.model_text.specs.declared.fault.ModelTextFault.{ModelTextFault}
+use Rattle.model_text.specs.declared.fault.ModelTextCause.{ModelTextCause}
+use Rattle.model_text.specs.declared.fault.ModelTextCause.TheVariants as text_causes
+use Rattle.model_deploy.specs.Deployment.{deployment}
+use Rattle.model_deploy.specs.declared.file.RuleFile.{RuleFile}
+use Rattle.text_laws.specs.UserAnswers.{OneUserAnswer}
+use Rattle.text_laws.specs.ModelAnswers.{OneModelAnswer}
+use Rattle.text_laws.proofs.UserTexts.{user_texts}
+use Rattle.text_laws.proofs.ModelTexts.{model_texts}
+use Rattle.run_passes.specs.declared.refusal.Refusal.{Refusal}
+use Rattle.run_passes.specs.Pass.{Source, whatever}
+use Rattle.run_passes.specs.Refusals.{text_refusal, script_refusal, user_refusal}
+use Rattle.run_passes.specs.Models.{text_judgement}
+use Rattle.run_passes.specs.Scripts.{AreScripts, IsFirstScriptFault, scripts_judgement}
+use Rattle.run_passes.specs.Rules.{rule_files, IsDeployed, deployment_judgement}
+use Rattle.run_passes.specs.Users.{IsUserText, AreUserTexts, IsUserFault, IsFirstFault, AreUsers, AreUnbuilt, users_judgement, unbuilt_command, plan_commands}
+use Rattle.run_passes.proofs.PassFacts.{IsOneJudgement}
+use Rattle.script_reader.specs.declared.fault.ScriptFault.{ScriptFault}
+use Rattle.script_reader.specs.declared.fault.ScriptFault.TheVariants as script_faults
+use Rattle.script_tree.specs.declared.script.Script.{Script}
+use Rattle.run_passes.proofs.ScriptTexts.{no_fault_of_script}
+use Rattle.run_passes.proofs.StageFacts.{one-deployment}
+
+-- ---- user files
+
+no_memory : (file : List ℕ) (fault : UserFault) (refusal : Refusal) → user_refusal file fault ≡ Some refusal → fault ≢ user_faults.Memory
+no_memory file fault refusal is memory = (let clash : None ≡ Some refusal = rw memory at is in cc)
+
+module _ (before : ℕ) (source : Source) where
+  one_list : (x y : List UserCommand) → IsUserText before source.1 x → IsUserText before source.1 y → x ≡ y
+  one_list x y p q = (user_texts source.1 before).one_list x y p q
+
+  no_fault_of_text : (x : List UserCommand) (r : Refusal) → IsUserText before source.1 x → IsUserFault before source r → ⊥
+  no_fault_of_text x r p q = (user_texts source.1 before).not_both x q.fault (no_memory source.0 q.fault r q.is) p q.first
+
+one_texts : (before : ℕ) (sources : List Source) (x y : List (List UserCommand)) → AreUserTexts before sources x → AreUserTexts before sources y → x ≡ y
+one_texts before [] [] [] p q = refl
+one_texts before [] [] (y ∷ ys) p q = absurd q
+one_texts before [] (x ∷ xs) y p q = absurd p
+one_texts before (source ∷ more) [] y p q = absurd p
+one_texts before (source ∷ more) (x ∷ xs) [] p q = absurd q
+one_texts before (source ∷ more) (x ∷ xs) (y ∷ ys) p q =
+    let same = one_list before source x y p.0 q.0 in
+    let rest = one_texts (before + length y) more xs ys (subst (λ l. AreUserTexts (before + length l) more xs) same p.1) q.1 in
+    cc
+
+no_first : (before : ℕ) (sources : List Source) (x : List (List UserCommand)) (r : Refusal) → AreUserTexts before sources x → IsFirstFault before sources r → ⊥
+no_first before [] x r p q = q
+no_first before (source ∷ more) [] r p q = p
+no_first before (source ∷ more) (x ∷ xs) r p (inl q) = no_fault_of_text before source x r p.0 q
+no_first before (source ∷ more) (x ∷ xs) r p (inr (y, is, q)) =
+    let same = one_list before source y x is p.0 in
+    no_first (before + length x) more xs r p.1 (subst (λ l. IsFirstFault (before + length l) more r) same q)
+
+module _ (sources : List Source) where
+  one_users : (x y : List (List PlanCommand)) → AreUsers sources x → AreUsers sources y → x ≡ y
+  one_users x y p q = p.are ∙ ap (map plan_commands) (one_texts 0 sources p.commands q.commands p.texts q.texts) ∙ sym q.are
+
+  not_both_users : (x : List (List PlanCommand)) (r : Refusal) → AreUsers sources x → (users_judgement sources).refused_for r → ⊥
+  not_both_users x r p (inl q) = no_first 0 sources p.commands r p.texts q
+  not_both_users x r p (inr q) =
+      let clash : None ≡ Some r = sym p.built ∙ ap (unbuilt_command sources) (one_texts 0 sources p.commands q.commands p.texts q.texts) ∙ q.unbuilt in
+      cc
+
+pub one_users_judgement : (sources : List Source) → IsOneJudgement (users_judgement sources)
+one_users_judgement sources = record { one_thing = one_users sources; not_both = not_both_users sources }
+
+-- ---- the model file
+
+no_want : (file : List ℕ) (fault : ModelTextFault) (refusal : Refusal) → text_refusal file fault ≡ Some refusal → fault.cause ≢ text_causes.Memory
+no_want file fault refusal is memory = (let clash : None ≡ Some refusal = rw memory at is in cc)
+
+pub one_text_judgement : (source : Source) → IsOneJudgement (text_judgement source)
+one_text_judgement source = record {
+  one_thing = (model_texts source.1).one_contents;
+  not_both = λ x r p q. (model_texts source.1).not_both x q.fault (no_want source.0 q.fault r q.is) p q.first;
+}
+
+-- ---- the script files
+
+no_script_memory : (file : List ℕ) (fault : ScriptFault) (refusal : Refusal) → script_refusal file fault ≡ Some refusal → fault ≢ script_faults.Memory
+no_script_memory file fault refusal is memory = (let clash : None ≡ Some refusal = rw memory at is in cc)
+
+no_first_script : (sources : List Source) (trees : List Script) (r : Refusal) → AreScripts sources trees → IsFirstScriptFault sources r → ⊥
+no_first_script [] trees r p q = q
+no_first_script (source ∷ more) [] r p q = p
+no_first_script (source ∷ more) (tree ∷ trees) r p (inl q) = no_fault_of_script source.1 tree q.fault (no_script_memory source.0 q.fault r q.is) p.0 q.first
+no_first_script (source ∷ more) (tree ∷ trees) r p (inr (other, is, q)) = no_first_script more trees r p.1 q
+
+pub one_scripts_judgement : (sources : List Source) → IsOneJudgement (whatever (scripts_judgement sources))
+one_scripts_judgement sources = record {
+  one_thing = λ x y p q. refl;
+  not_both = λ x r p q. no_first_script sources p.0 r p.1 q;
+}
+
+-- ---- the rule files
+
+module _ (file : List ℕ) (contents : Contents) (sources : List Source) where
+  rules : List (Option RuleFile)
+  rules = rule_files sources contents.cubes
+
+  not_both_deployed : (x : BoundModel) (r : Refusal) → IsDeployed contents rules x → (deployment_judgement file contents sources).refused_for r → ⊥
+  not_both_deployed x r p (inl q) = (one-deployment contents rules).not_both x q.fault p.deployed q.first
+  not_both_deployed x r p (inr q) =
+      let unbuilt = q.unbuilt in
+      let clash : None ≡ Some r = rw p.built at unbuilt in
+      cc
+
+pub one_deployment_judgement : (file : List ℕ) (contents : Contents) (sources : List Source) → IsOneJudgement (deployment_judgement file contents sources)
+one_deployment_judgement file contents sources = record {
+  one_thing = λ x y p q. (one-deployment contents (rule_files sources contents.cubes)).one_found x y p.deployed q.deployed;
+  not_both = not_both_deployed file contents sources;
+}

@@ -1,0 +1,60 @@
+-- Users' texts, judged one after another.
+use Rattle.std.proofs.Common.{◌≡◌, ℕ, ◌+◌, ◌<◌, List, [], ◌∷◌, ◌++◌, append_assoc, append-nil, length, get_or, drop, drop-cons, add-one, map, Option, Some, None, option_map, find, Bool, Result, Ok, Err, refl, sym, ◌∙◌, ap, subst, ◌⊎◌, inl, inr}
+use Rattle.user_session.specs.declared.command.PlanCommand.{PlanCommand}
+use Rattle.user_text.specs.Answers.{Answers}
+use Rattle.user_text.specs.declared.command.UserCommand.{UserCommand}
+use Rattle.user_text.specs.declared.fault.UserFault.{UserFault}
+use Rattle.user_text.specs.declared.fault.UserFault.TheVariants as faults
+use Rattle.run_passes.specs.declared.halt.Halt.{Halt}
+use Rattle.run_passes.specs.declared.halt.Halt.TheVariants as halts
+use Rattle.run_passes.specs.declared.refusal.Refusal.{Refusal}
+use Rattle.run_passes.specs.Pass.{Source, Judgement}
+use Rattle.run_passes.specs.Refusals.{user_refusal}
+use Rattle.run_passes.specs.Users.{IsUserText, AreUserTexts, IsFirstFault, IsUserFault, AreUsers, plan_commands, unbuilt_command, users_judgement, first_unbuilt}
+use Rattle.run_passes.specs.Inside.Halting.{Judges}
+use Rattle.run_passes.specs.Inside.Judging.{IsHaltFor, texts_judgement}
+use Rattle.run_passes.proofs.JudgeFacts.{judges-halt}
+
+-- a fault says the same of each view of what is read
+pub any_view : {X : Type 0} (view : X → List UserCommand) (bytes : List ℕ) (before : ℕ) (fault : UserFault)
+    → Answers view bytes before (Err fault) → Answers {X = List UserCommand} (λ x. x) bytes before (Err fault)
+any_view view bytes before (faults.Syntax line) first = first
+any_view view bytes before (faults.TooMany line) first = first
+any_view view bytes before faults.Memory first = first
+
+-- the first texts were read: whatever the rest comes to behind these commands, all come to
+pub record AreRead (sources rest : List Source) (before : ℕ) (commands : List (List UserCommand)) : Type 0 where
+  pub texts : (more : List (List UserCommand)) → AreUserTexts before rest more → AreUserTexts 0 sources (commands ++ more)
+  pub fault : (refusal : Refusal) → IsFirstFault before rest refusal → IsFirstFault 0 sources refusal
+
+pub read-none : (sources : List Source) → AreRead sources sources 0 []
+read-none sources = record { texts = λ more are. are; fault = λ refusal is. is }
+
+pub read-next : (sources rest : List Source) (source : Source) (before after : ℕ) (commands : List (List UserCommand)) (one : List UserCommand)
+    → AreRead sources (source ∷ rest) before commands → IsUserText before source.1 one → after ≡ before + length one
+    → AreRead sources rest after (commands ++ one ∷ [])
+read-next sources rest source before after commands one read is count = rw count (record {
+  texts = λ more are. (let all = read.texts (one ∷ more) (is, are) in rw (append_assoc commands (one ∷ []) more) all);
+  fault = λ refusal found. read.fault refusal (inr (one, is, found));
+})
+
+pub read-all : (sources : List Source) (before : ℕ) (commands : List (List UserCommand)) → AreRead sources [] before commands → AreUserTexts 0 sources commands
+read-all sources before commands read = rw (append-nil commands) at (read.texts [] tt)
+
+pub read-fault : (sources rest : List Source) (source : Source) (before : ℕ) (commands : List (List UserCommand)) (fault : UserFault) (h : Halt)
+    → AreRead sources (source ∷ rest) before commands → Answers {X = List UserCommand} (λ x. x) source.1 before (Err fault)
+    → IsHaltFor (user_refusal source.0 fault) h → Judges (texts_judgement sources) (Err h)
+read-fault sources rest source before commands fault h read first halted =
+    judges-halt (texts_judgement sources) (user_refusal source.0 fault) h halted
+    (λ refusal some. read.fault refusal (inl (record { fault = fault; first = first; is = some })))
+
+-- the texts' fault is one of all users
+pub judges-texts : (sources : List Source) (h : Halt) → Judges (texts_judgement sources) (Err h) → Judges (users_judgement sources) (Err h)
+judges-texts sources halts.NotWords judges = absurd judges
+judges-texts sources halts.Unread judges = absurd judges
+judges-texts sources (halts.Refused refusal) judges = inl judges
+judges-texts sources halts.Memory judges = tt
+
+pub judges-users : (sources : List Source) (commands : List (List UserCommand)) (users : List (List PlanCommand)) → AreUserTexts 0 sources commands
+    → unbuilt_command sources commands ≡ None → users ≡ map plan_commands commands → AreUsers sources users
+judges-users sources commands users texts built are = record { commands = commands; texts = texts; built = built; are = are }

@@ -1,0 +1,30 @@
+-- How a pass goes on over files: which it reads, and what was asked of the files.
+use Rattle.std.specs.Prelude.{◌≡◌, ℕ, List, [], ◌∷◌, ◌++◌, Option, None, IsSome, ◌⊎◌}
+use Rattle.run_passes.specs.Course.{Contents, Tells, names_of}
+use Rattle.run_passes.specs.Outside.{Outside}
+use Rattle.run_passes.specs.Pass.{Readings, bytes_of, Reads, Pass}
+
+-- from the older files on, each was read at its turn, was new, and gave what the files hold
+abbrev pub IsReadOn : {A : Type 0} → Pass A → Contents → Readings → Readings → Type 0
+IsReadOn pass known old [] = old ≡ []
+IsReadOn pass known old (reading ∷ older) =
+    (old ≡ reading ∷ older)
+    ⊎ (pass.stops older (Reads reading.0) × (bytes_of older reading.0 ≡ None) × Tells known reading.0 reading.1
+    × IsReadOn pass known old older)
+
+-- where just the names of the older files had been asked for, just those of the newer ones were at the end, and then
+-- these
+abbrev pub Asks : Outside → Readings → Readings → List (List ℕ) → Type 0
+Asks o old new more =
+    (base : List (List ℕ)) → o.asked_before ≡ names_of old ++ base → o.asked_after ≡ more ++ (names_of new ++ base)
+
+-- no read failed
+abbrev pub Goes : {A : Type 0} → Pass A → Outside → Readings → Readings → Type 0
+Goes pass o old new = IsReadOn pass o.known old new × (o.after ≡ o.before) × Asks o old new []
+
+-- the file of this name was there already and wasn't asked for, or it was asked for and read now
+abbrev pub IsReadOnce : Contents → List ℕ → Readings → Readings → List (List ℕ) → List (List ℕ) → Type 0
+IsReadOnce known name old new asked_before asked_after =
+    (IsSome (bytes_of old name) × (new ≡ old) × (asked_after ≡ asked_before))
+    ⊎ ((bytes : List ℕ) × (bytes_of old name ≡ None) × Tells known name bytes × (new ≡ (name, bytes) ∷ old)
+    × (asked_after ≡ name ∷ asked_before))

@@ -1,0 +1,10 @@
+use accepted::Accepted;
+use lists::ListOf;
+use user_session::PlanCommand;
+
+/// What is to be done by a run that isn't refused.
+#[derive(Drop)]
+pub enum Job {
+    /// Runs the commands of each user on the model.
+    Serve(Accepted, ListOf<ListOf<PlanCommand>>),
+}

@@ -1,0 +1,23 @@
+ghost use Rattle.run_passes.specs.Inside.Halting.{Judges};
+ghost use Rattle.run_passes.specs.Models.{text_judgement};
+
+use crate::halt::Halt;
+use crate::readings::Source;
+use crate::refusing::{halt_on, model_cause};
+use model_text::{ModelText, read};
+use std::alloc::Global;
+
+/// The model text that the bytes of a model file are.
+pub(crate) fn text_of(alloc: Global, source: &Source<'_>) -> Result<ModelText, Halt>
+    ensures { Judges (text_judgement source.now) result }
+{
+    match read(alloc, source.bytes()) {
+        Ok(text) => Ok(text),
+        Err(fault) => Err(halt_on(
+            alloc,
+            source.name(),
+            fault.line,
+            model_cause(&fault.cause),
+        )),
+    }
+}
