@@ -9,10 +9,6 @@ mod parts;
 #[cfg(test)]
 mod sets;
 #[cfg(test)]
-mod three_months;
-#[cfg(test)]
 mod versions;
 #[cfg(test)]
 mod watch;
-#[cfg(test)]
-mod zero_test;

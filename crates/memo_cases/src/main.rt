@@ -11,6 +11,8 @@ use crate::readers::{at_once, in_turn};
 use cell_store::Store;
 use cube_fixed::Money;
 use model_deploy::{deploy, no_rule_files};
+use rule_model::Model;
+use std::alloc::AllocError;
 use std::io;
 use std::io::Write;
 
@@ -20,16 +22,24 @@ const NUMBER: i64 = 25_000_000;
 fn main(rt: HostRuntime) -> io::Result<()> {
     let text = io::read_to_string(rt.alloc(), rt.reader())?;
     let mut out = String::new(rt.alloc());
-    let number = Money::of(NUMBER).unwrap_or(Money::ZERO);
     if let Ok(text) = model_text::read(rt.alloc(), text.as_bytes())
         && let Ok(rules) = no_rule_files(rt.alloc(), text.cubes().len())
-        && let Ok(model) = deploy(rt.alloc(), text, rules)
-        && let Ok(store) = Store::new(rt.alloc()).apply(rt.alloc(), &[(0, number), (1, number)])
-        && let Some(first) = leaf_value(&model, &store, 0)
-        && let Some(second) = leaf_value(&model, &store, 1)
+        && let Ok(accepted) = deploy(rt.alloc(), text, rules)
     {
-        in_turn(rt.alloc(), &model, &store, &first, &second, &mut out)?;
-        at_once(&rt, rt.alloc(), &model, &store, &first, &mut out)?;
+        read_over(&rt, accepted.model(), &mut out)?;
     }
     io::writer(&rt).write_all(out.as_bytes())
+}
+
+// The readers over this model and two stored numbers.
+fn read_over(rt: &HostRuntime, model: &Model, out: &mut String) -> Result<(), AllocError> {
+    let number = Money::of(NUMBER).unwrap_or(Money::ZERO);
+    if let Ok(store) = Store::new(rt.alloc()).apply(rt.alloc(), &[(0, number), (1, number)])
+        && let Some(first) = leaf_value(model, &store, 0)
+        && let Some(second) = leaf_value(model, &store, 1)
+    {
+        in_turn(rt.alloc(), model, &store, &first, &second, out)?;
+        at_once(rt, rt.alloc(), model, &store, &first, out)?;
+    }
+    Ok(())
 }

@@ -1,9 +1,10 @@
 -- Stages, one after another.
-use Rattle.std.proofs.Common.{◌≡◌, inl, inr, ℕ, ◌+◌, ◌<◌, ◌≤◌, zero, suc, Result, Ok, Err, List, [], ◌∷◌, ◌++◌, length, take, drop, get_or, refl, ap, sym, ◌∙◌, subst, arith, IsErrAnd, length-append, slice_index_or}
+use Rattle.std.proofs.Common.{◌≡◌, inl, inr, ℕ, ◌+◌, ◌<◌, ◌≤◌, zero, suc, Option, Some, None, Result, Ok, Err, List, [], ◌∷◌, ◌++◌, length, take, drop, get_or, refl, ap, sym, ◌∙◌, subst, arith, IsErrAnd, length-append, slice_index_or}
+use Rattle.std.specs.Option.{option_or}
 use Rattle.std.proofs.lemmas.List.{take_more, drop_more, take-append-drop}
 use Rattle.model_deploy.specs.declared.fault.DeployFault.{DeployFault}
 use Rattle.model_deploy.specs.Foundation.{memory}
-use Rattle.model_deploy.specs.Stages.{Stage, each, ◌>>=◌, Comes}
+use Rattle.model_deploy.specs.Stages.{Stage, unless, each, ◌>>=◌, Comes}
 
 module _ (A B : Type 0) (S : Stage A) (K : A → Stage B) where
   -- what is refused by the first isn't looked at by the second
@@ -16,6 +17,36 @@ module _ (A B : Type 0) (S : Stage A) (K : A → Stage B) where
   goes-on a (Ok b) finds h = (a, finds, h)
   goes-on a (Err e) finds (inl want) = inl want
   goes-on a (Err e) finds (inr refused) = inr (inr (a, finds, refused))
+
+-- what comes of two stages in one, and then a third, comes of the three in turn
+pub in-turn : (A B C : Type 0) (S : Stage A) (K : A → Stage B) (L : B → Stage C) (answer : Result C DeployFault) → Comes ((S >>= K) >>= L) answer → Comes (S >>= (λ a. K a >>= L)) answer
+in-turn A B C S K L (Ok c) (b, (a, here, next), last) = (a, here, (b, next, last))
+in-turn A B C S K L (Err e) (inl want) = inl want
+in-turn A B C S K L (Err e) (inr (inl (inl refused))) = inr (inl refused)
+in-turn A B C S K L (Err e) (inr (inl (inr (a, here, refused)))) = inr (inr (a, here, inl refused))
+in-turn A B C S K L (Err e) (inr (inr (b, (a, here, next), refused))) = inr (inr (a, here, inr (b, next, refused)))
+
+-- the same behind a stage
+pub behind : (A B : Type 0) (S : Stage A) (K L : A → Stage B) (answer : Result B DeployFault) → ((a : A) → Comes (K a) answer → Comes (L a) answer) → Comes (S >>= K) answer → Comes (S >>= L) answer
+behind A B S K L (Ok b) then (a, here, next) = (a, here, then a next)
+behind A B S K L (Err e) then (inl want) = inl want
+behind A B S K L (Err e) then (inr (inl refused)) = inr (inl refused)
+behind A B S K L (Err e) then (inr (inr (a, here, refused))) = by (then a (inr refused))
+  where
+    by : Comes (L a) (Err e) → Comes (S >>= L) (Err e)
+    by (inl want) = inl want
+    by (inr refused) = inr (inr (a, here, refused))
+
+-- the first of two refusals is looked for, and then the other
+pub one-by-one : (A : Type 0) (first second : Option DeployFault) (K : Unit {0} → Stage A) (answer : Result A DeployFault) → Comes (unless (option_or first second) >>= K) answer
+    → Comes (unless first >>= (λ _. unless second >>= K)) answer
+one-by-one A None second K (Ok a) came = (tt, refl, came)
+one-by-one A None second K (Err e) (inl want) = inl want
+one-by-one A None second K (Err e) (inr came) = inr (inr (tt, refl, came))
+one-by-one A (Some fault) second K (Ok a) (u, none, came) = absurd (cc none)
+one-by-one A (Some fault) second K (Err e) (inl want) = inl want
+one-by-one A (Some fault) second K (Err e) (inr (inl is)) = inr (inl is)
+one-by-one A (Some fault) second K (Err e) (inr (inr (u, none, came))) = absurd (cc none)
 
 -- want of memory answers anything
 pub wanting : (A : Type 0) (S : Stage A) (answer : Result A DeployFault) → IsErrAnd answer (λ e. e ≡ memory) → Comes S answer

@@ -1,33 +1,68 @@
 -- Deployment: the checks of a model text and its rule files, in order, and the model that passes them.
-use Rattle.std.specs.Prelude.{List, Option, option_map}
+use Rattle.std.specs.Prelude.{◌≡◌, ℕ, suc, List, [], Option, option_map}
 use Rattle.model_text.specs.Contents.{Contents}
+use Rattle.rule_laws.specs.Cover.{IsCovered}
+use Rattle.rule_model.specs.BoundModel.{BoundModel}
+use Rattle.rule_model.specs.declared.rules.CubeRules.{CubeRules}
+use Rattle.rule_model.specs.System.{system_of}
 use Rattle.check_order.specs.Verdict.{order_fault}
 use Rattle.check_order.specs.declared.fault.OrderFault.{OrderFault}
 use Rattle.check_order.specs.declared.fault.OrderFault.TheVariants as orders
-use Rattle.rule_model.specs.BoundModel.{BoundModel}
+use Rattle.feed_check.specs.Sizes.{AreSmall}
+use Rattle.feed_check.specs.Verdict.{IsFirstFault}
+use Rattle.feed_check.specs.declared.fault.FeedCheckFault.{FeedCheckFault}
+use Rattle.feed_check.specs.declared.fault.FeedCheckFault.TheVariants as feeders
+use Rattle.feed_map.specs.FedCells.{HasFewFed, HasManyFed, most_fed}
 use Rattle.model_deploy.specs.declared.file.RuleFile.{RuleFile}
-use Rattle.model_deploy.specs.declared.fault.At.TheVariants.{Statement}
 use Rattle.model_deploy.specs.declared.fault.DeployFault.{DeployFault}
 use Rattle.model_deploy.specs.declared.fault.DeployCause.TheVariants as causes
-use Rattle.model_deploy.specs.Foundation.{layout_of, order_lines, refused_on, foundation_refusal}
-use Rattle.model_deploy.specs.Rules.{file_name, rules_stage}
-use Rattle.model_deploy.specs.Stages.{Stage, found, unless, ◌>>=◌}
+use Rattle.model_deploy.specs.Foundation.{layout_of, cube_lines, order_lines, refused_on}
+use Rattle.model_deploy.specs.Foundation.{dimensions_refusal, space_refusal, products_refusal}
+use Rattle.model_deploy.specs.Rules.{refused_at, text_stage, meaning_stage, order_stage}
+use Rattle.model_deploy.specs.Stages.{Stage, found, unless, each, ◌>>=◌}
 
 -- what is wrong with the order: a height is one of the whole model, a reference stands in its cube's file
 abbrev pub order_refusal : List (Option RuleFile) → OrderFault → DeployFault
 order_refusal files (orders.TooHigh height) = refused_on 1 (causes.TooHigh height)
 order_refusal files (orders.NotEarlier cube statement reference) =
-    record { file = file_name files cube; at = Statement statement; cause = causes.NotEarlier reference }
+    refused_at files cube statement (causes.NotEarlier reference)
 
--- a bound model that passes the checks of the whole model
-abbrev pub checked : List (Option RuleFile) → BoundModel → Stage BoundModel
-checked files model = do
-  _ ← unless (option_map (order_refusal files) (order_fault model))
-  found model
+-- what is wrong with the feeders: in the cube's file, at the statement, or at the first where the cube is too large
+abbrev pub feeders_refusal : List (Option RuleFile) → FeedCheckFault → DeployFault
+feeders_refusal files (feeders.NotFed cube statement operand) =
+    refused_at files cube statement (causes.NotFed operand)
+feeders_refusal files (feeders.DenseTooLarge cube count) = refused_at files cube 1 (causes.DenseTooLarge count)
 
--- the coefficients, the cells and the weight products; the rules; and the checks of the whole model
+-- feeders cover the rules of the cubes that say SKIPCHECK, and no dense cube is too large
+abbrev pub feeders_stage : List (Option RuleFile) → BoundModel → Stage (Unit {0})
+feeders_stage files model = record {
+  finds = λ _. IsCovered (system_of model) × AreSmall model;
+  refuses = λ fault.
+      (first : FeedCheckFault) × IsFirstFault model first × (fault ≡ feeders_refusal files first);
+}
+
+-- where nothing is stored no more cells are fed than may be
+abbrev pub fed_stage : BoundModel → Stage (Unit {0})
+fed_stage model = record {
+  finds = λ _. HasFewFed model [];
+  refuses = λ fault. HasManyFed model [] × (fault ≡ refused_on 1 (causes.FedLimit (suc most_fed)));
+}
+
+-- the bound model of a text and of the rules of its cubes
+abbrev pub model_of : Contents → List CubeRules → BoundModel
+model_of contents rules = record { space = layout_of contents; rules = rules }
+
+-- coefficients, cells and weight products; then rule texts, what they mean, and order lines; then order, feeders and fed
+-- cells of the model that is bound so. Each is checked over the whole model before the next
 unfoldable pub deployment : Contents → List (Option RuleFile) → Stage BoundModel
 deployment contents files = do
-  _ ← unless (foundation_refusal contents)
-  rules ← rules_stage (layout_of contents) (order_lines contents.cubes) files
-  checked files (record { space = layout_of contents; rules = rules })
+  _ ← unless (dimensions_refusal contents.dims)
+  _ ← unless (space_refusal (cube_lines contents.cubes) (layout_of contents))
+  _ ← unless (products_refusal (cube_lines contents.cubes) (layout_of contents))
+  texts ← each (λ _. text_stage) 0 files
+  meant ← each (meaning_stage (layout_of contents) files) 0 texts
+  rules ← each (order_stage (layout_of contents) (order_lines contents.cubes)) 0 meant
+  _ ← unless (option_map (order_refusal files) (order_fault (model_of contents rules)))
+  _ ← feeders_stage files (model_of contents rules)
+  _ ← fed_stage (model_of contents rules)
+  found (model_of contents rules)

@@ -2,3 +2,4 @@ pub mod Deployment
 pub mod Rules
 pub mod Foundation
 pub mod Stages
+pub mod Inside

@@ -22,7 +22,7 @@ use Rattle.model_deploy.specs.declared.fault.DeployFault.{DeployFault}
 use Rattle.model_deploy.specs.declared.fault.DeployCause.{DeployCause}
 use Rattle.model_deploy.specs.declared.fault.DeployCause.TheVariants as causes
 use Rattle.model_deploy.specs.Foundation.{refused_on}
-use Rattle.model_deploy.specs.Stages.{Stage, found, meant, each, ◌>>=◌}
+use Rattle.model_deploy.specs.Stages.{Stage, found, meant}
 
 -- the name of a cube's rule file
 abbrev pub file_name : List (Option RuleFile) → ℕ → Option (List ℕ)
@@ -31,6 +31,11 @@ file_name files cube = option_map (λ file. file.name) (slice_index_or files cub
 -- a rule file is refused on this line
 abbrev pub refused_in : List ℕ → ℕ → DeployCause → DeployFault
 refused_in name line cause = record { file = Some name; at = Line line; cause = cause }
+
+-- the rule file of a cube is refused at this statement
+abbrev pub refused_at : List (Option RuleFile) → ℕ → ℕ → DeployCause → DeployFault
+refused_at files cube statement cause =
+    record { file = file_name files cube; at = Statement statement; cause = cause }
 
 -- what is wrong with the text of a rule file; want of memory is nothing of it
 abbrev pub text_refusal : List ℕ → RuleFault → Option DeployFault
@@ -92,11 +97,3 @@ by_line space cube rules (Some line) = meant (in_order rules line.0 (order_of sp
 
 abbrev pub order_stage : Layout → List (Option (ℕ × OrderLine)) → ℕ → CubeRules → Stage CubeRules
 order_stage space lines cube rules = by_line space cube rules (slice_index_or lines cube None)
-
--- the rules of each cube: all texts are read, then all are bound, and then all order lines
-unfoldable pub rules_stage
-    : Layout → List (Option (ℕ × OrderLine)) → List (Option RuleFile) → Stage (List CubeRules)
-rules_stage space lines files = do
-  texts ← each (λ _. text_stage) 0 files
-  meant ← each (meaning_stage space files) 0 texts
-  each (order_stage space lines) 0 meant

@@ -1,4 +1,4 @@
-//! From a model text and the files of its cubes' rules to a bound model, or to the first refusal.
+//! From a model text and the files of its cubes' rules to an accepted model, or to the first refusal.
 //!
 //! Read in this order: [`deploy`], which makes the model; [`RuleFile`], what it is given beside the text;
 //! [`DeployFault`], why it refuses. `specs/Deployment.antt` has the checks in their order, `specs/Rules.antt` those of
@@ -6,6 +6,7 @@
 #![tactic(auto)]
 
 mod binding;
+mod checks;
 mod coefficients;
 mod cubes;
 mod deploying;

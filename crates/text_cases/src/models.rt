@@ -53,10 +53,11 @@ pub fn space(alloc: Global, text: &[u8]) -> Result<Answer, AllocError> {
 fn space_of(alloc: Global, model: ModelText, text: &[u8]) -> Result<Answer, AllocError> {
     let rules = no_rule_files(alloc, model.cubes().len())?;
     match deploy(alloc, model, rules) {
-        Ok(model) => {
+        Ok(accepted) => {
             let mut lines = Lines::new(alloc);
-            add_space(&mut lines, model.space());
-            add_scripts(alloc, &mut lines, model.space(), text);
+            let space = accepted.model().space();
+            add_space(&mut lines, space);
+            add_scripts(alloc, &mut lines, space, text);
             lines.answer()
         }
         Err(fault) => refused(alloc, &fault),

@@ -1,0 +1,104 @@
+ghost use Rattle.std.specs.Prelude.{◌≡◌, ◌⊎◌, ◌≤◌, [], OnOk, option_map};
+ghost use Rattle.cube_space.specs.Radix.{product};
+ghost use Rattle.check_order.specs.Heights.{greatest_height};
+ghost use Rattle.check_order.specs.Verdict.{order_fault};
+ghost use Rattle.feed_map.specs.FedCells.{HasFewFed};
+ghost use Rattle.rule_laws.specs.Cover.{IsCovered};
+ghost use Rattle.rule_laws.specs.OrderByPlace.{IsOrderedByPlace};
+ghost use Rattle.rule_model.specs.Order.{position_sizes};
+ghost use Rattle.rule_model.specs.System.{system_of, positions_of};
+ghost use Rattle.model_deploy.specs.Foundation.{memory};
+ghost use Rattle.model_deploy.specs.Stages.{unless, Comes};
+ghost use Rattle.model_deploy.specs.Deployment.{order_refusal, feeders_refusal};
+ghost use Rattle.model_deploy.specs.Deployment.{feeders_stage, fed_stage};
+
+use crate::fault::{At, DeployCause, DeployFault};
+use crate::file::{RuleFile, fault_in};
+use cell_store::Store;
+use check_order::{OrderFault, check_order};
+use feed_check::{FeedCheckFault, check_feeders};
+use feed_map::{Fed, FedFault};
+use rule_model::Model;
+use std::alloc::Global;
+
+/// Checks that what formulas read stands before their cells.
+pub fn check_ordered(
+    alloc: Global,
+    files: &[Option<RuleFile>],
+    model: &Model,
+) -> Result<(), DeployFault>
+    ensures comes { Comes (unless (option_map (order_refusal files.now) (order_fault model.now))) result }
+    ensures ordered { OnOk result (IsOrderedByPlace (system_of model.now) (positions_of model.now)) }
+    ensures low { OnOk result (product (position_sizes model.now) ≤ greatest_height) }
+{
+    match check_order(model) {
+        Ok(()) => Ok(()),
+        Err(fault) => Err(order_fault(alloc, files, fault)),
+    }
+}
+
+fn order_fault(alloc: Global, files: &[Option<RuleFile>], fault: OrderFault) -> DeployFault
+    ensures { (result ≡ memory) ⊎ (result ≡ order_refusal files.now fault) }
+{
+    match fault {
+        OrderFault::TooHigh(height) => DeployFault::on(1, DeployCause::TooHigh(height)),
+        OrderFault::NotEarlier {
+            cube,
+            statement,
+            reference,
+        } => {
+            let cause = DeployCause::NotEarlier(reference);
+            fault_in(alloc, files, cube, At::Statement(statement), cause)
+        }
+    }
+}
+
+/// Checks that feeders cover the rules, and that no dense cube is too large.
+pub fn check_covered(
+    alloc: Global,
+    files: &[Option<RuleFile>],
+    model: &Model,
+) -> Result<(), DeployFault>
+    ensures comes { Comes (feeders_stage files.now model.now) result }
+    ensures covered { OnOk result (IsCovered (system_of model.now)) }
+{
+    match check_feeders(model) {
+        Ok(()) => Ok(()),
+        Err(fault) => Err(feeders_fault(alloc, files, fault)),
+    }
+}
+
+fn feeders_fault(alloc: Global, files: &[Option<RuleFile>], fault: FeedCheckFault) -> DeployFault
+    ensures { (result ≡ memory) ⊎ (result ≡ feeders_refusal files.now fault) }
+{
+    match fault {
+        FeedCheckFault::NotFed {
+            cube,
+            statement,
+            operand,
+        } => {
+            let cause = DeployCause::NotFed(operand);
+            fault_in(alloc, files, cube, At::Statement(statement), cause)
+        }
+        FeedCheckFault::DenseTooLarge { cube, count } => {
+            let cause = DeployCause::DenseTooLarge(count);
+            fault_in(alloc, files, cube, At::Statement(1), cause)
+        }
+    }
+}
+
+/// Checks that no more cells are fed than may be, where nothing is stored.
+pub fn check_fed(alloc: Global, model: &Model) -> Result<(), DeployFault>
+    ensures comes { Comes (fed_stage model.now) result }
+    ensures few { OnOk result (HasFewFed model.now []) }
+{
+    match Fed::of(alloc, model, &Store::new(alloc)) {
+        Ok(fed) => {
+            // it says of itself that they are few
+            let _count = fed.count();
+            Ok(())
+        }
+        Err(FedFault::FedLimit(count)) => Err(DeployFault::on(1, DeployCause::FedLimit(count))),
+        Err(FedFault::Memory) => Err(DeployFault::memory()),
+    }
+}
