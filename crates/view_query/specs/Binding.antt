@@ -55,14 +55,22 @@ with_elements dimensions cube text = do
   points ← each (bound_point dimensions) text.points
   within_limit (record { cube = cube; rows = rows; columns = columns; points = points; nozeros = text.nozeros })
 
--- the same in a cube with these dimensions
-abbrev pub bound_in : List Outline → ℕ → ViewText → Meaning View
-bound_in dimensions cube text = do
+-- whether each dimension of the cube stands in just one of them, where each that is named is one of the cube's
+abbrev pub is_counted : List Outline → ViewText → Meaning Bool
+is_counted dimensions text = do
   rows ← each (λ set. place_named dimensions set.dim) text.rows
   columns ← each (λ set. place_named dimensions set.dim) text.columns
   points ← each (λ point. place_named dimensions point.0) text.points
-  if is_each_once (length dimensions) rows columns points then with_elements dimensions cube text
-      else Err WrongCount
+  done (is_each_once (length dimensions) rows columns points)
+
+abbrev pub if_counted : List Outline → ℕ → ViewText → Bool → Meaning View
+if_counted dimensions cube text counted = if counted then with_elements dimensions cube text else Err WrongCount
+
+-- the view that a text stands for in a cube with these dimensions
+abbrev pub bound_in : List Outline → ℕ → ViewText → Meaning View
+bound_in dimensions cube text = do
+  counted ← is_counted dimensions text
+  if_counted dimensions cube text counted
 
 -- the view that a text stands for
 unfoldable pub bound : Layout → ViewText → Meaning View

@@ -10,7 +10,15 @@ pub use fault::ViewFault;
 pub use shape::{Axis, View};
 pub use table::view;
 
+mod axis;
 mod binding;
 mod fault;
+mod fields;
+mod grid;
+mod lines;
+mod reading;
+mod sets;
 mod shape;
 mod table;
+mod written;
+mod zeros;
