@@ -1,13 +1,24 @@
-// A library with one function.
+//! Views: tables of the cells of a cube, for planners to read.
+//!
+//! Read in this order: [`View`], what is shown, with its [`Axis`]es; [`bind`], which makes it of a view's text, and
+//! [`ViewFault`], why it is refused; [`view`], which writes the table. `specs/Binding.antt` says what a text means,
+//! `specs/Views.antt` which lines and cells a view has, and `specs/Table.antt` how they are written.
 #![tactic(auto)]
 
-ghost use Rattle.std.specs.Prelude.{◌≡◌};
-ghost use Rattle.view_query.specs.Echo.{echo_of};
+pub use binding::bind;
+pub use fault::ViewFault;
+pub use shape::{Axis, View};
+pub use table::view;
 
-// The `ensures` clause is the contract: what `echo` returns is `echo_of` of its argument, a definition
-// in `specs/Echo.antt`, which a caller's clause can cite too.
-pub fn echo(x: usize) -> usize
-    ensures { result ≡ echo_of x }
-{
-    x
-}
+mod axis;
+mod binding;
+mod fault;
+mod fields;
+mod grid;
+mod lines;
+mod reading;
+mod sets;
+mod shape;
+mod table;
+mod written;
+mod zeros;
