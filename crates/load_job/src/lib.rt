@@ -1,0 +1,8 @@
+//! The records of a load's file.
+//!
+//! What a file's records are is `specs/Rows.antt`.
+#![tactic(auto)]
+
+mod file;
+
+pub use file::rows;
