@@ -36,25 +36,26 @@ repeated text (suc count) = repeated text count ++ text count
 -- the records' lines
 abbrev pub record_line : ℕ → ℕ → List ℕ → ℕ → List ℕ
 record_line product month measure amount =
-    codes "P" ++ decimal product ++ codes ",M" ++ decimal month ++ measure ++ decimal amount ++ codes "\n"
+    codes "P" ++ decimal product ++ codes ",M" ++ decimal month ++ codes "," ++ measure ++ codes "," ++ decimal amount
+    ++ codes "\n"
 
 abbrev pub units_line : ℕ → ℕ → List ℕ
-units_line size i = record_line (product_of size i) (month_of size i) (codes ",Units,") (units_of size i)
+units_line size i = record_line (product_of size i) (month_of size i) (codes "Units") (units_of size i)
 
 abbrev pub price_line : ℕ → ℕ → List ℕ
-price_line size i = record_line (product_of size i) (month_of size i) (codes ",Price,") (price_of size i)
+price_line size i = record_line (product_of size i) (month_of size i) (codes "Price") (price_of size i)
 
 -- a dimension of so many leaves, which are a letter and a number from 1, under one total
 abbrev pub leaf_line : List ℕ → ℕ → List ℕ
-leaf_line letter i = codes "N '" ++ letter ++ decimal (i + 1) ++ codes "';\n"
+leaf_line letter number = codes "N '" ++ letter ++ decimal number ++ codes "';\n"
 
 abbrev pub further_part : List ℕ → ℕ → List ℕ
-further_part letter i = codes ", '" ++ letter ++ decimal (i + 2) ++ codes "'"
+further_part letter number = codes ", '" ++ letter ++ decimal number ++ codes "'"
 
 abbrev pub dimension_text : List ℕ → List ℕ → List ℕ → ℕ → List ℕ
 dimension_text name letter total leaves =
-    codes "DIM '" ++ name ++ codes "';\n" ++ repeated (leaf_line letter) leaves
-    ++ codes "C '" ++ total ++ codes "': '" ++ letter ++ codes "1'" ++ repeated (further_part letter) (leaves - 1)
+    codes "DIM '" ++ name ++ codes "';\n" ++ repeated (λ i. leaf_line letter (i + 1)) leaves
+    ++ codes "C '" ++ total ++ codes "': '" ++ letter ++ codes "1'" ++ repeated (λ i. further_part letter (i + 2)) (leaves - 1)
     ++ codes ";\nEND;\n"
 
 abbrev pub model_text : ℕ → List ℕ

@@ -7,7 +7,7 @@ mod files;
 mod generator;
 mod model;
 mod records;
-mod summary;
+mod summing;
 
 pub use files::sample_files;
-pub use summary::summary;
+pub use summing::summary;

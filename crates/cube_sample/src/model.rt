@@ -1,4 +1,4 @@
-ghost use Rattle.std.specs.Prelude.{◌≡◌, ◌≤◌, ◌<◌, ◌-◌, ◌^◌, ◌++◌, IfOk, OnOk};
+ghost use Rattle.std.specs.Prelude.{◌≡◌, ◌+◌, ◌≤◌, ◌<◌, ◌-◌, ◌^◌, ◌++◌, IfOk, OnOk};
 ghost use Rattle.cube_sample.specs.Sample.{dimension_text, further_part, leaf_line, model_text, repeated};
 
 use crate::records::products_of;
@@ -7,20 +7,33 @@ use std::alloc::{AllocError, Global};
 /// How many months there are.
 const MONTHS: u32 = 12;
 
+fn write_leaf(alloc: Global, out: &mut Vec<u8>, letter: &str, number: u32) -> Result<(), AllocError>
+    ensures { OnOk result (out.new.items ≡ out.old.items ++ leaf_line letter.now number) }
+{
+    let line = format!(in alloc; "N '{letter}{number}';\n")?;
+    out.extend_from_slice(line.as_bytes())
+}
+
 fn write_leaves(
     alloc: Global,
     out: &mut Vec<u8>,
     letter: &str,
     leaves: u32,
 ) -> Result<(), AllocError>
-    ensures { OnOk result (out.new.items ≡ out.old.items ++ repeated (leaf_line letter.now) leaves) }
+    ensures { OnOk result (out.new.items
+        ≡ out.old.items ++ repeated (λ i. leaf_line letter.now (i + 1)) leaves) }
 {
     for index in 0..leaves {
-        let number = index + 1;
-        let line = format!(in alloc; "N '{letter}{number}';\n")?;
-        out.extend_from_slice(line.as_bytes())?;
+        write_leaf(alloc, out, letter, index + 1)?;
     }
     Ok(())
+}
+
+fn write_part(alloc: Global, out: &mut Vec<u8>, letter: &str, number: u32) -> Result<(), AllocError>
+    ensures { OnOk result (out.new.items ≡ out.old.items ++ further_part letter.now number) }
+{
+    let part = format!(in alloc; ", '{letter}{number}'")?;
+    out.extend_from_slice(part.as_bytes())
 }
 
 fn write_further_parts(
@@ -30,12 +43,11 @@ fn write_further_parts(
     parts: u32,
 ) -> Result<(), AllocError>
     requires { parts < 2 ^ 32 - 1 }
-    ensures { OnOk result (out.new.items ≡ out.old.items ++ repeated (further_part letter.now) parts) }
+    ensures { OnOk result (out.new.items
+        ≡ out.old.items ++ repeated (λ i. further_part letter.now (i + 2)) parts) }
 {
     for index in 0..parts {
-        let number = index + 2;
-        let part = format!(in alloc; ", '{letter}{number}'")?;
-        out.extend_from_slice(part.as_bytes())?;
+        write_part(alloc, out, letter, index + 2)?;
     }
     Ok(())
 }

@@ -14,6 +14,22 @@ pub(crate) fn products_of(size: u32) -> u32
     size.min(MOST_PRODUCTS)
 }
 
+/// Appends a line of a file of records.
+fn write_record(
+    alloc: Global,
+    out: &mut Vec<u8>,
+    product: u32,
+    month: u32,
+    measure: &str,
+    amount: u32,
+) -> Result<(), AllocError>
+    ensures { OnOk result (out.new.items
+        ≡ out.old.items ++ record_line product month measure.now amount) }
+{
+    let line = format!(in alloc; "P{product},M{month},{measure},{amount}\n")?;
+    out.extend_from_slice(line.as_bytes())
+}
+
 /// The files of units and of prices.
 pub(crate) fn record_files(alloc: Global, size: u32) -> Result<(Vec<u8>, Vec<u8>), AllocError>
     requires { 1 ≤ size }
@@ -29,10 +45,8 @@ pub(crate) fn record_files(alloc: Global, size: u32) -> Result<(Vec<u8>, Vec<u8>
         let month = generator.up_to(12);
         let units = generator.up_to(100);
         let price = generator.up_to(50);
-        let units_line = format!(in alloc; "P{product},M{month},Units,{units}\n")?;
-        units_file.extend_from_slice(units_line.as_bytes())?;
-        let price_line = format!(in alloc; "P{product},M{month},Price,{price}\n")?;
-        price_file.extend_from_slice(price_line.as_bytes())?;
+        write_record(alloc, &mut units_file, product, month, "Units", units)?;
+        write_record(alloc, &mut price_file, product, month, "Price", price)?;
     }
     Ok((units_file, price_file))
 }
