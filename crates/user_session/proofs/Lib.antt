@@ -1,3 +1,1 @@
-mod SessionFacts
-mod ServeFacts
-mod Totals
+pub mod Accepted

@@ -1,12 +1,14 @@
 -- What commands act on: a model, and the numbers that are stored in its cells.
 use Rattle.std.specs.Prelude.{ℕ, ℤ, List, []}
+use Rattle.cell_reader.specs.declared.snapshot.Snapshot.{Snapshot}
+use Rattle.cell_reader.specs.Snapshots.{version_of}
 use Rattle.cell_store.specs.Entries.{after_writes}
-use Rattle.cell_store.specs.declared.entry.Entry.{Entry}
 use Rattle.rule_model.specs.BoundModel.{BoundModel}
+use Rattle.user_session.specs.declared.content.Content.{Content}
 
-pub record Content : Type 0 where
-  pub model : BoundModel
-  pub stored : List Entry
+-- what a snapshot stands for: its model and what is stored, and not its number
+abbrev pub content_of : Snapshot → Content
+content_of snapshot = record { model = (version_of snapshot).model; stored = (version_of snapshot).stored }
 
 -- before the first command nothing is stored
 abbrev pub opening : BoundModel → Content

@@ -1,4 +1,3 @@
 pub mod Content
 pub mod Replies
 pub mod Planning
-pub mod Inside

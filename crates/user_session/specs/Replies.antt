@@ -2,7 +2,7 @@
 use Rattle.std.specs.Prelude.{ℕ, List, ◌++◌, codes, decimal}
 use Rattle.cube_fixed.specs.Text.{printed}
 use Rattle.user_session.specs.declared.reply.Reason.{Reason}
-use Rattle.user_session.specs.declared.reply.Reason.TheVariants.{UnknownName, NotALeaf, StoreLimit}
+use Rattle.user_session.specs.declared.reply.Reason.TheVariants.{UnknownName, NotALeaf, RuleDerived, StoreLimit, FedLimit}
 use Rattle.user_session.specs.declared.reply.Reply.{Reply}
 use Rattle.user_session.specs.declared.reply.Reply.TheVariants.{Committed, Rejected, Found, Refused}
 
@@ -10,7 +10,9 @@ use Rattle.user_session.specs.declared.reply.Reply.TheVariants.{Committed, Rejec
 abbrev pub reason_text : Reason → List ℕ
 reason_text UnknownName = codes "UnknownName"
 reason_text NotALeaf = codes "NotALeaf"
+reason_text RuleDerived = codes "RuleDerived"
 reason_text StoreLimit = codes "StoreLimit"
+reason_text FedLimit = codes "FedLimit"
 
 -- `committed N`, `rejected REASON`, the value, or `refused REASON`
 abbrev pub reply_text : Reply → List ℕ

@@ -1,18 +1,19 @@
-//! What a planner's commands do on the stored cells of a model, and the run of users one after another.
+//! What a planner's commands do on a version of the numbers.
 //!
-//! Read in this order: [`PlanCommand`] and [`Reply`], what a user asks and what is answered; `specs/Planning.antt`,
-//! which reply and which writes each command has on a content, and `specs/Replies.antt`, its text; [`serve`], which
-//! runs the users. A command is added in this crate alone: a case of [`PlanCommand`], of `effect` and of the reply's
-//! text.
+//! Read in this order: [`PlanCommand`], what a user asks, and [`Reply`], what is answered; `specs/Planning.antt`, which
+//! reply and which writes each command has on a content, and `specs/Replies.antt`, its text; [`PlanWorld`], the world
+//! of these commands for who serves users. A command is added in this crate alone: a case of [`PlanCommand`], of
+//! `effect` and of the reply's text.
 #![tactic(auto)]
 
 mod command;
+mod content;
+mod getting;
+mod putting;
 mod reply;
-mod serving;
-mod session;
-mod state;
-mod total;
+mod world;
 
 pub use command::PlanCommand;
+pub use content::Content;
 pub use reply::{Reason, Reply, ReplyText};
-pub use serving::{Served, Writes, serve};
+pub use world::{CellWrites, PlanWorld};

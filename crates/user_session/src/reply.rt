@@ -15,8 +15,12 @@ pub enum Reason {
     UnknownName,
     /// The cell is consolidated, so nothing is stored in it.
     NotALeaf,
+    /// The cell has its value by a rule without STET.
+    RuleDerived,
     /// The store would hold more than 1,000,000 cells.
     StoreLimit,
+    /// More than 4,000,000 cells would be fed.
+    FedLimit,
 }
 
 /// What a user is told of a command.
@@ -61,7 +65,9 @@ fn reason_name(reason: Reason) -> &'static str
     match reason {
         Reason::UnknownName => "UnknownName",
         Reason::NotALeaf => "NotALeaf",
+        Reason::RuleDerived => "RuleDerived",
         Reason::StoreLimit => "StoreLimit",
+        Reason::FedLimit => "FedLimit",
     }
 }
 

@@ -1,0 +1,4 @@
+pub mod Snapshots
+pub mod Limits
+pub mod Works
+pub mod Inside

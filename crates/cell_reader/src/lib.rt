@@ -1,0 +1,19 @@
+//! The numbers of a version, and reading them: what is stored, and the value of each cell by the rules.
+//!
+//! - [`Snapshot`] is a version with a memory for the values that its readers work out. [`Snapshot::first`] has nothing
+//!   stored, [`Snapshot::next`] is the one after some writes, and [`Snapshot::share`] gives another reader the same one.
+//! - [`Snapshot::read`] is a cell's value.
+//! - [`Work`] is a version with the writes of a load so far, which sees its own writes: [`Work::get`], [`Work::put`].
+//!
+//! Contracts speak of both by the words of `specs/Snapshots.antt` and `specs/Works.antt`.
+#![tactic(auto)]
+
+pub use cell_versions::NextFault;
+pub use snapshot::{SLOTS, Snapshot};
+pub use work::Work;
+
+mod making;
+mod reading;
+mod snapshot;
+mod work;
+mod working;

@@ -1,0 +1,160 @@
+ghost use Rattle.std.specs.Prelude.{◌≡◌, suc, ◌<◌, ◌≤◌, ◌⊎◌, [], length, Err, IfOk, IsOkUnless};
+ghost use Rattle.std.specs.Arc.{arc_value};
+ghost use Rattle.cell_store.specs.Entries.{after_writes, most_cells};
+ghost use Rattle.feed_map.specs.FedCells.{most_fed};
+ghost use Rattle.accepted.specs.Checks.{IsAccepted};
+ghost use Rattle.cell_values.specs.Reading.{AreValuesOn};
+ghost use Rattle.cell_versions.specs.Versions.{AreLeafWrites, IsVersion, number_after};
+ghost use Rattle.memo_cells.specs.Shared.{version_kept};
+ghost use Rattle.memo_cells.specs.Values.{cell_value};
+ghost use Rattle.cell_reader.specs.Limits.{fed_count};
+ghost use Rattle.cell_reader.specs.Snapshots.{known_in, memory_of, version_of};
+
+use crate::snapshot::{SLOTS, Snapshot};
+use accepted::Accepted;
+use cell_store::Store;
+use cell_versions::{NextFault, Version};
+use cube_fixed::Money;
+use feed_map::Fed;
+use memo_cells::SharedMemo;
+use rule_model::Model;
+use std::alloc::{AllocError, Global};
+use std::sync::Arc;
+
+impl Snapshot {
+    /// The snapshot in which nothing is stored. It has the number 0.
+    pub fn first(alloc: Global, accepted: Arc<Accepted, Global>) -> Result<Snapshot, AllocError>
+        ensures number { IfOk result (λ first. (version_of first).number ≡ 0) }
+        ensures model { IfOk result (λ first. (version_of first).model ≡ arc_value accepted) }
+        ensures stored { IfOk result (λ first. (version_of first).stored ≡ []) }
+    {
+        let version = Version::first(alloc, accepted)?;
+        let first = Snapshot::of(alloc, version)?;
+        Ok(first)
+    }
+
+    /// The snapshot after these writes, in their order: a later write of a cell wins, and a written 0 takes the cell
+    /// out. No value is kept with it yet.
+    pub fn next(&self, alloc: Global, writes: &[(u64, Money)]) -> Result<Snapshot, NextFault>
+        requires { AreLeafWrites (version_of self.now).model.space writes.now }
+        ensures number { IfOk result (λ next. (version_of next).number ≡ number_after (version_of self.now).number) }
+        ensures model { IfOk result (λ next. (version_of next).model ≡ (version_of self.now).model) }
+        ensures stored { IfOk result (λ next.
+            (version_of next).stored ≡ after_writes (version_of self.now).stored writes.now) }
+
+        // each limit is told exactly where it is passed, want of memory aside, that of the stored cells first
+        ensures within { length (after_writes (version_of self.now).stored writes.now) ≤ most_cells →
+            fed_count (version_of self.now).model (after_writes (version_of self.now).stored writes.now) ≤ most_fed →
+            IsOkUnless result NextFault.Memory }
+        ensures past_store { most_cells < length (after_writes (version_of self.now).stored writes.now) →
+            (result ≡ Err (NextFault.StoreLimit (length (after_writes (version_of self.now).stored writes.now))))
+            ⊎ (result ≡ Err NextFault.Memory) }
+        ensures past_fed { length (after_writes (version_of self.now).stored writes.now) ≤ most_cells →
+            most_fed < fed_count (version_of self.now).model (after_writes (version_of self.now).stored writes.now) →
+            (result ≡ Err (NextFault.FedLimit (suc most_fed))) ⊎ (result ≡ Err NextFault.Memory) }
+    {
+        let version = version_after(alloc, &self.version, writes)?;
+        let next = Snapshot::of(alloc, version)?;
+        Ok(next)
+    }
+
+    /// The same for another reader, who knows what this one knows. It doesn't wait.
+    pub fn share(&mut self) -> Result<Snapshot, AllocError>
+        ensures version { IfOk result (λ shared. version_of shared ≡ version_of self.old) }
+        ensures memory { IfOk result (λ shared. memory_of shared ≡ memory_of self.old) }
+        ensures knows { IfOk result (λ shared. known_in shared ≡ known_in self.old) }
+        ensures same { version_of self.new ≡ version_of self.old }
+        ensures kept { memory_of self.new ≡ memory_of self.old }
+        ensures known { known_in self.new ≡ known_in self.old }
+    {
+        let version = Arc::try_clone(&self.version)?;
+        let memo = self.memo.share()?;
+        Ok(Snapshot { version, memo })
+    }
+
+    // The snapshot of a version, in which no value is kept yet.
+    fn of(alloc: Global, version: Version) -> Result<Snapshot, AllocError>
+        ensures { IfOk result (λ snapshot. version_of snapshot ≡ version) }
+    {
+        let memo = memory_for(alloc, &version)?;
+        let version = Arc::new(alloc, version)?;
+        Ok(Snapshot { version, memo })
+    }
+
+    /// Its number: how many snapshots are before it.
+    pub fn number(&self) -> u64
+        ensures { result ≡ (version_of self.now).number }
+    {
+        self.version.number()
+    }
+
+    /// The accepted model that it is of.
+    pub fn accepted(&self) -> &Arc<Accepted, Global>
+        ensures { arc_value result.now ≡ (version_of self.now).model }
+    {
+        self.version.accepted()
+    }
+
+    /// The model.
+    pub fn model(&self) -> &Model
+        ensures model { result.now ≡ (version_of self.now).model }
+        ensures accepted { IsAccepted (version_of self.now).model }
+    {
+        self.version.model()
+    }
+
+    /// The stored cells. Each is a leaf cell.
+    pub fn store(&self) -> &Store
+        ensures stored { result.now ≡ (version_of self.now).stored }
+        ensures valid { let v = version_of self.now in IsVersion v.model v.stored v.fed }
+    {
+        self.version.store()
+    }
+
+    /// The fed cells.
+    pub fn fed(&self) -> &Fed
+        ensures fed { result.now ≡ (version_of self.now).fed }
+        ensures valid { let v = version_of self.now in IsVersion v.model v.stored v.fed }
+    {
+        self.version.fed()
+    }
+}
+
+/// A memory for the values on a version. None is kept yet.
+pub(crate) fn memory_for(alloc: Global, version: &Version) -> Result<SharedMemo, AllocError>
+    ensures { IfOk result (λ memo. AreValuesOn version.now (cell_value (version_kept memo))) }
+{
+    let memo = SharedMemo::new(
+        alloc,
+        version.model(),
+        version.store(),
+        version.number(),
+        SLOTS,
+    )?;
+    Ok(memo)
+}
+
+/// The version after these writes.
+pub(crate) fn version_after(
+    alloc: Global,
+    version: &Version,
+    writes: &[(u64, Money)],
+) -> Result<Version, NextFault>
+    requires { AreLeafWrites version.now.model.space writes.now }
+    ensures number { IfOk result (λ next. next.number ≡ number_after version.now.number) }
+    ensures model { IfOk result (λ next. next.model ≡ version.now.model) }
+    ensures stored { IfOk result (λ next. next.stored ≡ after_writes version.now.stored writes.now) }
+    ensures within { length (after_writes version.now.stored writes.now) ≤ most_cells →
+        fed_count version.now.model (after_writes version.now.stored writes.now) ≤ most_fed →
+        IsOkUnless result NextFault.Memory }
+    ensures past_store { most_cells < length (after_writes version.now.stored writes.now) →
+        (result ≡ Err (NextFault.StoreLimit (length (after_writes version.now.stored writes.now))))
+        ⊎ (result ≡ Err NextFault.Memory) }
+    ensures past_fed { length (after_writes version.now.stored writes.now) ≤ most_cells →
+        most_fed < fed_count version.now.model (after_writes version.now.stored writes.now) →
+        (result ≡ Err (NextFault.FedLimit (suc most_fed))) ⊎ (result ≡ Err NextFault.Memory) }
+{
+    // a model says of itself that its rules are in range, so that its fed cells can be listed
+    let _cells = version.model().space().size();
+    version.next(alloc, writes)
+}

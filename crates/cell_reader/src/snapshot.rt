@@ -1,0 +1,22 @@
+ghost use Rattle.std.specs.Arc.{arc_value};
+ghost use Rattle.std.specs.Coded.{codes};
+ghost use Rattle.cell_values.specs.Reading.{AreValuesOn};
+ghost use Rattle.memo_cells.specs.Shared.{version_kept};
+ghost use Rattle.memo_cells.specs.Values.{cell_value};
+ghost use Rattle.memo_cells.specs.contracts.version.Version as kept;
+
+use cell_versions::Version;
+use memo_cells::SharedMemo;
+use std::alloc::Global;
+use std::sync::Arc;
+
+/// Into how many slots the cells of a version fall. Each keeps the value of one cell.
+pub const SLOTS: u32 = 4_096;
+
+/// A version of the numbers, and a memory for the values of its cells that readers share.
+#[derive(Drop)]
+pub struct Snapshot {
+    pub(crate) version: Arc<Version, Global>,
+    pub(crate) memo: SharedMemo,
+    ghost values: { AreValuesOn (arc_value version) (cell_value (version_kept memo)) } by { Prim.hlevel (codes, kept.the_row.coded) },
+}

@@ -1,0 +1,161 @@
+ghost use Rattle.std.specs.Prelude.{◌≡◌, suc, ◌<◌, ◌≤◌, ◌⊎◌, true, [], ◌∷◌, ◌++◌, length, Err, IfOk, OnOk, OnErr, IsOkUnless};
+ghost use Rattle.cell_store.specs.Entries.{most_cells};
+ghost use Rattle.cell_versions.specs.Versions.{AreLeafWrites};
+ghost use Rattle.cube_space.specs.Cells.{IsCell, is_leaf_cell};
+ghost use Rattle.feed_map.specs.FedCells.{most_fed};
+ghost use Rattle.rule_laws.specs.RuleSystem.{dense_value};
+ghost use Rattle.rule_model.specs.System.{system_of};
+ghost use Rattle.stored_values.specs.Stored.{stored_in};
+ghost use Rattle.cell_reader.specs.Limits.{fed_count};
+ghost use Rattle.cell_reader.specs.Snapshots.{known_in, memory_of, version_of};
+ghost use Rattle.cell_reader.specs.Works.{opening_of, stored_after, writes_of};
+ghost use Rattle.cell_reader.specs.Inside.After.{IsAfter};
+ghost use Rattle.cell_writes.specs.Writes.{last_writes};
+
+use crate::making::{memory_for, version_after};
+use crate::snapshot::Snapshot;
+use crate::work::Work;
+use cell_values::value_of;
+use cell_versions::{NextFault, Version};
+use cell_writes::last_writes;
+use cube_fixed::{Money, Steps, Value};
+use rule_model::Model;
+use std::alloc::{AllocError, Global};
+use std::marker::Brand;
+use std::sync::Arc;
+use std::sync::ledger::{Blank, Ledger};
+
+impl Work {
+    /// The work of a load that begins with this snapshot.
+    pub fn over(alloc: Global, snapshot: &mut Snapshot) -> Result<Work, AllocError>
+        ensures opening { IfOk result (λ work. opening_of work ≡ version_of snapshot.old) }
+        ensures writes { IfOk result (λ work. writes_of work ≡ []) }
+        ensures same { version_of snapshot.new ≡ version_of snapshot.old }
+        ensures memory { memory_of snapshot.new ≡ memory_of snapshot.old }
+        ensures known { known_in snapshot.new ≡ known_in snapshot.old }
+    {
+        let opening = Arc::try_clone(&snapshot.version)?;
+        let latest = Arc::try_clone(&snapshot.version)?;
+        let memo = snapshot.memo.share()?;
+        Ok(Work {
+            opening,
+            latest,
+            memo: Some(memo),
+            written: Vec::new(alloc),
+        })
+    }
+
+    /// The value of a cell by the rules, on what is stored after the writes so far.
+    pub fn get<L: Ledger>(
+        &mut self,
+        alloc: Global,
+        cell: u64,
+        steps: &mut Steps<L>,
+    ) -> Result<Value, AllocError>
+        requires { IsCell (opening_of self.old).model.space cell }
+        ensures value { IfOk result (λ value. value ≡ dense_value (system_of (opening_of self.old).model)
+            (stored_in (stored_after self.old (writes_of self.old))) cell) }
+        ensures opening { opening_of self.new ≡ opening_of self.old }
+        ensures writes { writes_of self.new ≡ writes_of self.old }
+    {
+        let mut memo = match self.memo.take() {
+            Some(memo) => memo,
+            None => memory_for(alloc, &self.latest)?,
+        };
+        let value = value_of(alloc, &self.latest, &mut memo, cell, steps);
+        self.memo = Some(memo);
+        value
+    }
+
+    /// The same where nobody counts the steps.
+    pub fn value_at(&mut self, alloc: Global, cell: u64) -> Result<Value, AllocError>
+        requires { IsCell (opening_of self.old).model.space cell }
+        ensures value { IfOk result (λ value. value ≡ dense_value (system_of (opening_of self.old).model)
+            (stored_in (stored_after self.old (writes_of self.old))) cell) }
+        ensures opening { opening_of self.new ≡ opening_of self.old }
+        ensures writes { writes_of self.new ≡ writes_of self.old }
+    {
+        self.value_for::<Brand>(Blank::new(1), alloc, cell)
+    }
+
+    fn value_for<L: Ledger>(
+        &mut self,
+        blank: Blank,
+        alloc: Global,
+        cell: u64,
+    ) -> Result<Value, AllocError>
+        requires name { blank.name ≡ L.name }
+        requires parts { blank.parts ≡ L.parts }
+        requires some { 0 < L.parts }
+        requires cell { IsCell (opening_of self.old).model.space cell }
+        ensures value { IfOk result (λ value. value ≡ dense_value (system_of (opening_of self.old).model)
+            (stored_in (stored_after self.old (writes_of self.old))) cell) }
+        ensures opening { opening_of self.new ≡ opening_of self.old }
+        ensures writes { writes_of self.new ≡ writes_of self.old }
+    {
+        let mut steps = Steps::<L>::begin(blank);
+        self.get(alloc, cell, &mut steps)
+    }
+
+    /// Writes a number into a leaf cell. A refused write changes nothing.
+    pub fn put(&mut self, alloc: Global, cell: u64, number: Money) -> Result<(), NextFault>
+        requires cell { IsCell (opening_of self.old).model.space cell }
+        requires leaf { is_leaf_cell (opening_of self.old).model.space cell ≡ true }
+        ensures opening { opening_of self.new ≡ opening_of self.old }
+        ensures written { OnOk result (writes_of self.new ≡ writes_of self.old ++ (cell, number) ∷ []) }
+        ensures same { OnErr result (writes_of self.new ≡ writes_of self.old) }
+
+        // each limit is told exactly where this write passes it, want of memory aside, that of the stored cells first
+        ensures within { length (stored_after self.old (writes_of self.old ++ (cell, number) ∷ [])) ≤ most_cells →
+            fed_count (opening_of self.old).model (stored_after self.old (writes_of self.old ++ (cell, number) ∷ []))
+            ≤ most_fed →
+            IsOkUnless result NextFault.Memory }
+        ensures past_store { most_cells < length (stored_after self.old (writes_of self.old ++ (cell, number) ∷ [])) →
+            (result ≡ Err (NextFault.StoreLimit
+            (length (stored_after self.old (writes_of self.old ++ (cell, number) ∷ [])))))
+            ⊎ (result ≡ Err NextFault.Memory) }
+        ensures past_fed { length (stored_after self.old (writes_of self.old ++ (cell, number) ∷ [])) ≤ most_cells →
+            most_fed < fed_count (opening_of self.old).model
+            (stored_after self.old (writes_of self.old ++ (cell, number) ∷ [])) →
+            (result ≡ Err (NextFault.FedLimit (suc most_fed))) ⊎ (result ≡ Err NextFault.Memory) }
+    {
+        let next = version_after(alloc, &self.latest, &[(cell, number)])?;
+        self.go_on(alloc, next, cell, number)?;
+        Ok(())
+    }
+
+    // Goes on with the version after one write more.
+    fn go_on(
+        &mut self,
+        alloc: Global,
+        next: Version,
+        cell: u64,
+        number: Money,
+    ) -> Result<(), AllocError>
+        requires { IsAfter (opening_of self.old) (writes_of self.old ++ (cell, number) ∷ []) next }
+        ensures opening { opening_of self.new ≡ opening_of self.old }
+        ensures written { OnOk result (writes_of self.new ≡ writes_of self.old ++ (cell, number) ∷ []) }
+        ensures same { OnErr result (writes_of self.new ≡ writes_of self.old) }
+    {
+        let latest = Arc::new(alloc, next)?;
+        self.written.push((cell, number))?;
+        self.latest = latest;
+        self.memo = None;
+        Ok(())
+    }
+
+    /// The model.
+    pub fn model(&self) -> &Model
+        ensures { result.now ≡ (opening_of self.now).model }
+    {
+        self.opening.model()
+    }
+
+    /// What the load has written: for each cell its last number, by the numbers of the cells.
+    pub fn writes(self, alloc: Global) -> Result<Vec<(u64, Money)>, AllocError>
+        ensures writes { IfOk result (λ writes. writes.items ≡ last_writes (writes_of self)) }
+        ensures leaves { AreLeafWrites (opening_of self).model.space (writes_of self) }
+    {
+        last_writes(alloc, &self.written)
+    }
+}

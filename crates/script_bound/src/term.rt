@@ -1,0 +1,39 @@
+use cube_fixed::Money;
+use lists::ListOf;
+use rule_laws::{Fun, Op, Rel};
+use sqlite_items::{Boxed, Items};
+
+/// An expression of a load script. A condition is one that gives a truth.
+#[derive(Debug, Drop)]
+pub enum Term {
+    Number(Money),
+    Text(ListOf<u8>),
+    /// The variable of this number.
+    Variable(usize),
+    /// The column at this place of the record, from 0.
+    Column(usize),
+    /// `CellGetN`: the names of a cube and of its elements.
+    Get(Items<Term>),
+    /// A function of one number, or `-`.
+    Amount(Fun, Boxed<Term>),
+    /// An operation on two numbers.
+    Amounts(Op, Boxed<Term>, Boxed<Term>),
+    /// A comparison of two numbers.
+    Compare(Rel, Boxed<Term>, Boxed<Term>),
+    /// `StringToNumber`
+    ToNumber(Boxed<Term>),
+    /// `NumberToString`
+    ToText(Boxed<Term>),
+    /// `|`, which joins two texts.
+    Join(Boxed<Term>, Boxed<Term>),
+    /// `@=`, of two texts, as names are compared.
+    Same(Boxed<Term>, Boxed<Term>),
+    /// `@<>`, of two texts.
+    Other(Boxed<Term>, Boxed<Term>),
+    /// `&`, of two truths.
+    And(Boxed<Term>, Boxed<Term>),
+    /// `%`, of two truths.
+    Or(Boxed<Term>, Boxed<Term>),
+    /// `~`, of a truth.
+    Not(Boxed<Term>),
+}

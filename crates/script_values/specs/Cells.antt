@@ -1,0 +1,61 @@
+-- The cells that a load reads and writes.
+use Rattle.std.specs.Prelude.{ℕ, ℤ, List, [], ◌∷◌, ◌++◌, Option, Some, None, Result, Ok, Err}
+use Rattle.cube_fixed.specs.declared.value.Value.{Value}
+use Rattle.cube_fixed.specs.declared.value.Value.TheVariants.{Num, Over}
+use Rattle.script_values.specs.declared.reason.Reason.{Reason}
+use Rattle.script_values.specs.declared.reason.Reason.TheVariants.{UnknownName, OverWrite}
+
+-- a cell and the millionths that are written into it
+abbrev pub Write : Type 0
+Write = ℕ × ℤ
+
+-- what a load runs on: a model and a stored list, and what they give after the writes so far, the last of a cell winning
+pub record Store : Type 0 where
+  -- the cell of a cube and elements, by their names; None where one is unknown or the count of elements is wrong
+  pub cell : List ℕ → List (List ℕ) → Option ℕ
+  -- the value of a cell after these writes
+  pub value : List Write → ℕ → Value
+  -- NotALeaf for a consolidated cell, RuleDerived for a leaf cell that isn't open for input
+  pub closed : ℕ → Option Reason
+  -- StoreLimit where the store with these writes holds too many cells, else FedLimit where its fed cells are too many
+  pub full : List Write → Option Reason
+
+abbrev pub value_in : Store → List Write → Option ℕ → Result Value Reason
+value_in store writes (Some cell) = Ok (store.value writes cell)
+value_in store writes None = Err UnknownName
+
+-- what reading a cell gives
+abbrev pub reading : Store → List Write → List ℕ → List (List ℕ) → Result Value Reason
+reading store writes cube elements = value_in store writes (store.cell cube elements)
+
+abbrev pub unless : Option Reason → List Write → Result (List Write) Reason
+unless None writes = Ok writes
+unless (Some reason) writes = Err reason
+
+abbrev pub with_number : Store → List Write → ℕ → Value → Result (List Write) Reason
+with_number store writes cell Over = Err OverWrite
+with_number store writes cell (Num millionths) =
+    unless (store.full (writes ++ (cell, millionths) ∷ [])) (writes ++ (cell, millionths) ∷ [])
+
+abbrev pub with_value : Store → List Write → ℕ → Value → Option Reason → Result (List Write) Reason
+with_value store writes cell value None = with_number store writes cell value
+with_value store writes cell value (Some reason) = Err reason
+
+abbrev pub with_cell : Store → List Write → Value → Option ℕ → Result (List Write) Reason
+with_cell store writes value (Some cell) = with_value store writes cell value (store.closed cell)
+with_cell store writes value None = Err UnknownName
+
+-- the writes with one more, or the first reason that refuses it: UnknownName, NotALeaf, RuleDerived, OverWrite,
+-- StoreLimit, FedLimit, in this order
+abbrev pub writing : Store → List Write → List ℕ → List (List ℕ) → Value → Result (List Write) Reason
+writing store writes cube elements value = with_cell store writes value (store.cell cube elements)
+
+-- why a write is refused, if it is
+abbrev pub refusal : Result (List Write) Reason → Option Reason
+refusal (Ok writes) = None
+refusal (Err reason) = Some reason
+
+-- the writes after one that is refused are those before it
+abbrev pub writes_after : List Write → Result (List Write) Reason → List Write
+writes_after before (Ok writes) = writes
+writes_after before (Err reason) = before

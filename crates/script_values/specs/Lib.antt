@@ -1,0 +1,4 @@
+pub mod Cells
+pub mod Scene
+pub mod Values
+pub mod Inside

@@ -1,0 +1,177 @@
+-- What an expression gives.
+use Rattle.std.specs.Prelude.{ℕ, ℤ, ◌==◌, Bool, true, false, not, ◌&&◌, ◌||◌, List, [], ◌∷◌, ◌++◌, length, reverse}
+use Rattle.std.specs.Prelude.{Option, Some, None, Result, Ok, Err, slice_get, if◌then◌else◌}
+use Rattle.cube_fixed.specs.declared.value.Value.{Value}
+use Rattle.cube_fixed.specs.declared.value.Value.TheVariants.{Num}
+use Rattle.cube_fixed.specs.declared.reading.NumberFault.{NumberFault}
+use Rattle.cube_fixed.specs.Arithmetic.{zero_value}
+use Rattle.cube_fixed.specs.Text.{number_of, reading_of, printed}
+use Rattle.dim_name.specs.Name.{is_same_name}
+use Rattle.rule_laws.specs.declared.operation.Fun.{Fun}
+use Rattle.rule_laws.specs.declared.operation.Op.{Op}
+use Rattle.rule_laws.specs.declared.operation.Rel.{Rel}
+use Rattle.rule_laws.specs.Operation.{operation_of, function_of, comparison_of}
+use Rattle.script_bound.specs.declared.term.Term.{Term}
+use Rattle.script_bound.specs.declared.term.Term.TheFolds.{fold-Term}
+use Rattle.script_bound.specs.declared.term.Term.TheOpen.{Term-F}
+use Rattle.script_values.specs.declared.datum.Datum.{Datum}
+use Rattle.script_values.specs.declared.datum.Datum.TheVariants as data_of
+use Rattle.script_values.specs.declared.kept.Kept.{Kept}
+use Rattle.script_values.specs.declared.kept.Kept.TheVariants as kept
+use Rattle.script_values.specs.declared.reason.Reason.{Reason}
+use Rattle.script_values.specs.declared.reason.Reason.TheVariants.{UnknownName, NotANumber, UnsetVariable, TypeMismatch}
+use Rattle.script_values.specs.Cells.{Store, Write, reading}
+use Rattle.script_values.specs.Scene.{Scene}
+
+-- ---- a datum as what is wanted
+
+abbrev pub is_blank : ℕ → Bool
+is_blank byte = byte == 32 || byte == 9
+
+abbrev pub without_blanks : List ℕ → List ℕ
+without_blanks [] = []
+without_blanks (byte ∷ bytes) = if is_blank byte then without_blanks bytes else byte ∷ bytes
+
+abbrev pub without_blanks_behind : List ℕ → List ℕ
+without_blanks_behind text = reverse (without_blanks (reverse text))
+
+-- without the spaces and tabs at its ends
+abbrev pub trimmed : List ℕ → List ℕ
+trimmed text = without_blanks_behind (without_blanks text)
+
+abbrev pub amount_read : Result ℤ NumberFault → Result Value Reason
+amount_read (Ok millionths) = Ok (Num millionths)
+amount_read (Err fault) = Err NotANumber
+
+abbrev pub amount_said : List ℕ → Result Value Reason
+amount_said [] = Ok zero_value
+amount_said (byte ∷ bytes) = amount_read (reading_of (number_of (byte ∷ bytes)))
+
+-- what a text says as a number, without the spaces and tabs at its ends; an empty one is 0
+abbrev pub amount_in : List ℕ → Result Value Reason
+amount_in text = amount_said (trimmed text)
+
+-- a datum where a number is wanted
+abbrev pub as_amount : Datum → Result Value Reason
+as_amount (data_of.Number value) = Ok value
+as_amount (data_of.Text text) = amount_in text
+as_amount (data_of.Truth truth) = Err TypeMismatch
+
+-- where a text is wanted
+abbrev pub as_text : Datum → Result (List ℕ) Reason
+as_text (data_of.Text text) = Ok text
+as_text (data_of.Number value) = Err TypeMismatch
+as_text (data_of.Truth truth) = Err TypeMismatch
+
+-- where a truth is wanted
+abbrev pub as_truth : Datum → Result Bool Reason
+as_truth (data_of.Truth truth) = Ok truth
+as_truth (data_of.Number value) = Err TypeMismatch
+as_truth (data_of.Text text) = Err TypeMismatch
+
+-- what is given, taken as what is wanted: a reason why nothing is given goes first
+abbrev pub taken : {A B : Type 0} → (A → Result B Reason) → Result A Reason → Result B Reason
+taken wanted (Ok given) = wanted given
+taken wanted (Err reason) = Err reason
+
+abbrev pub amount : Result Datum Reason → Result Value Reason
+amount = taken as_amount
+
+abbrev pub text : Result Datum Reason → Result (List ℕ) Reason
+text = taken as_text
+
+abbrev pub truth : Result Datum Reason → Result Bool Reason
+truth = taken as_truth
+
+-- ---- expressions
+
+-- an operand, and then another: the first reason goes first
+abbrev pub one_and_other : {A B C : Type 0} → (A → B → C) → Result A Reason → Result B Reason → Result C Reason
+one_and_other join (Ok a) (Ok b) = Ok (join a b)
+one_and_other join (Ok a) (Err reason) = Err reason
+one_and_other join (Err reason) other = Err reason
+
+abbrev pub done : {A B : Type 0} → (A → B) → Result A Reason → Result B Reason
+done make (Ok a) = Ok (make a)
+done make (Err reason) = Err reason
+
+abbrev pub amounts : (Value → Value → Datum) → Result Datum Reason → Result Datum Reason → Result Datum Reason
+amounts make left right = one_and_other make (amount left) (amount right)
+
+-- an operation on two numbers
+unfoldable pub operated : Op → Result Datum Reason → Result Datum Reason → Result Datum Reason
+operated op = amounts (λ left right. data_of.Number (operation_of op left right))
+
+-- a comparison of two numbers
+unfoldable pub compared : Rel → Result Datum Reason → Result Datum Reason → Result Datum Reason
+compared rel = amounts (λ left right. data_of.Truth (comparison_of rel left right))
+
+abbrev pub two_texts : (List ℕ → List ℕ → Datum) → Result Datum Reason → Result Datum Reason → Result Datum Reason
+two_texts make left right = one_and_other make (text left) (text right)
+
+abbrev pub truths : (Bool → Bool → Bool) → Result Datum Reason → Result Datum Reason → Result Datum Reason
+truths make left right = one_and_other (λ a b. data_of.Truth (make a b)) (truth left) (truth right)
+
+abbrev pub held : Option (Option Kept) → Result Datum Reason
+held (Some (Some (kept.Number value))) = Ok (data_of.Number value)
+held (Some (Some (kept.Text bytes))) = Ok (data_of.Text bytes)
+held (Some None) = Err UnsetVariable
+held None = Err UnsetVariable
+
+-- a column past the record's end is the empty text
+abbrev pub filled : Option (List ℕ) → List ℕ
+filled (Some bytes) = bytes
+filled None = []
+
+-- outside of the Data section there is no column
+abbrev pub column : ℕ → Option (List (List ℕ)) → Result Datum Reason
+column place (Some columns) = Ok (data_of.Text (filled (slice_get columns place)))
+column place None = Err UnsetVariable
+
+-- what an expression gives: by what is seen, and by the cells after the writes so far
+abbrev pub Reading : Type 0
+Reading = Scene → Store → List Write → Result Datum Reason
+
+-- texts, from left to right
+abbrev pub each_text : List Reading → Scene → Store → List Write → Result (List (List ℕ)) Reason
+each_text [] scene store writes = Ok []
+each_text (reading ∷ readings) scene store writes =
+    one_and_other (λ first rest. first ∷ rest) (text (reading scene store writes))
+    (each_text readings scene store writes)
+
+-- the value of the cell of a cube and elements
+abbrev pub cell_value : Store → List Write → List (List ℕ) → Result Value Reason
+cell_value store writes [] = Err UnknownName
+cell_value store writes (cube ∷ elements) = reading store writes cube elements
+
+abbrev pub value_step : Term-F Reading → Reading
+value_step (Term-F.Number millionths) scene store writes = Ok (data_of.Number (Num millionths))
+value_step (Term-F.Text bytes) scene store writes = Ok (data_of.Text bytes)
+value_step (Term-F.Variable place) scene store writes = held (slice_get scene.variables place)
+value_step (Term-F.Column place) scene store writes = column place scene.columns
+value_step (Term-F.Get names) scene store writes =
+    done (λ value. data_of.Number value)
+    (taken (cell_value store writes) (each_text names scene store writes))
+value_step (Term-F.Amount function a) scene store writes =
+    done (λ value. data_of.Number (function_of function value)) (amount (a scene store writes))
+value_step (Term-F.Amounts op a b) scene store writes = operated op (a scene store writes) (b scene store writes)
+value_step (Term-F.Compare rel a b) scene store writes = compared rel (a scene store writes) (b scene store writes)
+value_step (Term-F.ToNumber a) scene store writes =
+    done (λ value. data_of.Number value) (taken amount_in (text (a scene store writes)))
+value_step (Term-F.ToText a) scene store writes =
+    done (λ value. data_of.Text (printed value)) (amount (a scene store writes))
+value_step (Term-F.Join a b) scene store writes =
+    two_texts (λ left right. data_of.Text (left ++ right)) (a scene store writes) (b scene store writes)
+value_step (Term-F.Same a b) scene store writes =
+    two_texts (λ left right. data_of.Truth (is_same_name left right)) (a scene store writes) (b scene store writes)
+value_step (Term-F.Other a b) scene store writes =
+    two_texts (λ left right. data_of.Truth (not (is_same_name left right)))
+    (a scene store writes) (b scene store writes)
+value_step (Term-F.And a b) scene store writes = truths ◌&&◌ (a scene store writes) (b scene store writes)
+value_step (Term-F.Or a b) scene store writes = truths ◌||◌ (a scene store writes) (b scene store writes)
+value_step (Term-F.Not a) scene store writes =
+    done (λ holds. data_of.Truth (not holds)) (truth (a scene store writes))
+
+-- what an expression gives
+abbrev pub value_of : Term → Reading
+value_of = fold-Term Reading value_step

@@ -1,0 +1,25 @@
+//! What the expressions of a load script give, over the cells that a load reads and writes.
+//!
+//! Read in this order: [`WorkCells`], the cells; [`Reason`], why a load ends; [`Datum`], what an expression gives;
+//! [`value_of`], which evaluates one. `specs/Values.antt` says what each expression gives.
+#![tactic(auto)]
+
+mod cells;
+mod datum;
+mod kept;
+mod operands;
+mod reason;
+mod same_name;
+mod sight;
+mod text;
+mod value;
+mod wanted;
+
+pub use cells::WorkCells;
+pub use datum::Datum;
+pub use kept::Kept;
+pub use reason::Reason;
+pub use sight::Sight;
+pub use text::Text;
+pub use value::{texts_of, value_of};
+pub use wanted::{as_amount, as_text, as_truth};

@@ -1,0 +1,164 @@
+ghost use Rattle.std.specs.Prelude.{◌≡◌, ◌++◌, ◌&&◌, ◌||◌, not, IfOk};
+ghost use Rattle.cube_fixed.specs.Text.{printed};
+ghost use Rattle.dim_name.specs.Name.{is_same_name};
+ghost use Rattle.rule_laws.specs.Operation.{function_of};
+ghost use Rattle.script_values.specs.declared.datum.Datum.TheVariants as data_of;
+ghost use Rattle.script_values.specs.Values as values;
+
+use crate::datum::Datum;
+use crate::reason::Reason;
+use crate::same_name::is_same_name;
+use crate::text::Text;
+use crate::wanted::{amount_in, as_amount, as_text, as_truth};
+use cube_fixed::print;
+use rule_laws::{Fun, Op, Rel};
+use std::alloc::{AllocError, Global};
+
+pub(crate) fn function<'a>(
+    function: Fun,
+    given: Result<Datum<'a>, Reason>,
+) -> Result<Datum<'a>, Reason>
+    ensures { result ≡ values.done (λ value. data_of.Number (function_of function value)) (values.amount given.entry) }
+{
+    let value = as_amount(given)?;
+    Ok(Datum::Number(function.apply(value)))
+}
+
+#[tactic(auto, unfolding(crate::specs::Values::operated))]
+pub(crate) fn operation<'a>(
+    op: Op,
+    left: Result<Datum<'a>, Reason>,
+    right: Result<Datum<'a>, Reason>,
+) -> Result<Datum<'a>, Reason>
+    ensures { result ≡ values.operated op left.entry right.entry }
+{
+    let left = as_amount(left)?;
+    let right = as_amount(right)?;
+    Ok(Datum::Number(op.apply(left, right)))
+}
+
+#[tactic(auto, unfolding(crate::specs::Values::compared))]
+pub(crate) fn comparison<'a>(
+    rel: Rel,
+    left: Result<Datum<'a>, Reason>,
+    right: Result<Datum<'a>, Reason>,
+) -> Result<Datum<'a>, Reason>
+    ensures { result ≡ values.compared rel left.entry right.entry }
+{
+    let left = as_amount(left)?;
+    let right = as_amount(right)?;
+    Ok(Datum::Truth(rel.holds(left, right)))
+}
+
+pub(crate) fn number_in<'a>(given: Result<Datum<'a>, Reason>) -> Result<Datum<'a>, Reason>
+    ensures { result ≡ values.done (λ value. data_of.Number value)
+        (values.taken values.amount_in (values.text given.entry)) }
+{
+    let text = as_text(given)?;
+    let value = amount_in(text.as_slice())?;
+    Ok(Datum::Number(value))
+}
+
+pub(crate) fn text_of<'a>(
+    alloc: Global,
+    given: Result<Datum<'a>, Reason>,
+) -> Result<Result<Datum<'a>, Reason>, AllocError>
+    ensures { IfOk result (λ answer. answer
+        ≡ values.done (λ value. data_of.Text (printed value)) (values.amount given.entry)) }
+{
+    match as_amount(given) {
+        Ok(value) => {
+            let mut bytes = Vec::new(alloc);
+            print(alloc, value, &mut bytes)?;
+            Ok(Ok(Datum::Text(Text::owned(bytes))))
+        }
+        Err(reason) => Ok(Err(reason)),
+    }
+}
+
+/// Two texts, one behind the other.
+fn both<'a>(alloc: Global, left: &[u8], right: &[u8]) -> Result<Text<'a>, AllocError>
+    ensures { IfOk result (λ both. both ≡ left.now ++ right.now) }
+{
+    let mut bytes = Vec::from_slice(alloc, left)?;
+    bytes.extend_from_slice(right)?;
+    Ok(Text::owned(bytes))
+}
+
+/// What two operands give as texts.
+fn two_texts<'a>(
+    left: Result<Datum<'a>, Reason>,
+    right: Result<Datum<'a>, Reason>,
+) -> Result<(Text<'a>, Text<'a>), Reason>
+    ensures { result ≡ values.one_and_other (λ a b. (a, b)) (values.text left.entry) (values.text right.entry) }
+{
+    let left = as_text(left)?;
+    let right = as_text(right)?;
+    Ok((left, right))
+}
+
+pub(crate) fn joined<'a>(
+    alloc: Global,
+    left: Result<Datum<'a>, Reason>,
+    right: Result<Datum<'a>, Reason>,
+) -> Result<Result<Datum<'a>, Reason>, AllocError>
+    ensures { IfOk result (λ answer. answer
+        ≡ values.two_texts (λ a b. data_of.Text (a ++ b)) left.entry right.entry) }
+{
+    match two_texts(left, right) {
+        Ok((left, right)) => {
+            let text = both(alloc, left.as_slice(), right.as_slice())?;
+            Ok(Ok(Datum::Text(text)))
+        }
+        Err(reason) => Ok(Err(reason)),
+    }
+}
+
+pub(crate) fn same<'a>(
+    left: Result<Datum<'a>, Reason>,
+    right: Result<Datum<'a>, Reason>,
+) -> Result<Datum<'a>, Reason>
+    ensures { result ≡ values.two_texts (λ a b. data_of.Truth (is_same_name a b)) left.entry right.entry }
+{
+    let (left, right) = two_texts(left, right)?;
+    Ok(Datum::Truth(is_same_name(left.as_slice(), right.as_slice())))
+}
+
+pub(crate) fn other<'a>(
+    left: Result<Datum<'a>, Reason>,
+    right: Result<Datum<'a>, Reason>,
+) -> Result<Datum<'a>, Reason>
+    ensures { result ≡ values.two_texts (λ a b. data_of.Truth (not (is_same_name a b))) left.entry right.entry }
+{
+    let (left, right) = two_texts(left, right)?;
+    Ok(Datum::Truth(!is_same_name(left.as_slice(), right.as_slice())))
+}
+
+pub(crate) fn both_hold<'a>(
+    left: Result<Datum<'a>, Reason>,
+    right: Result<Datum<'a>, Reason>,
+) -> Result<Datum<'a>, Reason>
+    ensures { result ≡ values.truths ◌&&◌ left.entry right.entry }
+{
+    let left = as_truth(left)?;
+    let right = as_truth(right)?;
+    Ok(Datum::Truth(left && right))
+}
+
+pub(crate) fn one_holds<'a>(
+    left: Result<Datum<'a>, Reason>,
+    right: Result<Datum<'a>, Reason>,
+) -> Result<Datum<'a>, Reason>
+    ensures { result ≡ values.truths ◌||◌ left.entry right.entry }
+{
+    let left = as_truth(left)?;
+    let right = as_truth(right)?;
+    Ok(Datum::Truth(left || right))
+}
+
+pub(crate) fn opposite<'a>(given: Result<Datum<'a>, Reason>) -> Result<Datum<'a>, Reason>
+    ensures { result ≡ values.done (λ holds. data_of.Truth (not holds)) (values.truth given.entry) }
+{
+    let holds = as_truth(given)?;
+    Ok(Datum::Truth(!holds))
+}

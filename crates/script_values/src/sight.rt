@@ -1,0 +1,78 @@
+ghost use Rattle.std.specs.Prelude.{◌≡◌, slice_get};
+ghost use Rattle.std.specs.Option.{option_map};
+ghost use Rattle.script_values.specs.Values.{held, column, filled};
+
+use crate::datum::Datum;
+use crate::kept::Kept;
+use crate::reason::Reason;
+use crate::text::Text;
+use lists::ListOf;
+use sqlite_items::at;
+use std::marker::Model;
+
+/// What an expression sees beside the cells: the variables by their numbers, and in the Data section the columns of the
+/// record.
+#[derive(Drop)]
+pub struct Sight<'a> {
+    variables: &'a [Option<Kept>],
+    columns: Option<&'a [ListOf<u8>]>,
+}
+
+impl<'a> Model for Sight<'a> {
+    ghost use Rattle.std.specs.Option.{option_map};
+    ghost use Rattle.script_values.specs.Scene.{Scene};
+
+    ghost Value = { Scene };
+
+    ghost view = { λ sight. record {
+      variables = sight.variables.now;
+      columns = option_map (λ columns. columns.now) sight.columns;
+    } };
+}
+
+/// What a variable gives.
+fn held<'a>(variables: &'a [Option<Kept>], place: usize) -> Result<Datum<'a>, Reason>
+    ensures { result ≡ held (slice_get variables.now place) }
+{
+    match at(variables, place) {
+        Some(Some(Kept::Number(value))) => Ok(Datum::Number(*value)),
+        Some(Some(Kept::Text(bytes))) => Ok(Datum::Text(Text::borrowed(bytes.as_slice()))),
+        _ => Err(Reason::UnsetVariable),
+    }
+}
+
+/// The column of a record, which is empty past the record's end.
+fn filled<'a>(columns: &'a [ListOf<u8>], place: usize) -> Text<'a>
+    ensures { result ≡ filled (slice_get columns.now place) }
+{
+    match at(columns, place) {
+        Some(bytes) => Text::borrowed(bytes.as_slice()),
+        None => Text::borrowed(&[]),
+    }
+}
+
+impl<'a> Sight<'a> {
+    pub fn new(variables: &'a [Option<Kept>], columns: Option<&'a [ListOf<u8>]>) -> Sight<'a>
+        ensures variables { result.variables ≡ variables.now }
+        ensures columns { result.columns ≡ option_map (λ columns. columns.now) columns.entry }
+    {
+        Sight { variables, columns }
+    }
+
+    /// What a variable gives.
+    pub(crate) fn variable(&self, place: usize) -> Result<Datum<'a>, Reason>
+        ensures { result ≡ held (slice_get self.now.variables place) }
+    {
+        held(self.variables, place)
+    }
+
+    /// What a column gives.
+    pub(crate) fn column(&self, place: usize) -> Result<Datum<'a>, Reason>
+        ensures { result ≡ column place self.now.columns }
+    {
+        match self.columns {
+            Some(columns) => Ok(Datum::Text(filled(columns, place))),
+            None => Err(Reason::UnsetVariable),
+        }
+    }
+}

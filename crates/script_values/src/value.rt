@@ -1,0 +1,158 @@
+ghost use Rattle.std.specs.Prelude.{◌≡◌, ◌&&◌, ◌||◌, map, IfOk};
+ghost use Rattle.script_values.specs.Values as values;
+ghost use Rattle.script_values.specs.Values.{value_of, cell_value, each_text, done, taken};
+ghost use Rattle.script_values.specs.declared.datum.Datum.TheVariants as data_of;
+
+use crate::cells::WorkCells;
+use crate::datum::Datum;
+use crate::operands::{
+    both_hold, comparison, function, joined, number_in, one_holds, operation, opposite, other,
+    same, text_of,
+};
+use crate::reason::Reason;
+use crate::sight::Sight;
+use crate::text::Text;
+use crate::wanted::as_text;
+use cube_fixed::Value;
+use lists::ListOf;
+use script_bound::Term;
+use std::alloc::{AllocError, Global};
+
+/// The value of the cell of a cube and elements.
+fn cell_value<C: WorkCells>(
+    alloc: Global,
+    names: &[Text<'_>],
+    cells: &mut C,
+) -> Result<Result<Value, Reason>, AllocError>
+    ensures value { IfOk result (λ answer. answer
+        ≡ cell_value (C.store cells.old) (C.writes cells.old) names.now) }
+    ensures store { C.store cells.new ≡ C.store cells.old }
+    ensures writes { C.writes cells.new ≡ C.writes cells.old }
+{
+    match names {
+        [cube, elements @ ..] => cells.get(alloc, cube.as_slice(), elements),
+        [] => Ok(Err(Reason::UnknownName)),
+    }
+}
+
+/// What an expression gives, or the first reason why it gives nothing. Operands are evaluated from left to right, and
+/// each is taken as a number, a text or a truth before the next.
+///
+/// A text is copied only where it is put together.
+#[cycle(values)]
+pub fn value_of<'a, C: WorkCells>(
+    alloc: Global,
+    term: &'a Term,
+    sight: &Sight<'a>,
+    cells: &mut C,
+) -> Result<Result<Datum<'a>, Reason>, AllocError>
+    ensures value { IfOk result (λ answer. answer
+        ≡ value_of term.now sight.now (C.store cells.old) (C.writes cells.old)) }
+    ensures store { C.store cells.new ≡ C.store cells.old }
+    ensures writes { C.writes cells.new ≡ C.writes cells.old }
+{
+    match term {
+        Term::Number(number) => Ok(Ok(Datum::Number(Value::Num(*number)))),
+        Term::Text(bytes) => Ok(Ok(Datum::Text(Text::borrowed(bytes.as_slice())))),
+        Term::Variable(place) => Ok(sight.variable(*place)),
+        Term::Column(place) => Ok(sight.column(*place)),
+        Term::Get(names) => value_in_cell(alloc, names.as_slice(), sight, cells),
+        Term::Amount(fun, inner) => {
+            let inner = value_of(alloc, inner.get(), sight, cells)?;
+            Ok(function(*fun, inner))
+        }
+        Term::Amounts(op, left, right) => {
+            let left = value_of(alloc, left.get(), sight, cells)?;
+            let right = value_of(alloc, right.get(), sight, cells)?;
+            Ok(operation(*op, left, right))
+        }
+        Term::Compare(rel, left, right) => {
+            let left = value_of(alloc, left.get(), sight, cells)?;
+            let right = value_of(alloc, right.get(), sight, cells)?;
+            Ok(comparison(*rel, left, right))
+        }
+        Term::ToNumber(inner) => {
+            let inner = value_of(alloc, inner.get(), sight, cells)?;
+            Ok(number_in(inner))
+        }
+        Term::ToText(inner) => {
+            let inner = value_of(alloc, inner.get(), sight, cells)?;
+            text_of(alloc, inner)
+        }
+        Term::Join(left, right) => {
+            let left = value_of(alloc, left.get(), sight, cells)?;
+            let right = value_of(alloc, right.get(), sight, cells)?;
+            joined(alloc, left, right)
+        }
+        Term::Same(left, right) => {
+            let left = value_of(alloc, left.get(), sight, cells)?;
+            let right = value_of(alloc, right.get(), sight, cells)?;
+            Ok(same(left, right))
+        }
+        Term::Other(left, right) => {
+            let left = value_of(alloc, left.get(), sight, cells)?;
+            let right = value_of(alloc, right.get(), sight, cells)?;
+            Ok(other(left, right))
+        }
+        Term::And(left, right) => {
+            let left = value_of(alloc, left.get(), sight, cells)?;
+            let right = value_of(alloc, right.get(), sight, cells)?;
+            Ok(both_hold(left, right))
+        }
+        Term::Or(left, right) => {
+            let left = value_of(alloc, left.get(), sight, cells)?;
+            let right = value_of(alloc, right.get(), sight, cells)?;
+            Ok(one_holds(left, right))
+        }
+        Term::Not(inner) => {
+            let inner = value_of(alloc, inner.get(), sight, cells)?;
+            Ok(opposite(inner))
+        }
+    }
+}
+
+/// The value of the cell that expressions name.
+#[cycle(values)]
+fn value_in_cell<'a, C: WorkCells>(
+    alloc: Global,
+    names: &'a [Term],
+    sight: &Sight<'a>,
+    cells: &mut C,
+) -> Result<Result<Datum<'a>, Reason>, AllocError>
+    ensures value { IfOk result (λ answer. answer ≡ done (λ value. data_of.Number value)
+        (taken (cell_value (C.store cells.old) (C.writes cells.old))
+        (each_text (map value_of names.now) sight.now (C.store cells.old) (C.writes cells.old)))) }
+    ensures store { C.store cells.new ≡ C.store cells.old }
+    ensures writes { C.writes cells.new ≡ C.writes cells.old }
+{
+    match texts_of(alloc, names, sight, cells)? {
+        Ok(names) => match cell_value(alloc, names.as_slice(), cells)? {
+            Ok(value) => Ok(Ok(Datum::Number(value))),
+            Err(reason) => Ok(Err(reason)),
+        },
+        Err(reason) => Ok(Err(reason)),
+    }
+}
+
+/// What expressions give as texts, from left to right, or the first reason why one gives none.
+#[cycle(values)]
+pub fn texts_of<'a, C: WorkCells>(
+    alloc: Global,
+    terms: &'a [Term],
+    sight: &Sight<'a>,
+    cells: &mut C,
+) -> Result<Result<ListOf<Text<'a>>, Reason>, AllocError>
+    ensures value { IfOk result (λ answer. answer
+        ≡ each_text (map value_of terms.now) sight.now (C.store cells.old) (C.writes cells.old)) }
+    ensures store { C.store cells.new ≡ C.store cells.old }
+    ensures writes { C.writes cells.new ≡ C.writes cells.old }
+{
+    let mut texts = Vec::new(alloc);
+    'each: for term in terms {
+        match as_text(value_of(alloc, term, sight, cells)?) {
+            Ok(text) => texts.push(text)?,
+            Err(reason) => return Ok(Err(reason)),
+        }
+    }
+    Ok(Ok(ListOf::new(texts)))
+}

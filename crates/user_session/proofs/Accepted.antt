@@ -1,0 +1,87 @@
+-- What is known of the writes of an accepted command.
+use Rattle.std.proofs.Common.{◌≡◌, refl, subst, ℕ, ℤ, ◌≤◌, Bool, true, false, not, if◌then◌else◌, arith, List, [], ◌∷◌, length, Option, Some, None}
+use Rattle.std.specs.Prelude.{nat_lt, option_and_then}
+use Rattle.std.proofs.lemmas.Bool.Decides.{nat_tests}
+use Rattle.std.proofs.lemmas.List.Elements.{All-nil, All-cons}
+use Rattle.std.proofs.lemmas.Option.{cond_some, option_and_then_some}
+use Rattle.cell_reader.specs.Limits.{fed_count}
+use Rattle.cell_store.specs.declared.entry.Entry.{Entry}
+use Rattle.cell_store.specs.Entries.{after_writes, most_cells}
+use Rattle.cell_versions.specs.Versions.{AreLeafWrites}
+use Rattle.cube_space.specs.Cells.{IsCell, cell_number, is_leaf_cell, is_place}
+use Rattle.cube_space.specs.Layout.{Layout, axes, cube_names}
+use Rattle.cube_space.proofs.Places.{place_number, is_place-parts, place-within}
+use Rattle.dim_name.specs.Name.{place_of}
+use Rattle.feed_map.specs.FedCells.{most_fed}
+use Rattle.history.specs.declared.effect.Effect.TheVariants.{Commit}
+use Rattle.rule_model.specs.BoundModel.{BoundModel}
+use Rattle.rule_model.specs.Governing.{is_input}
+use Rattle.rule_model.specs.Named.{cell_named, elements_named}
+use Rattle.user_session.specs.declared.content.Content.{Content}
+use Rattle.user_session.specs.declared.command.PlanCommand.{PlanCommand}
+use Rattle.user_session.specs.declared.command.PlanCommand.TheVariants.{Put, Get}
+use Rattle.user_session.specs.Planning.{committed, effect, get_effect, named_cell, put_effect, rejected, within_limits}
+use Rattle.user_session.specs.declared.reply.Reason.TheVariants.{NotALeaf, RuleDerived, StoreLimit, FedLimit}
+
+-- writes of leaf cells, after which neither limit is passed
+pub record AreWithin (content : Content) (writes : List (ℕ × ℤ)) : Type 0 where
+  pub leaves : AreLeafWrites content.model.space writes
+  pub few_stored : length (after_writes content.stored writes) ≤ most_cells
+  pub few_fed : fed_count content.model (after_writes content.stored writes) ≤ most_fed
+
+-- a cell that is named is one
+number-cell : (space : Layout) (cube : ℕ) (elements : List ℕ) (c : ℕ) → cell_number space cube elements ≡ Some c → IsCell space c
+unfolding cell_number
+number-cell space cube elements c is =
+    let parts = cond_some (is_place space cube elements) (place_number space cube elements) c is in
+    subst (IsCell space) parts.1 (place-within space cube elements (is_place-parts space cube elements parts.0))
+
+pub named-cell : (space : Layout) (cube : List ℕ) (names : List (List ℕ)) (c : ℕ) → cell_named space cube names ≡ Some c → IsCell space c
+unfolding cell_named
+named-cell space cube names c is =
+    option_and_then_some (λ k. option_and_then (cell_number space k) (elements_named (axes space k) names)) (place_of (cube_names space) cube) c is
+    (λ k there here. option_and_then_some (cell_number space k) (elements_named (axes space k) names) c here (λ elements named number. number-cell space k elements c number))
+
+-- ---- an accepted PUT
+
+abbrev IsAmong : BoundModel → List Entry → List (ℕ × ℤ) → List (ℕ × ℤ) → Type 0
+IsAmong model stored writes others = (writes ≡ others) × (length stored ≤ most_cells) × (fed_count model stored ≤ most_fed)
+
+at_most : (a b : ℕ) → nat_lt a b ≡ false → b ≤ a
+at_most a b is = grind (arith, nat_tests)
+
+limited : (model : BoundModel) (stored : List Entry) (writes others : List (ℕ × ℤ)) (reply : List ℕ) → within_limits model stored writes ≡ Commit others reply → IsAmong model stored writes others
+limited model stored writes others reply is = by (nat_lt most_cells (length stored)) refl (nat_lt most_fed (fed_count model stored)) refl is
+  where
+    by : (b : Bool) → nat_lt most_cells (length stored) ≡ b → (d : Bool) → nat_lt most_fed (fed_count model stored) ≡ d
+        → (if b then rejected StoreLimit else if d then rejected FedLimit else committed writes) ≡ Commit others reply → IsAmong model stored writes others
+    by true few d fed is = absurd (cc)
+    by false few true fed is = absurd (cc)
+    by false few false fed is = (cc, at_most most_cells (length stored) few, at_most most_fed (fed_count model stored) fed)
+
+put-within : (content : Content) (named : Option ℕ) (number : ℤ) (writes : List (ℕ × ℤ)) (reply : List ℕ) → ((c : ℕ) → named ≡ Some c → IsCell content.model.space c)
+    → put_effect content named number ≡ Commit writes reply → AreWithin content writes
+put-within content None number writes reply cell is = absurd (cc)
+put-within content (Some c) number writes reply cell is = by (is_leaf_cell content.model.space c) refl (is_input content.model c) is
+  where
+    by : (leaf : Bool) → is_leaf_cell content.model.space c ≡ leaf → (open_cell : Bool)
+        → (if not leaf then rejected NotALeaf else if not open_cell then rejected RuleDerived else within_limits content.model (after_writes content.stored ((c, number) ∷ [])) ((c, number) ∷ [])) ≡ Commit writes reply
+        → AreWithin content writes
+    by false leaf open_cell is = absurd (cc)
+    by true leaf false is = absurd (cc)
+    by true leaf true is =
+        let parts = limited content.model (after_writes content.stored ((c, number) ∷ [])) ((c, number) ∷ []) writes reply is in
+        subst (AreWithin content) parts.0 (record {
+          leaves = All-cons (λ write. IsCell content.model.space write.0 × (is_leaf_cell content.model.space write.0 ≡ true)) (c, number) [] (cell c refl, leaf) (All-nil (λ write. IsCell content.model.space write.0 × (is_leaf_cell content.model.space write.0 ≡ true)));
+          few_stored = parts.1;
+          few_fed = parts.2;
+        })
+
+get-never : (content : Content) (named : Option ℕ) (writes : List (ℕ × ℤ)) (reply : List ℕ) → get_effect content named ≡ Commit writes reply → AreWithin content writes
+get-never content None writes reply is = absurd (cc)
+get-never content (Some c) writes reply is = absurd (cc)
+
+pub accepted-within : (content : Content) (command : PlanCommand) (writes : List (ℕ × ℤ)) (reply : List ℕ) → effect content command ≡ Commit writes reply → AreWithin content writes
+accepted-within content (Put text number) writes reply is =
+    put-within content (named_cell content.model text) number writes reply (λ c named. named-cell content.model.space text.cube text.elements c named) is
+accepted-within content (Get text) writes reply is = get-never content (named_cell content.model text) writes reply is

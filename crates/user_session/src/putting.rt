@@ -1,0 +1,58 @@
+ghost use Rattle.std.specs.Prelude.{◌≡◌, [], ◌∷◌, IfOk};
+ghost use Rattle.user_session.specs.Content.{content_of};
+ghost use Rattle.user_session.specs.Planning.{committed, named_cell, put_effect, rejected};
+
+use crate::reply::{Reason, Reply};
+use crate::world::PlanEffect;
+use cell_reader::{NextFault, Snapshot, Work};
+use cube_fixed::Money;
+use history::Effect;
+use lists::ListOf;
+use rule_model::{cell_of, is_input};
+use std::alloc::{AllocError, Global};
+use user_text::CellText;
+
+/// The effect of a PUT: its one write, or why it isn't accepted.
+pub(crate) fn put(
+    alloc: Global,
+    state: &mut Snapshot,
+    text: &CellText,
+    number: Money,
+) -> Result<PlanEffect, AllocError>
+    ensures effect { IfOk result (λ found. found
+        ≡ put_effect (content_of state.old) (named_cell (content_of state.old).model text.now) number) }
+    ensures kept { content_of state.new ≡ content_of state.old }
+{
+    let model = state.model();
+    let Some(cell) = cell_of(model, &text.cube, text.elements.as_slice()) else {
+        return rejected(alloc, Reason::UnknownName);
+    };
+    if !model.space().is_leaf(cell) {
+        return rejected(alloc, Reason::NotALeaf);
+    }
+    if !is_input(model, cell) {
+        return rejected(alloc, Reason::RuleDerived);
+    }
+    let mut work = Work::over(alloc, state)?;
+    match work.put(alloc, cell, number) {
+        Ok(()) => committed(alloc, cell, number),
+        Err(NextFault::StoreLimit(_)) => rejected(alloc, Reason::StoreLimit),
+        Err(NextFault::FedLimit(_)) => rejected(alloc, Reason::FedLimit),
+        Err(NextFault::Memory) => Err(AllocError),
+    }
+}
+
+fn rejected(alloc: Global, reason: Reason) -> Result<PlanEffect, AllocError>
+    ensures { IfOk result (λ found. found ≡ rejected reason) }
+{
+    let reply = Reply::Rejected(reason).text(alloc)?;
+    Ok(Effect::Rejected(reply))
+}
+
+fn committed(alloc: Global, cell: u64, number: Money) -> Result<PlanEffect, AllocError>
+    ensures { IfOk result (λ found. found ≡ committed ((cell, number) ∷ [])) }
+{
+    let writes = ListOf::new(vec![in alloc; (cell, number)]?);
+    let reply = Reply::Committed(1).text(alloc)?;
+    Ok(Effect::Commit(writes, reply))
+}

@@ -1,0 +1,69 @@
+use crate::command::PlanCommand;
+use crate::content::Content;
+use crate::getting::get;
+use crate::putting::put;
+use crate::reply::ReplyText;
+use cell_reader::{NextFault, Snapshot};
+use cube_fixed::{Money, Value};
+use history::{Effect, World};
+use lists::ListOf;
+use std::alloc::{AllocError, Global};
+
+/// The writes of an accepted command: each cell with its new number, in millionths, by the numbers of the cells. A 0
+/// takes the cell out of the store.
+pub type CellWrites = ListOf<(u64, Money)>;
+
+/// What a command does.
+pub(crate) type PlanEffect = Effect<CellWrites, ReplyText>;
+
+/// The world of a planner's commands.
+pub struct PlanWorld;
+
+impl World for PlanWorld {
+    ghost use Rattle.user_session.specs.Content.{after, content_of};
+    ghost use Rattle.user_session.specs.Planning.{cell_value, effect};
+
+    type State = Snapshot;
+
+    type Content = Content;
+
+    type Command = PlanCommand;
+
+    type Reply = ReplyText;
+
+    type Writes = CellWrites;
+
+    type Value = Value;
+
+    ghost content = { content_of };
+
+    ghost effect = { effect };
+
+    ghost after = { after };
+
+    ghost cell_value = { cell_value };
+
+    fn share(_alloc: Global, state: &mut Snapshot) -> Result<Snapshot, AllocError> {
+        state.share()
+    }
+
+    fn attempt(
+        alloc: Global,
+        state: &mut Snapshot,
+        command: &PlanCommand,
+    ) -> Result<PlanEffect, AllocError> {
+        match command {
+            PlanCommand::Put(cell, number) => put(alloc, state, cell, *number),
+            PlanCommand::Get(cell) => get(alloc, state, cell),
+        }
+    }
+
+    fn next(alloc: Global, state: &Snapshot, writes: &CellWrites) -> Result<Snapshot, AllocError> {
+        match state.next(alloc, writes.as_slice()) {
+            Ok(next) => Ok(next),
+            Err(NextFault::Memory) => Err(AllocError),
+            // an accepted command passes no limit
+            Err(NextFault::StoreLimit(_)) | Err(NextFault::FedLimit(_)) => unreachable!(),
+        }
+    }
+}
