@@ -7,12 +7,15 @@ ghost use Rattle.run_passes.specs.Words.{texts_of};
 
 use crate::print::{print_history, print_refusal, print_unread, print_usage, print_user};
 use crate::status::Status;
+use cell_reader::Snapshot;
 use cube_outside::Files;
 use history::Told;
 use lists::ListOf;
 use run_passes::{Halt, Job, Readings, run_passes};
 use std::alloc::{AllocError, Global};
-use user_session::{ReplyText, serve};
+use serving::serve;
+use std::sync::Arc;
+use user_session::{PlanWorld, ReplyText};
 
 /// How a run is to end, and the pieces of its text in the order in which they are written.
 #[derive(Drop)]
@@ -32,18 +35,19 @@ pub(crate) fn answer_of<F: Files>(
 {
     let mut readings = Readings::new(alloc);
     match run_passes(alloc, words, files, &mut readings) {
-        Ok(job) => done(alloc, &job),
+        Ok(job) => done(alloc, job),
         Err(halt) => halted(alloc, files.missed(), halt),
     }
 }
 
 // Runs the users.
-fn done(alloc: Global, job: &Job) -> Result<Answer, AllocError>
+fn done(alloc: Global, job: Job) -> Result<Answer, AllocError>
     ensures status { IfOk result (λ answer. answer.status ≡ Status.Done) }
-    ensures text { IfOk result (λ answer. IsOutput job.now (joined answer.pieces.items)) }
+    ensures text { IfOk result (λ answer. IsOutput job (joined answer.pieces.items)) }
 {
     let Job::Serve(model, users) = job;
-    let served = serve(alloc, model.model(), users.as_slice())?;
+    let opening = Snapshot::first(alloc, Arc::new(alloc, model)?)?;
+    let served = serve::<PlanWorld>(alloc, opening, users.as_slice())?;
     let mut pieces = print_users(alloc, &served.told)?;
     pieces.push(print_history(alloc, &served.log)?)?;
     Ok(Answer {

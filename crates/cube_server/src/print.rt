@@ -5,7 +5,7 @@ ghost use Rattle.cube_server.specs.Output.{refused_text, unread_text, usage_text
 use history::{Entry, Told};
 use run_passes::{Cause, Place, Refusal};
 use std::alloc::{AllocError, Global};
-use user_session::{ReplyText, Writes};
+use user_session::{CellWrites, ReplyText};
 
 /// The text of a user: the line `user U` and a line for each command.
 pub(crate) fn print_user(
@@ -39,7 +39,7 @@ fn print_told(
 }
 
 /// The history: the line `history` and a line for each entry.
-pub(crate) fn print_history(alloc: Global, log: &[Entry<Writes>]) -> Result<Vec<u8>, AllocError>
+pub(crate) fn print_history(alloc: Global, log: &[Entry<CellWrites>]) -> Result<Vec<u8>, AllocError>
     ensures { IfOk result (λ text. text.items ≡ history_text log.now) }
 {
     let mut text = Vec::from_slice(alloc, b"history\n")?;
@@ -54,7 +54,7 @@ fn print_entry(
     alloc: Global,
     text: &mut Vec<u8>,
     place: usize,
-    entry: &Entry<Writes>,
+    entry: &Entry<CellWrites>,
 ) -> Result<(), AllocError>
     ensures { OnOk result (text.new.items ≡ text.old.items ++ entry_line place entry.now) }
 {
@@ -66,7 +66,7 @@ fn print_entry(
 }
 
 // How many cells a commit has written.
-fn cells_of(entry: &Entry<Writes>) -> usize
+fn cells_of(entry: &Entry<CellWrites>) -> usize
     ensures { result ≡ length entry.now.writes }
 {
     entry.writes.as_slice().len()

@@ -12,12 +12,11 @@ use Rattle.rule_model.specs.BoundModel.{BoundModel}
 use Rattle.run_passes.specs.declared.halt.Halt.{Halt}
 use Rattle.run_passes.specs.declared.halt.Halt.TheVariants as halts
 use Rattle.run_passes.specs.declared.refusal.Cause.{Cause}
-use Rattle.run_passes.specs.declared.refusal.Cause.TheVariants.{Unbuilt}
 use Rattle.run_passes.specs.declared.refusal.Refusal.{Refusal}
 use Rattle.run_passes.specs.Pass.{Source, Judgement}
 use Rattle.run_passes.specs.Refusals.{refused_on, model_cause, deploy_refusal}
 use Rattle.run_passes.specs.Models.{text_judgement}
-use Rattle.run_passes.specs.Rules.{rule_files, unbuilt_rules, deployment_judgement}
+use Rattle.run_passes.specs.Rules.{rule_files, deployment_judgement}
 use Rattle.run_passes.specs.Inside.Halting.{Judges}
 use Rattle.run_passes.specs.Inside.Judging.{IsHaltFor}
 
@@ -51,7 +50,7 @@ module _ (file : List ℕ) (contents : Contents) (sources : List Source) (files 
   refused-for : (fault : DeployFault) (refusal : Refusal) → Comes (deployment contents files) (Err fault) → deploy_refusal file fault ≡ Some refusal
       → (deployment_judgement file contents sources).refused_for refusal
   refused-for fault refusal (inl is) some = no_cause fault refusal is some
-  refused-for fault refusal (inr refuses) some = inl (record { fault = fault; first = rw (← are) refuses; is = some })
+  refused-for fault refusal (inr refuses) some = record { fault = fault; first = rw (← are) refuses; is = some }
 
   pub judges-undeployed : (fault : DeployFault) (h : Halt)
       → Comes (deployment contents files) (Err fault) → IsHaltFor (deploy_refusal file fault) h → Judges (deployment_judgement file contents sources) (Err h)
@@ -59,13 +58,5 @@ module _ (file : List ℕ) (contents : Contents) (sources : List Source) (files 
       judges-halt (deployment_judgement file contents sources) (deploy_refusal file fault) h halted
       (λ refusal some. refused-for fault refusal came some)
 
-  pub judges-unserved : (model : BoundModel) (line : ℕ) (h : Halt)
-      → Comes (deployment contents files) (Ok model) → Some line ≡ unbuilt_rules contents.cubes → IsHaltFor (Some (refused_on file line Unbuilt)) h
-      → Judges (deployment_judgement file contents sources) (Err h)
-  judges-unserved model line h came unbuilt halted =
-      judges-halt (deployment_judgement file contents sources) (Some (refused_on file line Unbuilt)) h halted
-      (λ refusal some. inr (record { model = model; deployed = rw (← are) came; unbuilt = rw (← unbuilt) some }))
-
-  pub judges-deployed : (model : BoundModel)
-      → Comes (deployment contents files) (Ok model) → None ≡ unbuilt_rules contents.cubes → (deployment_judgement file contents sources).stands_for model
-  judges-deployed model came built = record { deployed = rw (← are) came; built = sym built }
+  pub judges-deployed : (model : BoundModel) → Comes (deployment contents files) (Ok model) → (deployment contents (rule_files sources contents.cubes)).finds model
+  judges-deployed model came = rw (← are) came

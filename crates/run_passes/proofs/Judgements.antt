@@ -20,7 +20,7 @@ use Rattle.run_passes.specs.Pass.{Source, whatever}
 use Rattle.run_passes.specs.Refusals.{text_refusal, script_refusal, user_refusal}
 use Rattle.run_passes.specs.Models.{text_judgement}
 use Rattle.run_passes.specs.Scripts.{AreScripts, IsFirstScriptFault, scripts_judgement}
-use Rattle.run_passes.specs.Rules.{rule_files, IsDeployed, deployment_judgement}
+use Rattle.run_passes.specs.Rules.{rule_files, deployment_judgement}
 use Rattle.run_passes.specs.Users.{IsUserText, AreUserTexts, IsUserFault, IsFirstFault, AreUsers, AreUnbuilt, users_judgement, unbuilt_command, plan_commands}
 use Rattle.run_passes.proofs.PassFacts.{IsOneJudgement}
 use Rattle.script_reader.specs.declared.fault.ScriptFault.{ScriptFault}
@@ -103,19 +103,7 @@ one_scripts_judgement sources = record {
 
 -- ---- the rule files
 
-module _ (file : List ℕ) (contents : Contents) (sources : List Source) where
-  rules : List (Option RuleFile)
-  rules = rule_files sources contents.cubes
-
-  not_both_deployed : (x : BoundModel) (r : Refusal) → IsDeployed contents rules x → (deployment_judgement file contents sources).refused_for r → ⊥
-  not_both_deployed x r p (inl q) = (one-deployment contents rules).not_both x q.fault p.deployed q.first
-  not_both_deployed x r p (inr q) =
-      let unbuilt = q.unbuilt in
-      let clash : None ≡ Some r = rw p.built at unbuilt in
-      cc
-
 pub one_deployment_judgement : (file : List ℕ) (contents : Contents) (sources : List Source) → IsOneJudgement (deployment_judgement file contents sources)
-one_deployment_judgement file contents sources = record {
-  one_thing = λ x y p q. (one-deployment contents (rule_files sources contents.cubes)).one_found x y p.deployed q.deployed;
-  not_both = not_both_deployed file contents sources;
-}
+one_deployment_judgement file contents sources =
+    let one = one-deployment contents (rule_files sources contents.cubes) in
+    record { one_thing = one.one_found; not_both = λ x r p q. one.not_both x q.fault p q.first }

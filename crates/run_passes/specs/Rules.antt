@@ -1,6 +1,5 @@
 -- What a model and the files of its cubes' rules are judged to be.
 use Rattle.std.specs.Prelude.{◌≡◌, ℕ, List, map, find, filter_map, Option, Some, None, option_map, option_and_then}
-use Rattle.std.specs.Prelude.{slice_get, ◌⊎◌}
 use Rattle.std.specs.Str.{bytes_eq}
 use Rattle.model_text.specs.Contents.{Contents}
 use Rattle.model_text.specs.declared.parts.CubeText.{CubeText}
@@ -8,10 +7,9 @@ use Rattle.model_deploy.specs.Deployment.{deployment}
 use Rattle.model_deploy.specs.declared.fault.DeployFault.{DeployFault}
 use Rattle.model_deploy.specs.declared.file.RuleFile.{RuleFile}
 use Rattle.rule_model.specs.BoundModel.{BoundModel}
-use Rattle.run_passes.specs.declared.refusal.Cause.TheVariants.{Unbuilt}
 use Rattle.run_passes.specs.declared.refusal.Refusal.{Refusal}
 use Rattle.run_passes.specs.Pass.{Source, Judgement}
-use Rattle.run_passes.specs.Refusals.{refused_on, deploy_refusal}
+use Rattle.run_passes.specs.Refusals.{deploy_refusal}
 
 -- the name of the file of a cube's rules
 abbrev pub rule_name : CubeText → Option (List ℕ)
@@ -36,18 +34,6 @@ rule_file sources cube = option_map rule_file_of (option_and_then (source_of sou
 abbrev pub rule_files : List Source → List CubeText → List (Option RuleFile)
 rule_files sources cubes = map (rule_file sources) cubes
 
--- the line of the first `RULES`: reading over rules isn't built yet
-abbrev pub rules_lines : List CubeText → List ℕ
-rules_lines cubes = filter_map (λ cube. option_map (λ rules. rules.0) cube.rules) cubes
-
-abbrev pub unbuilt_rules : List CubeText → Option ℕ
-unbuilt_rules cubes = slice_get (rules_lines cubes) 0
-
--- with these rule files the model text is deployed as this model, which has no rules
-pub record IsDeployed (contents : Contents) (files : List (Option RuleFile)) (model : BoundModel) : Type 0 where
-  pub deployed : (deployment contents files).finds model
-  pub built : unbuilt_rules contents.cubes ≡ None
-
 -- deployment refuses the model for this
 pub record IsUndeployed (file : List ℕ) (contents : Contents) (files : List (Option RuleFile)) (refusal : Refusal)
     : Type 0 where
@@ -55,18 +41,9 @@ pub record IsUndeployed (file : List ℕ) (contents : Contents) (files : List (O
   pub first : (deployment contents files).refuses fault
   pub is : deploy_refusal file fault ≡ Some refusal
 
--- the model is deployed, but it has rules
-pub record IsUnserved (file : List ℕ) (contents : Contents) (files : List (Option RuleFile)) (refusal : Refusal)
-    : Type 0 where
-  pub model : BoundModel
-  pub deployed : (deployment contents files).finds model
-  pub unbuilt : option_map (λ line. refused_on file line Unbuilt) (unbuilt_rules contents.cubes) ≡ Some refusal
-
 -- the model text of this file, with the files of its cubes' rules
 abbrev pub deployment_judgement : List ℕ → Contents → List Source → Judgement BoundModel
 deployment_judgement file contents sources = record {
-  stands_for = IsDeployed contents (rule_files sources contents.cubes);
-  refused_for = λ refusal.
-      IsUndeployed file contents (rule_files sources contents.cubes) refusal
-      ⊎ IsUnserved file contents (rule_files sources contents.cubes) refusal;
+  stands_for = (deployment contents (rule_files sources contents.cubes)).finds;
+  refused_for = IsUndeployed file contents (rule_files sources contents.cubes);
 }

@@ -3,14 +3,14 @@ ghost use Rattle.std.specs.Option.{option_copied};
 ghost use Rattle.run_passes.specs.Inside.Halting.{Judges};
 ghost use Rattle.run_passes.specs.Inside.Judging.{IsHaltFor};
 ghost use Rattle.run_passes.specs.Refusals.{deploy_refusal, file_or, place_of};
-ghost use Rattle.run_passes.specs.Rules.{rule_names, rule_file_of, rule_file, rule_files, rules_lines, unbuilt_rules};
+ghost use Rattle.run_passes.specs.Rules.{rule_names, rule_file_of, rule_file, rule_files};
 ghost use Rattle.run_passes.specs.Rules.{deployment_judgement, source_of};
 ghost use Rattle.run_passes.specs.Words.{texts_of};
 
 use crate::halt::Halt;
 use crate::readings::Source;
-use crate::refusal::{Cause, Place, Refusal};
-use crate::refusing::{deploy_cause, halt_on};
+use crate::refusal::{Place, Refusal};
+use crate::refusing::deploy_cause;
 use crate::words::file_name;
 use accepted::Accepted;
 use lists::ListOf;
@@ -43,16 +43,9 @@ pub(crate) fn model_of(
     let Ok(rules) = rule_files(alloc, text.cubes(), sources) else {
         return Err(Halt::Memory);
     };
-    let Ok(unbuilt) = unbuilt_rules(alloc, text.cubes()) else {
-        return Err(Halt::Memory);
-    };
-    let model = match deploy(alloc, text, rules) {
-        Ok(model) => model,
-        Err(fault) => return Err(deploy_halt(alloc, file, fault)),
-    };
-    match unbuilt {
-        Some(line) => Err(halt_on(alloc, file, line, Some(Cause::Unbuilt))),
-        None => Ok(model),
+    match deploy(alloc, text, rules) {
+        Ok(model) => Ok(model),
+        Err(fault) => Err(deploy_halt(alloc, file, fault)),
     }
 }
 
@@ -103,27 +96,6 @@ fn rule_file_of(alloc: Global, source: &Source<'_>) -> Result<RuleFile, AllocErr
         name: ListOf::new(Vec::from_slice(alloc, source.name().as_bytes())?),
         bytes: ListOf::new(Vec::from_slice(alloc, source.bytes())?),
     })
-}
-
-// The line of the first `RULES`.
-fn unbuilt_rules(alloc: Global, cubes: &[CubeText]) -> Result<Option<u32>, AllocError>
-    ensures { IfOk result (λ line. line ≡ unbuilt_rules cubes.now) }
-{
-    let lines = rules_lines(alloc, cubes)?;
-    Ok(lines.first().copied())
-}
-
-// The line of each `RULES`.
-fn rules_lines(alloc: Global, cubes: &[CubeText]) -> Result<Vec<u32>, AllocError>
-    ensures { IfOk result (λ lines. lines.items ≡ rules_lines cubes.now) }
-{
-    let mut lines = Vec::new(alloc);
-    for cube in cubes {
-        if let Some((line, _)) = &cube.rules {
-            lines.push(*line)?;
-        }
-    }
-    Ok(lines)
 }
 
 // Why a run goes no further whose model isn't deployed.

@@ -12,7 +12,7 @@ returns-clause-text c =
     let pushed : c.push.new.self.items ≡ c.in_ok-pieces.pieces.items ++ c.in_ok-print_history.field-0 ∷ [] = search rules in
     let users : joined c.in_ok-pieces.pieces.items ≡ users_text told = search rules in
     let history : c.in_ok-print_history.field-0.items ≡ history_text log = search rules in
-    let served : IsServed c.args.job.now told log = search rules in
+    let served : IsServed c.args.job told log = search rules in
     record {
       told = told;
       log = log;
