@@ -1,17 +1,15 @@
 -- What one pass after another comes to.
-use Rattle.std.proofs.Common.{◌≡◌, ℕ, List, [], ◌∷◌, ◌++◌, Option, Some, None, Result, Ok, Err, refl, sym, ◌∙◌, subst, inl, inr}
+use Rattle.std.proofs.Common.{◌≡◌, ℕ, List, Result, Ok, Err, refl, ◌∙◌, subst, inl, inr}
 use Rattle.cube_outside.specs.Counts.{Rose}
 use Rattle.run_passes.specs.declared.halt.Halt.{Halt}
 use Rattle.run_passes.specs.declared.halt.Halt.TheVariants as halts
-use Rattle.run_passes.specs.declared.refusal.Refusal.{Refusal}
 use Rattle.run_passes.specs.Course.{Contents}
 use Rattle.run_passes.specs.Outside.{Outside, outside}
-use Rattle.run_passes.specs.Pass.{Readings, Reads, Refuses, Pass, Judgement, found, judged, ◌>>=◌}
-use Rattle.run_passes.specs.Inside.Reading.{IsReadOn, Asks, Goes}
+use Rattle.run_passes.specs.Pass.{Readings, Pass, Judgement, found, judged, ◌>>=◌}
+use Rattle.run_passes.specs.Inside.Reading.{IsReadOn, Goes}
 use Rattle.run_passes.specs.Inside.Halting.{Halts, Comes, ComesThrough, Judges}
 use Rattle.run_passes.proofs.KeptFacts.{IsKept}
 use Rattle.run_passes.proofs.Going.{on-refl, on-later, grows-on, on-bind}
-use Rattle.run_passes.proofs.KeptFacts.{Grows}
 
 -- where a pass stops, the passes that follow it stop
 pub halts-later : {A B : Type 0} (P : Pass A) (K : A → Pass B) (o : Outside) (old new : Readings) (h : Halt)

@@ -1,7 +1,7 @@
 -- Which files are read by one pass after another.
-use Rattle.std.proofs.Common.{◌≡◌, ℕ, List, [], ◌∷◌, Some, None, inl, inr, refl, sym, subst}
+use Rattle.std.proofs.Common.{[], ◌∷◌, inl, inr, refl, subst}
 use Rattle.run_passes.specs.Course.{Contents, IsCourse}
-use Rattle.run_passes.specs.Pass.{Readings, bytes_of, Reads, Pass, ◌>>=◌}
+use Rattle.run_passes.specs.Pass.{Readings, Pass, ◌>>=◌}
 use Rattle.run_passes.specs.Inside.Reading.{IsReadOn}
 use Rattle.run_passes.proofs.KeptFacts.{Grows, grows_past, IsKept}
 

@@ -1,5 +1,5 @@
 -- What the judging functions answer is what files are judged to be.
-use Rattle.std.proofs.Common.{◌≡◌, ℕ, List, Option, Some, None, option_map, Result, Ok, Err, refl, sym, ◌∙◌, ap, subst, ◌⊎◌, inl, inr}
+use Rattle.std.proofs.Common.{◌≡◌, ℕ, List, Option, Some, None, option_map, Ok, Err, sym, inl, inr}
 use Rattle.model_text.specs.Answers.{IsModelText, IsFault}
 use Rattle.model_text.specs.Contents.{Contents}
 use Rattle.model_text.specs.declared.fault.ModelTextFault.{ModelTextFault}
@@ -10,7 +10,6 @@ use Rattle.model_deploy.specs.declared.fault.DeployFault.{DeployFault}
 use Rattle.model_deploy.specs.declared.file.RuleFile.{RuleFile}
 use Rattle.rule_model.specs.BoundModel.{BoundModel}
 use Rattle.run_passes.specs.declared.halt.Halt.{Halt}
-use Rattle.run_passes.specs.declared.halt.Halt.TheVariants as halts
 use Rattle.run_passes.specs.declared.refusal.Cause.{Cause}
 use Rattle.run_passes.specs.declared.refusal.Refusal.{Refusal}
 use Rattle.run_passes.specs.Pass.{Source, Judgement}

@@ -1,5 +1,5 @@
 -- What was read is judged to be one thing.
-use Rattle.std.proofs.Common.{◌≡◌, ◌≢◌, ℕ, ◌+◌, List, [], ◌∷◌, length, map, Option, Some, None, option_map, ◌⊎◌, inl, inr, refl, sym, ◌∙◌, ap, subst}
+use Rattle.std.proofs.Common.{◌≡◌, ◌≢◌, ℕ, ◌+◌, List, [], ◌∷◌, length, map, Option, Some, None, inl, inr, refl, sym, ◌∙◌, ap, subst}
 use Rattle.rule_model.specs.BoundModel.{BoundModel}
 use Rattle.user_session.specs.declared.command.PlanCommand.{PlanCommand}
 use Rattle.user_text.specs.declared.command.UserCommand.{UserCommand}
@@ -7,12 +7,8 @@ use Rattle.user_text.specs.declared.fault.UserFault.{UserFault}
 use Rattle.user_text.specs.declared.fault.UserFault.TheVariants as user_faults
 use Rattle.model_text.specs.Contents.{Contents}
 use Rattle.model_text.specs.declared.fault.ModelTextFault.{ModelTextFault}
-use Rattle.model_text.specs.declared.fault.ModelTextCause.{ModelTextCause}
 use Rattle.model_text.specs.declared.fault.ModelTextCause.TheVariants as text_causes
-use Rattle.model_deploy.specs.Deployment.{deployment}
 use Rattle.model_deploy.specs.declared.file.RuleFile.{RuleFile}
-use Rattle.text_laws.specs.UserAnswers.{OneUserAnswer}
-use Rattle.text_laws.specs.ModelAnswers.{OneModelAnswer}
 use Rattle.text_laws.proofs.UserTexts.{user_texts}
 use Rattle.text_laws.proofs.ModelTexts.{model_texts}
 use Rattle.run_passes.specs.declared.refusal.Refusal.{Refusal}
@@ -21,7 +17,7 @@ use Rattle.run_passes.specs.Refusals.{text_refusal, script_refusal, user_refusal
 use Rattle.run_passes.specs.Models.{text_judgement}
 use Rattle.run_passes.specs.Scripts.{AreScripts, IsFirstScriptFault, scripts_judgement}
 use Rattle.run_passes.specs.Rules.{rule_files, deployment_judgement}
-use Rattle.run_passes.specs.Users.{IsUserText, AreUserTexts, IsUserFault, IsFirstFault, AreUsers, AreUnbuilt, users_judgement, unbuilt_command, plan_commands}
+use Rattle.run_passes.specs.Users.{IsUserText, AreUserTexts, IsUserFault, IsFirstFault, AreUsers, users_judgement, unbuilt_command, plan_commands}
 use Rattle.run_passes.proofs.PassFacts.{IsOneJudgement}
 use Rattle.script_reader.specs.declared.fault.ScriptFault.{ScriptFault}
 use Rattle.script_reader.specs.declared.fault.ScriptFault.TheVariants as script_faults
@@ -103,6 +99,20 @@ one_scripts_judgement sources = record {
 
 -- ---- the rule files
 
+<<<<<<< HEAD
+=======
+module _ (file : List ℕ) (contents : Contents) (sources : List Source) where
+  abbrev rules : List (Option RuleFile)
+  rules = rule_files sources contents.cubes
+
+  not_both_deployed : (x : BoundModel) (r : Refusal) → IsDeployed contents rules x → (deployment_judgement file contents sources).refused_for r → ⊥
+  not_both_deployed x r p (inl q) = (one-deployment contents rules).not_both x q.fault p.deployed q.first
+  not_both_deployed x r p (inr q) =
+      let unbuilt = q.unbuilt in
+      let clash : None ≡ Some r = rw p.built at unbuilt in
+      cc
+
+>>>>>>> main
 pub one_deployment_judgement : (file : List ℕ) (contents : Contents) (sources : List Source) → IsOneJudgement (deployment_judgement file contents sources)
 one_deployment_judgement file contents sources =
     let one = one-deployment contents (rule_files sources contents.cubes) in

@@ -1,17 +1,15 @@
 -- Reading one file, and all files of a list.
-use Rattle.std.proofs.Common.{◌≡◌, ℕ, List, [], ◌∷◌, ◌++◌, Option, Some, None, IsSome, Result, Ok, Err, true, refl, sym, ◌∙◌, ap, subst, ◌⊎◌, inl, inr}
-use Rattle.std.specs.Option.{option_map}
+use Rattle.std.proofs.Common.{◌≡◌, ℕ, List, [], ◌∷◌, ◌++◌, Option, Some, None, IsSome, Result, Ok, Err, true, refl, sym, ◌∙◌, ap, inl, inr}
 use Rattle.std.specs.Str.{bytes_eq}
 use Rattle.std.proofs.lemmas.Slice.Eq.{bytes_eq-Decides}
 use Rattle.cube_outside.specs.Counts.{Rose}
 use Rattle.cube_outside.specs.declared.files.FileFault.{FileFault}
 use Rattle.cube_outside.specs.declared.files.FileFault.TheVariants as fault
 use Rattle.run_passes.specs.declared.halt.Halt.{Halt}
-use Rattle.run_passes.specs.declared.halt.Halt.TheVariants as halts
-use Rattle.run_passes.specs.Course.{Contents, Tells, names_of}
+use Rattle.run_passes.specs.Course.{Contents, names_of}
 use Rattle.run_passes.specs.Outside.{Outside, outside}
-use Rattle.run_passes.specs.Pass.{Source, Readings, bytes_of, Reads, found, file, files, ◌>>=◌}
-use Rattle.run_passes.specs.Inside.Reading.{IsReadOn, IsReadOnce}
+use Rattle.run_passes.specs.Pass.{Source, Readings, bytes_of, found, file, files, ◌>>=◌}
+use Rattle.run_passes.specs.Inside.Reading.{IsReadOnce}
 use Rattle.run_passes.specs.Inside.Halting.{unread, ComesThrough, CarriesOn}
 use Rattle.run_passes.proofs.KeptFacts.{kept-file}
 use Rattle.run_passes.proofs.Going.{on-refl}

@@ -1,8 +1,7 @@
 -- The passes of a plan, one after another.
-use Rattle.std.proofs.Common.{◌≡◌, ℕ, List, [], ◌∷◌, Result, Ok, Err, refl, sym, ◌∙◌}
+use Rattle.std.proofs.Common.{◌≡◌, ℕ, List, ◌∷◌, Result, Ok, refl, sym, ◌∙◌}
 use Rattle.model_text.specs.Contents.{Contents as Text}
 use Rattle.rule_model.specs.BoundModel.{BoundModel}
-use Rattle.user_session.specs.declared.command.PlanCommand.{PlanCommand}
 use Rattle.run_passes.specs.declared.halt.Halt.{Halt}
 use Rattle.run_passes.specs.declared.job.Job.{Job}
 use Rattle.run_passes.specs.declared.job.Job.TheVariants.{Serve}

@@ -1,5 +1,5 @@
 -- No bytes are both a script and refused as one.
-use Rattle.std.proofs.Common.{◌≡◌, ◌≢◌, ℕ, List, [], ◌∷◌, ◌++◌, Option, Some, None, Ok, Err, refl, sym, ap, ◌∙◌, subst}
+use Rattle.std.proofs.Common.{◌≢◌, ℕ, List, [], ◌∷◌, ◌++◌, Option, Some, None, Ok, Err, refl, subst}
 use Rattle.cube_lex.specs.Lexeme.{Lexeme}
 use Rattle.cube_lex.specs.declared.fault.LexFault.{LexFault}
 use Rattle.cube_lex.proofs.Unique.{reading-only}

@@ -1,7 +1,6 @@
 -- A stage of deployment finds one thing at most, and refuses nothing that it finds.
-use Rattle.std.proofs.Common.{◌≡◌, ◌≢◌, ℕ, ◌+◌, ◌<◌, ◌≤◌, zero, suc, List, [], ◌∷◌, length, Contains, Option, Some, None, option_map, Result, Ok, Err, ◌⊎◌, inl, inr, refl, sym, ◌∙◌, ap, subst, arith}
+use Rattle.std.proofs.Common.{◌≡◌, ◌≢◌, ℕ, ◌+◌, ◌≤◌, List, [], ◌∷◌, length, Contains, Option, Some, None, option_map, Result, Ok, Err, inl, inr, refl, sym, ◌∙◌, subst, arith}
 use Rattle.std.specs.Prelude.{slice_index_or}
-use Rattle.std.specs.List.Sorted.{IsStrictlyIncreasing}
 use Rattle.bind_order.specs.Orders.{order_of}
 use Rattle.check_order.specs.Verdict.{order_fault}
 use Rattle.cube_space.specs.Layout.{Layout}
@@ -143,7 +142,7 @@ no_longer least (u ∷ us) (x ∷ xs) up rise within = elim (front-or-behind u u
 few_or_many : (model : BoundModel) → HasFewFed model [] → HasManyFed model [] → ⊥
 few_or_many model (cells, are, low) (more, up, past, all) =
     let counts = no_longer 0 cells more (rises 0 cells are.rising (λ _. omega arith)) (rises 0 more up (λ _. omega arith))
-        (λ c has. (are.fed c).1 (subst (IsFed (system_of model) (stored_in [])) has.2 (all has.0 c has.1))) in
+    (λ c has. (are.fed c).1 (subst (IsFed (system_of model) (stored_in [])) has.2 (all has.0 c has.1))) in
     omega (arith, counts, low, past)
 
 stage-fed : (model : BoundModel) → IsOneStage (fed_stage model)

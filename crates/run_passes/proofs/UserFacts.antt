@@ -1,5 +1,5 @@
 -- Users' texts, judged one after another.
-use Rattle.std.proofs.Common.{◌≡◌, ℕ, ◌+◌, ◌<◌, List, [], ◌∷◌, ◌++◌, append_assoc, append-nil, length, get_or, drop, drop-cons, add-one, map, Option, Some, None, option_map, find, Bool, Result, Ok, Err, refl, sym, ◌∙◌, ap, subst, ◌⊎◌, inl, inr}
+use Rattle.std.proofs.Common.{◌≡◌, ℕ, ◌+◌, List, [], ◌∷◌, ◌++◌, append_assoc, append-nil, length, map, None, Err, inl, inr}
 use Rattle.user_session.specs.declared.command.PlanCommand.{PlanCommand}
 use Rattle.user_text.specs.Answers.{Answers}
 use Rattle.user_text.specs.declared.command.UserCommand.{UserCommand}
@@ -8,9 +8,9 @@ use Rattle.user_text.specs.declared.fault.UserFault.TheVariants as faults
 use Rattle.run_passes.specs.declared.halt.Halt.{Halt}
 use Rattle.run_passes.specs.declared.halt.Halt.TheVariants as halts
 use Rattle.run_passes.specs.declared.refusal.Refusal.{Refusal}
-use Rattle.run_passes.specs.Pass.{Source, Judgement}
+use Rattle.run_passes.specs.Pass.{Source}
 use Rattle.run_passes.specs.Refusals.{user_refusal}
-use Rattle.run_passes.specs.Users.{IsUserText, AreUserTexts, IsFirstFault, IsUserFault, AreUsers, plan_commands, unbuilt_command, users_judgement, first_unbuilt}
+use Rattle.run_passes.specs.Users.{IsUserText, AreUserTexts, IsFirstFault, AreUsers, plan_commands, unbuilt_command, users_judgement}
 use Rattle.run_passes.specs.Inside.Halting.{Judges}
 use Rattle.run_passes.specs.Inside.Judging.{IsHaltFor, texts_judgement}
 use Rattle.run_passes.proofs.JudgeFacts.{judges-halt}

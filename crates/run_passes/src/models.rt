@@ -13,11 +13,6 @@ pub(crate) fn text_of(alloc: Global, source: &Source<'_>) -> Result<ModelText, H
 {
     match read(alloc, source.bytes()) {
         Ok(text) => Ok(text),
-        Err(fault) => Err(halt_on(
-            alloc,
-            source.name(),
-            fault.line,
-            model_cause(&fault.cause),
-        )),
+        Err(fault) => Err(halt_on(alloc, source.name(), fault.line, model_cause(&fault.cause))),
     }
 }

@@ -113,11 +113,7 @@ fn deploy_halt(alloc: Global, model: &str, fault: DeployFault) -> Halt
 }
 
 // The name of a rule file, or else of the model file.
-fn file_or(
-    alloc: Global,
-    model: &str,
-    file: Option<ListOf<u8>>,
-) -> Result<ListOf<u8>, AllocError>
+fn file_or(alloc: Global, model: &str, file: Option<ListOf<u8>>) -> Result<ListOf<u8>, AllocError>
     ensures { IfOk result (λ name. name ≡ file_or model.now file) }
 {
     match file {

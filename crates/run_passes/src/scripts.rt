@@ -17,10 +17,7 @@ use script_parse::{Script, ScriptFault, parse};
 use std::alloc::{AllocError, Global};
 
 /// The names of the script files, in the order of the model.
-pub(crate) fn script_names(
-    alloc: Global,
-    scripts: &[ScriptText],
-) -> Result<Vec<String>, AllocError>
+pub(crate) fn script_names(alloc: Global, scripts: &[ScriptText]) -> Result<Vec<String>, AllocError>
     ensures { IfOk result (λ names. texts_of names.items ≡ script_names scripts.now) }
 {
     let mut names = Vec::new(alloc);

@@ -7,7 +7,7 @@ use Rattle.run_passes.specs.declared.halt.Halt.{Halt}
 use Rattle.run_passes.specs.declared.halt.Halt.TheVariants as halts
 use Rattle.run_passes.specs.Course.{Contents}
 use Rattle.run_passes.specs.Outside.{Outside, outside}
-use Rattle.run_passes.specs.Pass.{Source, Readings, Pass, Judgement, NotWords, Reads, Refuses, files}
+use Rattle.run_passes.specs.Pass.{Readings, Pass, Judgement, NotWords, Reads, Refuses, files}
 use Rattle.run_passes.specs.Inside.Reading.{IsReadOn, Asks, Goes}
 
 -- what a fault of the files makes of a run

@@ -1,5 +1,5 @@
 -- How a pass goes on over files: which it reads, and what was asked of the files.
-use Rattle.std.specs.Prelude.{◌≡◌, ℕ, List, [], ◌∷◌, ◌++◌, Option, None, IsSome, ◌⊎◌}
+use Rattle.std.specs.Prelude.{◌≡◌, ℕ, List, [], ◌∷◌, ◌++◌, None, IsSome, ◌⊎◌}
 use Rattle.run_passes.specs.Course.{Contents, Tells, names_of}
 use Rattle.run_passes.specs.Outside.{Outside}
 use Rattle.run_passes.specs.Pass.{Readings, bytes_of, Reads, Pass}

@@ -3,7 +3,7 @@ use Rattle.std.specs.declared.alloc.Global.{Global}
 use Rattle.user_text.specs.Answers.{Answers}
 use Rattle.user_text.specs.declared.command.UserCommand.{UserCommand}
 use Rattle.run_passes.specs.Refusals.{user_refusal}
-use Rattle.run_passes.specs.Users.{IsUserText, AreUserTexts}
+use Rattle.run_passes.specs.Users.{IsUserText}
 use Rattle.run_passes.specs.Inside.Judging.{IsHaltFor}
 use Rattle.run_passes.proofs.WordFacts.{drop-item, drop-end}
 use Rattle.run_passes.proofs.UserFacts.{AreRead, any_view, read-next, read-all, read-fault}
