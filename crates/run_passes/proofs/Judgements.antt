@@ -99,20 +99,6 @@ one_scripts_judgement sources = record {
 
 -- ---- the rule files
 
-<<<<<<< HEAD
-=======
-module _ (file : List ℕ) (contents : Contents) (sources : List Source) where
-  abbrev rules : List (Option RuleFile)
-  rules = rule_files sources contents.cubes
-
-  not_both_deployed : (x : BoundModel) (r : Refusal) → IsDeployed contents rules x → (deployment_judgement file contents sources).refused_for r → ⊥
-  not_both_deployed x r p (inl q) = (one-deployment contents rules).not_both x q.fault p.deployed q.first
-  not_both_deployed x r p (inr q) =
-      let unbuilt = q.unbuilt in
-      let clash : None ≡ Some r = rw p.built at unbuilt in
-      cc
-
->>>>>>> main
 pub one_deployment_judgement : (file : List ℕ) (contents : Contents) (sources : List Source) → IsOneJudgement (deployment_judgement file contents sources)
 one_deployment_judgement file contents sources =
     let one = one-deployment contents (rule_files sources contents.cubes) in
