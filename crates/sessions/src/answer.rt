@@ -48,8 +48,8 @@ pub(crate) fn answer<W: World, R: Wait, G: Gate>(
     }
 }
 
-/// The number of the command that comes behind so many: they count from 1. More than 2^32 don't fit in memory.
-pub(crate) fn command_number(count: usize) -> Result<u32, AllocError>
+/// The number of the user or command that comes behind so many: they count from 1. More than 2^32 don't fit in memory.
+pub(crate) fn number_after(count: usize) -> Result<u32, AllocError>
     ensures { IfOk result (λ number. number ≡ count + 1) }
 {
     match u32::try_from(count) {

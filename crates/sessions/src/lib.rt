@@ -9,8 +9,12 @@
 #![tactic(auto)]
 
 mod answer;
+mod closing;
+mod opening;
 mod serving;
 mod session;
+mod threads;
 
 pub use serving::{Served, serve};
 pub use session::{Session, SessionOf};
+pub use threads::MAX_THREADS;

@@ -2,12 +2,16 @@ ghost use Rattle.std.specs.Prelude.{◌≡◌, IfOk};
 ghost use Rattle.history.specs.History.{IsHistoryOf};
 ghost use Rattle.history.specs.Version.{content_after};
 
+use crate::closing::close_all;
+use crate::opening::open_all;
+use crate::threads::run_all;
 use cube_outside::Gate;
 use history::{Entry, Told, World};
 use lists::ListOf;
 use std::alloc::{AllocError, Global};
 use std::sync::Wait;
 use std::thread::Threads;
+use version_book::Book;
 
 /// What each user was told, the history of accepted commands, and the state after it.
 #[derive(Drop)]
@@ -38,10 +42,12 @@ where
     ensures state { IfOk result (λ served.
         W.content served.state ≡ content_after W.after (W.content state) served.log.items) }
 {
-    let _ = rt;
-    let _ = alloc;
-    let _ = gate;
-    drop(state);
-    drop(users);
-    Err(AllocError)
+    let (book, mut first) = Book::<W>::begin(alloc, state)?;
+    let Ok(mut sessions) = open_all(alloc, &book, &mut first, users) else {
+        drop(first);
+        drop(book);
+        return Err(AllocError);
+    };
+    run_all(rt, alloc, &book, gate, sessions.as_mut_slice());
+    close_all(rt, alloc, book, first, sessions)
 }

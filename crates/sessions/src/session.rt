@@ -3,7 +3,7 @@ ghost use Rattle.version_book.specs.Passes.{looks, numbers_of, opening_of};
 ghost use Rattle.sessions.specs.Sessions.{IsRunning};
 ghost use Rattle.sessions.specs.Answers.{HasAnsweredNext, HasAnsweredMore};
 
-use crate::answer::{answer, command_number};
+use crate::answer::{answer, number_after};
 use cube_outside::Gate;
 use history::{Told, World};
 use lists::ListOf;
@@ -69,7 +69,7 @@ impl<W: World> Session<W> {
             return Ok(false);
         };
         self.told.reserve(1)?;
-        let number = command_number(self.told.len())?;
+        let number = number_after(self.told.len())?;
         gate.at(self.user, number, 0);
         let told = answer(
             rt,

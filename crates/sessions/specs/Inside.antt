@@ -1,0 +1,2 @@
+-- What holds while sessions are opened, run and brought together. No public clause cites it.
+pub mod Gathered
