@@ -17,7 +17,7 @@ use Rattle.version_book.specs.Numbers.{has, next_of_both}
 use Rattle.version_book.specs.Passes.{numbers_of, seen}
 use Rattle.version_book.proofs.Lists.{has-append, has-first, has-left, has-one, has-right}
 use Rattle.sessions.specs.declared.session.SessionOf.{SessionOf}
-use Rattle.sessions.specs.Sessions.{commands_of}
+use Rattle.sessions.specs.Inside.AllSessions.{commands_of}
 use Rattle.sessions.specs.Inside.Gathered.{IsGathered, IsGiver}
 use Rattle.sessions.proofs.Answered.{run_seen}
 use Rattle.sessions.proofs.Opened.{commands-append, one_there}

@@ -15,7 +15,8 @@ use Rattle.version_book.specs.declared.book.BookOf.{BookOf}
 use Rattle.version_book.specs.declared.book.PassOf.{PassOf}
 use Rattle.version_book.specs.Passes.{IsOf, numbers_of, opening_of, seen}
 use Rattle.sessions.specs.declared.session.SessionOf.{SessionOf}
-use Rattle.sessions.specs.Sessions.{IsRunning, AreRunning, commands_of}
+use Rattle.sessions.specs.Sessions.{IsRunning}
+use Rattle.sessions.specs.Inside.AllSessions.{AreRunning, commands_of}
 use Rattle.sessions.specs.Inside.Gathered.{IsFurther}
 
 pub same_number : (m n : ℕ) → Some m ≡ Some n → m ≡ n

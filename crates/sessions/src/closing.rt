@@ -2,7 +2,7 @@ ghost use Rattle.std.specs.Prelude.{◌≡◌, ◌+◌, ◌≤◌, [], length, v
 ghost use Rattle.history.specs.History.{IsHistoryOf};
 ghost use Rattle.history.specs.Version.{content_after};
 ghost use Rattle.version_book.specs.Passes.{IsOf, next_of, numbers_of, opening_of, seen};
-ghost use Rattle.sessions.specs.Sessions.{AreRunning, HasAnsweredAll, commands_of};
+ghost use Rattle.sessions.specs.Inside.AllSessions.{AreRunning, HasAnsweredAll, commands_of};
 ghost use Rattle.sessions.specs.Inside.Gathered.{IsGathered, IsGiver};
 
 use crate::serving::Served;

@@ -1,6 +1,6 @@
-ghost use Rattle.std.specs.Prelude.{◌≡◌, ◌+◌, Some, vec_len, IfOk};
-ghost use Rattle.version_book.specs.Passes.{IsFirst, IsOf, next_of};
-ghost use Rattle.sessions.specs.Sessions.{AreRunning, commands_of};
+ghost use Rattle.std.specs.Prelude.{◌≡◌, ◌+◌, vec_len, IfOk};
+ghost use Rattle.version_book.specs.Passes.{IsFirst, IsOf};
+ghost use Rattle.sessions.specs.Inside.AllSessions.{AreRunning, commands_of};
 ghost use Rattle.sessions.specs.Inside.Gathered.{IsGiver};
 
 use crate::answer::number_after;

@@ -1,5 +1,5 @@
-ghost use Rattle.std.specs.Prelude.{◌≡◌, ◌<◌, [], length, vec_len, MatchBool, IfOk, OnOk, OnErr};
-ghost use Rattle.version_book.specs.Passes.{looks, numbers_of, opening_of};
+ghost use Rattle.std.specs.Prelude.{◌≡◌, ◌<◌, [], length, MatchBool, IfOk, OnOk, OnErr};
+ghost use Rattle.version_book.specs.Passes.{opening_of};
 ghost use Rattle.sessions.specs.Sessions.{IsRunning};
 ghost use Rattle.sessions.specs.Answers.{HasAnsweredNext, HasAnsweredMore};
 

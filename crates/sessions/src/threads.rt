@@ -1,5 +1,6 @@
 ghost use Rattle.std.specs.Prelude.{◌≡◌, ℕ, ◌<◌, length, slice_index_or};
-ghost use Rattle.sessions.specs.Sessions.{AreRunning, IsRunning, commands_of};
+ghost use Rattle.sessions.specs.Sessions.{IsRunning};
+ghost use Rattle.sessions.specs.Inside.AllSessions.{AreRunning, commands_of};
 ghost use Rattle.sessions.specs.Inside.Gathered.{IsFurther};
 
 use crate::session::Session;

@@ -3,7 +3,7 @@ use Rattle.std.proofs.lemmas.Iterator.Adapters.{YieldsList-from_vec}
 use Rattle.std.proofs.lemmas.Iterator.Consumers.{YieldsList-turn}
 use Rattle.std.proofs.lemmas.List.{length-map}
 use Rattle.version_book.specs.Passes.{next_of, numbers_of, opening_of, seen}
-use Rattle.sessions.specs.Sessions.{commands_of}
+use Rattle.sessions.specs.Inside.AllSessions.{commands_of}
 use Rattle.sessions.specs.Inside.Gathered.{IsGathered}
 use Rattle.sessions.proofs.Opened.{of_same, turn_of}
 use Rattle.sessions.proofs.Gathered.{gives_on, met_more}

@@ -1,6 +1,6 @@
 use Rattle.std.proofs.Common.{◌≡◌, ◌≤◌, length, vec_len, vec_capacity}
 use Rattle.version_book.specs.Passes.{IsOf, next_of, numbers_of, opening_of, seen}
-use Rattle.sessions.specs.Sessions.{commands_of}
+use Rattle.sessions.specs.Inside.AllSessions.{commands_of}
 use Rattle.sessions.specs.Inside.Gathered.{IsGathered}
 use Rattle.sessions.proofs.closing.meet_all.Given as goal
 

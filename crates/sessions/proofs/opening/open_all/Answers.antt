@@ -1,6 +1,6 @@
 use Rattle.std.proofs.Common.{rules, ◌≡◌, ◌+◌, ◌∙◌, ◌++◌, ◌∷◌, [], Some, length, length-append, ap, sym, subst, arith}
 use Rattle.version_book.specs.Passes.{number_of}
-use Rattle.sessions.specs.Sessions.{AreRunning, commands_of}
+use Rattle.sessions.specs.Inside.AllSessions.{AreRunning, commands_of}
 use Rattle.sessions.proofs.Opened.{commands-append, running_at, running_more, same_number}
 use Rattle.sessions.proofs.opening.open_all.Goals as goal
 

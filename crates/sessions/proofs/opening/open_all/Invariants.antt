@@ -1,6 +1,6 @@
 use Rattle.std.proofs.Common.{◌≡◌, ◌+◌, length}
 use Rattle.version_book.specs.Passes.{IsOf}
-use Rattle.sessions.specs.Sessions.{AreRunning, commands_of}
+use Rattle.sessions.specs.Inside.AllSessions.{AreRunning, commands_of}
 use Rattle.sessions.specs.Inside.Gathered.{IsGiver}
 use Rattle.sessions.proofs.opening.open_all.Given as goal
 
