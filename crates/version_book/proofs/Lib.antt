@@ -1,4 +1,4 @@
-mod Lists
+pub mod Lists
 mod Keeps
 mod Hands
 mod Splits

@@ -1,0 +1,36 @@
+use Rattle.std.proofs.Common.{◌≡◌, ◌<◌, ◌≤◌, ◌∙◌, length, refl, ap, arith}
+use Rattle.version_book.specs.Passes.{opening_of, seen}
+use Rattle.sessions.proofs.Answered.{told_few, more_none, more_next, next_left}
+use Rattle.sessions.proofs.session.Session+W.run.Goals as goal
+
+pub loop-alloc-init : goal.loop-alloc-init
+loop-alloc-init g c =
+    let w = g.W.World in
+    record {
+      running = c.requires.running;
+      user = refl;
+      commands = refl;
+      more = more_none w.effect w.after (w.content (opening_of c.args.book.now)) c.args.self.now;
+    }
+
+pub loop-alloc-preserved : goal.loop-alloc-preserved
+loop-alloc-preserved g c =
+    let w = g.W.World in
+    let s = c.loop-alloc.self in
+    let left : length s.told.items < length s.commands = omega (arith, c.loop-alloc-test.true, c.len.ensures, s.told.ok.0, ap length c.as_slice.ensures) in
+    record {
+      running = c.step.ensures.running;
+      user = c.step.ensures.user ∙ c.loop-alloc.invariant.user;
+      commands = c.step.ensures.commands ∙ c.loop-alloc.invariant.commands;
+      more =
+          more_next w.effect w.after (w.content (opening_of c.args.book.now)) c.args.self.now s c.step.new.self c.loop-alloc.invariant.more
+          (next_left w.effect w.after (w.content (opening_of c.args.book.now)) s c.step.new.self c.in_ok-step.field-0 left c.in_ok-step.ensures.told) c.loop-alloc.invariant.user c.loop-alloc.invariant.commands;
+    }
+
+pub returns-clause-all : goal.returns-clause-all
+returns-clause-all g c =
+    let w = g.W.World in
+    let s = c.loop-alloc.self in
+    let few = told_few w.effect w.after (w.content (opening_of c.args.book.now)) (seen s.pass) s.user 1 0 s.told.items s.commands c.loop-alloc.invariant.running.run in
+    let past : length s.commands ≤ length s.told.items = omega (arith, c.loop-alloc-test.false, c.len.ensures, s.told.ok.0, ap length c.as_slice.ensures) in
+    omega (arith, few, past)

@@ -1,0 +1,65 @@
+use Rattle.std.proofs.Common.{rules, ◌≡◌, ◌+◌, ◌<◌, ◌≤◌, ◌∙◌, ◌++◌, ◌∷◌, [], Some, length, slice_get, refl, ap, sym, subst, arith}
+use Rattle.std.proofs.lemmas.Option.{slice_get_read}
+use Rattle.history.specs.UserRun.{RunSoFar}
+use Rattle.version_book.specs.Passes.{numbers_of, opening_of, seen}
+use Rattle.sessions.specs.Answers.{IsAnswered, sight}
+use Rattle.sessions.proofs.Answered.{told_few, run_seen, run_settled, answered_as}
+use Rattle.sessions.proofs.session.Session+W.step.Goals as goal
+
+pub returns-in_default-clause-told : goal.returns-in_default-clause-told
+returns-in_default-clause-told g c =
+    let w = g.W.World in
+    let s = c.args.self.now in
+    let few = told_few w.effect w.after (w.content (opening_of c.args.book.now)) (seen s.pass) s.user 1 0 s.told.items s.commands c.requires.running.run in
+    let past : length c.as_slice.result.now ≤ c.len.result = c.in_default.ensures.lookup.3 in
+    (omega (arith, few, past, ap length c.as_slice.ensures, s.told.ok.0, c.len.ensures), refl)
+
+pub returns-in_err-told-clause-running : goal.returns-in_err-told-clause-running
+returns-in_err-told-clause-running g c =
+    let w = g.W.World in
+    let s = c.args.self.now in
+    let same : c.reserve.new.self.items ≡ s.told.items = search rules in
+    record {
+      of = c.answer.ensures.of;
+      number = c.answer.ensures.same.all ∙ c.requires.running.number;
+      run =
+          subst (λ ts. RunSoFar w.effect w.after (w.content (opening_of c.args.book.now)) (seen c.answer.new.pass) s.user ts s.commands) (sym same)
+          (run_seen w.effect w.after (w.content (opening_of c.args.book.now)) (seen s.pass) (seen c.answer.new.pass) s.user (numbers_of s.pass) s.told.items s.commands c.requires.running.run c.in_err-told.ensures.err c.requires.running.number);
+    }
+
+pub returns-clause-running : goal.returns-clause-running
+returns-clause-running g c =
+    let w = g.W.World in
+    let s = c.args.self.now in
+    let one = c.in_ok-told.told in
+    let items : c.push_reserved.new.self.items ≡ s.told.items ++ one ∷ [] = search rules in
+    let at : c.len.result ≡ length s.told.items = omega (arith, s.told.ok.0, c.len.ensures) in
+    let here : slice_get c.as_slice.result.now c.len.result ≡ Some c.in-Some.command.now = slice_get_read _ _ _ _ refl c.in-Some.ensures.lookup.3.0 c.in-Some.ensures.lookup.1 in
+    let is : slice_get s.commands (length s.told.items) ≡ Some c.in-Some.command.now = rw (← at, ← c.as_slice.ensures) here in
+    let number : c.in_ok-number.number ≡ length s.told.items + 1 = omega (arith, c.in_ok-number.ensures, c.len-2.ensures, c.reserve.ensures.len, s.told.ok.0) in
+    let answered : IsAnswered w.effect w.after (w.content (opening_of c.args.book.now)) (sight s.pass) (sight c.answer.new.pass) s.user (length s.told.items + 1) c.in-Some.command.now one =
+    answered_as _ _ _ _ _ _ _ _ _ _ number c.in_ok-told.ensures.answered in
+    record {
+      of = c.answer.ensures.of;
+      number = c.answer.ensures.same.all ∙ c.requires.running.number;
+      run =
+          subst (λ ts. RunSoFar w.effect w.after (w.content (opening_of c.args.book.now)) (seen c.answer.new.pass) s.user ts s.commands) (sym items)
+          (run_settled w.effect w.after (w.content (opening_of c.args.book.now)) (seen s.pass) (seen c.answer.new.pass) s.user s.told.items s.commands c.in-Some.command.now one _ c.requires.running.run is refl refl answered.settles);
+    }
+
+pub returns-clause-told : goal.returns-clause-told
+returns-clause-told g c =
+    let w = g.W.World in
+    let s = c.args.self.now in
+    let one = c.in_ok-told.told in
+    let at : c.len.result ≡ length s.told.items = omega (arith, s.told.ok.0, c.len.ensures) in
+    let here : slice_get c.as_slice.result.now c.len.result ≡ Some c.in-Some.command.now = slice_get_read _ _ _ _ refl c.in-Some.ensures.lookup.3.0 c.in-Some.ensures.lookup.1 in
+    let is : slice_get s.commands (length s.told.items) ≡ Some c.in-Some.command.now = rw (← at, ← c.as_slice.ensures) here in
+    let number : c.in_ok-number.number ≡ length s.told.items + 1 = omega (arith, c.in_ok-number.ensures, c.len-2.ensures, c.reserve.ensures.len, s.told.ok.0) in
+    record {
+      command = c.in-Some.command.now;
+      told = one;
+      is_next = is;
+      is_told = search rules;
+      is_answered = answered_as _ _ _ _ _ _ _ _ _ _ number c.in_ok-told.ensures.answered;
+    }

@@ -1,0 +1,82 @@
+ghost use Rattle.std.specs.Prelude.{◌≡◌, ◌+◌, ◌≤◌, [], length, vec_len, vec_capacity, IfOk, IsTrue, All};
+ghost use Rattle.history.specs.History.{IsHistoryOf};
+ghost use Rattle.history.specs.Version.{content_after};
+ghost use Rattle.version_book.specs.Passes.{IsOf, next_of, numbers_of, opening_of, seen};
+ghost use Rattle.sessions.specs.Inside.AllSessions.{AreRunning, HasAnsweredAll, commands_of};
+ghost use Rattle.sessions.specs.Inside.Gathered.{IsGathered, IsGiver};
+
+use crate::serving::Served;
+use crate::session::Session;
+use history::{Told, World};
+use lists::ListOf;
+use std::alloc::{AllocError, Global};
+use std::sync::Wait;
+use version_book::{Book, ClosedOf, Pass};
+
+/// Ends the book: brings all passes together, once each session has answered all its commands. A session that hasn't
+/// found no memory.
+pub(crate) fn close_all<W: World, R: Wait>(
+    rt: &R,
+    alloc: Global,
+    book: Book<W>,
+    first: Pass<W>,
+    sessions: Vec<Session<W>>,
+) -> Result<Served<W::State, W::Writes, W::Reply>, AllocError>
+    requires of { IsOf book first }
+    requires giver { IsGiver first (vec_len sessions + 1) }
+    requires running { AreRunning W.effect W.after W.content book sessions.items }
+    ensures history { IfOk result (λ served. IsHistoryOf W.effect W.after (W.content (opening_of book))
+        (commands_of sessions.items) served.told.items served.log.items) }
+    ensures state { IfOk result (λ served.
+        W.content served.state ≡ content_after W.after (W.content (opening_of book)) served.log.items) }
+{
+    let mut told = Vec::new(alloc);
+    let room = told.reserve(sessions.len());
+    if room.is_err() || !all_answered::<W>(sessions.as_slice()) {
+        drop(sessions);
+        drop(first);
+        drop(book);
+        return Err(AllocError);
+    }
+    let all = meet_all(rt, &book, first, sessions, &mut told);
+    let ClosedOf { history, state } = book.close(all);
+    Ok(Served {
+        told,
+        log: history,
+        state,
+    })
+}
+
+// One pass of all sessions' passes and the first one, and what each session was told.
+fn meet_all<W: World, R: Wait>(
+    rt: &R,
+    book: &Book<W>,
+    first: Pass<W>,
+    sessions: Vec<Session<W>>,
+    told: &mut Vec<ListOf<Told<W::Reply>>>,
+) -> Pass<W>
+    requires of { IsOf book.now first }
+    requires giver { IsGiver first (vec_len sessions + 1) }
+    requires running { AreRunning W.effect W.after W.content book.now sessions.items }
+    requires answered { All HasAnsweredAll sessions.items }
+    requires empty { told.old.items ≡ [] }
+    requires room { vec_len sessions ≤ vec_capacity told.old }
+    ensures of { IsOf book.now result }
+    ensures next { next_of result ≡ next_of first }
+    ensures gathered { IsGathered W.effect W.after (W.content (opening_of book.now)) (commands_of sessions.items)
+        told.new.items (numbers_of result) (seen result) }
+{
+    let mut all = first;
+    for session in sessions {
+        let (pass, replies) = session.finish();
+        all = book.meet(rt, all, pass);
+        told.push_reserved(replies);
+    }
+    all
+}
+
+fn all_answered<W: World>(sessions: &[Session<W>]) -> bool
+    ensures { IsTrue result → All HasAnsweredAll sessions.now }
+{
+    sessions.iter().all(|session| session.told.len() == session.commands.as_slice().len())
+}

@@ -1,0 +1,53 @@
+ghost use Rattle.std.specs.Prelude.{◌≡◌, IfOk};
+ghost use Rattle.history.specs.History.{IsHistoryOf};
+ghost use Rattle.history.specs.Version.{content_after};
+
+use crate::closing::close_all;
+use crate::opening::open_all;
+use crate::threads::run_all;
+use cube_outside::Gate;
+use history::{Entry, Told, World};
+use lists::ListOf;
+use std::alloc::{AllocError, Global};
+use std::sync::Wait;
+use std::thread::Threads;
+use version_book::Book;
+
+/// What each user was told, the history of accepted commands, and the state after it.
+#[derive(Drop)]
+pub struct Served<S, T, R> {
+    pub told: Vec<ListOf<Told<R>>>,
+    pub log: Vec<Entry<T>>,
+    pub state: S,
+}
+
+/// Runs the users from this state on, each with its commands in order and on a thread of its own, up to
+/// [`crate::MAX_THREADS`]. Where no thread can be started they run one after another.
+pub fn serve<W: World, R: Threads + Wait + Sync, G: Gate + Sync>(
+    rt: &R,
+    alloc: Global,
+    gate: &G,
+    state: W::State,
+    users: Vec<ListOf<W::Command>>,
+) -> Result<Served<W::State, W::Writes, W::Reply>, AllocError>
+where
+    W: Send + Sync,
+    W::State: Send + Sync,
+    W::Content: Send + Sync,
+    W::Command: Send + Sync,
+    W::Reply: Send + Sync,
+    W::Writes: Send + Sync,
+    ensures history { IfOk result (λ served.
+        IsHistoryOf W.effect W.after (W.content state) users.items served.told.items served.log.items) }
+    ensures state { IfOk result (λ served.
+        W.content served.state ≡ content_after W.after (W.content state) served.log.items) }
+{
+    let (book, mut first) = Book::<W>::begin(alloc, state)?;
+    let Ok(mut sessions) = open_all(alloc, &book, &mut first, users) else {
+        drop(first);
+        drop(book);
+        return Err(AllocError);
+    };
+    run_all(rt, alloc, &book, gate, sessions.as_mut_slice());
+    close_all(rt, alloc, book, first, sessions)
+}
