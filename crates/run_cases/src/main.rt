@@ -46,13 +46,8 @@ fn main(rt: HostRuntime) -> io::Result<()> {
             Case::Silent => {}
             Case::Answer(answer) => write_answer(&mut written, &answer)?,
             Case::Run(mut run) => {
-                let status = run_cubes(
-                    rt.alloc(),
-                    &run.words,
-                    &mut run.files,
-                    &mut run.out,
-                    &FreeGate,
-                );
+                let status =
+                    run_cubes(&rt, &run.words, &mut run.files, &mut run.out, &FreeGate);
                 write_ending(rt.alloc(), &mut written, status, run.out.bytes())?;
             }
         }
