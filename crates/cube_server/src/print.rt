@@ -124,6 +124,7 @@ fn cause_name(alloc: Global, cause: Cause) -> Result<String, AllocError>
         Cause::ModelTooLarge => "ModelTooLarge",
         Cause::WeightProduct => "WeightProduct",
         Cause::TooDeep => "TooDeep",
+        Cause::UnknownFunction => "UnknownFunction",
         Cause::Ambiguous => "Ambiguous",
         Cause::WrongCount => "WrongCount",
         Cause::DynamicReference => "DynamicReference",
