@@ -14,7 +14,9 @@
 //!
 //! Lines of a file are those of [`case_lines::spell`]. A case `text: NAME` gives its lines a name, for later cases.
 //! Before the files of a run may stand `word WORD`, for a word that is empty or has spaces; `read 2 fails`; and
-//! `write 2 fails after 3`, where the first 3 bytes of that piece are written. Reads and writes count from 1.
+//! `write 2 fails after 3`, where the first 3 bytes of that piece are written; and `hold 2 1 0 until 1 2 3`, where user 2
+//! waits at part 0 of its command 1 until user 1 has passed part 3 of its command 2. Reads, writes, users and commands
+//! count from 1. Users run beside each other: what a run writes has to be the same whatever their order.
 //!
 //! A case `store: TITLE` is one of stored cells; [`stores::answer`] has its lines. Lines that begin with `#` head a
 //! section.
@@ -29,7 +31,6 @@ mod stores;
 
 use crate::cases::{Case, case_of, write_ending};
 use case_lines::{Texts, write_answer};
-use cube_outside::FreeGate;
 use cube_server::run_cubes;
 use std::io;
 use std::io::Write;
@@ -47,7 +48,7 @@ fn main(rt: HostRuntime) -> io::Result<()> {
             Case::Answer(answer) => write_answer(&mut written, &answer)?,
             Case::Run(mut run) => {
                 let status =
-                    run_cubes(&rt, &run.words, &mut run.files, &mut run.out, &FreeGate);
+                    run_cubes(&rt, &run.words, &mut run.files, &mut run.out, &run.gate);
                 write_ending(rt.alloc(), &mut written, status, run.out.bytes())?;
             }
         }

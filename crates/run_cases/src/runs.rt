@@ -1,6 +1,10 @@
 use case_lines::Texts;
 use cube_outside::{MemoryFiles, MemorySink};
+use held_gate::HeldGate;
 use std::alloc::{AllocError, Global};
+
+// How often a user who is held asks whether it is time: enough for the other to come there, on any machine.
+const TURNS: u64 = 10_000_000_000;
 
 /// What a run is made of.
 #[derive(Drop)]
@@ -8,6 +12,7 @@ pub struct Run {
     pub words: Vec<String>,
     pub files: MemoryFiles,
     pub out: MemorySink,
+    pub gate: HeldGate,
 }
 
 /// The run of these lines, first those without a file and then those of each file. None where a line is none of a run.
@@ -16,6 +21,7 @@ pub fn run_of(alloc: Global, texts: &Texts, lines: &str) -> Result<Option<Run>, 
         words: Vec::new(alloc),
         files: MemoryFiles::new(alloc),
         out: MemorySink::new(alloc),
+        gate: held((0, 0, 0), (0, 0, 0)),
     };
     let (settings, files) = match lines.split_once("\nfile ") {
         Some((settings, files)) => (settings, Some(files)),
@@ -53,6 +59,12 @@ impl Run {
             ["write", call, "fails", "after", kept] => {
                 self.out.fail_at(number(call), number(kept) as usize)?;
             }
+            ["hold", user, command, part, "until", other, reached, passed] => {
+                self.gate = held(
+                    place(user, command, part),
+                    place(other, reached, passed),
+                );
+            }
             _ => return Ok(false),
         }
         Ok(true)
@@ -69,6 +81,20 @@ impl Run {
         }
         Ok(true)
     }
+}
+
+// A gate that holds whoever comes to the first place until somebody has passed the second. Users count from 1, so
+// nobody comes to a place of user 0.
+fn held(hold: (u32, u32, u32), until: (u32, u32, u32)) -> HeldGate {
+    HeldGate::new(hold, until, TURNS)
+}
+
+fn place(user: &str, command: &str, part: &str) -> (u32, u32, u32) {
+    (small(user), small(command), small(part))
+}
+
+fn small(digits: &str) -> u32 {
+    digits.parse::<u32>().unwrap_or(0)
 }
 
 fn number(digits: &str) -> u64 {
