@@ -79,8 +79,8 @@ pub fn sum_of_parts(
     sum.value()
 }
 
-// The cell with another element at a place.
-fn with_element_at(space: &Space, cell: u64, dim: usize, element: u32) -> Option<u64>
+/// The cell with another element in the dimension at this place of its cube, or None where there is no such element.
+pub fn with_element_at(space: &Space, cell: u64, dim: usize, element: u32) -> Option<u64>
     requires cell { IsCell space.now cell }
     requires dim { dim < length (elements_of space.now cell) }
     ensures { result ≡ with_element_at space.now cell dim element }

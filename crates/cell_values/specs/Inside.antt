@@ -1,0 +1,6 @@
+-- How values are worked out. No public clause cites it.
+pub mod Questions
+pub mod Sums
+pub mod Frames
+pub mod Answers
+pub mod Growth
