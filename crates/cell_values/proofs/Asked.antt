@@ -37,6 +37,7 @@ use Rattle.cell_values.specs.Reading.{value_on}
 use Rattle.cell_values.specs.Inside.Questions.{IsAsked, answer_on, base_on, children_on, leads_to, level_on, asks_on, depth_on, components_on, is_grounded}
 use Rattle.cell_values.specs.Inside.Frames.{AreRight}
 use Rattle.cell_values.specs.Inside.Answers.{ListedAnswers, AnswerTerms, is_told, answered_value, answered, may_ask, IsMissing}
+use Rattle.cell_values.proofs.Members.{filter-member, drop-member, all-pass as every-passes, nonzero-counts}
 use Rattle.cell_values.proofs.Values.{formed, ordered}
 use Rattle.cell_values.proofs.Work.{asks-has}
 use Rattle.cell_values.proofs.SumFacts.{some-components}
@@ -45,13 +46,13 @@ use Rattle.cell_values.proofs.SumFacts.{some-components}
 
 same-is : (a b : Ask) → is_same a b ≡ true → a ≡ b
 same-is (of_value a) (of_value b) is = ap of_value (eqb-true a b is)
-same-is (of_value a) (of_base b) is = absurd (cc is)
-same-is (of_value a) (of_children b e) is = absurd (cc is)
-same-is (of_base a) (of_value b) is = absurd (cc is)
+same-is (of_value a) (of_base b) is = absurd (cc)
+same-is (of_value a) (of_children b e) is = absurd (cc)
+same-is (of_base a) (of_value b) is = absurd (cc)
 same-is (of_base a) (of_base b) is = ap of_base (eqb-true a b is)
-same-is (of_base a) (of_children b e) is = absurd (cc is)
-same-is (of_children a d) (of_value b) is = absurd (cc is)
-same-is (of_children a d) (of_base b) is = absurd (cc is)
+same-is (of_base a) (of_children b e) is = absurd (cc)
+same-is (of_children a d) (of_value b) is = absurd (cc)
+same-is (of_children a d) (of_base b) is = absurd (cc)
 same-is (of_children a d) (of_children b e) is =
     let parts = and_parts (eqb a b) (eqb d e) is in
     ap (λ (c : ℕ). of_children c d) (eqb-true a b parts.0) ∙ ap (of_children b) (eqb-true d e parts.1)
@@ -59,14 +60,14 @@ same-is (of_children a d) (of_children b e) is =
 -- a listed answer is right
 pub listed-right : (v : NumberedVersion) (known : Known) → AreRight v known → (q : Ask) (a : Value) → listed known q ≡ Some a → a ≡ answer_on v q
 listed-right v [] right q a is = cc
-listed-right v (one ∷ known) right q a is = by (is_same one.0 q) refl
+listed-right v (one ∷ known) right q a is = by (is_same one.0 q) refl (λ later. listed-right v known (All-tail (λ entry. entry.1 ≡ answer_on v entry.0) one known right) q a later)
   where
-    by : (b : Bool) → is_same one.0 q ≡ b → a ≡ answer_on v q
-    by true same =
+    by : (b : Bool) → is_same one.0 q ≡ b → (listed known q ≡ Some a → a ≡ answer_on v q) → a ≡ answer_on v q
+    by true same rest =
         let here : Some one.1 ≡ Some a = rw same at is in
         let value : one.1 ≡ a = cc in
         sym value ∙ All-head (λ entry. entry.1 ≡ answer_on v entry.0) one known right ∙ ap (answer_on v) (same-is one.0 q same)
-    by false other = listed-right v known (All-tail (λ entry. entry.1 ≡ answer_on v entry.0) one known right) q a (rw other at is)
+    by false other rest = rest (rw other at is)
 
 -- ---- what is answered
 
@@ -101,27 +102,6 @@ module _ (terms : AnswerTerms) (c : ℕ) where
   value-remembered told none = rw (told, none) refl
 
 -- ---- what is asked
-
-contains-drop : {X : Type 0} (k : ℕ) (xs : List X) (x : X) → Contains (drop k xs) x → Contains xs x
-contains-drop zero xs x has = has
-contains-drop (suc k) [] x has = has
-contains-drop (suc k) (y ∷ xs) x has = behind y xs x (contains-drop k xs x has)
-
-all-by : {X : Type 0} (p : X → Bool) (xs : List X) → ((x : X) → Contains xs x → p x ≡ true) → list_all p xs ≡ true
-all-by p [] all = refl
-all-by p (x ∷ xs) all = let here = all x (at-front x xs) in rw here (all-by p xs (λ y has. all y (behind x xs y has)))
-
-filter-member : {X : Type 0} (p : X → Bool) (xs : List X) (x : X) → Contains (filter p xs) x → Contains xs x × (p x ≡ true)
-filter-member p [] x has = absurd (none-there x has)
-filter-member p (y ∷ xs) x has = by (p y) refl
-  where
-    by : (b : Bool) → p y ≡ b → Contains (y ∷ xs) x × (p x ≡ true)
-    by true on = at (front-or-behind y (filter p xs) x (rw on at has))
-      where
-        at : (y ≡ x) ⊎ Contains (filter p xs) x → Contains (y ∷ xs) x × (p x ≡ true)
-        at (inl same) = (subst (Contains (y ∷ xs)) same (at-front y xs), ap p (sym same) ∙ on)
-        at (inr later) = let rest = filter-member p xs x later in (behind y xs x rest.0, rest.1)
-    by false off = let rest = filter-member p xs x (rw off at has) in (behind y xs x rest.0, rest.1)
 
 module _ (v : NumberedVersion) (valid : IsSpace v.model.space) (rules : AreRules v.model.space v.model.rules) (accepted : IsAccepted v.model)
     (c : ℕ) (is_cell : IsCell v.model.space c) where
@@ -158,16 +138,13 @@ module _ (v : NumberedVersion) (valid : IsSpace v.model.space) (rules : AreRules
         none : parts_at v.model.space c d ≡ [] → is_some (component_cells v.model.space c d) ≡ false
         none is = rw is refl
 
-        nonzero : (z : ℤ) → is_nonzero z ≡ true → z ≡ pos 0 → ⊥
-        nonzero z on is = let off : is_nonzero z ≡ false = ap is_nonzero is in let clash : true ≡ false = sym on ∙ off in cc
-
         all : 0 < length (parts_at v.model.space c d) → is_grounded v c d ≡ true
         all filled =
-            all-by (λ pair. ltb (depth_on v pair.0) (depth_on v c)) (components_on v c d 0)
+            every-passes (λ pair. ltb (depth_on v pair.0) (depth_on v c)) (components_on v c d 0)
             (λ pair has.
             let member = filter-member (λ pair. is_nonzero pair.1) (with_components v.model.space c d (parts_at v.model.space c d)) pair has in
             lt-ltb (depth_on v pair.0) (depth_on v c)
-            (less pair.0 (with_components v.model.space c d (parts_at v.model.space c d), some-components v.model.space c d filled, (pair.1, member.0, nonzero pair.1 member.1))))
+            (less pair.0 (with_components v.model.space c d (parts_at v.model.space c d), some-components v.model.space c d filled, (pair.1, member.0, nonzero-counts pair.1 member.1))))
 
         by : (parts : List (ℕ × ℤ)) → parts_at v.model.space c d ≡ parts → may_ask terms (of_children c d) ≡ true
         by [] is = let no = none is in let clash : true ≡ false = sym some ∙ no in absurd (cc)
@@ -184,7 +161,7 @@ module _ (v : NumberedVersion) (valid : IsSpace v.model.space) (rules : AreRules
     pub evaluation-passes : (k : ℕ) → passes (system_of v.model) (answered terms) c (may_ask terms) (drop k (rules_for v.model c)) ≡ true
     unfolding system_of
     evaluation-passes k =
-        all-pass (system_of v.model) (answered terms) c (may_ask terms) own-base (drop k (rules_for v.model c)) (λ rule f has part p reads. may rule f (contains-drop k (rules_for v.model c) rule has) part p reads)
+        all-pass (system_of v.model) (answered terms) c (may_ask terms) own-base (drop k (rules_for v.model c)) (λ rule f has part p reads. may rule f (drop-member k (rules_for v.model c) rule has) part p reads)
       where
         may : (rule : Rule) (f : Formula) → Contains (rules_for v.model c) rule → part_at (system_of v.model) c rule ≡ Some f → (p : Precedent) → Contains (precedents f) p → MayRead (system_of v.model) (may_ask terms) c p
         may rule f has part (Named r) reads = λ x names. may-name x ((formed v valid rules accepted).target_cell r c x is_cell names) (reads-less rule f has part (Named r) reads x names)

@@ -3,3 +3,7 @@ pub mod Work
 pub mod Values
 pub mod SumFacts
 pub mod Asked
+pub mod Telling
+pub mod FrameFacts
+pub mod BeginFacts
+pub mod ReadFacts

@@ -1,67 +1,124 @@
--- Members of filtered lists, and what is left out of a sum over one.
-use Rattle.std.proofs.Common.{◌≡◌, refl, sym, ◌∙◌, ap, subst, arith, ℕ, suc, ◌+◌, ◌<◌, ◌≤◌, ◌⊎◌, inl, inr, Bool, true, false, not, ◌&&◌, List, [], ◌∷◌, filter, Contains}
-use Rattle.std.specs.List.{sum_by, All}
+-- Members of lists.
+use Rattle.std.proofs.Common.{◌≡◌, refl, sym, ◌∙◌, ap, subst, ℕ, zero, suc, eqb, ◌⊎◌, inl, inr, Bool, true, false, ◌||◌, ℤ, pos, negsuc, List, [], ◌∷◌, drop, filter, None}
+use Rattle.std.specs.Prelude.{IsTrue, ◌↔◌}
+use Rattle.std.specs.List.{Contains, list_all}
+use Rattle.std.proofs.lemmas.Bool.{eq-eqb, eqb-true, ne_eqb}
+use Rattle.cell_store.specs.declared.entry.Entry.{Entry}
+use Rattle.cell_store.specs.Entries.{cells_of}
+use Rattle.dim_order.specs.Members.{is_among}
+use Rattle.dim_weights.specs.Table.{is_nonzero}
 use Rattle.feed_map.proofs.Members.{none-there, at-front, behind, front-or-behind}
+use Rattle.stored_values.specs.Stored.{stored_in}
 
 module _ {X : Type 0} where
   pub filter-contains : (p : X → Bool) (xs : List X) (x : X) → Contains xs x → p x ≡ true → Contains (filter p xs) x
   filter-contains p [] x has passes = absurd (none-there x has)
-  filter-contains p (y ∷ xs) x has passes = by (p y) refl (front-or-behind y xs x has)
+  filter-contains p (y ∷ xs) x has passes = by (p y) refl (front-or-behind y xs x has) (λ later. filter-contains p xs x later passes)
     where
-      by : (b : Bool) → p y ≡ b → (y ≡ x) ⊎ Contains xs x → Contains (filter p (y ∷ xs)) x
-      by true on (inl same) = rw on (subst (λ (z : X). Contains (z ∷ filter p xs) x) (sym same) (at-front x (filter p xs)))
-      by true on (inr later) = rw on (behind y (filter p xs) x (filter-contains p xs x later passes))
-      by false off (inl same) = let clash : true ≡ false = sym passes ∙ ap p (sym same) ∙ off in absurd (cc)
-      by false off (inr later) = rw off (filter-contains p xs x later passes)
+      by : (b : Bool) → p y ≡ b → (y ≡ x) ⊎ Contains xs x → (Contains xs x → Contains (filter p xs) x) → Contains (filter p (y ∷ xs)) x
+      by true on (inl same) rest = rw on (subst (λ (z : X). Contains (z ∷ filter p xs) x) (sym same) (at-front x (filter p xs)))
+      by true on (inr later) rest = rw on (behind y (filter p xs) x (rest later))
+      by false off (inl same) rest = let clash : true ≡ false = sym passes ∙ ap p (sym same) ∙ off in absurd (cc)
+      by false off (inr later) rest = rw off (rest later)
 
   pub filter-all : (p : X → Bool) (xs : List X) → ((x : X) → Contains xs x → p x ≡ true) → filter p xs ≡ xs
   filter-all p [] all = refl
   filter-all p (x ∷ xs) all =
       let here : p x ≡ true = all x (at-front x xs) in
-      rw here (ap (λ (ys : List X). x ∷ ys) (filter-all p xs (λ y has. all y (behind x xs y has))))
+      let rest = filter-all p xs (λ y has. all y (behind x xs y has)) in
+      rw here (ap (λ (ys : List X). x ∷ ys) rest)
 
-  module _ (f : X → ℕ) where
-    -- what passes less costs less
-    pub sum-fewer : (p q : X → Bool) → ((x : X) → q x ≡ true → p x ≡ true) → (xs : List X) → sum_by f (filter q xs) ≤ sum_by f (filter p xs)
-    sum-fewer p q less [] = omega arith
-    sum-fewer p q less (x ∷ xs) = by (q x) refl (p x) refl (sum-fewer p q less xs)
-      where
-        by : (b : Bool) → q x ≡ b → (a : Bool) → p x ≡ a → sum_by f (filter q xs) ≤ sum_by f (filter p xs) → sum_by f (filter q (x ∷ xs)) ≤ sum_by f (filter p (x ∷ xs))
-        by true on true is rest = rw (on, is) (omega (arith, rest))
-        by true on false is rest = let clash : true ≡ false = sym (less x on) ∙ is in absurd (cc)
-        by false off true is rest = rw (off, is) (omega (arith, rest))
-        by false off false is rest = rw (off, is) rest
+  pub filter-member : (p : X → Bool) (xs : List X) (x : X) → Contains (filter p xs) x → Contains xs x × (p x ≡ true)
+  filter-member p [] x has = absurd (none-there x has)
+  filter-member p (y ∷ xs) x has = by (p y) refl (λ later. filter-member p xs x later)
+    where
+      by : (b : Bool) → p y ≡ b → (Contains (filter p xs) x → Contains xs x × (p x ≡ true)) → Contains (y ∷ xs) x × (p x ≡ true)
+      by true on rest =
+          let here : Contains (y ∷ filter p xs) x = rw on at has in
+          elim (front-or-behind y (filter p xs) x here) [
+            | inl same ↦ (subst (Contains (y ∷ xs)) same (at-front y xs), ap p (sym same) ∙ on)
+            | inr later ↦ (let one = rest later in (behind y xs x one.0, one.1))
+          ]
+      by false off rest =
+          let here : Contains (filter p xs) x = rw off at has in
+          let one = rest here in (behind y xs x one.0, one.1)
 
-    -- one that passes no more is left out
-    pub sum-without : (p q : X → Bool) → ((x : X) → q x ≡ true → p x ≡ true) → (xs : List X) (x : X) → Contains xs x → p x ≡ true → q x ≡ false
-        → sum_by f (filter q xs) + f x ≤ sum_by f (filter p xs)
-    sum-without p q less [] x has on off = absurd (none-there x has)
-    sum-without p q less (y ∷ xs) x has on off = at (front-or-behind y xs x has)
-      where
-        at : (y ≡ x) ⊎ Contains xs x → sum_by f (filter q (y ∷ xs)) + f x ≤ sum_by f (filter p (y ∷ xs))
-        at (inl same) =
-            let here : p y ≡ true = ap p same ∙ on in
-            let gone : q y ≡ false = ap q same ∙ off in
-            let cost : f y ≡ f x = ap f same in
-            let rest = sum-fewer p q less xs in
-            rw (here, gone) (omega (arith, cost, rest))
-        at (inr later) = by (q y) refl (p y) refl (sum-without p q less xs x later on off)
-          where
-            by : (b : Bool) → q y ≡ b → (a : Bool) → p y ≡ a → sum_by f (filter q xs) + f x ≤ sum_by f (filter p xs)
-                → sum_by f (filter q (y ∷ xs)) + f x ≤ sum_by f (filter p (y ∷ xs))
-            by true is true also rest = rw (is, also) (omega (arith, rest))
-            by true is false also rest = let clash : true ≡ false = sym (less y is) ∙ also in absurd (cc)
-            by false is true also rest = rw (is, also) (omega (arith, rest))
-            by false is false also rest = rw (is, also) rest
+  pub drop-member : (k : ℕ) (xs : List X) (x : X) → Contains (drop k xs) x → Contains xs x
+  drop-member zero xs x has = has
+  drop-member (suc k) [] x has = has
+  drop-member (suc k) (y ∷ xs) x has = behind y xs x (drop-member k xs x has)
 
-    -- one that passes
-    pub sum-at_least : (p : X → Bool) (xs : List X) (x : X) → Contains xs x → p x ≡ true → f x ≤ sum_by f (filter p xs)
-    sum-at_least p xs x has on = least (filter p xs) (filter-contains p xs x has on)
+  pub all-pass : (p : X → Bool) (xs : List X) → ((x : X) → Contains xs x → p x ≡ true) → list_all p xs ≡ true
+  all-pass p [] all = refl
+  all-pass p (x ∷ xs) all =
+      let here = all x (at-front x xs) in
+      let rest = all-pass p xs (λ y has. all y (behind x xs y has)) in
+      rw here rest
+
+-- ---- stored and fed cells
+
+pub among-there : (xs : List ℕ) (x : ℕ) → Contains xs x → is_among xs x ≡ true
+among-there [] x has = absurd (none-there x has)
+among-there (y ∷ xs) x has = at (front-or-behind y xs x has) (λ later. among-there xs x later)
+  where
+    at : (y ≡ x) ⊎ Contains xs x → (Contains xs x → is_among xs x ≡ true) → is_among (y ∷ xs) x ≡ true
+    at (inl same) rest = let one : eqb x y ≡ true = eq-eqb x y (sym same) in rw one refl
+    at (inr later) rest = by (eqb x y) refl
       where
-        least : (ys : List X) → Contains ys x → f x ≤ sum_by f ys
-        least [] none = absurd (none-there x none)
-        least (y ∷ ys) there = at (front-or-behind y ys x there)
-          where
-            at : (y ≡ x) ⊎ Contains ys x → f x ≤ sum_by f (y ∷ ys)
-            at (inl same) = let cost : f y ≡ f x = ap f same in omega (arith, cost)
-            at (inr later) = let rest = least ys later in omega (arith, rest)
+        by : (b : Bool) → eqb x y ≡ b → is_among (y ∷ xs) x ≡ true
+        by true is = rw is refl
+        by false is = rw is (rest later)
+
+pub there-among : (xs : List ℕ) (x : ℕ) → is_among xs x ≡ true → Contains xs x
+there-among [] x is = absurd (cc)
+there-among (y ∷ xs) x is = by (eqb x y) refl (λ rest. there-among xs x rest)
+  where
+    by : (b : Bool) → eqb x y ≡ b → (is_among xs x ≡ true → Contains xs x) → Contains (y ∷ xs) x
+    by true on rest = subst (Contains (y ∷ xs)) (sym (eqb-true x y on)) (at-front y xs)
+    by false off rest = behind y xs x (rest (rw off at is))
+
+pub neither : (a b : Bool) → (a || b) ≡ false → (a ≡ false) × (b ≡ false)
+neither true b off = absurd (cc)
+neither false b off = (refl, off)
+
+-- nothing is stored in a cell that is in no entry
+pub stored-none : (entries : List Entry) (n : ℕ) → is_among (cells_of entries) n ≡ false → stored_in entries n ≡ None
+unfolding stored_in
+stored-none [] n none = refl
+stored-none (e ∷ entries) n none = by (eqb e.cell n) refl (λ rest. stored-none entries n rest)
+  where
+    by : (b : Bool) → eqb e.cell n ≡ b → (is_among (cells_of entries) n ≡ false → stored_in entries n ≡ None) → stored_in (e ∷ entries) n ≡ None
+    by true is later =
+        let turned : eqb n e.cell ≡ true = eq-eqb n e.cell (sym (eqb-true e.cell n is)) in
+        let clash : true ≡ false = rw turned at none in
+        absurd (cc)
+    by false is later =
+        let turned : eqb n e.cell ≡ false = ne_eqb n e.cell (λ same. (let own = eq-eqb e.cell n (sym same) in let clash : true ≡ false = sym own ∙ is in cc)) in
+        let rest : is_among (cells_of entries) n ≡ false = rw turned at none in
+        rw is (later rest)
+
+-- ---- weights
+
+pub nonzero-is : (z : ℤ) → is_nonzero z ≡ false → z ≡ pos 0
+nonzero-is (pos zero) none = refl
+nonzero-is (pos (suc n)) none = absurd (cc)
+nonzero-is (negsuc n) none = absurd (cc)
+
+pub nonzero-counts : (z : ℤ) → is_nonzero z ≡ true → z ≡ pos 0 → ⊥
+nonzero-counts z on none = let clash : is_nonzero (pos 0) ≡ true = ap is_nonzero (sym none) ∙ on in cc
+
+pub counts-nonzero : (z : ℤ) → (z ≡ pos 0 → ⊥) → is_nonzero z ≡ true
+counts-nonzero z counts = by (is_nonzero z) refl
+  where
+    by : (b : Bool) → is_nonzero z ≡ b → is_nonzero z ≡ true
+    by true is = is
+    by false is = absurd (counts (nonzero-is z is))
+
+-- a test for members
+pub has-is : (xs : List ℕ) (x : ℕ) (r : Bool) → IsTrue r ↔ Contains xs x → r ≡ is_among xs x
+has-is xs x true tells = sym (among-there xs x (tells.0 refl))
+has-is xs x false tells = by (is_among xs x) refl
+  where
+    by : (b : Bool) → is_among xs x ≡ b → false ≡ is_among xs x
+    by true is = let clash : false ≡ true = tells.1 (there-among xs x is) in absurd (cc)
+    by false is = sym is

@@ -13,7 +13,7 @@ use Rattle.cell_versions.specs.Versions.{NumberedVersion}
 use Rattle.cube_fixed.specs.declared.value.Value.{Value}
 use Rattle.cube_fixed.specs.declared.value.Value.TheVariants.{Num, Over}
 use Rattle.cube_fixed.specs.Arithmetic.{zero_value}
-use Rattle.cube_fixed.specs.Total.{Total, no_terms, with_term, value_of}
+use Rattle.cube_fixed.specs.Total.{Total, no_terms, with_term, term_of, over_enters, value_of}
 use Rattle.cube_space.specs.Cells.{IsSpace, IsCell, is_leaf_cell}
 use Rattle.cube_space.specs.Layout.{Layout}
 use Rattle.dim_weights.specs.Table.{is_nonzero}
@@ -29,13 +29,26 @@ use Rattle.rule_model.specs.Targets.{component_cells, parts_at, with_components,
 use Rattle.rule_model.specs.Weights.{leaves_below}
 use Rattle.sparse_sum.specs.Live.{is_live, live_below}
 use Rattle.sparse_sum.specs.Walking.{Progress, begun, left}
-use Rattle.sparse_sum.proofs.Pairs.{nonzero-is, counts-nonzero}
-use Rattle.sparse_sum.proofs.Totals.{all-left}
 use Rattle.cell_values.specs.Reading.{value_on, IsUngoverned}
 use Rattle.cell_values.specs.Inside.Questions.{IsAsked, values_of, leads_to, level_on, work_on, cost_on, depth_on, base_on, children_on, leaves_on, components_on, is_grounded}
 use Rattle.cell_values.specs.Inside.Sums.{sum_on, IsSum, Advances, Stops}
+use Rattle.cell_values.proofs.Members.{nonzero-is, counts-nonzero}
 use Rattle.cell_values.proofs.Values.{formed, quiet-value}
 use Rattle.cell_values.proofs.Work.{cost-more, work-all, work-less}
+
+drop-past : (i : ℕ) (xs : List (ℕ × ℤ)) → length xs ≤ i → drop i xs ≡ []
+drop-past zero [] past = refl
+drop-past (suc i) [] past = refl
+drop-past zero (x ∷ xs) past = absurd (omega (arith, past))
+drop-past (suc i) (x ∷ xs) past = drop-past i xs (omega (arith, past))
+
+pub some-components : (space : Layout) (c d : ℕ) → 0 < length (parts_at space c d) → component_cells space c d ≡ Some (with_components space c d (parts_at space c d))
+unfolding component_cells
+some-components space c d some = by (parts_at space c d) refl some
+  where
+    by : (parts : List (ℕ × ℤ)) → parts_at space c d ≡ parts → 0 < length parts → component_cells space c d ≡ Some (with_components space c d (parts_at space c d))
+    by [] is some = absurd (omega (arith, some))
+    by (part ∷ parts) is some = rw is refl
 
 -- ---- terms that count for nothing
 
@@ -65,18 +78,16 @@ module _ (v : NumberedVersion) where
       → (s t : Total) → s.exact ≡ t.exact → s.over ≡ t.over → sum_on v s (filter p pairs) ≡ sum_on v t pairs
   unfolding sum_on
   sum-filter p [] none s t exact over = alike s t exact over
-  sum-filter p (pair ∷ pairs) none s t exact over = by (p pair) refl
+  sum-filter p (pair ∷ pairs) none s t exact over = by (p pair) refl (λ s t exact over. sum-filter p pairs (λ one has. none one (behind pair pairs one has)) s t exact over)
     where
-      rest : (s t : Total) → s.exact ≡ t.exact → s.over ≡ t.over → sum_on v s (filter p pairs) ≡ sum_on v t pairs
-      rest = sum-filter p pairs (λ one has. none one (behind pair pairs one has))
-
-      by : (b : Bool) → p pair ≡ b → sum_on v s (filter p (pair ∷ pairs)) ≡ sum_on v t (pair ∷ pairs)
-      by true on =
-          let later = rest (with_term s pair.1 (value_on v pair.0)) (with_term t pair.1 (value_on v pair.0)) (more exact) (ap (λ (b : Bool). b || _) over) in rw on later
-        where
-          more : s.exact ≡ t.exact → (with_term s pair.1 (value_on v pair.0)).exact ≡ (with_term t pair.1 (value_on v pair.0)).exact
-          more same = ap (λ (z : ℤ). z +ℤ _) same
-      by false off =
+      by : (b : Bool) → p pair ≡ b
+          → ((s t : Total) → s.exact ≡ t.exact → s.over ≡ t.over → sum_on v s (filter p pairs) ≡ sum_on v t pairs)
+          → sum_on v s (filter p (pair ∷ pairs)) ≡ sum_on v t (pair ∷ pairs)
+      by true on rest =
+          rw on
+          (rest (with_term s pair.1 (value_on v pair.0)) (with_term t pair.1 (value_on v pair.0))
+          (ap (λ (z : ℤ). z +ℤ term_of pair.1 (value_on v pair.0)) exact) (ap (λ (b : Bool). b || over_enters pair.1 (value_on v pair.0)) over))
+      by false off rest =
           let gone = nothing t pair (none pair (at-front pair pairs) off) in
           rw off (rest s (with_term t pair.1 (value_on v pair.0)) (exact ∙ sym gone.0) (over ∙ sym gone.1))
 
@@ -98,7 +109,7 @@ module _ (v : NumberedVersion) where
       let terms : after.terms ≡ before.terms + 1 = ap (λ (t : Total). t.terms) is in
       let fewer = here.terms in
       let cost = here.cost in
-      let more = cost-more v (of_value x) (values_of rest) in
+      let more : cost_on v (values_of ((x, z) ∷ rest)) ≡ suc (work_on v (of_value x) + cost_on v (values_of rest)) = cost-more v (of_value x) (values_of rest) in
       record {
         sum = ap (λ (t : Total). sum_on v t rest) is ∙ here.sum;
         terms = omega (arith, terms, fewer);
@@ -127,15 +138,7 @@ module _ (v : NumberedVersion) where
       rw total sums
     where
       leaf : (pair : ℕ × ℤ) → Contains (leaves_below v.model.space c) pair → IsLeafCell (system_of v.model) pair.0
-      leaf pair has = (All-contains (λ pair. IsLeafCell (system_of v.model) pair.0 × _) (leaves_below v.model.space c) pair ((formed v valid rules accepted).leaves_below c is_cell) has).0
-
-  some-components : (space : Layout) (c d : ℕ) → 0 < length (parts_at space c d) → component_cells space c d ≡ Some (with_components space c d (parts_at space c d))
-  unfolding component_cells
-  some-components space c d some = by (parts_at space c d) refl some
-    where
-      by : (parts : List (ℕ × ℤ)) → parts_at space c d ≡ parts → 0 < length parts → component_cells space c d ≡ Some (with_components space c d (parts_at space c d))
-      by [] is some = absurd (omega (arith, some))
-      by (part ∷ parts) is some = rw is refl
+      leaf pair has = (All-contains (λ pair. IsLeafCell (system_of v.model) pair.0 × ((system_of v.model).rank pair.0 ≤ (system_of v.model).rank c)) (leaves_below v.model.space c) pair ((formed v valid rules accepted).leaves_below c is_cell) has).0
 
   pub children-sum : (c d : ℕ) → 0 < length (parts_at v.model.space c d) → sum_on v no_terms (components_on v c d 0) ≡ children_on v c d
   unfolding children_on components_on sum_on system_of
@@ -166,11 +169,12 @@ module _ (v : NumberedVersion) where
 
   in_values : (pairs : List (ℕ × ℤ)) (Holds : ℕ → Type 0) → All (λ pair. Holds pair.0) pairs → (e : Ask) → Contains (values_of pairs) e → (x : ℕ) × (e ≡ of_value x) × Holds x
   in_values [] Holds all e has = absurd (none-there e has)
-  in_values (pair ∷ pairs) Holds all e has = at (front-or-behind (of_value pair.0) (values_of pairs) e has)
+  in_values (pair ∷ pairs) Holds all e has =
+      at (front-or-behind (of_value pair.0) (values_of pairs) e has) (λ later. in_values pairs Holds (All-tail (λ pair. Holds pair.0) pair pairs all) e later)
     where
-      at : (of_value pair.0 ≡ e) ⊎ Contains (values_of pairs) e → (x : ℕ) × (e ≡ of_value x) × Holds x
-      at (inl same) = (pair.0, sym same, All-head (λ pair. Holds pair.0) pair pairs all)
-      at (inr later) = in_values pairs Holds (All-tail (λ pair. Holds pair.0) pair pairs all) e later
+      at : (of_value pair.0 ≡ e) ⊎ Contains (values_of pairs) e → (Contains (values_of pairs) e → (x : ℕ) × (e ≡ of_value x) × Holds x) → (x : ℕ) × (e ≡ of_value x) × Holds x
+      at (inl same) rest = (pair.0, sym same, All-head (λ pair. Holds pair.0) pair pairs all)
+      at (inr later) rest = rest later
 
   values-less : (pairs : List (ℕ × ℤ)) (c : ℕ) → All (λ pair. depth_on v pair.0 < depth_on v c) pairs → (e : Ask) → Contains (values_of pairs) e → level_on v e < depth_on v c + depth_on v c
   values-less pairs c all e has =
@@ -241,12 +245,3 @@ module _ (v : NumberedVersion) where
   pub component-end : (c d i : ℕ) → length (parts_at v.model.space c d) ≤ i → components_on v c d i ≡ []
   unfolding components_on
   component-end c d i past = ap (λ (parts : List (ℕ × ℤ)). filter (λ pair. is_nonzero pair.1) (with_components v.model.space c d parts)) (drop-past i (parts_at v.model.space c d) past)
-    where
-      drop-past : (i : ℕ) (xs : List (ℕ × ℤ)) → length xs ≤ i → drop i xs ≡ []
-      drop-past i [] past = none i
-        where
-          none : (i : ℕ) → drop i [] ≡ []
-          none zero = refl
-          none (suc i) = refl
-      drop-past zero (x ∷ xs) past = absurd (omega (arith, past))
-      drop-past (suc i) (x ∷ xs) past = drop-past i xs (omega (arith, past))

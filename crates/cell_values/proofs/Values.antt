@@ -1,7 +1,5 @@
 -- The values on a version of an accepted model.
 use Rattle.std.proofs.Common.{◌≡◌, refl, sym, ◌∙◌, ap, subst, arith, ℕ, zero, suc, ◌+◌, ◌<◌, ◌≤◌, ◌⊎◌, inl, inr, Bool, true, false, ◌||◌, ℤ, List, [], ◌∷◌, drop, Option, Some, None, Contains, eqb}
-use Rattle.std.specs.List.{list_any}
-use Rattle.std.proofs.lemmas.Bool.{eq-eqb}
 use Rattle.accepted.specs.Checks.{IsAccepted}
 use Rattle.cell_store.specs.Entries.{cells_of, number_at}
 use Rattle.cell_versions.specs.Versions.{NumberedVersion}
@@ -11,7 +9,6 @@ use Rattle.cube_fixed.specs.Arithmetic.{zero_value}
 use Rattle.cube_space.specs.Cells.{IsSpace, IsCell, is_leaf_cell}
 use Rattle.dim_order.specs.Members.{is_among}
 use Rattle.feed_map.specs.FedCells.{AreFedCells}
-use Rattle.feed_map.proofs.Members.{none-there, front-or-behind}
 use Rattle.model_laws.proofs.Formed.{well_formed}
 use Rattle.model_laws.proofs.Ranks.{ranked}
 use Rattle.rule_dense.proofs.Rights.{right-ungoverned, right-governed}
@@ -25,27 +22,11 @@ use Rattle.rule_model.specs.Conditions.{AreRules}
 use Rattle.rule_model.specs.Governing.{rules_for, governing_from}
 use Rattle.rule_model.specs.System.{system_of, positions_of}
 use Rattle.sparse_sum.specs.Live.{is_live}
-use Rattle.sparse_sum.proofs.Nexts.{stored-none}
 use Rattle.stored_values.specs.Stored.{stored_in}
 use Rattle.stored_values.proofs.Stored.{base-leaf}
 use Rattle.cell_values.specs.Reading.{value_on}
 use Rattle.cell_values.specs.Inside.Questions.{base_on}
-
-pub among-there : (xs : List ℕ) (x : ℕ) → Contains xs x → is_among xs x ≡ true
-among-there [] x has = absurd (none-there x has)
-among-there (y ∷ xs) x has = at (front-or-behind y xs x has)
-  where
-    at : (y ≡ x) ⊎ Contains xs x → is_among (y ∷ xs) x ≡ true
-    at (inl same) = let one : eqb x y ≡ true = eq-eqb x y (sym same) in rw one refl
-    at (inr later) = let rest = among-there xs x later in by (eqb x y) refl rest
-      where
-        by : (b : Bool) → eqb x y ≡ b → is_among xs x ≡ true → is_among (y ∷ xs) x ≡ true
-        by true is rest = rw is refl
-        by false is rest = rw is rest
-
-pub neither : (a b : Bool) → (a || b) ≡ false → (a ≡ false) × (b ≡ false)
-neither true b no = cc
-neither false b no = (refl, no)
+use Rattle.cell_values.proofs.Members.{among-there, neither, stored-none}
 
 module _ (v : NumberedVersion) (valid : IsSpace v.model.space) (rules : AreRules v.model.space v.model.rules) (accepted : IsAccepted v.model) where
   pub formed : IsWellFormed (system_of v.model)

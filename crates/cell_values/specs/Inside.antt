@@ -1,4 +1,5 @@
 -- How values are worked out. No public clause cites it.
+pub mod Sound
 pub mod Questions
 pub mod Sums
 pub mod Frames

@@ -2,7 +2,8 @@ ghost use Rattle.std.specs.Prelude.{◌≡◌, Some, None, IfErr, IfOk};
 ghost use Rattle.cell_values.specs.Inside.Frames.{AreRight};
 ghost use Rattle.rule_evaluate.specs.Known.{listed};
 
-use crate::leaves::remembered;
+use crate::keeping::remembered;
+use crate::sound::is_sound;
 use crate::told::told;
 use cell_versions::Version;
 use cube_fixed::Value;
@@ -72,13 +73,14 @@ impl<'a, M: Memory> Refs<M> for Answers<'a> {
         if let Ok(value) = Given::new(self.known).value(&mut (), cell) {
             return Ok(value);
         }
-        match remembered(memory, cell) {
+        match remembered(self.version, memory, cell) {
             Some(value) => Ok(value),
             None => Err(Ask::Value(cell)),
         }
     }
 
     fn base(&self, memory: &mut M, cell: u64) -> Result<Value, Ask> {
+        is_sound(self.version);
         if self.version.model().space().is_leaf(cell) {
             return Ok(Value::Num(self.version.store().get(cell)));
         }

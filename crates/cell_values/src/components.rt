@@ -1,13 +1,16 @@
-ghost use Rattle.std.specs.Prelude.{◌≡◌, ◌+◌, ◌≤◌, ◌^◌, length, MatchOption, IfSome};
+ghost use Rattle.std.specs.Prelude.{◌≡◌, ◌+◌, ◌<◌, ◌≤◌, ◌^◌, length, MatchOption, IfSome};
 ghost use Rattle.cell_values.specs.Reading.{AreValuesOn, value_on};
 ghost use Rattle.cell_values.specs.Inside.Frames.{components_left};
-ghost use Rattle.cell_values.specs.Inside.Sums.{Stops, sum_on};
-ghost use Rattle.cube_fixed.specs.Total.{no_terms, value_of};
+ghost use Rattle.cell_values.specs.Inside.Questions.{components_on};
+ghost use Rattle.cell_values.specs.Inside.Sums.{IsSum, Stops, sum_on};
+ghost use Rattle.cube_fixed.specs.Total.{value_of};
 ghost use Rattle.cube_space.specs.Cells.{IsCell};
 ghost use Rattle.memo_cells.specs.Knowledge.{Grew};
+ghost use Rattle.rule_evaluate.specs.declared.ask.Ask.TheVariants.{Children as of_children};
+ghost use Rattle.rule_model.specs.Targets.{parts_at};
 
 use crate::frames::ComponentSum;
-use crate::leaves::remembered;
+use crate::keeping::remembered;
 use crate::told::told;
 use cell_versions::Version;
 use cube_fixed::{Sum, Value};
@@ -16,12 +19,15 @@ use rule_dense::{parts_at, with_element_at};
 
 impl ComponentSum {
     /// The sum over the components of a cell's element in a dimension, of which none is added yet.
-    pub(crate) fn new(cell: u64, dim: u32) -> ComponentSum
+    pub(crate) fn new(version: &Version, cell: u64, dim: u32) -> ComponentSum
+        requires cell { IsCell version.now.model.space cell }
+        requires some { 0 < length (parts_at version.now.model.space cell dim) }
         ensures cell { result.cell ≡ cell }
-        ensures dim { result.dim ≡ dim }
-        ensures sum { result.sum ≡ no_terms }
-        ensures next { result.next ≡ 0 }
+        ensures sum { IsSum version.now result.sum (components_left version.now result) (of_children cell dim) }
+        ensures all { components_left version.now result ≡ components_on version.now cell dim 0 }
     {
+        // there are so few components that their terms can be counted
+        let _parts = parts_at(version.model().space(), cell, dim as usize);
         ComponentSum {
             cell,
             dim,
@@ -77,6 +83,6 @@ fn cell_value<M: Memory>(version: &Version, memory: &mut M, cell: u64) -> Option
 {
     match told(version, cell) {
         Some(value) => Some(value),
-        None => remembered(memory, cell),
+        None => remembered(version, memory, cell),
     }
 }

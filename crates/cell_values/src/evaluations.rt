@@ -7,6 +7,7 @@ ghost use Rattle.rule_evaluate.specs.declared.ask.Ask.TheVariants.{Value as of_v
 
 use crate::answers::Answers;
 use crate::frames::Evaluation;
+use crate::sound::is_sound;
 use cell_versions::Version;
 use cube_fixed::{Steps, Value};
 use memo_cells::Memory;

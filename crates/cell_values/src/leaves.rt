@@ -1,25 +1,34 @@
-ghost use Rattle.std.specs.Prelude.{◌≡◌, true, ◌+◌, ◌≤◌, ◌^◌, length, All, None, IfSome, IsSome, MatchOption};
+ghost use Rattle.std.specs.Prelude.{◌≡◌, true, false, ◌+◌, ◌≤◌, ◌^◌, length, All, None, IfSome, IsSome, MatchOption};
 ghost use Rattle.cell_values.specs.Reading.{AreValuesOn, IsUngoverned, value_on};
 ghost use Rattle.cell_values.specs.Inside.Frames.{leaves_left};
-ghost use Rattle.cell_values.specs.Inside.Sums.{Advances, Stops, sum_on};
+ghost use Rattle.cell_values.specs.Inside.Questions.{leaves_on};
+ghost use Rattle.cell_values.specs.Inside.Sums.{IsSum, Stops, sum_on};
 ghost use Rattle.cube_fixed.specs.Total.{value_of};
 ghost use Rattle.cube_space.specs.Cells.{IsCell, is_leaf_cell};
-ghost use Rattle.memo_cells.specs.Knowledge.{Grew, IsNumber};
-ghost use Rattle.sparse_sum.specs.Walking.{begun};
+ghost use Rattle.memo_cells.specs.Knowledge.{Grew};
+ghost use Rattle.rule_evaluate.specs.declared.ask.Ask.TheVariants.{Base as of_base};
 ghost use Rattle.stored_values.specs.Stored.{stored_in};
 
 use crate::frames::LeafSum;
+use crate::keeping::remembered;
+use crate::sound::is_sound;
 use crate::told::governing_leaf;
 use cell_versions::Version;
 use cube_fixed::{Money, Value};
-use memo_cells::{Look, Memory};
-use sparse_sum::{Leaf, Walk};
+use memo_cells::Memory;
+use sparse_sum::{Leaf, Walk, live_cells_are_few};
 
 impl LeafSum {
-    /// The sum over the leaf cells below a cell, of which none is added yet.
-    pub(crate) fn new(cell: u64) -> LeafSum
-        ensures { result.walk ≡ begun cell }
+    /// The sum over the leaf cells below a consolidated cell, of which none is added yet.
+    pub(crate) fn new(version: &Version, cell: u64) -> LeafSum
+        requires cell { IsCell version.now.model.space cell }
+        requires consolidated { is_leaf_cell version.now.model.space cell ≡ false }
+        ensures cell { result.walk.cell ≡ cell }
+        ensures sum { IsSum version.now result.walk.total (leaves_left version.now result) (of_base cell) }
+        ensures all { leaves_left version.now result ≡ leaves_on version.now cell }
     {
+        is_sound(version);
+        live_cells_are_few();
         LeafSum {
             walk: Walk::at(cell),
             weight: 0,
@@ -41,6 +50,7 @@ impl LeafSum {
         ensures values { M.values memory.new ≡ M.values memory.old }
         ensures grew { Grew (M.known memory.old) (M.known memory.new) }
     {
+        is_sound(version);
         let model = version.model();
         let (space, weights) = (model.space(), model.weights());
         let (store, fed) = (version.store(), version.fed());
@@ -68,21 +78,10 @@ fn leaf_value<M: Memory>(version: &Version, memory: &mut M, leaf: &Leaf) -> Opti
     ensures values { M.values memory.new ≡ M.values memory.old }
     ensures grew { Grew (M.known memory.old) (M.known memory.new) }
 {
-    if governing_leaf(version.model(), leaf.cell).is_none() {
-        return Some(Value::Num(leaf.stored.unwrap_or(Money::ZERO)));
-    }
-    remembered(memory, leaf.cell)
-}
-
-/// The value that is remembered of a cell.
-pub(crate) fn remembered<M: Memory>(memory: &mut M, cell: u64) -> Option<Value>
-    requires { IsNumber cell }
-    ensures value { IfSome result (λ v. v ≡ M.values memory.old cell) }
-    ensures values { M.values memory.new ≡ M.values memory.old }
-    ensures grew { Grew (M.known memory.old) (M.known memory.new) }
-{
-    match memory.look(cell) {
-        Look::Value(value) => Some(value),
-        _ => None,
+    let model = version.model();
+    is_sound(version);
+    match governing_leaf(model, leaf.cell) {
+        None => Some(Value::Num(leaf.stored.unwrap_or(Money::ZERO))),
+        Some(_) => remembered(version, memory, leaf.cell),
     }
 }

@@ -10,11 +10,14 @@
 pub use read::value_of;
 
 mod answers;
+mod begins;
 mod components;
 mod evaluations;
 mod frames;
+mod keeping;
 mod leaves;
 mod machine;
 mod read;
+mod sound;
 mod told;
 mod turns;

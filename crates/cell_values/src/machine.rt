@@ -1,4 +1,4 @@
-ghost use Rattle.std.specs.Prelude.{◌≡◌, ◌<◌, [], None};
+ghost use Rattle.std.specs.Prelude.{◌≡◌, ◌<◌, []};
 ghost use Rattle.cell_values.specs.Reading.{value_on};
 ghost use Rattle.cell_values.specs.Inside.Frames.{IsWork, work_left};
 ghost use Rattle.cell_values.specs.Inside.Questions.{work_on};
@@ -6,7 +6,10 @@ ghost use Rattle.cube_space.specs.Cells.{IsCell};
 ghost use Rattle.rule_evaluate.specs.declared.ask.Ask.TheVariants.{Value as of_value};
 ghost use Rattle.solver.specs.Turns.{MatchOpened};
 
-use crate::frames::{ComponentSum, Evaluation, Frame, LeafSum};
+use crate::begins::{base_sum, component_sum, evaluation, total};
+use crate::frames::Frame;
+use crate::keeping::keep;
+use crate::sound::is_sound;
 use crate::turns::{give, go_on};
 use cell_versions::Version;
 use cube_fixed::{Steps, Value};
@@ -37,24 +40,8 @@ impl<'a> Reader<'a> {
         }
     }
 
-    /// The evaluation of a cell that this statement governs, of which no question is answered yet.
-    pub(crate) fn evaluation(&mut self, cell: u64, statement: u32) -> Evaluation
-        ensures cell { result.cell ≡ cell }
-        ensures statement { result.statement ≡ statement }
-        ensures known { result.known.items ≡ [] }
-        ensures asked { result.asked ≡ None }
-        ensures version { self.new.version.now ≡ self.old.version.now }
-    {
-        Evaluation {
-            cell,
-            statement,
-            known: self.list(),
-            asked: None,
-        }
-    }
-
-    // An empty list of answers.
-    fn list(&mut self) -> Vec<(Ask, Value)>
+    /// An empty list of answers.
+    pub(crate) fn list(&mut self) -> Vec<(Ask, Value)>
         ensures list { result.items ≡ [] }
         ensures version { self.new.version.now ≡ self.old.version.now }
     {
@@ -87,14 +74,17 @@ impl<'a> Reader<'a> {
             × (work_left self.old.version.now frame < work_on self.old.version.now (of_value cell))) }
         ensures version { self.new.version.now ≡ self.old.version.now }
     {
+        is_sound(self.version);
         let model = self.version.model();
         match governing(model, cell) {
-            Some(statement) => Opened::Begun(Frame::Evaluation(self.evaluation(cell, statement))),
+            Some(statement) => {
+                Opened::Begun(evaluation(self.version, cell, statement, self.list()))
+            }
             None => {
                 if model.space().is_leaf(cell) {
                     Opened::Known(Value::Num(self.version.store().get(cell)))
                 } else {
-                    Opened::Begun(Frame::Leaves(LeafSum::new(cell)))
+                    Opened::Begun(total(self.version, cell))
                 }
             }
         }
@@ -144,10 +134,8 @@ impl<'a, M: Memory, L: Ledger> Problem<M, Steps<L>> for Reader<'a> {
     fn open(&mut self, memory: &mut M, question: Ask) -> Result<Opened<Value, Frame>, AllocError> {
         match question {
             Ask::Value(cell) => Ok(self.begin(cell)),
-            Ask::Base(cell) => Ok(Opened::Begun(Frame::Leaves(LeafSum::new(cell)))),
-            Ask::Children(cell, dim) => Ok(Opened::Begun(Frame::Components(ComponentSum::new(
-                cell, dim,
-            )))),
+            Ask::Base(cell) => Ok(Opened::Begun(base_sum(self.version, cell))),
+            Ask::Children(cell, dim) => Ok(Opened::Begun(component_sum(self.version, cell, dim))),
         }
     }
 
@@ -170,7 +158,7 @@ impl<'a, M: Memory, L: Ledger> Problem<M, Steps<L>> for Reader<'a> {
         answer: &Value,
     ) -> Result<(), AllocError> {
         if let Ask::Value(cell) = question {
-            memory.keep(cell, answer);
+            keep(self.version, memory, cell, answer);
         }
         self.take_back(frame)
     }

@@ -8,8 +8,11 @@ ghost use Rattle.rule_model.specs.Governing.{governing_from};
 ghost use Rattle.rule_model.specs.System.{system_of};
 ghost use Rattle.stored_values.specs.Stored.{stored_in};
 
+use crate::begins::evaluation;
 use crate::frames::{Frame, LeafSum};
+use crate::keeping::keep;
 use crate::machine::Reader;
+use crate::sound::is_sound;
 use crate::told::told;
 use cell_versions::Version;
 use cube_fixed::{Steps, Value};
@@ -46,6 +49,7 @@ pub fn value_of<M: Memory, L: Ledger>(
     // afterwards it is kept
     ensures kept { IfOk result (λ _. IsWorkedOut version.now cell → IsKept (M.known memory.new) cell) }
 {
+    is_sound(version);
     let statement = governing(version.model(), cell);
     if statement.is_none() && version.model().space().is_leaf(cell) {
         return Ok(Value::Num(version.store().get(cell)));
@@ -81,7 +85,7 @@ fn governed_value<M: Memory, L: Ledger>(
         return Ok(value);
     }
     let mut reader = Reader::new(alloc, version);
-    let frame = Frame::Evaluation(reader.evaluation(cell, statement));
+    let frame = evaluation(version, cell, statement, reader.list());
     answer(&mut reader, memory, steps, alloc, frame, Ask::Value(cell))
 }
 
@@ -103,7 +107,7 @@ fn total<M: Memory, L: Ledger>(
     ensures grew { Grew (M.known memory.old) (M.known memory.new) }
     ensures plain { IsPlainTotal version.now cell → steps.new ≡ steps.old }
 {
-    let mut sum = LeafSum::new(cell);
+    let mut sum = LeafSum::new(version, cell);
     match sum.go_on(version, memory) {
         Some(leaf) => {
             let mut reader = Reader::new(alloc, version);
@@ -141,6 +145,6 @@ fn worked_out<M: Memory, L: Ledger>(
         Opened::Known(value) => value,
         Opened::Begun(frame) => answer(reader, memory, steps, alloc, frame, Ask::Value(cell))?,
     };
-    memory.keep(cell, &value);
+    keep(reader.version, memory, cell, &value);
     Ok(value)
 }

@@ -1,9 +1,13 @@
 ghost use Rattle.std.specs.Prelude.{◌≡◌, true, Some, None, if◌then◌else◌};
 ghost use Rattle.cell_values.specs.Reading.{value_on};
 ghost use Rattle.cell_values.specs.Inside.Answers.{is_told};
+ghost use Rattle.cell_store.specs.Entries.{cells_of};
 ghost use Rattle.cube_space.specs.Cells.{IsCell, is_leaf_cell};
+ghost use Rattle.dim_order.specs.Members.{is_among};
 ghost use Rattle.rule_model.specs.Governing.{governing_from};
+ghost use Rattle.sparse_sum.specs.Live.{is_live};
 
+use crate::sound::is_sound;
 use cell_store::CellSet;
 use cell_versions::Version;
 use cube_fixed::Value;
@@ -15,17 +19,34 @@ pub fn told(version: &Version, cell: u64) -> Option<Value>
     requires { IsCell version.now.model.space cell }
     ensures { result ≡ (if is_told version.now cell then Some (value_on version.now cell) else None) }
 {
+    is_sound(version);
     let model = version.model();
     if !model.space().is_leaf(cell) {
         return None;
     }
-    if governing_leaf(model, cell).is_none() {
-        return Some(Value::Num(version.store().get(cell)));
+    match governing_leaf(model, cell) {
+        None => Some(Value::Num(version.store().get(cell))),
+        Some(_) => {
+            if is_live(version, cell) {
+                None
+            } else {
+                Some(Value::ZERO)
+            }
+        }
     }
-    if version.store().has(cell) || version.fed().has(cell) {
-        return None;
-    }
-    Some(Value::ZERO)
+}
+
+// Whether a cell is stored or fed.
+fn is_live(version: &Version, cell: u64) -> bool
+    ensures { result ≡ is_live (cells_of version.now.stored) version.now.fed cell }
+{
+    has(version.store(), cell) || has(version.fed(), cell)
+}
+
+fn has<W: CellSet>(set: &W, cell: u64) -> bool
+    ensures { result ≡ is_among (W.cells set.now) cell }
+{
+    set.has(cell)
 }
 
 /// The statement that governs a leaf cell.

@@ -1,6 +1,6 @@
 -- The questions that come up while a value is worked out, their answers, and how much work each is.
-use Rattle.std.specs.Prelude.{◌≡◌, ℕ, suc, ◌+◌, ◌<◌, nat_lt, Bool, true, false, ℤ, List, ◌∷◌, ◌++◌, map, filter, length}
-use Rattle.std.specs.Prelude.{drop, sum_by}
+use Rattle.std.specs.Prelude.{◌≡◌, ℕ, suc, ◌+◌, ◌<◌, nat_lt, Bool, true, false, ℤ, List, [], ◌∷◌, ◌++◌, map, filter, length}
+use Rattle.std.specs.Prelude.{drop}
 use Rattle.std.specs.List.{list_all, range_with_len}
 use Rattle.cell_store.specs.Entries.{cells_of}
 use Rattle.cell_versions.specs.Versions.{NumberedVersion}
@@ -86,13 +86,17 @@ unfoldable pub asks_on : NumberedVersion → Ask → List Ask
 asks_on version question =
     filter (λ asked. nat_lt (level_on version asked) (level_on version question)) (leads_to version question)
 
--- the work on a question: its own, and that on each question which it may lead to
+-- the work on a question: its own, and that on each question which it may lead to, and one more for each
+abbrev pub cost_by : (Ask → ℕ) → List Ask → ℕ
+cost_by work [] = 0
+cost_by work (asked ∷ asks) = suc (work asked + cost_by work asks)
+
 abbrev pub work_by : NumberedVersion → (Ask → ℕ) → Ask → ℕ
-work_by version work question = suc (sum_by (λ asked. suc (work asked)) (asks_on version question))
+work_by version work question = suc (cost_by work (asks_on version question))
 
 unfoldable pub work_on : NumberedVersion → Ask → ℕ
 work_on version = table_by_rounds 0 (work_by version) (λ question. suc (level_on version question))
 
 -- the work on these questions, and one more for each
 unfoldable pub cost_on : NumberedVersion → List Ask → ℕ
-cost_on version asks = sum_by (λ asked. suc (work_on version asked)) asks
+cost_on version asks = cost_by (work_on version) asks
