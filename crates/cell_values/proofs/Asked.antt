@@ -1,6 +1,6 @@
 -- What the evaluation of a cell asks, and that it is answered rightly.
 use Rattle.std.proofs.Common.{◌≡◌, refl, sym, ◌∙◌, ap, subst, arith, ℕ, zero, suc, ◌+◌, ◌<◌, ◌≤◌, ltb, eqb, ◌⊎◌, inl, inr, Bool, true, false, not, ◌&&◌, ◌||◌, ℤ, pos, List, [], ◌∷◌, ◌++◌, drop, map, filter, length, Contains, Option, Some, None}
-use Rattle.std.specs.Prelude.{is_some, slice_get}
+use Rattle.std.specs.Prelude.{is_some, slice_get, Result, Ok, Err, IfOk, IfErr}
 use Rattle.std.specs.List.{All, list_all, range_with_len}
 use Rattle.std.specs.Option.{option_map_or}
 use Rattle.std.proofs.Math.Path.{fun_ext}
@@ -19,7 +19,7 @@ use Rattle.model_laws.proofs.Statements.{split}
 use Rattle.rule_dense.proofs.Ranges.{map-contains}
 use Rattle.rule_evaluate.specs.declared.ask.Ask.{Ask}
 use Rattle.rule_evaluate.specs.declared.ask.Ask.TheVariants.{Value as of_value, Base as of_base, Children as of_children}
-use Rattle.rule_evaluate.specs.Known.{Known, listed, is_same}
+use Rattle.rule_evaluate.specs.Known.{Known, listed, is_same, answer_in}
 use Rattle.rule_evaluate.specs.Readings.{Readings, readings_of}
 use Rattle.rule_evaluate.specs.Course.{MayRead, passes}
 use Rattle.rule_evaluate.proofs.AskedFacts.{all-pass}
@@ -232,3 +232,38 @@ module _ (at : ListedAnswers) (values : ℕ → Value) where
             (omega arith));
         unlisted = none;
       }
+
+-- ---- answers from the list
+
+pub answer-ok : (known : Known) (q : Ask) (a : Value) → answer_in known q ≡ Ok a → listed known q ≡ Some a
+unfolding answer_in
+answer-ok known q a is = by (listed known q) refl
+  where
+    by : (o : Option Value) → listed known q ≡ o → listed known q ≡ Some a
+    by None none = let here : Err q ≡ Ok a = rw none at is in absurd (cc)
+    by (Some b) some = let here : Ok b ≡ Ok a = rw some at is in let same : b ≡ a = cc in some ∙ ap Some same
+
+pub answer-err : (known : Known) (q e : Ask) → answer_in known q ≡ Err e → (listed known q ≡ None) × (q ≡ e)
+unfolding answer_in
+answer-err known q e is = by (listed known q) refl
+  where
+    by : (o : Option Value) → listed known q ≡ o → (listed known q ≡ None) × (q ≡ e)
+    by None none = let here : Err q ≡ Err e = rw none at is in let same : q ≡ e = cc in (none, same)
+    by (Some b) some = let here : Ok b ≡ Err e = rw some at is in absurd (cc)
+
+-- what is listed is right, and what isn't is missing
+pub right-or : (v : NumberedVersion) (known : Known) (q : Ask) (r : Result Value Ask) → AreRight v known → r ≡ answer_in known q → IfOk r (λ a. a ≡ answer_on v q)
+right-or v known q (Ok a) right is = listed-right v known right q a (answer-ok known q a (sym is))
+right-or v known q (Err e) right is = tt
+
+pub missing-or : (at : ListedAnswers) (q : Ask) (r : Result Value Ask) → r ≡ answer_in at.known q → (listed at.known q ≡ None → IsMissing at q) → IfErr r (λ e. IsMissing at e)
+missing-or at q (Ok a) is missing = tt
+missing-or at q (Err e) is missing = let both = answer-err at.known q e (sym is) in subst (IsMissing at) both.1 (missing both.0)
+
+pub answered-base : (terms : AnswerTerms) → (answered terms).base ≡ base_on terms.listed.version
+unfolding answered
+answered-base own = refl
+
+pub answered-children : (terms : AnswerTerms) → (answered terms).children ≡ children_on terms.listed.version
+unfolding answered
+answered-children own = refl

@@ -1,9 +1,12 @@
 -- How sums begin, and one step of them.
-use Rattle.std.proofs.Common.{◌≡◌, refl, sym, ◌∙◌, ap, subst, arith, ℕ, zero, suc, ◌+◌, ◌<◌, ◌≤◌, ◌^◌, leb, Bool, true, false, ℤ, pos, List, [], ◌∷◌, length, map, filter, Option, Some, None, drop}
+use Rattle.std.proofs.Common.{unsigned_abs, get_or, w64, to_z, of_z, ◌≡◌, refl, sym, ◌∙◌, ap, subst, arith, ℕ, zero, suc, ◌+◌, ◌<◌, ◌≤◌, ◌^◌, leb, Bool, true, false, ℤ, pos, List, [], ◌∷◌, length, map, filter, Option, Some, None, drop}
 use Rattle.std.specs.Prelude.{unwrap_or, is_some}
 use Rattle.std.specs.Option.{option_map_or}
 use Rattle.std.specs.List.{All}
+use Rattle.std.proofs.lemmas.Bool.Decides.{nat_tests}
+use Rattle.std.proofs.lemmas.Int.{to_z-of_z, ints}
 use Rattle.std.proofs.lemmas.List.{length-map}
+use mir.Val.{SFits}
 use Rattle.cell_store.specs.declared.entry.Entry.{Entry}
 use Rattle.cell_store.specs.Entries.{cells_of, number_at, most_cells}
 use Rattle.cell_versions.specs.Versions.{NumberedVersion}
@@ -29,12 +32,19 @@ use Rattle.cell_values.specs.declared.frames.LeafSum.{LeafSum}
 use Rattle.cell_values.specs.declared.frames.ComponentSum.{ComponentSum}
 use Rattle.cell_values.specs.Reading.{value_on}
 use Rattle.cell_values.specs.Inside.Questions.{answer_on, values_of, work_on, cost_on, components_on, leaves_on, is_grounded}
-use Rattle.cell_values.specs.Inside.Sums.{IsSum, sum_on}
+use Rattle.cell_values.specs.Inside.Sums.{IsSum, Advances, sum_on}
 use Rattle.cell_values.specs.Inside.Frames.{leaves_left, components_left}
 use Rattle.cell_values.specs.Inside.Sound.{IsSound}
 use Rattle.cell_values.proofs.Members.{filter-all}
 use Rattle.cell_values.proofs.Values.{ungoverned-value}
-use Rattle.cell_values.proofs.SumFacts.{base-sum, children-sum, base-work, total-work, children-work}
+use Rattle.cell_values.proofs.SumFacts.{base-sum, children-sum, base-work, total-work, children-work, advances-same, advances-term, component-zero, component-none, component-some}
+
+-- a weight fits its type
+pub word-is : (z : ℤ) → unsigned_abs z ≤ 1000000000 → to_z w64 (of_z w64 z) ≡ z
+word-is z small = to_z-of_z w64 z (fits z small)
+  where
+    fits : (z : ℤ) → unsigned_abs z ≤ 1000000000 → SFits w64 z
+    fits z small = omega (arith, ints, small)
 
 -- the number of a cell is small
 pub small-number : (v : NumberedVersion) (c : ℕ) → IsSound v → IsCell v.model.space c → IsNumber c
@@ -48,8 +58,11 @@ number-or (Some z) = refl
 pub stored-or : (entries : List Entry) (c : ℕ) (o : Option ℤ) → o ≡ stored_in entries c → Num (unwrap_or o (pos 0)) ≡ Num (number_at entries c)
 stored-or entries c o is = number-or o ∙ ap (λ (o : Option ℤ). option_map_or Num o zero_value) is ∙ stored-number entries c
 
+least : (n : ℕ) → leb 0 n ≡ true
+least n = grind (arith, nat_tests)
+
 pub left-all : (space : Layout) (stored fed : List ℕ) (c : ℕ) → left space stored fed (begun c) ≡ live_below space stored fed c
-left-all space stored fed c = filter-all (λ pair. leb 0 pair.0) (live_below space stored fed c) (λ pair has. refl)
+left-all space stored fed c = filter-all (λ pair. leb 0 pair.0) (live_below space stored fed c) (λ pair has. least pair.0)
 
 -- the same walk over the parts of a version
 pub left-same : (v : NumberedVersion) (space : Layout) (entries : List Entry) (fed : List ℕ) (w : Progress) → space ≡ v.model.space → entries ≡ v.stored → fed ≡ v.fed
@@ -60,7 +73,7 @@ left-same v space entries fed w a b c =
     ∙ ap (λ (fs : List ℕ). left v.model.space (cells_of v.stored) fs w) c
 
 module _ (v : NumberedVersion) (c : ℕ) where
-  all-leaves : live_below v.model.space (cells_of v.stored) v.fed c ≡ leaves_on v c
+  pub all-leaves : live_below v.model.space (cells_of v.stored) v.fed c ≡ leaves_on v c
   unfolding leaves_on
   all-leaves = refl
 
@@ -135,3 +148,51 @@ module _ (v : NumberedVersion) (c : ℕ) where
       let less = children-work v c d grounded in
       let same : cost_on v (values_of (components_left v s)) ≡ cost_on v (values_of (components_on v c d 0)) = ap (λ (pairs : List (ℕ × ℤ)). cost_on v (values_of pairs)) whole in
       omega (arith, less, same)
+
+-- ---- components
+
+pub zero-word : (z : ℤ) → unsigned_abs z ≤ 1000000 → of_z w64 z ≡ 0 → z ≡ pos 0
+zero-word z small is = sym (word-is z (omega (arith, small))) ∙ ap (to_z w64) is
+
+pub word-zero : (z : ℤ) → (of_z w64 z ≡ 0 → ⊥) → z ≡ pos 0 → ⊥
+word-zero z other none = other (ap (of_z w64) none)
+
+module _ (v : NumberedVersion) (first : Total) (all : List (ℕ × ℤ)) (s : ComponentSum) (P : List (ℕ × ℤ)) (are : P ≡ parts_at v.model.space s.cell s.dim) (low : s.next < length P)
+    (so_far : Advances v first all s.sum (components_left v s)) where
+  abbrev part : ℕ × ℤ
+  part = get_or P s.next (0, pos 0)
+
+  abbrev own : ℕ × ℤ
+  own = get_or (parts_at v.model.space s.cell s.dim) s.next (0, pos 0)
+
+  within : s.next < length (parts_at v.model.space s.cell s.dim)
+  within = subst (λ (ps : List (ℕ × ℤ)). s.next < length ps) are low
+
+  same : part ≡ own
+  same = ap (λ (ps : List (ℕ × ℤ)). get_or ps s.next (0, pos 0)) are
+
+  later : components_on v s.cell s.dim (suc s.next) ≡ components_on v s.cell s.dim (s.next + 1)
+  later = ap (components_on v s.cell s.dim) (let e : suc s.next ≡ s.next + 1 = omega arith in e)
+
+  pub skip-zero : part.1 ≡ pos 0 → Advances v first all s.sum (components_on v s.cell s.dim (s.next + 1))
+  skip-zero none =
+      advances-same v first all s.sum s.sum (components_left v s) (components_on v s.cell s.dim (s.next + 1)) so_far
+      (component-zero v s.cell s.dim s.next within (0, pos 0) (ap (λ (p : ℕ × ℤ). p.1) (sym same) ∙ none) ∙ later) refl
+
+  pub skip-none : with_element_at v.model.space s.cell s.dim part.0 ≡ None → Advances v first all s.sum (components_on v s.cell s.dim (s.next + 1))
+  skip-none none =
+      advances-same v first all s.sum s.sum (components_left v s) (components_on v s.cell s.dim (s.next + 1)) so_far
+      (component-none v s.cell s.dim s.next within (0, pos 0) (ap (λ (p : ℕ × ℤ). with_element_at v.model.space s.cell s.dim p.0) (sym same) ∙ none) ∙ later) refl
+
+  module _ (x : ℕ) (is : with_element_at v.model.space s.cell s.dim part.0 ≡ Some x) (counts : part.1 ≡ pos 0 → ⊥) where
+    next : components_left v s ≡ (x, part.1) ∷ components_on v s.cell s.dim (s.next + 1)
+    next =
+        component-some v s.cell s.dim s.next within (0, pos 0) x (ap (λ (p : ℕ × ℤ). with_element_at v.model.space s.cell s.dim p.0) (sym same) ∙ is) (λ none. counts (ap (λ (p : ℕ × ℤ). p.1) same ∙ none))
+        ∙ ap (λ (p : ℕ × ℤ). (x, p.1) ∷ components_on v s.cell s.dim (suc s.next)) (sym same)
+        ∙ ap (λ (pairs : List (ℕ × ℤ)). (x, part.1) ∷ pairs) later
+
+    pub step-some : (after : Total) → after ≡ with_term s.sum part.1 (value_on v x) → Advances v first all after (components_on v s.cell s.dim (s.next + 1))
+    step-some after term = advances-term v first all s.sum after (components_left v s) (components_on v s.cell s.dim (s.next + 1)) x part.1 so_far next term
+
+    pub stop-some : Advances v first all s.sum ((x, part.1) ∷ components_on v s.cell s.dim (s.next + 1))
+    stop-some = advances-same v first all s.sum s.sum (components_left v s) ((x, part.1) ∷ components_on v s.cell s.dim (s.next + 1)) so_far next refl

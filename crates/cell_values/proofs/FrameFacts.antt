@@ -160,3 +160,15 @@ module _ (v : NumberedVersion) where
         ),
         omega (arith, cost),
       )
+
+  -- how large the weights are that frames wait with
+  pub leaves-size : (s : LeafSum) (q next : Ask) → IsWaiting v (frame.Leaves s) q next → unsigned_abs s.weight ≤ max_weight_product
+  leaves-size s q next (is_cell, (size, rest)) = size
+
+  pub components-size : (s : ComponentSum) (q next : Ask) → IsWaiting v (frame.Components s) q next → unsigned_abs s.weight ≤ max_weight_product
+  components-size s q next (is_cell, (size, rest)) = size
+
+  -- the first turn of a sum, and the answer to its question
+  pub leaves-first : (s after : LeafSum) (q : Ask) (x : ℕ) → IsWork v (frame.Leaves s) q → after.walk.cell ≡ s.walk.cell
+      → Stops v s.walk.total (leaves_left v s) after.walk.total after.weight (leaves_left v after) x → IsWaiting v (frame.Leaves after) q (of_value x)
+  leaves-first s after q x work cell stops = let (asked, waiting, less) = leaves-wait s after q x work cell stops in waiting

@@ -17,7 +17,7 @@ use Rattle.cell_values.specs.Inside.Answers.{is_told}
 use Rattle.cell_values.proofs.Values.{ungoverned-value, leaf-base, quiet-value}
 
 module _ (v : NumberedVersion) (c : ℕ) where
-  abbrev telling : Option Value
+  abbrev pub telling : Option Value
   telling = if is_told v c then Some (value_on v c) else None
 
   pub told-none : is_told v c ≡ false → None ≡ telling
@@ -58,3 +58,17 @@ module _ (v : NumberedVersion) (c : ℕ) where
 
     pub quiet-some : (k : ℕ) → governing_from v.model c 0 ≡ Some k → AreFedCells v.model v.stored v.fed → is_live (cells_of v.stored) v.fed c ≡ false → Some zero_value ≡ telling
     quiet-some k governs are quiet = told-some zero_value (quiet-on k governs quiet) (sym (quiet-value v valid rules accepted c is_cell are leaf quiet))
+
+pub telling-some : (v : NumberedVersion) (c : ℕ) (a : Value) → telling v c ≡ Some a → (is_told v c ≡ true) × (a ≡ value_on v c)
+telling-some v c a is = by (is_told v c) refl
+  where
+    by : (b : Bool) → is_told v c ≡ b → (is_told v c ≡ true) × (a ≡ value_on v c)
+    by true on = let here : Some (value_on v c) ≡ Some a = rw on at is in let same : value_on v c ≡ a = cc in (on, sym same)
+    by false off = let here : None ≡ Some a = rw off at is in absurd (cc)
+
+pub telling-not : (v : NumberedVersion) (c : ℕ) → ((a : Value) → telling v c ≡ Some a → ⊥) → is_told v c ≡ false
+telling-not v c none = by (is_told v c) refl
+  where
+    by : (b : Bool) → is_told v c ≡ b → is_told v c ≡ false
+    by true on = absurd (none (value_on v c) (rw on refl))
+    by false off = off

@@ -33,6 +33,7 @@ impl Evaluation {
         ensures values { M.values memory.new ≡ M.values memory.old }
         ensures grew { Grew (M.known memory.old) (M.known memory.new) }
     {
+        is_sound(version);
         let answers = Answers::new(version, &self.known, self.cell);
         evaluate(
             version.model(),

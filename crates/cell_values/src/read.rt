@@ -1,4 +1,4 @@
-ghost use Rattle.std.specs.Prelude.{◌≡◌, ◌⊎◌, false, Some, IfOk};
+ghost use Rattle.std.specs.Prelude.{◌≡◌, ◌⊎◌, false, Some, IfOk, IfSome, IfNone, IsSome};
 ghost use Rattle.cell_values.specs.Reading.{AreValuesOn, IsKept, IsPlainTotal, IsUngoverned, IsWorkedOut, MayCount};
 ghost use Rattle.cell_values.specs.Reading.{value_on};
 ghost use Rattle.cube_space.specs.Cells.{IsCell, is_leaf_cell};
@@ -50,19 +50,58 @@ pub fn value_of<M: Memory, L: Ledger>(
     ensures kept { IfOk result (λ _. IsWorkedOut version.now cell → IsKept (M.known memory.new) cell) }
 {
     is_sound(version);
-    let statement = governing(version.model(), cell);
-    if statement.is_none() && version.model().space().is_leaf(cell) {
-        return Ok(Value::Num(version.store().get(cell)));
+    if let Some(value) = stored_value(version, cell) {
+        return Ok(value);
     }
     if let Look::Value(value) = memory.look(cell) {
         return Ok(value);
     }
-    let value = match statement {
-        Some(statement) => governed_value(alloc, version, memory, cell, statement, steps)?,
-        None => total(alloc, version, memory, cell, steps)?,
-    };
+    let value = computed(alloc, version, memory, cell, steps)?;
     memory.keep(cell, &value);
     Ok(value)
+}
+
+// What is stored in a leaf cell that no statement governs. None of any other cell.
+fn stored_value(version: &Version, cell: u64) -> Option<Value>
+    requires { IsCell version.now.model.space cell }
+    ensures value { IfSome result (λ v. v ≡ value_on version.now cell) }
+    ensures input { IsSome result → IsWorkedOut version.now cell → ⊥ }
+    ensures other { IfNone result (IsWorkedOut version.now cell) }
+{
+    is_sound(version);
+    let model = version.model();
+    match governing(model, cell) {
+        Some(_) => None,
+        None => {
+            if model.space().is_leaf(cell) {
+                Some(Value::Num(version.store().get(cell)))
+            } else {
+                None
+            }
+        }
+    }
+}
+
+// The value of a governed or consolidated cell.
+fn computed<M: Memory, L: Ledger>(
+    alloc: Global,
+    version: &Version,
+    memory: &mut M,
+    cell: u64,
+    steps: &mut Steps<L>,
+) -> Result<Value, AllocError>
+    requires cell { IsCell version.now.model.space cell }
+    requires worked { IsWorkedOut version.now cell }
+    requires values { AreValuesOn version.now (M.values memory.old) }
+    ensures value { IfOk result (λ v. v ≡ value_on version.now cell) }
+    ensures values { M.values memory.new ≡ M.values memory.old }
+    ensures grew { Grew (M.known memory.old) (M.known memory.new) }
+    ensures plain { IsPlainTotal version.now cell → steps.new ≡ steps.old }
+{
+    match governing(version.model(), cell) {
+        Some(statement) => governed_value(alloc, version, memory, cell, statement, steps),
+        None => total(alloc, version, memory, cell, steps),
+    }
 }
 
 // The value of a cell that this statement governs.
@@ -107,6 +146,7 @@ fn total<M: Memory, L: Ledger>(
     ensures grew { Grew (M.known memory.old) (M.known memory.new) }
     ensures plain { IsPlainTotal version.now cell → steps.new ≡ steps.old }
 {
+    is_sound(version);
     let mut sum = LeafSum::new(version, cell);
     match sum.go_on(version, memory) {
         Some(leaf) => {

@@ -6,9 +6,10 @@ use Rattle.cell_values.proofs.begins.total.Goals as goal
 
 pub returns-clause-work : goal.returns-clause-work
 returns-clause-work c =
-    let v = c.args.version.now in
-    (subst (IsCell v.model.space) (sym c.new.ensures.cell) c.requires.cell,
-    total-sum v c.args.cell c.new.result.walk.total (leaves_left v c.new.result) c.is_sound.ensures c.requires.cell c.requires.ungoverned c.new.ensures.sum)
+    let v = c.args.version.now in (
+      subst (IsCell v.model.space) (sym c.new.ensures.cell) c.requires.cell,
+      total-sum v c.args.cell c.new.result.walk.total (leaves_left v c.new.result) c.is_sound.ensures c.requires.cell c.requires.ungoverned c.new.ensures.sum,
+    )
 
 pub returns-clause-left : goal.returns-clause-left
 returns-clause-left c = total-left c.args.version.now c.args.cell c.new.result c.is_sound.ensures c.requires.cell c.requires.consolidated c.new.ensures.all

@@ -1,15 +1,16 @@
-use Rattle.std.proofs.Common.{rules, ◌≡◌, true, false, ◌+◌, ◌≤◌, ◌^◌, length, All, None, IfSome, IsSome, MatchOption, ℕ, ◌-◌, ◌*◌, ◌<◌, ◌/◌, ◌%◌, Bool, nat_eq, nat_lt, List, [], ◌∷◌, ◌++◌, slice_index_or, slice_set, bit_and, bit_or, Fits, w8, w32, w64, Bor, MutBor}
-use Rattle.cell_values.specs.Reading.{AreValuesOn, IsUngoverned, value_on}
-use Rattle.cell_values.specs.Inside.Frames.{leaves_left}
-use Rattle.cell_values.specs.Inside.Questions.{leaves_on}
-use Rattle.cell_values.specs.Inside.Sums.{IsSum, Stops, sum_on}
-use Rattle.cube_fixed.specs.Total.{value_of}
-use Rattle.cube_space.specs.Cells.{IsCell, is_leaf_cell}
-use Rattle.memo_cells.specs.Knowledge.{Grew}
-use Rattle.rule_evaluate.specs.declared.ask.Ask.TheVariants.{Base as of_base}
-use Rattle.stored_values.specs.Stored.{stored_in}
+use Rattle.std.proofs.Common.{◌≡◌, sym, ap, ◌∙◌, ℤ}
+use Rattle.cube_fixed.specs.declared.value.Value.TheVariants.{Num}
+use Rattle.rule_model.specs.BoundModel.{BoundModel}
+use Rattle.rule_model.specs.Governing.{governing_from}
+use Rattle.cell_values.proofs.BeginFacts.{stored-or}
+use Rattle.cell_values.proofs.Telling.{stored-value}
 use Rattle.cell_values.proofs.leaves.leaf_value.Goals as goal
 
--- src/leaves.rt:71:1
 pub returns-in-None-clause-value : goal.returns-in-None-clause-value
-returns-in-None-clause-value g c = ?
+returns-in-None-clause-value g c =
+    let sound = c.is_sound.ensures in
+    let v = c.args.version.now in
+    let cell = c.args.leaf.now.cell in
+    let none = sym (c.governing_leaf.ensures ∙ ap (λ (m : BoundModel). governing_from m cell 0) c.model-model.ensures.model) ∙ c.in-None.is in
+    ap (λ (z : ℤ). Num z) c.unwrap_or.ensures ∙ stored-or v.stored cell c.args.leaf.now.stored c.requires.stored
+    ∙ sym (stored-value v cell sound.space sound.rules sound.accepted c.requires.cell c.requires.leaf none)

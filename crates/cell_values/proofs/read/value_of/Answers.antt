@@ -1,21 +1,33 @@
-use Rattle.std.proofs.Common.{rules, ◌≡◌, ◌⊎◌, false, Some, IfOk, ℕ, ◌+◌, ◌-◌, ◌*◌, ◌<◌, ◌≤◌, length, ◌/◌, ◌%◌, Bool, true, nat_eq, nat_lt, List, [], ◌∷◌, ◌++◌, slice_index_or, slice_set, bit_and, bit_or, Fits, w8, w32, w64, Bor, MutBor}
-use Rattle.cell_values.specs.Reading.{AreValuesOn, IsKept, IsPlainTotal, IsUngoverned, IsWorkedOut, MayCount, value_on}
-use Rattle.cube_space.specs.Cells.{IsCell, is_leaf_cell}
-use Rattle.memo_cells.specs.Knowledge.{Grew, Knows}
-use Rattle.rule_laws.specs.RuleSystem.{dense_value}
-use Rattle.rule_model.specs.Governing.{governing_from}
-use Rattle.rule_model.specs.System.{system_of}
-use Rattle.stored_values.specs.Stored.{stored_in}
+use Rattle.std.proofs.Common.{◌≡◌, sym, ap, ◌∙◌, inl, inr, ℕ}
+use Rattle.cube_fixed.specs.declared.value.Value.{Value}
+use Rattle.cell_values.specs.Reading.{value_on}
+use Rattle.cell_values.specs.Inside.Growth.{grew-later}
+use Rattle.cell_values.proofs.ReadFacts.{no-value, may-count, not-known, is-kept}
 use Rattle.cell_values.proofs.read.value_of.Goals as goal
 
--- src/read.rt:55:9
-pub returns-then-is_leaf-clause-value : goal.returns-then-is_leaf-clause-value
-returns-then-is_leaf-clause-value g c = ?
+pub returns-in-Some-clause-value : goal.returns-in-Some-clause-value
+unfolding value_on
+returns-in-Some-clause-value g c = c.in-Some.ensures.value
 
--- src/read.rt:58:9
 pub returns-in-Value-clause-value : goal.returns-in-Value-clause-value
-returns-in-Value-clause-value g c = ?
+unfolding value_on
+returns-in-Value-clause-value g c = c.in-Value.ensures.value ∙ ap (λ (values : ℕ → Value). values c.args.cell) c.requires.values
 
--- src/read.rt:30:1
 pub returns : goal.returns
-returns g c = ?
+unfolding value_on
+returns g c =
+    let before = g.M.Memory.known c.args.memory.now in
+    let mid = g.M.Memory.known c.look.new.self in
+    let worked = g.M.Memory.known c.computed.new.memory in
+    let after = g.M.Memory.known c.keep.new.self in
+    let none = no-value c.look.result c.in_default-look.not-Value in
+    let grown = grew-later mid worked after c.computed.ensures.grew c.keep.ensures.grew in
+    record {
+      value = c.in_ok-value.ensures.value;
+      values = c.keep.ensures.values ∙ c.computed.ensures.values ∙ c.look.ensures.values;
+      grew = grew-later before mid after c.look.ensures.grew grown;
+      known = λ knows. absurd (not-known before c.args.cell c.look.result c.look.ensures.known none knows);
+      counted = inr (may-count before mid after c.args.cell c.look.result c.look.ensures.learned grown none);
+      plain = λ plain. c.computed.ensures.plain plain;
+      kept = λ worked. is-kept after c.args.cell c.keep.result c.keep.ensures.learned;
+    }

@@ -1,25 +1,35 @@
-use Rattle.std.proofs.Common.{rules, ◌≡◌, true, Some, None, if◌then◌else◌, ℕ, ◌+◌, ◌-◌, ◌*◌, ◌<◌, ◌≤◌, length, ◌/◌, ◌%◌, Bool, false, nat_eq, nat_lt, List, [], ◌∷◌, ◌++◌, slice_index_or, slice_set, bit_and, bit_or, Fits, w8, w32, w64, Bor, MutBor}
-use Rattle.cell_values.specs.Reading.{value_on}
-use Rattle.cell_values.specs.Inside.Answers.{is_told}
-use Rattle.cell_store.specs.Entries.{cells_of}
-use Rattle.cube_space.specs.Cells.{IsCell, is_leaf_cell}
-use Rattle.dim_order.specs.Members.{is_among}
+use Rattle.std.proofs.Common.{◌≡◌, sym, ap, ◌∙◌, ℕ, ℤ, Bool, true, false, Option, Some, None, List}
+use Rattle.cell_store.specs.declared.entry.Entry.{Entry}
+use Rattle.cell_store.specs.Entries.{number_at}
+use Rattle.cube_fixed.specs.declared.value.Value.{Value}
+use Rattle.cube_fixed.specs.declared.value.Value.TheVariants.{Num}
+use Rattle.cube_space.specs.Cells.{is_leaf_cell}
+use Rattle.cube_space.specs.Layout.{Layout}
+use Rattle.rule_model.specs.BoundModel.{BoundModel}
 use Rattle.rule_model.specs.Governing.{governing_from}
-use Rattle.sparse_sum.specs.Live.{is_live}
+use Rattle.cell_values.proofs.Telling.{consolidated-none, live-none, plain-some, quiet-some}
 use Rattle.cell_values.proofs.told.told.Goals as goal
 
--- src/told.rt:25:9
 pub returns-then-not-is_leaf : goal.returns-then-not-is_leaf
-returns-then-not-is_leaf c = ?
+returns-then-not-is_leaf c =
+    let leaf : c.is_leaf.result ≡ is_leaf_cell c.args.version.now.model.space c.args.cell = c.is_leaf.ensures ∙ ap (λ (s : Layout). is_leaf_cell s c.args.cell) (c.space.ensures.space ∙ ap (λ (m : BoundModel). m.space) c.model-model.ensures.model) in
+    consolidated-none c.args.version.now c.args.cell (sym leaf ∙ c.if-not-is_leaf.true)
 
--- src/told.rt:18:1
 pub returns-in-None : goal.returns-in-None
-returns-in-None c = ?
+returns-in-None c =
+    let sound = c.is_sound.ensures in
+    let leaf : c.is_leaf.result ≡ is_leaf_cell c.args.version.now.model.space c.args.cell = c.is_leaf.ensures ∙ ap (λ (s : Layout). is_leaf_cell s c.args.cell) (c.space.ensures.space ∙ ap (λ (m : BoundModel). m.space) c.model-model.ensures.model) in
+    let none = sym (c.governing_leaf.ensures ∙ ap (λ (m : BoundModel). governing_from m c.args.cell 0) c.model-model.ensures.model) ∙ c.in-None.is in
+    ap (λ (z : ℤ). Some (Num z)) (c.get.ensures ∙ ap (λ (es : List Entry). number_at es c.args.cell) c.store.ensures.stored)
+    ∙ plain-some c.args.version.now c.args.cell sound.space sound.rules sound.accepted c.requires (sym leaf ∙ c.if-not-is_leaf.false) none
 
--- src/told.rt:18:1
 pub returns-then-is_live : goal.returns-then-is_live
-returns-then-is_live c = ?
+returns-then-is_live c =
+    live-none c.args.version.now c.args.cell _ (sym (c.governing_leaf.ensures ∙ ap (λ (m : BoundModel). governing_from m c.args.cell 0) c.model-model.ensures.model) ∙ c.in-Some.is) (sym c.is_live.ensures ∙ c.if-is_live.true)
 
--- src/told.rt:18:1
 pub returns-else-is_live : goal.returns-else-is_live
-returns-else-is_live c = ?
+returns-else-is_live c =
+    let sound = c.is_sound.ensures in
+    let leaf : c.is_leaf.result ≡ is_leaf_cell c.args.version.now.model.space c.args.cell = c.is_leaf.ensures ∙ ap (λ (s : Layout). is_leaf_cell s c.args.cell) (c.space.ensures.space ∙ ap (λ (m : BoundModel). m.space) c.model-model.ensures.model) in
+    quiet-some c.args.version.now c.args.cell sound.space sound.rules sound.accepted c.requires (sym leaf ∙ c.if-not-is_leaf.false) _
+    (sym (c.governing_leaf.ensures ∙ ap (λ (m : BoundModel). governing_from m c.args.cell 0) c.model-model.ensures.model) ∙ c.in-Some.is) sound.fed (sym c.is_live.ensures ∙ c.if-is_live.false)

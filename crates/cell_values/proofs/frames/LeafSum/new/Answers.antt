@@ -1,19 +1,16 @@
-use Rattle.std.proofs.Common.{rules, ◌≡◌, true, false, ◌+◌, ◌≤◌, ◌^◌, length, All, None, IfSome, IsSome, MatchOption, ℕ, ◌-◌, ◌*◌, ◌<◌, ◌/◌, ◌%◌, Bool, nat_eq, nat_lt, List, [], ◌∷◌, ◌++◌, slice_index_or, slice_set, bit_and, bit_or, Fits, w8, w32, w64, Bor, MutBor}
-use Rattle.cell_values.specs.Reading.{AreValuesOn, IsUngoverned, value_on}
-use Rattle.cell_values.specs.Inside.Frames.{leaves_left}
-use Rattle.cell_values.specs.Inside.Questions.{leaves_on}
-use Rattle.cell_values.specs.Inside.Sums.{IsSum, Stops, sum_on}
-use Rattle.cube_fixed.specs.Total.{value_of}
-use Rattle.cube_space.specs.Cells.{IsCell, is_leaf_cell}
-use Rattle.memo_cells.specs.Knowledge.{Grew}
-use Rattle.rule_evaluate.specs.declared.ask.Ask.TheVariants.{Base as of_base}
-use Rattle.stored_values.specs.Stored.{stored_in}
+use Rattle.cell_store.specs.Entries.{cells_of}
+use Rattle.cell_values.proofs.BeginFacts.{leaves-all, leaves-begin}
+use Rattle.cell_values.specs.declared.frames.LeafSum.{LeafSum}
 use Rattle.cell_values.proofs.frames.LeafSum.new.Goals as goal
+use Rattle.std.proofs.Common.{pos}
 
--- src/leaves.rt:23:5
 pub returns-clause-sum : goal.returns-clause-sum
-returns-clause-sum c = ?
+returns-clause-sum c =
+    let v = c.args.version.now in
+    let s : LeafSum = record { walk = c.at.result; weight = pos 0 } in
+    leaves-begin v c.args.cell s c.is_sound.ensures c.requires.cell c.requires.consolidated (c.live_cells_are_few.ensures v.model.space (cells_of v.stored) v.fed c.args.cell) c.at.ensures
 
--- src/leaves.rt:23:5
 pub returns-clause-all : goal.returns-clause-all
-returns-clause-all c = ?
+returns-clause-all c =
+    let s : LeafSum = record { walk = c.at.result; weight = pos 0 } in
+    leaves-all c.args.version.now c.args.cell s c.at.ensures
