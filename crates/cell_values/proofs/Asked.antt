@@ -1,12 +1,11 @@
 -- What the evaluation of a cell asks, and that it is answered rightly.
-use Rattle.std.proofs.Common.{◌≡◌, refl, sym, ◌∙◌, ap, subst, arith, ℕ, zero, suc, ◌+◌, ◌<◌, ◌≤◌, ltb, eqb, ◌⊎◌, inl, inr, Bool, true, false, not, ◌&&◌, ◌||◌, ℤ, pos, List, [], ◌∷◌, ◌++◌, drop, map, filter, length, Contains, Option, Some, None}
+use Rattle.std.proofs.Common.{◌≡◌, refl, sym, ◌∙◌, ap, subst, arith, ℕ, suc, ◌<◌, ltb, eqb, Bool, true, false, ◌&&◌, ◌||◌, ℤ, List, [], ◌∷◌, ◌++◌, drop, map, length, Contains, Option, Some, None}
 use Rattle.std.specs.Prelude.{is_some, slice_get, Result, Ok, Err, IfOk, IfErr}
-use Rattle.std.specs.List.{All, list_all, range_with_len}
-use Rattle.std.specs.Option.{option_map_or}
+use Rattle.std.specs.List.{range_with_len}
 use Rattle.std.proofs.Math.Path.{fun_ext}
 use Rattle.std.proofs.lemmas.Bool.{lt-ltb, ltb-true, and_parts, eq-eqb, eqb-true}
 use Rattle.std.proofs.lemmas.Option.{slice_get_within}
-use Rattle.std.proofs.lemmas.List.Elements.{All-head, All-tail, All-contains, All-push, Contains-append_left, Contains-append_right}
+use Rattle.std.proofs.lemmas.List.Elements.{All-head, All-tail, All-contains, Contains-append_left, Contains-append_right}
 use Rattle.accepted.specs.Checks.{IsAccepted}
 use Rattle.cell_versions.specs.Versions.{NumberedVersion}
 use Rattle.cube_fixed.specs.declared.value.Value.{Value}
@@ -14,27 +13,27 @@ use Rattle.cube_space.specs.Cells.{IsSpace, IsCell, cube_of, size_of, is_leaf_ce
 use Rattle.cube_space.specs.Layout.{axes}
 use Rattle.dim_core.specs.Outline.{Outline}
 use Rattle.dim_weights.specs.Table.{is_nonzero}
-use Rattle.feed_map.proofs.Members.{none-there, at-front, behind, front-or-behind}
+use Rattle.feed_map.proofs.Members.{at-front, behind}
 use Rattle.model_laws.proofs.Statements.{split}
 use Rattle.rule_dense.proofs.Ranges.{map-contains}
 use Rattle.rule_evaluate.specs.declared.ask.Ask.{Ask}
 use Rattle.rule_evaluate.specs.declared.ask.Ask.TheVariants.{Value as of_value, Base as of_base, Children as of_children}
 use Rattle.rule_evaluate.specs.Known.{Known, listed, is_same, answer_in}
-use Rattle.rule_evaluate.specs.Readings.{Readings, readings_of}
+use Rattle.rule_evaluate.specs.Readings.{readings_of}
 use Rattle.rule_evaluate.specs.Course.{MayRead, passes}
 use Rattle.rule_evaluate.proofs.AskedFacts.{all-pass}
 use Rattle.rule_laws.specs.declared.formula.Formula.{Formula}
 use Rattle.rule_laws.specs.Meaning.{Precedent, Named, Components, precedents}
 use Rattle.rule_laws.specs.Order.{IsCellOf, HasPrecedent, Throughout, IsOrderedRule}
-use Rattle.rule_laws.specs.RuleSystem.{Rule, part_at, part_of, applies, depth}
+use Rattle.rule_laws.specs.RuleSystem.{Rule, part_at, depth}
 use Rattle.rule_laws.proofs.SystemFacts.{part_at-given}
 use Rattle.rule_model.specs.Conditions.{AreRules}
 use Rattle.rule_model.specs.Governing.{rules_for}
 use Rattle.rule_model.specs.System.{system_of}
-use Rattle.rule_model.specs.Targets.{parts_at, with_components, component_cells, element_at}
+use Rattle.rule_model.specs.Targets.{parts_at, with_components, component_cells}
 use Rattle.stored_values.specs.Stored.{stored_in}
 use Rattle.cell_values.specs.Reading.{value_on}
-use Rattle.cell_values.specs.Inside.Questions.{IsAsked, answer_on, base_on, children_on, leads_to, level_on, asks_on, depth_on, components_on, is_grounded}
+use Rattle.cell_values.specs.Inside.Questions.{answer_on, base_on, children_on, asks_on, depth_on, components_on, is_grounded}
 use Rattle.cell_values.specs.Inside.Frames.{AreRight}
 use Rattle.cell_values.specs.Inside.Answers.{ListedAnswers, AnswerTerms, is_told, answered_value, answered, may_ask, IsMissing}
 use Rattle.cell_values.proofs.Members.{filter-member, drop-member, all-pass as every-passes, nonzero-counts}

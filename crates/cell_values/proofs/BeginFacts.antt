@@ -1,26 +1,22 @@
 -- How sums begin, and one step of them.
-use Rattle.std.proofs.Common.{unsigned_abs, get_or, w64, to_z, of_z, ◌≡◌, refl, sym, ◌∙◌, ap, subst, arith, ℕ, zero, suc, ◌+◌, ◌<◌, ◌≤◌, ◌^◌, leb, Bool, true, false, ℤ, pos, List, [], ◌∷◌, length, map, filter, Option, Some, None, drop}
-use Rattle.std.specs.Prelude.{unwrap_or, is_some}
+use Rattle.std.proofs.Common.{unsigned_abs, get_or, w64, to_z, of_z, ◌≡◌, refl, sym, ◌∙◌, ap, subst, arith, ℕ, suc, ◌+◌, ◌<◌, ◌≤◌, leb, Bool, true, false, ℤ, pos, List, [], ◌∷◌, length, filter, Option, Some, None}
+use Rattle.std.specs.Prelude.{unwrap_or}
 use Rattle.std.specs.Option.{option_map_or}
-use Rattle.std.specs.List.{All}
 use Rattle.std.proofs.lemmas.Bool.Decides.{nat_tests}
 use Rattle.std.proofs.lemmas.Int.{to_z-of_z, ints}
 use Rattle.std.proofs.lemmas.List.{length-map}
 use mir.Val.{SFits}
 use Rattle.cell_store.specs.declared.entry.Entry.{Entry}
-use Rattle.cell_store.specs.Entries.{cells_of, number_at, most_cells}
+use Rattle.cell_store.specs.Entries.{cells_of, number_at}
 use Rattle.cell_versions.specs.Versions.{NumberedVersion}
-use Rattle.cube_fixed.specs.declared.value.Value.{Value}
 use Rattle.cube_fixed.specs.declared.value.Value.TheVariants.{Num}
 use Rattle.cube_fixed.specs.Arithmetic.{zero_value}
-use Rattle.cube_fixed.specs.Total.{Total, no_terms, with_term, value_of}
-use Rattle.cube_space.specs.Cells.{IsSpace, IsCell, is_leaf_cell}
+use Rattle.cube_fixed.specs.Total.{Total, no_terms, with_term}
+use Rattle.cube_space.specs.Cells.{IsCell, is_leaf_cell}
 use Rattle.cube_space.specs.Layout.{Layout}
 use Rattle.dim_core.specs.Outline.{most_components}
 use Rattle.dim_weights.specs.Table.{is_nonzero}
-use Rattle.feed_map.specs.FedCells.{most_fed}
 use Rattle.memo_cells.specs.Knowledge.{IsNumber}
-use Rattle.rule_evaluate.specs.declared.ask.Ask.{Ask}
 use Rattle.rule_evaluate.specs.declared.ask.Ask.TheVariants.{Value as of_value, Base as of_base, Children as of_children}
 use Rattle.rule_model.specs.Governing.{governing_from}
 use Rattle.rule_model.specs.Targets.{parts_at, with_components, with_element_at}
@@ -31,7 +27,7 @@ use Rattle.stored_values.proofs.Stored.{stored-number}
 use Rattle.cell_values.specs.declared.frames.LeafSum.{LeafSum}
 use Rattle.cell_values.specs.declared.frames.ComponentSum.{ComponentSum}
 use Rattle.cell_values.specs.Reading.{value_on}
-use Rattle.cell_values.specs.Inside.Questions.{answer_on, values_of, work_on, cost_on, components_on, leaves_on, is_grounded}
+use Rattle.cell_values.specs.Inside.Questions.{values_of, work_on, cost_on, components_on, leaves_on, is_grounded}
 use Rattle.cell_values.specs.Inside.Sums.{IsSum, Advances, sum_on}
 use Rattle.cell_values.specs.Inside.Frames.{leaves_left, components_left}
 use Rattle.cell_values.specs.Inside.Sound.{IsSound}

@@ -1,28 +1,26 @@
 -- One turn of the work on a question, and how it begins.
-use Rattle.std.proofs.Common.{◌≡◌, refl, sym, ◌∙◌, ap, subst, arith, ℕ, suc, ◌+◌, ◌<◌, ◌≤◌, ◌^◌, Bool, true, false, ℤ, List, [], ◌∷◌, ◌++◌, length, Option, Some, None}
+use Rattle.std.proofs.Common.{◌≡◌, refl, sym, ◌∙◌, ap, subst, arith, ℕ, suc, ◌+◌, ◌<◌, ◌≤◌, ◌^◌, ℤ, List, [], ◌∷◌, ◌++◌, Option, Some, None}
 use Rattle.std.specs.Prelude.{unsigned_abs}
-use Rattle.std.specs.List.{All}
 use Rattle.std.proofs.lemmas.List.Elements.{All-nil, All-push}
 use Rattle.cell_store.specs.Entries.{cells_of}
 use Rattle.cell_versions.specs.Versions.{NumberedVersion}
 use Rattle.cube_fixed.specs.declared.value.Value.{Value}
-use Rattle.cube_fixed.specs.Total.{Total, no_terms, with_term, value_of}
+use Rattle.cube_fixed.specs.Total.{Total, with_term, value_of}
 use Rattle.cube_space.specs.Cells.{IsCell}
 use Rattle.rule_evaluate.specs.declared.ask.Ask.{Ask}
-use Rattle.rule_evaluate.specs.declared.ask.Ask.TheVariants.{Value as of_value, Base as of_base, Children as of_children}
-use Rattle.rule_evaluate.specs.Known.{Known, listed}
+use Rattle.rule_evaluate.specs.declared.ask.Ask.TheVariants.{Value as of_value}
+use Rattle.rule_evaluate.specs.Known.{Known}
 use Rattle.rule_model.specs.Governing.{governing_from}
 use Rattle.rule_model.specs.Weights.{max_weight_product}
 use Rattle.sparse_sum.specs.Live.{live_from}
-use Rattle.sparse_sum.specs.Walking.{left}
 use Rattle.cell_values.specs.declared.frames.Evaluation.{Evaluation}
 use Rattle.cell_values.specs.declared.frames.LeafSum.{LeafSum}
 use Rattle.cell_values.specs.declared.frames.ComponentSum.{ComponentSum}
 use Rattle.cell_values.specs.declared.frames.Frame.{Frame}
 use Rattle.cell_values.specs.declared.frames.Frame.TheVariants as frame
 use Rattle.cell_values.specs.Reading.{value_on}
-use Rattle.cell_values.specs.Inside.Questions.{IsAsked, answer_on, asks_on, values_of, work_on, cost_on, components_on, leaves_on}
-use Rattle.cell_values.specs.Inside.Sums.{sum_on, IsSum, Advances, Stops}
+use Rattle.cell_values.specs.Inside.Questions.{IsAsked, answer_on, values_of, work_on, cost_on, components_on}
+use Rattle.cell_values.specs.Inside.Sums.{sum_on, IsSum, Stops}
 use Rattle.cell_values.specs.Inside.Frames.{AreRight, open_asks, leaves_left, components_left, IsEvaluating, IsWork, IsSumBut, IsWaiting, work_left}
 use Rattle.cell_values.specs.Inside.Answers.{IsMissing}
 use Rattle.cell_values.proofs.Work.{cost-more, evaluation-begins, evaluation-asks, evaluation-goes_on}

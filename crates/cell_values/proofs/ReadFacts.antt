@@ -1,5 +1,5 @@
 -- What a memory tells of a read.
-use Rattle.std.proofs.Common.{◌≡◌, refl, sym, ◌∙◌, ap, subst, arith, ℕ, ◌+◌, ◌<◌, ◌≤◌, ◌⊎◌, inl, inr, Bool, true, false, Option, Some, None}
+use Rattle.std.proofs.Common.{◌≡◌, refl, sym, ◌∙◌, subst, arith, ℕ, inl, inr, true, false, Some, None}
 use Rattle.std.specs.Prelude.{IsSome}
 use Rattle.cell_versions.specs.Versions.{NumberedVersion}
 use Rattle.cube_fixed.specs.declared.value.Value.{Value}
@@ -8,7 +8,7 @@ use Rattle.memo_cells.specs.declared.answers.Look.{Look}
 use Rattle.memo_cells.specs.declared.answers.Look.TheVariants as look
 use Rattle.memo_cells.specs.declared.answers.Kept.{Kept}
 use Rattle.memo_cells.specs.declared.answers.Kept.TheVariants as kept
-use Rattle.memo_cells.specs.Knowledge.{Knowledge, Knows, NamesOther, Grew, LooksAt, KeepsAt, is_value}
+use Rattle.memo_cells.specs.Knowledge.{Knowledge, Knows, Grew, LooksAt, KeepsAt, is_value}
 use Rattle.rule_model.specs.Governing.{governing_from}
 use Rattle.cell_values.specs.Reading.{IsWorkedOut, IsKept, MayCount, IsPlainTotal}
 

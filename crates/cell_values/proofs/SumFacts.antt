@@ -1,8 +1,6 @@
 -- Sums that go on: what they come to, and that they end.
-use Rattle.std.proofs.Common.{◌≡◌, refl, sym, ◌∙◌, ap, subst, arith, ℕ, zero, suc, ◌+◌, ◌<◌, ◌≤◌, leb, ltb, ◌⊎◌, inl, inr, Bool, true, false, not, ◌||◌, ℤ, pos, ◌+ℤ◌, ◌*ℤ◌, List, [], ◌∷◌, drop, map, filter, length, Contains, Option, Some, None, get_or}
-use Rattle.std.specs.Prelude.{fold, unsigned_abs, slice_get}
-use Rattle.std.specs.List.{All, list_all, filter_map}
-use Rattle.std.specs.Option.{option_map, option_map_or}
+use Rattle.std.proofs.Common.{◌≡◌, refl, sym, ◌∙◌, ap, subst, arith, ℕ, zero, suc, ◌+◌, ◌<◌, ◌≤◌, leb, ltb, ◌⊎◌, inl, inr, Bool, true, false, ◌||◌, ℤ, pos, ◌+ℤ◌, List, [], ◌∷◌, drop, filter, length, Contains, Option, Some, None, get_or}
+use Rattle.std.specs.List.{All, list_all}
 use Rattle.std.proofs.lemmas.Bool.{ltb-true, and_parts}
 use Rattle.std.proofs.Math.Seq.{drop-cons}
 use Rattle.std.proofs.lemmas.Int.{ints}
@@ -28,10 +26,10 @@ use Rattle.rule_model.specs.System.{system_of}
 use Rattle.rule_model.specs.Targets.{component_cells, parts_at, with_components, with_element_at}
 use Rattle.rule_model.specs.Weights.{leaves_below}
 use Rattle.sparse_sum.specs.Live.{is_live, live_below}
-use Rattle.sparse_sum.specs.Walking.{Progress, begun, left}
+use Rattle.sparse_sum.specs.Walking.{Progress, left}
 use Rattle.cell_values.specs.Reading.{value_on, IsUngoverned}
-use Rattle.cell_values.specs.Inside.Questions.{IsAsked, values_of, leads_to, level_on, work_on, cost_on, depth_on, base_on, children_on, leaves_on, components_on, is_grounded}
-use Rattle.cell_values.specs.Inside.Sums.{sum_on, IsSum, Advances, Stops}
+use Rattle.cell_values.specs.Inside.Questions.{values_of, level_on, work_on, cost_on, depth_on, base_on, children_on, leaves_on, components_on, is_grounded}
+use Rattle.cell_values.specs.Inside.Sums.{sum_on, Advances}
 use Rattle.cell_values.proofs.Members.{nonzero-is, counts-nonzero}
 use Rattle.cell_values.proofs.Values.{formed, quiet-value}
 use Rattle.cell_values.proofs.Work.{cost-more, work-all, work-less}

@@ -1,6 +1,6 @@
 -- Values that are told without work.
-use Rattle.std.proofs.Common.{◌≡◌, refl, sym, ◌∙◌, ap, ℕ, Bool, true, false, not, ◌&&◌, ◌||◌, List, [], Option, Some, None}
-use Rattle.std.specs.Prelude.{is_none, if◌then◌else◌}
+use Rattle.std.proofs.Common.{◌≡◌, refl, sym, ◌∙◌, ap, ℕ, Bool, true, false, Option, Some, None}
+use Rattle.std.specs.Prelude.{if◌then◌else◌}
 use Rattle.accepted.specs.Checks.{IsAccepted}
 use Rattle.cell_store.specs.Entries.{cells_of, number_at}
 use Rattle.cell_versions.specs.Versions.{NumberedVersion}

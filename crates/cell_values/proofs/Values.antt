@@ -1,9 +1,8 @@
 -- The values on a version of an accepted model.
-use Rattle.std.proofs.Common.{◌≡◌, refl, sym, ◌∙◌, ap, subst, arith, ℕ, zero, suc, ◌+◌, ◌<◌, ◌≤◌, ◌⊎◌, inl, inr, Bool, true, false, ◌||◌, ℤ, List, [], ◌∷◌, drop, Option, Some, None, Contains, eqb}
+use Rattle.std.proofs.Common.{◌≡◌, sym, ◌∙◌, ℕ, true, false, drop, Some, None}
 use Rattle.accepted.specs.Checks.{IsAccepted}
 use Rattle.cell_store.specs.Entries.{cells_of, number_at}
 use Rattle.cell_versions.specs.Versions.{NumberedVersion}
-use Rattle.cube_fixed.specs.declared.value.Value.{Value}
 use Rattle.cube_fixed.specs.declared.value.Value.TheVariants.{Num}
 use Rattle.cube_fixed.specs.Arithmetic.{zero_value}
 use Rattle.cube_space.specs.Cells.{IsSpace, IsCell, is_leaf_cell}

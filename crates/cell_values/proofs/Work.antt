@@ -1,22 +1,19 @@
 -- How much work a question is, and how much each state of the work has left.
-use Rattle.std.proofs.Common.{◌≡◌, refl, sym, ◌∙◌, ap, subst, arith, ℕ, zero, suc, ◌+◌, ◌<◌, ◌≤◌, ltb, ◌⊎◌, inl, inr, Bool, true, false, not, ◌&&◌, ℤ, List, [], ◌∷◌, ◌++◌, map, filter, Option, eqb, Some, None}
+use Rattle.std.proofs.Common.{◌≡◌, refl, sym, ◌∙◌, ap, arith, ℕ, suc, ◌+◌, ◌<◌, ◌≤◌, ltb, ◌⊎◌, inl, inr, Bool, true, false, List, [], ◌∷◌, ◌++◌, filter, eqb, Some, None}
 use Rattle.std.specs.Prelude.{is_some}
 use Rattle.std.specs.List.{Contains}
-use Rattle.std.specs.Option.{option_map_or}
 use Rattle.std.proofs.lemmas.Bool.{lt-ltb, ltb-true, eq-eqb}
-use Rattle.std.proofs.lemmas.Bool.Decides.{nat_tests}
-use Rattle.equations.specs.Equations.{IsGrounded, Outlasts, table_by_rounds}
+use Rattle.equations.specs.Equations.{IsGrounded, Outlasts}
 use Rattle.equations.proofs.RoundsFacts.{table_by_rounds-solves}
 use Rattle.cell_versions.specs.Versions.{NumberedVersion}
 use Rattle.cube_fixed.specs.declared.value.Value.{Value}
 use Rattle.rule_evaluate.specs.declared.ask.Ask.{Ask}
 use Rattle.rule_evaluate.specs.declared.ask.Ask.TheVariants.{Value as of_value, Base as of_base, Children as of_children}
 use Rattle.rule_evaluate.specs.Known.{Known, listed, is_same}
-use Rattle.cell_values.specs.Inside.Questions.{values_of, leads_to, level_on, asks_on, cost_by, work_by, work_on, cost_on, depth_on, leaves_on, components_on, is_grounded}
+use Rattle.cell_values.specs.Inside.Questions.{leads_to, level_on, asks_on, cost_by, work_by, work_on, cost_on}
 use Rattle.cell_values.specs.Inside.Frames.{is_open, open_asks}
-use Rattle.cell_values.specs.Inside.Answers.{IsMissing}
 use Rattle.cell_values.proofs.Members.{filter-contains, filter-all}
-use Rattle.feed_map.proofs.Members.{none-there, at-front, behind, front-or-behind}
+use Rattle.feed_map.proofs.Members.{none-there, front-or-behind}
 
 -- ---- costs of filtered lists
 

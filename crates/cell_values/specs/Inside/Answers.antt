@@ -1,10 +1,10 @@
 -- What the evaluation of a cell is answered.
-use Rattle.std.specs.Prelude.{◌≡◌, ℕ, ◌<◌, ◌==◌, nat_lt, Bool, true, false, not, ◌&&◌, ◌||◌, None, is_some, is_none}
+use Rattle.std.specs.Prelude.{◌≡◌, ℕ, ◌==◌, nat_lt, Bool, not, ◌&&◌, ◌||◌, None, is_some, is_none}
 use Rattle.std.specs.Prelude.{length, Contains, if◌then◌else◌}
 use Rattle.cell_store.specs.Entries.{cells_of}
 use Rattle.cell_versions.specs.Versions.{NumberedVersion}
 use Rattle.cube_fixed.specs.declared.value.Value.{Value}
-use Rattle.cube_space.specs.Cells.{IsCell, is_leaf_cell, size_of}
+use Rattle.cube_space.specs.Cells.{is_leaf_cell, size_of}
 use Rattle.rule_evaluate.specs.declared.ask.Ask.{Ask}
 use Rattle.rule_evaluate.specs.declared.ask.Ask.TheVariants.{Value as of_value, Base as of_base}
 use Rattle.rule_evaluate.specs.declared.ask.Ask.TheVariants.{Children as of_children}

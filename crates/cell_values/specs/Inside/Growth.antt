@@ -1,5 +1,4 @@
 -- What is known only grows.
-use Rattle.std.specs.Prelude.{ℕ}
 use Rattle.std.proofs.Math.Nat.{le_trans, le_refl}
 use Rattle.memo_cells.specs.Knowledge.{Knowledge, Grew}
 

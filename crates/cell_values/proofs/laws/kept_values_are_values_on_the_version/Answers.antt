@@ -1,4 +1,4 @@
-use Rattle.std.proofs.Common.{◌≡◌, ◌∙◌, ap, ℕ, List}
+use Rattle.std.proofs.Common.{◌∙◌, ap, List}
 use Rattle.cell_store.specs.declared.entry.Entry.{Entry}
 use Rattle.memo_cells.specs.Values.{cell_value}
 use Rattle.rule_laws.specs.RuleSystem.{dense_value}

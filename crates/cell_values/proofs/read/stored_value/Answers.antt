@@ -1,4 +1,4 @@
-use Rattle.std.proofs.Common.{◌≡◌, sym, ap, ◌∙◌, ℤ, List}
+use Rattle.std.proofs.Common.{sym, ap, ◌∙◌, ℤ, List}
 use Rattle.cell_store.specs.declared.entry.Entry.{Entry}
 use Rattle.cell_store.specs.Entries.{number_at}
 use Rattle.cube_fixed.specs.declared.value.Value.TheVariants.{Num}

@@ -1,4 +1,4 @@
-use Rattle.std.proofs.Common.{◌≡◌, sym, ap, ◌∙◌, inl, inr, ℕ}
+use Rattle.std.proofs.Common.{ap, ◌∙◌, inr, ℕ}
 use Rattle.cube_fixed.specs.declared.value.Value.{Value}
 use Rattle.cell_values.specs.Reading.{value_on}
 use Rattle.cell_values.specs.Inside.Growth.{grew-later}

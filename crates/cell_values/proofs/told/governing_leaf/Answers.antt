@@ -1,4 +1,4 @@
-use Rattle.std.proofs.Common.{◌≡◌, sym, ap, ◌∙◌, take, true}
+use Rattle.std.proofs.Common.{ap, ◌∙◌, take}
 use Rattle.cube_space.specs.Cells.{is_place, cube_of, elements_of}
 use Rattle.cube_space.proofs.Places.{cell-place, is_place-from}
 use Rattle.cell_values.proofs.told.governing_leaf.Goals as goal

@@ -1,4 +1,4 @@
-use Rattle.std.proofs.Common.{◌≡◌, ◌≤◌, ◌∙◌, refl, sym, ap, subst, ℤ, None}
+use Rattle.std.proofs.Common.{◌≤◌, ◌∙◌, refl, sym, ap, subst, ℤ, None}
 use Rattle.cube_fixed.specs.Total.{with_term}
 use Rattle.cell_values.specs.declared.frames.Evaluation.{Evaluation}
 use Rattle.cell_values.specs.declared.frames.LeafSum.{LeafSum}

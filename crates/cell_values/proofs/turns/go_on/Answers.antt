@@ -1,8 +1,6 @@
-use Rattle.std.proofs.Common.{◌≡◌, ◌+◌, ◌<◌, sym, subst, Some}
-use Rattle.rule_evaluate.specs.declared.ask.Ask.{Ask}
+use Rattle.std.proofs.Common.{◌+◌, ◌<◌, sym, subst, Some}
 use Rattle.rule_evaluate.specs.declared.ask.Ask.TheVariants.{Value as of_value}
 use Rattle.cell_values.specs.declared.frames.Frame.{Frame}
-use Rattle.cell_values.specs.declared.frames.Frame.TheVariants as frame
 use Rattle.cell_values.specs.Inside.Frames.{IsWork, work_left, open_asks, leaves_left, components_left}
 use Rattle.cell_values.specs.Inside.Questions.{cost_on, values_of, work_on}
 use Rattle.cell_values.proofs.FrameFacts.{evaluation-waits, leaves-wait, components-wait}

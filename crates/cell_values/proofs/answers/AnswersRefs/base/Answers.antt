@@ -1,14 +1,14 @@
-use Rattle.std.proofs.Common.{◌≡◌, sym, ap, ◌∙◌, subst, ℕ, ℤ, List, false, Some, None, IfOk, IfErr}
+use Rattle.std.proofs.Common.{◌≡◌, sym, ap, ◌∙◌, subst, ℕ, ℤ, List, false, IfOk}
 use Rattle.cell_store.specs.declared.entry.Entry.{Entry}
 use Rattle.cell_store.specs.Entries.{number_at}
 use Rattle.cube_fixed.specs.declared.value.Value.{Value}
 use Rattle.cube_fixed.specs.declared.value.Value.TheVariants.{Num}
 use Rattle.cube_space.specs.Cells.{IsCell, is_leaf_cell}
 use Rattle.cube_space.specs.Layout.{Layout}
-use Rattle.rule_evaluate.specs.Known.{Known, listed, answer_in}
+use Rattle.rule_evaluate.specs.Known.{Known, answer_in}
 use Rattle.rule_evaluate.specs.declared.ask.Ask.TheVariants.{Base as of_base}
 use Rattle.rule_model.specs.BoundModel.{BoundModel}
-use Rattle.cell_values.specs.Inside.Answers.{ListedAnswers, AnswerTerms, answered, may_ask, IsMissing}
+use Rattle.cell_values.specs.Inside.Answers.{ListedAnswers, answered}
 use Rattle.cell_values.specs.Inside.Questions.{base_on}
 use Rattle.cell_values.proofs.Asked.{right-or, missing-or, answered-base, base-missing, base-within}
 use Rattle.cell_values.proofs.Values.{leaf-base}

@@ -1,8 +1,8 @@
-use Rattle.std.proofs.Common.{◌≡◌, sym, ap, ◌∙◌, subst, ℕ, IfOk, IfErr}
+use Rattle.std.proofs.Common.{◌≡◌, sym, ap, ◌∙◌, subst, ℕ, IfOk}
 use Rattle.cube_fixed.specs.declared.value.Value.{Value}
-use Rattle.rule_evaluate.specs.Known.{Known, listed, answer_in}
+use Rattle.rule_evaluate.specs.Known.{Known, answer_in}
 use Rattle.rule_evaluate.specs.declared.ask.Ask.TheVariants.{Children as of_children}
-use Rattle.cell_values.specs.Inside.Answers.{ListedAnswers, AnswerTerms, answered, may_ask, IsMissing}
+use Rattle.cell_values.specs.Inside.Answers.{ListedAnswers, answered}
 use Rattle.cell_values.specs.Inside.Questions.{children_on}
 use Rattle.cell_values.proofs.Asked.{right-or, missing-or, answered-children, children-missing}
 use Rattle.cell_values.proofs.answers.AnswersRefs.children.Goals as goal

@@ -1,8 +1,7 @@
-use Rattle.std.proofs.Common.{◌≡◌, sym, ap, ◌∙◌, subst, ℕ, Some, Ok, Err}
-use Rattle.cube_fixed.specs.declared.value.Value.{Value}
+use Rattle.std.proofs.Common.{◌≡◌, sym, ap, ◌∙◌, subst, Some}
 use Rattle.rule_evaluate.specs.Known.{Known, listed, answer_in}
 use Rattle.rule_evaluate.specs.declared.ask.Ask.TheVariants.{Value as of_value}
-use Rattle.cell_values.specs.Inside.Answers.{ListedAnswers, AnswerTerms, answered, IsMissing}
+use Rattle.cell_values.specs.Inside.Answers.{ListedAnswers, AnswerTerms, answered}
 use Rattle.cell_values.proofs.Asked.{value-told, value-listed, value-remembered, listed-right, answer-ok, answer-err, value-missing}
 use Rattle.cell_values.proofs.Telling.{telling-some, telling-not}
 use Rattle.cell_values.proofs.answers.AnswersRefs.value.Goals as goal

@@ -1,11 +1,10 @@
-use Rattle.std.proofs.Common.{◌≡◌, ◌∙◌, ◌≤◌, ◌<◌, ◌+◌, arith, refl, sym, ap, subst, ℕ, ℤ, pos, get_or, w64, of_z, to_z, unsigned_abs, List, ◌∷◌, [], length, Option, None, Some}
-use Rattle.cube_fixed.specs.Total.{Total, with_term, value_of}
+use Rattle.std.proofs.Common.{◌≡◌, ◌∙◌, ◌≤◌, ◌+◌, arith, refl, sym, ap, subst, ℕ, ℤ, pos, get_or, unsigned_abs, List, length, Option, None, Some}
+use Rattle.cube_fixed.specs.Total.{with_term}
 use Rattle.cube_space.specs.Cells.{IsCell}
 use Rattle.cube_space.specs.Layout.{Layout}
 use Rattle.rule_model.specs.BoundModel.{BoundModel}
 use Rattle.rule_model.specs.Targets.{parts_at, with_element_at}
 use Rattle.rule_model.specs.Weights.{max_weight_product}
-use Rattle.cell_values.specs.Reading.{value_on}
 use Rattle.cell_values.specs.Inside.Frames.{components_left}
 use Rattle.cell_values.specs.Inside.Questions.{components_on}
 use Rattle.cell_values.specs.Inside.Sums.{Stops}

@@ -1,4 +1,4 @@
-use Rattle.std.proofs.Common.{◌≡◌, ◌≤◌, ◌∙◌, refl, ap, subst, pos, ℕ, ℤ, List, length}
+use Rattle.std.proofs.Common.{◌≤◌, ◌∙◌, refl, ap, subst, pos, ℕ, ℤ, List, length}
 use Rattle.cube_space.specs.Layout.{Layout}
 use Rattle.dim_core.specs.Outline.{most_components}
 use Rattle.rule_model.specs.BoundModel.{BoundModel}

@@ -1,8 +1,6 @@
-use Rattle.std.proofs.Common.{◌≡◌, ◌∙◌, sym, ap, subst, ℕ, true, drop, IfOk, List}
-use Rattle.cell_versions.specs.Versions.{NumberedVersion}
+use Rattle.std.proofs.Common.{◌≡◌, ◌∙◌, sym, ap, subst, true, drop, IfOk}
 use Rattle.cube_fixed.specs.declared.value.Value.{Value}
 use Rattle.rule_evaluate.specs.Course.{passes}
-use Rattle.rule_evaluate.specs.Known.{Known}
 use Rattle.rule_evaluate.specs.Readings.{Readings, statements_value}
 use Rattle.rule_model.specs.BoundModel.{BoundModel}
 use Rattle.rule_model.specs.Governing.{rules_for, formula_at}
@@ -10,7 +8,7 @@ use Rattle.rule_model.specs.System.{system_of}
 use Rattle.std.specs.Prelude.{IsSome}
 use Rattle.rule_dense.proofs.Rights.{part-there}
 use Rattle.cell_values.specs.Reading.{value_on}
-use Rattle.cell_values.specs.Inside.Answers.{ListedAnswers, AnswerTerms, answered, may_ask}
+use Rattle.cell_values.specs.Inside.Answers.{ListedAnswers, answered, may_ask}
 use Rattle.cell_values.proofs.Asked.{evaluation-passes, answered-is}
 use Rattle.cell_values.proofs.Values.{governed-value}
 use Rattle.cell_values.proofs.frames.Evaluation.attempt.Goals as goal

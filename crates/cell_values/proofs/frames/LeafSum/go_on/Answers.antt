@@ -1,4 +1,4 @@
-use Rattle.std.proofs.Common.{◌≡◌, ◌∙◌, ◌≤◌, refl, sym, ap, subst, ℕ, ℤ, true, false, List, ◌∷◌, []}
+use Rattle.std.proofs.Common.{◌≡◌, ◌∙◌, sym, ap, subst, ℕ, ℤ, List, ◌∷◌}
 use Rattle.std.specs.List.{All}
 use Rattle.std.proofs.lemmas.List.Elements.{All-head}
 use Rattle.cell_store.specs.Entries.{cells_of}
@@ -7,7 +7,7 @@ use Rattle.cube_space.specs.Cells.{IsCell}
 use Rattle.rule_model.specs.BoundModel.{BoundModel}
 use Rattle.sparse_sum.specs.Live.{live_from}
 use Rattle.sparse_sum.specs.Walking.{left}
-use Rattle.cell_values.specs.Reading.{IsUngoverned, value_on}
+use Rattle.cell_values.specs.Reading.{IsUngoverned}
 use Rattle.cell_values.specs.Inside.Frames.{leaves_left}
 use Rattle.cell_values.proofs.BeginFacts.{left-same, word-is}
 use Rattle.cell_values.proofs.SumFacts.{advances-term, advances-end, leaves-are, leaf-next}
