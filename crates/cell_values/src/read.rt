@@ -1,14 +1,25 @@
-ghost use Rattle.std.specs.Prelude.{◌≡◌, ◌⊎◌, IfOk};
-ghost use Rattle.cell_values.specs.Reading.{AreValuesOn, IsKept, IsPlainTotal, IsWorkedOut, MayCount};
-ghost use Rattle.cube_space.specs.Cells.{IsCell};
+ghost use Rattle.std.specs.Prelude.{◌≡◌, ◌⊎◌, false, Some, IfOk, IfSome, IfNone, IsSome};
+ghost use Rattle.cell_values.specs.Reading.{AreValuesOn, IsKept, IsPlainTotal, IsUngoverned, IsWorkedOut, MayCount};
+ghost use Rattle.cell_values.specs.Reading.{value_on};
+ghost use Rattle.cube_space.specs.Cells.{IsCell, is_leaf_cell};
 ghost use Rattle.memo_cells.specs.Knowledge.{Grew, Knows};
 ghost use Rattle.rule_laws.specs.RuleSystem.{dense_value};
+ghost use Rattle.rule_model.specs.Governing.{governing_from};
 ghost use Rattle.rule_model.specs.System.{system_of};
 ghost use Rattle.stored_values.specs.Stored.{stored_in};
 
+use crate::begins::evaluation;
+use crate::frames::{Frame, LeafSum};
+use crate::keeping::keep;
+use crate::machine::Reader;
+use crate::sound::is_sound;
+use crate::told::told;
 use cell_versions::Version;
 use cube_fixed::{Steps, Value};
-use memo_cells::Memory;
+use memo_cells::{Look, Memory};
+use rule_evaluate::Ask;
+use rule_model::governing;
+use solver::{Opened, answer};
 use std::alloc::{AllocError, Global};
 use std::sync::ledger::Ledger;
 
@@ -38,5 +49,142 @@ pub fn value_of<M: Memory, L: Ledger>(
     // afterwards it is kept
     ensures kept { IfOk result (λ _. IsWorkedOut version.now cell → IsKept (M.known memory.new) cell) }
 {
-    Err(AllocError)
+    is_sound(version);
+    if let Some(value) = stored_value(version, cell) {
+        return Ok(value);
+    }
+    if let Look::Value(value) = memory.look(cell) {
+        return Ok(value);
+    }
+    let value = computed(alloc, version, memory, cell, steps)?;
+    memory.keep(cell, &value);
+    Ok(value)
+}
+
+// What is stored in a leaf cell that no statement governs. None of any other cell.
+fn stored_value(version: &Version, cell: u64) -> Option<Value>
+    requires { IsCell version.now.model.space cell }
+    ensures value { IfSome result (λ v. v ≡ value_on version.now cell) }
+    ensures input { IsSome result → IsWorkedOut version.now cell → ⊥ }
+    ensures other { IfNone result (IsWorkedOut version.now cell) }
+{
+    is_sound(version);
+    let model = version.model();
+    match governing(model, cell) {
+        Some(_) => None,
+        None => {
+            if model.space().is_leaf(cell) {
+                Some(Value::Num(version.store().get(cell)))
+            } else {
+                None
+            }
+        }
+    }
+}
+
+// The value of a governed or consolidated cell.
+fn computed<M: Memory, L: Ledger>(
+    alloc: Global,
+    version: &Version,
+    memory: &mut M,
+    cell: u64,
+    steps: &mut Steps<L>,
+) -> Result<Value, AllocError>
+    requires cell { IsCell version.now.model.space cell }
+    requires worked { IsWorkedOut version.now cell }
+    requires values { AreValuesOn version.now (M.values memory.old) }
+    ensures value { IfOk result (λ v. v ≡ value_on version.now cell) }
+    ensures values { M.values memory.new ≡ M.values memory.old }
+    ensures grew { Grew (M.known memory.old) (M.known memory.new) }
+    ensures plain { IsPlainTotal version.now cell → steps.new ≡ steps.old }
+{
+    match governing(version.model(), cell) {
+        Some(statement) => governed_value(alloc, version, memory, cell, statement, steps),
+        None => total(alloc, version, memory, cell, steps),
+    }
+}
+
+// The value of a cell that this statement governs.
+fn governed_value<M: Memory, L: Ledger>(
+    alloc: Global,
+    version: &Version,
+    memory: &mut M,
+    cell: u64,
+    statement: u32,
+    steps: &mut Steps<L>,
+) -> Result<Value, AllocError>
+    requires cell { IsCell version.now.model.space cell }
+    requires governs { governing_from version.now.model cell 0 ≡ Some statement }
+    requires values { AreValuesOn version.now (M.values memory.old) }
+    ensures value { IfOk result (λ v. v ≡ value_on version.now cell) }
+    ensures values { M.values memory.new ≡ M.values memory.old }
+    ensures grew { Grew (M.known memory.old) (M.known memory.new) }
+{
+    if let Some(value) = told(version, cell) {
+        return Ok(value);
+    }
+    let mut reader = Reader::new(alloc, version);
+    let frame = evaluation(version, cell, statement, reader.list());
+    answer(&mut reader, memory, steps, alloc, frame, Ask::Value(cell))
+}
+
+// The value of a consolidated cell that no statement governs. Nothing is evaluated where each leaf cell below it is
+// known or ungoverned.
+fn total<M: Memory, L: Ledger>(
+    alloc: Global,
+    version: &Version,
+    memory: &mut M,
+    cell: u64,
+    steps: &mut Steps<L>,
+) -> Result<Value, AllocError>
+    requires cell { IsCell version.now.model.space cell }
+    requires consolidated { is_leaf_cell version.now.model.space cell ≡ false }
+    requires ungoverned { IsUngoverned version.now cell }
+    requires values { AreValuesOn version.now (M.values memory.old) }
+    ensures value { IfOk result (λ v. v ≡ value_on version.now cell) }
+    ensures values { M.values memory.new ≡ M.values memory.old }
+    ensures grew { Grew (M.known memory.old) (M.known memory.new) }
+    ensures plain { IsPlainTotal version.now cell → steps.new ≡ steps.old }
+{
+    is_sound(version);
+    let mut sum = LeafSum::new(version, cell);
+    match sum.go_on(version, memory) {
+        Some(leaf) => {
+            let mut reader = Reader::new(alloc, version);
+            let value = worked_out(&mut reader, alloc, memory, leaf, steps)?;
+            sum.walk.add(sum.weight, value);
+            answer(
+                &mut reader,
+                memory,
+                steps,
+                alloc,
+                Frame::Leaves(sum),
+                Ask::Value(cell),
+            )
+        }
+        None => Ok(sum.walk.value()),
+    }
+}
+
+// The value of a cell, which is kept.
+fn worked_out<M: Memory, L: Ledger>(
+    reader: &mut Reader,
+    alloc: Global,
+    memory: &mut M,
+    cell: u64,
+    steps: &mut Steps<L>,
+) -> Result<Value, AllocError>
+    requires cell { IsCell reader.old.version.now.model.space cell }
+    requires values { AreValuesOn reader.old.version.now (M.values memory.old) }
+    ensures value { IfOk result (λ v. v ≡ value_on reader.old.version.now cell) }
+    ensures version { reader.new.version.now ≡ reader.old.version.now }
+    ensures values { M.values memory.new ≡ M.values memory.old }
+    ensures grew { Grew (M.known memory.old) (M.known memory.new) }
+{
+    let value = match reader.begin(cell) {
+        Opened::Known(value) => value,
+        Opened::Begun(frame) => answer(reader, memory, steps, alloc, frame, Ask::Value(cell))?,
+    };
+    keep(reader.version, memory, cell, &value);
+    Ok(value)
 }

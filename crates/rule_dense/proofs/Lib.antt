@@ -1,6 +1,6 @@
 mod Places
-mod Ranges
+pub mod Ranges
 mod Ranks
 mod Depths
 mod LeafSums
-mod Rights
+pub mod Rights

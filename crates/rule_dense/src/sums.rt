@@ -1,4 +1,4 @@
-ghost use Rattle.std.specs.Prelude.{◌≡◌, ◌+◌, ◌<◌, ◌≤◌, ◌^◌, length, slice_index_or, All};
+ghost use Rattle.std.specs.Prelude.{◌≡◌, ◌+◌, ◌<◌, ◌≤◌, ◌^◌, length, slice_index_or, All, IfSome};
 ghost use Rattle.dim_core.specs.Outline.{IsWeight, most_components};
 ghost use Rattle.cube_fixed.specs.Arithmetic.{zero_value};
 ghost use Rattle.cube_space.specs.Cells.{IsCell, elements_of};
@@ -79,11 +79,12 @@ pub fn sum_of_parts(
     sum.value()
 }
 
-// The cell with another element at a place.
-fn with_element_at(space: &Space, cell: u64, dim: usize, element: u32) -> Option<u64>
+/// The cell with another element in the dimension at this place of its cube, or None where there is no such element.
+pub fn with_element_at(space: &Space, cell: u64, dim: usize, element: u32) -> Option<u64>
     requires cell { IsCell space.now cell }
     requires dim { dim < length (elements_of space.now cell) }
-    ensures { result ≡ with_element_at space.now cell dim element }
+    ensures value { result ≡ with_element_at space.now cell dim element }
+    ensures cell { IfSome result (IsCell space.now) }
 {
     let mut at = [0u32; 16];
     let (cube, dims) = place_of(space, cell, &mut at);

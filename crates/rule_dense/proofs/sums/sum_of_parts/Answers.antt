@@ -27,12 +27,12 @@ loop-part-preserved c =
     elim c.match-with_element_at.branch [
       | in-Some w ↦
           let fits : SFits w64 (get_or c.args.parts.now c.loop-part.part-index d).1 = search rules in
-          let found = sym c.with_element_at.ensures ∙ w.in-Some.is in
+          let found = sym c.with_element_at.ensures.value ∙ w.in-Some.is in
           let all = parts-some c.args.space.now (table_of c.args.values.now) c.args.cell c.args.dim c.args.parts.now c.loop-part.part-index d less w.in-Some.component found in
           let one = term c.loop-part.sum w.add.new.self (get_or c.args.parts.now c.loop-part.part-index d).1 w.value_at.result (table_of c.args.values.now w.in-Some.component) fits w.add.ensures w.value_at.ensures in
           let both = more c.loop-part.sum c.match-with_element_at.sum _ _ (get_or c.args.parts.now c.loop-part.part-index d).1 (table_of c.args.values.now w.in-Some.component) c.loop-part.part-index (w.sum-is ∙ one) (sym c.loop-part.invariant.sum_is) c.loop-part.invariant.few all in
           record { sum_is = both.0; few = both.1 }
       | in_default w ↦
-          let none = parts-none c.args.space.now (table_of c.args.values.now) c.args.cell c.args.dim c.args.parts.now c.loop-part.part-index d less (sym c.with_element_at.ensures ∙ none_of c.with_element_at.result w.in_default.not-Some) in
+          let none = parts-none c.args.space.now (table_of c.args.values.now) c.args.cell c.args.dim c.args.parts.now c.loop-part.part-index d less (sym c.with_element_at.ensures.value ∙ none_of c.with_element_at.result w.in_default.not-Some) in
           record { sum_is = w.sum-is ∙ c.loop-part.invariant.sum_is ∙ sym none; few = (let h : c.match-with_element_at.sum.terms ≡ c.loop-part.sum.terms = ap (λ (t : Total). t.terms) w.sum-is in omega (arith, h, c.loop-part.invariant.few)) }
     ]

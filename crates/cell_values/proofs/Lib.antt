@@ -1,0 +1,9 @@
+pub mod Members
+pub mod Work
+pub mod Values
+pub mod SumFacts
+pub mod Asked
+pub mod Telling
+pub mod FrameFacts
+pub mod BeginFacts
+pub mod ReadFacts

@@ -1,0 +1,59 @@
+-- The values on a version of an accepted model.
+use Rattle.std.proofs.Common.{◌≡◌, sym, ◌∙◌, ℕ, true, false, drop, Some, None}
+use Rattle.accepted.specs.Checks.{IsAccepted}
+use Rattle.cell_store.specs.Entries.{cells_of, number_at}
+use Rattle.cell_versions.specs.Versions.{NumberedVersion}
+use Rattle.cube_fixed.specs.declared.value.Value.TheVariants.{Num}
+use Rattle.cube_fixed.specs.Arithmetic.{zero_value}
+use Rattle.cube_space.specs.Cells.{IsSpace, IsCell, is_leaf_cell}
+use Rattle.dim_order.specs.Members.{is_among}
+use Rattle.feed_map.specs.FedCells.{AreFedCells}
+use Rattle.model_laws.proofs.Formed.{well_formed}
+use Rattle.model_laws.proofs.Ranks.{ranked}
+use Rattle.rule_dense.proofs.Rights.{right-ungoverned, right-governed}
+use Rattle.rule_evaluate.specs.Readings.{readings_of, statements_value}
+use Rattle.rule_laws.specs.Order.{IsWellFormed, IsOrdered}
+use Rattle.rule_laws.specs.RuleSystem.{right_side}
+use Rattle.rule_laws.proofs.PlaceFacts.{ordered-by_place}
+use Rattle.rule_laws.proofs.SystemFacts.{dense_value-solves}
+use Rattle.rule_laws.proofs.SparseFacts.{unfed-zero}
+use Rattle.rule_model.specs.Conditions.{AreRules}
+use Rattle.rule_model.specs.Governing.{rules_for, governing_from}
+use Rattle.rule_model.specs.System.{system_of, positions_of}
+use Rattle.sparse_sum.specs.Live.{is_live}
+use Rattle.stored_values.specs.Stored.{stored_in}
+use Rattle.stored_values.proofs.Stored.{base-leaf}
+use Rattle.cell_values.specs.Reading.{value_on}
+use Rattle.cell_values.specs.Inside.Questions.{base_on}
+use Rattle.cell_values.proofs.Members.{among-there, neither, stored-none}
+
+module _ (v : NumberedVersion) (valid : IsSpace v.model.space) (rules : AreRules v.model.space v.model.rules) (accepted : IsAccepted v.model) where
+  pub formed : IsWellFormed (system_of v.model)
+  formed = well_formed v.model valid rules
+
+  pub ordered : IsOrdered (system_of v.model)
+  ordered = ordered-by_place (system_of v.model) (positions_of v.model) formed (ranked v.model) accepted.ordered
+
+  solved : (c : ℕ) → IsCell v.model.space c → value_on v c ≡ right_side (system_of v.model) (stored_in v.stored) (value_on v) c
+  unfolding value_on system_of
+  solved c is_cell = dense_value-solves (system_of v.model) formed (stored_in v.stored) ordered c is_cell
+
+  module _ (c : ℕ) (is_cell : IsCell v.model.space c) where
+    pub governed-value : (k : ℕ) → governing_from v.model c 0 ≡ Some k
+        → statements_value (system_of v.model) (readings_of (system_of v.model) (stored_in v.stored) (value_on v)) c (drop k (rules_for v.model c)) ≡ value_on v c
+    governed-value k governs = right-governed v.model (stored_in v.stored) (value_on v) c is_cell k governs ∙ sym (solved c is_cell)
+
+    pub ungoverned-value : governing_from v.model c 0 ≡ None → value_on v c ≡ base_on v c
+    unfolding base_on
+    ungoverned-value none = solved c is_cell ∙ right-ungoverned v.model (stored_in v.stored) (value_on v) c is_cell none
+
+    pub leaf-base : is_leaf_cell v.model.space c ≡ true → base_on v c ≡ Num (number_at v.stored c)
+    unfolding base_on
+    leaf-base leaf = base-leaf v.model v.stored (value_on v) c leaf
+
+    pub quiet-value : AreFedCells v.model v.stored v.fed → is_leaf_cell v.model.space c ≡ true → is_live (cells_of v.stored) v.fed c ≡ false → value_on v c ≡ zero_value
+    unfolding value_on system_of
+    quiet-value are leaf quiet =
+        let both = neither (is_among (cells_of v.stored) c) (is_among v.fed c) quiet in
+        unfed-zero (system_of v.model) (stored_in v.stored) formed ordered accepted.covered c (is_cell, leaf) (stored-none v.stored c both.0)
+        (λ fed. (let there = among-there v.fed c ((are.fed c).1 fed) in let clash : true ≡ false = sym there ∙ both.1 in cc))
