@@ -1,5 +1,5 @@
 -- What is known of the writes of an accepted command.
-use Rattle.std.proofs.Common.{◌≡◌, refl, subst, ℕ, ℤ, ◌≤◌, Bool, true, false, not, if◌then◌else◌, arith, List, [], ◌∷◌, length, Option, Some, None}
+use Rattle.std.proofs.Common.{Result, Ok, Err, ◌≡◌, refl, subst, ℕ, ℤ, ◌≤◌, Bool, true, false, not, if◌then◌else◌, arith, List, [], ◌∷◌, length, Option, Some, None}
 use Rattle.std.specs.Prelude.{nat_lt, option_and_then}
 use Rattle.std.proofs.lemmas.Bool.Decides.{nat_tests}
 use Rattle.std.proofs.lemmas.List.Elements.{All-nil, All-cons}
@@ -19,8 +19,11 @@ use Rattle.rule_model.specs.Governing.{is_input}
 use Rattle.rule_model.specs.Named.{cell_named, elements_named}
 use Rattle.user_session.specs.declared.content.Content.{Content}
 use Rattle.user_session.specs.declared.command.PlanCommand.{PlanCommand}
-use Rattle.user_session.specs.declared.command.PlanCommand.TheVariants.{Put, Get}
-use Rattle.user_session.specs.Planning.{committed, effect, get_effect, named_cell, put_effect, rejected, within_limits}
+use Rattle.user_session.specs.declared.command.PlanCommand.TheVariants.{Put, Get, View}
+use Rattle.user_session.specs.Planning.{committed, effect, get_effect, named_cell, put_effect, rejected, table_effect, within_limits}
+use Rattle.view_query.specs.Binding.{bound}
+use Rattle.view_query.specs.declared.fault.ViewFault.{ViewFault}
+use Rattle.view_query.specs.declared.shape.View as views
 use Rattle.user_session.specs.declared.reply.Reason.TheVariants.{NotALeaf, RuleDerived, StoreLimit, FedLimit}
 
 -- writes of leaf cells, after which neither limit is passed
@@ -81,7 +84,12 @@ get-never : (content : Content) (named : Option ℕ) (writes : List (ℕ × ℤ)
 get-never content None writes reply is = absurd (cc)
 get-never content (Some c) writes reply is = absurd (cc)
 
+view-never : (content : Content) (meant : Result views.View ViewFault) (writes : List (ℕ × ℤ)) (reply : List ℕ) → table_effect content meant ≡ Commit writes reply → AreWithin content writes
+view-never content (Ok view) writes reply is = absurd (cc)
+view-never content (Err fault) writes reply is = absurd (cc)
+
 pub accepted-within : (content : Content) (command : PlanCommand) (writes : List (ℕ × ℤ)) (reply : List ℕ) → effect content command ≡ Commit writes reply → AreWithin content writes
 accepted-within content (Put text number) writes reply is =
     put-within content (named_cell content.model text) number writes reply (λ c named. named-cell content.model.space text.cube text.elements c named) is
 accepted-within content (Get text) writes reply is = get-never content (named_cell content.model text) writes reply is
+accepted-within content (View text) writes reply is = view-never content (bound content.model.space text) writes reply is

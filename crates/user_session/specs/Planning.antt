@@ -1,5 +1,5 @@
 -- What a planner's commands do on a version of the numbers.
-use Rattle.std.specs.Prelude.{ℕ, nat_lt, ℤ, List, [], ◌∷◌, length, Option, Some, None, not}
+use Rattle.std.specs.Prelude.{ℕ, nat_lt, ℤ, List, [], ◌∷◌, length, Option, Some, None, not, ◌++◌, codes, Result, Ok, Err}
 use Rattle.std.specs.Prelude.{if◌then◌else◌}
 use Rattle.cube_fixed.specs.declared.value.Value.{Value}
 use Rattle.cube_fixed.specs.Arithmetic.{zero_value}
@@ -17,13 +17,18 @@ use Rattle.rule_model.specs.Named.{cell_named}
 use Rattle.rule_model.specs.System.{system_of}
 use Rattle.stored_values.specs.Stored.{stored_in}
 use Rattle.user_session.specs.declared.content.Content.{Content}
-use Rattle.user_session.specs.Replies.{reply_text}
+use Rattle.user_session.specs.Replies.{fault_text, reply_text}
 use Rattle.user_session.specs.declared.command.PlanCommand.{PlanCommand}
-use Rattle.user_session.specs.declared.command.PlanCommand.TheVariants.{Put, Get}
+use Rattle.user_session.specs.declared.command.PlanCommand.TheVariants.{Put, Get, View}
 use Rattle.user_session.specs.declared.reply.Reason.{Reason}
 use Rattle.user_session.specs.declared.reply.Reason.TheVariants.{UnknownName, NotALeaf, RuleDerived, StoreLimit, FedLimit}
 use Rattle.user_session.specs.declared.reply.Reply.TheVariants.{Committed, Rejected, Found, Refused}
 use Rattle.user_text.specs.declared.command.CellText.{CellText}
+use Rattle.user_text.specs.declared.command.ViewText.{ViewText}
+use Rattle.view_query.specs.Binding.{bound}
+use Rattle.view_query.specs.Table.{table_text}
+use Rattle.view_query.specs.declared.fault.ViewFault.{ViewFault}
+use Rattle.view_query.specs.declared.shape.View as views
 
 -- the cell that a command names
 abbrev pub named_cell : BoundModel → CellText → Option ℕ
@@ -67,7 +72,16 @@ abbrev pub get_effect : Content → Option ℕ → PlanEffect
 get_effect content None = effects.Read (reply_text (Refused UnknownName))
 get_effect content (Some cell) = effects.Read (reply_text (Found (value_at content cell)))
 
+-- a question for a table: the table that its text stands for, or why it stands for none
+abbrev pub table_effect : Content → Result views.View ViewFault → PlanEffect
+table_effect content (Ok view) = effects.Read (table_text content.model.space view (value_at content))
+table_effect content (Err fault) = effects.Read (codes "refused " ++ fault_text fault)
+
+abbrev pub view_effect : Content → ViewText → PlanEffect
+view_effect content text = table_effect content (bound content.model.space text)
+
 -- what a command does on this content
 abbrev pub effect : Content → PlanCommand → PlanEffect
 effect content (Put text number) = put_effect content (named_cell content.model text) number
 effect content (Get text) = get_effect content (named_cell content.model text)
+effect content (View text) = view_effect content text

@@ -1,10 +1,12 @@
 -- What users are told, as text.
-use Rattle.std.specs.Prelude.{ℕ, List, ◌++◌, codes, decimal}
+use Rattle.std.specs.Prelude.{ℕ, List, [], ◌++◌, codes, decimal}
 use Rattle.cube_fixed.specs.Text.{printed}
 use Rattle.user_session.specs.declared.reply.Reason.{Reason}
 use Rattle.user_session.specs.declared.reply.Reason.TheVariants.{UnknownName, NotALeaf, RuleDerived, StoreLimit, FedLimit}
 use Rattle.user_session.specs.declared.reply.Reply.{Reply}
 use Rattle.user_session.specs.declared.reply.Reply.TheVariants.{Committed, Rejected, Found, Refused}
+use Rattle.view_query.specs.declared.fault.ViewFault.{ViewFault}
+use Rattle.view_query.specs.declared.fault.ViewFault.TheVariants as faults
 
 -- the name of a reason
 abbrev pub reason_text : Reason → List ℕ
@@ -13,6 +15,13 @@ reason_text NotALeaf = codes "NotALeaf"
 reason_text RuleDerived = codes "RuleDerived"
 reason_text StoreLimit = codes "StoreLimit"
 reason_text FedLimit = codes "FedLimit"
+
+-- the name of why there is no table; want of memory is no such cause
+abbrev pub fault_text : ViewFault → List ℕ
+fault_text faults.UnknownName = codes "UnknownName"
+fault_text faults.WrongCount = codes "WrongCount"
+fault_text (faults.ViewLimit count) = codes "ViewLimit"
+fault_text faults.Memory = []
 
 -- `committed N`, `rejected REASON`, the value, or `refused REASON`
 abbrev pub reply_text : Reply → List ℕ

@@ -11,6 +11,7 @@ mod content;
 mod getting;
 mod putting;
 mod reply;
+mod viewing;
 mod world;
 
 pub use command::PlanCommand;

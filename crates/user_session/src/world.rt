@@ -3,6 +3,7 @@ use crate::content::Content;
 use crate::getting::get;
 use crate::putting::put;
 use crate::reply::ReplyText;
+use crate::viewing::view;
 use cell_reader::{NextFault, Snapshot};
 use cube_fixed::{Money, Value};
 use history::{Effect, World};
@@ -55,6 +56,7 @@ impl World for PlanWorld {
         match command {
             PlanCommand::Put(cell, number) => put(alloc, state, cell, *number),
             PlanCommand::Get(cell) => get(alloc, state, cell),
+            PlanCommand::View(text) => view(alloc, state, text),
         }
     }
 

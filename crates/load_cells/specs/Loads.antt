@@ -1,0 +1,48 @@
+-- What a load runs on: the cells of a version, by names, with the writes so far.
+use Rattle.std.specs.Prelude.{ℕ, suc, nat_lt, ◌&&◌, not, List, length, Option, Some, None, if◌then◌else◌}
+use Rattle.std.specs.List.{list_all}
+use Rattle.cell_reader.specs.Limits.{fed_count}
+use Rattle.cell_store.specs.declared.entry.Entry.{Entry}
+use Rattle.cell_store.specs.Entries.{after_writes, most_cells}
+use Rattle.cube_space.specs.Cells.{is_leaf_cell}
+use Rattle.cube_space.specs.Layout.{Layout}
+use Rattle.dim_name.specs.Name.{is_name}
+use Rattle.feed_map.specs.FedCells.{most_fed}
+use Rattle.rule_laws.specs.RuleSystem.{dense_value}
+use Rattle.rule_model.specs.BoundModel.{BoundModel}
+use Rattle.rule_model.specs.Governing.{is_input}
+use Rattle.rule_model.specs.Named.{cell_named}
+use Rattle.rule_model.specs.System.{system_of}
+use Rattle.script_values.specs.Cells.{Store}
+use Rattle.script_values.specs.declared.reason.Reason.{Reason}
+use Rattle.script_values.specs.declared.reason.Reason.TheVariants.{NotALeaf, RuleDerived, StoreLimit, FedLimit}
+use Rattle.stored_values.specs.Stored.{stored_in}
+
+-- the cell that these texts name; a text that is no name names nothing
+abbrev pub cell_by_texts : Layout → List ℕ → List (List ℕ) → Option ℕ
+cell_by_texts space cube elements =
+    if is_name cube && list_all is_name elements then cell_named space cube elements else None
+
+-- why nothing can be written into a cell, whatever is stored
+abbrev pub closed : BoundModel → ℕ → Option Reason
+closed model cell =
+    if not (is_leaf_cell model.space cell) then Some NotALeaf
+    else if not (is_input model cell) then Some RuleDerived
+    else None
+
+-- which limit is passed where this is stored
+abbrev pub passed : BoundModel → List Entry → Option Reason
+passed model stored =
+    if nat_lt most_cells (length stored) then Some (StoreLimit (length stored))
+    else if nat_lt most_fed (fed_count model stored) then Some (FedLimit (suc most_fed))
+    else None
+
+-- a model and what is stored, as a load sees them
+abbrev pub store_of : BoundModel → List Entry → Store
+store_of model stored =
+    record {
+      cell = cell_by_texts model.space;
+      value = λ writes. dense_value (system_of model) (stored_in (after_writes stored writes));
+      closed = closed model;
+      full = λ writes. passed model (after_writes stored writes);
+    }

@@ -1,0 +1,81 @@
+ghost use Rattle.std.specs.Prelude.{◌≡◌};
+ghost use Rattle.cell_reader.specs.Works.{opening_of, writes_of};
+
+use crate::names::cell_by_texts;
+use cell_reader::{NextFault, Work};
+use cube_fixed::Value;
+use rule_model::is_input;
+use script_values::{Reason, Text, WorkCells};
+use std::alloc::{AllocError, Global};
+
+/// The work of a load, whose cells are told by names.
+#[derive(Drop)]
+pub struct LoadCells {
+    work: Work,
+}
+
+impl LoadCells {
+    pub fn new(work: Work) -> LoadCells
+        ensures { result.work ≡ work }
+    {
+        LoadCells { work }
+    }
+
+    pub fn into_work(self) -> Work
+        ensures { result ≡ self.work }
+    {
+        self.work
+    }
+}
+
+impl WorkCells for LoadCells {
+    ghost use Rattle.cell_reader.specs.Works.{opening_of, writes_of};
+    ghost use Rattle.load_cells.specs.Loads.{store_of};
+
+    ghost store = { λ cells. store_of (opening_of cells.work).model (opening_of cells.work).stored };
+
+    ghost writes = { λ cells. writes_of cells.work };
+
+    fn get(
+        &mut self,
+        alloc: Global,
+        cube: &[u8],
+        elements: &[Text<'_>],
+    ) -> Result<Result<Value, Reason>, AllocError> {
+        match cell_by_texts(alloc, self.work.model(), cube, elements)? {
+            Some(cell) => {
+                let value = self.work.value_at(alloc, cell)?;
+                Ok(Ok(value))
+            }
+            None => Ok(Err(Reason::UnknownName)),
+        }
+    }
+
+    fn put(
+        &mut self,
+        alloc: Global,
+        cube: &[u8],
+        elements: &[Text<'_>],
+        value: Value,
+    ) -> Result<Option<Reason>, AllocError> {
+        let model = self.work.model();
+        let Some(cell) = cell_by_texts(alloc, model, cube, elements)? else {
+            return Ok(Some(Reason::UnknownName));
+        };
+        if !model.space().is_leaf(cell) {
+            return Ok(Some(Reason::NotALeaf));
+        }
+        if !is_input(model, cell) {
+            return Ok(Some(Reason::RuleDerived));
+        }
+        let Value::Num(number) = value else {
+            return Ok(Some(Reason::OverWrite));
+        };
+        match self.work.put(alloc, cell, number) {
+            Ok(()) => Ok(None),
+            Err(NextFault::StoreLimit(count)) => Ok(Some(Reason::StoreLimit(count))),
+            Err(NextFault::FedLimit(count)) => Ok(Some(Reason::FedLimit(count))),
+            Err(NextFault::Memory) => Err(AllocError),
+        }
+    }
+}
