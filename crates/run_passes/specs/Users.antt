@@ -48,17 +48,8 @@ is_load_body (bodies.Get cell) = false
 is_load_body (bodies.Load load) = true
 is_load_body (bodies.View view) = false
 
-abbrev pub is_view_body : UserBody → Bool
-is_view_body (bodies.Put cell number) = false
-is_view_body (bodies.Get cell) = false
-is_view_body (bodies.Load load) = false
-is_view_body (bodies.View view) = true
-
 abbrev pub is_load : UserCommand → Bool
 is_load command = is_load_body command.body
-
-abbrev pub is_view : UserCommand → Bool
-is_view command = is_view_body command.body
 
 -- the first of these commands in the order of the words, which isn't built
 abbrev pub first_unbuilt : (UserCommand → Bool) → List Source → List (List UserCommand) → Option Refusal
@@ -68,10 +59,9 @@ first_unbuilt is (source ∷ more) (commands ∷ rest) =
     option_or (option_map (λ command. refused_on source.0 command.line Unbuilt) (find is commands))
     (first_unbuilt is more rest)
 
--- the first `LOAD` of all users, or else the first `VIEW`
+-- the first `LOAD` of all users
 abbrev pub unbuilt_command : List Source → List (List UserCommand) → Option Refusal
-unbuilt_command sources commands =
-    option_or (first_unbuilt is_load sources commands) (first_unbuilt is_view sources commands)
+unbuilt_command sources commands = first_unbuilt is_load sources commands
 
 -- ---- the commands that are run
 
@@ -79,7 +69,7 @@ abbrev pub plan_of : UserBody → Option PlanCommand
 plan_of (bodies.Put cell number) = Some (plans.Put cell number)
 plan_of (bodies.Get cell) = Some (plans.Get cell)
 plan_of (bodies.Load load) = None
-plan_of (bodies.View view) = None
+plan_of (bodies.View view) = Some (plans.View view)
 
 abbrev pub plan_command : UserCommand → Option PlanCommand
 plan_command command = plan_of command.body

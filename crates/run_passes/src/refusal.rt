@@ -79,6 +79,6 @@ pub enum Cause {
     NotFed(u32),
     /// So many cells are fed where nothing is stored, one more than 4,000,000, also where there are more still.
     FedLimit(u64),
-    /// Loads and views aren't built yet. The line has the word that begins the first of them.
+    /// Loads aren't built yet. The line has the word that begins the first of them.
     Unbuilt,
 }

@@ -1,9 +1,9 @@
 ghost use Rattle.std.specs.Prelude.{◌≡◌, ◌+◌, ◌≤◌, find, IfOk, map};
 ghost use Rattle.std.specs.Option.{option_copied};
 ghost use Rattle.run_passes.specs.Inside.Halting.{Judges};
-ghost use Rattle.run_passes.specs.Inside.Judging.{IsHaltFor, is_form, texts_judgement};
+ghost use Rattle.run_passes.specs.Inside.Judging.{IsHaltFor, texts_judgement};
 ghost use Rattle.run_passes.specs.Refusals.{user_refusal};
-ghost use Rattle.run_passes.specs.Users.{is_load, is_view, first_unbuilt, unbuilt_command, plan_command};
+ghost use Rattle.run_passes.specs.Users.{is_load, unbuilt_command, plan_command};
 ghost use Rattle.run_passes.specs.Users.{plan_commands, users_judgement};
 
 use crate::halt::Halt;
@@ -17,13 +17,6 @@ use user_text::{UserBody, UserCommand, UserFault, parse};
 
 // The most commands of all users together.
 const MOST_COMMANDS: u32 = 65_536;
-
-/// A kind of command that isn't built yet.
-#[derive(Clone, Copy, Debug)]
-pub(crate) enum Form {
-    Load,
-    View,
-}
 
 /// The commands of each user, by what the bytes of all user files stand for.
 pub(crate) fn users_of(
@@ -85,7 +78,7 @@ fn counted(before: u32, more: usize) -> Result<u32, AllocError>
     }
 }
 
-// The first `LOAD` of all users, or else the first `VIEW`.
+// The first `LOAD`, in the order of the words.
 fn unbuilt_command(
     alloc: Global,
     sources: &[Source<'_>],
@@ -93,40 +86,16 @@ fn unbuilt_command(
 ) -> Result<Option<Refusal>, AllocError>
     ensures { IfOk result (λ found. found ≡ unbuilt_command sources.now commands.now) }
 {
-    if let Some(refusal) = first_unbuilt(alloc, Form::Load, sources, commands)? {
-        return Ok(Some(refusal));
-    }
-    first_unbuilt(alloc, Form::View, sources, commands)
-}
-
-// The first command of this kind, in the order of the words.
-fn first_unbuilt(
-    alloc: Global,
-    form: Form,
-    sources: &[Source<'_>],
-    commands: &[ListOf<UserCommand>],
-) -> Result<Option<Refusal>, AllocError>
-    ensures { IfOk result (λ found. found ≡ first_unbuilt (is_form form) sources.now commands.now) }
-{
     for (index, source) in sources.iter().enumerate() {
         let Some(of_user) = commands.get(index) else {
             return Ok(None);
         };
-        if let Some(command) = first_of(form, of_user.as_slice()) {
+        if let Some(command) = first_load(of_user.as_slice()) {
             let refusal = refused_on(alloc, source.name(), command.line, Cause::Unbuilt)?;
             return Ok(Some(refusal));
         }
     }
     Ok(None)
-}
-
-fn first_of(form: Form, commands: &[UserCommand]) -> Option<&UserCommand>
-    ensures { option_copied result ≡ find (is_form form) commands.now }
-{
-    match form {
-        Form::Load => first_load(commands),
-        Form::View => first_view(commands),
-    }
 }
 
 fn first_load(commands: &[UserCommand]) -> Option<&UserCommand>
@@ -137,15 +106,7 @@ fn first_load(commands: &[UserCommand]) -> Option<&UserCommand>
         .find(|command| matches!(command.body, UserBody::Load(_)))
 }
 
-fn first_view(commands: &[UserCommand]) -> Option<&UserCommand>
-    ensures { option_copied result ≡ find is_view commands.now }
-{
-    commands
-        .iter()
-        .find(|command| matches!(command.body, UserBody::View(_)))
-}
-
-// The commands of each user that are run on stored cells.
+// The commands of each user that are run.
 fn plan_users(
     alloc: Global,
     commands: ListOf<ListOf<UserCommand>>,
@@ -178,6 +139,6 @@ fn plan_command(command: UserCommand) -> Option<PlanCommand>
         UserBody::Put(cell, number) => Some(PlanCommand::Put(cell, number)),
         UserBody::Get(cell) => Some(PlanCommand::Get(cell)),
         UserBody::Load(_) => None,
-        UserBody::View(_) => None,
+        UserBody::View(view) => Some(PlanCommand::View(view)),
     }
 }
