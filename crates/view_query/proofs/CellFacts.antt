@@ -72,7 +72,7 @@ digits_from (d ∷ ds) f from low =
     and_from _ _ (lt-ltb (f from) (length d.elements) (subst (λ n. f n < length d.elements) same (low 0 d refl)))
     (digits_from ds f (from + 1) (λ k x is. let later : from + suc k ≡ from + 1 + k = omega arith in subst (λ n. f n < length x.elements) later (low (suc k) x is)))
 
-slice_low : {X : Type 0} (xs : List X) (k : ℕ) (x : X) → slice_get xs k ≡ Some x → k < length xs
+pub slice_low : {X : Type 0} (xs : List X) (k : ℕ) (x : X) → slice_get xs k ≡ Some x → k < length xs
 slice_low [] k x is = absurd (cc is)
 slice_low (y ∷ xs) zero x is = omega arith
 slice_low (y ∷ xs) (suc k) x is = let low = slice_low xs k x is in omega (arith, low)

@@ -20,8 +20,8 @@ loop-axis-preserved c =
     record {
       fits = omega (arith, c.saturating_mul-count.ensures, min-le_right (c.loop-axis.count * size) 18446744073709551615);
       rest = ap (λ l. min (c.saturating_mul-count.result * product l) 18446744073709551615) (sym (drop-map (λ axis. length axis.elements) (i + 1) c.args.axes.now))
-      ∙ product-turn all i c.loop-axis.count size _ _ _ (omega (arith, long, c.loop-axis-test.true)) own c.saturating_mul-count.ensures
-      (ap (λ l. min (c.loop-axis.count * product l) 18446744073709551615) (drop-map (λ axis. length axis.elements) i c.args.axes.now) ∙ c.loop-axis.invariant.rest);
+          ∙ product-turn all i c.loop-axis.count size _ _ _ (omega (arith, long, c.loop-axis-test.true)) own c.saturating_mul-count.ensures
+          (ap (λ l. min (c.loop-axis.count * product l) 18446744073709551615) (drop-map (λ axis. length axis.elements) i c.args.axes.now) ∙ c.loop-axis.invariant.rest);
     }
 
 pub returns : goal.returns
