@@ -1,5 +1,5 @@
 -- What is bound is a view.
-use Rattle.std.proofs.Common.{◌≡◌, ◌<◌, ◌≤◌, ◌+◌, ◌==◌, ℕ, zero, suc, Bool, true, false, eqb, nat_lt, if◌then◌else◌, List, [], ◌∷◌, map, length, position, min, Option, Some, None, Result, Ok, Err, refl, sym, ap, ◌∙◌, subst, arith, All, IfOk, slice_get, get_or}
+use Rattle.std.proofs.Common.{◌≡◌, ◌<◌, ◌≤◌, ◌+◌, ◌==◌, ℕ, zero, suc, Bool, true, false, nat_lt, if◌then◌else◌, List, [], ◌∷◌, map, length, position, min, Option, Some, None, Result, Ok, Err, refl, sym, ap, ◌∙◌, subst, arith, All, IfOk, slice_get}
 use Rattle.std.specs.List.{AllByRecursion, list_all, range_with_len, position_or_len}
 use Rattle.std.proofs.lemmas.Bool.{and_parts, eqb-true, ltb-true, ltb-false}
 use Rattle.std.proofs.lemmas.List.{length-map}
@@ -10,7 +10,7 @@ use Rattle.cube_space.specs.Layout.{Layout, axes, cube_names}
 use Rattle.user_text.specs.declared.command.SetText.{SetText}
 use Rattle.user_text.specs.declared.command.ViewText.{ViewText}
 use Rattle.view_query.specs.declared.fault.ViewFault.{ViewFault}
-use Rattle.view_query.specs.declared.fault.ViewFault.TheVariants.{WrongCount, ViewLimit}
+use Rattle.view_query.specs.declared.fault.ViewFault.TheVariants.{ViewLimit}
 use Rattle.view_query.specs.declared.shape.Axis.{Axis}
 use Rattle.view_query.specs.declared.shape.View.{View}
 use Rattle.view_query.specs.Meaning.{Meaning, done, ◌>>=◌, known, each, Answers}

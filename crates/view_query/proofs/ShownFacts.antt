@@ -1,6 +1,6 @@
 -- Which lines are shown, and what is written of them.
-use Rattle.std.proofs.Common.{◌≡◌, ◌<◌, ◌+◌, ℕ, zero, suc, Bool, true, false, not, ◌||◌, if◌then◌else◌, List, [], ◌∷◌, ◌++◌, map, filter, length, drop, get_or, Option, Some, None, refl, sym, ap, ◌∙◌, subst, arith, slice_get, count_by, codes, decimal, append_assoc}
-use Rattle.std.specs.List.{enumerate_from, flat_map, items_where_true, list_any, range_with_len, zip}
+use Rattle.std.proofs.Common.{◌≡◌, ◌+◌, ℕ, zero, suc, Bool, true, false, not, ◌||◌, if◌then◌else◌, List, [], ◌∷◌, ◌++◌, map, filter, length, Some, refl, sym, ap, ◌∙◌, arith, slice_get, count_by, codes, decimal, append_assoc}
+use Rattle.std.specs.List.{enumerate_from, items_where_true, list_any, range_with_len, zip}
 use Rattle.std.specs.Option.{option_map_or}
 use Rattle.std.proofs.lemmas.Simd.{map-map}
 use Rattle.std.proofs.lemmas.Grind.{flat_map-append}
@@ -9,8 +9,8 @@ use Rattle.cube_fixed.specs.declared.value.Value.{Value}
 use Rattle.cube_fixed.specs.Arithmetic.{is_zero}
 use Rattle.cube_space.specs.Layout.{Layout}
 use Rattle.view_query.specs.declared.shape.View.{View}
-use Rattle.view_query.specs.Views.{lines, cell_at}
-use Rattle.view_query.specs.Table.{is_shown, head_line, row_line, table_of, table_text}
+use Rattle.view_query.specs.Views.{lines}
+use Rattle.view_query.specs.Table.{is_shown, head_line, row_line, table_of}
 use Rattle.view_query.specs.Inside.Lines.{is_other_at}
 use Rattle.view_query.specs.Inside.Text.{led, heads, row_lines}
 

@@ -1,4 +1,4 @@
-use Rattle.std.proofs.Common.{◌≡◌, ◌∙◌, true, false, Bool, ap, sym, arith, length}
+use Rattle.std.proofs.Common.{◌∙◌, ap, sym, arith}
 use Rattle.dim_name.specs.Name.{is_same_name}
 use Rattle.cube_space.specs.Layout.{axes}
 use Rattle.view_query.proofs.AxisFacts.{found_here, found_later, found_none, place_sought}

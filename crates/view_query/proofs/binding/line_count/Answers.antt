@@ -1,10 +1,9 @@
-use Rattle.std.proofs.Common.{◌≡◌, ◌*◌, ◌<◌, ◌+◌, ◌∙◌, length, drop, get_or, min, sym, ap, arith}
+use Rattle.std.proofs.Common.{◌≡◌, ◌*◌, ◌+◌, ◌∙◌, length, get_or, min, sym, ap, arith}
 use Rattle.std.specs.List.{drop-map}
 use Rattle.std.proofs.Math.Nat.{min-le_right}
 use Rattle.std.proofs.lemmas.List.{length-map, get_or-map}
 use Rattle.cube_space.specs.Radix.{product}
 use Rattle.cube_space.proofs.Steps.{product-turn, product-end}
-use Rattle.view_query.specs.Views.{lines}
 use Rattle.view_query.proofs.Counts.{counts, length-lines}
 use Rattle.view_query.proofs.binding.line_count.Goals as goal
 

@@ -1,6 +1,5 @@
-use Rattle.std.proofs.Common.{◌≡◌, ◌<◌, ◌+◌, ◌∙◌, ◌++◌, ◌∷◌, [], ℕ, length, drop, get_or, sym, ap, subst}
+use Rattle.std.proofs.Common.{◌+◌, ◌∙◌, ◌++◌, ◌∷◌, [], ℕ, drop, get_or, sym, ap, subst}
 use Rattle.cube_space.specs.Layout.{axes}
-use Rattle.view_query.specs.declared.shape.Axis.{Axis}
 use Rattle.view_query.specs.Table.{shown_name}
 use Rattle.view_query.specs.Inside.Lines.{IsElementOf}
 use Rattle.view_query.specs.Inside.Text.{tabbed, names_along}

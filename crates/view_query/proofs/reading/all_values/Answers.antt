@@ -1,5 +1,4 @@
-use Rattle.std.proofs.Common.{◌≡◌, ◌∙◌, ◌++◌, List, ℕ, map, ap, sym, fold}
-use Rattle.std.specs.List.{flat_map}
+use Rattle.std.proofs.Common.{◌∙◌, List, ℕ, map, ap, fold}
 use Rattle.cube_fixed.specs.declared.value.Value.{Value}
 use Rattle.view_query.specs.Views.{cell_at}
 use Rattle.view_query.proofs.LoopFacts.{one_mapped, one_asked}

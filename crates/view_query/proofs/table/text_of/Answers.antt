@@ -1,4 +1,4 @@
-use Rattle.std.proofs.Common.{◌∙◌, ◌++◌, List, ℕ, ap, count_by}
+use Rattle.std.proofs.Common.{◌∙◌, ◌++◌, ap, count_by}
 use Rattle.view_query.specs.Views.{cell_at}
 use Rattle.view_query.proofs.GridFacts.{table_valid, text_is}
 use Rattle.view_query.proofs.ShownFacts.{title_of}

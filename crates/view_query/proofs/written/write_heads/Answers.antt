@@ -1,4 +1,4 @@
-use Rattle.std.proofs.Common.{◌≡◌, ◌<◌, ◌+◌, ◌∙◌, ◌++◌, ◌∷◌, [], ℕ, List, length, map, drop, get_or, ap, arith}
+use Rattle.std.proofs.Common.{◌<◌, ◌+◌, ◌∙◌, ◌++◌, ◌∷◌, [], ℕ, length, map, drop, get_or, ap, arith}
 use Rattle.std.specs.List.{enumerate_from, items_where_true}
 use Rattle.std.proofs.lemmas.Option.{slice_get-get_or}
 use Rattle.view_query.specs.declared.shape.Axis.{Axis}
