@@ -30,6 +30,9 @@ axes_length D ks within = sym (length-map (axes_of D ks) (λ d. length d.element
 dims_within : (space : Layout) (cube : ℕ) (shape : CubeShape) → IsSpace space → slice_get space.cubes cube ≡ Some shape → All (λ dim. dim < length space.dimensions) shape.dims
 dims_within space cube shape valid is = found_holds (λ s. All (λ dim. dim < length space.dimensions) s.dims) space.cubes cube shape valid.layout.in_range is
 
+pub dims_few : (space : Layout) (cube : ℕ) (shape : CubeShape) → IsSpace space → slice_get space.cubes cube ≡ Some shape → length shape.dims ≤ 16
+dims_few space cube shape valid is = (found_holds (λ s. (2 ≤ length s.dims) × (length s.dims ≤ 16)) space.cubes cube shape valid.counts is).1
+
 -- the dimension of the number at a place stands at that place
 axes_get : (dimensions : List Outline) (dims : List ℕ) (i k : ℕ) (d : Outline) → All (λ k. k < length dimensions) dims
     → slice_get dims i ≡ Some k → slice_get dimensions k ≡ Some d → slice_get (axes_of dimensions dims) i ≡ Some d

@@ -1,5 +1,5 @@
 -- What is bound is a view.
-use Rattle.std.proofs.Common.{◌≡◌, ◌<◌, ◌≤◌, ◌+◌, ◌==◌, ℕ, zero, suc, Bool, true, false, eqb, nat_lt, if◌then◌else◌, List, [], ◌∷◌, map, length, position, min, Option, Some, None, Result, Ok, Err, refl, sym, ap, ◌∙◌, subst, arith, All, IfOk, slice_get, get_or}
+use Rattle.std.proofs.Common.{◌≡◌, ◌<◌, ◌≤◌, ◌+◌, ◌==◌, ℕ, zero, suc, Bool, true, false, nat_lt, if◌then◌else◌, List, [], ◌∷◌, map, length, position, min, Option, Some, None, Result, Ok, Err, refl, sym, ap, ◌∙◌, subst, arith, All, IfOk, slice_get}
 use Rattle.std.specs.List.{AllByRecursion, list_all, range_with_len, position_or_len}
 use Rattle.std.proofs.lemmas.Bool.{and_parts, eqb-true, ltb-true, ltb-false}
 use Rattle.std.proofs.lemmas.List.{length-map}
@@ -10,7 +10,7 @@ use Rattle.cube_space.specs.Layout.{Layout, axes, cube_names}
 use Rattle.user_text.specs.declared.command.SetText.{SetText}
 use Rattle.user_text.specs.declared.command.ViewText.{ViewText}
 use Rattle.view_query.specs.declared.fault.ViewFault.{ViewFault}
-use Rattle.view_query.specs.declared.fault.ViewFault.TheVariants.{WrongCount, ViewLimit}
+use Rattle.view_query.specs.declared.fault.ViewFault.TheVariants.{ViewLimit}
 use Rattle.view_query.specs.declared.shape.Axis.{Axis}
 use Rattle.view_query.specs.declared.shape.View.{View}
 use Rattle.view_query.specs.Meaning.{Meaning, done, ◌>>=◌, known, each, Answers}
@@ -138,18 +138,18 @@ module _ (space : Layout) (cube : ℕ) (text : ViewText) (view : View) (there : 
   made_is rows columns points row_places column_places point_places once e =
       let D : List Outline = axes space cube in
       let R = both (each (bound_set D) text.rows) (λ r. each (bound_set D) text.columns >>= (λ c. each (bound_point D) text.points >>= (λ p.
-          within_limit (record { cube = cube; rows = r; columns = c; points = p; nozeros = text.nozeros })))) view e in
+      within_limit (record { cube = cube; rows = r; columns = c; points = p; nozeros = text.nozeros })))) view e in
       let C = both (each (bound_set D) text.columns) (λ c. each (bound_point D) text.points >>= (λ p.
-          within_limit (record { cube = cube; rows = R.first; columns = c; points = p; nozeros = text.nozeros }))) view R.then_is in
+      within_limit (record { cube = cube; rows = R.first; columns = c; points = p; nozeros = text.nozeros }))) view R.then_is in
       let P = both (each (bound_point D) text.points) (λ p.
-          within_limit (record { cube = cube; rows = R.first; columns = C.first; points = p; nozeros = text.nozeros })) view C.then_is in
+      within_limit (record { cube = cube; rows = R.first; columns = C.first; points = p; nozeros = text.nozeros })) view C.then_is in
       let made : View = record { cube = cube; rows = R.first; columns = C.first; points = P.first; nozeros = text.nozeros } in
       let limit = limited made view P.then_is in
       let same_places = λ (x : SetText) (y : Axis) (z : ℕ) (own : bound_set D x ≡ Ok y) (place : place_named D x.dim ≡ Ok z). one_place (place_named D x.dim) y.place z (parts_of D x y own).place place in
       let rows_are : map (λ axis. axis.place) R.first ≡ rows = each_maps (bound_set D) (λ set. place_named D set.dim) (λ axis. axis.place) same_places text.rows R.first rows R.is row_places in
       let columns_are : map (λ axis. axis.place) C.first ≡ columns = each_maps (bound_set D) (λ set. place_named D set.dim) (λ axis. axis.place) same_places text.columns C.first columns C.is column_places in
       let points_are : map (λ point. point.0) P.first ≡ points = each_maps (bound_point D) (λ point. place_named D point.0) (λ point. point.0)
-          (λ x y z own place. one_place (place_named D x.0) y.0 z (point_parts D x y own).place place) text.points P.first points P.is point_places in
+      (λ x y z own place. one_place (place_named D x.0) y.0 z (point_parts D x y own).place place) text.points P.first points P.is point_places in
       subst (IsView space) limit.same (record {
         cube = there;
         rows = from_each (IsAxis D) R.first (each_holds (bound_set D) (IsAxis D) (λ x y own. (parts_of D x y own).own) text.rows R.first R.is);
@@ -176,9 +176,9 @@ module _ (space : Layout) (cube : ℕ) (text : ViewText) (view : View) (there : 
       let D : List Outline = axes space cube in
       let K = both (is_counted D text) (if_counted D cube text) view e in
       let R = both (each (λ set. place_named D set.dim) text.rows) (λ r. each (λ set. place_named D set.dim) text.columns >>= (λ c. each (λ point. place_named D point.0) text.points >>= (λ p.
-          done (is_each_once (length D) r c p)))) K.first K.is in
+      done (is_each_once (length D) r c p)))) K.first K.is in
       let C = both (each (λ set. place_named D set.dim) text.columns) (λ c. each (λ point. place_named D point.0) text.points >>= (λ p.
-          done (is_each_once (length D) R.first c p))) K.first R.then_is in
+      done (is_each_once (length D) R.first c p))) K.first R.then_is in
       let P = both (each (λ point. place_named D point.0) text.points) (λ p. done (is_each_once (length D) R.first C.first p)) K.first C.then_is in
       by_count K.first R.first C.first P.first R.is C.is P.is (ok_same (is_each_once (length D) R.first C.first P.first) K.first P.then_is) K.then_is
 
@@ -203,17 +203,17 @@ module _ (D : List Outline) (text : ViewText) (rs cs : List SetText) (ps : List 
   points_refused result fault is refused =
       subst (Answers (is_counted D text)) (sym is)
       (goes_on (each (λ set. place_named D set.dim) text.rows) rows (λ rows. each (λ set. place_named D set.dim) text.columns >>= (λ columns. each (λ point. place_named D point.0) text.points >>= (λ points.
-          done (is_each_once (length D) rows columns points)))) (Err fault) (ap (each (λ set. place_named D set.dim)) (sym r) ∙ row_places)
+      done (is_each_once (length D) rows columns points)))) (Err fault) (ap (each (λ set. place_named D set.dim)) (sym r) ∙ row_places)
       (goes_on (each (λ set. place_named D set.dim) text.columns) columns (λ columns. each (λ point. place_named D point.0) text.points >>= (λ points.
-          done (is_each_once (length D) rows columns points))) (Err fault) (ap (each (λ set. place_named D set.dim)) (sym c) ∙ column_places)
+      done (is_each_once (length D) rows columns points))) (Err fault) (ap (each (λ set. place_named D set.dim)) (sym c) ∙ column_places)
       (stops (each (λ point. place_named D point.0) text.points) (λ points. done (is_each_once (length D) rows columns points)) fault
       (subst (λ l. Answers (each (λ point. place_named D point.0) l) (Err fault)) p refused))))
 
   pub points_counted : (points : List ℕ) (n : ℕ) (b : Bool) → each (λ point. place_named D point.0) ps ≡ Ok points → n ≡ length D → b ≡ is_each_once n rows columns points → is_counted D text ≡ Ok b
   points_counted points n b point_places long is =
       ap (λ m. m >>= (λ rows. each (λ set. place_named D set.dim) text.columns >>= (λ columns. each (λ point. place_named D point.0) text.points >>= (λ points.
-          done (is_each_once (length D) rows columns points))))) (ap (each (λ set. place_named D set.dim)) (sym r) ∙ row_places)
+      done (is_each_once (length D) rows columns points))))) (ap (each (λ set. place_named D set.dim)) (sym r) ∙ row_places)
       ∙ ap (λ m. m >>= (λ columns. each (λ point. place_named D point.0) text.points >>= (λ points.
-          done (is_each_once (length D) rows columns points)))) (ap (each (λ set. place_named D set.dim)) (sym c) ∙ column_places)
+      done (is_each_once (length D) rows columns points)))) (ap (each (λ set. place_named D set.dim)) (sym c) ∙ column_places)
       ∙ ap (λ m. m >>= (λ points. done (is_each_once (length D) rows columns points))) (ap (each (λ point. place_named D point.0)) (sym p) ∙ point_places)
       ∙ ap Ok (ap (λ k. is_each_once k rows columns points) (sym long) ∙ sym is)

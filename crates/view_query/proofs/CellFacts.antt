@@ -1,18 +1,18 @@
 -- The cell of each row and column is there.
-use Rattle.std.proofs.Common.{◌≡◌, ◌<◌, ◌≤◌, ◌+◌, ◌==◌, ℕ, zero, suc, Bool, true, false, ◌&&◌, eqb, nat_lt, if◌then◌else◌, List, [], ◌∷◌, map, length, Option, Some, None, inl, inr, ◌⊎◌, refl, sym, ap, ◌∙◌, subst, arith, All, slice_get, count_by, unwrap_or}
-use Rattle.std.specs.List.{AllByRecursion, AllZip, range_with_len}
+use Rattle.std.proofs.Common.{◌≡◌, ◌<◌, ◌+◌, ◌==◌, ℕ, zero, suc, Bool, true, false, eqb, if◌then◌else◌, List, [], ◌∷◌, map, length, Option, Some, None, inl, inr, ◌⊎◌, refl, sym, ap, ◌∙◌, subst, arith, slice_get, count_by, unwrap_or}
+use Rattle.std.specs.List.{AllByRecursion, range_with_len}
 use Rattle.std.specs.Option.{option_or}
 use Rattle.std.proofs.lemmas.Bool.{and_from, lt-ltb, eqb-true, cases_Bool}
 use Rattle.std.proofs.lemmas.List.Sums.{sum_by-cons}
 use Rattle.dim_core.specs.Outline.{Outline}
-use Rattle.cube_space.specs.Layout.{Layout, axes, sizes, sizes_of}
+use Rattle.cube_space.specs.Layout.{Layout, axes, sizes_of}
 use Rattle.cube_space.specs.Radix.{are_digits}
-use Rattle.cube_space.specs.Cells.{cell_number, is_place}
-use Rattle.cube_space.proofs.Places.{IsPlace, is_place-from, place_number, cell_number-place}
+use Rattle.cube_space.specs.Cells.{cell_number}
+use Rattle.cube_space.proofs.Places.{IsPlace, place_number, cell_number-place}
 use Rattle.view_query.specs.declared.shape.Axis.{Axis}
 use Rattle.view_query.specs.declared.shape.View.{View}
 use Rattle.view_query.specs.Views.{IsView, IsPoint, element_in, point_at, element_at, elements_at, times_at}
-use Rattle.view_query.specs.Inside.Lines.{IsElementOf, IsLine}
+use Rattle.view_query.specs.Inside.Lines.{IsLine}
 use Rattle.view_query.proofs.LineFacts.{to_each}
 
 -- one more is counted, or not
@@ -72,7 +72,7 @@ digits_from (d ∷ ds) f from low =
     and_from _ _ (lt-ltb (f from) (length d.elements) (subst (λ n. f n < length d.elements) same (low 0 d refl)))
     (digits_from ds f (from + 1) (λ k x is. let later : from + suc k ≡ from + 1 + k = omega arith in subst (λ n. f n < length x.elements) later (low (suc k) x is)))
 
-slice_low : {X : Type 0} (xs : List X) (k : ℕ) (x : X) → slice_get xs k ≡ Some x → k < length xs
+pub slice_low : {X : Type 0} (xs : List X) (k : ℕ) (x : X) → slice_get xs k ≡ Some x → k < length xs
 slice_low [] k x is = absurd (cc is)
 slice_low (y ∷ xs) zero x is = omega arith
 slice_low (y ∷ xs) (suc k) x is = let low = slice_low xs k x is in omega (arith, low)

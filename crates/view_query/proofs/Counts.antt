@@ -4,7 +4,7 @@ use Rattle.std.specs.List.{flat_map, range_with_len}
 use Rattle.std.proofs.lemmas.List.{length-map}
 use Rattle.cube_space.specs.Radix.{product}
 use Rattle.view_query.specs.declared.shape.Axis.{Axis}
-use Rattle.view_query.specs.Views.{combinations, lines}
+use Rattle.view_query.specs.Views.{lines}
 
 -- how many elements each axis has
 abbrev pub counts : List Axis → List ℕ

@@ -4,3 +4,7 @@ pub mod Counts
 pub mod LineFacts
 pub mod CellFacts
 pub mod BoundFacts
+pub mod LoopFacts
+pub mod WritingFacts
+pub mod ShownFacts
+pub mod GridFacts

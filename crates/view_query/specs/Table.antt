@@ -37,15 +37,26 @@ abbrev pub row_line : Layout → View → List ℕ → List Value → List ℕ
 row_line space view row values =
     joined (map (λ pair. shown_name space view.cube pair.0 pair.1) (zip view.rows row) ++ map printed values)
 
--- the table with these values of rows and columns. Whether a line is left out is judged by all columns, or by all rows
-abbrev pub table_of : Layout → View → (List ℕ → List ℕ → Value) → List ℕ
-table_of space view value =
-    let rows : List (List ℕ) = filter (λ row. is_shown view.nozeros (map (value row) (lines view.columns))) (lines view.rows) in
-    let columns : List (List ℕ) = filter (λ column. is_shown view.nozeros (map (λ row. value row column) (lines view.rows))) (lines view.columns) in
+-- the rows and the columns that are shown, by the values of all rows and columns
+abbrev pub shown_rows : View → (List ℕ → List ℕ → Value) → List (List ℕ)
+shown_rows view value =
+    filter (λ row. is_shown view.nozeros (map (value row) (lines view.columns))) (lines view.rows)
+
+abbrev pub shown_columns : View → (List ℕ → List ℕ → Value) → List (List ℕ)
+shown_columns view value =
+    filter (λ column. is_shown view.nozeros (map (λ row. value row column) (lines view.rows))) (lines view.columns)
+
+-- the table of these rows and columns: `table R C`, the head lines, and the rows, with a line end between each two
+abbrev pub table_lines : Layout → View → (List ℕ → List ℕ → Value) → List (List ℕ) → List (List ℕ) → List ℕ
+table_lines space view value rows columns =
     codes "table " ++ decimal (length rows) ++ codes " " ++ decimal (length columns)
     ++ flat_map (λ line. 10 ∷ line)
     (map (head_line space view columns) (enumerate_from 0 view.columns)
     ++ map (λ row. row_line space view row (map (value row) columns)) rows)
 
+abbrev pub table_of : Layout → View → (List ℕ → List ℕ → Value) → List ℕ
+table_of space view value = table_lines space view value (shown_rows view value) (shown_columns view value)
+
+-- the table of a view, by the values of the cells
 unfoldable pub table_text : Layout → View → (ℕ → Value) → List ℕ
 table_text space view values = table_of space view (λ row column. values (cell_at space view row column))

@@ -1,4 +1,4 @@
-ghost use Rattle.std.specs.Prelude.{◌≡◌, ◌<◌, Some, length, map, slice_get};
+ghost use Rattle.std.specs.Prelude.{◌≡◌, ◌<◌, ◌≤◌, Some, length, map, slice_get};
 ghost use Rattle.dim_name.specs.Name.{place_of};
 ghost use Rattle.cube_space.specs.Layout.{axes};
 
@@ -9,7 +9,8 @@ use dim_name::Name;
 /// How many dimensions a cube has.
 pub(crate) fn axis_count(space: &Space, cube: u32) -> u32
     requires { cube < length space.now.cubes }
-    ensures { result ≡ length (axes space.now cube) }
+    ensures value { result ≡ length (axes space.now cube) }
+    ensures few { result ≤ 16 }
 {
     // a space says of itself that it is one
     let _cells = space.size();

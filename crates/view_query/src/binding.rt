@@ -44,12 +44,7 @@ fn bind_in(alloc: Global, space: &Space, cube: u32, text: &ViewText) -> Result<V
 }
 
 // Whether each dimension of the cube stands in just one of rows, columns and points.
-fn is_counted(
-    alloc: Global,
-    space: &Space,
-    cube: u32,
-    text: &ViewText,
-) -> Result<bool, ViewFault>
+fn is_counted(alloc: Global, space: &Space, cube: u32, text: &ViewText) -> Result<bool, ViewFault>
     requires { cube < length space.now.cubes }
     ensures { Answers (is_counted (axes space.now cube) text.now) result }
 {
@@ -57,7 +52,12 @@ fn is_counted(
     let columns = set_places(alloc, space, cube, text.columns.as_slice())?;
     let points = point_places(alloc, space, cube, text.points.as_slice())?;
     let count = axis_count(space, cube);
-    Ok(is_each_once(count, rows.as_slice(), columns.as_slice(), points.as_slice()))
+    Ok(is_each_once(
+        count,
+        rows.as_slice(),
+        columns.as_slice(),
+        points.as_slice(),
+    ))
 }
 
 // Whether each of so many dimensions stands at just one of these places of rows, columns and points.

@@ -1,4 +1,5 @@
-ghost use Rattle.std.specs.Prelude.{◌≡◌, ℕ, ◌<◌, ◌++◌, ◌∷◌, [], All, List, OnOk, if◌then◌else◌, length, map};
+ghost use Rattle.std.specs.Prelude.{◌≡◌, ℕ, ◌<◌, ◌++◌, ◌∷◌, [], All, List, OnOk, Some, length, map, slice_get};
+ghost use Rattle.view_query.specs.declared.shape.Axis.{Axis as AxisValue};
 ghost use Rattle.std.specs.List.{items_where_true};
 ghost use Rattle.cube_fixed.specs.Text.{printed};
 ghost use Rattle.cube_space.specs.Layout.{axes};
@@ -85,7 +86,7 @@ pub(crate) fn write_names_across(
     requires index { index < length along.now }
     requires lines { All (IsLine (axes space.now cube) along.now) lines.now }
     requires shown { length shown.now ≡ length lines.now }
-    ensures { OnOk result ((across : Axis) → slice_get along.now index ≡ Some across → out.new.items
+    ensures { OnOk result ((across : AxisValue) → slice_get along.now index ≡ Some across → out.new.items
         ≡ out.old.items ++ tabbed (names_across space.now cube across index (items_where_true shown.now lines.now))) }
 {
     for place in 0..lines.len() {

@@ -1,5 +1,5 @@
-ghost use Rattle.std.specs.Prelude.{◌≡◌, ◌∷◌, ◌++◌, map, IfOk, OnOk};
-ghost use Rattle.std.specs.List.{flat_map};
+ghost use Rattle.std.specs.Prelude.{◌≡◌, ◌==◌, ◌∷◌, ◌++◌, length, map, IfOk, OnOk};
+ghost use Rattle.std.specs.List.{flat_map, list_any};
 ghost use Rattle.view_query.specs.Views.{lines};
 
 use crate::shape::Axis;
@@ -10,12 +10,18 @@ use std::alloc::{AllocError, Global};
 pub(crate) fn lines(alloc: Global, axes: &[Axis]) -> Result<Vec<ListOf<u32>>, AllocError>
     ensures { IfOk result (λ all. all.items ≡ lines axes.now) }
 {
-    // other axes may have more combinations than there is memory for
-    if axes.iter().any(|axis| axis.elements.as_slice().is_empty()) {
+    // the other axes may have more combinations than there is memory for
+    if has_empty(axes) {
         Ok(Vec::new(alloc))
     } else {
         all_lines(alloc, axes)
     }
+}
+
+fn has_empty(axes: &[Axis]) -> bool
+    ensures { result ≡ list_any (λ axis. length axis.elements == 0) axes.now }
+{
+    axes.iter().any(|axis| axis.elements.as_slice().is_empty())
 }
 
 fn all_lines(alloc: Global, axes: &[Axis]) -> Result<Vec<ListOf<u32>>, AllocError>

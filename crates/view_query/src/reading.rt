@@ -17,9 +17,9 @@ use std::alloc::{AllocError, Global};
 fn element_in(axes: &[Axis], line: &[u32], place: u32) -> Option<u32>
     ensures { result ≡ element_in axes.now line.now place }
 {
-    for (axis, element) in axes.iter().zip(line) {
-        if axis.place == place {
-            return Some(*element);
+    for index in 0..axes.len() {
+        if axes[index].place == place {
+            return line.get(index).copied();
         }
     }
     None
@@ -38,9 +38,9 @@ fn point_at(points: &[(u32, u32)], place: u32) -> Option<u32>
 fn element_at(view: &View, row: &[u32], column: &[u32], place: u32) -> u32
     ensures { result ≡ element_at view.now row.now column.now place }
 {
+    let of_column = element_in(view.columns.as_slice(), column, place);
     element_in(view.rows.as_slice(), row, place)
-        .or(element_in(view.columns.as_slice(), column, place))
-        .or(point_at(view.points.as_slice(), place))
+        .or(of_column.or(point_at(view.points.as_slice(), place)))
         .unwrap_or(0)
 }
 

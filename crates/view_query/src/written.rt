@@ -58,7 +58,15 @@ fn write_head(
     let start = out.len();
     write_empty(view.rows.as_slice().len(), out)?;
     let along = view.columns.as_slice();
-    write_names_across(space, view.cube, along, index, &grid.columns, &grid.columns_shown, out)?;
+    write_names_across(
+        space,
+        view.cube,
+        along,
+        index,
+        &grid.columns,
+        &grid.columns_shown,
+        out,
+    )?;
     end_line(out, start);
     Ok(())
 }

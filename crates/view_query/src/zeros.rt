@@ -17,11 +17,17 @@ fn is_zero(value: Value) -> bool
     }
 }
 
+fn has_other(values: &[Value]) -> bool
+    ensures { result ≡ list_any (λ value. not (is_zero value)) values.now }
+{
+    values.iter().any(|value| !is_zero(*value))
+}
+
 // Whether a row is shown.
 fn is_shown(nozeros: bool, values: &[Value]) -> bool
     ensures { result ≡ is_shown nozeros values.now }
 {
-    !nozeros || values.iter().any(|value| !is_zero(*value))
+    !nozeros || has_other(values)
 }
 
 /// Which rows are shown.
@@ -48,13 +54,18 @@ fn is_other_at(values: &[Value], column: usize) -> bool
     }
 }
 
+fn has_other_at(table: &[ListOf<Value>], column: usize) -> bool
+    ensures { result ≡ list_any (is_other_at column) table.now }
+{
+    table
+        .iter()
+        .any(|values| is_other_at(values.as_slice(), column))
+}
+
 fn is_column_shown(nozeros: bool, table: &[ListOf<Value>], column: usize) -> bool
     ensures { result ≡ (not nozeros || list_any (is_other_at column) table.now) }
 {
-    !nozeros
-        || table
-            .iter()
-            .any(|values| is_other_at(values.as_slice(), column))
+    !nozeros || has_other_at(table, column)
 }
 
 /// Which of so many columns are shown.

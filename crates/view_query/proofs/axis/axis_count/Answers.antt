@@ -1,7 +1,12 @@
-use Rattle.std.proofs.Common.{◌∙◌, length, sym, ap}
-use Rattle.view_query.proofs.AxisFacts.{axis_total}
+use Rattle.std.proofs.Common.{◌∙◌, length, sym, ap, arith}
+use Rattle.view_query.proofs.AxisFacts.{axis_total, dims_few}
 use Rattle.view_query.proofs.axis.axis_count.Goals as goal
 
-pub returns : goal.returns
-returns c =
+pub returns-clause-value : goal.returns-clause-value
+returns-clause-value c =
     ap length c.as_slice.ensures ∙ sym (axis_total c.args.space.now c.args.cube c.shape.result.now c.size-cells.ensures.valid c.shape.ensures)
+
+pub returns-clause-few : goal.returns-clause-few
+returns-clause-few c =
+    let few = dims_few c.args.space.now c.args.cube c.shape.result.now c.size-cells.ensures.valid c.shape.ensures in
+    omega (arith, few, ap length c.as_slice.ensures)

@@ -1,4 +1,4 @@
-use Rattle.std.proofs.Common.{◌≡◌, ◌∙◌, true, false, Bool, ap, sym, arith, length}
+use Rattle.std.proofs.Common.{◌∙◌, ap, sym, arith}
 use Rattle.dim_name.specs.Name.{is_same_name}
 use Rattle.cube_space.specs.Layout.{axes}
 use Rattle.view_query.proofs.AxisFacts.{found_here, found_later, found_none, place_sought}
@@ -18,5 +18,5 @@ loop-place-preserved c =
 
 pub returns : goal.returns
 returns c =
-    found_none (λ d. is_same_name c.args.name.now d.name) c.loop-place.place (axes c.args.space.now c.args.cube) (omega (arith, c.axis_count-place-end.ensures))
+    found_none (λ d. is_same_name c.args.name.now d.name) c.loop-place.place (axes c.args.space.now c.args.cube) (omega (arith, c.axis_count-place-end.ensures.value))
     ∙ sym c.loop-place.invariant ∙ place_sought (is_same_name c.args.name.now) (axes c.args.space.now c.args.cube)

@@ -1,4 +1,4 @@
-use Rattle.std.proofs.Common.{◌≡◌, ◌∙◌, Some, ap, sym, subst, rules}
+use Rattle.std.proofs.Common.{◌≡◌, ◌∙◌, Some, ap, sym, subst}
 use Rattle.dim_name.specs.Name.{place_of}
 use Rattle.cube_space.specs.Layout.{axes, cube_names}
 use Rattle.view_query.specs.Meaning.{Answers, known}

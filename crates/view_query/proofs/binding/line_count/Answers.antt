@@ -1,10 +1,9 @@
-use Rattle.std.proofs.Common.{◌≡◌, ◌*◌, ◌<◌, ◌+◌, ◌∙◌, length, drop, get_or, min, sym, ap, arith}
+use Rattle.std.proofs.Common.{◌≡◌, ◌*◌, ◌+◌, ◌∙◌, length, get_or, min, sym, ap, arith}
 use Rattle.std.specs.List.{drop-map}
 use Rattle.std.proofs.Math.Nat.{min-le_right}
 use Rattle.std.proofs.lemmas.List.{length-map, get_or-map}
 use Rattle.cube_space.specs.Radix.{product}
 use Rattle.cube_space.proofs.Steps.{product-turn, product-end}
-use Rattle.view_query.specs.Views.{lines}
 use Rattle.view_query.proofs.Counts.{counts, length-lines}
 use Rattle.view_query.proofs.binding.line_count.Goals as goal
 
@@ -20,8 +19,8 @@ loop-axis-preserved c =
     record {
       fits = omega (arith, c.saturating_mul-count.ensures, min-le_right (c.loop-axis.count * size) 18446744073709551615);
       rest = ap (λ l. min (c.saturating_mul-count.result * product l) 18446744073709551615) (sym (drop-map (λ axis. length axis.elements) (i + 1) c.args.axes.now))
-      ∙ product-turn all i c.loop-axis.count size _ _ _ (omega (arith, long, c.loop-axis-test.true)) own c.saturating_mul-count.ensures
-      (ap (λ l. min (c.loop-axis.count * product l) 18446744073709551615) (drop-map (λ axis. length axis.elements) i c.args.axes.now) ∙ c.loop-axis.invariant.rest);
+          ∙ product-turn all i c.loop-axis.count size _ _ _ (omega (arith, long, c.loop-axis-test.true)) own c.saturating_mul-count.ensures
+          (ap (λ l. min (c.loop-axis.count * product l) 18446744073709551615) (drop-map (λ axis. length axis.elements) i c.args.axes.now) ∙ c.loop-axis.invariant.rest);
     }
 
 pub returns : goal.returns
