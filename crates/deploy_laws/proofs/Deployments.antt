@@ -1,0 +1,99 @@
+-- Deployment has one answer.
+use Rattle.std.proofs.Common.{ℕ, Option, Some, None, option_map, List}
+use Rattle.std.specs.Prelude.{slice_index_or}
+use Rattle.cube_space.specs.Layout.{Layout}
+use Rattle.model_text.specs.Contents.{Contents}
+use Rattle.model_text.specs.declared.order.OrderLine.{OrderLine}
+use Rattle.rule_tree.specs.declared.rule.RuleText.{RuleText}
+use Rattle.rule_bind.specs.Rules.{rules_of}
+use Rattle.bind_order.specs.Orders.{order_of}
+use Rattle.check_order.specs.Verdict.{order_fault}
+use Rattle.rule_model.specs.BoundModel.{BoundModel}
+use Rattle.rule_model.specs.declared.rules.CubeRules.{CubeRules}
+use Rattle.model_deploy.specs.declared.file.RuleFile.{RuleFile}
+use Rattle.model_deploy.specs.Foundation.{layout_of, cube_lines, order_lines, dimensions_refusal, space_refusal, products_refusal}
+use Rattle.model_deploy.specs.Rules.{file_name, meant_in, in_order, by_line, text_stage, meaning_stage, order_stage}
+use Rattle.model_deploy.specs.Stages.{Stage, found, unless, each, ◌>>=◌}
+use Rattle.model_deploy.specs.Deployment.{order_refusal, feeders_stage, fed_stage, model_of, deployment}
+use Rattle.deploy_laws.specs.OneAnswer.{HasOneAnswer}
+use Rattle.deploy_laws.proofs.Single.{single-found, single-meant, single-unless, single-then, single-each}
+use Rattle.deploy_laws.proofs.Texts.{single-text}
+use Rattle.deploy_laws.proofs.Models.{single-feeders, single-fed}
+
+single-meaning : (space : Layout) (files : List (Option RuleFile)) (cube : ℕ) (text : RuleText) → HasOneAnswer (meaning_stage space files cube text)
+single-meaning space files cube text = single-meant (meant_in (file_name files cube) (rules_of space cube text))
+
+single-line : (space : Layout) (cube : ℕ) (rules : CubeRules) (line : Option (ℕ × OrderLine)) → HasOneAnswer (by_line space cube rules line)
+single-line space cube rules None = single-found rules
+single-line space cube rules (Some line) = single-meant (in_order rules line.0 (order_of space cube line.1))
+
+single-order : (space : Layout) (lines : List (Option (ℕ × OrderLine))) (cube : ℕ) (rules : CubeRules) → HasOneAnswer (order_stage space lines cube rules)
+single-order space lines cube rules = single-line space cube rules (slice_index_or lines cube None)
+
+module _ (contents : Contents) (files : List (Option RuleFile)) where
+  -- what comes after each check
+  abbrev accepts : List CubeRules → Unit {0} → Stage BoundModel
+  accepts rules _ = found (model_of contents rules)
+
+  abbrev fed-next : List CubeRules → Unit {0} → Stage BoundModel
+  fed-next rules _ = fed_stage (model_of contents rules) >>= accepts rules
+
+  abbrev feeders-next : List CubeRules → Unit {0} → Stage BoundModel
+  feeders-next rules _ = feeders_stage files (model_of contents rules) >>= fed-next rules
+
+  abbrev unless-late : List CubeRules → Stage (Unit {0})
+  unless-late rules = unless (option_map (order_refusal files) (order_fault (model_of contents rules)))
+
+  abbrev model-next : List CubeRules → Stage BoundModel
+  model-next rules = unless-late rules >>= feeders-next rules
+
+  abbrev ordering : List CubeRules → Stage (List CubeRules)
+  ordering meant = each (order_stage (layout_of contents) (order_lines contents.cubes)) 0 meant
+
+  abbrev orders-next : List CubeRules → Stage BoundModel
+  orders-next meant = ordering meant >>= model-next
+
+  abbrev meaning : List RuleText → Stage (List CubeRules)
+  meaning texts = each (meaning_stage (layout_of contents) files) 0 texts
+
+  abbrev meanings-next : List RuleText → Stage BoundModel
+  meanings-next texts = meaning texts >>= orders-next
+
+  abbrev reading : Stage (List RuleText)
+  reading = each (λ _. text_stage) 0 files
+
+  abbrev texts-next : Unit {0} → Stage BoundModel
+  texts-next _ = reading >>= meanings-next
+
+  abbrev products : Stage (Unit {0})
+  products = unless (products_refusal (cube_lines contents.cubes) (layout_of contents))
+
+  abbrev products-next : Unit {0} → Stage BoundModel
+  products-next _ = products >>= texts-next
+
+  abbrev cells : Stage (Unit {0})
+  cells = unless (space_refusal (cube_lines contents.cubes) (layout_of contents))
+
+  abbrev cells-next : Unit {0} → Stage BoundModel
+  cells-next _ = cells >>= products-next
+
+  single-model : (rules : List CubeRules) → HasOneAnswer (model-next rules)
+  single-model rules =
+      let model = model_of contents rules in
+      single-then (unless-late rules) (feeders-next rules) (single-unless (option_map (order_refusal files) (order_fault model)))
+      (λ _. single-then (feeders_stage files model) (fed-next rules) (single-feeders model files) (λ _. single-then (fed_stage model) (accepts rules) (single-fed model) (λ _. single-found model)))
+
+  single-rules : HasOneAnswer (reading >>= meanings-next)
+  single-rules =
+      let lines = order_lines contents.cubes in
+      let space = layout_of contents in
+      single-then reading meanings-next (single-each (λ _. text_stage) (λ _. single-text) 0 files)
+      (λ texts. single-then (meaning texts) orders-next (single-each (meaning_stage space files) (single-meaning space files) 0 texts)
+      (λ meant. single-then (ordering meant) model-next (single-each (order_stage space lines) (single-order space lines) 0 meant) single-model))
+
+  pub single-deployment : HasOneAnswer (deployment contents files)
+  unfolding deployment
+  single-deployment =
+      single-then (unless (dimensions_refusal contents.dims)) cells-next (single-unless (dimensions_refusal contents.dims))
+      (λ _. single-then cells products-next (single-unless (space_refusal (cube_lines contents.cubes) (layout_of contents)))
+      (λ _. single-then products texts-next (single-unless (products_refusal (cube_lines contents.cubes) (layout_of contents))) (λ _. single-rules)))
