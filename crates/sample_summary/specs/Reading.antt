@@ -10,7 +10,8 @@ use Rattle.rule_model.specs.Named.{cell_named}
 -- the value of a measure's cell for all products and the whole year, where the model has that cell
 abbrev pub total_on : NumberedVersion → List ℕ → Option Value
 total_on version measure =
-    option_map (value_on version) (cell_named version.model.space (codes "Shop") (codes "Total" ∷ codes "Year" ∷ measure ∷ []))
+    option_map (value_on version)
+    (cell_named version.model.space (codes "Shop") (codes "Total" ∷ codes "Year" ∷ measure ∷ []))
 
 abbrev pub with_totals : NumberedVersion → ℕ → Option Value → Option Value → Option (List ℕ)
 with_totals version size None sales = None
