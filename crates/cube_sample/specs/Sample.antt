@@ -9,9 +9,19 @@ unfoldable pub drawn : ℕ → ℕ → ℕ
 drawn size zero = size
 drawn size (suc count) = following (drawn size count)
 
--- each record uses four of them, behind the size: record i, from 0, has this product, this month, so many units and this price
+-- each record uses four of them, behind the size: record i, from 0, has this product, this month, so many units and
+-- this price
 abbrev pub most_products : ℕ
 most_products = 1000
+
+abbrev pub months : ℕ
+months = 12
+
+abbrev pub most_units : ℕ
+most_units = 100
+
+abbrev pub most_price : ℕ
+most_price = 50
 
 abbrev pub products_of : ℕ → ℕ
 products_of size = min size most_products
@@ -20,13 +30,13 @@ abbrev pub product_of : ℕ → ℕ → ℕ
 product_of size i = 1 + drawn size (4 * i + 1) % products_of size
 
 abbrev pub month_of : ℕ → ℕ → ℕ
-month_of size i = 1 + drawn size (4 * i + 2) % 12
+month_of size i = 1 + drawn size (4 * i + 2) % months
 
 abbrev pub units_of : ℕ → ℕ → ℕ
-units_of size i = 1 + drawn size (4 * i + 3) % 100
+units_of size i = 1 + drawn size (4 * i + 3) % most_units
 
 abbrev pub price_of : ℕ → ℕ → ℕ
-price_of size i = 1 + drawn size (4 * i + 4) % 50
+price_of size i = 1 + drawn size (4 * i + 4) % most_price
 
 -- the texts of 0, 1 and so on, so many of them, one after another
 unfoldable pub repeated : (ℕ → List ℕ) → ℕ → List ℕ
@@ -55,14 +65,14 @@ further_part letter number = codes ", '" ++ letter ++ decimal number ++ codes "'
 abbrev pub dimension_text : List ℕ → List ℕ → List ℕ → ℕ → List ℕ
 dimension_text name letter total leaves =
     codes "DIM '" ++ name ++ codes "';\n" ++ repeated (λ i. leaf_line letter (i + 1)) leaves
-    ++ codes "C '" ++ total ++ codes "': '" ++ letter ++ codes "1'" ++ repeated (λ i. further_part letter (i + 2)) (leaves - 1)
-    ++ codes ";\nEND;\n"
+    ++ codes "C '" ++ total ++ codes "': '" ++ letter ++ codes "1'"
+    ++ repeated (λ i. further_part letter (i + 2)) (leaves - 1) ++ codes ";\nEND;\n"
 
 abbrev pub model_text : ℕ → List ℕ
 model_text size =
     codes "MODEL 1;\n"
     ++ dimension_text (codes "Product") (codes "P") (codes "Total") (products_of size)
-    ++ dimension_text (codes "Month") (codes "M") (codes "Year") 12
+    ++ dimension_text (codes "Month") (codes "M") (codes "Year") months
     ++ codes "DIM 'Measure';\nN 'Units';\nN 'Price';\nN 'Sales';\nEND;\n"
     ++ codes "CUBE 'Shop' ('Product', 'Month', 'Measure');\nRULES 'shop.rux';\nORDER 'Measure' ('Sales' 1);\nEND;\n"
     ++ codes "SCRIPT 'import' 'import.ti';\n"

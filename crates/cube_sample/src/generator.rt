@@ -1,6 +1,10 @@
 ghost use Rattle.std.specs.Prelude.{◌≡◌, ◌+◌, ◌%◌, ◌<◌};
 ghost use Rattle.cube_sample.specs.Sample.{following};
 
+const MULTIPLIER: u64 = 48_271;
+
+const MODULUS: u64 = 2_147_483_647;
+
 /// Numbers that follow from one another, by the multiplier 48,271 modulo 2^31 - 1.
 #[derive(Clone, Copy, Debug)]
 pub(crate) struct Generator {
@@ -14,7 +18,7 @@ impl Generator {
         ensures drawn { self.new.last ≡ following self.old.last }
         ensures value { result ≡ 1 + following self.old.last % most }
     {
-        self.last = (u64::from(self.last) * 48_271 % 2_147_483_647) as u32;
+        self.last = (u64::from(self.last) * MULTIPLIER % MODULUS) as u32;
         1 + self.last % most
     }
 }

@@ -1,11 +1,8 @@
 ghost use Rattle.std.specs.Prelude.{◌≡◌, ◌+◌, ◌≤◌, ◌<◌, ◌-◌, ◌^◌, ◌++◌, IfOk, OnOk};
 ghost use Rattle.cube_sample.specs.Sample.{dimension_text, further_part, leaf_line, model_text, repeated};
 
-use crate::records::products_of;
+use crate::records::{MONTHS, products_of};
 use std::alloc::{AllocError, Global};
-
-/// How many months there are.
-const MONTHS: u32 = 12;
 
 fn write_leaf(alloc: Global, out: &mut Vec<u8>, letter: &str, number: u32) -> Result<(), AllocError>
     ensures { OnOk result (out.new.items ≡ out.old.items ++ leaf_line letter.now number) }

@@ -7,6 +7,15 @@ use std::alloc::{AllocError, Global};
 /// The most products of a sample.
 const MOST_PRODUCTS: u32 = 1_000;
 
+/// How many months there are.
+pub(crate) const MONTHS: u32 = 12;
+
+/// The most units of a record.
+const MOST_UNITS: u32 = 100;
+
+/// The highest price of a record.
+const MOST_PRICE: u32 = 50;
+
 /// How many products a sample of a size has.
 pub(crate) fn products_of(size: u32) -> u32
     ensures { result ≡ products_of size }
@@ -42,9 +51,9 @@ pub(crate) fn record_files(alloc: Global, size: u32) -> Result<(Vec<u8>, Vec<u8>
     let products = products_of(size);
     for _index in 0..size {
         let product = generator.up_to(products);
-        let month = generator.up_to(12);
-        let units = generator.up_to(100);
-        let price = generator.up_to(50);
+        let month = generator.up_to(MONTHS);
+        let units = generator.up_to(MOST_UNITS);
+        let price = generator.up_to(MOST_PRICE);
         write_record(alloc, &mut units_file, product, month, "Units", units)?;
         write_record(alloc, &mut price_file, product, month, "Price", price)?;
     }

@@ -1,6 +1,6 @@
 -- The words that the program is called with.
-use Rattle.std.specs.Prelude.{◌≡◌, ◌⊎◌, ℕ, ◌≤◌, List, [], ◌∷◌, ◌++◌, length, map, Bool, false, not, ◌==◌, IsTrue, String}
-use Rattle.std.specs.Prelude.{codes, string_bytes}
+use Rattle.std.specs.Prelude.{◌≡◌, ◌⊎◌, ℕ, ◌≤◌, List, [], ◌∷◌, ◌++◌, length, map, Bool, false, not, ◌==◌, IsTrue}
+use Rattle.std.specs.Prelude.{String, codes, string_bytes}
 use Rattle.std.specs.Char.{is_ascii_digit}
 use Rattle.std.specs.List.{list_all}
 use Rattle.std.specs.Str.Parse.{digits_value}
@@ -17,15 +17,18 @@ abbrev pub names_a_file : List ℕ → Bool
 names_a_file [] = false
 names_a_file (c ∷ _) = not (c == 45)
 
--- the most users of one run, and the most records of a sample
+-- the most users of one run, the most records of a sample, and the most digits of their number
 abbrev pub most_users : ℕ
 most_users = 16
 
 abbrev pub most_records : ℕ
 most_records = 100000
 
--- what the words ask for: to run these users' commands on the model, each by the name of its file; to check the model; or to
--- run a sample of so many records and sum it up
+abbrev pub most_digits : ℕ
+most_digits = 6
+
+-- what the words ask for: to run these users' commands on the model, each by the name of its file; to check the model;
+-- or to run a sample of so many records and sum it up
 pub data Plan : Type 0 where
   Run : List ℕ → List (List ℕ) → Plan
   Check : List ℕ → Plan
@@ -43,10 +46,10 @@ pub record IsCheck (words : List (List ℕ)) (model : List ℕ) : Type 0 where
   pub all : (words ≡ codes "--check" ∷ model ∷ []) ⊎ (words ≡ model ∷ codes "--check" ∷ [])
   pub file : IsTrue (names_a_file model)
 
--- up to six digits, with a value from 1 to the most
+-- digits, with a value from 1 to the most: so there is a digit
 pub record IsSize (digits : List ℕ) (size : ℕ) : Type 0 where
   pub digits_only : IsTrue (list_all is_ascii_digit digits)
-  pub few : length digits ≤ 6
+  pub few : length digits ≤ most_digits
   pub value : digits_value 10 digits ≡ size
   pub least : 1 ≤ size
   pub most : size ≤ most_records

@@ -24,7 +24,7 @@ impl HeldGate {
         }
     }
 
-    /// Whether someone was let through since all turns were taken, and not since the other place was passed.
+    /// Whether somebody was let through because all turns were taken.
     pub fn gave_up(&self) -> bool {
         self.has_given_up.load(Ordering::SeqCst)
     }
