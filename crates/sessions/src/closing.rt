@@ -13,8 +13,8 @@ use std::alloc::{AllocError, Global};
 use std::sync::Wait;
 use version_book::{Book, ClosedOf, Pass};
 
-/// Ends the book: brings all passes together, once each session has answered all its commands. A session that hasn't
-/// found no memory.
+/// Ends the book: brings all passes together, where each session has answered all its commands. A session with commands
+/// left ran out of memory.
 pub(crate) fn close_all<W: World, R: Wait>(
     rt: &R,
     alloc: Global,

@@ -21,8 +21,8 @@ pub struct Served<S, T, R> {
     pub state: S,
 }
 
-/// Runs the users from this state on, each with its commands in order and on a thread of its own, up to
-/// [`crate::MAX_THREADS`]. Where no thread can be started they run one after another.
+/// Runs the users from this state on, each with its commands in order. Up to [`crate::MAX_THREADS`] users have a thread
+/// each; where there are more, or no thread can be started, some run one after another.
 pub fn serve<W: World, R: Threads + Wait + Sync, G: Gate + Sync>(
     rt: &R,
     alloc: Global,
