@@ -104,12 +104,7 @@ fn between(operator: Operator, left: Boxed<Term>, right: Boxed<Term>) -> Term
     }
 }
 
-fn operator_term(
-    alloc: Global,
-    op: ScriptOp,
-    left: Term,
-    right: Term,
-) -> Result<Term, AllocError>
+fn operator_term(alloc: Global, op: ScriptOp, left: Term, right: Term) -> Result<Term, AllocError>
     ensures { IfOk result (λ term. term ≡ bound.operator_term (bound.operator_of op) left right) }
 {
     let left = Boxed::new(alloc, left)?;

@@ -21,5 +21,5 @@ pub use kept::Kept;
 pub use reason::Reason;
 pub use sight::Sight;
 pub use text::Text;
-pub use value::{texts_of, value_of};
+pub use value::{cell_value, texts_of, value_of};
 pub use wanted::{as_amount, as_text, as_truth};

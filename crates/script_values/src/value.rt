@@ -19,7 +19,7 @@ use script_bound::Term;
 use std::alloc::{AllocError, Global};
 
 /// The value of the cell of a cube and elements.
-fn cell_value<C: WorkCells>(
+pub fn cell_value<C: WorkCells>(
     alloc: Global,
     names: &[Text<'_>],
     cells: &mut C,
@@ -147,7 +147,7 @@ pub fn texts_of<'a, C: WorkCells>(
     ensures store { C.store cells.new ≡ C.store cells.old }
     ensures writes { C.writes cells.new ≡ C.writes cells.old }
 {
-    let mut texts = Vec::new(alloc);
+    let mut texts = Vec::with_capacity(alloc, terms.len())?;
     'each: for term in terms {
         match as_text(value_of(alloc, term, sight, cells)?) {
             Ok(text) => texts.push(text)?,

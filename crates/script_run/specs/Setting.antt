@@ -1,0 +1,17 @@
+-- Where a statement is run, and how far its load has come.
+use Rattle.std.specs.Prelude.{ℕ, List, Option}
+use Rattle.script_tree.specs.declared.script.Section.{Section}
+use Rattle.script_values.specs.declared.kept.Kept.{Kept}
+use Rattle.script_run.specs.declared.place.Place.{Place}
+
+-- the section, the row of the record from 1, or 0 outside of Data, and the columns of the record
+pub record Setting : Type 0 where
+  pub section : Section
+  pub row : ℕ
+  pub columns : List (List ℕ)
+
+-- the variables by their numbers, how many executions are left, and where the last one stands
+pub record Progress : Type 0 where
+  pub variables : List (Option Kept)
+  pub left : ℕ
+  pub last : Place

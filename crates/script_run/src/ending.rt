@@ -1,0 +1,14 @@
+use script_values::Reason;
+
+/// How a statement, a block or a section ended.
+#[derive(Clone, Copy, Debug, PartialEq, Eq)]
+pub enum Ending {
+    /// What stands behind it is next.
+    Next,
+    /// By `ItemSkip`: the next record is next.
+    Skipped,
+    /// By `ProcessBreak`: the Epilog is next.
+    Broken,
+    /// The load is over.
+    Stopped(Reason),
+}

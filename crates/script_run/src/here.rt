@@ -1,0 +1,58 @@
+ghost use Rattle.std.specs.Prelude.{◌≡◌};
+ghost use Rattle.std.specs.Option.{option_map};
+ghost use Rattle.script_run.specs.Meaning.{columns_in, place_of};
+
+use crate::place::Place;
+use lists::ListOf;
+use script_tree::Section;
+use std::marker::Model;
+
+/// Where a statement is run.
+#[derive(Drop)]
+pub(crate) struct Here<'a> {
+    section: Section,
+    row: u32,
+    columns: &'a [ListOf<u8>],
+}
+
+impl<'a> Model for Here<'a> {
+    ghost use Rattle.script_run.specs.Setting.{Setting};
+
+    ghost Value = { Setting };
+
+    ghost view = { λ here. record { section = here.section; row = here.row; columns = here.columns.now } };
+}
+
+impl<'a> Here<'a> {
+    ghost use Rattle.script_run.specs.Load.{setting};
+
+    pub(crate) fn new(section: Section, row: u32, columns: &'a [ListOf<u8>]) -> Here<'a>
+        ensures { result ≡ setting section row columns.now }
+    {
+        Here {
+            section,
+            row,
+            columns,
+        }
+    }
+
+    pub(crate) fn place_of(&self, statement: u32) -> Place
+        ensures { result ≡ place_of self.now statement }
+    {
+        Place {
+            section: self.section,
+            row: self.row,
+            statement,
+        }
+    }
+
+    /// The columns of the record, which there are in Data alone.
+    pub(crate) fn columns(&self) -> Option<&'a [ListOf<u8>]>
+        ensures { option_map (λ columns. columns.now) result ≡ columns_in self.now.section self.now.columns }
+    {
+        match self.section {
+            Section::Body => Some(self.columns),
+            Section::Prolog | Section::Epilog => None,
+        }
+    }
+}

@@ -1,0 +1,124 @@
+ghost use Rattle.std.specs.Prelude.{◌≡◌, map, IfOk};
+ghost use Rattle.script_bind.specs.Binding.{bound_of};
+ghost use Rattle.script_run.specs.Load as loads;
+ghost use Rattle.script_run.specs.Load.{load, ran_of, writes_of, start};
+ghost use Rattle.script_run.specs.Meaning.{Ended};
+
+use crate::ending::Ending;
+use crate::place::Place;
+use crate::progress::Run;
+use crate::ran::Ran;
+use crate::sections::run_sections;
+use cube_fixed::Value;
+use lists::ListOf;
+use script_bind::bind;
+use script_bound::BoundScript;
+use script_tree::{Script, Section};
+use script_values::{Kept, WorkCells};
+use std::alloc::{AllocError, Global};
+use user_text::ParamText;
+
+/// The most statements that a load executes.
+const STEP_LIMIT: u32 = 1_000_000;
+
+fn param_value(alloc: Global, param: &ParamText) -> Result<Kept, AllocError>
+    ensures { IfOk result (λ kept. kept ≡ loads.param_value param.now) }
+{
+    match param {
+        ParamText::Number(number) => Ok(Kept::Number(Value::Num(*number))),
+        ParamText::Text(bytes) => {
+            let bytes = Vec::from_slice(alloc, bytes.as_slice())?;
+            Ok(Kept::Text(ListOf::new(bytes)))
+        }
+    }
+}
+
+/// The parameter of a word, if there is one.
+fn param_of(
+    alloc: Global,
+    params: &[(ListOf<u8>, ParamText)],
+    word: &[u8],
+) -> Result<Option<Kept>, AllocError>
+    ensures { IfOk result (λ kept. kept ≡ loads.param_of params.now word.now) }
+{
+    'each: for param in params {
+        if param.0.as_slice() == word {
+            let value = param_value(alloc, &param.1)?;
+            return Ok(Some(value));
+        }
+    }
+    Ok(None)
+}
+
+/// What the variables hold before the Prolog.
+fn variables(
+    alloc: Global,
+    words: &[ListOf<u8>],
+    params: &[(ListOf<u8>, ParamText)],
+) -> Result<Vec<Option<Kept>>, AllocError>
+    ensures { IfOk result (λ variables. variables.items ≡ map (loads.param_of params.now) words.now) }
+{
+    let mut variables = Vec::new(alloc);
+    'each: for word in words {
+        let value = param_of(alloc, params, word.as_slice())?;
+        variables.push(value)?;
+    }
+    Ok(variables)
+}
+
+/// Before the first execution.
+fn start(
+    alloc: Global,
+    script: &BoundScript,
+    params: &[(ListOf<u8>, ParamText)],
+) -> Result<Run, AllocError>
+    ensures { IfOk result (λ run. run ≡ start script.now params.now) }
+{
+    let variables = variables(alloc, script.variables.as_slice(), params)?;
+    let last = Place {
+        section: Section::Prolog,
+        row: 0,
+        statement: 0,
+    };
+    Ok(Run::new(variables, STEP_LIMIT, last))
+}
+
+/// How a load ended whose last execution stands there.
+fn ran_at(ending: Ending, last: Place) -> Ran
+    ensures { result ≡ loads.ran_at ending last }
+{
+    match ending {
+        Ending::Stopped(reason) => Ran::Rejected {
+            section: last.section,
+            row: last.row,
+            statement: last.statement,
+            reason,
+        },
+        Ending::Next => Ran::Done,
+        Ending::Skipped => Ran::Done,
+        Ending::Broken => Ran::Done,
+    }
+}
+
+/// Runs a script: the Prolog, Data once for each record, and the Epilog. The parameters are variables, by their words
+/// in capitals, that are set before. The first reason ends the load, and what was written is then to be dropped.
+///
+/// Records are lists of columns. Of the writes nothing is said after want of memory.
+pub fn run<C: WorkCells>(
+    alloc: Global,
+    script: &Script,
+    rows: &[ListOf<ListOf<u8>>],
+    params: &[(ListOf<u8>, ParamText)],
+    cells: &mut C,
+) -> Result<Ran, AllocError>
+    ensures ran { IfOk result (λ ran. ran ≡ ran_of
+        (load (bound_of script.now) params.now rows.now (C.store cells.old) (C.writes cells.old))) }
+    ensures writes { IfOk result (λ _. C.writes cells.new ≡ writes_of
+        (load (bound_of script.now) params.now rows.now (C.store cells.old) (C.writes cells.old))) }
+    ensures store { C.store cells.new ≡ C.store cells.old }
+{
+    let script = bind(alloc, script)?;
+    let mut run = start(alloc, &script, params)?;
+    let ending = run_sections(alloc, &script, rows, &mut run, cells)?;
+    Ok(ran_at(ending, run.last()))
+}

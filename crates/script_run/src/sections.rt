@@ -1,0 +1,105 @@
+ghost use Rattle.std.specs.Prelude.{◌≡◌, ◌+◌, ◌≤◌, List, [], map, IfOk};
+ghost use Rattle.script_tree.specs.declared.script.Section.TheVariants as sections_of;
+ghost use Rattle.script_run.specs.Meaning.{Ended, block_of, then_do};
+ghost use Rattle.script_run.specs.Load.{records, setting, sections};
+
+use crate::ending::Ending;
+use crate::here::Here;
+use crate::progress::Run;
+use crate::statements::run_block;
+use lists::ListOf;
+use script_bound::{BoundScript, Statement};
+use script_tree::Section;
+use script_values::WorkCells;
+use std::alloc::{AllocError, Global};
+
+/// Runs Data, once for each record.
+fn run_records<C: WorkCells>(
+    alloc: Global,
+    body: &[Statement],
+    rows: &[ListOf<ListOf<u8>>],
+    run: &mut Run,
+    cells: &mut C,
+) -> Result<Ending, AllocError>
+    ensures ended { IfOk result (λ ending. Ended ending run.new (C.writes cells.new)
+        ≡ records (block_of body.now) (C.store cells.old) 1 rows.now run.old (C.writes cells.old)) }
+    ensures store { C.store cells.new ≡ C.store cells.old }
+{
+    let mut row = 1u32;
+    'each: for columns in rows {
+        let here = Here::new(Section::Body, row, columns.as_slice());
+        match run_block(alloc, body, &here, run, cells)? {
+            Ending::Next => {}
+            Ending::Skipped => {}
+            Ending::Broken => return Ok(Ending::Broken),
+            Ending::Stopped(reason) => return Ok(Ending::Stopped(reason)),
+        }
+        row = next_row(row)?;
+    }
+    Ok(Ending::Next)
+}
+
+/// The number of the next record. No memory holds so many records that there is none.
+fn next_row(row: u32) -> Result<u32, AllocError>
+    ensures { IfOk result (λ next. next ≡ row + 1) }
+{
+    row.checked_add(1).ok_or(AllocError)
+}
+
+/// Runs the Prolog, and then Data.
+fn run_records_after_prolog<C: WorkCells>(
+    alloc: Global,
+    script: &BoundScript,
+    rows: &[ListOf<ListOf<u8>>],
+    run: &mut Run,
+    cells: &mut C,
+) -> Result<Ending, AllocError>
+    ensures ended { IfOk result (λ ending. Ended ending run.new (C.writes cells.new)
+        ≡ then_do (block_of script.now.prolog (C.store cells.old) (setting sections_of.Prolog 0 [])
+        run.old (C.writes cells.old)) (records (block_of script.now.body) (C.store cells.old) 1 rows.now)) }
+    ensures store { C.store cells.new ≡ C.store cells.old }
+{
+    let here = Here::new(Section::Prolog, 0, &[]);
+    match run_block(alloc, script.prolog.as_slice(), &here, run, cells)? {
+        Ending::Next => run_records(alloc, script.body.as_slice(), rows, run, cells),
+        Ending::Skipped => Ok(Ending::Skipped),
+        Ending::Broken => Ok(Ending::Broken),
+        Ending::Stopped(reason) => Ok(Ending::Stopped(reason)),
+    }
+}
+
+/// Runs the Epilog.
+fn run_epilog<C: WorkCells>(
+    alloc: Global,
+    script: &BoundScript,
+    run: &mut Run,
+    cells: &mut C,
+) -> Result<Ending, AllocError>
+    ensures ended { IfOk result (λ ending. Ended ending run.new (C.writes cells.new)
+        ≡ block_of script.now.epilog (C.store cells.old) (setting sections_of.Epilog 0 [])
+        run.old (C.writes cells.old)) }
+    ensures store { C.store cells.new ≡ C.store cells.old }
+{
+    let here = Here::new(Section::Epilog, 0, &[]);
+    run_block(alloc, script.epilog.as_slice(), &here, run, cells)
+}
+
+/// Runs the sections of a script, one after another.
+pub(crate) fn run_sections<C: WorkCells>(
+    alloc: Global,
+    script: &BoundScript,
+    rows: &[ListOf<ListOf<u8>>],
+    run: &mut Run,
+    cells: &mut C,
+) -> Result<Ending, AllocError>
+    ensures ended { IfOk result (λ ending. Ended ending run.new (C.writes cells.new)
+        ≡ sections script.now (C.store cells.old) rows.now run.old (C.writes cells.old)) }
+    ensures store { C.store cells.new ≡ C.store cells.old }
+{
+    match run_records_after_prolog(alloc, script, rows, run, cells)? {
+        Ending::Next => run_epilog(alloc, script, run, cells),
+        Ending::Skipped => run_epilog(alloc, script, run, cells),
+        Ending::Broken => run_epilog(alloc, script, run, cells),
+        Ending::Stopped(reason) => Ok(Ending::Stopped(reason)),
+    }
+}

@@ -1,0 +1,212 @@
+ghost use Rattle.std.specs.Prelude.{◌≡◌, ◌≤◌, List, map, IfOk, Ok};
+ghost use Rattle.script_values.specs.Cells.{refusal, writes_after};
+ghost use Rattle.script_values.specs.Values as values;
+ghost use Rattle.script_run.specs.Meaning as meaning;
+ghost use Rattle.script_run.specs.Meaning.{Ended, executed, given};
+
+use crate::ending::Ending;
+use crate::here::Here;
+use crate::progress::Run;
+use cube_fixed::{Value, add};
+use lists::ListOf;
+use script_bound::Term;
+use script_values::{
+    Datum, Kept, Reason, Sight, Text, WorkCells, as_amount, as_truth, cell_value, texts_of,
+    value_of,
+};
+use std::alloc::{AllocError, Global};
+
+/// What a variable holds after this is assigned to it.
+fn kept(alloc: Global, datum: Result<Datum<'_>, Reason>) -> Result<Result<Kept, Reason>, AllocError>
+    ensures { IfOk result (λ answer. answer ≡ values.taken meaning.as_kept datum.entry) }
+{
+    match datum {
+        Ok(Datum::Number(value)) => Ok(Ok(Kept::Number(value))),
+        Ok(Datum::Text(text)) => Ok(Ok(Kept::Text(text.into_list(alloc)?))),
+        Ok(Datum::Truth(_)) => Ok(Err(Reason::TypeMismatch)),
+        Err(reason) => Ok(Err(reason)),
+    }
+}
+
+/// What a variable holds after an expression is assigned to it.
+fn kept_of<C: WorkCells>(
+    alloc: Global,
+    term: &Term,
+    here: &Here<'_>,
+    run: &Run,
+    cells: &mut C,
+) -> Result<Result<Kept, Reason>, AllocError>
+    ensures value { IfOk result (λ answer. answer
+        ≡ values.taken meaning.as_kept (given term.now (C.store cells.old) here.now run.now (C.writes cells.old))) }
+    ensures store { C.store cells.new ≡ C.store cells.old }
+    ensures writes { C.writes cells.new ≡ C.writes cells.old }
+{
+    let sight = run.sight(here);
+    let datum = value_of(alloc, term, &sight, cells)?;
+    kept(alloc, datum)
+}
+
+/// Whether a condition holds.
+pub(crate) fn holds<C: WorkCells>(
+    alloc: Global,
+    test: &Term,
+    here: &Here<'_>,
+    run: &Run,
+    cells: &mut C,
+) -> Result<Result<bool, Reason>, AllocError>
+    ensures value { IfOk result (λ answer. answer
+        ≡ values.truth (given test.now (C.store cells.old) here.now run.now (C.writes cells.old))) }
+    ensures store { C.store cells.new ≡ C.store cells.old }
+    ensures writes { C.writes cells.new ≡ C.writes cells.old }
+{
+    let sight = run.sight(here);
+    let datum = value_of(alloc, test, &sight, cells)?;
+    Ok(as_truth(datum))
+}
+
+/// Runs an assignment.
+#[tactic(auto, unfolding(crate::specs::Meaning::assign))]
+pub(crate) fn assign<C: WorkCells>(
+    alloc: Global,
+    place: usize,
+    term: &Term,
+    here: &Here<'_>,
+    run: &mut Run,
+    cells: &mut C,
+) -> Result<Ending, AllocError>
+    ensures ended { IfOk result (λ ending. Ended ending run.new (C.writes cells.new)
+        ≡ meaning.assign place term.now (C.store cells.old) here.now run.old (C.writes cells.old)) }
+    ensures left { run.new.left ≤ run.old.left }
+    ensures store { C.store cells.new ≡ C.store cells.old }
+{
+    match kept_of(alloc, term, here, run, cells)? {
+        Ok(value) => {
+            run.keep(place, value);
+            Ok(Ending::Next)
+        }
+        Err(reason) => Ok(Ending::Stopped(reason)),
+    }
+}
+
+/// Two that are given, or the first reason why one isn't.
+fn both<'a>(
+    value: Result<Value, Reason>,
+    names: Result<ListOf<Text<'a>>, Reason>,
+) -> Result<(Value, ListOf<Text<'a>>), Reason>
+    ensures { result ≡ values.one_and_other (λ number texts. (number, texts)) value names.entry }
+{
+    Ok((value?, names?))
+}
+
+/// A number and the names of a cell, or the first reason why one isn't given.
+fn arguments<'a, C: WorkCells>(
+    alloc: Global,
+    value: &'a Term,
+    names: &'a [Term],
+    sight: &Sight<'a>,
+    cells: &mut C,
+) -> Result<Result<(Value, ListOf<Text<'a>>), Reason>, AllocError>
+    ensures value { IfOk result (λ answer. answer ≡ meaning.arguments value.now names.now sight.now
+        (C.store cells.old) (C.writes cells.old)) }
+    ensures store { C.store cells.new ≡ C.store cells.old }
+    ensures writes { C.writes cells.new ≡ C.writes cells.old }
+{
+    let value = value_of(alloc, value, sight, cells)?;
+    let names = texts_of(alloc, names, sight, cells)?;
+    Ok(both(as_amount(value), names))
+}
+
+/// Writes a value into the cell of these names, if that isn't refused.
+fn write<C: WorkCells>(
+    alloc: Global,
+    names: &[Text<'_>],
+    value: Value,
+    cells: &mut C,
+) -> Result<Option<Reason>, AllocError>
+    ensures refused { IfOk result (λ reason. reason
+        ≡ refusal (meaning.with_write (C.store cells.old) (C.writes cells.old) names.now value)) }
+    ensures written { IfOk result (λ _. C.writes cells.new ≡ writes_after (C.writes cells.old)
+        (meaning.with_write (C.store cells.old) (C.writes cells.old) names.now value)) }
+    ensures store { C.store cells.new ≡ C.store cells.old }
+{
+    match names {
+        [cube, elements @ ..] => cells.put(alloc, cube.as_slice(), elements, value),
+        [] => Ok(Some(Reason::UnknownName)),
+    }
+}
+
+fn ending_of(refused: Option<Reason>) -> Ending
+    ensures { result ≡ meaning.ending_of refused }
+{
+    match refused {
+        None => Ending::Next,
+        Some(reason) => Ending::Stopped(reason),
+    }
+}
+
+/// Runs a `CellPutN`.
+#[tactic(auto, unfolding(crate::specs::Meaning::put))]
+pub(crate) fn put<C: WorkCells>(
+    alloc: Global,
+    value: &Term,
+    names: &[Term],
+    here: &Here<'_>,
+    run: &Run,
+    cells: &mut C,
+) -> Result<Ending, AllocError>
+    ensures ended { IfOk result (λ ending. Ended ending run.now (C.writes cells.new)
+        ≡ meaning.put value.now names.now (C.store cells.old) here.now run.now (C.writes cells.old)) }
+    ensures store { C.store cells.new ≡ C.store cells.old }
+{
+    let sight = run.sight(here);
+    match arguments(alloc, value, names, &sight, cells)? {
+        Ok((value, names)) => {
+            let refused = write(alloc, names.as_slice(), value, cells)?;
+            Ok(ending_of(refused))
+        }
+        Err(reason) => Ok(Ending::Stopped(reason)),
+    }
+}
+
+/// Writes the value of the cell of these names and a number more, if that isn't refused.
+fn add_to_cell<C: WorkCells>(
+    alloc: Global,
+    names: &[Text<'_>],
+    more: Value,
+    cells: &mut C,
+) -> Result<Option<Reason>, AllocError>
+    ensures refused { IfOk result (λ reason. reason ≡ refusal
+        (meaning.increment_arguments (C.store cells.old) (C.writes cells.old) (more, names.now))) }
+    ensures written { IfOk result (λ _. C.writes cells.new ≡ writes_after (C.writes cells.old)
+        (meaning.increment_arguments (C.store cells.old) (C.writes cells.old) (more, names.now))) }
+    ensures store { C.store cells.new ≡ C.store cells.old }
+{
+    match cell_value(alloc, names, cells)? {
+        Ok(before) => write(alloc, names, add(before, more), cells),
+        Err(reason) => Ok(Some(reason)),
+    }
+}
+
+/// Runs a `CellIncrementN`.
+#[tactic(auto, unfolding(crate::specs::Meaning::increment))]
+pub(crate) fn increment<C: WorkCells>(
+    alloc: Global,
+    value: &Term,
+    names: &[Term],
+    here: &Here<'_>,
+    run: &Run,
+    cells: &mut C,
+) -> Result<Ending, AllocError>
+    ensures ended { IfOk result (λ ending. Ended ending run.now (C.writes cells.new)
+        ≡ meaning.increment value.now names.now (C.store cells.old) here.now run.now (C.writes cells.old)) }
+    ensures store { C.store cells.new ≡ C.store cells.old }
+{
+    let sight = run.sight(here);
+    match arguments(alloc, value, names, &sight, cells)? {
+        Ok((more, names)) => {
+            let refused = add_to_cell(alloc, names.as_slice(), more, cells)?;
+            Ok(ending_of(refused))
+        }
+        Err(reason) => Ok(Ending::Stopped(reason)),
+    }
+}
