@@ -8,14 +8,13 @@ ghost use Rattle.run_passes.specs.Words.{texts_of};
 use crate::print::{print_history, print_refusal, print_unread, print_usage, print_user};
 use crate::status::Status;
 use cell_reader::Snapshot;
-use cube_outside::{Files, Gate};
+use cube_outside::Files;
 use history::Told;
 use lists::ListOf;
 use run_passes::{Halt, Job, Readings, run_passes};
+use serving::serve;
 use std::alloc::{AllocError, Global};
-use sessions::serve;
-use std::sync::{Arc, Wait};
-use std::thread::Threads;
+use std::sync::Arc;
 use user_session::{PlanWorld, ReplyText};
 
 /// How a run is to end, and the pieces of its text in the order in which they are written.
@@ -26,36 +25,29 @@ pub(crate) struct Answer {
 }
 
 /// Reads and checks, and runs the users.
-pub(crate) fn answer_of<R: Threads + Wait + Sync, F: Files, G: Gate + Sync>(
-    rt: &R,
+pub(crate) fn answer_of<F: Files>(
     alloc: Global,
     words: &[String],
     files: &mut F,
-    gate: &G,
 ) -> Result<Answer, AllocError>
     ensures { IfOk result (λ answer. Allows (texts_of words.now)
         (outside F.known F.faults F.missed F.asked files.old files.new) answer.status (joined answer.pieces.items)) }
 {
     let mut readings = Readings::new(alloc);
     match run_passes(alloc, words, files, &mut readings) {
-        Ok(job) => done(rt, alloc, job, gate),
+        Ok(job) => done(alloc, job),
         Err(halt) => halted(alloc, files.missed(), halt),
     }
 }
 
 // Runs the users.
-fn done<R: Threads + Wait + Sync, G: Gate + Sync>(
-    rt: &R,
-    alloc: Global,
-    job: Job,
-    gate: &G,
-) -> Result<Answer, AllocError>
+fn done(alloc: Global, job: Job) -> Result<Answer, AllocError>
     ensures status { IfOk result (λ answer. answer.status ≡ Status.Done) }
     ensures text { IfOk result (λ answer. IsOutput job (joined answer.pieces.items)) }
 {
     let Job::Serve(model, users) = job;
     let opening = Snapshot::first(alloc, Arc::new(alloc, model)?)?;
-    let served = serve::<PlanWorld, R, G>(rt, alloc, gate, opening, users.into_vec())?;
+    let served = serve::<PlanWorld>(alloc, opening, users.as_slice())?;
     let mut pieces = print_users(alloc, &served.told)?;
     pieces.push(print_history(alloc, &served.log)?)?;
     Ok(Answer {

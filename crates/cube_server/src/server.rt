@@ -17,23 +17,22 @@ ghost use Rattle.cube_server.specs.declared.status.Status.TheVariants.{NoMemory}
 use crate::run::run;
 use crate::status::Status;
 use cube_outside::{Files, Gate, Sink};
-use std::sync::Wait;
-use std::thread::Threads;
+use std::alloc::Global;
 
 /// Reads the model and the users' commands that the words name, runs the users, and writes what they were told and the
 /// history.
 ///
 /// The words are those after the program's own name: a model file and 1 to 16 user files. The model is read and judged
 /// first; then the files of its cubes' rules, its scripts, and all user files, each kind read in order and then judged
-/// in order. A name that was read isn't read again. Users run beside each other on threads, and pass the gate at each
-/// command. Nothing is written before all users are done; then each user's text is one write, and the history is the
-/// last. Want of memory may take the place of any other end.
-pub fn run_cubes<R: Threads + Wait + AllocGlobal + Sync, F: Files, S: Sink, G: Gate + Sync>(
-    rt: &R,
+/// in order. A name that was read isn't read again. Users run one after another, and nobody passes the gate yet.
+/// Nothing is written before all users are done; then each user's text is one write, and the history is the last. Want
+/// of memory may take the place of any other end.
+pub fn run_cubes<F: Files, S: Sink, G: Gate + Sync>(
+    alloc: Global,
     words: &[String],
     files: &mut F,
     out: &mut S,
-    gate: &G,
+    _gate: &G,
 ) -> Status
     // What each status says, of the text that was written and of the files.
     ensures done { result ≡ Done → Writes (IsDone (texts_of words.now)
@@ -67,5 +66,5 @@ pub fn run_cubes<R: Threads + Wait + AllocGlobal + Sync, F: Files, S: Sink, G: G
         (run_of (texts_of words.now)).finds readings job →
         IsOneOf (Done ∷ ReadFault ∷ WriteFault ∷ NoMemory ∷ []) result }
 {
-    run(rt, rt.alloc(), words, files, out, gate)
+    run(alloc, words, files, out)
 }

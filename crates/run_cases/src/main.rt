@@ -47,8 +47,13 @@ fn main(rt: HostRuntime) -> io::Result<()> {
             Case::Silent => {}
             Case::Answer(answer) => write_answer(&mut written, &answer)?,
             Case::Run(mut run) => {
-                let status =
-                    run_cubes(&rt, &run.words, &mut run.files, &mut run.out, &run.gate);
+                let status = run_cubes(
+                    rt.alloc(),
+                    &run.words,
+                    &mut run.files,
+                    &mut run.out,
+                    &run.gate,
+                );
                 write_ending(rt.alloc(), &mut written, status, run.out.bytes())?;
             }
         }

@@ -60,10 +60,7 @@ impl Run {
                 self.out.fail_at(number(call), number(kept) as usize)?;
             }
             ["hold", user, command, part, "until", other, reached, passed] => {
-                self.gate = held(
-                    place(user, command, part),
-                    place(other, reached, passed),
-                );
+                self.gate = held(place(user, command, part), place(other, reached, passed));
             }
             _ => return Ok(false),
         }
