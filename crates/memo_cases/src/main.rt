@@ -12,9 +12,10 @@ use cell_store::Store;
 use cube_fixed::Money;
 use model_deploy::{deploy, no_rule_files};
 use rule_model::Model;
-use std::alloc::AllocError;
+use std::alloc::{AllocError, Global};
 use std::io;
 use std::io::Write;
+use std::thread::Threads;
 
 // What is stored in the two cells, in millionths.
 const NUMBER: i64 = 25_000_000;
@@ -26,20 +27,25 @@ fn main(rt: HostRuntime) -> io::Result<()> {
         && let Ok(rules) = no_rule_files(rt.alloc(), text.cubes().len())
         && let Ok(accepted) = deploy(rt.alloc(), text, rules)
     {
-        read_over(&rt, accepted.model(), &mut out)?;
+        read_over(&rt, rt.alloc(), accepted.model(), &mut out)?;
     }
     io::writer(&rt).write_all(out.as_bytes())
 }
 
 // The readers over this model and two stored numbers.
-fn read_over(rt: &HostRuntime, model: &Model, out: &mut String) -> Result<(), AllocError> {
+fn read_over<R: Threads + Sync>(
+    rt: &R,
+    alloc: Global,
+    model: &Model,
+    out: &mut String,
+) -> Result<(), AllocError> {
     let number = Money::of(NUMBER).unwrap_or(Money::ZERO);
-    if let Ok(store) = Store::new(rt.alloc()).apply(rt.alloc(), &[(0, number), (1, number)])
+    if let Ok(store) = Store::new(alloc).apply(alloc, &[(0, number), (1, number)])
         && let Some(first) = leaf_value(model, &store, 0)
         && let Some(second) = leaf_value(model, &store, 1)
     {
-        in_turn(rt.alloc(), model, &store, &first, &second, out)?;
-        at_once(rt, rt.alloc(), model, &store, &first, out)?;
+        in_turn(alloc, model, &store, &first, &second, out)?;
+        at_once(rt, alloc, model, &store, &first, out)?;
     }
     Ok(())
 }

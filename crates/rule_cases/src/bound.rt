@@ -38,12 +38,7 @@ pub fn bound_rules(
 }
 
 fn rule_text(alloc: Global, cube: u32, files: &Files) -> Result<RuleText, Refusal> {
-    let name = if cube == 0 {
-        String::from_str(alloc, "rules")?
-    } else {
-        let number = u64::from(cube) + 1;
-        format!(in alloc; "rules {number}")?
-    };
+    let name = Files::rules_of(alloc, cube as usize)?;
     match rule_parse::parse(alloc, files.file(&name)) {
         Ok(text) => Ok(text),
         Err(fault) => Err(Refusal::of(alloc, &fault)),

@@ -1,4 +1,5 @@
 use crate::commands::answer_commands;
+use crate::deploys::deployed;
 use crate::files::Files;
 use crate::kind::Kind;
 use crate::models::{accepted, model_of};
@@ -52,6 +53,9 @@ fn unread(alloc: Global) -> Result<Option<String>, AllocError> {
 
 // What is told of the rules of these files, and then of their feeders or of each command.
 fn answer_of(alloc: Global, files: &Files, kind: Kind) -> Result<String, Refusal> {
+    if kind == Kind::Deploy {
+        return deployed(alloc, files);
+    }
     let model = model_of(alloc, files)?;
     let mut told = accepted(alloc, &model)?;
     if kind == Kind::Feeders {

@@ -23,11 +23,25 @@ impl Files {
 
     /// The file of this name; an empty one where there is none.
     pub fn file(&self, name: &str) -> &[u8] {
+        self.find(name).unwrap_or(&[])
+    }
+
+    /// The file of this name, where there is one.
+    pub fn find(&self, name: &str) -> Option<&[u8]> {
         for (other, text) in &self.named {
             if other.as_str() == name {
-                return text;
+                return Some(text);
             }
         }
-        &[]
+        None
+    }
+
+    /// The name of a cube's rule file: `rules` for the first, `rules 2` for the second.
+    pub fn rules_of(alloc: Global, cube: usize) -> Result<String, AllocError> {
+        if cube == 0 {
+            return String::from_str(alloc, "rules");
+        }
+        let number = cube.wrapping_add(1);
+        format!(in alloc; "rules {number}")
     }
 }

@@ -9,6 +9,8 @@ pub enum Kind {
     Feeders,
     /// What each command comes to, and the fed cells.
     Fed,
+    /// What deployment tells.
+    Deploy,
 }
 
 impl Kind {
@@ -22,6 +24,9 @@ impl Kind {
         }
         if heading.starts_with("fed: ") {
             return Kind::Fed;
+        }
+        if heading.starts_with("deploy: ") {
+            return Kind::Deploy;
         }
         Kind::Values
     }

@@ -31,7 +31,8 @@ pub fn model_of(alloc: Global, files: &Files) -> Result<Model, Refusal>
     }
 }
 
-fn text_of(alloc: Global, files: &Files) -> Result<ModelText, Refusal> {
+/// The model text of these files.
+pub fn text_of(alloc: Global, files: &Files) -> Result<ModelText, Refusal> {
     match model_text::read(alloc, files.file("model")) {
         Ok(text) => Ok(text),
         Err(fault) => Err(Refusal::of(alloc, &fault)),

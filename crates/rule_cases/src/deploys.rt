@@ -1,0 +1,65 @@
+ghost use Rattle.std.specs.Prelude.{◌≡◌, length, IfOk};
+
+use crate::files::Files;
+use crate::models::{accepted, text_of};
+use crate::refusal::Refusal;
+use lists::ListOf;
+use model_deploy::{At, DeployCause, DeployFault, RuleFile, deploy};
+use std::alloc::{AllocError, Global};
+
+/// What deployment tells of these files: how many statements and feeders the accepted model has, or the first refusal,
+/// as `refused rules 2: statement 1: NotFed(1)`.
+pub fn deployed(alloc: Global, files: &Files) -> Result<String, Refusal> {
+    let text = text_of(alloc, files)?;
+    let rules = rule_files(alloc, files, text.cubes().len())?;
+    match deploy(alloc, text, rules) {
+        Ok(model) => accepted(alloc, model.model()),
+        Err(fault) => Err(told(alloc, fault)),
+    }
+}
+
+fn rule_files(alloc: Global, files: &Files, cubes: usize) -> Result<Vec<Option<RuleFile>>, Refusal>
+    ensures { IfOk result (λ all. length all.items ≡ cubes) }
+{
+    let mut all = Vec::with_capacity(alloc, cubes)?;
+    for cube in 0..cubes {
+        let file = rule_file(alloc, files, cube)?;
+        all.push(file)?;
+    }
+    Ok(all)
+}
+
+// The rule file of a cube, where the case has one.
+fn rule_file(alloc: Global, files: &Files, cube: usize) -> Result<Option<RuleFile>, AllocError> {
+    let name = Files::rules_of(alloc, cube)?;
+    let Some(text) = files.find(&name) else {
+        return Ok(None);
+    };
+    Ok(Some(RuleFile {
+        name: ListOf::new(Vec::from_slice(alloc, name.as_bytes())?),
+        bytes: ListOf::new(Vec::from_slice(alloc, text)?),
+    }))
+}
+
+fn told(alloc: Global, fault: DeployFault) -> Refusal {
+    match fault_told(alloc, &fault) {
+        Ok(text) => Refusal::Told(text),
+        Err(_) => Refusal::Memory,
+    }
+}
+
+fn fault_told(alloc: Global, fault: &DeployFault) -> Result<String, AllocError> {
+    let DeployFault { file, at, cause } = fault;
+    if *cause == DeployCause::Memory {
+        return Err(AllocError);
+    }
+    let name = match file {
+        Some(name) => std::str::from_utf8(name.as_slice()).unwrap_or("no UTF-8"),
+        None => "model",
+    };
+    match at {
+        At::Line(number) => format!(in alloc; "refused {name}: line {number}: {cause:?}"),
+        At::Statement(number) => format!(in alloc; "refused {name}: statement {number}: {cause:?}"),
+        At::Feeder(number) => format!(in alloc; "refused {name}: feeder {number}: {cause:?}"),
+    }
+}
