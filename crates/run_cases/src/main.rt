@@ -16,7 +16,7 @@
 //! Before the files of a run may stand `word WORD`, for a word that is empty or has spaces; `read 2 fails`; and
 //! `write 2 fails after 3`, where the first 3 bytes of that piece are written; and `hold 2 1 0 until 1 2 3`, where user 2
 //! waits at part 0 of its command 1 until user 1 has passed part 3 of its command 2. Reads, writes, users and commands
-//! count from 1. Users run beside each other: what a run writes has to be the same whatever their order.
+//! count from 1. What a run writes has to be the same whatever the order of its users.
 //!
 //! A case `store: TITLE` is one of stored cells; [`stores::answer`] has its lines. Lines that begin with `#` head a
 //! section.
