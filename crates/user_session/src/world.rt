@@ -63,6 +63,9 @@ impl World for PlanWorld {
     }
 
     fn next(alloc: Global, state: &Snapshot, writes: &CellWrites) -> Result<Snapshot, AllocError> {
+        // a version says of itself that it passes no limit, and its model that its rules are in range
+        let (_stored, _fed) = (state.store().len(), state.fed().count());
+        let _cells = state.model().space().size();
         match state.next(alloc, writes.as_slice()) {
             Ok(next) => Ok(next),
             Err(NextFault::Memory) => Err(AllocError),
