@@ -1,24 +1,19 @@
 -- What is known of the writes of an accepted command.
 use Rattle.std.proofs.Common.{Result, Ok, Err, ◌≡◌, refl, subst, ℕ, ℤ, ◌≤◌, Bool, true, false, not, if◌then◌else◌, arith, List, [], ◌∷◌, length, Option, Some, None}
-use Rattle.std.specs.Prelude.{nat_lt, option_and_then}
+use Rattle.std.specs.Prelude.{nat_lt}
 use Rattle.std.proofs.lemmas.Bool.Decides.{nat_tests}
 use Rattle.std.proofs.lemmas.List.Elements.{All-nil, All-cons}
-use Rattle.std.proofs.lemmas.Option.{cond_some, option_and_then_some}
 use Rattle.cell_reader.specs.Limits.{fed_count}
 use Rattle.cell_store.specs.declared.entry.Entry.{Entry}
 use Rattle.cell_store.specs.Entries.{after_writes, most_cells}
 use Rattle.cell_writes.specs.Writes.{last_writes}
-use Rattle.cube_space.specs.Cells.{IsCell, cell_number, is_leaf_cell, is_place}
-use Rattle.cube_space.specs.Layout.{Layout, axes, cube_names}
-use Rattle.cube_space.proofs.Places.{place_number, is_place-parts, place-within}
-use Rattle.dim_name.specs.Name.{place_of}
+use Rattle.cube_space.specs.Cells.{IsCell, is_leaf_cell}
 use Rattle.feed_map.specs.FedCells.{most_fed}
 use Rattle.load_cells.specs.Loads.{store_of}
 use Rattle.load_job.specs.declared.job.Job.{Job}
 use Rattle.history.specs.declared.effect.Effect.TheVariants.{Commit}
 use Rattle.rule_model.specs.BoundModel.{BoundModel}
 use Rattle.rule_model.specs.Governing.{is_input}
-use Rattle.rule_model.specs.Named.{cell_named, elements_named}
 use Rattle.script_bind.specs.Binding.{bound_of}
 use Rattle.script_laws.proofs.Kept.{load_keeps}
 use Rattle.script_run.specs.Load.{load, ran_of, writes_of}

@@ -1,5 +1,5 @@
 -- For each cell its last write alone: what is stored after these is what is stored after all.
-use Rattle.std.proofs.Common.{◌≡◌, ◌∙◌, refl, sym, ap, ap₂, subst, ℕ, ◌<◌, ◌≤◌, ℤ, pos, Bool, true, false, cond, ◌&&◌, List, [], ◌∷◌, ◌++◌, fold, filter, All, Ordering, Less, Equal, Greater, nat_cmp, arith, ltb, append_assoc, append-nil}
+use Rattle.std.proofs.Common.{◌≡◌, ◌∙◌, refl, sym, ap, ℕ, ◌<◌, ◌≤◌, ℤ, pos, Bool, true, false, cond, ◌&&◌, List, [], ◌∷◌, ◌++◌, fold, filter, All, Ordering, Less, Equal, Greater, nat_cmp, arith, ltb, append_assoc, append-nil}
 use Rattle.std.specs.Ordering.{int_eq, match_ordering}
 use Rattle.std.specs.BTreeMap.{insert_entry}
 use Rattle.std.proofs.lemmas.Cmp.{ranked}

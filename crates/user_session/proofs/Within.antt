@@ -1,6 +1,6 @@
 -- Writes of leaf cells after which no limit is passed.
-use Rattle.std.proofs.Common.{◌≡◌, ℕ, ℤ, ◌≤◌, subst, ap, sym, true, List, [], length, Option, None, Some, ◌↔◌}
-use Rattle.std.specs.Prelude.{option_and_then, Contains}
+use Rattle.std.proofs.Common.{◌≡◌, ℕ, ℤ, ◌≤◌, subst, ap, sym, true, List, [], length, Some}
+use Rattle.std.specs.Prelude.{option_and_then}
 use Rattle.std.proofs.lemmas.List.Elements.{All-nil}
 use Rattle.std.proofs.lemmas.Option.{cond_some, option_and_then_some}
 use Rattle.cell_reader.specs.Limits.{fed_count}
