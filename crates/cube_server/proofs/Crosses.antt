@@ -34,6 +34,21 @@ use Rattle.memo_cells.specs.contracts.memo.Memo as Memo
 use Rattle.memo_cells.specs.contracts.shared.SharedMemo as SharedMemo
 use Rattle.cell_reader.specs.contracts.snapshot.Snapshot as Snapshot
 use Rattle.user_session.specs.contracts.content.Content as Content
+use Rattle.sqlite_items.proofs.items.Items.TheSendSync as items
+use Rattle.dim_name.proofs.name.Name.TheSendSync as name
+use Rattle.script_tree.proofs.expr.Expr.TheLaws.TheKnot as expr
+use Rattle.script_tree.proofs.expr.ScriptFun.TheSendSync as script_fun
+use Rattle.script_tree.proofs.expr.ScriptOp.TheSendSync as script_op
+use Rattle.script_tree.proofs.line.Arm.TheLaws.TheKnot as lines
+use Rattle.script_tree.specs.contracts.expr.Expr as Expr
+use Rattle.script_tree.specs.contracts.line.Line as Line
+use Rattle.script_tree.specs.contracts.script.Block as Block
+use Rattle.script_tree.specs.contracts.script.Script as Script
+use Rattle.user_text.proofs.command.CellText.TheSendSync as cell_text
+use Rattle.user_text.proofs.command.ViewText.TheSendSync as view_text
+use Rattle.user_text.proofs.command.ParamText.TheSendSync as param_text
+use Rattle.load_job.specs.contracts.job.Job as Job
+use Rattle.user_session.specs.contracts.command.PlanCommand as PlanCommand
 
 -- each step is a lemma, since a `search` that goes down through all of them runs out of steps
 ruleset parts = (sendable, crosses, option.the_send, option.the_sync, option.the_field_send, option.the_field_sync, list.the_send, list.the_sync)
@@ -109,3 +124,57 @@ Snapshot-send = search (parts, Version-send, Version-sync, SharedMemo-send) dept
 
 pub Snapshot-sync : IsSync Snapshot.the_row
 Snapshot-sync = search (parts, Version-send, Version-sync, SharedMemo-sync) depth 20
+
+-- ---- commands
+
+Expr-send : IsSend Expr.the_row
+Expr-send = search (parts, expr.send-Expr, money.the_send, script_fun.the_field_send, script_op.the_field_send, items.the_send, boxed.the_send) depth 20
+
+Expr-sync : IsSync Expr.the_row
+Expr-sync = search (parts, expr.sync-Expr, money.the_sync, script_fun.the_field_sync, script_op.the_field_sync, items.the_sync, boxed.the_sync) depth 20
+
+Expr-field-send : IsSend Expr.the_field.row
+Expr-field-send =
+    search (parts, expr.send-Expr, money.the_send, script_fun.the_field_send, script_op.the_field_send, items.the_send, boxed.the_send) depth 20
+
+Line-field-send : IsSend Line.the_field.row
+Line-field-send =
+    lines.send-Line Expr-field-send (λ h s. search (parts, items.the_send)) (search parts) (search (parts, Expr-send, items.the_send))
+
+Line-send : IsSend Line.the_row
+Line-send = search (parts, Line-field-send) depth 20
+
+Expr-field-sync : IsSync Expr.the_field.row
+Expr-field-sync =
+    search (parts, expr.sync-Expr, money.the_sync, script_fun.the_field_sync, script_op.the_field_sync, items.the_sync, boxed.the_sync) depth 20
+
+Line-field-sync : IsSync Line.the_field.row
+Line-field-sync =
+    lines.sync-Line Expr-field-sync (λ h s. search (parts, items.the_sync)) (search parts) (search (parts, Expr-sync, items.the_sync))
+
+Line-sync : IsSync Line.the_row
+Line-sync = search (parts, Line-field-sync) depth 20
+
+Block-send : IsSend Block.the_field.row
+Block-send = search (parts, Line-send, items.the_send) depth 20
+
+Block-sync : IsSync Block.the_field.row
+Block-sync = search (parts, Line-sync, items.the_sync) depth 20
+
+Script-send : IsSend Script.the_row
+Script-send = search (parts, Block-send) depth 20
+
+Script-sync : IsSync Script.the_row
+Script-sync = search (parts, Block-sync) depth 20
+
+Job-send : IsSend Job.the_field.row
+Job-send = search (parts, param_text.the_send) depth 20
+
+Job-sync : IsSync Job.the_field.row
+Job-sync = search (parts, param_text.the_sync) depth 20
+
+pub PlanCommand-send : IsSend PlanCommand.the_row
+PlanCommand-send = search (parts, cell_text.the_field_send, view_text.the_field_send, money.the_send, Job-send, Script-send, Script-sync) depth 20
+
+pub PlanCommand-sync : IsSync PlanCommand.the_row
+PlanCommand-sync = search (parts, cell_text.the_field_sync, view_text.the_field_sync, money.the_sync, Job-sync, Script-send, Script-sync) depth 20
