@@ -10,7 +10,7 @@ use cube_fixed::Value;
 use memo_cells::Memory;
 use rule_evaluate::{Ask, Given, Refs};
 
-/// What the evaluation of a cell is answered: at once, from the list, or from the memory. Any other question is a fault.
+/// What the evaluation of a cell is answered: at once, from the list, or from the memory. Else the question is a fault.
 #[derive(Drop)]
 pub(crate) struct Answers<'a> {
     version: &'a Version,

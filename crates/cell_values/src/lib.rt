@@ -1,6 +1,6 @@
 //! The value of a cell on a version of the numbers, for every cell, without plain evaluation of all of them.
 //!
-//! [`value_of`] works it out by the rules, over the stored and fed leaf cells alone, and by what a memory already knows.
+//! [`value_of`] works it out by the rules, over stored and fed leaf cells alone, and by what a memory already knows.
 //! Nothing in it recurses: what is evaluated before something else waits in a list of frames.
 //! [`kept_values_are_values_on_the_version`] says which memories serve.
 //!

@@ -1,8 +1,8 @@
 //! A model text and its rule files have one answer of deployment: they stand for one accepted model, or are refused for
 //! one thing, and not both.
 //!
-//! The contract of `model_deploy::deploy` says what an answer means; the law says that there is only one such answer, so
-//! that a model is accepted exactly where no check refuses it. It does nothing when it runs.
+//! The contract of `model_deploy::deploy` says what an answer means; the law says that there is only one such answer,
+//! so that a model is accepted exactly where no check refuses it. It does nothing when it runs.
 #![tactic(auto)]
 
 ghost use Rattle.std.specs.Prelude.{List, Option};

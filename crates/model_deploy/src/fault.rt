@@ -66,11 +66,11 @@ pub enum DeployCause {
     /// A cube that has rules without `SKIPCHECK` has so many leaf cells, more than 1,000,000. The place is the first
     /// statement of its file.
     DenseTooLarge(u64),
-    /// The N part of a statement isn't 0 wherever its cell is neither stored nor fed, by this operand, counted from 1 in
-    /// reading order.
+    /// The N part of a statement isn't 0 wherever its cell is neither stored nor fed, by this operand, counted from 1
+    /// in reading order.
     NotFed(u32),
-    /// So many cells are fed where nothing is stored: one more than 4,000,000, also where there are more still. The line
-    /// is the model's first.
+    /// So many cells are fed where nothing is stored: one more than 4,000,000, also where there are more still. The
+    /// line is the model's first.
     FedLimit(u64),
     /// Want of memory. It may come in place of any answer.
     Memory,

@@ -87,8 +87,8 @@ impl<'a> Plain<'a> {
     }
 }
 
-/// The components of a cell's element in the dimension at this place of its cube, each with its weight: none where it is
-/// a leaf, or there is no such dimension.
+/// The components of a cell's element in the dimension at this place of its cube, each with its weight: none where it
+/// is a leaf, or there is no such dimension.
 pub fn parts_at<'a>(space: &'a Space, cell: u64, dim: usize) -> &'a [(u32, i64)]
     requires { IsCell space.now cell }
     ensures parts { result.now ≡ parts_at space.now cell dim }

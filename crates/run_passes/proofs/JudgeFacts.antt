@@ -9,14 +9,14 @@ use Rattle.model_deploy.specs.Stages.{Comes}
 use Rattle.model_deploy.specs.declared.fault.DeployFault.{DeployFault}
 use Rattle.model_deploy.specs.declared.file.RuleFile.{RuleFile}
 use Rattle.rule_model.specs.BoundModel.{BoundModel}
-use Rattle.run_passes.specs.declared.halt.Halt.{Halt}
-use Rattle.run_passes.specs.declared.refusal.Cause.{Cause}
-use Rattle.run_passes.specs.declared.refusal.Refusal.{Refusal}
-use Rattle.run_passes.specs.Pass.{Source, Judgement}
+use Rattle.file_passes.specs.declared.halt.Halt.{Halt}
+use Rattle.file_passes.specs.declared.refusal.Cause.{Cause}
+use Rattle.file_passes.specs.declared.refusal.Refusal.{Refusal}
+use Rattle.file_passes.specs.Pass.{Source, Judgement}
 use Rattle.run_passes.specs.Refusals.{refused_on, model_cause, deploy_refusal}
 use Rattle.run_passes.specs.Models.{text_judgement}
 use Rattle.run_passes.specs.Rules.{rule_files, deployment_judgement}
-use Rattle.run_passes.specs.Inside.Halting.{Judges}
+use Rattle.file_passes.specs.Halting.{Judges}
 use Rattle.run_passes.specs.Inside.Judging.{IsHaltFor}
 
 -- a run goes no further for a refusal of what was judged

@@ -11,14 +11,14 @@ use Rattle.model_text.specs.declared.fault.ModelTextCause.TheVariants as text_ca
 use Rattle.model_deploy.specs.declared.file.RuleFile.{RuleFile}
 use Rattle.text_laws.proofs.UserTexts.{user_texts}
 use Rattle.text_laws.proofs.ModelTexts.{model_texts}
-use Rattle.run_passes.specs.declared.refusal.Refusal.{Refusal}
-use Rattle.run_passes.specs.Pass.{Source, whatever}
+use Rattle.file_passes.specs.declared.refusal.Refusal.{Refusal}
+use Rattle.file_passes.specs.Pass.{Source, whatever}
 use Rattle.run_passes.specs.Refusals.{text_refusal, script_refusal, user_refusal}
 use Rattle.run_passes.specs.Models.{text_judgement}
 use Rattle.run_passes.specs.Scripts.{AreScripts, IsFirstScriptFault, scripts_judgement}
 use Rattle.run_passes.specs.Rules.{rule_files, deployment_judgement}
 use Rattle.run_passes.specs.Users.{IsUserText, AreUserTexts, IsUserFault, IsFirstFault, AreUsers, users_judgement, unbuilt_command, plan_commands}
-use Rattle.run_passes.proofs.PassFacts.{IsOneJudgement}
+use Rattle.file_passes.proofs.PassFacts.{IsOneJudgement}
 use Rattle.script_reader.specs.declared.fault.ScriptFault.{ScriptFault}
 use Rattle.script_reader.specs.declared.fault.ScriptFault.TheVariants as script_faults
 use Rattle.script_tree.specs.declared.script.Script.{Script}

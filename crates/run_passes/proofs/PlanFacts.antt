@@ -2,26 +2,26 @@
 use Rattle.std.proofs.Common.{◌≡◌, ℕ, List, ◌∷◌, Result, Ok, refl, sym, ◌∙◌}
 use Rattle.model_text.specs.Contents.{Contents as Text}
 use Rattle.rule_model.specs.BoundModel.{BoundModel}
-use Rattle.run_passes.specs.declared.halt.Halt.{Halt}
+use Rattle.file_passes.specs.declared.halt.Halt.{Halt}
 use Rattle.run_passes.specs.declared.job.Job.{Job}
 use Rattle.run_passes.specs.declared.job.Job.TheVariants.{Serve}
-use Rattle.run_passes.specs.Course.{Contents}
+use Rattle.file_passes.specs.Course.{Contents}
 use Rattle.run_passes.specs.Models.{text_judgement}
 use Rattle.run_passes.specs.Rules.{rule_names, deployment_judgement}
 use Rattle.run_passes.specs.Scripts.{script_names, scripts_judgement}
 use Rattle.run_passes.specs.Users.{users_judgement}
-use Rattle.run_passes.specs.Outside.{Outside, outside}
-use Rattle.run_passes.specs.Pass.{Readings, NotWords, Pass, found, the, file, files, judged, whatever, ◌>>=◌}
+use Rattle.file_passes.specs.Outside.{Outside, outside}
+use Rattle.file_passes.specs.Pass.{Readings, NotWords, Pass, found, the, file, files, judged, whatever, ◌>>=◌}
 use Rattle.run_passes.specs.Run.{text_pass, deploy_pass, scripts_pass, users_pass, plan_pass, run_of}
 use Rattle.run_passes.specs.Words.{Plan, Run, IsPlan}
-use Rattle.run_passes.specs.Inside.Halting.{Comes}
+use Rattle.file_passes.specs.Halting.{Comes}
 use Rattle.run_passes.specs.Inside.Plans.{behind_text, behind_model, behind_scripts, behind_users}
-use Rattle.run_passes.proofs.KeptFacts.{kept-the}
-use Rattle.run_passes.proofs.Going.{on-refl}
-use Rattle.run_passes.proofs.Coming.{comes-next, goes-later}
+use Rattle.file_passes.proofs.KeptFacts.{kept-the}
+use Rattle.file_passes.proofs.Going.{on-refl}
+use Rattle.file_passes.proofs.Coming.{comes-next, goes-later}
 use Rattle.run_passes.proofs.Judgements.{one_text_judgement, one_deployment_judgement, one_scripts_judgement, one_users_judgement}
-use Rattle.run_passes.proofs.PassFacts.{IsOne, one-the, one-bind}
-use Rattle.run_passes.proofs.Steady.{IsSteady, steady-found, steady-file, steady-files, steady-judged, steady-bind}
+use Rattle.file_passes.proofs.PassFacts.{IsOne, one-the, one-bind}
+use Rattle.file_passes.proofs.Steady.{IsSteady, steady-found, steady-file, steady-files, steady-judged, steady-bind}
 
 pub steady-text : (name : List ℕ) → IsSteady (text_pass name)
 steady-text name =
@@ -70,20 +70,9 @@ one_plan words (Run model users) (Run other more) p q =
 pub one_run : (words : List (List ℕ)) → IsOne (run_of words)
 one_run words = one-bind _ plan_pass (one-the (IsPlan words) NotWords (one_plan words)) (λ plan. (steady-plan plan).one)
 
--- what was found goes into what is found behind it
-pub comes-mapped : {A B : Type 0} (P : Pass A) (f : A → B) (o : Outside) (old new : Readings) (a : A)
-    → Comes P o old new (Ok a) → Comes (P >>= λ x. found (f x)) o old new (Ok (f a))
-comes-mapped P f o old new a came = (goes-later P (λ x. found (f x)) o old new came.0, (a, came.1, refl))
-
 module _ {F : Type 0} (known : F → Contents) (faults : F → ℕ) (missed : F → List ℕ) (asked : F → List (List ℕ)) where
   abbrev from : F → F → Outside
   from a b = outside known faults missed asked a b
-
-  -- one pass has found something, and then another comes to this
-  pub comes-behind : {A B : Type 0} (P : Pass A) (K : A → Pass B) → IsSteady P → (a b c : F) (old mid new : Readings) (x : A) (r : Result B Halt)
-      → known b ≡ known a → Comes P (from a b) old mid (Ok x) → Comes (K x) (from b c) mid new r → Comes (P >>= K) (from a c) old new r
-  comes-behind P K steady a b c old mid new x r same came then =
-      comes-next known faults missed asked P K steady.kept a b c old mid new x same came.0 came.1 r then
 
   pub run-planned : (words : List (List ℕ)) (a c : F) (old new : Readings) (plan : Plan) (r : Result Job Halt)
       → IsPlan words plan → Comes (plan_pass plan) (from a c) old new r → Comes (run_of words) (from a c) old new r

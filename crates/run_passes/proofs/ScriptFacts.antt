@@ -3,13 +3,13 @@ use Rattle.std.proofs.Common.{List, [], ◌∷◌, ◌++◌, append_assoc, appen
 use Rattle.script_reader.specs.Answers.{Answers}
 use Rattle.script_reader.specs.declared.fault.ScriptFault.{ScriptFault}
 use Rattle.script_tree.specs.declared.script.Script.{Script}
-use Rattle.run_passes.specs.declared.halt.Halt.{Halt}
-use Rattle.run_passes.specs.declared.halt.Halt.TheVariants as halts
-use Rattle.run_passes.specs.declared.refusal.Refusal.{Refusal}
-use Rattle.run_passes.specs.Pass.{Source, Judgement, whatever}
+use Rattle.file_passes.specs.declared.halt.Halt.{Halt}
+use Rattle.file_passes.specs.declared.halt.Halt.TheVariants as halts
+use Rattle.file_passes.specs.declared.refusal.Refusal.{Refusal}
+use Rattle.file_passes.specs.Pass.{Source, Judgement, whatever}
 use Rattle.run_passes.specs.Refusals.{script_refusal}
 use Rattle.run_passes.specs.Scripts.{AreScripts, IsFirstScriptFault, scripts_judgement}
-use Rattle.run_passes.specs.Inside.Halting.{Judges}
+use Rattle.file_passes.specs.Halting.{Judges}
 use Rattle.run_passes.specs.Inside.Judging.{IsHaltFor}
 use Rattle.run_passes.proofs.JudgeFacts.{judges-halt}
 

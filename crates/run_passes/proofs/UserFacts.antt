@@ -5,13 +5,13 @@ use Rattle.user_text.specs.Answers.{Answers}
 use Rattle.user_text.specs.declared.command.UserCommand.{UserCommand}
 use Rattle.user_text.specs.declared.fault.UserFault.{UserFault}
 use Rattle.user_text.specs.declared.fault.UserFault.TheVariants as faults
-use Rattle.run_passes.specs.declared.halt.Halt.{Halt}
-use Rattle.run_passes.specs.declared.halt.Halt.TheVariants as halts
-use Rattle.run_passes.specs.declared.refusal.Refusal.{Refusal}
-use Rattle.run_passes.specs.Pass.{Source}
+use Rattle.file_passes.specs.declared.halt.Halt.{Halt}
+use Rattle.file_passes.specs.declared.halt.Halt.TheVariants as halts
+use Rattle.file_passes.specs.declared.refusal.Refusal.{Refusal}
+use Rattle.file_passes.specs.Pass.{Source}
 use Rattle.run_passes.specs.Refusals.{user_refusal}
 use Rattle.run_passes.specs.Users.{IsUserText, AreUserTexts, IsFirstFault, AreUsers, plan_commands, unbuilt_command, users_judgement}
-use Rattle.run_passes.specs.Inside.Halting.{Judges}
+use Rattle.file_passes.specs.Halting.{Judges}
 use Rattle.run_passes.specs.Inside.Judging.{IsHaltFor, texts_judgement}
 use Rattle.run_passes.proofs.JudgeFacts.{judges-halt}
 

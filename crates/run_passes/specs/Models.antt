@@ -3,8 +3,8 @@ use Rattle.std.specs.Prelude.{◌≡◌, Some}
 use Rattle.model_text.specs.Answers.{IsModelText, IsFault}
 use Rattle.model_text.specs.Contents.{Contents}
 use Rattle.model_text.specs.declared.fault.ModelTextFault.{ModelTextFault}
-use Rattle.run_passes.specs.declared.refusal.Refusal.{Refusal}
-use Rattle.run_passes.specs.Pass.{Source, Judgement}
+use Rattle.file_passes.specs.declared.refusal.Refusal.{Refusal}
+use Rattle.file_passes.specs.Pass.{Source, Judgement}
 use Rattle.run_passes.specs.Refusals.{text_refusal}
 
 -- the bytes are no model text, and this is the first fault

@@ -14,11 +14,11 @@ use Rattle.script_reader.specs.declared.fault.ScriptFault.{ScriptFault}
 use Rattle.script_reader.specs.declared.fault.ScriptFault.TheVariants as scripts
 use Rattle.user_text.specs.declared.fault.UserFault.{UserFault}
 use Rattle.user_text.specs.declared.fault.UserFault.TheVariants as users
-use Rattle.run_passes.specs.declared.refusal.Cause.{Cause}
-use Rattle.run_passes.specs.declared.refusal.Cause.TheVariants as causes
-use Rattle.run_passes.specs.declared.refusal.Place.{Place}
-use Rattle.run_passes.specs.declared.refusal.Place.TheVariants.{Line, Statement, Feeder}
-use Rattle.run_passes.specs.declared.refusal.Refusal.{Refusal}
+use Rattle.file_passes.specs.declared.refusal.Cause.{Cause}
+use Rattle.file_passes.specs.declared.refusal.Cause.TheVariants as causes
+use Rattle.file_passes.specs.declared.refusal.Place.{Place}
+use Rattle.file_passes.specs.declared.refusal.Place.TheVariants.{Line, Statement, Feeder}
+use Rattle.file_passes.specs.declared.refusal.Refusal.{Refusal}
 
 -- this file is refused on this line
 abbrev pub refused_on : List ℕ → ℕ → Cause → Refusal

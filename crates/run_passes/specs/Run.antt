@@ -9,7 +9,7 @@ use Rattle.run_passes.specs.Models.{text_judgement}
 use Rattle.run_passes.specs.Rules.{rule_names, deployment_judgement}
 use Rattle.run_passes.specs.Scripts.{script_names, scripts_judgement}
 use Rattle.run_passes.specs.Users.{users_judgement}
-use Rattle.run_passes.specs.Pass.{Pass, NotWords, found, the, file, files, judged, whatever, ◌>>=◌}
+use Rattle.file_passes.specs.Pass.{Pass, NotWords, found, the, file, files, judged, whatever, ◌>>=◌}
 use Rattle.run_passes.specs.Words.{Plan, Run, IsPlan}
 
 -- the model file is read, and is a model text

@@ -9,9 +9,9 @@ use Rattle.user_text.specs.declared.command.UserBody.{UserBody}
 use Rattle.user_text.specs.declared.command.UserBody.TheVariants as bodies
 use Rattle.user_text.specs.declared.command.UserCommand.{UserCommand}
 use Rattle.user_text.specs.declared.fault.UserFault.{UserFault}
-use Rattle.run_passes.specs.declared.refusal.Cause.TheVariants.{Unbuilt}
-use Rattle.run_passes.specs.declared.refusal.Refusal.{Refusal}
-use Rattle.run_passes.specs.Pass.{Source, Judgement}
+use Rattle.file_passes.specs.declared.refusal.Cause.TheVariants.{Unbuilt}
+use Rattle.file_passes.specs.declared.refusal.Refusal.{Refusal}
+use Rattle.file_passes.specs.Pass.{Source, Judgement}
 use Rattle.run_passes.specs.Refusals.{refused_on, user_refusal}
 
 -- behind so many commands of the users before, the bytes are a user's text with these commands

@@ -1,4 +1,4 @@
-ghost use Rattle.run_passes.specs.Inside.Halting.{Judges};
+ghost use Rattle.file_passes.specs.Halting.{Judges};
 ghost use Rattle.run_passes.specs.Models.{text_judgement};
 
 use crate::halt::Halt;

@@ -1,6 +1,6 @@
 ghost use Rattle.std.specs.Prelude.{◌≡◌};
-ghost use Rattle.run_passes.specs.Inside.Halting.{Comes};
-ghost use Rattle.run_passes.specs.Outside.{outside};
+ghost use Rattle.file_passes.specs.Halting.{Comes};
+ghost use Rattle.file_passes.specs.Outside.{outside};
 ghost use Rattle.run_passes.specs.Run.{text_pass, deploy_pass, scripts_pass, users_pass, plan_pass, run_of};
 ghost use Rattle.run_passes.specs.Inside.Plans.{behind_text, behind_model, behind_scripts};
 ghost use Rattle.run_passes.specs.Words.{Run, texts_of};

@@ -1,11 +1,11 @@
 ghost use Rattle.std.specs.Prelude.{◌≡◌, IfOk};
 ghost use Rattle.std.specs.Option.{option_copied};
-ghost use Rattle.run_passes.specs.Inside.Halting.{Judges};
+ghost use Rattle.file_passes.specs.Halting.{Judges};
 ghost use Rattle.run_passes.specs.Inside.Judging.{IsHaltFor};
 ghost use Rattle.run_passes.specs.Refusals.{deploy_refusal, file_or, place_of};
 ghost use Rattle.run_passes.specs.Rules.{rule_names, rule_file_of, rule_file, rule_files};
 ghost use Rattle.run_passes.specs.Rules.{deployment_judgement, source_of};
-ghost use Rattle.run_passes.specs.Words.{texts_of};
+ghost use Rattle.cube_words.specs.Words.{texts_of};
 
 use crate::halt::Halt;
 use crate::readings::Source;

@@ -1,10 +1,10 @@
 ghost use Rattle.std.specs.Prelude.{◌≡◌, IfOk};
-ghost use Rattle.run_passes.specs.Inside.Halting.{Judges};
+ghost use Rattle.file_passes.specs.Halting.{Judges};
 ghost use Rattle.run_passes.specs.Inside.Judging.{IsHaltFor};
-ghost use Rattle.run_passes.specs.Pass.{whatever};
+ghost use Rattle.file_passes.specs.Pass.{whatever};
 ghost use Rattle.run_passes.specs.Refusals.{script_refusal};
 ghost use Rattle.run_passes.specs.Scripts.{script_names, scripts_judgement};
-ghost use Rattle.run_passes.specs.Words.{texts_of};
+ghost use Rattle.cube_words.specs.Words.{texts_of};
 
 use crate::halt::Halt;
 use crate::readings::Source;

@@ -1,6 +1,6 @@
 ghost use Rattle.std.specs.Prelude.{◌≡◌, ◌+◌, ◌≤◌, find, IfOk, map};
 ghost use Rattle.std.specs.Option.{option_copied};
-ghost use Rattle.run_passes.specs.Inside.Halting.{Judges};
+ghost use Rattle.file_passes.specs.Halting.{Judges};
 ghost use Rattle.run_passes.specs.Inside.Judging.{IsHaltFor, texts_judgement};
 ghost use Rattle.run_passes.specs.Refusals.{user_refusal};
 ghost use Rattle.run_passes.specs.Users.{is_load, unbuilt_command, plan_command};

@@ -156,8 +156,10 @@ arm_step words (Arm-F.Otherwise lines) next = (cases.Otherwise (in_order lines n
 abbrev pub line_step : Words → Line-F (Numbered Case) (Numbered Statement) → Numbered Statement
 line_step words (Line-F.Assign word given) next =
     (statements.Assign next (number_of words word) (term_of words given), next + 1)
-line_step words (Line-F.Put arguments) next =
-    (statements.Put next (written (map (term_of words) arguments)).0 (written (map (term_of words) arguments)).1, next + 1)
+line_step words (Line-F.Put arguments) next = (
+  statements.Put next (written (map (term_of words) arguments)).0 (written (map (term_of words) arguments)).1,
+  next + 1,
+)
 line_step words (Line-F.Increment arguments) next = (
   statements.Increment next (written (map (term_of words) arguments)).0 (written (map (term_of words) arguments)).1,
   next + 1,

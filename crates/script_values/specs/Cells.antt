@@ -9,7 +9,8 @@ use Rattle.script_values.specs.declared.reason.Reason.TheVariants.{UnknownName, 
 abbrev pub Write : Type 0
 Write = ℕ × ℤ
 
--- what a load runs on: a model and a stored list, and what they give after the writes so far, the last of a cell winning
+-- what a load runs on: a model and a stored list, and what they give after the writes so far, the last of a cell
+-- winning
 pub record Store : Type 0 where
   -- the cell of a cube and elements, by their names; None where one is unknown or the count of elements is wrong
   pub cell : List ℕ → List (List ℕ) → Option ℕ

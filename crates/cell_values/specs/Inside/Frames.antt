@@ -18,7 +18,8 @@ use Rattle.cell_values.specs.declared.frames.ComponentSum.{ComponentSum}
 use Rattle.cell_values.specs.declared.frames.Frame.{Frame}
 use Rattle.cell_values.specs.declared.frames.Frame.TheVariants as frame
 use Rattle.cell_values.specs.Reading.{AreValuesOn}
-use Rattle.cell_values.specs.Inside.Questions.{Setting, IsQuestion, answer_on, asks_on, components_on, cost_on, values_of}
+use Rattle.cell_values.specs.Inside.Questions.{Setting, IsQuestion, answer_on, asks_on, components_on, cost_on}
+use Rattle.cell_values.specs.Inside.Questions.{values_of}
 use Rattle.cell_values.specs.Inside.Sums.{IsSum}
 
 -- the listed answers are right

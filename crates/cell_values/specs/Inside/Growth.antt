@@ -3,7 +3,11 @@ use Rattle.std.proofs.Math.Nat.{le_trans, le_refl}
 use Rattle.memo_cells.specs.Knowledge.{Knowledge, Grew}
 
 pub grew-same : (k : Knowledge) → Grew k k
-grew-same k = record { knows = λ cell known. known; names = λ cell other known. known; zeros = λ cell. le_refl (k.zeros cell) }
+grew-same k = record {
+  knows = λ cell known. known;
+  names = λ cell other known. known;
+  zeros = λ cell. le_refl (k.zeros cell);
+}
 
 pub grew-later : (a b c : Knowledge) → Grew a b → Grew b c → Grew a c
 grew-later a b c ab bc =

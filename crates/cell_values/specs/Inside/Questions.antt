@@ -1,6 +1,6 @@
 -- The questions that come up while a value is worked out, their answers, and how much work each is.
-use Rattle.std.specs.Prelude.{◌≡◌, ℕ, suc, ◌+◌, ◌<◌, nat_lt, Bool, true, false, ℤ, List, [], ◌∷◌, ◌++◌, map, filter, length}
-use Rattle.std.specs.Prelude.{drop}
+use Rattle.std.specs.Prelude.{◌≡◌, ℕ, suc, ◌+◌, ◌<◌, nat_lt, Bool, true, false, ℤ, List, [], ◌∷◌, ◌++◌, map, filter}
+use Rattle.std.specs.Prelude.{drop, length}
 use Rattle.std.specs.List.{list_all, range_with_len}
 use Rattle.cell_store.specs.Entries.{cells_of}
 use Rattle.cell_versions.specs.Versions.{NumberedVersion}

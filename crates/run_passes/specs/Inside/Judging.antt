@@ -1,10 +1,10 @@
 -- What the functions promise one another that judge files.
 use Rattle.std.specs.Prelude.{◌≡◌, Bool, List, Option, Some, ◌⊎◌}
 use Rattle.user_text.specs.declared.command.UserCommand.{UserCommand}
-use Rattle.run_passes.specs.declared.halt.Halt.{Halt}
-use Rattle.run_passes.specs.declared.halt.Halt.TheVariants as halts
-use Rattle.run_passes.specs.declared.refusal.Refusal.{Refusal}
-use Rattle.run_passes.specs.Pass.{Source, Judgement}
+use Rattle.file_passes.specs.declared.halt.Halt.{Halt}
+use Rattle.file_passes.specs.declared.halt.Halt.TheVariants as halts
+use Rattle.file_passes.specs.declared.refusal.Refusal.{Refusal}
+use Rattle.file_passes.specs.Pass.{Source, Judgement}
 use Rattle.run_passes.specs.Users.{AreUserTexts, IsFirstFault}
 
 -- the run goes no further for this refusal, or for want of memory

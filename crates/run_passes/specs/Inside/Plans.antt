@@ -5,7 +5,7 @@ use Rattle.rule_model.specs.BoundModel.{BoundModel}
 use Rattle.user_session.specs.declared.command.PlanCommand.{PlanCommand}
 use Rattle.run_passes.specs.declared.job.Job.{Job}
 use Rattle.run_passes.specs.declared.job.Job.TheVariants.{Serve}
-use Rattle.run_passes.specs.Pass.{Pass, found, ◌>>=◌}
+use Rattle.file_passes.specs.Pass.{Pass, found, ◌>>=◌}
 use Rattle.run_passes.specs.Run.{deploy_pass, scripts_pass, users_pass}
 use Rattle.run_passes.specs.Scripts.{script_names}
 

@@ -1,9 +1,9 @@
-use Rattle.run_passes.specs.Outside.{outside}
+use Rattle.file_passes.specs.Outside.{outside}
 use Rattle.run_passes.specs.Run.{users_pass}
-use Rattle.run_passes.specs.Words.{texts_of}
+use Rattle.cube_words.specs.Words.{texts_of}
 use Rattle.run_passes.specs.declared.job.Job.TheVariants.{Serve}
 use Rattle.run_passes.specs.Inside.Plans.{behind_users}
-use Rattle.run_passes.proofs.Coming.{comes-stopped}
+use Rattle.file_passes.proofs.Coming.{comes-stopped}
 use Rattle.run_passes.proofs.PlanFacts.{comes-mapped}
 use Rattle.run_passes.proofs.passes.behind_scripts.Goals as goal
 

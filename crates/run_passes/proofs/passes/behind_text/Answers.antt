@@ -1,12 +1,12 @@
 use Rattle.std.proofs.Common.{◌≡◌, ◌∙◌, ap, subst}
-use Rattle.run_passes.specs.Outside.{outside}
+use Rattle.file_passes.specs.Outside.{outside}
 use Rattle.run_passes.specs.Run.{deploy_pass}
 use Rattle.run_passes.specs.Scripts.{script_names}
-use Rattle.run_passes.specs.Words.{texts_of}
-use Rattle.run_passes.specs.Inside.Halting.{Comes}
+use Rattle.cube_words.specs.Words.{texts_of}
+use Rattle.file_passes.specs.Halting.{Comes}
 use Rattle.run_passes.specs.Inside.Plans.{behind_text, behind_model}
-use Rattle.run_passes.proofs.Going.{on-refl}
-use Rattle.run_passes.proofs.Coming.{comes-stopped}
+use Rattle.file_passes.proofs.Going.{on-refl}
+use Rattle.file_passes.proofs.Coming.{comes-stopped}
 use Rattle.run_passes.proofs.PlanFacts.{comes-behind, steady-deploy}
 use Rattle.run_passes.proofs.passes.behind_text.Goals as goal
 

@@ -1,13 +1,13 @@
 use Rattle.std.proofs.Common.{◌≡◌, ◌∙◌, ap, subst, Err}
 use Rattle.run_passes.specs.Rules.{rule_names, deployment_judgement}
-use Rattle.run_passes.specs.Outside.{outside}
-use Rattle.run_passes.specs.Pass.{files, judged}
+use Rattle.file_passes.specs.Outside.{outside}
+use Rattle.file_passes.specs.Pass.{files, judged}
 use Rattle.run_passes.specs.Run.{deploy_pass}
-use Rattle.run_passes.specs.Words.{texts_of}
-use Rattle.run_passes.specs.Inside.Halting.{ComesThrough, Judges}
-use Rattle.run_passes.specs.Inside.Reading.{Goes}
-use Rattle.run_passes.proofs.Going.{on-refl, on-later}
-use Rattle.run_passes.proofs.Coming.{comes-stopped, comes-judged}
+use Rattle.cube_words.specs.Words.{texts_of}
+use Rattle.file_passes.specs.Halting.{ComesThrough, Judges}
+use Rattle.file_passes.specs.Reading.{Goes}
+use Rattle.file_passes.proofs.Going.{on-refl, on-later}
+use Rattle.file_passes.proofs.Coming.{comes-stopped, comes-judged}
 use Rattle.run_passes.proofs.passes.deploy_pass.Goals as goal
 
 pub returns-in-Err-clause-comes : goal.returns-in-Err-clause-comes

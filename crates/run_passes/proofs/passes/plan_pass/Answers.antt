@@ -1,8 +1,8 @@
-use Rattle.run_passes.specs.Outside.{outside}
+use Rattle.file_passes.specs.Outside.{outside}
 use Rattle.run_passes.specs.Run.{text_pass}
-use Rattle.run_passes.specs.Words.{texts_of}
+use Rattle.cube_words.specs.Words.{texts_of}
 use Rattle.run_passes.specs.Inside.Plans.{behind_text}
-use Rattle.run_passes.proofs.Coming.{comes-stopped}
+use Rattle.file_passes.proofs.Coming.{comes-stopped}
 use Rattle.run_passes.proofs.PlanFacts.{comes-behind, steady-text}
 use Rattle.run_passes.proofs.passes.plan_pass.Goals as goal
 

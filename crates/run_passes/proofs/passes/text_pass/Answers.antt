@@ -1,7 +1,7 @@
 use Rattle.run_passes.specs.Models.{text_judgement}
-use Rattle.run_passes.specs.Outside.{outside}
-use Rattle.run_passes.specs.Pass.{file, judged}
-use Rattle.run_passes.proofs.Coming.{comes-stopped, comes-judged}
+use Rattle.file_passes.specs.Outside.{outside}
+use Rattle.file_passes.specs.Pass.{file, judged}
+use Rattle.file_passes.proofs.Coming.{comes-stopped, comes-judged}
 use Rattle.run_passes.proofs.passes.text_pass.Goals as goal
 
 pub returns-in-Err-clause-comes : goal.returns-in-Err-clause-comes

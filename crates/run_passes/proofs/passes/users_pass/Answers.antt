@@ -1,11 +1,11 @@
 use Rattle.std.proofs.Common.{subst}
 use Rattle.run_passes.specs.Users.{users_judgement}
-use Rattle.run_passes.specs.Outside.{outside}
-use Rattle.run_passes.specs.Pass.{files, judged}
-use Rattle.run_passes.specs.Words.{texts_of}
-use Rattle.run_passes.specs.Inside.Halting.{Judges}
-use Rattle.run_passes.proofs.Going.{on-later}
-use Rattle.run_passes.proofs.Coming.{comes-stopped, comes-judged}
+use Rattle.file_passes.specs.Outside.{outside}
+use Rattle.file_passes.specs.Pass.{files, judged}
+use Rattle.cube_words.specs.Words.{texts_of}
+use Rattle.file_passes.specs.Halting.{Judges}
+use Rattle.file_passes.proofs.Going.{on-later}
+use Rattle.file_passes.proofs.Coming.{comes-stopped, comes-judged}
 use Rattle.run_passes.proofs.passes.users_pass.Goals as goal
 
 pub returns-in-Err-clause-comes : goal.returns-in-Err-clause-comes

@@ -1,6 +1,6 @@
 use Rattle.std.proofs.Common.{◌≡◌, ◌++◌, drop}
 use Rattle.run_passes.specs.Rules.{rule_names}
-use Rattle.run_passes.specs.Words.{texts_of}
+use Rattle.cube_words.specs.Words.{texts_of}
 use Rattle.run_passes.proofs.rules.rule_names.Given as goal
 
 -- the names so far, and then those of the cubes that are left

@@ -2,7 +2,7 @@ use Rattle.std.proofs.Common.{rules, ◌≡◌, ◌+◌, ◌∷◌, ◌++◌, []
 use Rattle.script_reader.specs.Answers.{Answers}
 use Rattle.run_passes.specs.Refusals.{script_refusal}
 use Rattle.run_passes.specs.Inside.Judging.{IsHaltFor}
-use Rattle.run_passes.proofs.WordFacts.{drop-item, drop-end}
+use Rattle.file_passes.proofs.WordFacts.{drop-item, drop-end}
 use Rattle.run_passes.proofs.ScriptFacts.{AreParsed, parsed-next, parsed-all, parsed-fault}
 use Rattle.run_passes.proofs.scripts.scripts_of.Goals as goal
 

@@ -5,7 +5,7 @@ use Rattle.user_text.specs.declared.command.UserCommand.{UserCommand}
 use Rattle.run_passes.specs.Refusals.{user_refusal}
 use Rattle.run_passes.specs.Users.{IsUserText}
 use Rattle.run_passes.specs.Inside.Judging.{IsHaltFor}
-use Rattle.run_passes.proofs.WordFacts.{drop-item, drop-end}
+use Rattle.file_passes.proofs.WordFacts.{drop-item, drop-end}
 use Rattle.run_passes.proofs.UserFacts.{AreRead, any_view, read-next, read-all, read-fault}
 use Rattle.run_passes.proofs.users.parse_all.Goals as goal
 
