@@ -3,7 +3,7 @@ pub mod KeptFacts
 pub mod Steady
 pub mod Going
 pub mod Coming
-pub mod Obtaining
+pub mod ObtainFacts
 pub mod ReadingsFacts
 pub mod WordFacts
 pub mod OneCourse

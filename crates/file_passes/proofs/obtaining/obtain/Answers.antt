@@ -1,5 +1,5 @@
 use Rattle.std.proofs.Common.{rules}
-use Rattle.file_passes.proofs.Obtaining.{obtained, unobtained}
+use Rattle.file_passes.proofs.ObtainFacts.{obtained, unobtained}
 use Rattle.file_passes.proofs.obtaining.obtain.Goals as goal
 
 pub returns-in-Ok-clause-through : goal.returns-in-Ok-clause-through

@@ -5,7 +5,7 @@ use Rattle.cube_words.specs.Words.{texts_of}
 use Rattle.file_passes.specs.Halting.{ComesThrough}
 use Rattle.file_passes.specs.Inside.Steps.{CarriesOn}
 use Rattle.file_passes.proofs.WordFacts.{texts-drop, drop-end}
-use Rattle.file_passes.proofs.Obtaining.{carries-next, carries-stop, carries-end}
+use Rattle.file_passes.proofs.ObtainFacts.{carries-next, carries-stop, carries-end}
 use Rattle.file_passes.proofs.obtaining.obtain_all.Goals as goal
 
 pub returns-in-Err-clause-through : goal.returns-in-Err-clause-through
