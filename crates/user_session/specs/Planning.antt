@@ -1,25 +1,34 @@
 -- What a planner's commands do on a version of the numbers.
 use Rattle.std.specs.Prelude.{ℕ, nat_lt, ℤ, List, [], ◌∷◌, length, Option, Some, None, not, ◌++◌, codes, Result, Ok, Err}
 use Rattle.std.specs.Prelude.{if◌then◌else◌}
+use Rattle.std.specs.Arc.{arc_value}
 use Rattle.cube_fixed.specs.declared.value.Value.{Value}
 use Rattle.cube_fixed.specs.Arithmetic.{zero_value}
 use Rattle.cell_reader.specs.Limits.{fed_count}
 use Rattle.cell_store.specs.declared.entry.Entry.{Entry}
 use Rattle.cell_store.specs.Entries.{after_writes, most_cells}
+use Rattle.cell_writes.specs.Writes.{last_writes}
 use Rattle.cube_space.specs.Cells.{is_leaf_cell, size_of}
 use Rattle.feed_map.specs.FedCells.{most_fed}
 use Rattle.history.specs.declared.effect.Effect.{Effect}
 use Rattle.history.specs.declared.effect.Effect.TheVariants as effects
+use Rattle.load_cells.specs.Loads.{store_of}
+use Rattle.load_job.specs.declared.job.Job.{Job}
 use Rattle.rule_laws.specs.RuleSystem.{dense_value}
 use Rattle.rule_model.specs.BoundModel.{BoundModel}
 use Rattle.rule_model.specs.Governing.{is_input}
 use Rattle.rule_model.specs.Named.{cell_named}
 use Rattle.rule_model.specs.System.{system_of}
+use Rattle.script_bind.specs.Binding.{bound_of}
+use Rattle.script_run.specs.Load.{load, ran_of, writes_of}
+use Rattle.script_run.specs.declared.ran.Ran.{Ran}
+use Rattle.script_run.specs.declared.ran.Ran.TheVariants.{Done, Rejected as Stopped}
+use Rattle.script_tree.specs.declared.script.Script.{Script}
 use Rattle.stored_values.specs.Stored.{stored_in}
 use Rattle.user_session.specs.declared.content.Content.{Content}
-use Rattle.user_session.specs.Replies.{fault_text, reply_text}
+use Rattle.user_session.specs.Replies.{fault_text, reply_text, stopped_text}
 use Rattle.user_session.specs.declared.command.PlanCommand.{PlanCommand}
-use Rattle.user_session.specs.declared.command.PlanCommand.TheVariants.{Put, Get, View}
+use Rattle.user_session.specs.declared.command.PlanCommand.TheVariants.{Put, Get, Load, View}
 use Rattle.user_session.specs.declared.reply.Reason.{Reason}
 use Rattle.user_session.specs.declared.reply.Reason.TheVariants.{UnknownName, NotALeaf, RuleDerived, StoreLimit, FedLimit}
 use Rattle.user_session.specs.declared.reply.Reply.TheVariants.{Committed, Rejected, Found, Refused}
@@ -72,6 +81,18 @@ abbrev pub get_effect : Content → Option ℕ → PlanEffect
 get_effect content None = effects.Read (reply_text (Refused UnknownName))
 get_effect content (Some cell) = effects.Read (reply_text (Found (value_at content cell)))
 
+-- a load that ended so: for each cell that it wrote, by number, the last number written; or nothing
+abbrev pub ended_effect : Ran → List (ℕ × ℤ) → PlanEffect
+ended_effect Done writes = committed (last_writes writes)
+ended_effect (Stopped section row statement reason) writes =
+    effects.Rejected (stopped_text section row statement reason)
+
+-- a load of a script over records, from no writes
+abbrev pub load_effect : Content → Job → Script → PlanEffect
+load_effect content job script =
+    let outcome = load (bound_of script) job.params job.rows (store_of content.model content.stored) [] in
+    ended_effect (ran_of outcome) (writes_of outcome)
+
 -- a question for a table: the table that its text stands for, or why it stands for none
 abbrev pub table_effect : Content → Result views.View ViewFault → PlanEffect
 table_effect content (Ok view) = effects.Read (table_text content.model.space view (value_at content))
@@ -84,4 +105,5 @@ view_effect content text = table_effect content (bound content.model.space text)
 abbrev pub effect : Content → PlanCommand → PlanEffect
 effect content (Put text number) = put_effect content (named_cell content.model text) number
 effect content (Get text) = get_effect content (named_cell content.model text)
+effect content (Load job script) = load_effect content job (arc_value script)
 effect content (View text) = view_effect content text

@@ -1,6 +1,10 @@
 -- What users are told, as text.
 use Rattle.std.specs.Prelude.{ℕ, List, [], ◌++◌, codes, decimal}
 use Rattle.cube_fixed.specs.Text.{printed}
+use Rattle.script_tree.specs.declared.script.Section.{Section}
+use Rattle.script_tree.specs.declared.script.Section.TheVariants as sections
+use Rattle.script_values.specs.declared.reason.Reason as scripts
+use Rattle.script_values.specs.declared.reason.Reason.TheVariants as stops
 use Rattle.user_session.specs.declared.reply.Reason.{Reason}
 use Rattle.user_session.specs.declared.reply.Reason.TheVariants.{UnknownName, NotALeaf, RuleDerived, StoreLimit, FedLimit}
 use Rattle.user_session.specs.declared.reply.Reply.{Reply}
@@ -29,3 +33,29 @@ reply_text (Committed cells) = codes "committed " ++ decimal cells
 reply_text (Rejected reason) = codes "rejected " ++ reason_text reason
 reply_text (Found value) = printed value
 reply_text (Refused reason) = codes "refused " ++ reason_text reason
+
+-- the name of a section of a script
+abbrev pub section_name : Section → List ℕ
+section_name sections.Prolog = codes "Prolog"
+section_name sections.Body = codes "Data"
+section_name sections.Epilog = codes "Epilog"
+
+-- the name of why a load is stopped
+abbrev pub reason_name : scripts.Reason → List ℕ
+reason_name stops.UnknownName = codes "UnknownName"
+reason_name stops.NotALeaf = codes "NotALeaf"
+reason_name stops.RuleDerived = codes "RuleDerived"
+reason_name stops.NotANumber = codes "NotANumber"
+reason_name stops.OverWrite = codes "OverWrite"
+reason_name stops.ProcessError = codes "ProcessError"
+reason_name stops.StepLimit = codes "StepLimit"
+reason_name (stops.StoreLimit count) = codes "StoreLimit"
+reason_name (stops.FedLimit count) = codes "FedLimit"
+reason_name stops.UnsetVariable = codes "UnsetVariable"
+reason_name stops.TypeMismatch = codes "TypeMismatch"
+
+-- `rejected SECTION record R statement S REASON`
+abbrev pub stopped_text : Section → ℕ → ℕ → scripts.Reason → List ℕ
+stopped_text section row statement reason =
+    codes "rejected " ++ section_name section ++ codes " record " ++ decimal row
+    ++ codes " statement " ++ decimal statement ++ codes " " ++ reason_name reason

@@ -1,4 +1,8 @@
 use cube_fixed::Money;
+use load_job::Job;
+use script_tree::Script;
+use std::alloc::Global;
+use std::sync::Arc;
 use user_text::{CellText, ViewText};
 
 /// A command that is run on a version of the numbers.
@@ -8,6 +12,8 @@ pub enum PlanCommand {
     Put(CellText, Money),
     /// Asks for the value of a cell.
     Get(CellText),
+    /// Runs a script over records, and stores what it writes: all of it or nothing.
+    Load(Job, Arc<Script, Global>),
     /// Asks for a table of cells.
     View(ViewText),
 }

@@ -9,6 +9,7 @@
 mod command;
 mod content;
 mod getting;
+mod loading;
 mod putting;
 mod reply;
 mod viewing;

@@ -1,4 +1,4 @@
-ghost use Rattle.std.specs.Prelude.{◌≡◌, [], ◌∷◌, IfOk};
+ghost use Rattle.std.specs.Prelude.{◌≡◌, IfOk};
 ghost use Rattle.user_session.specs.Content.{content_of};
 ghost use Rattle.user_session.specs.Planning.{committed, named_cell, put_effect, rejected};
 
@@ -35,7 +35,10 @@ pub(crate) fn put(
     }
     let mut work = Work::over(alloc, state)?;
     match work.put(alloc, cell, number) {
-        Ok(()) => committed(alloc, cell, number),
+        Ok(()) => {
+            let writes = vec![in alloc; (cell, number)]?;
+            committed(alloc, writes)
+        }
         Err(NextFault::StoreLimit(_)) => rejected(alloc, Reason::StoreLimit),
         Err(NextFault::FedLimit(_)) => rejected(alloc, Reason::FedLimit),
         Err(NextFault::Memory) => Err(AllocError),
@@ -49,10 +52,10 @@ fn rejected(alloc: Global, reason: Reason) -> Result<PlanEffect, AllocError>
     Ok(Effect::Rejected(reply))
 }
 
-fn committed(alloc: Global, cell: u64, number: Money) -> Result<PlanEffect, AllocError>
-    ensures { IfOk result (λ found. found ≡ committed ((cell, number) ∷ [])) }
+/// The effect of a command that is accepted with these writes.
+pub(crate) fn committed(alloc: Global, writes: Vec<(u64, Money)>) -> Result<PlanEffect, AllocError>
+    ensures { IfOk result (λ found. found ≡ committed writes.items) }
 {
-    let writes = ListOf::new(vec![in alloc; (cell, number)]?);
-    let reply = Reply::Committed(1).text(alloc)?;
-    Ok(Effect::Commit(writes, reply))
+    let reply = Reply::Committed(writes.len() as u64).text(alloc)?;
+    Ok(Effect::Commit(ListOf::new(writes), reply))
 }

@@ -1,6 +1,7 @@
 use crate::command::PlanCommand;
 use crate::content::Content;
 use crate::getting::get;
+use crate::loading::load;
 use crate::putting::put;
 use crate::reply::ReplyText;
 use crate::viewing::view;
@@ -56,6 +57,7 @@ impl World for PlanWorld {
         match command {
             PlanCommand::Put(cell, number) => put(alloc, state, cell, *number),
             PlanCommand::Get(cell) => get(alloc, state, cell),
+            PlanCommand::Load(job, script) => load(alloc, state, job, script),
             PlanCommand::View(text) => view(alloc, state, text),
         }
     }

@@ -1,0 +1,95 @@
+ghost use Rattle.std.specs.Prelude.{◌≡◌, IfOk};
+ghost use Rattle.user_session.specs.Content.{content_of};
+ghost use Rattle.user_session.specs.Planning.{load_effect};
+ghost use Rattle.user_session.specs.Replies.{reason_name, section_name, stopped_text};
+
+use crate::putting::committed;
+use crate::world::PlanEffect;
+use cell_reader::{Snapshot, Work};
+use history::Effect;
+use lists::ListOf;
+use load_cells::LoadCells;
+use load_job::Job;
+use script_run::{Ran, run};
+use script_tree::{Script, Section};
+use script_values::Reason;
+use std::alloc::{AllocError, Global};
+
+/// The effect of a LOAD: for each cell that it writes the last number, or why none of its writes is kept.
+pub(crate) fn load(
+    alloc: Global,
+    state: &mut Snapshot,
+    job: &Job,
+    script: &Script,
+) -> Result<PlanEffect, AllocError>
+    ensures effect { IfOk result (λ found. found ≡ load_effect (content_of state.old) job.now script.now) }
+    ensures kept { content_of state.new ≡ content_of state.old }
+{
+    let work = Work::over(alloc, state)?;
+    let mut cells = LoadCells::new(work);
+    match run(
+        alloc,
+        script,
+        job.rows.as_slice(),
+        job.params.as_slice(),
+        &mut cells,
+    )? {
+        Ran::Done => {
+            let writes = cells.into_work().writes(alloc)?;
+            committed(alloc, writes)
+        }
+        Ran::Rejected {
+            section,
+            row,
+            statement,
+            reason,
+        } => {
+            let text = stopped_text(alloc, section, row, statement, reason)?;
+            Ok(Effect::Rejected(ListOf::new(text)))
+        }
+    }
+}
+
+// `rejected SECTION record R statement S REASON`.
+fn stopped_text(
+    alloc: Global,
+    section: Section,
+    row: u32,
+    statement: u32,
+    reason: Reason,
+) -> Result<Vec<u8>, AllocError>
+    ensures { IfOk result (λ text. text.items ≡ stopped_text section row statement reason) }
+{
+    let section = section_name(section);
+    let reason = reason_name(reason);
+    let text = format!(in alloc; "rejected {section} record {row} statement {statement} {reason}")?;
+    Ok(text.into_bytes())
+}
+
+fn section_name(section: Section) -> &'static str
+    ensures { result.now ≡ section_name section }
+{
+    match section {
+        Section::Prolog => "Prolog",
+        Section::Body => "Data",
+        Section::Epilog => "Epilog",
+    }
+}
+
+fn reason_name(reason: Reason) -> &'static str
+    ensures { result.now ≡ reason_name reason }
+{
+    match reason {
+        Reason::UnknownName => "UnknownName",
+        Reason::NotALeaf => "NotALeaf",
+        Reason::RuleDerived => "RuleDerived",
+        Reason::NotANumber => "NotANumber",
+        Reason::OverWrite => "OverWrite",
+        Reason::ProcessError => "ProcessError",
+        Reason::StepLimit => "StepLimit",
+        Reason::StoreLimit(_) => "StoreLimit",
+        Reason::FedLimit(_) => "FedLimit",
+        Reason::UnsetVariable => "UnsetVariable",
+        Reason::TypeMismatch => "TypeMismatch",
+    }
+}
