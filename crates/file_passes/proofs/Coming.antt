@@ -9,7 +9,6 @@ use Rattle.file_passes.specs.Pass.{Readings, Pass, Judgement, found, judged, ◌
 use Rattle.file_passes.specs.Reading.{IsReadOn, Goes}
 use Rattle.file_passes.specs.Halting.{Halts, Comes, ComesThrough, Judges}
 use Rattle.file_passes.proofs.KeptFacts.{IsKept}
-use Rattle.file_passes.proofs.Steady.{IsSteady}
 use Rattle.file_passes.proofs.Going.{on-refl, on-later, grows-on, on-bind}
 
 -- where a pass stops, the passes that follow it stop
@@ -81,7 +80,7 @@ module _ {F : Type 0} (known : F → Contents) (faults : F → ℕ) (missed : F 
     through-next (Err h) then = (on then.0, halts_on h (kept then.0) then.1)
 
   -- one pass has found something, and then another comes to this
-  pub comes-behind : {A B : Type 0} (P : Pass A) (K : A → Pass B) → IsSteady P → (a b c : F) (old mid new : Readings) (x : A) (r : Result B Halt)
+  pub comes-behind : {A B : Type 0} (P : Pass A) (K : A → Pass B) → IsKept P → (a b c : F) (old mid new : Readings) (x : A) (r : Result B Halt)
       → known b ≡ known a → Comes P (from a b) old mid (Ok x) → Comes (K x) (from b c) mid new r → Comes (P >>= K) (from a c) old new r
-  comes-behind P K steady a b c old mid new x r same came then =
-      comes-next P K steady.kept a b c old mid new x same came.0 came.1 r then
+  comes-behind P K kept a b c old mid new x r same came then =
+      comes-next P K kept a b c old mid new x same came.0 came.1 r then

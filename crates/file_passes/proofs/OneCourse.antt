@@ -3,9 +3,9 @@ use Rattle.std.proofs.Common.{◌≡◌, ℕ, ◌<◌, List, [], ◌∷◌, leng
 use Rattle.std.proofs.lemmas.Bool.{cases_lt}
 use Rattle.file_passes.specs.Pass.{Readings, Reads, Pass}
 use Rattle.file_passes.specs.Course.{IsCourse}
-use Rattle.file_passes.proofs.PassFacts.{IsOne, same_source}
+use Rattle.file_passes.proofs.PassFacts.{AreAlike, same_source}
 
-module _ {A : Type 0} (run : Pass A) (one : IsOne run) (map : List ℕ → Option (List ℕ)) where
+module _ {A : Type 0} (run : Pass A) (one : AreAlike run run) (map : List ℕ → Option (List ℕ)) where
   -- two courses of as many files are one
   same_length : (r s : Readings) → IsCourse run (Some map) r → IsCourse run (Some map) s → length r ≡ length s → r ≡ s
   same_length [] [] p q long = refl

@@ -21,6 +21,18 @@ pub record IsOne {A : Type 0} (P : Pass A) : Type 0 where
   pub one_stop : (readings : Readings) (s t : Stop) → P.stops readings s → P.stops readings t → IsAlike s t
   pub not_both : (readings : Readings) (a : A) (s : Stop) → P.finds readings a → P.stops readings s → ⊥
 
+-- two passes stop in one way, and one finds nothing where the other stops
+pub record AreAlike {A : Type 0} (P Q : Pass A) : Type 0 where
+  pub one_stop : (readings : Readings) (s t : Stop) → P.stops readings s → Q.stops readings t → IsAlike s t
+  pub not_both : (readings : Readings) (a : A) (s : Stop) → P.finds readings a → Q.stops readings s → ⊥
+
+pub alike-one : {A : Type 0} (P : Pass A) → IsOne P → AreAlike P P
+alike-one P one = record { one_stop = one.one_stop; not_both = one.not_both }
+
+-- passes that stop nowhere
+pub alike-found : {A : Type 0} (a b : A) → AreAlike (found a) (found b)
+alike-found a b = record { one_stop = λ readings s t p q. absurd p; not_both = λ readings x s p q. q }
+
 alike-self : (s : Stop) → IsAlike s s
 alike-self NotWords = tt
 alike-self (Reads name) = refl
@@ -109,3 +121,41 @@ one-files [] = one-found []
 one-files (name ∷ more) =
     one-bind (file name) (λ first. files more >>= λ rest. found (first ∷ rest)) (one-file name)
     (λ first. one-bind (files more) (λ rest. found (first ∷ rest)) (one-files more) (λ rest. one-found (first ∷ rest)))
+
+-- ---- passes alike
+
+module _ {A B : Type 0} (P Q : Pass A) (K L : A → Pass B) (alike : AreAlike P Q) (back : AreAlike Q P)
+    (next : (readings : Readings) (a b : A) → P.finds readings a → Q.finds readings b → AreAlike (K a) (L b)) where
+  alike_stops : (readings : Readings) (s t : Stop) → (P >>= K).stops readings s → (Q >>= L).stops readings t → IsAlike s t
+  alike_stops readings s t (inl p) (inl q) = alike.one_stop readings s t p q
+  alike_stops readings s t (inl p) (inr q) = absurd (back.not_both readings q.0 s q.1 p)
+  alike_stops readings s t (inr p) (inl q) = absurd (alike.not_both readings p.0 t p.1 q)
+  alike_stops readings s t (inr p) (inr q) = (next readings p.0 q.0 p.1 q.1).one_stop readings s t p.2 q.2
+
+  alike_finds : (readings : Readings) (b : B) (s : Stop) → (P >>= K).finds readings b → (Q >>= L).stops readings s → ⊥
+  alike_finds readings b s p (inl q) = alike.not_both readings p.0 s p.1 q
+  alike_finds readings b s p (inr q) = (next readings p.0 q.0 p.1 q.1).not_both readings b s p.2 q.2
+
+  pub alike-bind : AreAlike (P >>= K) (Q >>= L)
+  alike-bind = record { one_stop = alike_stops; not_both = alike_finds }
+
+-- behind a pass that finds one thing at most
+pub alike-behind : {A B : Type 0} (P : Pass A) (K L : A → Pass B) → IsOne P → ((a : A) → AreAlike (K a) (L a)) → AreAlike (P >>= K) (P >>= L)
+alike-behind P K L one next =
+    alike-bind P P K L (alike-one P one) (alike-one P one)
+    (λ readings a b p q. subst (λ x. AreAlike (K a) (L x)) (one.one_found readings a b p q) (next a))
+
+-- a judgement that refuses nothing stops nowhere
+pub alike-judged : {A : Type 0} (J H : Judgement A) → ((r : Refusal) → J.refused_for r → ⊥) → ((r : Refusal) → H.refused_for r → ⊥)
+    → AreAlike (judged J) (judged H)
+alike-judged J H never none = record {
+  one_stop = λ readings s t (r, p, e) q. absurd (never r p);
+  not_both = λ readings a s p (r, q, e). none r q;
+}
+
+-- a judgement that refuses nothing that it finds
+pub alike-once : {A : Type 0} (J : Judgement A) → ((a : A) (r : Refusal) → J.stands_for a → J.refused_for r → ⊥) → AreAlike (judged J) (judged J)
+alike-once J clash = record {
+  one_stop = λ readings s t (r, p, e) (q, k, f). both_refuse r q s t e f;
+  not_both = λ readings a s p (r, q, e). clash a r p q;
+}

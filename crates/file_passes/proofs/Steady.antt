@@ -3,7 +3,7 @@
 use Rattle.std.proofs.Common.{◌≡◌, ℕ, List, [], ◌∷◌, inl, inr}
 use Rattle.file_passes.specs.Pass.{Readings, NotWords, Reads, Pass, Judgement, found, file, files, judged, ◌>>=◌}
 use Rattle.file_passes.proofs.KeptFacts.{IsKept, kept-found, kept-file, kept-files, kept-judged, kept-bind}
-use Rattle.file_passes.proofs.PassFacts.{IsOne, IsOneJudgement, one-found, one-file, one-files, one-judged, one-bind}
+use Rattle.file_passes.proofs.PassFacts.{AreAlike, alike-one, IsOne, IsOneJudgement, one-found, one-file, one-files, one-judged, one-bind}
 
 pub record IsSteady {A : Type 0} (P : Pass A) : Type 0 where
   pub one : IsOne P
@@ -28,7 +28,7 @@ steady-file name = record { one = one-file name; kept = kept-file name; worded =
 pub steady-files : (names : List (List ℕ)) → IsSteady (files names)
 steady-files names = record { one = one-files names; kept = kept-files names; worded = worded-files names }
 
-worded-judged : {A : Type 0} (J : Judgement A) (readings : Readings) → (judged J).stops readings NotWords → ⊥
+pub worded-judged : {A : Type 0} (J : Judgement A) (readings : Readings) → (judged J).stops readings NotWords → ⊥
 worded-judged J readings stops = (let never = stops.2 in cc)
 
 pub steady-judged : {A : Type 0} (J : Judgement A) → IsOneJudgement J → IsSteady (judged J)
@@ -44,3 +44,18 @@ steady-bind P K steady all = record {
   kept = kept-bind P K steady.kept (λ a. (all a).kept);
   worded = worded-bind P K steady all;
 }
+
+-- ---- passes that don't blame the words
+
+-- what such passes find may be several things, but they stop in one way
+pub record IsSettled {A : Type 0} (P : Pass A) : Type 0 where
+  pub alike : AreAlike P P
+  pub worded : (readings : Readings) → P.stops readings NotWords → ⊥
+
+pub settled-steady : {A : Type 0} (P : Pass A) → IsSteady P → IsSettled P
+settled-steady P steady = record { alike = alike-one P steady.one; worded = steady.worded }
+
+pub worded-behind : {A B : Type 0} (P : Pass A) (K : A → Pass B) → ((readings : Readings) → P.stops readings NotWords → ⊥)
+    → ((a : A) (readings : Readings) → (K a).stops readings NotWords → ⊥) → (readings : Readings) → (P >>= K).stops readings NotWords → ⊥
+worded-behind P K first next readings (inl stops) = first readings stops
+worded-behind P K first next readings (inr (a, is, stops)) = next a readings stops

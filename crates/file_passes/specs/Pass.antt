@@ -60,6 +60,10 @@ abbrev pub files : List (List ℕ) → Pass (List Source)
 files [] = found []
 files (name ∷ more) = file name >>= λ first. (files more >>= λ rest. found (first ∷ rest))
 
+-- the file of this name among those that were read
+abbrev pub source_of : List Source → List ℕ → Option Source
+source_of sources name = find (λ source. bytes_eq source.0 name) sources
+
 -- how something that was read is judged: what it stands for, or why it is refused
 pub record Judgement (A : Type 0) : Type 1 where
   pub stands_for : A → Type 0
@@ -70,11 +74,4 @@ abbrev pub judged : {A : Type 0} → Judgement A → Pass A
 judged {A} judgement = record {
   finds = λ _ a. judgement.stands_for a;
   stops = λ _ stop. (refusal : Refusal) × judgement.refused_for refusal × (stop ≡ Refuses refusal);
-}
-
--- the same, whatever it is that was read stands for
-abbrev pub whatever : {A : Type 0} → Judgement A → Judgement (Unit {0})
-whatever {A} judgement = record {
-  stands_for = λ _. (a : A) × judgement.stands_for a;
-  refused_for = judgement.refused_for;
 }

@@ -15,5 +15,5 @@ mod refusal;
 pub use halt::Halt;
 pub use name::file_name;
 pub use obtaining::{obtain, obtain_all};
-pub use readings::{Readings, Source};
+pub use readings::{Readings, Source, source_of};
 pub use refusal::{Cause, Place, Refusal};

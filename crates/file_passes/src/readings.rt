@@ -3,7 +3,7 @@ ghost use Rattle.std.specs.Option.{option_copied};
 ghost use Rattle.std.specs.Str.{bytes_eq};
 ghost use Rattle.cube_outside.specs.Counts.{Rose};
 ghost use Rattle.file_passes.specs.Inside.Steps.{IsReadOnce};
-ghost use Rattle.file_passes.specs.Pass.{bytes_of, file, files, Source as SourceOf};
+ghost use Rattle.file_passes.specs.Pass.{bytes_of, file, files, source_of, Source as SourceOf};
 ghost use Rattle.cube_words.specs.Words.{texts_of};
 
 use cube_outside::{FileFault, Files};
@@ -37,6 +37,15 @@ impl<'a> Source<'a> {
     {
         self.bytes
     }
+}
+
+/// The file of this name among those that were read.
+pub fn source_of<'a>(sources: &'a [Source<'a>], name: &[u8]) -> Option<&'a Source<'a>>
+    ensures { option_copied result ≡ source_of sources.now name.now }
+{
+    sources
+        .iter()
+        .find(|source| source.name().as_bytes() == name)
 }
 
 /// A file that was read.

@@ -1,5 +1,3 @@
--- What the functions that read and judge promise one another. Of it the top call cites what a run comes to.
-pub mod Reading
-pub mod Halting
+-- What the functions that judge promise one another, and the passes that are left behind some of them.
 pub mod Judging
 pub mod Plans

@@ -1,6 +1,5 @@
 -- What a model and the files of its cubes' rules are judged to be.
-use Rattle.std.specs.Prelude.{◌≡◌, ℕ, List, map, find, filter_map, Option, Some, None, option_map, option_and_then}
-use Rattle.std.specs.Str.{bytes_eq}
+use Rattle.std.specs.Prelude.{◌≡◌, ℕ, List, map, filter_map, Option, Some, None, option_map, option_and_then}
 use Rattle.model_text.specs.Contents.{Contents}
 use Rattle.model_text.specs.declared.parts.CubeText.{CubeText}
 use Rattle.model_deploy.specs.Deployment.{deployment}
@@ -8,7 +7,7 @@ use Rattle.model_deploy.specs.declared.fault.DeployFault.{DeployFault}
 use Rattle.model_deploy.specs.declared.file.RuleFile.{RuleFile}
 use Rattle.rule_model.specs.BoundModel.{BoundModel}
 use Rattle.file_passes.specs.declared.refusal.Refusal.{Refusal}
-use Rattle.file_passes.specs.Pass.{Source, Judgement}
+use Rattle.file_passes.specs.Pass.{Source, source_of, Judgement}
 use Rattle.run_passes.specs.Refusals.{deploy_refusal}
 
 -- the name of the file of a cube's rules
@@ -18,10 +17,6 @@ rule_name cube = option_map (λ rules. rules.1) cube.rules
 -- the names of the rule files, in cube order
 abbrev pub rule_names : List CubeText → List (List ℕ)
 rule_names cubes = filter_map rule_name cubes
-
--- the file of this name among those that were read
-abbrev pub source_of : List Source → List ℕ → Option Source
-source_of sources name = find (λ source. bytes_eq source.0 name) sources
 
 abbrev pub rule_file_of : Source → RuleFile
 rule_file_of source = record { name = source.0; bytes = source.1 }

@@ -1,6 +1,7 @@
--- What the bytes of all script files are judged to be, in the order of the model.
+-- The scripts of a model, and what the bytes of all script files are judged to be, in the order of the model.
 use Rattle.std.specs.Prelude.{◌≡◌, ℕ, List, [], ◌∷◌, map, Some, Ok, Err, ◌⊎◌}
 use Rattle.model_text.specs.declared.parts.ScriptText.{ScriptText}
+use Rattle.rule_model.specs.BoundModel.{BoundModel}
 use Rattle.script_reader.specs.Answers.{Answers}
 use Rattle.script_reader.specs.declared.fault.ScriptFault.{ScriptFault}
 use Rattle.script_tree.specs.declared.script.Script.{Script}
@@ -8,9 +9,19 @@ use Rattle.file_passes.specs.declared.refusal.Refusal.{Refusal}
 use Rattle.file_passes.specs.Pass.{Source, Judgement}
 use Rattle.run_passes.specs.Refusals.{script_refusal}
 
+-- the scripts of a model, in its order: their names, and what their files stand for
+pub record Scripts : Type 0 where
+  pub names : List (List ℕ)
+  pub trees : List Script
+
+-- a model that was accepted, with its scripts
+pub record Checked : Type 0 where
+  pub model : BoundModel
+  pub scripts : Scripts
+
 -- the names of the script files, in the order of the model
-abbrev pub script_names : List ScriptText → List (List ℕ)
-script_names scripts = map (λ script. script.file) scripts
+abbrev pub script_files : List ScriptText → List (List ℕ)
+script_files scripts = map (λ script. script.file) scripts
 
 -- each of the files is a text of this script
 abbrev pub AreScripts : List Source → List Script → Type 0

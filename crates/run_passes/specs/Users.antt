@@ -1,15 +1,14 @@
 -- What the bytes of all user files are judged to be, in the order of the words.
-use Rattle.std.specs.Prelude.{◌≡◌, ℕ, ◌+◌, Bool, true, false, List, [], ◌∷◌, length, map, Option, Some, None}
-use Rattle.std.specs.Prelude.{option_map, find, filter_map, Ok, Err, ◌⊎◌}
+use Rattle.std.specs.Prelude.{◌≡◌, ℕ, ◌+◌, Bool, false, not, List, [], ◌∷◌, length, Option, Some, None}
+use Rattle.std.specs.Prelude.{option_map, find, Ok, Err, ◌⊎◌}
 use Rattle.std.specs.Option.{option_or}
-use Rattle.user_session.specs.declared.command.PlanCommand.{PlanCommand}
-use Rattle.user_session.specs.declared.command.PlanCommand.TheVariants as plans
+use Rattle.dim_name.specs.Name.{has_name}
 use Rattle.user_text.specs.Answers.{Answers}
 use Rattle.user_text.specs.declared.command.UserBody.{UserBody}
 use Rattle.user_text.specs.declared.command.UserBody.TheVariants as bodies
 use Rattle.user_text.specs.declared.command.UserCommand.{UserCommand}
 use Rattle.user_text.specs.declared.fault.UserFault.{UserFault}
-use Rattle.file_passes.specs.declared.refusal.Cause.TheVariants.{Unbuilt}
+use Rattle.file_passes.specs.declared.refusal.Cause.TheVariants.{UnknownScript}
 use Rattle.file_passes.specs.declared.refusal.Refusal.{Refusal}
 use Rattle.file_passes.specs.Pass.{Source, Judgement}
 use Rattle.run_passes.specs.Refusals.{refused_on, user_refusal}
@@ -40,58 +39,42 @@ IsFirstFault before (source ∷ more) refusal =
     ⊎ ((commands : List UserCommand) × IsUserText before source.1 commands
     × IsFirstFault (before + length commands) more refusal)
 
--- ---- what isn't built yet
+-- ---- loads of scripts that aren't in the model
 
-abbrev pub is_load_body : UserBody → Bool
-is_load_body (bodies.Put cell number) = false
-is_load_body (bodies.Get cell) = false
-is_load_body (bodies.Load load) = true
-is_load_body (bodies.View view) = false
+-- a load of a script that has none of these names
+abbrev pub is_unknown_load : List (List ℕ) → UserBody → Bool
+is_unknown_load scripts (bodies.Put cell number) = false
+is_unknown_load scripts (bodies.Get cell) = false
+is_unknown_load scripts (bodies.Load load) = not (has_name scripts load.script)
+is_unknown_load scripts (bodies.View view) = false
 
-abbrev pub is_load : UserCommand → Bool
-is_load command = is_load_body command.body
+abbrev pub is_unknown : List (List ℕ) → UserCommand → Bool
+is_unknown scripts command = is_unknown_load scripts command.body
 
--- the first of these commands in the order of the words, which isn't built
-abbrev pub first_unbuilt : (UserCommand → Bool) → List Source → List (List UserCommand) → Option Refusal
-first_unbuilt is [] commands = None
-first_unbuilt is (source ∷ more) [] = None
-first_unbuilt is (source ∷ more) (commands ∷ rest) =
-    option_or (option_map (λ command. refused_on source.0 command.line Unbuilt) (find is commands))
-    (first_unbuilt is more rest)
+-- the first such load of all users, in the order of the words
+abbrev pub unknown_script : List (List ℕ) → List Source → List (List UserCommand) → Option Refusal
+unknown_script scripts [] users = None
+unknown_script scripts (source ∷ more) [] = None
+unknown_script scripts (source ∷ more) (commands ∷ rest) =
+    option_or
+    (option_map (λ command. refused_on source.0 command.line UnknownScript) (find (is_unknown scripts) commands))
+    (unknown_script scripts more rest)
 
--- the first `LOAD` of all users
-abbrev pub unbuilt_command : List Source → List (List UserCommand) → Option Refusal
-unbuilt_command sources commands = first_unbuilt is_load sources commands
+-- ---- all user files
 
--- ---- the commands that are run
+-- the files are users' texts with these commands, and each load is one of a script of these names
+pub record AreUsers (scripts : List (List ℕ)) (sources : List Source) (users : List (List UserCommand)) : Type 0 where
+  pub texts : AreUserTexts 0 sources users
+  pub known : unknown_script scripts sources users ≡ None
 
-abbrev pub plan_of : UserBody → Option PlanCommand
-plan_of (bodies.Put cell number) = Some (plans.Put cell number)
-plan_of (bodies.Get cell) = Some (plans.Get cell)
-plan_of (bodies.Load load) = None
-plan_of (bodies.View view) = Some (plans.View view)
+-- the files are users' texts, and this load is the first of a script that isn't there
+pub record IsUnknownScript (scripts : List (List ℕ)) (sources : List Source) (refusal : Refusal) : Type 0 where
+  pub users : List (List UserCommand)
+  pub texts : AreUserTexts 0 sources users
+  pub first : unknown_script scripts sources users ≡ Some refusal
 
-abbrev pub plan_command : UserCommand → Option PlanCommand
-plan_command command = plan_of command.body
-
-abbrev pub plan_commands : List UserCommand → List PlanCommand
-plan_commands commands = filter_map plan_command commands
-
--- the files are users' texts, all of which is built, and these are the commands of each user
-pub record AreUsers (sources : List Source) (users : List (List PlanCommand)) : Type 0 where
-  pub commands : List (List UserCommand)
-  pub texts : AreUserTexts 0 sources commands
-  pub built : unbuilt_command sources commands ≡ None
-  pub are : users ≡ map plan_commands commands
-
--- the files are users' texts, in which something isn't built yet
-pub record AreUnbuilt (sources : List Source) (refusal : Refusal) : Type 0 where
-  pub commands : List (List UserCommand)
-  pub texts : AreUserTexts 0 sources commands
-  pub unbuilt : unbuilt_command sources commands ≡ Some refusal
-
-abbrev pub users_judgement : List Source → Judgement (List (List PlanCommand))
-users_judgement sources = record {
-  stands_for = AreUsers sources;
-  refused_for = λ refusal. IsFirstFault 0 sources refusal ⊎ AreUnbuilt sources refusal;
+abbrev pub users_judgement : List (List ℕ) → List Source → Judgement (List (List UserCommand))
+users_judgement scripts sources = record {
+  stands_for = AreUsers scripts sources;
+  refused_for = λ refusal. IsFirstFault 0 sources refusal ⊎ IsUnknownScript scripts sources refusal;
 }

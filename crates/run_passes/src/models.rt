@@ -1,9 +1,8 @@
 ghost use Rattle.file_passes.specs.Halting.{Judges};
 ghost use Rattle.run_passes.specs.Models.{text_judgement};
 
-use crate::halt::Halt;
-use crate::readings::Source;
 use crate::refusing::{halt_on, model_cause};
+use file_passes::{Halt, Source};
 use model_text::{ModelText, read};
 use std::alloc::Global;
 

@@ -2,9 +2,8 @@ ghost use Rattle.std.specs.Prelude.{◌≡◌, IfOk, option_map};
 ghost use Rattle.run_passes.specs.Inside.Judging.{IsHaltFor};
 ghost use Rattle.run_passes.specs.Refusals.{refused_on, dim_cause, model_cause, deploy_cause};
 
-use crate::halt::Halt;
-use crate::refusal::{Cause, Place, Refusal};
 use dim_core::DimFault;
+use file_passes::{Cause, Halt, Place, Refusal};
 use lists::ListOf;
 use model_deploy::DeployCause;
 use model_text::ModelTextCause;

@@ -1,18 +1,14 @@
 ghost use Rattle.std.specs.Prelude.{◌≡◌, IfOk};
-ghost use Rattle.std.specs.Option.{option_copied};
 ghost use Rattle.file_passes.specs.Halting.{Judges};
 ghost use Rattle.run_passes.specs.Inside.Judging.{IsHaltFor};
 ghost use Rattle.run_passes.specs.Refusals.{deploy_refusal, file_or, place_of};
 ghost use Rattle.run_passes.specs.Rules.{rule_names, rule_file_of, rule_file, rule_files};
-ghost use Rattle.run_passes.specs.Rules.{deployment_judgement, source_of};
+ghost use Rattle.run_passes.specs.Rules.{deployment_judgement};
 ghost use Rattle.cube_words.specs.Words.{texts_of};
 
-use crate::halt::Halt;
-use crate::readings::Source;
-use crate::refusal::{Place, Refusal};
 use crate::refusing::deploy_cause;
-use crate::words::file_name;
 use accepted::Accepted;
+use file_passes::{Halt, Place, Refusal, Source, file_name, source_of};
 use lists::ListOf;
 use model_deploy::{At, DeployFault, RuleFile, deploy};
 use model_text::{CubeText, ModelText};
@@ -78,15 +74,6 @@ fn rule_file(
         Some(source) => Ok(Some(rule_file_of(alloc, source)?)),
         None => Ok(None),
     }
-}
-
-// The file of this name.
-fn source_of<'a>(sources: &'a [Source<'a>], name: &[u8]) -> Option<&'a Source<'a>>
-    ensures { option_copied result ≡ source_of sources.now name.now }
-{
-    sources
-        .iter()
-        .find(|source| source.name().as_bytes() == name)
 }
 
 fn rule_file_of(alloc: Global, source: &Source<'_>) -> Result<RuleFile, AllocError>

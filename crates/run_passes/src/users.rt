@@ -1,38 +1,38 @@
-ghost use Rattle.std.specs.Prelude.{◌≡◌, ◌+◌, ◌≤◌, find, IfOk, map};
+ghost use Rattle.std.specs.Prelude.{◌≡◌, ◌+◌, ◌≤◌, find, IfOk};
 ghost use Rattle.std.specs.Option.{option_copied};
+ghost use Rattle.dim_name.specs.Name.{has_name};
 ghost use Rattle.file_passes.specs.Halting.{Judges};
 ghost use Rattle.run_passes.specs.Inside.Judging.{IsHaltFor, texts_judgement};
 ghost use Rattle.run_passes.specs.Refusals.{user_refusal};
-ghost use Rattle.run_passes.specs.Users.{is_load, unbuilt_command, plan_command};
-ghost use Rattle.run_passes.specs.Users.{plan_commands, users_judgement};
+ghost use Rattle.run_passes.specs.Users.{is_unknown, is_unknown_load, unknown_script, users_judgement};
 
-use crate::halt::Halt;
-use crate::readings::Source;
-use crate::refusal::{Cause, Refusal};
 use crate::refusing::{halt_on, refused_on};
+use dim_name::Name;
+use file_passes::{Cause, Halt, Refusal, Source};
 use lists::ListOf;
 use std::alloc::{AllocError, Global};
-use user_session::PlanCommand;
 use user_text::{UserBody, UserCommand, UserFault, parse};
 
 // The most commands of all users together.
 const MOST_COMMANDS: u32 = 65_536;
 
-/// The commands of each user, by what the bytes of all user files stand for.
+/// The commands of each user that the bytes of all user files stand for, where each load is one of a script of these
+/// names.
 pub(crate) fn users_of(
     alloc: Global,
+    scripts: &[Name],
     sources: &[Source<'_>],
-) -> Result<ListOf<ListOf<PlanCommand>>, Halt>
-    ensures { Judges (users_judgement sources.now) result }
+) -> Result<ListOf<ListOf<UserCommand>>, Halt>
+    ensures { Judges (users_judgement scripts.now sources.now) result }
 {
-    let commands = match parse_all(alloc, sources) {
-        Ok(commands) => commands,
+    let users = match parse_all(alloc, sources) {
+        Ok(users) => users,
         Err(halt) => return Err(halt),
     };
-    if let Some(refusal) = unbuilt_command(alloc, sources, commands.as_slice())? {
+    if let Some(refusal) = unknown_script(alloc, scripts, sources, users.as_slice())? {
         return Err(Halt::Refused(refusal));
     }
-    Ok(plan_users(alloc, commands)?)
+    Ok(users)
 }
 
 // The texts of all users, each behind the commands of those before.
@@ -78,67 +78,46 @@ fn counted(before: u32, more: usize) -> Result<u32, AllocError>
     }
 }
 
-// The first `LOAD`, in the order of the words.
-fn unbuilt_command(
+// The first load, in the order of the words, of a script that isn't in the model.
+fn unknown_script(
     alloc: Global,
+    scripts: &[Name],
     sources: &[Source<'_>],
-    commands: &[ListOf<UserCommand>],
+    users: &[ListOf<UserCommand>],
 ) -> Result<Option<Refusal>, AllocError>
-    ensures { IfOk result (λ found. found ≡ unbuilt_command sources.now commands.now) }
+    ensures { IfOk result (λ found. found ≡ unknown_script scripts.now sources.now users.now) }
 {
     for (index, source) in sources.iter().enumerate() {
-        let Some(of_user) = commands.get(index) else {
+        let Some(commands) = users.get(index) else {
             return Ok(None);
         };
-        if let Some(command) = first_load(of_user.as_slice()) {
-            let refusal = refused_on(alloc, source.name(), command.line, Cause::Unbuilt)?;
+        if let Some(command) = first_unknown(scripts, commands.as_slice()) {
+            let refusal = refused_on(alloc, source.name(), command.line, Cause::UnknownScript)?;
             return Ok(Some(refusal));
         }
     }
     Ok(None)
 }
 
-fn first_load(commands: &[UserCommand]) -> Option<&UserCommand>
-    ensures { option_copied result ≡ find is_load commands.now }
+fn first_unknown<'a>(scripts: &[Name], commands: &'a [UserCommand]) -> Option<&'a UserCommand>
+    ensures { option_copied result ≡ find (is_unknown scripts.now) commands.now }
 {
     commands
         .iter()
-        .find(|command| matches!(command.body, UserBody::Load(_)))
+        .find(|command| is_unknown(scripts, &command.body))
 }
 
-// The commands of each user that are run.
-fn plan_users(
-    alloc: Global,
-    commands: ListOf<ListOf<UserCommand>>,
-) -> Result<ListOf<ListOf<PlanCommand>>, AllocError>
-    ensures { IfOk result (λ users. users ≡ map plan_commands commands) }
+fn is_unknown(scripts: &[Name], command: &UserBody) -> bool
+    ensures { result ≡ is_unknown_load scripts.now command.now }
 {
-    let mut users = Vec::new(alloc);
-    for of_user in commands.into_vec() {
-        users.push(ListOf::new(plan_commands(alloc, of_user.into_vec())?))?;
+    match command {
+        UserBody::Load(load) => !has_name(scripts, &load.script),
+        UserBody::Put(..) | UserBody::Get(_) | UserBody::View(_) => false,
     }
-    Ok(ListOf::new(users))
 }
 
-fn plan_commands(alloc: Global, commands: Vec<UserCommand>) -> Result<Vec<PlanCommand>, AllocError>
-    ensures { IfOk result (λ plan. plan.items ≡ plan_commands commands.items) }
+fn has_name(names: &[Name], name: &Name) -> bool
+    ensures { result ≡ has_name names.now name.now }
 {
-    let mut plan = Vec::new(alloc);
-    for command in commands {
-        if let Some(one) = plan_command(command) {
-            plan.push(one)?;
-        }
-    }
-    Ok(plan)
-}
-
-fn plan_command(command: UserCommand) -> Option<PlanCommand>
-    ensures { result ≡ plan_command command }
-{
-    match command.body {
-        UserBody::Put(cell, number) => Some(PlanCommand::Put(cell, number)),
-        UserBody::Get(cell) => Some(PlanCommand::Get(cell)),
-        UserBody::Load(_) => None,
-        UserBody::View(view) => Some(PlanCommand::View(view)),
-    }
+    names.iter().any(|known| name == known)
 }
