@@ -1,3 +1,2 @@
--- What the functions that judge promise one another, and the passes that are left behind some of them.
-pub mod Judging
+-- The passes that are left behind some of them.
 pub mod Plans

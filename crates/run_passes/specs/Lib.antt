@@ -1,8 +1,2 @@
-pub mod Refusals
-pub mod Models
-pub mod Rules
-pub mod Scripts
-pub mod Users
-pub mod Loads
 pub mod Run
 pub mod Inside

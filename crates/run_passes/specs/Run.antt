@@ -10,11 +10,11 @@ use Rattle.user_session.specs.declared.command.PlanCommand.{PlanCommand}
 use Rattle.user_text.specs.declared.command.UserCommand.{UserCommand}
 use Rattle.run_passes.specs.declared.job.Job.{Job}
 use Rattle.run_passes.specs.declared.job.Job.TheVariants as jobs
-use Rattle.run_passes.specs.Models.{text_judgement}
-use Rattle.run_passes.specs.Rules.{rule_names, deployment_judgement}
-use Rattle.run_passes.specs.Scripts.{Scripts, Checked, script_files, scripts_judgement}
-use Rattle.run_passes.specs.Users.{users_judgement}
-use Rattle.run_passes.specs.Loads.{record_files, commands_judgement}
+use Rattle.judged_files.specs.Models.{text_judgement}
+use Rattle.judged_files.specs.Rules.{rule_names, deployment_judgement}
+use Rattle.judged_files.specs.Scripts.{Scripts, Checked, script_files, scripts_judgement}
+use Rattle.judged_files.specs.Users.{users_judgement}
+use Rattle.judged_files.specs.Loads.{record_files, commands_judgement}
 
 -- the model file is read, and is a model text
 abbrev pub text_pass : List ℕ → Pass Contents

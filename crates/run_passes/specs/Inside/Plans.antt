@@ -9,7 +9,7 @@ use Rattle.user_text.specs.declared.command.UserCommand.{UserCommand}
 use Rattle.run_passes.specs.declared.job.Job.{Job}
 use Rattle.run_passes.specs.declared.job.Job.TheVariants as jobs
 use Rattle.run_passes.specs.Run.{deploy_pass, scripts_pass, users_pass, records_pass}
-use Rattle.run_passes.specs.Scripts.{Checked, script_files}
+use Rattle.judged_files.specs.Scripts.{Checked, script_files}
 
 -- ---- of a model
 
