@@ -14,10 +14,7 @@ use user_session::PlanCommand;
 use user_text::{LoadText, UserBody, UserCommand};
 
 /// The names of the files of all records, in the order of users and commands.
-pub fn record_files(
-    alloc: Global,
-    users: &[ListOf<UserCommand>],
-) -> Result<Vec<String>, AllocError>
+pub fn record_files(alloc: Global, users: &[ListOf<UserCommand>]) -> Result<Vec<String>, AllocError>
     ensures { IfOk result (λ names. texts_of names.items ≡ record_files users.now) }
 {
     let mut names = Vec::new(alloc);

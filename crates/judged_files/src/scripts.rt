@@ -82,10 +82,7 @@ fn place_of(names: &[Name], name: &Name) -> Option<usize>
 }
 
 /// The names of the scripts, in the order of the model.
-pub fn script_names(
-    alloc: Global,
-    scripts: &[ScriptText],
-) -> Result<ListOf<Name>, AllocError>
+pub fn script_names(alloc: Global, scripts: &[ScriptText]) -> Result<ListOf<Name>, AllocError>
     ensures { IfOk result (λ names. names ≡ script_names scripts.now) }
 {
     let mut names = Vec::with_capacity(alloc, scripts.len())?;

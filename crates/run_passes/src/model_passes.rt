@@ -9,7 +9,9 @@ use accepted::Accepted;
 use cube_outside::Files;
 use dim_name::Name;
 use file_passes::{Halt, Readings, obtain, obtain_all};
-use judged_files::{Scripts, model_of, rule_names, script_files, script_names, scripts_of, text_of};
+use judged_files::{
+    Scripts, model_of, rule_names, script_files, script_names, scripts_of, text_of,
+};
 use lists::ListOf;
 use model_text::ModelText;
 use script_parse::Script;
