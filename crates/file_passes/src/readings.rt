@@ -40,7 +40,7 @@ impl<'a> Source<'a> {
 }
 
 /// The file of this name among those that were read.
-pub fn source_of<'a>(sources: &'a [Source<'a>], name: &[u8]) -> Option<&'a Source<'a>>
+pub fn source_of<'a, 'b>(sources: &'a [Source<'b>], name: &[u8]) -> Option<&'a Source<'b>>
     ensures { option_copied result ≡ source_of sources.now name.now }
 {
     sources

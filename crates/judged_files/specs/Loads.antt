@@ -1,9 +1,9 @@
 -- Users' commands as they are run: with the scripts of their loads, and the records.
 use Rattle.std.specs.Prelude.{◌≡◌, ℕ, List, [], Option, Some, None, option_map, filter_map, slice_get}
 use Rattle.std.specs.Arc.{arc_value}
-use Rattle.std.specs.List.{AllZip, concat}
+use Rattle.std.specs.List.{AllZip, flat_map}
 use Rattle.std.specs.declared.alloc.Global.{Global}
-use Rattle.std.specs.declared.arc.Arc.{Arc}
+use Rattle.std.specs.declared.sync.Arc.{Arc}
 use Rattle.dim_name.specs.Name.{place_of}
 use Rattle.file_passes.specs.Pass.{Source, source_of, Judgement}
 use Rattle.load_job.specs.Rows.{rows_of}
@@ -24,9 +24,13 @@ file_of (bodies.Get cell) = None
 file_of (bodies.Load load) = load.file
 file_of (bodies.View view) = None
 
--- the files of all records, in the order of users and commands
+-- the files of a user's records, in the order of the commands
+abbrev pub user_files : List UserCommand → List (List ℕ)
+user_files commands = filter_map (λ command. file_of command.body) commands
+
+-- the files of all records, in the order of the users
 abbrev pub record_files : List (List UserCommand) → List (List ℕ)
-record_files users = filter_map (λ command. file_of command.body) (concat users)
+record_files users = flat_map user_files users
 
 -- the records of the file of this name, behind those that are passed over; without a file there are none
 abbrev pub records_of : List Source → Option (List ℕ) → ℕ → Option (List (List (List ℕ)))
@@ -34,7 +38,8 @@ records_of sources None skip = Some []
 records_of sources (Some name) skip = option_map (λ source. rows_of skip source.1) (source_of sources name)
 
 -- a load as it is run: by the place of its script in the model, with its records and what is set
-pub record IsLoad (scripts : Scripts) (sources : List Source) (load : LoadText) (job : Job) (tree : Script) : Type 0 where
+pub record IsLoad (scripts : Scripts) (sources : List Source) (load : LoadText) (job : Job) (tree : Script)
+    : Type 0 where
   pub place : place_of scripts.names load.script ≡ Some job.script
   pub script : slice_get scripts.trees job.script ≡ Some tree
   pub records : records_of sources load.file load.skip ≡ Some job.rows

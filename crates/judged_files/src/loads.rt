@@ -1,7 +1,7 @@
-ghost use Rattle.std.specs.Prelude.{◌≡◌, ◌++◌, IfOk, Some, filter_map};
+ghost use Rattle.std.specs.Prelude.{◌≡◌, ◌++◌, IfOk, Some};
 ghost use Rattle.std.specs.List.{AllZip};
 ghost use Rattle.cube_words.specs.Words.{texts_of};
-ghost use Rattle.judged_files.specs.Loads.{file_of, record_files, records_of, IsLoadCommand, IsCommand};
+ghost use Rattle.judged_files.specs.Loads.{user_files, record_files, records_of, IsLoadCommand, IsCommand};
 ghost use Rattle.judged_files.specs.Loads.{AreCommands};
 
 use crate::scripts::Scripts;
@@ -31,7 +31,7 @@ fn add_files(
     commands: &[UserCommand],
 ) -> Result<(), AllocError>
     ensures { IfOk result (λ _. texts_of names.new.items
-        ≡ texts_of names.old.items ++ filter_map (λ command. file_of command.body) commands.now) }
+        ≡ texts_of names.old.items ++ user_files commands.now) }
 {
     for command in commands {
         if let UserBody::Load(

@@ -27,10 +27,14 @@ pub struct Scripts {
 
 impl Model for Scripts {
     ghost use Rattle.std.specs.Arc.{arc_value};
+    ghost use Rattle.std.specs.Coded.{codes};
     ghost use Rattle.std.specs.Prelude.{map};
+    ghost use Rattle.script_tree.specs.contracts.script.Script as script;
     ghost use Rattle.judged_files.specs.Scripts.{Scripts as ScriptsOf};
 
     ghost Value = { ScriptsOf };
+
+    ghost coded = { Prim.hlevel (codes, script.the_row.coded) };
 
     ghost view = { λ scripts. record { names = scripts.names; trees = map arc_value scripts.trees.items } };
 }
