@@ -1,49 +1,36 @@
 -- What is known of the writes of an accepted command.
 use Rattle.std.proofs.Common.{Result, Ok, Err, ◌≡◌, refl, subst, ℕ, ℤ, ◌≤◌, Bool, true, false, not, if◌then◌else◌, arith, List, [], ◌∷◌, length, Option, Some, None}
-use Rattle.std.specs.Prelude.{nat_lt, option_and_then}
+use Rattle.std.specs.Prelude.{nat_lt}
 use Rattle.std.proofs.lemmas.Bool.Decides.{nat_tests}
 use Rattle.std.proofs.lemmas.List.Elements.{All-nil, All-cons}
-use Rattle.std.proofs.lemmas.Option.{cond_some, option_and_then_some}
 use Rattle.cell_reader.specs.Limits.{fed_count}
 use Rattle.cell_store.specs.declared.entry.Entry.{Entry}
 use Rattle.cell_store.specs.Entries.{after_writes, most_cells}
-use Rattle.cell_versions.specs.Versions.{AreLeafWrites}
-use Rattle.cube_space.specs.Cells.{IsCell, cell_number, is_leaf_cell, is_place}
-use Rattle.cube_space.specs.Layout.{Layout, axes, cube_names}
-use Rattle.cube_space.proofs.Places.{place_number, is_place-parts, place-within}
-use Rattle.dim_name.specs.Name.{place_of}
+use Rattle.cell_writes.specs.Writes.{last_writes}
+use Rattle.cube_space.specs.Cells.{IsCell, is_leaf_cell}
 use Rattle.feed_map.specs.FedCells.{most_fed}
+use Rattle.load_cells.specs.Loads.{store_of}
+use Rattle.load_job.specs.declared.job.Job.{Job}
 use Rattle.history.specs.declared.effect.Effect.TheVariants.{Commit}
 use Rattle.rule_model.specs.BoundModel.{BoundModel}
 use Rattle.rule_model.specs.Governing.{is_input}
-use Rattle.rule_model.specs.Named.{cell_named, elements_named}
+use Rattle.script_bind.specs.Binding.{bound_of}
+use Rattle.script_laws.proofs.Kept.{load_keeps}
+use Rattle.script_run.specs.Load.{load, ran_of, writes_of}
+use Rattle.script_run.specs.declared.ran.Ran.{Ran}
+use Rattle.script_run.specs.declared.ran.Ran.TheVariants.{Done, Rejected as Stopped}
+use Rattle.script_tree.specs.declared.script.Script.{Script}
+use Rattle.std.specs.Arc.{arc_value}
 use Rattle.user_session.specs.declared.content.Content.{Content}
 use Rattle.user_session.specs.declared.command.PlanCommand.{PlanCommand}
-use Rattle.user_session.specs.declared.command.PlanCommand.TheVariants.{Put, Get, View}
-use Rattle.user_session.specs.Planning.{committed, effect, get_effect, named_cell, put_effect, rejected, table_effect, within_limits}
+use Rattle.user_session.specs.declared.command.PlanCommand.TheVariants.{Put, Get, Load, View}
+use Rattle.user_session.specs.Planning.{committed, effect, ended_effect, get_effect, load_effect, named_cell, put_effect, rejected, table_effect, within_limits}
 use Rattle.view_query.specs.Binding.{bound}
 use Rattle.view_query.specs.declared.fault.ViewFault.{ViewFault}
 use Rattle.view_query.specs.declared.shape.View as views
+use Rattle.user_session.proofs.Kept.{write-kept}
+use Rattle.user_session.proofs.Within.{AreWithin, last-within, named-cell}
 use Rattle.user_session.specs.declared.reply.Reason.TheVariants.{NotALeaf, RuleDerived, StoreLimit, FedLimit}
-
--- writes of leaf cells, after which neither limit is passed
-pub record AreWithin (content : Content) (writes : List (ℕ × ℤ)) : Type 0 where
-  pub leaves : AreLeafWrites content.model.space writes
-  pub few_stored : length (after_writes content.stored writes) ≤ most_cells
-  pub few_fed : fed_count content.model (after_writes content.stored writes) ≤ most_fed
-
--- a cell that is named is one
-number-cell : (space : Layout) (cube : ℕ) (elements : List ℕ) (c : ℕ) → cell_number space cube elements ≡ Some c → IsCell space c
-unfolding cell_number
-number-cell space cube elements c is =
-    let parts = cond_some (is_place space cube elements) (place_number space cube elements) c is in
-    subst (IsCell space) parts.1 (place-within space cube elements (is_place-parts space cube elements parts.0))
-
-pub named-cell : (space : Layout) (cube : List ℕ) (names : List (List ℕ)) (c : ℕ) → cell_named space cube names ≡ Some c → IsCell space c
-unfolding cell_named
-named-cell space cube names c is =
-    option_and_then_some (λ k. option_and_then (cell_number space k) (elements_named (axes space k) names)) (place_of (cube_names space) cube) c is
-    (λ k there here. option_and_then_some (cell_number space k) (elements_named (axes space k) names) c here (λ elements named number. number-cell space k elements c number))
 
 -- ---- an accepted PUT
 
@@ -80,6 +67,25 @@ put-within content (Some c) number writes reply cell is = by (is_leaf_cell conte
           few_fed = parts.2;
         })
 
+-- ---- an accepted LOAD
+
+ended-within : (content : Content) (ran : Ran) (written writes : List (ℕ × ℤ)) (reply : List ℕ) → AreWithin content written → ended_effect ran written ≡ Commit writes reply → AreWithin content writes
+ended-within content Done written writes reply within is =
+    let same : last_writes written ≡ writes = cc in
+    subst (AreWithin content) same (last-within content written within)
+ended-within content (Stopped section row statement reason) written writes reply within is = absurd (cc)
+
+load-within : (content : Content) → AreWithin content [] → (job : Job) (script : Script) (writes : List (ℕ × ℤ)) (reply : List ℕ) → load_effect content job script ≡ Commit writes reply
+    → AreWithin content writes
+load-within content begins job script writes reply is =
+    let store = store_of content.model content.stored in
+    let outcome = load (bound_of script) job.params job.rows store [] in
+    let kept : AreWithin content (writes_of outcome) =
+    load_keeps store (AreWithin content) (λ before after cube elements value within written. write-kept content before after within cube elements value written) (bound_of script) job.params job.rows [] begins in
+    ended-within content (ran_of outcome) (writes_of outcome) writes reply kept is
+
+-- ---- questions write nothing
+
 get-never : (content : Content) (named : Option ℕ) (writes : List (ℕ × ℤ)) (reply : List ℕ) → get_effect content named ≡ Commit writes reply → AreWithin content writes
 get-never content None writes reply is = absurd (cc)
 get-never content (Some c) writes reply is = absurd (cc)
@@ -88,8 +94,10 @@ view-never : (content : Content) (meant : Result views.View ViewFault) (writes :
 view-never content (Ok view) writes reply is = absurd (cc)
 view-never content (Err fault) writes reply is = absurd (cc)
 
-pub accepted-within : (content : Content) (command : PlanCommand) (writes : List (ℕ × ℤ)) (reply : List ℕ) → effect content command ≡ Commit writes reply → AreWithin content writes
-accepted-within content (Put text number) writes reply is =
+pub accepted-within : (content : Content) → AreWithin content [] → (command : PlanCommand) (writes : List (ℕ × ℤ)) (reply : List ℕ) → effect content command ≡ Commit writes reply
+    → AreWithin content writes
+accepted-within content begins (Put text number) writes reply is =
     put-within content (named_cell content.model text) number writes reply (λ c named. named-cell content.model.space text.cube text.elements c named) is
-accepted-within content (Get text) writes reply is = get-never content (named_cell content.model text) writes reply is
-accepted-within content (View text) writes reply is = view-never content (bound content.model.space text) writes reply is
+accepted-within content begins (Get text) writes reply is = get-never content (named_cell content.model text) writes reply is
+accepted-within content begins (Load job script) writes reply is = load-within content begins job (arc_value script) writes reply is
+accepted-within content begins (View text) writes reply is = view-never content (bound content.model.space text) writes reply is

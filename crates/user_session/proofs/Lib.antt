@@ -1,2 +1,5 @@
+pub mod LastWrites
+pub mod Within
+pub mod Kept
 pub mod Accepted
 pub mod Loads

@@ -35,27 +35,27 @@ reply_text (Found value) = printed value
 reply_text (Refused reason) = codes "refused " ++ reason_text reason
 
 -- the name of a section of a script
-abbrev pub section_name : Section → List ℕ
-section_name sections.Prolog = codes "Prolog"
-section_name sections.Body = codes "Data"
-section_name sections.Epilog = codes "Epilog"
+abbrev pub section_text : Section → List ℕ
+section_text sections.Prolog = codes "Prolog"
+section_text sections.Body = codes "Data"
+section_text sections.Epilog = codes "Epilog"
 
 -- the name of why a load is stopped
-abbrev pub reason_name : scripts.Reason → List ℕ
-reason_name stops.UnknownName = codes "UnknownName"
-reason_name stops.NotALeaf = codes "NotALeaf"
-reason_name stops.RuleDerived = codes "RuleDerived"
-reason_name stops.NotANumber = codes "NotANumber"
-reason_name stops.OverWrite = codes "OverWrite"
-reason_name stops.ProcessError = codes "ProcessError"
-reason_name stops.StepLimit = codes "StepLimit"
-reason_name (stops.StoreLimit count) = codes "StoreLimit"
-reason_name (stops.FedLimit count) = codes "FedLimit"
-reason_name stops.UnsetVariable = codes "UnsetVariable"
-reason_name stops.TypeMismatch = codes "TypeMismatch"
+abbrev pub cause_text : scripts.Reason → List ℕ
+cause_text stops.UnknownName = codes "UnknownName"
+cause_text stops.NotALeaf = codes "NotALeaf"
+cause_text stops.RuleDerived = codes "RuleDerived"
+cause_text stops.NotANumber = codes "NotANumber"
+cause_text stops.OverWrite = codes "OverWrite"
+cause_text stops.ProcessError = codes "ProcessError"
+cause_text stops.StepLimit = codes "StepLimit"
+cause_text (stops.StoreLimit count) = codes "StoreLimit"
+cause_text (stops.FedLimit count) = codes "FedLimit"
+cause_text stops.UnsetVariable = codes "UnsetVariable"
+cause_text stops.TypeMismatch = codes "TypeMismatch"
 
 -- `rejected SECTION record R statement S REASON`
 abbrev pub stopped_text : Section → ℕ → ℕ → scripts.Reason → List ℕ
 stopped_text section row statement reason =
-    codes "rejected " ++ section_name section ++ codes " record " ++ decimal row
-    ++ codes " statement " ++ decimal statement ++ codes " " ++ reason_name reason
+    codes "rejected " ++ section_text section ++ codes " record " ++ decimal row
+    ++ codes " statement " ++ decimal statement ++ codes " " ++ cause_text reason

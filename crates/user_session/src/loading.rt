@@ -1,7 +1,7 @@
 ghost use Rattle.std.specs.Prelude.{◌≡◌, IfOk};
 ghost use Rattle.user_session.specs.Content.{content_of};
 ghost use Rattle.user_session.specs.Planning.{load_effect};
-ghost use Rattle.user_session.specs.Replies.{reason_name, section_name, stopped_text};
+ghost use Rattle.user_session.specs.Replies.{cause_text, section_text, stopped_text};
 
 use crate::putting::committed;
 use crate::world::PlanEffect;
@@ -61,13 +61,13 @@ fn stopped_text(
     ensures { IfOk result (λ text. text.items ≡ stopped_text section row statement reason) }
 {
     let section = section_name(section);
-    let reason = reason_name(reason);
+    let reason = cause_name(reason);
     let text = format!(in alloc; "rejected {section} record {row} statement {statement} {reason}")?;
     Ok(text.into_bytes())
 }
 
 fn section_name(section: Section) -> &'static str
-    ensures { result.now ≡ section_name section }
+    ensures { result.now ≡ section_text section }
 {
     match section {
         Section::Prolog => "Prolog",
@@ -76,8 +76,8 @@ fn section_name(section: Section) -> &'static str
     }
 }
 
-fn reason_name(reason: Reason) -> &'static str
-    ensures { result.now ≡ reason_name reason }
+fn cause_name(reason: Reason) -> &'static str
+    ensures { result.now ≡ cause_text reason }
 {
     match reason {
         Reason::UnknownName => "UnknownName",

@@ -1,3 +1,5 @@
+ghost use Rattle.std.specs.Prelude.{◌≡◌, IfOk, IsOkUnless, Ok};
+
 use crate::command::PlanCommand;
 use crate::content::Content;
 use crate::getting::get;
@@ -63,11 +65,21 @@ impl World for PlanWorld {
     }
 
     fn next(alloc: Global, state: &Snapshot, writes: &CellWrites) -> Result<Snapshot, AllocError> {
-        match state.next(alloc, writes.as_slice()) {
-            Ok(next) => Ok(next),
-            Err(NextFault::Memory) => Err(AllocError),
-            // an accepted command passes no limit
-            Err(NextFault::StoreLimit(_)) | Err(NextFault::FedLimit(_)) => unreachable!(),
-        }
+        // a version says of itself that it passes no limit, and its model that its rules are in range
+        let (_stored, _fed) = (state.store().len(), state.fed().count());
+        let _cells = state.model().space().size();
+        unless_memory(state.next(alloc, writes.as_slice()))
+    }
+}
+
+// A version that passes no limit is wanting for memory alone.
+fn unless_memory(next: Result<Snapshot, NextFault>) -> Result<Snapshot, AllocError>
+    requires { IsOkUnless next NextFault.Memory }
+    ensures { IfOk result (λ version. next ≡ Ok version) }
+{
+    match next {
+        Ok(version) => Ok(version),
+        Err(NextFault::Memory) => Err(AllocError),
+        Err(NextFault::StoreLimit(_)) | Err(NextFault::FedLimit(_)) => unreachable!(),
     }
 }
