@@ -1,16 +1,2 @@
-pub mod PassFacts
-pub mod KeptFacts
-pub mod Steady
-pub mod Going
-pub mod Coming
-pub mod StageFacts
-pub mod ScriptTexts
-pub mod JudgeFacts
-pub mod ScriptFacts
-pub mod UserFacts
-pub mod Judgements
+pub mod PlanWords
 pub mod PlanFacts
-pub mod Obtaining
-pub mod ReadingsFacts
-pub mod WordFacts
-pub mod OneCourse

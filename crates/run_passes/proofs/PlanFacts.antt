@@ -1,27 +1,33 @@
 -- The passes of a plan, one after another.
-use Rattle.std.proofs.Common.{◌≡◌, ℕ, List, ◌∷◌, Result, Ok, refl, sym, ◌∙◌}
-use Rattle.model_text.specs.Contents.{Contents as Text}
+use Rattle.std.proofs.Common.{◌≡◌, ℕ, List, Result, refl, sym, ◌∙◌, ap, subst}
+use Rattle.cube_words.specs.Words.{Plan, Run, Check, Sample, IsPlan}
+use Rattle.file_passes.specs.Course.{Contents}
+use Rattle.file_passes.specs.Halting.{Comes}
+use Rattle.file_passes.specs.Outside.{Outside, outside}
+use Rattle.file_passes.specs.Pass.{Readings, NotWords, Pass, found, the, file, files, judged, ◌>>=◌}
+use Rattle.file_passes.specs.declared.halt.Halt.{Halt}
+use Rattle.file_passes.proofs.Coming.{comes-next}
+use Rattle.file_passes.proofs.Going.{on-refl}
+use Rattle.file_passes.proofs.KeptFacts.{IsKept, kept-the, kept-found, kept-files, kept-judged, kept-bind}
+use Rattle.file_passes.proofs.PassFacts.{AreAlike, alike-found, alike-bind, alike-behind, alike-judged, alike-once, one-the, one-files}
+use Rattle.file_passes.proofs.Steady.{IsSteady, IsSettled, steady-file, steady-files, steady-judged, steady-bind, worded-judged, worded-behind}
+use Rattle.judged_files.specs.Loads.{record_files, commands_judgement}
+use Rattle.judged_files.specs.Models.{text_judgement}
+use Rattle.judged_files.specs.Rules.{rule_names, deployment_judgement}
+use Rattle.judged_files.specs.Scripts.{Scripts, Checked, script_files, scripts_judgement}
+use Rattle.judged_files.specs.Users.{users_judgement}
+use Rattle.judged_files.proofs.Judgements.{one_text_judgement, one_deployment_judgement, no_scripts_refused, one_users_judgement}
+use Rattle.model_text.specs.Contents.{script_names, Contents as Text}
 use Rattle.rule_model.specs.BoundModel.{BoundModel}
-use Rattle.run_passes.specs.declared.halt.Halt.{Halt}
+use Rattle.script_tree.specs.declared.script.Script.{Script}
+use Rattle.user_text.specs.declared.command.UserCommand.{UserCommand}
 use Rattle.run_passes.specs.declared.job.Job.{Job}
-use Rattle.run_passes.specs.declared.job.Job.TheVariants.{Serve}
-use Rattle.run_passes.specs.Course.{Contents}
-use Rattle.run_passes.specs.Models.{text_judgement}
-use Rattle.run_passes.specs.Rules.{rule_names, deployment_judgement}
-use Rattle.run_passes.specs.Scripts.{script_names, scripts_judgement}
-use Rattle.run_passes.specs.Users.{users_judgement}
-use Rattle.run_passes.specs.Outside.{Outside, outside}
-use Rattle.run_passes.specs.Pass.{Readings, NotWords, Pass, found, the, file, files, judged, whatever, ◌>>=◌}
-use Rattle.run_passes.specs.Run.{text_pass, deploy_pass, scripts_pass, users_pass, plan_pass, run_of}
-use Rattle.run_passes.specs.Words.{Plan, Run, IsPlan}
-use Rattle.run_passes.specs.Inside.Halting.{Comes}
-use Rattle.run_passes.specs.Inside.Plans.{behind_text, behind_model, behind_scripts, behind_users}
-use Rattle.run_passes.proofs.KeptFacts.{kept-the}
-use Rattle.run_passes.proofs.Going.{on-refl}
-use Rattle.run_passes.proofs.Coming.{comes-next, goes-later}
-use Rattle.run_passes.proofs.Judgements.{one_text_judgement, one_deployment_judgement, one_scripts_judgement, one_users_judgement}
-use Rattle.run_passes.proofs.PassFacts.{IsOne, one-the, one-bind}
-use Rattle.run_passes.proofs.Steady.{IsSteady, steady-found, steady-file, steady-files, steady-judged, steady-bind}
+use Rattle.run_passes.specs.declared.job.Job.TheVariants as jobs
+use Rattle.run_passes.specs.Run.{text_pass, deploy_pass, scripts_pass, model_pass, users_pass, records_pass, plan_pass, run_of}
+use Rattle.run_passes.specs.Inside.Plans.{checked_of, behind_scripts, behind_rules, behind_text, served, behind_users, behind_model}
+use Rattle.run_passes.proofs.PlanWords.{one_plan}
+
+-- ---- of a model
 
 pub steady-text : (name : List ℕ) → IsSteady (text_pass name)
 steady-text name =
@@ -34,56 +40,127 @@ steady-deploy name contents =
     (steady-files (rule_names contents.cubes))
     (λ sources. steady-judged (deployment_judgement name contents sources) (one_deployment_judgement name contents sources))
 
-pub steady-scripts : (names : List (List ℕ)) → IsSteady (scripts_pass names)
-steady-scripts names =
-    steady-bind (files names) (λ sources. judged (whatever (scripts_judgement sources))) (steady-files names)
-    (λ sources. steady-judged (whatever (scripts_judgement sources)) (one_scripts_judgement sources))
+pub kept-scripts : (names : List (List ℕ)) → IsKept (scripts_pass names)
+kept-scripts names =
+    kept-bind (files names) (λ sources. judged (scripts_judgement sources)) (kept-files names) (λ sources. kept-judged (scripts_judgement sources))
 
-pub steady-users : (names : List (List ℕ)) → IsSteady (users_pass names)
-steady-users names =
-    steady-bind (files names) (λ sources. judged (users_judgement sources)) (steady-files names)
-    (λ sources. steady-judged (users_judgement sources) (one_users_judgement sources))
+settled-scripts : (names : List (List ℕ)) → IsSettled (scripts_pass names)
+settled-scripts names = record {
+  alike = alike-behind (files names) (λ sources. judged (scripts_judgement sources)) (λ sources. judged (scripts_judgement sources)) (one-files names)
+      (λ sources. alike-once (scripts_judgement sources) (no_scripts_refused sources));
+  worded = worded-behind (files names) (λ sources. judged (scripts_judgement sources)) (steady-files names).worded
+      (λ sources. worded-judged (scripts_judgement sources));
+}
 
-steady-behind_scripts : (users : List (List ℕ)) (bound : BoundModel) (u : Unit {0}) → IsSteady (behind_scripts users bound u)
-steady-behind_scripts users bound u =
-    steady-bind (users_pass users) (behind_users bound) (steady-users users) (λ commands. steady-found (Serve bound commands))
+kept-behind_rules : (files names : List (List ℕ)) (bound : BoundModel) → IsKept (behind_rules files names bound)
+kept-behind_rules files names bound =
+    kept-bind (scripts_pass files) (behind_scripts names bound) (kept-scripts files) (λ trees. kept-found (checked_of bound names trees))
 
-steady-behind_model : (scripts users : List (List ℕ)) (bound : BoundModel) → IsSteady (behind_model scripts users bound)
-steady-behind_model scripts users bound =
-    steady-bind (scripts_pass scripts) (behind_scripts users bound) (steady-scripts scripts) (steady-behind_scripts users bound)
+kept-behind_text : (name : List ℕ) (contents : Text) → IsKept (behind_text name contents)
+kept-behind_text name contents =
+    kept-bind (deploy_pass name contents) (behind_rules (script_files contents.scripts) (script_names contents.scripts)) (steady-deploy name contents).kept
+    (kept-behind_rules (script_files contents.scripts) (script_names contents.scripts))
 
-steady-behind_text : (model : List ℕ) (users : List (List ℕ)) (contents : Text) → IsSteady (behind_text model users contents)
-steady-behind_text model users contents =
-    steady-bind (deploy_pass model contents) (behind_model (script_names contents.scripts) users) (steady-deploy model contents)
-    (steady-behind_model (script_names contents.scripts) users)
+pub kept-model : (name : List ℕ) → IsKept (model_pass name)
+kept-model name = kept-bind (text_pass name) (behind_text name) (steady-text name).kept (kept-behind_text name)
 
-pub steady-plan : (plan : Plan) → IsSteady (plan_pass plan)
-steady-plan (Run model users) =
-    steady-bind (text_pass model) (behind_text model users) (steady-text model) (steady-behind_text model users)
+settled-behind_rules : (files names : List (List ℕ)) (bound : BoundModel) → IsSettled (behind_rules files names bound)
+settled-behind_rules files names bound =
+    let scripts = settled-scripts files in
+    record {
+      alike = alike-bind (scripts_pass files) (scripts_pass files) (behind_scripts names bound) (behind_scripts names bound) scripts.alike scripts.alike
+          (λ readings a b p q. alike-found (checked_of bound names a) (checked_of bound names b));
+      worded = worded-behind (scripts_pass files) (behind_scripts names bound) scripts.worded (λ trees readings stops. stops);
+    }
 
-one_plan : (words : List (List ℕ)) (a b : Plan) → IsPlan words a → IsPlan words b → a ≡ b
-one_plan words (Run model users) (Run other more) p q =
-    let same : model ∷ users ≡ other ∷ more = sym p.all ∙ q.all in
-    cc
+settled-behind_text : (name : List ℕ) (contents : Text) → IsSettled (behind_text name contents)
+settled-behind_text name contents =
+    let behind = behind_rules (script_files contents.scripts) (script_names contents.scripts) in
+    let settled = settled-behind_rules (script_files contents.scripts) (script_names contents.scripts) in
+    record {
+      alike = alike-behind (deploy_pass name contents) behind behind (steady-deploy name contents).one (λ bound. (settled bound).alike);
+      worded = worded-behind (deploy_pass name contents) behind (steady-deploy name contents).worded (λ bound. (settled bound).worded);
+    }
 
--- a run comes to one thing at most over the files that it has read
-pub one_run : (words : List (List ℕ)) → IsOne (run_of words)
-one_run words = one-bind _ plan_pass (one-the (IsPlan words) NotWords (one_plan words)) (λ plan. (steady-plan plan).one)
+settled-model : (name : List ℕ) → IsSettled (model_pass name)
+settled-model name = record {
+  alike = alike-behind (text_pass name) (behind_text name) (behind_text name) (steady-text name).one (λ contents. (settled-behind_text name contents).alike);
+  worded = worded-behind (text_pass name) (behind_text name) (steady-text name).worded (λ contents. (settled-behind_text name contents).worded);
+}
 
--- what was found goes into what is found behind it
-pub comes-mapped : {A B : Type 0} (P : Pass A) (f : A → B) (o : Outside) (old new : Readings) (a : A)
-    → Comes P o old new (Ok a) → Comes (P >>= λ x. found (f x)) o old new (Ok (f a))
-comes-mapped P f o old new a came = (goes-later P (λ x. found (f x)) o old new came.0, (a, came.1, refl))
+-- the names of the scripts are told by the model's text
+same-names : (name : List ℕ) (readings : Readings) (a b : Checked) → (model_pass name).finds readings a → (model_pass name).finds readings b
+    → a.scripts.names ≡ b.scripts.names
+same-names name readings a b p q =
+    let text : p.0 ≡ q.0 = (steady-text name).one.one_found readings p.0 q.0 p.1 q.1 in
+    let names_in : Text → List (List ℕ) = λ contents. script_names contents.scripts in
+    let names_of : Checked → List (List ℕ) = λ checked. checked.scripts.names in
+    ap names_of p.2.2.2 ∙ ap names_in text ∙ sym (ap names_of q.2.2.2)
+
+-- ---- of users
+
+pub steady-users : (scripts names : List (List ℕ)) → IsSteady (users_pass scripts names)
+steady-users scripts names =
+    steady-bind (files names) (λ sources. judged (users_judgement scripts sources)) (steady-files names)
+    (λ sources. steady-judged (users_judgement scripts sources) (one_users_judgement scripts sources))
+
+alike-records : (a b : Scripts) (texts : List (List UserCommand)) → AreAlike (records_pass a texts) (records_pass b texts)
+alike-records a b texts =
+    alike-behind (files (record_files texts)) (λ sources. judged (commands_judgement a sources texts)) (λ sources. judged (commands_judgement b sources texts))
+    (one-files (record_files texts))
+    (λ sources. alike-judged (commands_judgement a sources texts) (commands_judgement b sources texts) (λ r never. never) (λ r never. never))
+
+worded-records : (scripts : Scripts) (texts : List (List UserCommand)) (readings : Readings) → (records_pass scripts texts).stops readings NotWords → ⊥
+worded-records scripts texts =
+    worded-behind (files (record_files texts)) (λ sources. judged (commands_judgement scripts sources texts)) (steady-files (record_files texts)).worded
+    (λ sources. worded-judged (commands_judgement scripts sources texts))
+
+alike-behind_users : (a b : Checked) (texts : List (List UserCommand)) → AreAlike (behind_users a texts) (behind_users b texts)
+alike-behind_users a b texts =
+    alike-bind (records_pass a.scripts texts) (records_pass b.scripts texts) (served a) (served b)
+    (alike-records a.scripts b.scripts texts) (alike-records b.scripts a.scripts texts)
+    (λ readings x y p q. alike-found (jobs.Serve a.model x) (jobs.Serve b.model y))
+
+alike-behind_model : (users : List (List ℕ)) (a b : Checked) → a.scripts.names ≡ b.scripts.names → AreAlike (behind_model users a) (behind_model users b)
+alike-behind_model users a b same =
+    subst (λ names. AreAlike (behind_model users a) (users_pass names users >>= behind_users b)) same
+    (alike-behind (users_pass a.scripts.names users) (behind_users a) (behind_users b) (steady-users a.scripts.names users).one (alike-behind_users a b))
+
+worded-behind_model : (users : List (List ℕ)) (checked : Checked) (readings : Readings) → (behind_model users checked).stops readings NotWords → ⊥
+worded-behind_model users checked =
+    worded-behind (users_pass checked.scripts.names users) (behind_users checked) (steady-users checked.scripts.names users).worded
+    (λ texts. worded-behind (records_pass checked.scripts texts) (served checked) (worded-records checked.scripts texts) (λ commands readings stops. stops))
+
+-- ---- of each plan
+
+abbrev pub accept : Checked → Pass Job
+accept checked = found (jobs.Check checked.model)
+
+pub settled-plan : (plan : Plan) → IsSettled (plan_pass plan)
+settled-plan (Run model users) =
+    let settled = settled-model model in
+    record {
+      alike = alike-bind (model_pass model) (model_pass model) (behind_model users) (behind_model users) settled.alike settled.alike
+          (λ readings a b p q. alike-behind_model users a b (same-names model readings a b p q));
+      worded = worded-behind (model_pass model) (behind_model users) settled.worded (worded-behind_model users);
+    }
+settled-plan (Check model) =
+    let settled = settled-model model in
+    record {
+      alike = alike-bind (model_pass model) (model_pass model) accept accept settled.alike settled.alike
+          (λ readings a b p q. alike-found (jobs.Check a.model) (jobs.Check b.model));
+      worded = worded-behind (model_pass model) accept settled.worded (λ checked readings stops. stops);
+    }
+settled-plan (Sample size) = record { alike = alike-found (jobs.Sample size) (jobs.Sample size); worded = λ readings stops. stops }
+
+-- a run stops in one way over the files that it has read, and finds no job where it stops
+pub one_run : (words : List (List ℕ)) → AreAlike (run_of words) (run_of words)
+one_run words =
+    alike-behind (the (IsPlan words) NotWords) plan_pass plan_pass (one-the (IsPlan words) NotWords (one_plan words)) (λ plan. (settled-plan plan).alike)
 
 module _ {F : Type 0} (known : F → Contents) (faults : F → ℕ) (missed : F → List ℕ) (asked : F → List (List ℕ)) where
   abbrev from : F → F → Outside
   from a b = outside known faults missed asked a b
-
-  -- one pass has found something, and then another comes to this
-  pub comes-behind : {A B : Type 0} (P : Pass A) (K : A → Pass B) → IsSteady P → (a b c : F) (old mid new : Readings) (x : A) (r : Result B Halt)
-      → known b ≡ known a → Comes P (from a b) old mid (Ok x) → Comes (K x) (from b c) mid new r → Comes (P >>= K) (from a c) old new r
-  comes-behind P K steady a b c old mid new x r same came then =
-      comes-next known faults missed asked P K steady.kept a b c old mid new x same came.0 came.1 r then
 
   pub run-planned : (words : List (List ℕ)) (a c : F) (old new : Readings) (plan : Plan) (r : Result Job Halt)
       → IsPlan words plan → Comes (plan_pass plan) (from a c) old new r → Comes (run_of words) (from a c) old new r

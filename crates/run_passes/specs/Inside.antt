@@ -1,5 +1,2 @@
--- What the functions that read and judge promise one another. Of it the top call cites what a run comes to.
-pub mod Reading
-pub mod Halting
-pub mod Judging
+-- The passes that are left behind some of them.
 pub mod Plans

@@ -1,11 +1,2 @@
-pub mod Pass
-pub mod Course
-pub mod Words
-pub mod Refusals
-pub mod Models
-pub mod Rules
-pub mod Scripts
-pub mod Users
 pub mod Run
-pub mod Outside
 pub mod Inside

@@ -7,4 +7,8 @@ use user_session::PlanCommand;
 pub enum Job {
     /// Runs the commands of each user on the model.
     Serve(Accepted, ListOf<ListOf<PlanCommand>>),
+    /// Tells that the model is accepted, with its rules and scripts.
+    Check(Accepted),
+    /// Runs the generated sample of so many records.
+    Sample(u32),
 }

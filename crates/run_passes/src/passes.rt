@@ -1,110 +1,107 @@
 ghost use Rattle.std.specs.Prelude.{◌≡◌};
-ghost use Rattle.run_passes.specs.Inside.Halting.{Comes};
-ghost use Rattle.run_passes.specs.Outside.{outside};
-ghost use Rattle.run_passes.specs.Run.{text_pass, deploy_pass, scripts_pass, users_pass, plan_pass, run_of};
-ghost use Rattle.run_passes.specs.Inside.Plans.{behind_text, behind_model, behind_scripts};
-ghost use Rattle.run_passes.specs.Words.{Run, texts_of};
+ghost use Rattle.cube_words.specs.Words.{asked, Check, Run, texts_of};
+ghost use Rattle.file_passes.specs.Halting.{Comes};
+ghost use Rattle.file_passes.specs.Outside.{outside};
+ghost use Rattle.run_passes.specs.Inside.Plans.{behind_model, behind_users};
+ghost use Rattle.run_passes.specs.Run.{users_pass, records_pass, plan_pass, run_of};
 
-use crate::halt::Halt;
 use crate::job::Job;
-use crate::models::text_of;
-use crate::obtain::{obtain, obtain_all};
-use crate::readings::Readings;
-use crate::rules::{model_of, rule_names};
-use crate::scripts::{check_scripts, script_names};
-use crate::users::users_of;
-use crate::words::plan_of;
-use accepted::Accepted;
+use crate::model_passes::{Checked, model_pass};
 use cube_outside::Files;
+use cube_words::{Plan, words as plan_of};
+use dim_name::Name;
+use file_passes::{Halt, Readings, obtain_all};
+use judged_files::{Scripts, commands_of, record_files, users_of};
 use lists::ListOf;
-use model_text::ModelText;
 use std::alloc::Global;
 use user_session::PlanCommand;
-
-// The model file.
-fn text_pass<F: Files>(
-    alloc: Global,
-    files: &mut F,
-    readings: &mut Readings,
-    name: &str,
-) -> Result<ModelText, Halt>
-    ensures known { F.known files.new ≡ F.known files.old }
-    ensures comes { Comes (text_pass name.now) (outside F.known F.faults F.missed F.asked files.old files.new)
-        readings.old readings.new result }
-{
-    if let Err(halt) = obtain(alloc, files, readings, name) {
-        return Err(halt);
-    }
-    text_of(alloc, &readings.source(name))
-}
-
-// The files of the cubes' rules.
-fn deploy_pass<F: Files>(
-    alloc: Global,
-    files: &mut F,
-    readings: &mut Readings,
-    name: &str,
-    text: ModelText,
-) -> Result<Accepted, Halt>
-    ensures known { F.known files.new ≡ F.known files.old }
-    ensures comes { Comes (deploy_pass name.now text) (outside F.known F.faults F.missed F.asked files.old files.new)
-        readings.old readings.new result }
-{
-    let names = match rule_names(alloc, text.cubes()) {
-        Ok(names) => names,
-        Err(_) => return Err(Halt::Memory),
-    };
-    if let Err(halt) = obtain_all(alloc, files, readings, &names) {
-        return Err(halt);
-    }
-    match readings.sources(alloc, &names) {
-        Ok(sources) => model_of(alloc, name, text, &sources),
-        Err(_) => Err(Halt::Memory),
-    }
-}
-
-// All script files.
-fn scripts_pass<F: Files>(
-    alloc: Global,
-    files: &mut F,
-    readings: &mut Readings,
-    names: &[String],
-) -> Result<(), Halt>
-    ensures known { F.known files.new ≡ F.known files.old }
-    ensures comes { Comes (scripts_pass (texts_of names.now))
-        (outside F.known F.faults F.missed F.asked files.old files.new) readings.old readings.new result }
-{
-    if let Err(halt) = obtain_all(alloc, files, readings, names) {
-        return Err(halt);
-    }
-    match readings.sources(alloc, names) {
-        Ok(sources) => check_scripts(alloc, &sources),
-        Err(_) => Err(Halt::Memory),
-    }
-}
+use user_text::UserCommand;
 
 // All user files.
 fn users_pass<F: Files>(
     alloc: Global,
     files: &mut F,
     readings: &mut Readings,
+    scripts: &[Name],
     names: &[String],
-) -> Result<ListOf<ListOf<PlanCommand>>, Halt>
+) -> Result<ListOf<ListOf<UserCommand>>, Halt>
     ensures known { F.known files.new ≡ F.known files.old }
-    ensures comes { Comes (users_pass (texts_of names.now))
+    ensures comes { Comes (users_pass scripts.now (texts_of names.now))
         (outside F.known F.faults F.missed F.asked files.old files.new) readings.old readings.new result }
 {
     if let Err(halt) = obtain_all(alloc, files, readings, names) {
         return Err(halt);
     }
     match readings.sources(alloc, names) {
-        Ok(sources) => users_of(alloc, &sources),
+        Ok(sources) => users_of(alloc, scripts, &sources),
         Err(_) => Err(Halt::Memory),
     }
 }
 
-// The passes of a run that the words ask for.
+// The files of all records.
+fn records_pass<F: Files>(
+    alloc: Global,
+    files: &mut F,
+    readings: &mut Readings,
+    scripts: &Scripts,
+    users: ListOf<ListOf<UserCommand>>,
+) -> Result<ListOf<ListOf<PlanCommand>>, Halt>
+    ensures known { F.known files.new ≡ F.known files.old }
+    ensures comes { Comes (records_pass scripts.now users)
+        (outside F.known F.faults F.missed F.asked files.old files.new) readings.old readings.new result }
+{
+    let names = match record_files(alloc, users.as_slice()) {
+        Ok(names) => names,
+        Err(_) => return Err(Halt::Memory),
+    };
+    if let Err(halt) = obtain_all(alloc, files, readings, &names) {
+        return Err(halt);
+    }
+    let sources = match readings.sources(alloc, &names) {
+        Ok(sources) => sources,
+        Err(_) => return Err(Halt::Memory),
+    };
+    match commands_of(alloc, scripts, &sources, users) {
+        Ok(commands) => Ok(commands),
+        Err(_) => Err(Halt::Memory),
+    }
+}
+
+// The passes of a plan.
 fn plan_pass<F: Files>(
+    alloc: Global,
+    files: &mut F,
+    readings: &mut Readings,
+    plan: &Plan<'_>,
+) -> Result<Job, Halt>
+    ensures { Comes (plan_pass (asked plan.now)) (outside F.known F.faults F.missed F.asked files.old files.new)
+        readings.old readings.new result }
+{
+    match plan {
+        Plan::Run { model, users } => run_pass(alloc, files, readings, model, users),
+        Plan::Check { model } => check_pass(alloc, files, readings, model),
+        Plan::Sample { size } => Ok(Job::Sample(*size)),
+    }
+}
+
+// The passes of a check.
+fn check_pass<F: Files>(
+    alloc: Global,
+    files: &mut F,
+    readings: &mut Readings,
+    model: &str,
+) -> Result<Job, Halt>
+    ensures { Comes (plan_pass (Check model.now)) (outside F.known F.faults F.missed F.asked files.old files.new)
+        readings.old readings.new result }
+{
+    match model_pass(alloc, files, readings, model) {
+        Ok(checked) => Ok(Job::Check(checked.model)),
+        Err(halt) => Err(halt),
+    }
+}
+
+// The passes of a run for its users.
+fn run_pass<F: Files>(
     alloc: Global,
     files: &mut F,
     readings: &mut Readings,
@@ -114,64 +111,43 @@ fn plan_pass<F: Files>(
     ensures { Comes (plan_pass (Run model.now (texts_of users.now)))
         (outside F.known F.faults F.missed F.asked files.old files.new) readings.old readings.new result }
 {
-    match text_pass(alloc, files, readings, model) {
-        Ok(text) => behind_text(alloc, files, readings, model, users, text),
+    match model_pass(alloc, files, readings, model) {
+        Ok(checked) => behind_model(alloc, files, readings, users, checked),
         Err(halt) => Err(halt),
     }
 }
 
-// The passes behind that of the model file.
-fn behind_text<F: Files>(
-    alloc: Global,
-    files: &mut F,
-    readings: &mut Readings,
-    model: &str,
-    users: &[String],
-    text: ModelText,
-) -> Result<Job, Halt>
-    ensures { Comes (behind_text model.now (texts_of users.now) text)
-        (outside F.known F.faults F.missed F.asked files.old files.new) readings.old readings.new result }
-{
-    let Ok(scripts) = script_names(alloc, text.scripts()) else {
-        return Err(Halt::Memory);
-    };
-    match deploy_pass(alloc, files, readings, model, text) {
-        Ok(bound) => behind_model(alloc, files, readings, &scripts, users, bound),
-        Err(halt) => Err(halt),
-    }
-}
-
-// The passes behind that of the rule files.
+// The passes behind those of the model.
 fn behind_model<F: Files>(
     alloc: Global,
     files: &mut F,
     readings: &mut Readings,
-    scripts: &[String],
     users: &[String],
-    bound: Accepted,
+    checked: Checked,
 ) -> Result<Job, Halt>
-    ensures { Comes (behind_model (texts_of scripts.now) (texts_of users.now) bound)
+    ensures { Comes (behind_model (texts_of users.now) checked)
         (outside F.known F.faults F.missed F.asked files.old files.new) readings.old readings.new result }
 {
-    match scripts_pass(alloc, files, readings, scripts) {
-        Ok(()) => behind_scripts(alloc, files, readings, users, bound),
+    let scripts = checked.scripts.names.as_slice();
+    match users_pass(alloc, files, readings, scripts, users) {
+        Ok(texts) => behind_users(alloc, files, readings, checked, texts),
         Err(halt) => Err(halt),
     }
 }
 
-// The passes behind that of the script files.
-fn behind_scripts<F: Files>(
+// The pass behind that of the user files.
+fn behind_users<F: Files>(
     alloc: Global,
     files: &mut F,
     readings: &mut Readings,
-    users: &[String],
-    bound: Accepted,
+    checked: Checked,
+    texts: ListOf<ListOf<UserCommand>>,
 ) -> Result<Job, Halt>
-    ensures { Comes (behind_scripts (texts_of users.now) bound tt)
-        (outside F.known F.faults F.missed F.asked files.old files.new) readings.old readings.new result }
+    ensures { Comes (behind_users checked texts) (outside F.known F.faults F.missed F.asked files.old files.new)
+        readings.old readings.new result }
 {
-    match users_pass(alloc, files, readings, users) {
-        Ok(commands) => Ok(Job::Serve(bound, commands)),
+    match records_pass(alloc, files, readings, &checked.scripts, texts) {
+        Ok(commands) => Ok(Job::Serve(checked.model, commands)),
         Err(halt) => Err(halt),
     }
 }
@@ -186,8 +162,8 @@ pub fn run_passes<F: Files>(
     ensures { Comes (run_of (texts_of words.now)) (outside F.known F.faults F.missed F.asked files.old files.new)
         readings.old readings.new result }
 {
-    let Some(plan) = plan_of(words) else {
-        return Err(Halt::NotWords);
-    };
-    plan_pass(alloc, files, readings, plan.model, plan.users)
+    match plan_of(words) {
+        Ok(plan) => plan_pass(alloc, files, readings, &plan),
+        Err(_) => Err(Halt::NotWords),
+    }
 }

@@ -1,23 +1,38 @@
 -- The passes of a run that are left behind some of them.
 use Rattle.std.specs.Prelude.{ℕ, List}
-use Rattle.model_text.specs.Contents.{Contents}
+use Rattle.file_passes.specs.Pass.{Pass, found, ◌>>=◌}
+use Rattle.model_text.specs.Contents.{Contents, script_names}
 use Rattle.rule_model.specs.BoundModel.{BoundModel}
+use Rattle.script_tree.specs.declared.script.Script.{Script}
 use Rattle.user_session.specs.declared.command.PlanCommand.{PlanCommand}
+use Rattle.user_text.specs.declared.command.UserCommand.{UserCommand}
 use Rattle.run_passes.specs.declared.job.Job.{Job}
-use Rattle.run_passes.specs.declared.job.Job.TheVariants.{Serve}
-use Rattle.run_passes.specs.Pass.{Pass, found, ◌>>=◌}
-use Rattle.run_passes.specs.Run.{deploy_pass, scripts_pass, users_pass}
-use Rattle.run_passes.specs.Scripts.{script_names}
+use Rattle.run_passes.specs.declared.job.Job.TheVariants as jobs
+use Rattle.run_passes.specs.Run.{deploy_pass, scripts_pass, users_pass, records_pass}
+use Rattle.judged_files.specs.Scripts.{Checked, script_files}
 
-abbrev pub behind_users : BoundModel → List (List PlanCommand) → Pass Job
-behind_users bound commands = found (Serve bound commands)
+-- ---- of a model
 
-abbrev pub behind_scripts : List (List ℕ) → BoundModel → Unit {0} → Pass Job
-behind_scripts users bound _ = users_pass users >>= behind_users bound
+abbrev pub checked_of : BoundModel → List (List ℕ) → List Script → Checked
+checked_of bound names trees = record { model = bound; scripts = record { names = names; trees = trees } }
 
-abbrev pub behind_model : List (List ℕ) → List (List ℕ) → BoundModel → Pass Job
-behind_model scripts users bound = scripts_pass scripts >>= behind_scripts users bound
+abbrev pub behind_scripts : List (List ℕ) → BoundModel → List Script → Pass Checked
+behind_scripts names bound trees = found (checked_of bound names trees)
 
-abbrev pub behind_text : List ℕ → List (List ℕ) → Contents → Pass Job
-behind_text model users contents =
-    deploy_pass model contents >>= behind_model (script_names contents.scripts) users
+abbrev pub behind_rules : List (List ℕ) → List (List ℕ) → BoundModel → Pass Checked
+behind_rules files names bound = scripts_pass files >>= behind_scripts names bound
+
+abbrev pub behind_text : List ℕ → Contents → Pass Checked
+behind_text name contents =
+    deploy_pass name contents >>= behind_rules (script_files contents.scripts) (script_names contents.scripts)
+
+-- ---- of a run
+
+abbrev pub served : Checked → List (List PlanCommand) → Pass Job
+served checked commands = found (jobs.Serve checked.model commands)
+
+abbrev pub behind_users : Checked → List (List UserCommand) → Pass Job
+behind_users checked texts = records_pass checked.scripts texts >>= served checked
+
+abbrev pub behind_model : List (List ℕ) → Checked → Pass Job
+behind_model users checked = users_pass checked.scripts.names users >>= behind_users checked

@@ -1,9 +1,9 @@
 use Rattle.std.proofs.Common.{refl, inl, subst}
-use Rattle.run_passes.specs.Outside.{outside}
+use Rattle.file_passes.specs.Outside.{outside}
 use Rattle.run_passes.specs.Run.{plan_pass, run_of}
-use Rattle.run_passes.specs.Words.{texts_of}
-use Rattle.run_passes.specs.Inside.Halting.{Comes}
-use Rattle.run_passes.proofs.Going.{on-refl}
+use Rattle.cube_words.specs.Words.{texts_of}
+use Rattle.file_passes.specs.Halting.{Comes}
+use Rattle.file_passes.proofs.Going.{on-refl}
 use Rattle.run_passes.proofs.PlanFacts.{run-planned}
 use Rattle.run_passes.proofs.passes.run_passes.Goals as goal
 

@@ -1,0 +1,9 @@
+pub mod PassFacts
+pub mod KeptFacts
+pub mod Steady
+pub mod Going
+pub mod Coming
+pub mod ObtainFacts
+pub mod ReadingsFacts
+pub mod WordFacts
+pub mod OneCourse

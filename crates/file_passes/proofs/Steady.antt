@@ -1,0 +1,61 @@
+-- Passes over files: each comes to one thing at most, keeps what it has found while more files are read, and doesn't
+-- blame the words.
+use Rattle.std.proofs.Common.{◌≡◌, ℕ, List, [], ◌∷◌, inl, inr}
+use Rattle.file_passes.specs.Pass.{Readings, NotWords, Reads, Pass, Judgement, found, file, files, judged, ◌>>=◌}
+use Rattle.file_passes.proofs.KeptFacts.{IsKept, kept-found, kept-file, kept-files, kept-judged, kept-bind}
+use Rattle.file_passes.proofs.PassFacts.{AreAlike, alike-one, IsOne, IsOneJudgement, one-found, one-file, one-files, one-judged, one-bind}
+
+pub record IsSteady {A : Type 0} (P : Pass A) : Type 0 where
+  pub one : IsOne P
+  pub kept : IsKept P
+  pub worded : (readings : Readings) → P.stops readings NotWords → ⊥
+
+pub steady-found : {A : Type 0} (a : A) → IsSteady (found a)
+steady-found a = record { one = one-found a; kept = kept-found a; worded = λ readings stops. stops }
+
+worded-file : (name : List ℕ) (readings : Readings) → (file name).stops readings NotWords → ⊥
+worded-file name readings stops = (let never : NotWords ≡ Reads name = stops.1 in cc)
+
+worded-files : (names : List (List ℕ)) (readings : Readings) → (files names).stops readings NotWords → ⊥
+worded-files [] readings stops = stops
+worded-files (name ∷ more) readings (inl stops) = worded-file name readings stops
+worded-files (name ∷ more) readings (inr (first, is, inl stops)) = worded-files more readings stops
+worded-files (name ∷ more) readings (inr (first, is, inr stops)) = stops.2
+
+pub steady-file : (name : List ℕ) → IsSteady (file name)
+steady-file name = record { one = one-file name; kept = kept-file name; worded = worded-file name }
+
+pub steady-files : (names : List (List ℕ)) → IsSteady (files names)
+steady-files names = record { one = one-files names; kept = kept-files names; worded = worded-files names }
+
+pub worded-judged : {A : Type 0} (J : Judgement A) (readings : Readings) → (judged J).stops readings NotWords → ⊥
+worded-judged J readings stops = (let never = stops.2 in cc)
+
+pub steady-judged : {A : Type 0} (J : Judgement A) → IsOneJudgement J → IsSteady (judged J)
+steady-judged J one = record { one = one-judged J one; kept = kept-judged J; worded = worded-judged J }
+
+worded-bind : {A B : Type 0} (P : Pass A) (K : A → Pass B) → IsSteady P → ((a : A) → IsSteady (K a)) → (readings : Readings) → (P >>= K).stops readings NotWords → ⊥
+worded-bind P K steady all readings (inl stops) = steady.worded readings stops
+worded-bind P K steady all readings (inr (a, is, stops)) = (all a).worded readings stops
+
+pub steady-bind : {A B : Type 0} (P : Pass A) (K : A → Pass B) → IsSteady P → ((a : A) → IsSteady (K a)) → IsSteady (P >>= K)
+steady-bind P K steady all = record {
+  one = one-bind P K steady.one (λ a. (all a).one);
+  kept = kept-bind P K steady.kept (λ a. (all a).kept);
+  worded = worded-bind P K steady all;
+}
+
+-- ---- passes that don't blame the words
+
+-- what such passes find may be several things, but they stop in one way
+pub record IsSettled {A : Type 0} (P : Pass A) : Type 0 where
+  pub alike : AreAlike P P
+  pub worded : (readings : Readings) → P.stops readings NotWords → ⊥
+
+pub settled-steady : {A : Type 0} (P : Pass A) → IsSteady P → IsSettled P
+settled-steady P steady = record { alike = alike-one P steady.one; worded = steady.worded }
+
+pub worded-behind : {A B : Type 0} (P : Pass A) (K : A → Pass B) → ((readings : Readings) → P.stops readings NotWords → ⊥)
+    → ((a : A) (readings : Readings) → (K a).stops readings NotWords → ⊥) → (readings : Readings) → (P >>= K).stops readings NotWords → ⊥
+worded-behind P K first next readings (inl stops) = first readings stops
+worded-behind P K first next readings (inr (a, is, stops)) = next a readings stops

@@ -1,0 +1,42 @@
+-- What a pass comes to.
+use Rattle.std.specs.Prelude.{◌≡◌, ℕ, List, [], ◌∷◌, Result, Ok, Err}
+use Rattle.cube_outside.specs.Counts.{Rose}
+use Rattle.cube_outside.specs.declared.files.FileFault.{FileFault}
+use Rattle.cube_outside.specs.declared.files.FileFault.TheVariants as faults
+use Rattle.file_passes.specs.declared.halt.Halt.{Halt}
+use Rattle.file_passes.specs.declared.halt.Halt.TheVariants as halts
+use Rattle.file_passes.specs.Outside.{Outside}
+use Rattle.file_passes.specs.Pass.{Readings, Pass, Judgement, NotWords, Reads, Refuses}
+use Rattle.file_passes.specs.Reading.{IsReadOn, Asks, Goes}
+
+-- what a fault of the files makes of a run
+abbrev pub unread : FileFault → Halt
+unread faults.Failed = halts.Unread
+unread faults.Memory = halts.Memory
+
+-- why the pass went no further over these files, want of memory aside
+abbrev pub Halts : {A : Type 0} → Pass A → Outside → Readings → Readings → Halt → Type 0
+Halts pass o old new halts.NotWords = pass.stops new NotWords × (o.after ≡ o.before) × Asks o old new []
+Halts pass o old new halts.Unread =
+    pass.stops new (Reads o.missed) × Rose o.before o.after × Asks o old new (o.missed ∷ [])
+Halts pass o old new (halts.Refused refusal) =
+    pass.stops new (Refuses refusal) × (o.after ≡ o.before) × Asks o old new []
+Halts pass o old new halts.Memory = Unit {0}
+
+-- the pass found this, or went no further
+abbrev pub Comes : {A : Type 0} → Pass A → Outside → Readings → Readings → Result A Halt → Type 0
+Comes pass o old new (Ok a) = Goes pass o old new × pass.finds new a
+Comes pass o old new (Err halt) = IsReadOn pass o.known old new × Halts pass o old new halt
+
+-- the same of a pass that reads files, whose bytes are looked up later
+abbrev pub ComesThrough : {A : Type 0} → Pass A → Outside → Readings → Readings → Result (Unit {0}) Halt → Type 0
+ComesThrough {A} pass o old new (Ok u) = Goes pass o old new × ((a : A) × pass.finds new a)
+ComesThrough pass o old new (Err halt) = IsReadOn pass o.known old new × Halts pass o old new halt
+
+-- an answer is what was read is judged to be, unless memory ran out
+abbrev pub Judges : {A : Type 0} → Judgement A → Result A Halt → Type 0
+Judges judgement (Ok a) = judgement.stands_for a
+Judges judgement (Err halts.NotWords) = ⊥
+Judges judgement (Err halts.Unread) = ⊥
+Judges judgement (Err (halts.Refused refusal)) = judgement.refused_for refusal
+Judges judgement (Err halts.Memory) = Unit {0}

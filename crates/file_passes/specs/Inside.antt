@@ -1,0 +1,2 @@
+-- What the functions that read promise one another.
+pub mod Steps

@@ -1,0 +1,46 @@
+ghost use Rattle.std.specs.Prelude.{◌≡◌};
+ghost use Rattle.file_passes.specs.Halting.{ComesThrough};
+ghost use Rattle.file_passes.specs.Outside.{outside};
+ghost use Rattle.file_passes.specs.Pass.{file, files as files_named};
+ghost use Rattle.cube_words.specs.Words.{texts_of};
+
+use crate::halt::Halt;
+use crate::readings::Readings;
+use cube_outside::Files;
+use std::alloc::Global;
+
+/// Reads the file of this name, unless it was read before.
+pub fn obtain<F: Files>(
+    alloc: Global,
+    files: &mut F,
+    readings: &mut Readings,
+    name: &str,
+) -> Result<(), Halt>
+    ensures known { F.known files.new ≡ F.known files.old }
+    ensures through { ComesThrough (file name.now) (outside F.known F.faults F.missed F.asked files.old files.new)
+        readings.old readings.new result }
+{
+    match readings.read(alloc, files, name) {
+        Ok(()) => Ok(()),
+        Err(fault) => Err(Halt::from(fault)),
+    }
+}
+
+/// Reads the files of these names, in order.
+pub fn obtain_all<F: Files>(
+    alloc: Global,
+    files: &mut F,
+    readings: &mut Readings,
+    names: &[String],
+) -> Result<(), Halt>
+    ensures known { F.known files.new ≡ F.known files.old }
+    ensures through { ComesThrough (files_named (texts_of names.now))
+        (outside F.known F.faults F.missed F.asked files.old files.new) readings.old readings.new result }
+{
+    for name in names {
+        if let Err(halt) = obtain(alloc, files, readings, name.as_str()) {
+            return Err(halt);
+        }
+    }
+    Ok(())
+}

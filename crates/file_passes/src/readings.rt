@@ -1,0 +1,152 @@
+ghost use Rattle.std.specs.Prelude.{◌≡◌, [], find, List, IfOk, IsSome, OnOk, OnErr, IsErrOf, ◌⊎◌, ◌∷◌};
+ghost use Rattle.std.specs.Option.{option_copied};
+ghost use Rattle.std.specs.Str.{bytes_eq};
+ghost use Rattle.cube_outside.specs.Counts.{Rose};
+ghost use Rattle.file_passes.specs.Inside.Steps.{IsReadOnce};
+ghost use Rattle.file_passes.specs.Pass.{bytes_of, file, files, source_of, Source as SourceOf};
+ghost use Rattle.cube_words.specs.Words.{texts_of};
+
+use cube_outside::{FileFault, Files};
+use std::alloc::{AllocError, Global};
+use std::marker::Model;
+
+/// A file that was read, as it is judged: its name and its bytes.
+#[derive(Debug, Drop)]
+pub struct Source<'a> {
+    name: &'a str,
+    bytes: &'a [u8],
+}
+
+impl<'a> Model for Source<'a> {
+    ghost use Rattle.std.specs.Prelude.{ℕ, List};
+
+    ghost Value = { List ℕ × List ℕ };
+
+    ghost view = { λ source. (source.name.now, source.bytes.now) };
+}
+
+impl<'a> Source<'a> {
+    pub fn name(&self) -> &str
+        ensures { result.now ≡ self.now.0 }
+    {
+        self.name
+    }
+
+    pub fn bytes(&self) -> &[u8]
+        ensures { result.now ≡ self.now.1 }
+    {
+        self.bytes
+    }
+}
+
+/// The file of this name among those that were read.
+pub fn source_of<'a, 'b>(sources: &'a [Source<'b>], name: &[u8]) -> Option<&'a Source<'b>>
+    ensures { option_copied result ≡ source_of sources.now name.now }
+{
+    sources
+        .iter()
+        .find(|source| source.name().as_bytes() == name)
+}
+
+/// A file that was read.
+#[derive(Drop)]
+struct Reading {
+    name: Vec<u8>,
+    bytes: Vec<u8>,
+}
+
+/// The files that a run has read so far, the last one first.
+#[derive(Drop)]
+pub struct Readings {
+    files: Vec<Reading>,
+}
+
+impl Model for Readings {
+    ghost use Rattle.std.specs.Prelude.{ℕ, List, map};
+
+    ghost Value = { List (List ℕ × List ℕ) };
+
+    ghost view = { λ readings. map (λ reading. (reading.name.items, reading.bytes.items)) readings.files.items };
+}
+
+impl Readings {
+    pub fn new(alloc: Global) -> Readings
+        ensures { result ≡ [] }
+    {
+        Readings {
+            files: Vec::new(alloc),
+        }
+    }
+
+    // The bytes that were read under this name.
+    fn bytes(&self, name: &str) -> Option<&[u8]>
+        ensures { option_copied result ≡ bytes_of self.now name.now }
+    {
+        match find_in(&self.files, name) {
+            Some(reading) => Some(reading.bytes.as_slice()),
+            None => None,
+        }
+    }
+
+    /// The file of this name, which was read.
+    pub fn source<'a>(&'a self, name: &'a str) -> Source<'a>
+        requires { IsSome (bytes_of self.now name.now) }
+        ensures { (file name.now).finds self.now result }
+    {
+        Source {
+            name,
+            bytes: self.bytes(name).unwrap(),
+        }
+    }
+
+    /// The files of these names, all of which were read.
+    pub fn sources<'a>(
+        &'a self,
+        alloc: Global,
+        names: &'a [String],
+    ) -> Result<Vec<Source<'a>>, AllocError>
+        requires { (all : List SourceOf) × (files (texts_of names.now)).finds self.now all }
+        ensures { IfOk result (λ all. (files (texts_of names.now)).finds self.now all.items) }
+    {
+        let mut all = Vec::new(alloc);
+        for name in names {
+            all.push(self.source(name.as_str()))?;
+        }
+        Ok(all)
+    }
+
+    /// Reads the file of this name, unless it was read before.
+    pub(crate) fn read<F: Files>(
+        &mut self,
+        alloc: Global,
+        files: &mut F,
+        name: &str,
+    ) -> Result<(), FileFault>
+        ensures once { OnOk result (IsReadOnce (F.known files.old) name.now self.old self.new
+            (F.asked files.old) (F.asked files.new)) }
+        ensures unread { OnErr result ((bytes_of self.old name.now ≡ None) × (self.new ≡ self.old)) }
+        ensures known { F.known files.new ≡ F.known files.old }
+        ensures failed { IsErrOf result FileFault.Failed → Rose (F.faults files.old) (F.faults files.new) }
+        ensures missed { IsErrOf result FileFault.Failed → F.missed files.new ≡ name.now }
+        ensures asked { IsErrOf result FileFault.Failed → F.asked files.new ≡ name.now ∷ F.asked files.old }
+        ensures no_read_failed { IsErrOf result FileFault.Failed ⊎ (F.faults files.new ≡ F.faults files.old) }
+    {
+        if self.bytes(name).is_some() {
+            return Ok(());
+        }
+        let kept = Vec::from_slice(alloc, name.as_bytes())?;
+        self.files.reserve(1)?;
+        let bytes = files.read(alloc, name)?;
+        self.files.insert(0, Reading { name: kept, bytes })?;
+        Ok(())
+    }
+}
+
+// The first of these files that has this name.
+fn find_in<'a>(files: &'a [Reading], name: &str) -> Option<&'a Reading>
+    ensures { option_copied result ≡ find (λ reading. bytes_eq reading.name.items name.now) files.now }
+{
+    files
+        .iter()
+        .find(|reading| reading.name.as_slice() == name.as_bytes())
+}

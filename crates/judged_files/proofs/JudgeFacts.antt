@@ -1,0 +1,61 @@
+-- What the judging functions answer is what files are judged to be.
+use Rattle.std.proofs.Common.{◌≡◌, ℕ, List, Option, Some, None, option_map, Ok, Err, sym, inl, inr}
+use Rattle.model_text.specs.Answers.{IsModelText, IsFault}
+use Rattle.model_text.specs.Contents.{Contents}
+use Rattle.model_text.specs.declared.fault.ModelTextFault.{ModelTextFault}
+use Rattle.model_deploy.specs.Deployment.{deployment}
+use Rattle.model_deploy.specs.Foundation.{memory}
+use Rattle.model_deploy.specs.Stages.{Comes}
+use Rattle.model_deploy.specs.declared.fault.DeployFault.{DeployFault}
+use Rattle.model_deploy.specs.declared.file.RuleFile.{RuleFile}
+use Rattle.rule_model.specs.BoundModel.{BoundModel}
+use Rattle.file_passes.specs.declared.halt.Halt.{Halt}
+use Rattle.file_passes.specs.declared.refusal.Cause.{Cause}
+use Rattle.file_passes.specs.declared.refusal.Refusal.{Refusal}
+use Rattle.file_passes.specs.Pass.{Source, Judgement}
+use Rattle.judged_files.specs.Refusals.{refused_on, model_cause, deploy_refusal}
+use Rattle.judged_files.specs.Models.{text_judgement}
+use Rattle.judged_files.specs.Rules.{rule_files, deployment_judgement}
+use Rattle.file_passes.specs.Halting.{Judges}
+use Rattle.judged_files.specs.Inside.Judging.{IsHaltFor}
+
+-- a run goes no further for a refusal of what was judged
+pub judges-halt : {A : Type 0} (J : Judgement A) (found : Option Refusal) (h : Halt)
+    → IsHaltFor found h → ((refusal : Refusal) → found ≡ Some refusal → J.refused_for refusal) → Judges J (Err h)
+judges-halt J found h (inl is) refused = rw is tt
+judges-halt J found h (inr (refusal, some, is)) refused = rw is (refused refusal some)
+
+-- the model file
+
+module _ (source : Source) (file bytes : List ℕ) (named : file ≡ source.0) (read : bytes ≡ source.1) where
+  pub judges-fault : (fault : ModelTextFault) (found : Option Cause) (h : Halt)
+      → IsFault bytes fault.line fault.cause → found ≡ model_cause fault.cause → IsHaltFor (option_map (refused_on file fault.line) found) h
+      → Judges (text_judgement source) (Err h)
+  judges-fault fault found h first is halted =
+      let here : IsFault source.1 fault.line fault.cause = rw (← read) first in
+      let for : IsHaltFor (option_map (refused_on source.0 fault.line) (model_cause fault.cause)) h = rw (← named, ← is) halted in
+      judges-halt (text_judgement source) (option_map (refused_on source.0 fault.line) (model_cause fault.cause)) h for
+      (λ refusal some. record { fault = fault; first = here; is = some })
+
+  pub judges-text : (contents : Contents) → IsModelText bytes contents → IsModelText source.1 contents
+  judges-text contents text = rw (← read) text
+
+-- the rule files
+
+module _ (file : List ℕ) (contents : Contents) (sources : List Source) (files : List (Option RuleFile)) (are : files ≡ rule_files sources contents.cubes) where
+  no_cause : (fault : DeployFault) (refusal : Refusal) → fault ≡ memory → deploy_refusal file fault ≡ Some refusal → {A : Type 0} → A
+  no_cause fault refusal is some = let clash : None ≡ Some refusal = rw is at some in cc
+
+  refused-for : (fault : DeployFault) (refusal : Refusal) → Comes (deployment contents files) (Err fault) → deploy_refusal file fault ≡ Some refusal
+      → (deployment_judgement file contents sources).refused_for refusal
+  refused-for fault refusal (inl is) some = no_cause fault refusal is some
+  refused-for fault refusal (inr refuses) some = record { fault = fault; first = rw (← are) refuses; is = some }
+
+  pub judges-undeployed : (fault : DeployFault) (h : Halt)
+      → Comes (deployment contents files) (Err fault) → IsHaltFor (deploy_refusal file fault) h → Judges (deployment_judgement file contents sources) (Err h)
+  judges-undeployed fault h came halted =
+      judges-halt (deployment_judgement file contents sources) (deploy_refusal file fault) h halted
+      (λ refusal some. refused-for fault refusal came some)
+
+  pub judges-deployed : (model : BoundModel) → Comes (deployment contents files) (Ok model) → (deployment contents (rule_files sources contents.cubes)).finds model
+  judges-deployed model came = rw (← are) came

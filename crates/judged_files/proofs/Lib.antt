@@ -1,0 +1,6 @@
+pub mod StageFacts
+pub mod ScriptTexts
+pub mod JudgeFacts
+pub mod ScriptFacts
+pub mod UserFacts
+pub mod Judgements

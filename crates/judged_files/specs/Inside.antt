@@ -1,0 +1,2 @@
+-- What the functions that judge promise one another.
+pub mod Judging

@@ -1,0 +1,7 @@
+pub mod Refusals
+pub mod Models
+pub mod Rules
+pub mod Scripts
+pub mod Users
+pub mod Loads
+pub mod Inside

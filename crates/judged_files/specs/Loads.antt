@@ -1,0 +1,69 @@
+-- Users' commands as they are run: with the scripts of their loads, and the records.
+use Rattle.std.specs.Prelude.{◌≡◌, ℕ, List, [], Option, Some, None, option_map, filter_map, slice_get}
+use Rattle.std.specs.Arc.{arc_value}
+use Rattle.std.specs.List.{AllZip, flat_map}
+use Rattle.std.specs.declared.alloc.Global.{Global}
+use Rattle.std.specs.declared.sync.Arc.{Arc}
+use Rattle.dim_name.specs.Name.{place_of}
+use Rattle.file_passes.specs.Pass.{Source, source_of, Judgement}
+use Rattle.load_job.specs.Rows.{rows_of}
+use Rattle.load_job.specs.declared.job.Job.{Job}
+use Rattle.script_tree.specs.declared.script.Script.{Script}
+use Rattle.user_session.specs.declared.command.PlanCommand.{PlanCommand}
+use Rattle.user_session.specs.declared.command.PlanCommand.TheVariants as plans
+use Rattle.user_text.specs.declared.command.LoadText.{LoadText}
+use Rattle.user_text.specs.declared.command.UserBody.{UserBody}
+use Rattle.user_text.specs.declared.command.UserBody.TheVariants as bodies
+use Rattle.user_text.specs.declared.command.UserCommand.{UserCommand}
+use Rattle.judged_files.specs.Scripts.{Scripts}
+
+-- the file of a load's records
+abbrev pub file_of : UserBody → Option (List ℕ)
+file_of (bodies.Put cell number) = None
+file_of (bodies.Get cell) = None
+file_of (bodies.Load load) = load.file
+file_of (bodies.View view) = None
+
+-- the files of a user's records, in the order of the commands
+abbrev pub user_files : List UserCommand → List (List ℕ)
+user_files commands = filter_map (λ command. file_of command.body) commands
+
+-- the files of all records, in the order of the users
+abbrev pub record_files : List (List UserCommand) → List (List ℕ)
+record_files users = flat_map user_files users
+
+-- the records of the file of this name, behind those that are passed over; without a file there are none
+abbrev pub records_of : List Source → Option (List ℕ) → ℕ → Option (List (List (List ℕ)))
+records_of sources None skip = Some []
+records_of sources (Some name) skip = option_map (λ source. rows_of skip source.1) (source_of sources name)
+
+-- a load as it is run: by the place of its script in the model, with its records and what is set
+pub record IsLoad (scripts : Scripts) (sources : List Source) (load : LoadText) (job : Job) (tree : Script)
+    : Type 0 where
+  pub place : place_of scripts.names load.script ≡ Some job.script
+  pub script : slice_get scripts.trees job.script ≡ Some tree
+  pub records : records_of sources load.file load.skip ≡ Some job.rows
+  pub params : job.params ≡ load.params
+
+abbrev pub IsLoadCommand : Scripts → List Source → LoadText → PlanCommand → Type 0
+IsLoadCommand scripts sources load command = (job : Job) × (script : Arc Script Global)
+    × (command ≡ plans.Load job script) × IsLoad scripts sources load job (arc_value script)
+
+-- a command as it is run
+abbrev pub IsCommand : Scripts → List Source → UserBody → PlanCommand → Type 0
+IsCommand scripts sources (bodies.Put cell number) command = command ≡ plans.Put cell number
+IsCommand scripts sources (bodies.Get cell) command = command ≡ plans.Get cell
+IsCommand scripts sources (bodies.Load load) command = IsLoadCommand scripts sources load command
+IsCommand scripts sources (bodies.View view) command = command ≡ plans.View view
+
+-- the commands of a user, each as it is run
+abbrev pub AreCommands : Scripts → List Source → List UserCommand → List PlanCommand → Type 0
+AreCommands scripts sources texts commands =
+    AllZip (λ text command. IsCommand scripts sources text.body command) texts commands
+
+-- the commands of all users; nothing of it is refused
+abbrev pub commands_judgement : Scripts → List Source → List (List UserCommand) → Judgement (List (List PlanCommand))
+commands_judgement scripts sources users = record {
+  stands_for = AllZip (AreCommands scripts sources) users;
+  refused_for = λ _. ⊥;
+}

@@ -1,0 +1,44 @@
+-- What a model and the files of its cubes' rules are judged to be.
+use Rattle.std.specs.Prelude.{◌≡◌, ℕ, List, map, filter_map, Option, Some, None, option_map, option_and_then}
+use Rattle.model_text.specs.Contents.{Contents}
+use Rattle.model_text.specs.declared.parts.CubeText.{CubeText}
+use Rattle.model_deploy.specs.Deployment.{deployment}
+use Rattle.model_deploy.specs.declared.fault.DeployFault.{DeployFault}
+use Rattle.model_deploy.specs.declared.file.RuleFile.{RuleFile}
+use Rattle.rule_model.specs.BoundModel.{BoundModel}
+use Rattle.file_passes.specs.declared.refusal.Refusal.{Refusal}
+use Rattle.file_passes.specs.Pass.{Source, source_of, Judgement}
+use Rattle.judged_files.specs.Refusals.{deploy_refusal}
+
+-- the name of the file of a cube's rules
+abbrev pub rule_name : CubeText → Option (List ℕ)
+rule_name cube = option_map (λ rules. rules.1) cube.rules
+
+-- the names of the rule files, in cube order
+abbrev pub rule_names : List CubeText → List (List ℕ)
+rule_names cubes = filter_map rule_name cubes
+
+abbrev pub rule_file_of : Source → RuleFile
+rule_file_of source = record { name = source.0; bytes = source.1 }
+
+-- the rule file of a cube, where it has one
+abbrev pub rule_file : List Source → CubeText → Option RuleFile
+rule_file sources cube = option_map rule_file_of (option_and_then (source_of sources) (rule_name cube))
+
+-- the rule file of each cube
+abbrev pub rule_files : List Source → List CubeText → List (Option RuleFile)
+rule_files sources cubes = map (rule_file sources) cubes
+
+-- deployment refuses the model for this
+pub record IsUndeployed (file : List ℕ) (contents : Contents) (files : List (Option RuleFile)) (refusal : Refusal)
+    : Type 0 where
+  pub fault : DeployFault
+  pub first : (deployment contents files).refuses fault
+  pub is : deploy_refusal file fault ≡ Some refusal
+
+-- the model text of this file, with the files of its cubes' rules
+abbrev pub deployment_judgement : List ℕ → Contents → List Source → Judgement BoundModel
+deployment_judgement file contents sources = record {
+  stands_for = (deployment contents (rule_files sources contents.cubes)).finds;
+  refused_for = IsUndeployed file contents (rule_files sources contents.cubes);
+}

@@ -1,0 +1,137 @@
+ghost use Rattle.std.specs.Prelude.{◌≡◌, ◌++◌, IfOk, Some};
+ghost use Rattle.std.specs.List.{AllZip};
+ghost use Rattle.cube_words.specs.Words.{texts_of};
+ghost use Rattle.judged_files.specs.Loads.{user_files, record_files, records_of, IsLoadCommand, IsCommand};
+ghost use Rattle.judged_files.specs.Loads.{AreCommands};
+
+use crate::scripts::Scripts;
+use file_passes::{Source, file_name, source_of};
+use lists::ListOf;
+use load_job::{Job, rows};
+use std::alloc::{AllocError, Global};
+use std::sync::Arc;
+use user_session::PlanCommand;
+use user_text::{LoadText, UserBody, UserCommand};
+
+/// The names of the files of all records, in the order of users and commands.
+pub fn record_files(alloc: Global, users: &[ListOf<UserCommand>]) -> Result<Vec<String>, AllocError>
+    ensures { IfOk result (λ names. texts_of names.items ≡ record_files users.now) }
+{
+    let mut names = Vec::new(alloc);
+    for commands in users {
+        add_files(alloc, &mut names, commands.as_slice())?;
+    }
+    Ok(names)
+}
+
+// The names so far, and then those of this user.
+fn add_files(
+    alloc: Global,
+    names: &mut Vec<String>,
+    commands: &[UserCommand],
+) -> Result<(), AllocError>
+    ensures { IfOk result (λ _. texts_of names.new.items
+        ≡ texts_of names.old.items ++ user_files commands.now) }
+{
+    for command in commands {
+        if let UserBody::Load(
+            LoadText {
+                file: Some(file),
+                ..
+            },
+        ) = &command.body
+        {
+            names.push(file_name(alloc, file.as_slice())?)?;
+        }
+    }
+    Ok(())
+}
+
+/// The commands of all users as they are run.
+pub fn commands_of(
+    alloc: Global,
+    scripts: &Scripts,
+    sources: &[Source<'_>],
+    users: ListOf<ListOf<UserCommand>>,
+) -> Result<ListOf<ListOf<PlanCommand>>, AllocError>
+    ensures { IfOk result (λ commands. AllZip (AreCommands scripts.now sources.now) users commands) }
+{
+    let mut all = Vec::new(alloc);
+    for texts in users.into_vec() {
+        let commands = user_commands(alloc, scripts, sources, texts)?;
+        all.push(commands)?;
+    }
+    Ok(ListOf::new(all))
+}
+
+// The commands of one user.
+fn user_commands(
+    alloc: Global,
+    scripts: &Scripts,
+    sources: &[Source<'_>],
+    texts: ListOf<UserCommand>,
+) -> Result<ListOf<PlanCommand>, AllocError>
+    ensures { IfOk result (λ commands. AreCommands scripts.now sources.now texts commands) }
+{
+    let mut commands = Vec::new(alloc);
+    for text in texts.into_vec() {
+        let command = command_of(alloc, scripts, sources, text.body)?;
+        commands.push(command)?;
+    }
+    Ok(ListOf::new(commands))
+}
+
+fn command_of(
+    alloc: Global,
+    scripts: &Scripts,
+    sources: &[Source<'_>],
+    body: UserBody,
+) -> Result<PlanCommand, AllocError>
+    ensures { IfOk result (λ command. IsCommand scripts.now sources.now body command) }
+{
+    match body {
+        UserBody::Put(cell, number) => Ok(PlanCommand::Put(cell, number)),
+        UserBody::Get(cell) => Ok(PlanCommand::Get(cell)),
+        UserBody::Load(load) => load_command(alloc, scripts, sources, load),
+        UserBody::View(view) => Ok(PlanCommand::View(view)),
+    }
+}
+
+// A load's script is in the model, since all of them were looked for when the texts were judged.
+fn load_command(
+    alloc: Global,
+    scripts: &Scripts,
+    sources: &[Source<'_>],
+    load: LoadText,
+) -> Result<PlanCommand, AllocError>
+    ensures { IfOk result (λ command. IsLoadCommand scripts.now sources.now load command) }
+{
+    let Some((script, tree)) = scripts.named(&load.script) else {
+        return Err(AllocError);
+    };
+    let rows = records_of(alloc, sources, &load.file, load.skip)?;
+    let job = Job {
+        script,
+        rows: ListOf::new(rows),
+        params: load.params,
+    };
+    Ok(PlanCommand::Load(job, Arc::try_clone(tree)?))
+}
+
+// The records of a load's file. It is among those that were read.
+fn records_of(
+    alloc: Global,
+    sources: &[Source<'_>],
+    file: &Option<ListOf<u8>>,
+    skip: u32,
+) -> Result<Vec<ListOf<ListOf<u8>>>, AllocError>
+    ensures { IfOk result (λ records. records_of sources.now file.now skip ≡ Some records.items) }
+{
+    let Some(name) = file else {
+        return Ok(Vec::new(alloc));
+    };
+    match source_of(sources, name.as_slice()) {
+        Some(source) => rows(alloc, source.bytes(), skip),
+        None => Err(AllocError),
+    }
+}

@@ -1,0 +1,146 @@
+ghost use Rattle.std.specs.Arc.{arc_value};
+ghost use Rattle.std.specs.Prelude.{◌≡◌, IfOk, IfSome, Some, map, slice_get};
+ghost use Rattle.cube_words.specs.Words.{texts_of};
+ghost use Rattle.dim_name.specs.Name.{place_of};
+ghost use Rattle.file_passes.specs.Halting.{Judges};
+ghost use Rattle.model_text.specs.Contents.{script_names};
+ghost use Rattle.judged_files.specs.Inside.Judging.{IsHaltFor};
+ghost use Rattle.judged_files.specs.Refusals.{script_refusal};
+ghost use Rattle.judged_files.specs.Scripts.{script_files, scripts_judgement};
+
+use crate::refusing::halt_on;
+use dim_name::Name;
+use file_passes::{Cause, Halt, Source, file_name};
+use lists::ListOf;
+use model_text::ScriptText;
+use script_parse::{Script, ScriptFault, parse};
+use std::alloc::{AllocError, Global};
+use std::marker::Model;
+use std::sync::Arc;
+
+/// The scripts of a model, in its order: their names, and what their files stand for.
+#[derive(Drop)]
+pub struct Scripts {
+    pub names: ListOf<Name>,
+    trees: Vec<Arc<Script, Global>>,
+}
+
+impl Model for Scripts {
+    ghost use Rattle.std.specs.Arc.{arc_value};
+    ghost use Rattle.std.specs.Coded.{codes};
+    ghost use Rattle.std.specs.Prelude.{map};
+    ghost use Rattle.script_tree.specs.contracts.script.Script as script;
+    ghost use Rattle.judged_files.specs.Scripts.{Scripts as ScriptsOf};
+
+    ghost Value = { ScriptsOf };
+
+    ghost coded = { Prim.hlevel (codes, script.the_row.coded) };
+
+    ghost view = { λ scripts. record { names = scripts.names; trees = map arc_value scripts.trees.items } };
+}
+
+impl Scripts {
+    /// Scripts of these names, each kept once for all loads.
+    pub fn new(
+        alloc: Global,
+        names: ListOf<Name>,
+        trees: ListOf<Script>,
+    ) -> Result<Scripts, AllocError>
+        ensures names { IfOk result (λ scripts. scripts.names ≡ names) }
+        ensures trees { IfOk result (λ scripts. scripts.trees ≡ trees) }
+    {
+        Ok(Scripts {
+            names,
+            trees: kept(alloc, trees.into_vec())?,
+        })
+    }
+
+    /// The script of this name, and its place.
+    pub fn named(&self, name: &Name) -> Option<(u32, &Arc<Script, Global>)>
+        ensures place { IfSome result (λ found. place_of self.now.names name.now ≡ Some found.0) }
+        ensures script { IfSome result (λ found. slice_get self.now.trees found.0 ≡ Some (arc_value found.1.now)) }
+    {
+        let place = place_of(self.names.as_slice(), name)?;
+        let script = self.trees.get(place)?;
+        match u32::try_from(place) {
+            Ok(place) => Some((place, script)),
+            Err(_) => None,
+        }
+    }
+}
+
+fn kept(alloc: Global, trees: Vec<Script>) -> Result<Vec<Arc<Script, Global>>, AllocError>
+    ensures { IfOk result (λ kept. map arc_value kept.items ≡ trees.items) }
+{
+    let mut kept = Vec::with_capacity(alloc, trees.len())?;
+    for tree in trees {
+        kept.push(Arc::new(alloc, tree)?)?;
+    }
+    Ok(kept)
+}
+
+fn place_of(names: &[Name], name: &Name) -> Option<usize>
+    ensures { result ≡ place_of names.now name.now }
+{
+    names.iter().position(|known| name == known)
+}
+
+/// The names of the scripts, in the order of the model.
+pub fn script_names(alloc: Global, scripts: &[ScriptText]) -> Result<ListOf<Name>, AllocError>
+    ensures { IfOk result (λ names. names ≡ script_names scripts.now) }
+{
+    let mut names = Vec::with_capacity(alloc, scripts.len())?;
+    for script in scripts {
+        names.push(same_name(alloc, &script.name)?)?;
+    }
+    Ok(ListOf::new(names))
+}
+
+fn same_name(alloc: Global, name: &Name) -> Result<Name, AllocError>
+    ensures { IfOk result (λ same. same ≡ name.now) }
+{
+    match Name::new(alloc, name.shown()) {
+        Ok(same) => Ok(same),
+        Err(_) => Err(AllocError),
+    }
+}
+
+/// The names of the script files, in the order of the model.
+pub fn script_files(alloc: Global, scripts: &[ScriptText]) -> Result<Vec<String>, AllocError>
+    ensures { IfOk result (λ names. texts_of names.items ≡ script_files scripts.now) }
+{
+    let mut names = Vec::new(alloc);
+    for script in scripts {
+        names.push(file_name(alloc, script.file.as_slice())?)?;
+    }
+    Ok(names)
+}
+
+/// The scripts that the bytes of all script files stand for.
+pub fn scripts_of(alloc: Global, sources: &[Source<'_>]) -> Result<ListOf<Script>, Halt>
+    ensures { Judges (scripts_judgement sources.now) result }
+{
+    let mut all = Vec::new(alloc);
+    for source in sources {
+        let script = match parse(alloc, source.bytes()) {
+            Ok(script) => script,
+            Err(fault) => return Err(script_halt(alloc, source.name(), &fault)),
+        };
+        all.push(script)?;
+    }
+    let scripts = ListOf::new(all);
+    Ok(scripts)
+}
+
+fn script_halt(alloc: Global, file: &str, fault: &ScriptFault) -> Halt
+    ensures { IsHaltFor (script_refusal file.now fault.now) result }
+{
+    match fault {
+        ScriptFault::Syntax(line) => halt_on(alloc, file, *line, Some(Cause::Syntax)),
+        ScriptFault::UnknownFunction(line) => {
+            halt_on(alloc, file, *line, Some(Cause::UnknownFunction))
+        }
+        ScriptFault::TooDeep(line) => halt_on(alloc, file, *line, Some(Cause::TooDeep)),
+        ScriptFault::Memory => Halt::Memory,
+    }
+}

@@ -1,8 +1,0 @@
-use Rattle.std.proofs.Common.{◌≡◌, ◌++◌, drop}
-use Rattle.run_passes.specs.Rules.{rule_names}
-use Rattle.run_passes.specs.Words.{texts_of}
-use Rattle.run_passes.proofs.rules.rule_names.Given as goal
-
--- the names so far, and then those of the cubes that are left
-abbrev pub invariant-loop-cube : goal.invariant-loop-cube
-invariant-loop-cube l = texts_of l.names.items ++ rule_names (drop l.cube-index l.cubes) ≡ rule_names l.cubes

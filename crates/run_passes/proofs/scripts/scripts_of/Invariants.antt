@@ -1,7 +1,0 @@
-use Rattle.std.proofs.Common.{drop}
-use Rattle.run_passes.proofs.ScriptFacts.{AreParsed}
-use Rattle.run_passes.proofs.scripts.scripts_of.Given as goal
-
--- the scripts so far were read
-abbrev pub invariant-loop-source : goal.invariant-loop-source
-invariant-loop-source l = AreParsed l.sources (drop l.source-index l.sources) l.all.items

@@ -1,0 +1,160 @@
+ghost use Rattle.std.specs.Prelude.{◌≡◌};
+ghost use Rattle.cube_words.specs.Words.{texts_of};
+ghost use Rattle.file_passes.specs.Halting.{Comes};
+ghost use Rattle.file_passes.specs.Outside.{outside};
+ghost use Rattle.run_passes.specs.Inside.Plans.{behind_text, behind_rules};
+ghost use Rattle.run_passes.specs.Run.{text_pass, deploy_pass, scripts_pass, model_pass};
+
+use accepted::Accepted;
+use cube_outside::Files;
+use dim_name::Name;
+use file_passes::{Halt, Readings, obtain, obtain_all};
+use judged_files::{
+    Scripts, model_of, rule_names, script_files, script_names, scripts_of, text_of,
+};
+use lists::ListOf;
+use model_text::ModelText;
+use script_parse::Script;
+use std::alloc::Global;
+use std::marker::Model;
+
+/// A model that was accepted, with its scripts.
+#[derive(Drop)]
+pub(crate) struct Checked {
+    pub(crate) model: Accepted,
+    pub(crate) scripts: Scripts,
+}
+
+impl Model for Checked {
+    ghost use Rattle.judged_files.specs.Scripts.{Checked as CheckedOf};
+
+    ghost Value = { CheckedOf };
+
+    ghost view = { λ checked. record { model = checked.model; scripts = checked.scripts } };
+}
+
+// The model file.
+fn text_pass<F: Files>(
+    alloc: Global,
+    files: &mut F,
+    readings: &mut Readings,
+    name: &str,
+) -> Result<ModelText, Halt>
+    ensures known { F.known files.new ≡ F.known files.old }
+    ensures comes { Comes (text_pass name.now) (outside F.known F.faults F.missed F.asked files.old files.new)
+        readings.old readings.new result }
+{
+    if let Err(halt) = obtain(alloc, files, readings, name) {
+        return Err(halt);
+    }
+    text_of(alloc, &readings.source(name))
+}
+
+// The files of the cubes' rules.
+fn deploy_pass<F: Files>(
+    alloc: Global,
+    files: &mut F,
+    readings: &mut Readings,
+    name: &str,
+    text: ModelText,
+) -> Result<Accepted, Halt>
+    ensures known { F.known files.new ≡ F.known files.old }
+    ensures comes { Comes (deploy_pass name.now text) (outside F.known F.faults F.missed F.asked files.old files.new)
+        readings.old readings.new result }
+{
+    let names = match rule_names(alloc, text.cubes()) {
+        Ok(names) => names,
+        Err(_) => return Err(Halt::Memory),
+    };
+    if let Err(halt) = obtain_all(alloc, files, readings, &names) {
+        return Err(halt);
+    }
+    match readings.sources(alloc, &names) {
+        Ok(sources) => model_of(alloc, name, text, &sources),
+        Err(_) => Err(Halt::Memory),
+    }
+}
+
+// All script files.
+fn scripts_pass<F: Files>(
+    alloc: Global,
+    files: &mut F,
+    readings: &mut Readings,
+    names: &[String],
+) -> Result<ListOf<Script>, Halt>
+    ensures known { F.known files.new ≡ F.known files.old }
+    ensures comes { Comes (scripts_pass (texts_of names.now))
+        (outside F.known F.faults F.missed F.asked files.old files.new) readings.old readings.new result }
+{
+    if let Err(halt) = obtain_all(alloc, files, readings, names) {
+        return Err(halt);
+    }
+    match readings.sources(alloc, names) {
+        Ok(sources) => scripts_of(alloc, &sources),
+        Err(_) => Err(Halt::Memory),
+    }
+}
+
+/// The model with all that belongs to it.
+pub(crate) fn model_pass<F: Files>(
+    alloc: Global,
+    files: &mut F,
+    readings: &mut Readings,
+    name: &str,
+) -> Result<Checked, Halt>
+    ensures known { F.known files.new ≡ F.known files.old }
+    ensures comes { Comes (model_pass name.now) (outside F.known F.faults F.missed F.asked files.old files.new)
+        readings.old readings.new result }
+{
+    match text_pass(alloc, files, readings, name) {
+        Ok(text) => behind_text(alloc, files, readings, name, text),
+        Err(halt) => Err(halt),
+    }
+}
+
+// The passes behind that of the model file.
+fn behind_text<F: Files>(
+    alloc: Global,
+    files: &mut F,
+    readings: &mut Readings,
+    name: &str,
+    text: ModelText,
+) -> Result<Checked, Halt>
+    ensures known { F.known files.new ≡ F.known files.old }
+    ensures comes { Comes (behind_text name.now text) (outside F.known F.faults F.missed F.asked files.old files.new)
+        readings.old readings.new result }
+{
+    let Ok(scripts) = script_files(alloc, text.scripts()) else {
+        return Err(Halt::Memory);
+    };
+    let Ok(names) = script_names(alloc, text.scripts()) else {
+        return Err(Halt::Memory);
+    };
+    match deploy_pass(alloc, files, readings, name, text) {
+        Ok(model) => behind_rules(alloc, files, readings, &scripts, names, model),
+        Err(halt) => Err(halt),
+    }
+}
+
+// The pass behind that of the rule files.
+fn behind_rules<F: Files>(
+    alloc: Global,
+    files: &mut F,
+    readings: &mut Readings,
+    scripts: &[String],
+    names: ListOf<Name>,
+    model: Accepted,
+) -> Result<Checked, Halt>
+    ensures known { F.known files.new ≡ F.known files.old }
+    ensures comes { Comes (behind_rules (texts_of scripts.now) names model)
+        (outside F.known F.faults F.missed F.asked files.old files.new) readings.old readings.new result }
+{
+    let trees = match scripts_pass(alloc, files, readings, scripts) {
+        Ok(trees) => trees,
+        Err(halt) => return Err(halt),
+    };
+    match Scripts::new(alloc, names, trees) {
+        Ok(scripts) => Ok(Checked { model, scripts }),
+        Err(_) => Err(Halt::Memory),
+    }
+}
