@@ -1,8 +1,11 @@
-use Rattle.std.proofs.Common.{rules, ◌≡◌, [], append-nil}
+use Rattle.std.proofs.Common.{◌≡◌, ◌∙◌, [], append-nil, sym, subst}
+use Rattle.std.specs.Vec.Iter.{into_iter_items}
+use Rattle.dim_core.proofs.BadAttributes.{nothing_left}
 use Rattle.judged_files.proofs.loads.commands_of.Goals as goal
 
 pub returns : goal.returns
 returns c =
-    let none : c.loop-texts.texts-iterator.rest.items ≡ [] = search rules in
+    let none : into_iter_items c.loop-texts.texts-iterator ≡ [] =
+    nothing_left (into_iter_items c.loop-texts.texts-iterator) (sym c.loop-texts.texts-iterator.rest.ok.0 ∙ c.in-None.ensures.steps.0) in
     let all = c.loop-texts.invariant [] (rw none tt) in
     rw (c.new.ensures, ← append-nil c.loop-texts.all.items) all
