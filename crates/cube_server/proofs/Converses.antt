@@ -1,17 +1,17 @@
 -- Each cause has its status.
 use Rattle.std.proofs.Common.{◌≡◌, ℕ, List, [], ◌∷◌, Option, Some, inl, inr, refl, sym, ap, subst, ◌∙◌}
 use Rattle.run_passes.specs.declared.job.Job.{Job}
-use Rattle.run_passes.specs.declared.refusal.Refusal.{Refusal}
+use Rattle.file_passes.specs.declared.refusal.Refusal.{Refusal}
 use Rattle.cube_server.specs.declared.status.Status.{Status}
 use Rattle.cube_server.specs.declared.status.Status.TheVariants.{Done, Usage, Refused, ReadFault, WriteFault, NoMemory}
-use Rattle.run_passes.specs.Course.{IsCourse}
-use Rattle.run_passes.specs.Outside.{Outside}
-use Rattle.run_passes.specs.Pass.{Readings, NotWords, Reads, Refuses}
+use Rattle.file_passes.specs.Course.{IsCourse}
+use Rattle.file_passes.specs.Outside.{Outside}
+use Rattle.file_passes.specs.Pass.{Readings, NotWords, Reads, Refuses}
 use Rattle.run_passes.specs.Run.{run_of}
 use Rattle.cube_server.specs.Status.{IsOneOf}
-use Rattle.run_passes.specs.Words.{Plan, IsPlan}
+use Rattle.cube_words.specs.Words.{Plan, IsPlan}
 use Rattle.cube_server.specs.Inside.Ending.{Ends}
-use Rattle.run_passes.proofs.OneCourse.{same_course}
+use Rattle.file_passes.proofs.OneCourse.{same_course}
 use Rattle.run_passes.proofs.PlanFacts.{one_run}
 
 -- ---- ends of a course

@@ -3,20 +3,20 @@ use Rattle.std.proofs.Common.{◌≡◌, ℕ, List, [], ◌∷◌, ◌++◌, Opt
 use Rattle.std.specs.Io.KnownBytes.{Appends}
 use Rattle.cube_outside.specs.Bytes.{AppendsPart}
 use Rattle.cube_server.specs.declared.answer.Answer.{Answer}
-use Rattle.run_passes.specs.declared.halt.Halt.{Halt}
-use Rattle.run_passes.specs.declared.halt.Halt.TheVariants as halts
+use Rattle.file_passes.specs.declared.halt.Halt.{Halt}
+use Rattle.file_passes.specs.declared.halt.Halt.TheVariants as halts
 use Rattle.run_passes.specs.declared.job.Job.{Job}
 use Rattle.cube_server.specs.declared.status.Status.{Status}
 use Rattle.cube_server.specs.declared.status.Status.TheVariants.{Done, Usage, Refused, ReadFault, WriteFault, NoMemory}
 use Rattle.cube_server.specs.Answer.{Allows, IsOutput, WritesPart}
-use Rattle.run_passes.specs.Course.{IsCourse}
-use Rattle.run_passes.specs.Outside.{Outside}
-use Rattle.run_passes.specs.Pass.{Readings, NotWords, Reads}
+use Rattle.file_passes.specs.Course.{IsCourse}
+use Rattle.file_passes.specs.Outside.{Outside}
+use Rattle.file_passes.specs.Pass.{Readings, NotWords, Reads}
 use Rattle.run_passes.specs.Run.{plan_pass, run_of}
-use Rattle.run_passes.specs.Words.{Plan, IsPlan}
+use Rattle.cube_words.specs.Words.{Plan, IsPlan}
 use Rattle.cube_server.specs.Inside.Ending.{Answers, Ends, joined}
-use Rattle.run_passes.specs.Inside.Halting.{Comes}
-use Rattle.run_passes.proofs.Going.{course-of}
+use Rattle.file_passes.specs.Halting.{Comes}
+use Rattle.file_passes.proofs.Going.{course-of}
 use Rattle.run_passes.proofs.PlanFacts.{steady-plan}
 
 pub Ends-whole : (words : List (List ℕ)) (o : Outside) (old new : Option (List ℕ)) (before after : ℕ) (status : Status) (text : List ℕ)

@@ -9,28 +9,34 @@ use Rattle.history.specs.History.{IsHistoryOf}
 use Rattle.user_session.specs.Content.{opening, after}
 use Rattle.user_session.specs.Planning.{effect}
 use Rattle.run_passes.specs.declared.job.Job.{Job}
-use Rattle.run_passes.specs.declared.job.Job.TheVariants.{Serve}
-use Rattle.run_passes.specs.declared.refusal.Refusal.{Refusal}
+use Rattle.run_passes.specs.declared.job.Job.TheVariants.{Serve, Check, Sample}
+use Rattle.file_passes.specs.declared.refusal.Refusal.{Refusal}
 use Rattle.cube_server.specs.declared.status.Status.{Status}
 use Rattle.cube_server.specs.declared.status.Status.TheVariants.{Done, Usage, Refused, ReadFault, WriteFault, NoMemory}
-use Rattle.run_passes.specs.Course.{IsCourse, names_of}
-use Rattle.run_passes.specs.Outside.{Outside}
+use Rattle.file_passes.specs.Course.{IsCourse, names_of}
+use Rattle.file_passes.specs.Outside.{Outside}
 use Rattle.cube_server.specs.Output.{output, refused_text, unread_text, usage_text}
-use Rattle.run_passes.specs.Pass.{Readings, Reads, Refuses}
+use Rattle.file_passes.specs.Pass.{Readings, Reads, Refuses}
 use Rattle.run_passes.specs.Run.{run_of}
-use Rattle.run_passes.specs.Words.{Plan, IsPlan}
-
--- these are the replies to the users' commands, and this is the one history of them
-abbrev pub IsServed : Job → List (List (Told (List ℕ))) → List (Entry (List (ℕ × ℤ))) → Type 0
-IsServed (Serve model users) told log = IsHistoryOf effect after (opening model) users told log
+use Rattle.model_counts.specs.Counts.{accepted_text}
+use Rattle.rule_model.specs.BoundModel.{BoundModel}
+use Rattle.user_session.specs.declared.command.PlanCommand.{PlanCommand}
+use Rattle.cube_server.specs.Sample.{IsSummary}
+use Rattle.cube_words.specs.Words.{Plan, IsPlan}
 
 -- the text is what the users were told, and the one history: a history that is legal, of which each user's replies are
 -- a run, each reply on the version at its place
-pub record IsOutput (job : Job) (text : List ℕ) : Type 0 where
+pub record IsServed (model : BoundModel) (users : List (List PlanCommand)) (text : List ℕ) : Type 0 where
   pub told : List (List (Told (List ℕ)))
   pub log : List (Entry (List (ℕ × ℤ)))
-  pub history : IsServed job told log
+  pub history : IsHistoryOf effect after (opening model) users told log
   pub is_text : text ≡ output told log
+
+-- the text of each job: of users, that the model is accepted, or the sample's summary
+abbrev pub IsOutput : Job → List ℕ → Type 0
+IsOutput (Serve model users) text = IsServed model users text
+IsOutput (Check model) text = text ≡ accepted_text model
+IsOutput (Sample size) text = IsSummary size text
 
 -- just the files that were read were asked for, each once, in this order, and then these
 abbrev pub AsksJust : Outside → Readings → List (List ℕ) → Type 0

@@ -1,4 +1,5 @@
 pub mod Output
 pub mod Status
+pub mod Sample
 pub mod Answer
 pub mod Inside

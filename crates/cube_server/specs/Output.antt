@@ -2,11 +2,11 @@
 use Rattle.std.specs.Prelude.{ℕ, ℤ, ◌+◌, List, [], ◌∷◌, ◌++◌, length, codes, decimal}
 use Rattle.history.specs.declared.entry.Entry.{Entry}
 use Rattle.history.specs.declared.told.Told.{Told}
-use Rattle.run_passes.specs.declared.refusal.Cause.{Cause}
-use Rattle.run_passes.specs.declared.refusal.Cause.TheVariants as causes
-use Rattle.run_passes.specs.declared.refusal.Place.{Place}
-use Rattle.run_passes.specs.declared.refusal.Place.TheVariants.{Line, Statement, Feeder}
-use Rattle.run_passes.specs.declared.refusal.Refusal.{Refusal}
+use Rattle.file_passes.specs.declared.refusal.Cause.{Cause}
+use Rattle.file_passes.specs.declared.refusal.Cause.TheVariants as causes
+use Rattle.file_passes.specs.declared.refusal.Place.{Place}
+use Rattle.file_passes.specs.declared.refusal.Place.TheVariants.{Line, Statement, Feeder}
+use Rattle.file_passes.specs.declared.refusal.Refusal.{Refusal}
 
 -- the end of a line
 abbrev pub newline : List ℕ
@@ -81,7 +81,7 @@ cause_text (causes.NotEarlier reference) = codes "NotEarlier reference " ++ deci
 cause_text (causes.DenseTooLarge count) = codes "DenseTooLarge " ++ decimal count
 cause_text (causes.NotFed operand) = codes "NotFed operand " ++ decimal operand
 cause_text (causes.FedLimit count) = codes "FedLimit " ++ decimal count
-cause_text causes.Unbuilt = codes "Unbuilt"
+cause_text causes.UnknownScript = codes "UnknownScript"
 
 -- `line L`, `statement S` or `feeder S`
 abbrev pub place_text : Place → List ℕ

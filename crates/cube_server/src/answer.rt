@@ -1,21 +1,25 @@
 ghost use Rattle.std.specs.Prelude.{◌≡◌, IfOk};
-ghost use Rattle.cube_server.specs.Answer.{IsOutput, Allows};
+ghost use Rattle.cube_server.specs.Answer.{IsOutput, IsServed, Allows};
 ghost use Rattle.cube_server.specs.Inside.Ending.{Answers, joined};
-ghost use Rattle.run_passes.specs.Outside.{outside};
+ghost use Rattle.file_passes.specs.Outside.{outside};
 ghost use Rattle.cube_server.specs.Output.{users_text};
-ghost use Rattle.run_passes.specs.Words.{texts_of};
+ghost use Rattle.cube_words.specs.Words.{texts_of};
 
 use crate::print::{print_history, print_refusal, print_unread, print_usage, print_user};
+use crate::sample::sample;
 use crate::status::Status;
 use crate::users::serve_users;
+use accepted::Accepted;
 use cube_outside::{Files, Gate};
 use history::Told;
 use lists::ListOf;
-use run_passes::{Halt, Job, Readings, run_passes};
+use model_counts::accepted_text;
+use file_passes::{Halt, Readings};
+use run_passes::{Job, run_passes};
 use std::alloc::{AllocError, Global};
 use std::sync::Wait;
 use std::thread::Threads;
-use user_session::ReplyText;
+use user_session::{PlanCommand, ReplyText};
 
 /// How a run is to end, and the pieces of its text in the order in which they are written.
 #[derive(Drop)]
@@ -42,7 +46,7 @@ pub(crate) fn answer_of<R: Threads + Wait + Sync, F: Files, G: Gate + Sync>(
     }
 }
 
-// Runs the users.
+// Does what was asked.
 fn done<R: Threads + Wait + Sync, G: Gate + Sync>(
     rt: &R,
     alloc: Global,
@@ -52,7 +56,24 @@ fn done<R: Threads + Wait + Sync, G: Gate + Sync>(
     ensures status { IfOk result (λ answer. answer.status ≡ Status.Done) }
     ensures text { IfOk result (λ answer. IsOutput job (joined answer.pieces.items)) }
 {
-    let Job::Serve(model, users) = job;
+    match job {
+        Job::Serve(model, users) => served(rt, alloc, gate, model, users),
+        Job::Check(model) => one_piece(alloc, Status::Done, accepted_text(alloc, model.model())?),
+        Job::Sample(size) => one_piece(alloc, Status::Done, sample(rt, alloc, gate, size)?),
+    }
+}
+
+// Runs the users.
+fn served<R: Threads + Wait + Sync, G: Gate + Sync>(
+    rt: &R,
+    alloc: Global,
+    gate: &G,
+    model: Accepted,
+    users: ListOf<ListOf<PlanCommand>>,
+) -> Result<Answer, AllocError>
+    ensures status { IfOk result (λ answer. answer.status ≡ Status.Done) }
+    ensures text { IfOk result (λ answer. IsServed model users (joined answer.pieces.items)) }
+{
     let served = serve_users(rt, alloc, gate, model, users)?;
     let mut pieces = print_users(alloc, &served.told)?;
     pieces.push(print_history(alloc, &served.log)?)?;

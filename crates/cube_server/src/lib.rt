@@ -10,6 +10,7 @@
 mod answer;
 mod print;
 mod run;
+mod sample;
 mod server;
 mod status;
 mod tell;

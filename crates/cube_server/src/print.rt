@@ -3,7 +3,7 @@ ghost use Rattle.cube_server.specs.Output.{told_line, user_text, entry_line, his
 ghost use Rattle.cube_server.specs.Output.{refused_text, unread_text, usage_text};
 
 use history::{Entry, Told};
-use run_passes::{Cause, Place, Refusal};
+use file_passes::{Cause, Place, Refusal};
 use std::alloc::{AllocError, Global};
 use user_session::{CellWrites, ReplyText};
 
@@ -130,7 +130,7 @@ fn cause_name(alloc: Global, cause: Cause) -> Result<String, AllocError>
         Cause::DynamicReference => "DynamicReference",
         Cause::Unsupported => "Unsupported",
         Cause::BadOrder => "BadOrder",
-        Cause::Unbuilt => "Unbuilt",
+        Cause::UnknownScript => "UnknownScript",
     };
     String::from_str(alloc, name)
 }

@@ -1,6 +1,6 @@
 ghost use Rattle.cube_server.specs.Inside.Ending.{Ends};
-ghost use Rattle.run_passes.specs.Outside.{outside};
-ghost use Rattle.run_passes.specs.Words.{texts_of};
+ghost use Rattle.file_passes.specs.Outside.{outside};
+ghost use Rattle.cube_words.specs.Words.{texts_of};
 
 use crate::answer::answer_of;
 use crate::status::Status;

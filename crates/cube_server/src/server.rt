@@ -2,15 +2,15 @@ ghost use Rattle.std.specs.Prelude.{◌≡◌, [], ◌∷◌, Some, ◌<◌, ◌
 ghost use Rattle.std.specs.Io.KnownBytes.{Appends};
 ghost use Rattle.cube_outside.specs.Counts.{Rose};
 ghost use Rattle.cube_server.specs.Answer.{IsDone, IsUsage, IsRefused, IsReadFault, Writes, WritesPart};
-ghost use Rattle.run_passes.specs.Course.{IsCourse};
-ghost use Rattle.run_passes.specs.Outside.{outside};
-ghost use Rattle.run_passes.specs.Pass.{Readings};
-ghost use Rattle.run_passes.specs.Pass.{Refuses};
+ghost use Rattle.file_passes.specs.Course.{IsCourse};
+ghost use Rattle.file_passes.specs.Outside.{outside};
+ghost use Rattle.file_passes.specs.Pass.{Readings};
+ghost use Rattle.file_passes.specs.Pass.{Refuses};
 ghost use Rattle.run_passes.specs.Run.{run_of};
 ghost use Rattle.cube_server.specs.Status.{IsOneOf};
-ghost use Rattle.run_passes.specs.Words.{Plan, IsPlan, texts_of};
+ghost use Rattle.cube_words.specs.Words.{Plan, IsPlan, texts_of};
 ghost use Rattle.run_passes.specs.declared.job.Job.{Job};
-ghost use Rattle.run_passes.specs.declared.refusal.Refusal.{Refusal};
+ghost use Rattle.file_passes.specs.declared.refusal.Refusal.{Refusal};
 ghost use Rattle.cube_server.specs.declared.status.Status.TheVariants.{Done, Usage, Refused, ReadFault, WriteFault};
 ghost use Rattle.cube_server.specs.declared.status.Status.TheVariants.{NoMemory};
 

@@ -26,9 +26,14 @@ pub(crate) struct Checked {
 }
 
 impl Model for Checked {
+    ghost use Rattle.std.specs.Coded.{codes};
     ghost use Rattle.judged_files.specs.Scripts.{Checked as CheckedOf};
+    ghost use Rattle.rule_laws.specs.contracts.formula.Formula as formula;
+    ghost use Rattle.script_tree.specs.contracts.script.Script as script;
 
     ghost Value = { CheckedOf };
+
+    ghost coded = { Prim.hlevel (codes, formula.the_row.coded, script.the_row.coded) };
 
     ghost view = { λ checked. record { model = checked.model; scripts = checked.scripts } };
 }

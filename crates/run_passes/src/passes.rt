@@ -128,7 +128,8 @@ fn behind_model<F: Files>(
     ensures { Comes (behind_model (texts_of users.now) checked)
         (outside F.known F.faults F.missed F.asked files.old files.new) readings.old readings.new result }
 {
-    let scripts = checked.scripts.names.as_slice();
+    let whole = &checked;
+    let scripts = whole.scripts.names.as_slice();
     match users_pass(alloc, files, readings, scripts, users) {
         Ok(texts) => behind_users(alloc, files, readings, checked, texts),
         Err(halt) => Err(halt),

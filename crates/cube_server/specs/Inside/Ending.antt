@@ -4,12 +4,12 @@ use Rattle.std.specs.List.{concat}
 use Rattle.std.specs.Io.KnownBytes.{Appends}
 use Rattle.std.specs.declared.alloc.Global.{Global}
 use Rattle.cube_outside.specs.Counts.{Rose}
-use Rattle.run_passes.specs.declared.halt.Halt.{Halt}
-use Rattle.run_passes.specs.declared.halt.Halt.TheVariants as halts
+use Rattle.file_passes.specs.declared.halt.Halt.{Halt}
+use Rattle.file_passes.specs.declared.halt.Halt.TheVariants as halts
 use Rattle.cube_server.specs.declared.status.Status.{Status}
 use Rattle.cube_server.specs.declared.status.Status.TheVariants.{Done, Usage, Refused, ReadFault, WriteFault, NoMemory}
 use Rattle.cube_server.specs.Answer.{IsDone, IsUsage, IsRefused, IsReadFault, Writes, WritesPart}
-use Rattle.run_passes.specs.Outside.{Outside}
+use Rattle.file_passes.specs.Outside.{Outside}
 use Rattle.cube_server.specs.Output.{refused_text, unread_text, usage_text}
 
 -- what a run leaves behind with each status: of the files, of the bytes written, and of the failed writes

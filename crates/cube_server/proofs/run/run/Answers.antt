@@ -1,7 +1,7 @@
 use Rattle.cube_outside.specs.Bytes.{AppendsPart}
 use Rattle.cube_server.specs.Inside.Ending.{joined}
-use Rattle.run_passes.specs.Outside.{outside}
-use Rattle.run_passes.specs.Words.{texts_of}
+use Rattle.file_passes.specs.Outside.{outside}
+use Rattle.cube_words.specs.Words.{texts_of}
 use Rattle.std.proofs.Common.{Err, ◌∙◌, ap, subst}
 use Rattle.std.specs.Io.KnownBytes.{Appends}
 use Rattle.cube_server.proofs.EndFacts.{Ends-whole, WritesPart-of}

@@ -1,5 +1,5 @@
-use Rattle.run_passes.specs.Outside.{outside}
-use Rattle.run_passes.specs.Words.{texts_of}
+use Rattle.file_passes.specs.Outside.{outside}
+use Rattle.cube_words.specs.Words.{texts_of}
 use Rattle.cube_server.proofs.Converses.{refuses-status, accepts-status}
 use Rattle.cube_server.proofs.server.run_cubes.Goals as goal
 

@@ -1,9 +1,10 @@
-use Rattle.std.proofs.Common.{◌≡◌, Ok, sym, subst}
+use Rattle.std.proofs.Common.{◌≡◌, Ok, refl, subst}
 use Rattle.cube_words.specs.Words.{texts_of}
 use Rattle.file_passes.specs.Halting.{Comes}
 use Rattle.file_passes.specs.Outside.{outside}
 use Rattle.file_passes.proofs.Coming.{comes-stopped, comes-mapped}
 use Rattle.file_passes.proofs.Going.{on-later}
+use Rattle.judged_files.specs.Scripts.{Checked}
 use Rattle.run_passes.specs.Run.{scripts_pass}
 use Rattle.run_passes.specs.Inside.Plans.{checked_of, behind_scripts, behind_rules}
 use Rattle.run_passes.proofs.model_passes.behind_rules.Goals as goal
@@ -14,11 +15,14 @@ returns-in-Err-clause-comes g c =
     (outside g.F.Files.known g.F.Files.faults g.F.Files.missed g.F.Files.asked c.args.files.now c.scripts_pass.new.files)
     c.args.readings.now c.scripts_pass.new.readings c.in-Err.halt c.in-Err.ensures.comes
 
-pub returns-in-Ok-clause-comes : goal.returns-in-Ok-clause-comes
-returns-in-Ok-clause-comes g c =
-    comes-mapped (scripts_pass (texts_of c.args.scripts.now)) (checked_of c.args.model c.args.names)
-    (outside g.F.Files.known g.F.Files.faults g.F.Files.missed g.F.Files.asked c.args.files.now c.scripts_pass.new.files)
-    c.args.readings.now c.scripts_pass.new.readings c.in-Ok.trees c.in-Ok.ensures.comes
+pub returns-in-Ok-new-clause-comes : goal.returns-in-Ok-new-clause-comes
+returns-in-Ok-new-clause-comes g c =
+    let o = outside g.F.Files.known g.F.Files.faults g.F.Files.missed g.F.Files.asked c.args.files.now c.scripts_pass.new.files in
+    let whole : Checked = record { model = c.args.model; scripts = c.in-Ok-new.scripts } in
+    let same : checked_of c.args.model c.args.names c.in-Ok.trees ≡ whole = rw (← c.in-Ok-new.ensures.names, ← c.in-Ok-new.ensures.trees) refl in
+    let came = comes-mapped (scripts_pass (texts_of c.args.scripts.now)) (checked_of c.args.model c.args.names) o
+    c.args.readings.now c.scripts_pass.new.readings c.in-Ok.trees c.in-Ok.ensures.comes in
+    subst (λ x. Comes (behind_rules (texts_of c.args.scripts.now) c.args.names c.args.model) o c.args.readings.now c.scripts_pass.new.readings (Ok x)) same came
 
 pub returns-in-Err-new-clause-comes : goal.returns-in-Err-new-clause-comes
 returns-in-Err-new-clause-comes g c = (

@@ -1,18 +1,20 @@
 use Rattle.std.proofs.Common.{rules, ◌≡◌, ◌++◌, ◌∷◌, []}
-use Rattle.cube_server.specs.Answer.{IsServed}
+use Rattle.history.specs.History.{IsHistoryOf}
+use Rattle.user_session.specs.Content.{after, opening}
+use Rattle.user_session.specs.Planning.{effect}
 use Rattle.cube_server.specs.Inside.Ending.{joined}
 use Rattle.cube_server.specs.Output.{users_text, history_text}
 use Rattle.cube_server.proofs.Pieces.{output-joined}
-use Rattle.cube_server.proofs.answer.done.Goals as goal
+use Rattle.cube_server.proofs.answer.served.Goals as goal
 
 pub returns-clause-text : goal.returns-clause-text
-returns-clause-text c =
+returns-clause-text g c =
     let told = c.in_ok-served.served.told.items in
     let log = c.in_ok-served.served.log.items in
     let pushed : c.push.new.self.items ≡ c.in_ok-pieces.pieces.items ++ c.in_ok-print_history.field-0 ∷ [] = search rules in
     let users : joined c.in_ok-pieces.pieces.items ≡ users_text told = search rules in
     let history : c.in_ok-print_history.field-0.items ≡ history_text log = search rules in
-    let served : IsServed c.args.job told log = search rules in
+    let served : IsHistoryOf effect after (opening c.args.model) c.args.users told log = c.in_ok-served.ensures.history in
     record {
       told = told;
       log = log;
