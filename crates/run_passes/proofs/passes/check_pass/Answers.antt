@@ -1,15 +1,19 @@
+use Rattle.std.proofs.Common.{Ok, sym, subst}
+use Rattle.cube_words.specs.Words as words
+use Rattle.file_passes.specs.Halting.{Comes}
 use Rattle.file_passes.specs.Outside.{outside}
 use Rattle.file_passes.proofs.Coming.{comes-stopped, comes-mapped}
 use Rattle.run_passes.specs.declared.job.Job.TheVariants.{Check}
-use Rattle.run_passes.specs.Run.{model_pass}
+use Rattle.run_passes.specs.Run.{model_pass, plan_pass}
 use Rattle.run_passes.proofs.PlanFacts.{accept}
 use Rattle.run_passes.proofs.passes.check_pass.Goals as goal
 
 pub returns-in-Ok : goal.returns-in-Ok
 returns-in-Ok g c =
-    comes-mapped (model_pass c.args.model.now) (λ checked. Check checked.model)
-    (outside g.F.Files.known g.F.Files.faults g.F.Files.missed g.F.Files.asked c.args.files.now c.model_pass.new.files)
-    c.args.readings.now c.model_pass.new.readings c.in-Ok.checked.now c.in-Ok.ensures.comes
+    let o = outside g.F.Files.known g.F.Files.faults g.F.Files.missed g.F.Files.asked c.args.files.now c.model_pass.new.files in
+    let came = comes-mapped (model_pass c.args.model.now) (λ checked. Check checked.model) o
+    c.args.readings.now c.model_pass.new.readings c.in-Ok.checked c.in-Ok.ensures.comes in
+    subst (λ w. Comes (plan_pass (words.Check c.args.model.now)) o c.args.readings.now c.model_pass.new.readings (Ok (Check w.model))) (sym c.checked.view_is) came
 
 pub returns-in-Err : goal.returns-in-Err
 returns-in-Err g c =
