@@ -74,7 +74,7 @@ fn plan_pass<F: Files>(
     readings: &mut Readings,
     plan: Plan<'_>,
 ) -> Result<Job, Halt>
-    ensures { Comes (plan_pass (asked plan)) (outside F.known F.faults F.missed F.asked files.old files.new)
+    ensures { Comes (plan_pass (asked plan.entry)) (outside F.known F.faults F.missed F.asked files.old files.new)
         readings.old readings.new result }
 {
     match plan {
