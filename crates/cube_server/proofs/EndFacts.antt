@@ -17,7 +17,7 @@ use Rattle.cube_words.specs.Words.{Plan, IsPlan}
 use Rattle.cube_server.specs.Inside.Ending.{Answers, Ends, joined}
 use Rattle.file_passes.specs.Halting.{Comes}
 use Rattle.file_passes.proofs.Going.{course-of}
-use Rattle.run_passes.proofs.PlanFacts.{steady-plan}
+use Rattle.run_passes.proofs.PlanFacts.{settled-plan}
 
 pub Ends-whole : (words : List (List ℕ)) (o : Outside) (old new : Option (List ℕ)) (before after : ℕ) (status : Status) (text : List ℕ)
     → Allows words o status text → Appends old new text → after ≡ before → Ends words o old new before after status
@@ -31,7 +31,7 @@ Ends-whole words o old new before after NoMemory text allowed whole calm = absur
 -- only the words can be at fault for a usage, and then no file is asked for
 pub misfit_words : (words : List (List ℕ)) (readings : Readings) → (run_of words).stops readings NotWords → (plan : Plan) → ¬ IsPlan words plan
 misfit_words words readings (inl stops) = stops.0
-misfit_words words readings (inr (plan, is, stops)) = absurd ((steady-plan plan).worded readings stops)
+misfit_words words readings (inr (plan, is, stops)) = absurd ((settled-plan plan).worded readings stops)
 
 no_course : (words : List (List ℕ)) (readings : Readings) → ((plan : Plan) → ¬ IsPlan words plan) → (name : List ℕ) → (run_of words).stops readings (Reads name) → ⊥
 no_course words readings misfit name (inl stops) = (let never : Reads name ≡ NotWords = stops.1 in cc)

@@ -2,3 +2,4 @@ mod Crosses
 mod Converses
 mod Pieces
 mod EndFacts
+mod SampleRuns
