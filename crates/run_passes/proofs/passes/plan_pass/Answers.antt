@@ -1,6 +1,6 @@
 use Rattle.std.proofs.Common.{refl}
 use Rattle.file_passes.proofs.Going.{on-refl}
-use Rattle.cube_words.specs.Words.{asked}
+use Rattle.cube_words.specs.Words.{Sample}
 use Rattle.run_passes.specs.Run.{plan_pass}
 use Rattle.run_passes.proofs.passes.plan_pass.Goals as goal
 
@@ -12,4 +12,4 @@ returns-in-Check g c = rw c.in-Check.is c.check_pass.ensures
 
 pub returns-in-Sample : goal.returns-in-Sample
 returns-in-Sample g c =
-    rw c.in-Sample.is ((on-refl (plan_pass (asked c.args.plan)) (g.F.Files.known c.args.files.now) c.args.readings.now, refl, λ base begun. begun), refl)
+    rw c.in-Sample.is ((on-refl (plan_pass (Sample c.in-Sample.size)) (g.F.Files.known c.args.files.now) c.args.readings.now, refl, λ base begun. begun), refl)
