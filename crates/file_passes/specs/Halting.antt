@@ -1,5 +1,5 @@
 -- What a pass comes to.
-use Rattle.std.specs.Prelude.{◌≡◌, ℕ, List, [], ◌∷◌, Result, Ok, Err}
+use Rattle.std.specs.Prelude.{◌≡◌, [], ◌∷◌, Result, Ok, Err}
 use Rattle.cube_outside.specs.Counts.{Rose}
 use Rattle.cube_outside.specs.declared.files.FileFault.{FileFault}
 use Rattle.cube_outside.specs.declared.files.FileFault.TheVariants as faults

@@ -53,8 +53,8 @@ pub enum Cause {
     ModelTooLarge,
     /// The weights of a cube multiply to more than 10^9.
     WeightProduct,
-    /// A formula has too many parentheses open, a script too many parentheses and blocks; or one expression has too many
-    /// operands.
+    /// A formula has too many parentheses open, a script too many parentheses and blocks; or one expression has too
+    /// many operands.
     TooDeep,
     /// A word of a script that is no function, with a `(` behind it.
     UnknownFunction,

@@ -1,5 +1,5 @@
 -- What the judging functions answer is what files are judged to be.
-use Rattle.std.proofs.Common.{◌≡◌, ℕ, List, Option, Some, None, option_map, Ok, Err, sym, inl, inr}
+use Rattle.std.proofs.Common.{◌≡◌, ℕ, List, Option, Some, None, option_map, Ok, Err, inl, inr}
 use Rattle.model_text.specs.Answers.{IsModelText, IsFault}
 use Rattle.model_text.specs.Contents.{Contents}
 use Rattle.model_text.specs.declared.fault.ModelTextFault.{ModelTextFault}

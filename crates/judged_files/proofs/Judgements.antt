@@ -1,13 +1,11 @@
 -- What was read is judged to be one thing.
-use Rattle.std.proofs.Common.{◌≡◌, ◌≢◌, ℕ, ◌+◌, List, [], ◌∷◌, length, Option, Some, None, inl, inr, refl, sym, ◌∙◌, ap, subst}
-use Rattle.rule_model.specs.BoundModel.{BoundModel}
+use Rattle.std.proofs.Common.{◌≡◌, ◌≢◌, ℕ, ◌+◌, List, [], ◌∷◌, length, Some, None, inl, inr, refl, sym, ◌∙◌, ap, subst}
 use Rattle.user_text.specs.declared.command.UserCommand.{UserCommand}
 use Rattle.user_text.specs.declared.fault.UserFault.{UserFault}
 use Rattle.user_text.specs.declared.fault.UserFault.TheVariants as user_faults
 use Rattle.model_text.specs.Contents.{Contents}
 use Rattle.model_text.specs.declared.fault.ModelTextFault.{ModelTextFault}
 use Rattle.model_text.specs.declared.fault.ModelTextCause.TheVariants as text_causes
-use Rattle.model_deploy.specs.declared.file.RuleFile.{RuleFile}
 use Rattle.text_laws.proofs.UserTexts.{user_texts}
 use Rattle.text_laws.proofs.ModelTexts.{model_texts}
 use Rattle.file_passes.specs.declared.refusal.Refusal.{Refusal}

@@ -4,7 +4,6 @@ use Rattle.script_reader.specs.Answers.{Answers}
 use Rattle.script_reader.specs.declared.fault.ScriptFault.{ScriptFault}
 use Rattle.script_tree.specs.declared.script.Script.{Script}
 use Rattle.file_passes.specs.declared.halt.Halt.{Halt}
-use Rattle.file_passes.specs.declared.halt.Halt.TheVariants as halts
 use Rattle.file_passes.specs.declared.refusal.Refusal.{Refusal}
 use Rattle.file_passes.specs.Pass.{Source}
 use Rattle.judged_files.specs.Refusals.{script_refusal}

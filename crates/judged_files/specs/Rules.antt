@@ -1,5 +1,5 @@
 -- What a model and the files of its cubes' rules are judged to be.
-use Rattle.std.specs.Prelude.{◌≡◌, ℕ, List, map, filter_map, Option, Some, None, option_map, option_and_then}
+use Rattle.std.specs.Prelude.{◌≡◌, ℕ, List, map, filter_map, Option, Some, option_map, option_and_then}
 use Rattle.model_text.specs.Contents.{Contents}
 use Rattle.model_text.specs.declared.parts.CubeText.{CubeText}
 use Rattle.model_deploy.specs.Deployment.{deployment}

@@ -19,7 +19,6 @@ use Rattle.judged_files.specs.Users.{users_judgement}
 use Rattle.judged_files.proofs.Judgements.{one_text_judgement, one_deployment_judgement, no_scripts_refused, one_users_judgement}
 use Rattle.model_text.specs.Contents.{script_names, Contents as Text}
 use Rattle.rule_model.specs.BoundModel.{BoundModel}
-use Rattle.script_tree.specs.declared.script.Script.{Script}
 use Rattle.user_text.specs.declared.command.UserCommand.{UserCommand}
 use Rattle.run_passes.specs.declared.job.Job.{Job}
 use Rattle.run_passes.specs.declared.job.Job.TheVariants as jobs

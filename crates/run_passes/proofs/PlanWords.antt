@@ -1,9 +1,9 @@
 -- Words ask for one plan at most.
-use Rattle.std.proofs.Common.{◌≡◌, ℕ, List, [], ◌∷◌, ◌++◌, Bool, true, false, ◌&&◌, IsTrue, codes, inl, inr, refl, sym, ◌∙◌, ap, subst}
+use Rattle.std.proofs.Common.{◌≡◌, ℕ, List, [], ◌∷◌, ◌++◌, Bool, true, false, ◌&&◌, IsTrue, codes, inl, inr, sym, ◌∙◌, ap, subst}
 use Rattle.std.proofs.lemmas.List.{append_cancel_left}
 use Rattle.std.specs.List.{list_all}
 use Rattle.std.specs.Str.Parse.{digits_value}
-use Rattle.cube_words.specs.Words.{Plan, Run, Check, Sample, IsPlan, IsRun, IsCheck, IsSample, names_a_file}
+use Rattle.cube_words.specs.Words.{Plan, Run, Check, Sample, IsPlan, IsCheck, IsSample, names_a_file}
 
 first-of : {A : Type 0} (x y : A) (xs ys : List A) → x ∷ xs ≡ y ∷ ys → x ≡ y
 first-of x y xs ys same = cc

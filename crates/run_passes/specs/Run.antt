@@ -3,7 +3,6 @@ use Rattle.std.specs.Prelude.{ℕ, List}
 use Rattle.cube_words.specs.Words.{Plan, Run, Check, Sample, IsPlan}
 use Rattle.file_passes.specs.Pass.{Pass, NotWords, found, the, file, files, judged, ◌>>=◌}
 use Rattle.model_text.specs.Contents.{Contents, script_names}
-use Rattle.model_text.specs.declared.parts.ScriptText.{ScriptText}
 use Rattle.rule_model.specs.BoundModel.{BoundModel}
 use Rattle.script_tree.specs.declared.script.Script.{Script}
 use Rattle.user_session.specs.declared.command.PlanCommand.{PlanCommand}

@@ -72,15 +72,15 @@ fn plan_pass<F: Files>(
     alloc: Global,
     files: &mut F,
     readings: &mut Readings,
-    plan: Plan<'_>,
+    plan: &Plan<'_>,
 ) -> Result<Job, Halt>
-    ensures { Comes (plan_pass (asked plan.entry)) (outside F.known F.faults F.missed F.asked files.old files.new)
+    ensures { Comes (plan_pass (asked plan.now)) (outside F.known F.faults F.missed F.asked files.old files.new)
         readings.old readings.new result }
 {
     match plan {
         Plan::Run { model, users } => run_pass(alloc, files, readings, model, users),
         Plan::Check { model } => check_pass(alloc, files, readings, model),
-        Plan::Sample { size } => Ok(Job::Sample(size)),
+        Plan::Sample { size } => Ok(Job::Sample(*size)),
     }
 }
 
@@ -164,7 +164,7 @@ pub fn run_passes<F: Files>(
         readings.old readings.new result }
 {
     match plan_of(words) {
-        Ok(plan) => plan_pass(alloc, files, readings, plan),
+        Ok(plan) => plan_pass(alloc, files, readings, &plan),
         Err(_) => Err(Halt::NotWords),
     }
 }

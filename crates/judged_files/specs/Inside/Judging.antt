@@ -1,5 +1,5 @@
 -- What the functions promise one another that judge files.
-use Rattle.std.specs.Prelude.{◌≡◌, Bool, List, Option, Some, ◌⊎◌}
+use Rattle.std.specs.Prelude.{◌≡◌, List, Option, Some, ◌⊎◌}
 use Rattle.user_text.specs.declared.command.UserCommand.{UserCommand}
 use Rattle.file_passes.specs.declared.halt.Halt.{Halt}
 use Rattle.file_passes.specs.declared.halt.Halt.TheVariants as halts

@@ -1,4 +1,4 @@
-use Rattle.std.proofs.Common.{◌≡◌, ◌∙◌, [], append-nil, sym, subst}
+use Rattle.std.proofs.Common.{◌≡◌, ◌∙◌, [], append-nil, sym}
 use Rattle.std.specs.Vec.Iter.{into_iter_items}
 use Rattle.dim_core.proofs.BadAttributes.{nothing_left}
 use Rattle.judged_files.proofs.loads.commands_of.Goals as goal
