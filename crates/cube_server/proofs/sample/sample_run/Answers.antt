@@ -1,4 +1,4 @@
-use Rattle.std.proofs.Common.{map, refl, Some}
+use Rattle.std.proofs.Common.{◌∙◌, ap, map, refl, Some, rules}
 use Rattle.cube_outside.specs.NamedBytes.{bytes_named}
 use Rattle.cube_outside.specs.declared.memory_files.MemoryFiles.{MemoryFiles}
 use Rattle.cube_words.specs.Words.{texts_of}
@@ -10,5 +10,5 @@ pub returns-in-Ok-Serve : goal.returns-in-Ok-Serve
 returns-in-Ok-Serve c =
     let files = c.in_ok-files.files in
     let met = outside (λ (f : MemoryFiles). Some (bytes_named f.pairs.items)) (λ (f : MemoryFiles). f.count) (λ (f : MemoryFiles). f.missed.items) (λ (f : MemoryFiles). map (λ name. name.items) f.asked.items) files c.run_passes.new.files in
-    sample-run c.args.size files met (texts_of c.in_ok-words.words.items) c.new-readings.result c.run_passes.new.readings c.in-Ok-Serve.model c.in-Ok-Serve.users
-    c.in_ok-files.ensures.pairs refl c.in_ok-words.ensures c.new-readings.ensures c.in-Ok-Serve.ensures
+    sample-run c.args.size files met (texts_of c.deref.result.now) c.new-readings.result c.run_passes.new.readings c.in-Ok-Serve.field-0 c.in-Ok-Serve.model c.in-Ok-Serve.users
+    c.in_ok-files.ensures.pairs refl (ap texts_of c.deref.ensures.value ∙ c.in_ok-words.ensures) c.new-readings.ensures (search rules) c.in-Ok-Serve.ensures
