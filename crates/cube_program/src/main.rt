@@ -17,7 +17,7 @@ fn main(rt: HostRuntime) -> ExitCode {
         // A word that is no text is in no grammar.
         Err(_) => Vec::new(rt.alloc()),
     };
-    let status = run_cubes(rt.alloc(), &words, &mut files, &mut out, &FreeGate);
+    let status = run_cubes(&rt, &words, &mut files, &mut out, &FreeGate);
     ExitCode::from(status.code())
 }
 

@@ -1,3 +1,4 @@
+mod Crosses
 mod Converses
 mod Pieces
 mod EndFacts

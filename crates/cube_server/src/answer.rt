@@ -7,15 +7,15 @@ ghost use Rattle.run_passes.specs.Words.{texts_of};
 
 use crate::print::{print_history, print_refusal, print_unread, print_usage, print_user};
 use crate::status::Status;
-use cell_reader::Snapshot;
-use cube_outside::Files;
+use crate::users::serve_users;
+use cube_outside::{Files, Gate};
 use history::Told;
 use lists::ListOf;
 use run_passes::{Halt, Job, Readings, run_passes};
-use serving::serve;
 use std::alloc::{AllocError, Global};
-use std::sync::Arc;
-use user_session::{PlanWorld, ReplyText};
+use std::sync::Wait;
+use std::thread::Threads;
+use user_session::ReplyText;
 
 /// How a run is to end, and the pieces of its text in the order in which they are written.
 #[derive(Drop)]
@@ -25,29 +25,35 @@ pub(crate) struct Answer {
 }
 
 /// Reads and checks, and runs the users.
-pub(crate) fn answer_of<F: Files>(
+pub(crate) fn answer_of<R: Threads + Wait + Sync, F: Files, G: Gate + Sync>(
+    rt: &R,
     alloc: Global,
     words: &[String],
     files: &mut F,
+    gate: &G,
 ) -> Result<Answer, AllocError>
     ensures { IfOk result (λ answer. Allows (texts_of words.now)
         (outside F.known F.faults F.missed F.asked files.old files.new) answer.status (joined answer.pieces.items)) }
 {
     let mut readings = Readings::new(alloc);
     match run_passes(alloc, words, files, &mut readings) {
-        Ok(job) => done(alloc, job),
+        Ok(job) => done(rt, alloc, gate, job),
         Err(halt) => halted(alloc, files.missed(), halt),
     }
 }
 
 // Runs the users.
-fn done(alloc: Global, job: Job) -> Result<Answer, AllocError>
+fn done<R: Threads + Wait + Sync, G: Gate + Sync>(
+    rt: &R,
+    alloc: Global,
+    gate: &G,
+    job: Job,
+) -> Result<Answer, AllocError>
     ensures status { IfOk result (λ answer. answer.status ≡ Status.Done) }
     ensures text { IfOk result (λ answer. IsOutput job (joined answer.pieces.items)) }
 {
     let Job::Serve(model, users) = job;
-    let opening = Snapshot::first(alloc, Arc::new(alloc, model)?)?;
-    let served = serve::<PlanWorld>(alloc, opening, users.as_slice())?;
+    let served = serve_users(rt, alloc, gate, model, users)?;
     let mut pieces = print_users(alloc, &served.told)?;
     pieces.push(print_history(alloc, &served.log)?)?;
     Ok(Answer {

@@ -3,8 +3,8 @@
 //!
 //! Read [`run_cubes`] first, and beside it `specs/Answer.antt`, which text each end of a run allows, and
 //! `specs/Output.antt`, the bytes. What is read, in which order, and how it is judged, stands in crate `run_passes`.
-//! Behind the call `print` makes the texts, `answer` puts these together, and `tell` writes. What commands do stands in
-//! crate `user_session`.
+//! Behind the call `users` runs the users on threads, `print` makes the texts, `answer` puts these together, and `tell`
+//! writes. What commands do stands in crate `user_session`.
 #![tactic(auto)]
 
 mod answer;
@@ -13,6 +13,7 @@ mod run;
 mod server;
 mod status;
 mod tell;
+mod users;
 
 pub use server::run_cubes;
 pub use status::Status;

@@ -17,22 +17,31 @@ ghost use Rattle.cube_server.specs.declared.status.Status.TheVariants.{NoMemory}
 use crate::run::run;
 use crate::status::Status;
 use cube_outside::{Files, Gate, Sink};
-use std::alloc::Global;
+use std::sync::Wait;
+use std::thread::Threads;
 
 /// Reads the model and the users' commands that the words name, runs the users, and writes what they were told and the
 /// history.
 ///
 /// The words are those after the program's own name: a model file and 1 to 16 user files. The model is read and judged
 /// first; then the files of its cubes' rules, its scripts, and all user files, each kind read in order and then judged
-/// in order. A name that was read isn't read again. Users run one after another, and nobody passes the gate yet.
-/// Nothing is written before all users are done; then each user's text is one write, and the history is the last. Want
-/// of memory may take the place of any other end.
-pub fn run_cubes<F: Files, S: Sink, G: Gate + Sync>(
-    alloc: Global,
+/// in order. A name that was read isn't read again. Until then nothing waits for a thread: it is the call of
+/// [`run_passes::run_passes`].
+///
+/// Each user runs on a thread of its own and passes the gate at the parts of its commands; where a thread can't be
+/// started, users run one after another. Nothing is written before all users are done; then each user's text is one
+/// write, and the history is the last. Want of memory may take the place of any other end.
+pub fn run_cubes<
+    R: Threads + Wait + AllocGlobal + Sync,
+    F: Files,
+    S: Sink,
+    G: Gate + Sync,
+>(
+    rt: &R,
     words: &[String],
     files: &mut F,
     out: &mut S,
-    _gate: &G,
+    gate: &G,
 ) -> Status
     // What each status says, of the text that was written and of the files.
     ensures done { result ≡ Done → Writes (IsDone (texts_of words.now)
@@ -66,5 +75,5 @@ pub fn run_cubes<F: Files, S: Sink, G: Gate + Sync>(
         (run_of (texts_of words.now)).finds readings job →
         IsOneOf (Done ∷ ReadFault ∷ WriteFault ∷ NoMemory ∷ []) result }
 {
-    run(alloc, words, files, out)
+    run(rt, rt.alloc(), words, files, out, gate)
 }

@@ -48,7 +48,7 @@ fn main(rt: HostRuntime) -> io::Result<()> {
             Case::Answer(answer) => write_answer(&mut written, &answer)?,
             Case::Run(mut run) => {
                 let status = run_cubes(
-                    rt.alloc(),
+                    &rt,
                     &run.words,
                     &mut run.files,
                     &mut run.out,

@@ -6,7 +6,7 @@ use Rattle.cube_server.proofs.Pieces.{output-joined}
 use Rattle.cube_server.proofs.answer.done.Goals as goal
 
 pub returns-clause-text : goal.returns-clause-text
-returns-clause-text c =
+returns-clause-text g c =
     let told = c.in_ok-served.served.told.items in
     let log = c.in_ok-served.served.log.items in
     let pushed : c.push.new.self.items ≡ c.in_ok-pieces.pieces.items ++ c.in_ok-print_history.field-0 ∷ [] = search rules in

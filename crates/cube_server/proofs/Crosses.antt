@@ -1,0 +1,180 @@
+-- A snapshot and a content may go to another thread, and several threads may share one.
+use denote.RattleType.{RattleType}
+use denote.Param.Send.{IsSend, IsSync, part_keyless, sendable}
+use Rattle.std.proofs.Crossing.{crosses}
+use Rattle.std.proofs.option.Option.TheSendSync as option
+use Rattle.lists.proofs.list.ListOf.TheSendSync as list
+use Rattle.sqlite_items.proofs.boxed.Boxed.TheSendSync as boxed
+use Rattle.cube_fixed.proofs.money.Money.TheSendSync as money
+use Rattle.rule_laws.proofs.formula.Formula.TheLaws.TheKnot as formula
+use Rattle.rule_laws.proofs.operation.Op.TheSendSync as op
+use Rattle.rule_laws.proofs.operation.Fun.TheSendSync as fun
+use Rattle.rule_laws.proofs.operation.Rel.TheSendSync as rel
+use Rattle.rule_laws.proofs.reference.Reference.TheSendSync as reference
+use Rattle.rule_laws.specs.contracts.formula.Formula as Formula
+use Rattle.rule_model.proofs.area.Area.TheSendSync as area
+use Rattle.rule_model.proofs.order.Order.TheSendSync as order
+use Rattle.rule_model.proofs.rules.Feeder.TheSendSync as feeder
+use Rattle.rule_model.proofs.rules.Form.TheSendSync as form
+use Rattle.rule_model.specs.contracts.rules.Statement as Statement
+use Rattle.rule_model.specs.contracts.rules.CubeRules as CubeRules
+use Rattle.rule_model.specs.contracts.model.Model as Model
+use Rattle.cube_space.proofs.space.Space.TheSendSync as space
+use Rattle.dim_weights.proofs.weights.Weights.TheSendSync as weights
+use Rattle.cell_store.proofs.store.Store.TheSendSync as store
+use Rattle.cell_store.proofs.set.PageSet.TheSendSync as pages
+use Rattle.feed_map.specs.contracts.fed.Fed as Fed
+use Rattle.accepted.specs.contracts.accepted_model.Accepted as Accepted
+use Rattle.cell_versions.specs.contracts.version.Version as Version
+use Rattle.atomic_table.proofs.shared.Shared.TheSendSync as table
+use Rattle.atomic_table.proofs.shared.Seat.TheSendSync as seat
+use Rattle.atomic_table.proofs.send_lease.SendLease.TheSendSync as lease
+use Rattle.atomic_table.specs.contracts.shared.Seat as Seat
+use Rattle.memo_cells.specs.contracts.memo.Memo as Memo
+use Rattle.memo_cells.specs.contracts.shared.SharedMemo as SharedMemo
+use Rattle.cell_reader.specs.contracts.snapshot.Snapshot as Snapshot
+use Rattle.user_session.specs.contracts.content.Content as Content
+use Rattle.sqlite_items.proofs.items.Items.TheSendSync as items
+use Rattle.dim_name.proofs.name.Name.TheSendSync as name
+use Rattle.script_tree.proofs.expr.Expr.TheLaws.TheKnot as expr
+use Rattle.script_tree.proofs.expr.ScriptFun.TheSendSync as script_fun
+use Rattle.script_tree.proofs.expr.ScriptOp.TheSendSync as script_op
+use Rattle.script_tree.proofs.line.Arm.TheLaws.TheKnot as lines
+use Rattle.script_tree.specs.contracts.expr.Expr as Expr
+use Rattle.script_tree.specs.contracts.line.Line as Line
+use Rattle.script_tree.specs.contracts.script.Block as Block
+use Rattle.script_tree.specs.contracts.script.Script as Script
+use Rattle.user_text.proofs.command.CellText.TheSendSync as cell_text
+use Rattle.user_text.proofs.command.ViewText.TheSendSync as view_text
+use Rattle.user_text.proofs.command.ParamText.TheSendSync as param_text
+use Rattle.load_job.specs.contracts.job.Job as Job
+use Rattle.user_session.specs.contracts.command.PlanCommand as PlanCommand
+
+-- each step is a lemma, since a `search` that goes down through all of them runs out of steps
+ruleset parts = (sendable, crosses, option.the_send, option.the_sync, option.the_field_send, option.the_field_sync, list.the_send, list.the_sync)
+
+Formula-send : IsSend Formula.the_row
+Formula-send =
+    search (parts, formula.send-Formula, money.the_send, op.the_field_send, fun.the_field_send, rel.the_field_send, reference.the_field_send, boxed.the_send) depth 20
+
+Formula-sync : IsSync Formula.the_row
+Formula-sync =
+    search (parts, formula.sync-Formula, money.the_sync, op.the_field_sync, fun.the_field_sync, rel.the_field_sync, reference.the_field_sync, boxed.the_sync) depth 20
+
+Statement-send : IsSend Statement.the_row
+Statement-send = search (parts, Formula-send, area.the_field_send, form.the_field_send) depth 20
+
+Statement-sync : IsSync Statement.the_row
+Statement-sync = search (parts, Formula-sync, area.the_field_sync, form.the_field_sync) depth 20
+
+CubeRules-send : IsSend CubeRules.the_row
+CubeRules-send = search (parts, Statement-send, feeder.the_send, order.the_field_send) depth 20
+
+CubeRules-sync : IsSync CubeRules.the_row
+CubeRules-sync = search (parts, Statement-sync, feeder.the_sync, order.the_field_sync) depth 20
+
+Model-send : IsSend Model.the_row
+Model-send = search (parts, CubeRules-send, space.the_send, weights.the_send) depth 20
+
+Model-sync : IsSync Model.the_row
+Model-sync = search (parts, CubeRules-sync, space.the_sync, weights.the_sync) depth 20
+
+pub Content-send : IsSend Content.the_row
+Content-send = search (parts, Model-send, store.the_send) depth 20
+
+pub Content-sync : IsSync Content.the_row
+Content-sync = search (parts, Model-sync, store.the_sync) depth 20
+
+Accepted-send : IsSend Accepted.the_row
+Accepted-send = search (parts, Model-send) depth 20
+
+Accepted-sync : IsSync Accepted.the_row
+Accepted-sync = search (parts, Model-sync) depth 20
+
+Fed-send : IsSend Fed.the_row
+Fed-send = search (parts, pages.the_send) depth 20
+
+Fed-sync : IsSync Fed.the_row
+Fed-sync = search (parts, pages.the_sync) depth 20
+
+Version-send : IsSend Version.the_row
+Version-send = search (parts, Accepted-send, Accepted-sync, store.the_send, Fed-send) depth 20
+
+Version-sync : IsSync Version.the_row
+Version-sync = search (parts, Accepted-send, Accepted-sync, store.the_sync, Fed-sync) depth 20
+
+Memo-send : IsSend Memo.the_row
+Memo-send = search (parts, table.the_send, lease.the_send) depth 20
+
+Memo-sync : IsSync Memo.the_row
+Memo-sync = search (parts, table.the_sync, lease.the_sync) depth 20
+
+-- who shares a seat has no more of it than who was sent it
+Seat-sync : (S V : RattleType) → IsSend S → IsSync (Seat.the_row S V)
+Seat-sync S V s = record { shared = λ d b o κ q. part_keyless (Seat.the_row S V) (seat.the_send S V s) q d b o }
+
+SharedMemo-send : IsSend SharedMemo.the_field.row
+SharedMemo-send = search (parts, Memo-send, Memo-sync, seat.the_send) depth 20
+
+SharedMemo-sync : IsSync SharedMemo.the_field.row
+SharedMemo-sync = search (parts, Memo-send, Memo-sync, Seat-sync) depth 20
+
+pub Snapshot-send : IsSend Snapshot.the_row
+Snapshot-send = search (parts, Version-send, Version-sync, SharedMemo-send) depth 20
+
+pub Snapshot-sync : IsSync Snapshot.the_row
+Snapshot-sync = search (parts, Version-send, Version-sync, SharedMemo-sync) depth 20
+
+-- ---- commands
+
+Expr-send : IsSend Expr.the_row
+Expr-send = search (parts, expr.send-Expr, money.the_send, script_fun.the_field_send, script_op.the_field_send, items.the_send, boxed.the_send) depth 20
+
+Expr-sync : IsSync Expr.the_row
+Expr-sync = search (parts, expr.sync-Expr, money.the_sync, script_fun.the_field_sync, script_op.the_field_sync, items.the_sync, boxed.the_sync) depth 20
+
+Expr-field-send : IsSend Expr.the_field.row
+Expr-field-send =
+    search (parts, expr.send-Expr, money.the_send, script_fun.the_field_send, script_op.the_field_send, items.the_send, boxed.the_send) depth 20
+
+Line-field-send : IsSend Line.the_field.row
+Line-field-send =
+    lines.send-Line Expr-field-send (λ h s. search (parts, items.the_send)) (search parts) (search (parts, Expr-send, items.the_send))
+
+Line-send : IsSend Line.the_row
+Line-send = search (parts, Line-field-send) depth 20
+
+Expr-field-sync : IsSync Expr.the_field.row
+Expr-field-sync =
+    search (parts, expr.sync-Expr, money.the_sync, script_fun.the_field_sync, script_op.the_field_sync, items.the_sync, boxed.the_sync) depth 20
+
+Line-field-sync : IsSync Line.the_field.row
+Line-field-sync =
+    lines.sync-Line Expr-field-sync (λ h s. search (parts, items.the_sync)) (search parts) (search (parts, Expr-sync, items.the_sync))
+
+Line-sync : IsSync Line.the_row
+Line-sync = search (parts, Line-field-sync) depth 20
+
+Block-send : IsSend Block.the_field.row
+Block-send = search (parts, Line-send, items.the_send) depth 20
+
+Block-sync : IsSync Block.the_field.row
+Block-sync = search (parts, Line-sync, items.the_sync) depth 20
+
+Script-send : IsSend Script.the_row
+Script-send = search (parts, Block-send) depth 20
+
+Script-sync : IsSync Script.the_row
+Script-sync = search (parts, Block-sync) depth 20
+
+Job-send : IsSend Job.the_field.row
+Job-send = search (parts, param_text.the_send) depth 20
+
+Job-sync : IsSync Job.the_field.row
+Job-sync = search (parts, param_text.the_sync) depth 20
+
+pub PlanCommand-send : IsSend PlanCommand.the_row
+PlanCommand-send = search (parts, cell_text.the_field_send, view_text.the_field_send, money.the_send, Job-send, Script-send, Script-sync) depth 20
+
+pub PlanCommand-sync : IsSync PlanCommand.the_row
+PlanCommand-sync = search (parts, cell_text.the_field_sync, view_text.the_field_sync, money.the_sync, Job-sync, Script-send, Script-sync) depth 20

@@ -1,2 +1,0 @@
-pub mod OneUser
-pub mod AllUsers

@@ -1,2 +1,0 @@
--- What the code keeps while it runs. No public clause cites it.
-pub mod Runs
