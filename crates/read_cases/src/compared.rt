@@ -1,8 +1,8 @@
-ghost use Rattle.std.specs.Prelude.{◌≡◌, ◌⊎◌, IfOk, IsTrue};
+ghost use Rattle.std.specs.Prelude.{◌≡◌, ◌<◌, IfOk, IsTrue};
 ghost use Rattle.cell_reader.specs.Snapshots.{known_in, version_of};
-ghost use Rattle.cell_values.specs.Reading.{IsKept, value_on};
+ghost use Rattle.cell_values.specs.Reading.{value_on};
 ghost use Rattle.cube_space.specs.Cells.{IsCell};
-ghost use Rattle.memo_cells.specs.Knowledge.{NamesOther};
+ghost use Rattle.memo_cells.specs.Knowledge.{Knows};
 ghost use Rattle.rule_dense.specs.Limits.{HasSmallCubes, IsLow};
 
 use cell_reader::Snapshot;
@@ -71,8 +71,7 @@ fn first_difference<L: Ledger>(
     Ok(None)
 }
 
-// The value that another reader finds. Where this one has kept it, that is no step more, unless the cell's slot is for
-// another cell.
+// The value that another reader finds who shares what this one keeps. Where this one knows it, that is no step more.
 fn found_by_another<L: Ledger>(
     alloc: Global,
     snapshot: &mut Snapshot,
@@ -81,8 +80,7 @@ fn found_by_another<L: Ledger>(
 ) -> Result<Value, AllocError>
     requires { IsCell (version_of snapshot.old).model.space cell }
     ensures value { IfOk result (λ value. value ≡ value_on (version_of snapshot.old) cell) }
-    ensures none { IsKept (known_in snapshot.old) cell →
-        (steps.new ≡ steps.old) ⊎ NamesOther (known_in snapshot.old) cell }
+    ensures none { Knows (known_in snapshot.old) cell → steps.new ≡ steps.old }
     ensures version { version_of snapshot.new ≡ version_of snapshot.old }
 {
     let mut other = snapshot.share()?;
