@@ -28,7 +28,7 @@ pub fn compared(
     if check_order(snapshot.model()).is_err() || !has_small_cubes(snapshot.model()) {
         return Ok(told.extend_from_slice(b"too large to be evaluated plainly")?);
     }
-    let line = match first_difference::<Brand>(Blank::new(1), alloc, snapshot)? {
+    let line = match first_difference(alloc, snapshot)? {
         None => format!(in alloc; "{cells} cells agree")?,
         Some(cell) => format!(in alloc; "cell {cell} is read otherwise")?,
     };
@@ -46,8 +46,16 @@ fn has_small_cubes(model: &Model) -> bool
     true
 }
 
-// The first cell that isn't given the same value by all, the other snapshot being one that shared at the beginning.
-fn first_difference<L: Ledger>(
+// The first cell that isn't given the same value by all.
+fn first_difference(alloc: Global, snapshot: &mut Snapshot) -> Result<Option<u64>, AllocError>
+    requires low { IsLow (version_of snapshot.old).model }
+    requires small { HasSmallCubes (version_of snapshot.old).model.space }
+{
+    counted_difference::<Brand>(Blank::new(1), alloc, snapshot)
+}
+
+// The same, and who has a blank counts the steps. The early reader is one that shared before any cell was read.
+fn counted_difference<L: Ledger>(
     blank: Blank,
     alloc: Global,
     snapshot: &mut Snapshot,
