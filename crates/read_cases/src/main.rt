@@ -1,5 +1,5 @@
-//! Cases of reading: a snapshot, another one that shares what it keeps, and plain evaluation of all cells give each cell
-//! the same value. `stdin` holds the cases and `stdout` what must come; a case costs its run alone, and no proof.
+//! Cases of reading: a snapshot, another one that shares what it keeps, and plain evaluation of all cells give each
+//! cell the same value. `stdin` holds the cases and `stdout` what must come; a case costs its run alone, and no proof.
 //!
 //! A case is a heading, its files, and an empty line:
 //!

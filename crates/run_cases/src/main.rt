@@ -21,7 +21,8 @@
 //! - `hold 2 1 0 until 1 2 3`, where user 2 waits at part 0 of its command 1 until user 1 has passed part 3 of its
 //!   command 2; with `for 1000` behind it no longer than so many turns of a loop.
 //!
-//! Reads, writes, users and commands count from 1. What a run writes has to be the same whatever the order of its users.
+//! Reads, writes, users and commands count from 1. What a run writes has to be the same in whatever order users
+//! come.
 //!
 //! A case `cuts FILE: TITLE` is a run for each beginning of that file.
 //!
