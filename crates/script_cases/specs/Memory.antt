@@ -1,5 +1,5 @@
 -- Cells that are listed in a case.
-use Rattle.std.specs.Prelude.{ℕ, ℤ, nat_lt, ◌==◌, Bool, List, [], ◌∷◌, ◌++◌, length, position}
+use Rattle.std.specs.Prelude.{ℕ, nat_lt, ◌==◌, List, [], ◌∷◌, ◌++◌, length, position}
 use Rattle.std.specs.Prelude.{Option, Some, None, Result}
 use Rattle.std.specs.Prelude.{slice_get, bytes_eq, if◌then◌else◌}
 use Rattle.cube_fixed.specs.declared.value.Value.{Value}
