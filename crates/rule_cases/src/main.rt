@@ -22,8 +22,8 @@
 //! - In a case `course: TITLE` each value has behind it how it comes: by which statements, which cell a single
 //!   reference names, and what an evaluation asks that begins again with each answer.
 //! - A case `feeders: TITLE` has no commands. It tells that feeders cover the rules, or the fault of the feeder check.
-//! - A case `deploy: TITLE` has no commands either. It tells what deployment as a whole answers: the first refusal, with
-//! its file and its place in it, where the model isn't accepted.
+//! - A case `deploy: TITLE` has no commands either. It tells what deployment as a whole answers: the first refusal,
+//! with its file and its place in it, where the model isn't accepted.
 //! - In a case `fed: TITLE` a stored number has behind it how many cells are then fed, and the value of a total how
 //!   many stored or fed cells a walk finds below it. After the commands stand the fed cells, rising; of more than 40
 //!   the first and the last.

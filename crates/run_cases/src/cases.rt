@@ -1,22 +1,27 @@
 use crate::runs::{Run, run_of};
 use crate::stores;
-use case_lines::{Texts, write_answer};
-use cube_server::Status;
+use case_lines::Texts;
 use std::alloc::{AllocError, Global};
 
 /// What a case asks for.
 #[derive(Drop)]
-pub enum Case {
-    /// Nothing is answered: a section is headed, or a text gets a name.
+pub enum Case<'a> {
+    /// Nothing is answered: a section is headed, or something gets a name.
     Silent,
     /// This is the answer.
     Answer(Vec<u8>),
     /// A run, whose answer is how it ends.
     Run(Run),
+    /// A run of these lines for each beginning of this file.
+    Cuts { file: &'a str, lines: &'a str },
 }
 
-/// What a case asks for. The text of a case `text: NAME` gets that name.
-pub fn case_of(alloc: Global, texts: &mut Texts, case: &str) -> Result<Case, AllocError> {
+/// What a case asks for. The text of a case `text: NAME` gets that name, and so do the files of a case `files: NAME`.
+pub fn case_of<'a>(
+    alloc: Global,
+    texts: &mut Texts,
+    case: &'a str,
+) -> Result<Case<'a>, AllocError> {
     if case.starts_with('#') {
         return Ok(Case::Silent);
     }
@@ -27,6 +32,14 @@ pub fn case_of(alloc: Global, texts: &mut Texts, case: &str) -> Result<Case, All
             Some(run) => Ok(Case::Run(run)),
             None => unread(alloc, "a line of this case is none of a run"),
         };
+    }
+    if let Some(file) = kind.strip_prefix("cuts ") {
+        return Ok(Case::Cuts { file, lines });
+    }
+    if kind == "files" {
+        let lines = Vec::from_slice(alloc, lines.as_bytes())?;
+        texts.name(alloc, title, lines)?;
+        return Ok(Case::Silent);
     }
     let Some(text) = texts.text_of(alloc, lines)? else {
         return unread(alloc, "a line of this case is none of a text");
@@ -41,24 +54,6 @@ pub fn case_of(alloc: Global, texts: &mut Texts, case: &str) -> Result<Case, All
     }
 }
 
-fn unread(alloc: Global, why: &str) -> Result<Case, AllocError> {
+fn unread<'a>(alloc: Global, why: &str) -> Result<Case<'a>, AllocError> {
     Ok(Case::Answer(Vec::from_slice(alloc, why.as_bytes())?))
-}
-
-/// Writes how a run ended: its status, and what it wrote.
-pub fn write_ending(
-    alloc: Global,
-    written: &mut Vec<u8>,
-    status: Status,
-    text: &[u8],
-) -> Result<(), AllocError> {
-    write_answer(written, format!(in alloc; "{status:?}")?.as_bytes())?;
-    if text.is_empty() {
-        return Ok(());
-    }
-    write_answer(written, text)?;
-    if !text.ends_with(b"\n") {
-        write_answer(written, b"without a line end")?;
-    }
-    Ok(())
 }

@@ -17,18 +17,19 @@ pub struct Run {
 
 /// The run of these lines, first those without a file and then those of each file. None where a line is none of a run.
 pub fn run_of(alloc: Global, texts: &Texts, lines: &str) -> Result<Option<Run>, AllocError> {
+    // Users count from 1, so nobody comes to a place of user 0 and waits there.
     let mut run = Run {
         words: Vec::new(alloc),
         files: MemoryFiles::new(alloc),
         out: MemorySink::new(alloc),
-        gate: held((0, 0, 0), (0, 0, 0)),
+        gate: HeldGate::new((0, 0, 0), (0, 0, 0), TURNS),
     };
     let (settings, files) = match lines.split_once("\nfile ") {
         Some((settings, files)) => (settings, Some(files)),
         None => (lines, None),
     };
     for line in settings.split('\n') {
-        if !run.set(alloc, line)? {
+        if !run.set(alloc, texts, line)? {
             return Ok(None);
         }
     }
@@ -42,7 +43,10 @@ pub fn run_of(alloc: Global, texts: &Texts, lines: &str) -> Result<Option<Run>, 
 
 impl Run {
     // Takes a line that stands before the files.
-    fn set(&mut self, alloc: Global, line: &str) -> Result<bool, AllocError> {
+    fn set(&mut self, alloc: Global, texts: &Texts, line: &str) -> Result<bool, AllocError> {
+        if let Some(name) = line.strip_prefix("files ") {
+            return self.put_named(alloc, texts, name);
+        }
         if let Some(word) = line.strip_prefix("word ") {
             self.words.push(String::from_str(alloc, word)?)?;
             return Ok(true);
@@ -59,12 +63,36 @@ impl Run {
             ["write", call, "fails", "after", kept] => {
                 self.out.fail_at(number(call), number(kept) as usize)?;
             }
-            ["hold", user, command, part, "until", other, reached, passed] => {
-                self.gate = held(place(user, command, part), place(other, reached, passed));
+            [
+                "hold",
+                user,
+                command,
+                part,
+                "until",
+                other,
+                reached,
+                passed,
+                limit @ ..,
+            ] => {
+                let (hold, until) = (place(user, command, part), place(other, reached, passed));
+                self.gate = HeldGate::new(hold, until, turns(limit));
             }
             _ => return Ok(false),
         }
         Ok(true)
+    }
+
+    // Puts the files of a case `files: NAME`.
+    fn put_named(&mut self, alloc: Global, texts: &Texts, name: &str) -> Result<bool, AllocError> {
+        let line = format!(in alloc; "+{name}")?;
+        let Some(lines) = texts.text_of(alloc, &line)? else {
+            return Ok(false);
+        };
+        let lines = std::str::from_utf8(&lines).unwrap_or("");
+        match lines.strip_prefix("file ") {
+            Some(files) => self.put_files(alloc, texts, files),
+            None => Ok(false),
+        }
     }
 
     // Puts files, of which each is its name and its lines.
@@ -78,12 +106,31 @@ impl Run {
         }
         Ok(true)
     }
+
+    /// Leaves of a file its first bytes, so many, and says whether it has so many.
+    pub fn cut(&mut self, alloc: Global, name: &str, length: usize) -> Result<bool, AllocError> {
+        let pairs = &self.files.pairs;
+        let Some((_name, bytes)) = pairs
+            .iter()
+            .find(|pair| pair.0.as_slice() == name.as_bytes())
+        else {
+            return Ok(false);
+        };
+        if bytes.len() < length {
+            return Ok(false);
+        }
+        let beginning = Vec::from_slice(alloc, &bytes[..length])?;
+        self.files.put(name, &beginning)?;
+        Ok(true)
+    }
 }
 
-// A gate that holds whoever comes to the first place until somebody has passed the second. Users count from 1, so
-// nobody comes to a place of user 0.
-fn held(hold: (u32, u32, u32), until: (u32, u32, u32)) -> HeldGate {
-    HeldGate::new(hold, until, TURNS)
+// How long a user is held: `for 1000`, or nothing.
+fn turns(limit: &[&str]) -> u64 {
+    match limit {
+        ["for", turns] => number(turns),
+        _ => TURNS,
+    }
 }
 
 fn place(user: &str, command: &str, part: &str) -> (u32, u32, u32) {

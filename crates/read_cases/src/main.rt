@@ -1,0 +1,91 @@
+//! Cases of reading: a snapshot, another one that shares what it keeps, and plain evaluation of all cells give each
+//! cell the same value. `stdin` holds the cases and `stdout` what must come; a case costs its run alone, and no proof.
+//!
+//! A case is a heading, its files, and an empty line:
+//!
+//! ```text
+//! read: a product of two cells                       read: TITLE
+//! file model                                         the model text, of the lines that follow
+//! |MODEL 1;                                          a line, as those of [`case_lines::spell`] are
+//! file rules                                         the rules of the first cube; `file rules 2` the others'
+//! |['Sales'] = N: ['Units'] * ['Price'];
+//! file user                                          PUT and GET commands
+//! |GET 'Plan' ('Actual', 'Q1', 'Sales');
+//! ```
+//!
+//! The program writes each case again, and behind it the answer, each line of it behind `> `: for each command whether
+//! its number is stored, or the value that the snapshot reads; and last how many cells there are, where every way of
+//! reading gives each of them the same value, or else the first cell that is read otherwise. Lines that begin with `#`
+//! head a section.
+#![tactic(auto)]
+
+mod compared;
+mod models;
+
+use crate::compared::compared;
+use crate::models::{file, snapshot_of};
+use case_lines::write_answer;
+use cell_reader::Snapshot;
+use cube_fixed::print;
+use rule_model::{cell_of, is_input};
+use std::alloc::{AllocError, Global};
+use std::io;
+use std::io::Write;
+use user_text::UserBody;
+
+fn main(rt: HostRuntime) -> io::Result<()> {
+    let cases = io::read_to_string(rt.alloc(), rt.reader())?;
+    let mut written = Vec::new(rt.alloc());
+    for case in cases.trim_end_matches('\n').split("\n\n") {
+        written.extend_from_slice(case.as_bytes())?;
+        written.push(b'\n')?;
+        if !case.starts_with('#') {
+            write_answer(&mut written, &answer_to(rt.alloc(), case)?)?;
+        }
+        written.push(b'\n')?;
+    }
+    io::writer(&rt).write_all(&written)
+}
+
+// What is told of the commands of a case, and of reading all cells after them.
+fn answer_to(alloc: Global, case: &str) -> Result<Vec<u8>, AllocError> {
+    let Some(mut snapshot) = snapshot_of(alloc, case)? else {
+        return Vec::from_slice(alloc, b"the model is refused");
+    };
+    let mut told = Vec::new(alloc);
+    let Ok(commands) = user_text::parse(alloc, &file(alloc, case, "user")?, 0) else {
+        return Vec::from_slice(alloc, b"the commands are refused");
+    };
+    for command in &commands {
+        snapshot = after(alloc, snapshot, &command.body, &mut told)?;
+        told.push(b'\n')?;
+    }
+    compared(alloc, &mut snapshot, &mut told)?;
+    Ok(told)
+}
+
+// The snapshot after a command, and what is told of it.
+fn after(
+    alloc: Global,
+    mut snapshot: Snapshot,
+    command: &UserBody,
+    told: &mut Vec<u8>,
+) -> Result<Snapshot, AllocError> {
+    if let UserBody::Get(at) = command
+        && let Some(cell) = cell_of(snapshot.model(), &at.cube, at.elements.as_slice())
+    {
+        print(alloc, snapshot.value_at(alloc, cell)?, told)?;
+        return Ok(snapshot);
+    }
+    if let UserBody::Put(at, number) = command
+        && let Some(cell) = cell_of(snapshot.model(), &at.cube, at.elements.as_slice())
+        && snapshot.model().space().is_leaf(cell)
+        && is_input(snapshot.model(), cell)
+        && let Ok(next) = snapshot.next(alloc, &[(cell, *number)])
+    {
+        told.extend_from_slice(b"stored")?;
+        return Ok(next);
+    }
+    told.extend_from_slice(b"refused")?;
+    Ok(snapshot)
+}

@@ -1,0 +1,96 @@
+use crate::memory::MemoryCells;
+use crate::scene::Scene;
+use case_lines::write_answer;
+use cube_fixed::{Value, print};
+use lists::ListOf;
+use script_parse::parse;
+use script_run::{Ran, Script, run};
+use std::alloc::{AllocError, Global};
+
+/// The cases, each with its answer behind it.
+pub fn answered(alloc: Global, cases: &str) -> Result<Vec<u8>, AllocError> {
+    let mut out = Vec::new(alloc);
+    for case in cases.split("\n\n") {
+        let case = case.trim_matches('\n');
+        out.extend_from_slice(case.as_bytes())?;
+        out.push(b'\n')?;
+        if !case.starts_with('#') {
+            answer_case(alloc, case, &mut out)?;
+        }
+        out.push(b'\n')?;
+    }
+    Ok(out)
+}
+
+fn answer_case(alloc: Global, case: &str, out: &mut Vec<u8>) -> Result<(), AllocError> {
+    let (_heading, lines) = case.split_once('\n').unwrap_or((case, ""));
+    let mut scene = Scene::new(alloc);
+    for line in lines.lines() {
+        if !scene.add(alloc, line)? {
+            return write_answer(out, b"a line of this case says nothing");
+        }
+    }
+    answer_scene(alloc, scene, out)
+}
+
+fn answer_scene(alloc: Global, scene: Scene, out: &mut Vec<u8>) -> Result<(), AllocError> {
+    match parse(alloc, &scene.script) {
+        Ok(script) => answer_load(alloc, &script, scene, out),
+        Err(fault) => {
+            let line = format!(in alloc; "{fault:?}")?;
+            write_answer(out, line.as_bytes())
+        }
+    }
+}
+
+fn answer_load(
+    alloc: Global,
+    script: &Script,
+    scene: Scene,
+    out: &mut Vec<u8>,
+) -> Result<(), AllocError> {
+    let mut cells = MemoryCells {
+        cells: ListOf::new(scene.cells),
+        writes: Vec::new(alloc),
+        stored: scene.stored,
+        fed: scene.fed,
+    };
+    let ran = run(alloc, script, &scene.rows, &scene.params, &mut cells)?;
+    let line = ran_text(alloc, &ran)?;
+    write_answer(out, line.as_bytes())?;
+    for (cell, number) in &cells.writes {
+        let line = write_text(alloc, &cells, *cell, Value::Num(*number))?;
+        write_answer(out, &line)?;
+    }
+    Ok(())
+}
+
+fn ran_text(alloc: Global, ran: &Ran) -> Result<String, AllocError> {
+    match ran {
+        Ran::Done => String::from_str(alloc, "done"),
+        Ran::Rejected {
+            section,
+            row,
+            statement,
+            reason,
+        } => format!(in alloc;
+            "rejected {section:?} record {row} statement {statement} {reason:?}"
+        ),
+    }
+}
+
+/// A write: the names of the cell, and the number.
+fn write_text(
+    alloc: Global,
+    cells: &MemoryCells,
+    cell: u64,
+    number: Value,
+) -> Result<Vec<u8>, AllocError> {
+    let mut line = Vec::new(alloc);
+    if let Some(listed) = cells.cells.as_slice().get(cell as usize) {
+        line.extend_from_slice(listed.names.as_slice())?;
+        line.push(b' ')?;
+    }
+    print(alloc, number, &mut line)?;
+    Ok(line)
+}

@@ -1,0 +1,170 @@
+ghost use Rattle.std.specs.Prelude.{◌≡◌, position, slice_get, bytes_eq, IfOk, OnOk};
+ghost use Rattle.script_values.specs.Cells.{refusal, writes_after};
+ghost use Rattle.script_cases.specs.Memory as memory;
+
+use crate::listed::{Kind, Listed};
+use cube_fixed::{Money, Value};
+use lists::ListOf;
+use script_run::{Reason, Text, WorkCells};
+use sqlite_items::at;
+use std::alloc::{AllocError, Global};
+
+/// The cells of a case, and what a load has written into them.
+#[derive(Drop)]
+pub struct MemoryCells {
+    pub cells: ListOf<Listed>,
+    pub writes: Vec<(u64, Money)>,
+    /// How many writes may be stored.
+    pub stored: u64,
+    /// How many writes may be fed.
+    pub fed: u64,
+}
+
+/// The names of a cell with a comma between them.
+fn joined(alloc: Global, cube: &[u8], elements: &[Text<'_>]) -> Result<Vec<u8>, AllocError>
+    ensures { IfOk result (λ names. names.items ≡ memory.joined cube.now elements.now) }
+{
+    let mut names = Vec::from_slice(alloc, cube)?;
+    'each: for element in elements {
+        names.push(b',')?;
+        names.extend_from_slice(element.as_slice())?;
+    }
+    Ok(names)
+}
+
+fn last_value(cell: u64, value: Value, writes: &[(u64, Money)]) -> Value
+    ensures { result ≡ memory.last_value cell value writes.now }
+{
+    let mut last = value;
+    'each: for write in writes {
+        if write.0 == cell {
+            last = Value::Num(write.1);
+        }
+    }
+    last
+}
+
+/// What a cell has before the load.
+fn value_of(cells: &[Listed], place: usize) -> Value
+    ensures { result ≡ memory.value_of (slice_get cells.now place) }
+{
+    match at(cells, place) {
+        Some(cell) => cell.value,
+        None => Value::Over,
+    }
+}
+
+fn closed_kind(kind: Kind) -> Option<Reason>
+    ensures { result ≡ memory.closed_kind kind }
+{
+    match kind {
+        Kind::Leaf => None,
+        Kind::Total => Some(Reason::NotALeaf),
+        Kind::Ruled => Some(Reason::RuleDerived),
+    }
+}
+
+/// Why nothing may be written into a cell.
+fn closed_at(cells: &[Listed], place: usize) -> Option<Reason>
+    ensures { result ≡ memory.closed_at (slice_get cells.now place) }
+{
+    match at(cells, place) {
+        Some(cell) => closed_kind(cell.kind),
+        None => None,
+    }
+}
+
+/// Why so many writes are too many.
+fn full_with(stored: u64, fed: u64, count: u64) -> Option<Reason>
+    ensures { result ≡ memory.full_with stored fed count }
+{
+    if stored < count {
+        Some(Reason::StoreLimit(count))
+    } else if fed < count {
+        Some(Reason::FedLimit(count))
+    } else {
+        None
+    }
+}
+
+fn place_in(cells: &[Listed], names: &[u8]) -> Option<usize>
+    ensures { result ≡ position (λ cell. bytes_eq cell.names names.now) cells.now }
+{
+    cells.iter().position(|cell| cell.names.as_slice() == names)
+}
+
+/// The place of the cell of a cube and elements.
+fn cell_in(
+    alloc: Global,
+    cells: &[Listed],
+    cube: &[u8],
+    elements: &[Text<'_>],
+) -> Result<Option<usize>, AllocError>
+    ensures { IfOk result (λ cell. cell ≡ memory.cell_in cells.now cube.now elements.now) }
+{
+    let names = joined(alloc, cube, elements)?;
+    Ok(place_in(cells, &names))
+}
+
+impl MemoryCells {
+    /// Writes a number into a cell that is open, or says why it is one write too many.
+    fn write(&mut self, cell: u64, number: Money) -> Result<Option<Reason>, AllocError>
+        ensures refused { IfOk result (λ reason. reason ≡ refusal
+            (memory.with_write self.old.stored self.old.fed self.old.writes.items (cell, number))) }
+        ensures written { OnOk result (self.new.writes.items ≡ writes_after self.old.writes.items
+            (memory.with_write self.old.stored self.old.fed self.old.writes.items (cell, number))) }
+        ensures cells { self.new.cells ≡ self.old.cells }
+        ensures stored { self.new.stored ≡ self.old.stored }
+        ensures fed { self.new.fed ≡ self.old.fed }
+    {
+        match full_with(self.stored, self.fed, self.writes.len() as u64 + 1) {
+            None => {
+                self.writes.push((cell, number))?;
+                Ok(None)
+            }
+            Some(reason) => Ok(Some(reason)),
+        }
+    }
+}
+
+impl WorkCells for MemoryCells {
+    ghost use Rattle.script_cases.specs.Memory.{store_of};
+
+    ghost store = { λ cells. store_of cells.cells cells.stored cells.fed };
+
+    ghost writes = { λ cells. cells.writes.items };
+
+    fn get(
+        &mut self,
+        alloc: Global,
+        cube: &[u8],
+        elements: &[Text<'_>],
+    ) -> Result<Result<Value, Reason>, AllocError> {
+        match cell_in(alloc, self.cells.as_slice(), cube, elements)? {
+            Some(place) => {
+                let value = value_of(self.cells.as_slice(), place);
+                Ok(Ok(last_value(place as u64, value, &self.writes)))
+            }
+            None => Ok(Err(Reason::UnknownName)),
+        }
+    }
+
+    fn put(
+        &mut self,
+        alloc: Global,
+        cube: &[u8],
+        elements: &[Text<'_>],
+        value: Value,
+    ) -> Result<Option<Reason>, AllocError> {
+        let Some(place) = cell_in(alloc, self.cells.as_slice(), cube, elements)? else {
+            return Ok(Some(Reason::UnknownName));
+        };
+        if let Some(reason) = closed_at(self.cells.as_slice(), place) {
+            return Ok(Some(reason));
+        }
+        match value {
+            Value::Num(number) => self.write(place as u64, number),
+            Value::Over => Ok(Some(Reason::OverWrite)),
+        }
+    }
+}

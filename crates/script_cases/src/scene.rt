@@ -1,0 +1,104 @@
+use crate::listed::{Kind, Listed};
+use case_lines::spell;
+use cube_fixed::{Money, Value, read};
+use lists::ListOf;
+use script_run::Param;
+use std::alloc::{AllocError, Global};
+
+/// What the lines of a case say.
+#[derive(Drop)]
+pub struct Scene {
+    pub cells: Vec<Listed>,
+    pub stored: u64,
+    pub fed: u64,
+    pub params: Vec<(ListOf<u8>, Param)>,
+    pub rows: Vec<ListOf<ListOf<u8>>>,
+    pub script: Vec<u8>,
+}
+
+/// More writes than any case has.
+const ROOM: u64 = 1_000_000_000;
+
+fn list_of(alloc: Global, text: &str) -> Result<ListOf<u8>, AllocError> {
+    Ok(ListOf::new(Vec::from_slice(alloc, text.as_bytes())?))
+}
+
+fn number_of(text: &str) -> Money {
+    read(text.as_bytes()).unwrap_or(Money::ZERO)
+}
+
+fn value_of(text: &str) -> Value {
+    match read(text.as_bytes()) {
+        Ok(number) => Value::Num(number),
+        Err(_) => Value::Over,
+    }
+}
+
+impl Scene {
+    pub fn new(alloc: Global) -> Scene {
+        Scene {
+            cells: Vec::new(alloc),
+            stored: ROOM,
+            fed: ROOM,
+            params: Vec::new(alloc),
+            rows: Vec::new(alloc),
+            script: Vec::new(alloc),
+        }
+    }
+
+    /// Adds what a line says, and says whether it says anything.
+    pub fn add(&mut self, alloc: Global, line: &str) -> Result<bool, AllocError> {
+        let (word, rest) = line.split_once(' ').unwrap_or((line, ""));
+        match word {
+            "leaf" => self.add_cell(alloc, Kind::Leaf, rest),
+            "total" => self.add_cell(alloc, Kind::Total, rest),
+            "ruled" => self.add_cell(alloc, Kind::Ruled, rest),
+            "number" => self.add_number(alloc, rest),
+            "text" => self.add_text(alloc, rest),
+            "row" => self.add_row(alloc, rest),
+            "stored" => {
+                self.stored = rest.parse::<u64>().unwrap_or(ROOM);
+                Ok(true)
+            }
+            "fed" => {
+                self.fed = rest.parse::<u64>().unwrap_or(ROOM);
+                Ok(true)
+            }
+            _ => spell(line, &mut self.script),
+        }
+    }
+
+    fn add_cell(&mut self, alloc: Global, kind: Kind, rest: &str) -> Result<bool, AllocError> {
+        let (names, value) = rest.split_once(' ').unwrap_or((rest, "0"));
+        let names = list_of(alloc, names)?;
+        let value = value_of(value);
+        self.cells.push(Listed { names, kind, value })?;
+        Ok(true)
+    }
+
+    fn add_number(&mut self, alloc: Global, rest: &str) -> Result<bool, AllocError> {
+        let (word, number) = rest.split_once(' ').unwrap_or((rest, "0"));
+        let word = list_of(alloc, word)?;
+        self.params.push((word, Param::Number(number_of(number))))?;
+        Ok(true)
+    }
+
+    fn add_text(&mut self, alloc: Global, rest: &str) -> Result<bool, AllocError> {
+        let (word, text) = rest.split_once(' ').unwrap_or((rest, ""));
+        let word = list_of(alloc, word)?;
+        let text = list_of(alloc, text)?;
+        self.params.push((word, Param::Text(text)))?;
+        Ok(true)
+    }
+
+    fn add_row(&mut self, alloc: Global, rest: &str) -> Result<bool, AllocError> {
+        let mut columns = Vec::new(alloc);
+        if !rest.is_empty() {
+            for column in rest.split(',') {
+                columns.push(list_of(alloc, column)?)?;
+            }
+        }
+        self.rows.push(ListOf::new(columns))?;
+        Ok(true)
+    }
+}
