@@ -13,8 +13,8 @@ use std::marker::Brand;
 use std::sync::ledger::{Blank, Ledger};
 
 impl Snapshot {
-    /// The value of a cell by the rules. It doesn't wait. What this reader knows isn't worked out again; each evaluation
-    /// of a statement is a step.
+    /// The value of a cell by the rules. It doesn't wait. What this reader knows isn't worked out again; each
+    /// evaluation of a statement is a step.
     pub fn read<L: Ledger>(
         &mut self,
         alloc: Global,

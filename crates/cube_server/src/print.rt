@@ -2,8 +2,8 @@ ghost use Rattle.std.specs.Prelude.{◌≡◌, ◌++◌, IfOk, OnOk, length, str
 ghost use Rattle.cube_server.specs.Output.{told_line, user_text, entry_line, history_text, cause_text, place_text};
 ghost use Rattle.cube_server.specs.Output.{refused_text, unread_text, usage_text};
 
-use history::{Entry, Told};
 use file_passes::{Cause, Place, Refusal};
+use history::{Entry, Told};
 use std::alloc::{AllocError, Global};
 use user_session::{CellWrites, ReplyText};
 

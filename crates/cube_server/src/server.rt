@@ -31,12 +31,7 @@ use std::thread::Threads;
 /// Each user runs on a thread of its own and passes the gate at the parts of its commands; where a thread can't be
 /// started, users run one after another. Nothing is written before all users are done; then each user's text is one
 /// write, and the history is the last. Want of memory may take the place of any other end.
-pub fn run_cubes<
-    R: Threads + Wait + AllocGlobal + Sync,
-    F: Files,
-    S: Sink,
-    G: Gate + Sync,
->(
+pub fn run_cubes<R: Threads + Wait + AllocGlobal + Sync, F: Files, S: Sink, G: Gate + Sync>(
     rt: &R,
     words: &[String],
     files: &mut F,

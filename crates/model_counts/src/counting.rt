@@ -1,5 +1,6 @@
 ghost use Rattle.std.specs.Prelude.{◌≡◌, ◌+◌, length, IfOk};
-ghost use Rattle.model_counts.specs.Counts.{accepted_line, accepted_text, feeder_count, feeder_statements, statement_count};
+ghost use Rattle.model_counts.specs.Counts.{accepted_line, accepted_text, feeder_count, feeder_statements};
+ghost use Rattle.model_counts.specs.Counts.{statement_count};
 
 use rule_model::{Feeder, Model};
 use std::alloc::{AllocError, Global};
@@ -50,7 +51,10 @@ fn feeders(model: &Model) -> Result<u64, AllocError>
 {
     let mut count: u64 = 0;
     for cube in 0..model.space().cubes() {
-        count = plus(count, feeder_statements(model.rules(cube).feeders.as_slice()))?;
+        count = plus(
+            count,
+            feeder_statements(model.rules(cube).feeders.as_slice()),
+        )?;
     }
     Ok(count)
 }

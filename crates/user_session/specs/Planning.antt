@@ -1,5 +1,6 @@
 -- What a planner's commands do on a version of the numbers.
-use Rattle.std.specs.Prelude.{ℕ, nat_lt, ℤ, List, [], ◌∷◌, length, Option, Some, None, not, ◌++◌, codes, Result, Ok, Err}
+use Rattle.std.specs.Prelude.{ℕ, nat_lt, ℤ, List, [], ◌∷◌, length, Option, Some, None, not, ◌++◌, codes}
+use Rattle.std.specs.Prelude.{Result, Ok, Err}
 use Rattle.std.specs.Prelude.{if◌then◌else◌}
 use Rattle.std.specs.Arc.{arc_value}
 use Rattle.cube_fixed.specs.declared.value.Value.{Value}
@@ -30,7 +31,8 @@ use Rattle.user_session.specs.Replies.{fault_text, reply_text, stopped_text}
 use Rattle.user_session.specs.declared.command.PlanCommand.{PlanCommand}
 use Rattle.user_session.specs.declared.command.PlanCommand.TheVariants.{Put, Get, Load, View}
 use Rattle.user_session.specs.declared.reply.Reason.{Reason}
-use Rattle.user_session.specs.declared.reply.Reason.TheVariants.{UnknownName, NotALeaf, RuleDerived, StoreLimit, FedLimit}
+use Rattle.user_session.specs.declared.reply.Reason.TheVariants.{UnknownName, NotALeaf, RuleDerived}
+use Rattle.user_session.specs.declared.reply.Reason.TheVariants.{StoreLimit, FedLimit}
 use Rattle.user_session.specs.declared.reply.Reply.TheVariants.{Committed, Rejected, Found, Refused}
 use Rattle.user_text.specs.declared.command.CellText.{CellText}
 use Rattle.user_text.specs.declared.command.ViewText.{ViewText}

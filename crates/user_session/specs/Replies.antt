@@ -6,7 +6,8 @@ use Rattle.script_tree.specs.declared.script.Section.TheVariants as sections
 use Rattle.script_values.specs.declared.reason.Reason as scripts
 use Rattle.script_values.specs.declared.reason.Reason.TheVariants as stops
 use Rattle.user_session.specs.declared.reply.Reason.{Reason}
-use Rattle.user_session.specs.declared.reply.Reason.TheVariants.{UnknownName, NotALeaf, RuleDerived, StoreLimit, FedLimit}
+use Rattle.user_session.specs.declared.reply.Reason.TheVariants.{UnknownName, NotALeaf, RuleDerived}
+use Rattle.user_session.specs.declared.reply.Reason.TheVariants.{StoreLimit, FedLimit}
 use Rattle.user_session.specs.declared.reply.Reply.{Reply}
 use Rattle.user_session.specs.declared.reply.Reply.TheVariants.{Committed, Rejected, Found, Refused}
 use Rattle.view_query.specs.declared.fault.ViewFault.{ViewFault}
