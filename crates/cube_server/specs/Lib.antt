@@ -2,4 +2,5 @@ pub mod Output
 pub mod Status
 pub mod Sample
 pub mod Answer
+pub mod Laws
 pub mod Inside

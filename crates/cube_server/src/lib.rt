@@ -1,5 +1,5 @@
 //! The server: one call reads a model and its users' commands, runs the users, and writes what each was told and the
-//! one history.
+//! one history; or it checks a model, or runs a generated sample.
 //!
 //! Read [`run_cubes`] first, and beside it `specs/Answer.antt`, which text each end of a run allows, and
 //! `specs/Output.antt`, the bytes. What is read, in which order, and how it is judged, stands in crate `run_passes`.
@@ -8,6 +8,7 @@
 #![tactic(auto)]
 
 mod answer;
+mod laws;
 mod print;
 mod run;
 mod sample;
@@ -16,5 +17,6 @@ mod status;
 mod tell;
 mod users;
 
+pub use laws::one_user_has_one_output;
 pub use server::run_cubes;
 pub use status::Status;
