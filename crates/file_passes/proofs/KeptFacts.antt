@@ -3,7 +3,7 @@ use Rattle.std.proofs.Common.{◌≡◌, ℕ, List, [], ◌∷◌, Option, Some,
 use Rattle.std.specs.Option.{option_map}
 use Rattle.std.specs.Str.{bytes_eq}
 use Rattle.std.proofs.lemmas.Slice.Eq.{bytes_eq-Decides}
-use Rattle.file_passes.specs.Pass.{Source, Readings, bytes_of, Stop, Pass, Judgement, found, file, files, the, judged, ◌>>=◌}
+use Rattle.file_passes.specs.Pass.{Source, Readings, bytes_of, Obstacle, Pass, Judgement, found, file, files, the, judged, ◌>>=◌}
 
 -- every file that was read before was read with the same bytes since
 abbrev pub Grows : Readings → Readings → Type 0
@@ -29,7 +29,7 @@ IsKept {A} P = (old new : Readings) (a : A) → Grows old new → P.finds old a 
 pub kept-found : {A : Type 0} (a : A) → IsKept (found a)
 kept-found a old new b grows p = p
 
-pub kept-the : {A : Type 0} (Is : A → Type 0) (otherwise : Stop) → IsKept (the Is otherwise)
+pub kept-the : {A : Type 0} (Is : A → Type 0) (otherwise : Obstacle) → IsKept (the Is otherwise)
 kept-the Is otherwise old new a grows p = p
 
 pub kept-file : (name : List ℕ) → IsKept (file name)

@@ -1,10 +1,10 @@
 -- A pass comes to one thing over one list of files, and what it has found stays while more files are read.
 use Rattle.std.proofs.Common.{◌≡◌, ℕ, List, [], ◌∷◌, Some, None, inl, inr, refl, sym, ◌∙◌, ap, subst}
 use Rattle.file_passes.specs.declared.refusal.Refusal.{Refusal}
-use Rattle.file_passes.specs.Pass.{Source, Readings, Stop, NotWords, Reads, Refuses, Pass, Judgement, found, file, files, the, judged, ◌>>=◌}
+use Rattle.file_passes.specs.Pass.{Source, Readings, Obstacle, NotWords, Reads, Refuses, Pass, Judgement, found, file, files, the, judged, ◌>>=◌}
 
 -- two stops are alike: both for the words, both for the file that is to be read first, or both for a refusal
-abbrev pub IsAlike : Stop → Stop → Type 0
+abbrev pub IsAlike : Obstacle → Obstacle → Type 0
 IsAlike NotWords NotWords = Unit {0}
 IsAlike NotWords (Reads name) = ⊥
 IsAlike NotWords (Refuses refusal) = ⊥
@@ -18,13 +18,13 @@ IsAlike (Refuses refusal) (Refuses other) = Unit {0}
 -- a pass finds one thing at most, or it stops in one way
 pub record IsOne {A : Type 0} (P : Pass A) : Type 0 where
   pub one_found : (readings : Readings) (a b : A) → P.finds readings a → P.finds readings b → a ≡ b
-  pub one_stop : (readings : Readings) (s t : Stop) → P.stops readings s → P.stops readings t → IsAlike s t
-  pub not_both : (readings : Readings) (a : A) (s : Stop) → P.finds readings a → P.stops readings s → ⊥
+  pub one_stop : (readings : Readings) (s t : Obstacle) → P.stops readings s → P.stops readings t → IsAlike s t
+  pub not_both : (readings : Readings) (a : A) (s : Obstacle) → P.finds readings a → P.stops readings s → ⊥
 
 -- two passes stop in one way, and one finds nothing where the other stops
 pub record AreAlike {A : Type 0} (P Q : Pass A) : Type 0 where
-  pub one_stop : (readings : Readings) (s t : Stop) → P.stops readings s → Q.stops readings t → IsAlike s t
-  pub not_both : (readings : Readings) (a : A) (s : Stop) → P.finds readings a → Q.stops readings s → ⊥
+  pub one_stop : (readings : Readings) (s t : Obstacle) → P.stops readings s → Q.stops readings t → IsAlike s t
+  pub not_both : (readings : Readings) (a : A) (s : Obstacle) → P.finds readings a → Q.stops readings s → ⊥
 
 pub alike-one : {A : Type 0} (P : Pass A) → IsOne P → AreAlike P P
 alike-one P one = record { one_stop = one.one_stop; not_both = one.not_both }
@@ -33,13 +33,13 @@ alike-one P one = record { one_stop = one.one_stop; not_both = one.not_both }
 pub alike-found : {A : Type 0} (a b : A) → AreAlike (found a) (found b)
 alike-found a b = record { one_stop = λ readings s t p q. absurd p; not_both = λ readings x s p q. q }
 
-alike-self : (s : Stop) → IsAlike s s
+alike-self : (s : Obstacle) → IsAlike s s
 alike-self NotWords = tt
 alike-self (Reads name) = refl
 alike-self (Refuses refusal) = tt
 
 -- what is one of these is alike
-alike-of : (s t u : Stop) → s ≡ u → t ≡ u → IsAlike s t
+alike-of : (s t u : Obstacle) → s ≡ u → t ≡ u → IsAlike s t
 alike-of s t u p q = rw (p, q) (alike-self u)
 
 pub one-found : {A : Type 0} (a : A) → IsOne (found a)
@@ -65,14 +65,14 @@ one-file name = record {
   not_both = λ readings b s p q. (let e : Some b.1 ≡ None = sym p.0 ∙ q.0 in cc);
 }
 
-pub one-the : {A : Type 0} (Is : A → Type 0) (otherwise : Stop) → ((a b : A) → Is a → Is b → a ≡ b) → IsOne (the Is otherwise)
+pub one-the : {A : Type 0} (Is : A → Type 0) (otherwise : Obstacle) → ((a b : A) → Is a → Is b → a ≡ b) → IsOne (the Is otherwise)
 one-the Is otherwise one = record {
   one_found = λ readings a b p q. one a b p q;
   one_stop = λ readings s t p q. alike-of s t otherwise p.1 q.1;
   not_both = λ readings a s p q. q.0 a p;
 }
 
-two_stops : {A B : Type 0} (P : Pass A) (K : A → Pass B) → IsOne P → ((a : A) → IsOne (K a)) → (readings : Readings) (s t : Stop)
+two_stops : {A B : Type 0} (P : Pass A) (K : A → Pass B) → IsOne P → ((a : A) → IsOne (K a)) → (readings : Readings) (s t : Obstacle)
     → (P >>= K).stops readings s → (P >>= K).stops readings t → IsAlike s t
 two_stops P K one ones readings s t (inl p) (inl q) = one.one_stop readings s t p q
 two_stops P K one ones readings s t (inl p) (inr q) = absurd (one.not_both readings q.0 s q.1 p)
@@ -81,7 +81,7 @@ two_stops P K one ones readings s t (inr p) (inr q) =
     let same = one.one_found readings q.0 p.0 q.1 p.1 in
     (ones p.0).one_stop readings s t p.2 (subst (λ a. (K a).stops readings t) same q.2)
 
-found_stops : {A B : Type 0} (P : Pass A) (K : A → Pass B) → IsOne P → ((a : A) → IsOne (K a)) → (readings : Readings) (b : B) (s : Stop)
+found_stops : {A B : Type 0} (P : Pass A) (K : A → Pass B) → IsOne P → ((a : A) → IsOne (K a)) → (readings : Readings) (b : B) (s : Obstacle)
     → (P >>= K).finds readings b → (P >>= K).stops readings s → ⊥
 found_stops P K one ones readings b s p (inl q) = one.not_both readings p.0 s p.1 q
 found_stops P K one ones readings b s p (inr q) =
@@ -106,7 +106,7 @@ pub record IsOneJudgement {A : Type 0} (J : Judgement A) : Type 0 where
   pub one_thing : (a b : A) → J.stands_for a → J.stands_for b → a ≡ b
   pub not_both : (a : A) (r : Refusal) → J.stands_for a → J.refused_for r → ⊥
 
-both_refuse : (r q : Refusal) (s t : Stop) → s ≡ Refuses r → t ≡ Refuses q → IsAlike s t
+both_refuse : (r q : Refusal) (s t : Obstacle) → s ≡ Refuses r → t ≡ Refuses q → IsAlike s t
 both_refuse r q s t e f = rw (e, f) tt
 
 pub one-judged : {A : Type 0} (J : Judgement A) → IsOneJudgement J → IsOne (judged J)
@@ -126,13 +126,13 @@ one-files (name ∷ more) =
 
 module _ {A B : Type 0} (P Q : Pass A) (K L : A → Pass B) (alike : AreAlike P Q) (back : AreAlike Q P)
     (next : (readings : Readings) (a b : A) → P.finds readings a → Q.finds readings b → AreAlike (K a) (L b)) where
-  alike_stops : (readings : Readings) (s t : Stop) → (P >>= K).stops readings s → (Q >>= L).stops readings t → IsAlike s t
+  alike_stops : (readings : Readings) (s t : Obstacle) → (P >>= K).stops readings s → (Q >>= L).stops readings t → IsAlike s t
   alike_stops readings s t (inl p) (inl q) = alike.one_stop readings s t p q
   alike_stops readings s t (inl p) (inr q) = absurd (back.not_both readings q.0 s q.1 p)
   alike_stops readings s t (inr p) (inl q) = absurd (alike.not_both readings p.0 t p.1 q)
   alike_stops readings s t (inr p) (inr q) = (next readings p.0 q.0 p.1 q.1).one_stop readings s t p.2 q.2
 
-  alike_finds : (readings : Readings) (b : B) (s : Stop) → (P >>= K).finds readings b → (Q >>= L).stops readings s → ⊥
+  alike_finds : (readings : Readings) (b : B) (s : Obstacle) → (P >>= K).finds readings b → (Q >>= L).stops readings s → ⊥
   alike_finds readings b s p (inl q) = alike.not_both readings p.0 s p.1 q
   alike_finds readings b s p (inr q) = (next readings p.0 q.0 p.1 q.1).not_both readings b s p.2 q.2
 

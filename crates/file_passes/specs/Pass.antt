@@ -19,22 +19,22 @@ bytes_of readings name = option_map (λ reading. reading.1) (find (λ reading. b
 
 -- why a pass goes no further: the words aren't in the grammar, the file of this name is to be read first, or a file is
 -- refused
-pub data Stop : Type 0 where
-  NotWords : Stop
-  Reads : List ℕ → Stop
-  Refuses : Refusal → Stop
+pub data Obstacle : Type 0 where
+  NotWords : Obstacle
+  Reads : List ℕ → Obstacle
+  Refuses : Refusal → Obstacle
 
 -- a pass, by what it comes to over the files read so far: it finds what the next pass needs, or it stops
 pub record Pass (A : Type 0) : Type 1 where
   pub finds : Readings → A → Type 0
-  pub stops : Readings → Stop → Type 0
+  pub stops : Readings → Obstacle → Type 0
 
 -- nothing is left to do
 abbrev pub found : {A : Type 0} → A → Pass A
 found {A} a = record { finds = λ _ b. b ≡ a; stops = λ _ _. ⊥ }
 
 -- what is of this kind, of which there is one at most; where there is none the pass stops
-abbrev pub the : {A : Type 0} → (A → Type 0) → Stop → Pass A
+abbrev pub the : {A : Type 0} → (A → Type 0) → Obstacle → Pass A
 the {A} Is otherwise = record {
   finds = λ _ a. Is a;
   stops = λ _ stop. ((a : A) → ¬ Is a) × (stop ≡ otherwise);

@@ -15,12 +15,14 @@ pub struct LoadCells {
 }
 
 impl LoadCells {
+    /// The cells of this work, by names.
     pub fn new(work: Work) -> LoadCells
         ensures { result.work ≡ work }
     {
         LoadCells { work }
     }
 
+    /// The work, with what was written.
     pub fn into_work(self) -> Work
         ensures { result ≡ self.work }
     {
