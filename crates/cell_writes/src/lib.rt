@@ -6,15 +6,21 @@ ghost use Rattle.cell_writes.specs.Writes.{last_writes};
 
 use cube_fixed::Money;
 use std::alloc::{AllocError, Global};
-use std::collections::BTreeMap;
 
 /// For each cell that is written its last write, by the numbers of the cells. A written 0 is a write.
 pub fn last_writes(alloc: Global, writes: &[(u64, Money)]) -> Result<Vec<(u64, Money)>, AllocError>
     ensures { IfOk result (λ last. last.items ≡ last_writes writes.now) }
 {
-    let mut last = BTreeMap::new(alloc);
-    for write in writes {
-        last.insert(write.0, write.1)?;
-    }
-    last.into_iter().collect(alloc)
+    let mut last = Vec::from_slice(alloc, writes)?;
+    // A stable sort: the writes of a cell come to stand side by side, still in their order.
+    last.sort_by_key(|write| write.0)?;
+    // Each then goes over the one before it.
+    last.dedup_by(|later, earlier| {
+        let is_again = later.0 == earlier.0;
+        if is_again {
+            earlier.1 = later.1;
+        }
+        is_again
+    });
+    Ok(last)
 }

@@ -1,0 +1,174 @@
+-- The last writes of each cell, told by what is found at each cell: a stable sort by cell keeps them.
+use Rattle.std.proofs.Common.{◌≡◌, ◌≢◌, ◌∙◌, refl, sym, ap, ℕ, ◌<◌, ◌≤◌, ℤ, pos, Bool, true, false, cond, not, ◌&&◌, Option, None, Some, List, [], ◌∷◌, fold, filter, Ordering, Less, Equal, Greater, nat_cmp, eqb, arith, inl, inr}
+use Rattle.std.specs.Ordering.{is_lt, match_ordering}
+use Rattle.std.specs.List.Sorted.{IsStableByKey, ties}
+use Rattle.std.specs.BTreeMap.{insert_entry}
+use Rattle.std.proofs.lemmas.Cmp.{ranked}
+use Rattle.std.proofs.lemmas.Bool.{ne_eqb, cases_lt}
+use Rattle.std.proofs.lemmas.Bool.Decides.{nat_tests, eqb_tells}
+use Rattle.std.proofs.lemmas.List.Elements.{filter_agree}
+use Rattle.cell_writes.specs.Writes.{last_writes}
+
+-- ---- writes in the order of their cells
+
+-- each write is of a cell above this one
+abbrev AllOver : ℕ → List (ℕ × ℤ) → Type 0
+AllOver c [] = Unit {0}
+AllOver c (w ∷ ws) = (c < w.0) × AllOver c ws
+
+-- each cell is above those before it
+abbrev InOrder : List (ℕ × ℤ) → Type 0
+InOrder [] = Unit {0}
+InOrder (w ∷ ws) = AllOver w.0 ws × InOrder ws
+
+over-lower : (c d : ℕ) (ws : List (ℕ × ℤ)) → c ≤ d → AllOver d ws → AllOver c ws
+over-lower c d [] le all = tt
+over-lower c d (w ∷ ws) le all = (omega (arith, le, all.0), over-lower c d ws le all.1)
+
+abbrev put_in : Ordering → ℕ → ℤ → ℕ × ℤ → List (ℕ × ℤ) → List (ℕ × ℤ)
+put_in o c n w ws = match_ordering o ((c, n) ∷ w ∷ ws) ((w.0, n) ∷ ws) (w ∷ insert_entry nat_cmp ws c n)
+
+over-inserted : (a c : ℕ) (n : ℤ) (ws : List (ℕ × ℤ)) → a < c → AllOver a ws → AllOver a (insert_entry nat_cmp ws c n)
+over-inserted a c n [] less all = (less, tt)
+over-inserted a c n (w ∷ ws) less all = by (nat_cmp c w.0) (over-inserted a c n ws less all.1)
+  where
+    by : (o : Ordering) → AllOver a (insert_entry nat_cmp ws c n) → AllOver a (put_in o c n w ws)
+    by Less later = (less, all)
+    by Equal later = all
+    by Greater later = (all.0, later)
+
+in_order-inserted : (c : ℕ) (n : ℤ) (ws : List (ℕ × ℤ)) → InOrder ws → InOrder (insert_entry nat_cmp ws c n)
+in_order-inserted c n [] order = (tt, tt)
+in_order-inserted c n (w ∷ ws) order = by (nat_cmp c w.0) refl (in_order-inserted c n ws order.1)
+  where
+    by : (o : Ordering) → o ≡ nat_cmp c w.0 → InOrder (insert_entry nat_cmp ws c n) → InOrder (put_in o c n w ws)
+    by Less is later =
+        let less : c < w.0 = ranked c w.0 Less is in
+        ((less, over-lower c w.0 ws (omega (arith, less)) order.0), order)
+    by Equal is later = order
+    by Greater is later =
+        let less : w.0 < c = ranked c w.0 Greater is in
+        (over-inserted w.0 c n ws less order.0, later)
+
+-- ---- what is found at a cell
+
+abbrev found : List (ℕ × ℤ) → ℕ → Option ℤ
+found [] k = None
+found (w ∷ ws) k = cond (eqb w.0 k) (Some w.1) (found ws k)
+
+found-head : (w : ℕ × ℤ) (ws : List (ℕ × ℤ)) (k : ℕ) → w.0 ≡ k → found (w ∷ ws) k ≡ Some w.1
+found-head w ws k same = let here : eqb w.0 k ≡ true = grind (arith, nat_tests, same) in rw here refl
+
+found-later : (w : ℕ × ℤ) (ws : List (ℕ × ℤ)) (k : ℕ) → w.0 ≢ k → found (w ∷ ws) k ≡ found ws k
+found-later w ws k other = let here : eqb w.0 k ≡ false = ne_eqb w.0 k other in rw here refl
+
+found-over : (c k : ℕ) (ws : List (ℕ × ℤ)) → k ≤ c → AllOver c ws → found ws k ≡ None
+found-over c k [] le over = refl
+found-over c k (w ∷ ws) le over =
+    let more = over.0 in
+    found-later w ws k (λ same. omega arith) ∙ found-over c k ws le over.1
+
+found-inserted : (c : ℕ) (n : ℤ) (ws : List (ℕ × ℤ)) (k : ℕ) → found (insert_entry nat_cmp ws c n) k ≡ cond (eqb c k) (Some n) (found ws k)
+found-inserted c n [] k = refl
+found-inserted c n (w ∷ ws) k = by (nat_cmp c w.0) refl (found-inserted c n ws k)
+  where
+    apart : (a b : Bool) (before : Option ℤ) → (a ≡ true → b ≡ false) → cond a (Some w.1) (cond b (Some n) before) ≡ cond b (Some n) (cond a (Some w.1) before)
+    apart false b before never = refl
+    apart true b before never = rw (never refl) refl
+
+    over : (a b : Bool) (before : Option ℤ) → a ≡ b → cond a (Some n) before ≡ cond b (Some n) (cond a (Some w.1) before)
+    over true b before same = rw (sym same) refl
+    over false b before same = rw (sym same) refl
+
+    by : (o : Ordering) → o ≡ nat_cmp c w.0 → found (insert_entry nat_cmp ws c n) k ≡ cond (eqb c k) (Some n) (found ws k) → found (put_in o c n w ws) k ≡ cond (eqb c k) (Some n) (found (w ∷ ws) k)
+    by Less is later = refl
+    by Equal is later =
+        let same : c ≡ w.0 = ranked c w.0 Equal is in
+        over (eqb w.0 k) (eqb c k) (found ws k) (ap (λ (j : ℕ). eqb j k) (sym same))
+    by Greater is later =
+        let less : w.0 < c = ranked c w.0 Greater is in
+        ap (λ (rest : Option ℤ). cond (eqb w.0 k) (Some w.1) rest) later
+        ∙ apart (eqb w.0 k) (eqb c k) (found ws k) (λ here. grind (arith, nat_tests, less, here))
+
+-- writes in order are told apart by what is found at each cell
+none_some : (n : ℤ) → None ≡ Some n → ⊥
+none_some n same = absurd (cc)
+
+some_same : (m n : ℤ) → Some m ≡ Some n → m ≡ n
+some_same m n same = cc
+
+same_found : (us vs : List (ℕ × ℤ)) → InOrder us → InOrder vs → ((k : ℕ) → found us k ≡ found vs k) → us ≡ vs
+same_found [] [] order_u order_v same = refl
+same_found [] (v ∷ vs) order_u order_v same = absurd (none_some v.1 (same v.0 ∙ found-head v vs v.0 refl))
+same_found (u ∷ us) [] order_u order_v same = absurd (none_some u.1 (sym (same u.0) ∙ found-head u us u.0 refl))
+same_found (u ∷ us) (v ∷ vs) order_u order_v same =
+    elim (cases_lt u.0 v.0) [
+      | inl less ↦ absurd (none_some u.1 (sym (found-over u.0 u.0 (v ∷ vs) (omega arith) (less, over-lower u.0 v.0 vs (omega (arith, less)) order_v.0)) ∙ (sym (same u.0) ∙ found-head u us u.0 refl)))
+      | inr le ↦ elim (cases_lt v.0 u.0) [
+        | inl less ↦ absurd (none_some v.1 (sym (found-over v.0 v.0 (u ∷ us) (omega arith) (less, over-lower v.0 u.0 us (omega (arith, less)) order_u.0)) ∙ (same v.0 ∙ found-head v vs v.0 refl)))
+        | inr ge ↦ together (omega (arith, le, ge)) (λ rest. same_found us vs order_u.1 order_v.1 rest)
+      ]
+    ]
+  where
+    together : u.0 ≡ v.0 → (((k : ℕ) → found us k ≡ found vs k) → us ≡ vs) → u ∷ us ≡ v ∷ vs
+    together here rest =
+        let values : u.1 ≡ v.1 = some_same u.1 v.1 (sym (found-head u us u.0 refl) ∙ (same u.0 ∙ found-head v vs u.0 (sym here))) in
+        let tails : us ≡ vs = rest (λ k. elim (eqb_tells u.0 k) [
+          | inl t ↦ found-over u.0 k us (omega (arith, t.1)) order_u.0 ∙ sym (found-over v.0 k vs (omega (arith, t.1, here)) order_v.0)
+          | inr t ↦ sym (found-later u us k t.1) ∙ (same k ∙ found-later v vs k (λ e. t.1 (here ∙ e)))
+        ]) in
+        λ i. (here i, values i) ∷ tails i
+
+-- ---- what is found after writes
+
+abbrev pub put_all : List (ℕ × ℤ) → List (ℕ × ℤ) → List (ℕ × ℤ)
+put_all last writes = fold (λ before write. insert_entry nat_cmp before write.0 write.1) last writes
+
+in_order-put : (last writes : List (ℕ × ℤ)) → InOrder last → InOrder (put_all last writes)
+in_order-put last [] order = order
+in_order-put last (w ∷ writes) order = in_order-put (insert_entry nat_cmp last w.0 w.1) writes (in_order-inserted w.0 w.1 last order)
+
+-- the last number that is written at a cell, where `before` stood there before
+abbrev latest : Option ℤ → List (ℕ × ℤ) → ℕ → Option ℤ
+latest before writes k = fold (λ now write. cond (eqb write.0 k) (Some write.1) now) before writes
+
+found-put : (last writes : List (ℕ × ℤ)) (k : ℕ) → found (put_all last writes) k ≡ latest (found last k) writes k
+found-put last [] k = refl
+found-put last (w ∷ writes) k =
+    found-put (insert_entry nat_cmp last w.0 w.1) writes k
+    ∙ ap (λ (now : Option ℤ). latest now writes k) (found-inserted w.0 w.1 last k)
+
+-- ---- only the writes of the cell count
+
+abbrev of_cell : List (ℕ × ℤ) → ℕ → List (ℕ × ℤ)
+of_cell writes k = filter (λ write. eqb write.0 k) writes
+
+latest-part : (b : Bool) (w : ℕ × ℤ) (ws : List (ℕ × ℤ)) (before : Option ℤ) (k : ℕ) → eqb w.0 k ≡ b → latest (cond b (Some w.1) before) ws k ≡ latest before (cond b (w ∷ ws) ws) k
+latest-part true w ws before k same = ap (λ (b : Bool). latest (cond b (Some w.1) before) ws k) (sym same)
+latest-part false w ws before k same = refl
+
+latest-of_cell : (before : Option ℤ) (writes : List (ℕ × ℤ)) (k : ℕ) → latest before writes k ≡ latest before (of_cell writes k) k
+latest-of_cell before [] k = refl
+latest-of_cell before (w ∷ writes) k =
+    latest-of_cell (cond (eqb w.0 k) (Some w.1) before) writes k
+    ∙ latest-part (eqb w.0 k) w (of_cell writes k) before k refl
+
+abbrev cell_below : ℕ × ℤ → ℕ × ℤ → Bool
+cell_below a b = is_lt (nat_cmp a.0 b.0)
+
+tie : (k m : ℕ) → eqb m k ≡ (not (is_lt (nat_cmp k m)) && not (is_lt (nat_cmp m k)))
+tie k m = grind (arith, nat_tests)
+
+of_cell-ties : (writes : List (ℕ × ℤ)) (k : ℕ) → of_cell writes k ≡ filter (ties cell_below (k, pos 0)) writes
+of_cell-ties writes k = filter_agree (λ write. eqb write.0 k) (ties cell_below (k, pos 0)) (λ write. tie k write.0) writes
+
+-- a stable sort by cell keeps the last writes
+pub last_writes-sorted : (writes sorted : List (ℕ × ℤ)) → IsStableByKey (λ (write : ℕ × ℤ). write.0) nat_cmp writes sorted → last_writes sorted ≡ last_writes writes
+last_writes-sorted writes sorted stable =
+    same_found (last_writes sorted) (last_writes writes) (in_order-put [] sorted tt) (in_order-put [] writes tt) (λ k.
+    let same : of_cell sorted k ≡ of_cell writes k = of_cell-ties sorted k ∙ (stable (k, pos 0) ∙ sym (of_cell-ties writes k)) in
+    found-put [] sorted k
+    ∙ (latest-of_cell None sorted k
+    ∙ (ap (λ (ws : List (ℕ × ℤ)). latest None ws k) same
+    ∙ (sym (latest-of_cell None writes k)
+    ∙ sym (found-put [] writes k)))))
