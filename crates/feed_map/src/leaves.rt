@@ -1,7 +1,7 @@
 ghost use Rattle.std.specs.Prelude.{◌≡◌, ◌+◌, ◌<◌, ◌≤◌, false, Some, IfSome, IfErr, OnOk, ◌∷◌, length, take, drop};
 ghost use Rattle.std.specs.Prelude.{slice_get, Contains};
 ghost use Rattle.dim_weights.specs.Table.{IsWeightsOf};
-ghost use Rattle.cube_space.specs.Layout.{axes_of, dims_of};
+ghost use Rattle.cube_space.specs.Layout.{axes_of, dims_of, most_dimensions};
 ghost use Rattle.cube_space.specs.Cells.{IsCell, cube_of, elements_of, is_leaf_cell, cell_number};
 ghost use Rattle.rule_laws.specs.Feeding.{leaves_of};
 ghost use Rattle.rule_model.specs.System.{system_of};
@@ -119,7 +119,7 @@ fn add_choice(
 fn rank_of(model: &Model, cube: u32) -> usize
     requires { cube < length model.now.space.cubes }
     ensures rank { result ≡ length (dims_of model.now.space cube) }
-    ensures few { length (dims_of model.now.space cube) ≤ 16 }
+    ensures few { length (dims_of model.now.space cube) ≤ most_dimensions }
 {
     let space = model.space();
     space.shape(cube).dims.as_slice().len()

@@ -1,6 +1,6 @@
 ghost use Rattle.std.specs.Prelude.{◌≡◌, ◌<◌, ◌≤◌, true, IsTrue, IsFalse, Some, None, IfSome, unsigned_abs};
 ghost use Rattle.std.specs.Prelude.{length, map, take, drop, All};
-ghost use Rattle.cube_space.specs.Layout.{axes_of, sizes_of};
+ghost use Rattle.cube_space.specs.Layout.{axes_of, sizes_of, most_dimensions};
 ghost use Rattle.cube_space.specs.Cells.{IsCell};
 ghost use Rattle.cube_space.specs.Radix.{product, are_digits};
 ghost use Rattle.rule_model.specs.Weights.{weight, coef_product, greatest_coef};
@@ -34,7 +34,7 @@ pub fn cell_of(model: &Model, cube: &Name, names: &[Name]) -> Option<u64>
 // no such elements.
 fn find_elements(space: &Space, dims: &[u32], names: &[Name], at: &mut [u32; 16]) -> bool
     requires dims { All (λ dim. dim < length space.now.dimensions) dims.now }
-    requires room { length dims.now ≤ 16 }
+    requires room { length dims.now ≤ most_dimensions }
     ensures found { IsTrue result →
         elements_named (axes_of space.now.dimensions dims.now) names.now ≡ Some (take (length dims.now) at.new) }
     ensures missing { IsFalse result → elements_named (axes_of space.now.dimensions dims.now) names.now ≡ None }

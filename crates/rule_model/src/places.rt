@@ -1,5 +1,6 @@
 ghost use Rattle.std.specs.Prelude.{◌≡◌, ◌≤◌, take};
 ghost use Rattle.cube_space.specs.Cells.{IsCell, cube_of, elements_of};
+ghost use Rattle.cube_space.specs.Layout.{most_dimensions};
 
 use crate::model::Model;
 
@@ -7,7 +8,7 @@ use crate::model::Model;
 pub fn place_of(model: &Model, cell: u64, at: &mut [u32; 16]) -> (u32, usize)
     requires { IsCell model.now.space cell }
     ensures cube { result.0 ≡ cube_of model.now.space cell }
-    ensures few { result.1 ≤ 16 }
+    ensures few { result.1 ≤ most_dimensions }
     ensures elements { take result.1 at.new ≡ elements_of model.now.space cell }
 {
     let space = model.space();
