@@ -10,7 +10,7 @@ ghost use Rattle.feed_map.specs.Private.Leaves.{candidates, candidate, leaf_at, 
 
 use crate::fault::FedFault;
 use crate::growth::Growth;
-use cube_space::Space;
+use cube_space::{MAX_DIMENSIONS, Space};
 use dim_core::Dimension;
 use dim_weights::Weights;
 use rule_model::{Model, place_of};
@@ -24,7 +24,7 @@ pub fn add_leaves_of(model: &Model, cell: u64, growth: &mut Growth) -> Result<()
     if model.space().is_leaf(cell) {
         return growth.add(cell);
     }
-    let mut roots = [0u32; 16];
+    let mut roots = [0u32; MAX_DIMENSIONS];
     let (cube, len) = place_of(model, cell, &mut roots);
     add_below(model, cell, cube, &roots[..len], growth)
 }
@@ -44,7 +44,7 @@ fn add_below(
     ensures gains { OnOk result (Gains (Contains (leaves_of (system_of model.now) cell)) growth.old growth.new) }
     ensures stops { IfErr result (StopsBy (Contains (leaves_of (system_of model.now) cell)) growth.old growth.new) }
 {
-    let mut at = [0u32; 16];
+    let mut at = [0u32; MAX_DIMENSIONS];
     add_product(model, cube, elements, 0, &mut at, growth)
 }
 
@@ -56,7 +56,7 @@ pub fn add_product(
     cube: u32,
     roots: &[u32],
     place: usize,
-    at: &mut [u32; 16],
+    at: &mut [u32; MAX_DIMENSIONS],
     growth: &mut Growth,
 ) -> Result<(), FedFault>
     requires cube { cube < length model.now.space.cubes }
@@ -91,7 +91,7 @@ fn add_choice(
     roots: &[u32],
     place: usize,
     leaf: Option<u32>,
-    at: &mut [u32; 16],
+    at: &mut [u32; MAX_DIMENSIONS],
     growth: &mut Growth,
 ) -> Result<(), FedFault>
     requires cube { cube < length model.now.space.cubes }

@@ -8,7 +8,7 @@ ghost use Rattle.rule_model.specs.Order.{cell_level, level_count};
 ghost use Rattle.rule_dense.specs.Private.Depths.{most_levels};
 
 use crate::place::place_of;
-use cube_space::Space;
+use cube_space::{MAX_DIMENSIONS, Space};
 use dim_core::Dimension;
 
 /// The level of a cell: the levels of its elements together.
@@ -18,7 +18,7 @@ pub fn cell_level(space: &Space, cell: u64) -> u64
     ensures level { result ≡ cell_level space.now cell }
     ensures most { result ≤ most_levels }
 {
-    let mut at = [0u32; 16];
+    let mut at = [0u32; MAX_DIMENSIONS];
     let (_, dims) = place_of(space, cell, &mut at);
     levels_of(space, dims, &at[..dims.len()])
 }

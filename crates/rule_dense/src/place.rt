@@ -3,10 +3,10 @@ ghost use Rattle.cube_space.specs.Cells.{IsCell, IsSpace, cube_of, elements_of};
 ghost use Rattle.cube_space.specs.Layout.{axes, axes_of, sizes_of, most_dimensions};
 ghost use Rattle.cube_space.specs.Radix.{are_digits};
 
-use cube_space::Space;
+use cube_space::{MAX_DIMENSIONS, Space};
 
 /// The cube of a cell and the numbers of its dimensions. The cell's elements are put into the first places of `at`.
-pub fn place_of<'a>(space: &'a Space, cell: u64, at: &mut [u32; 16]) -> (u32, &'a [u32])
+pub fn place_of<'a>(space: &'a Space, cell: u64, at: &mut [u32; MAX_DIMENSIONS]) -> (u32, &'a [u32])
     requires { IsCell space.now cell }
     ensures cube { result.0 ≡ cube_of space.now cell }
     ensures there { result.0 < length space.now.cubes }

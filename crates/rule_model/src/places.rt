@@ -3,9 +3,10 @@ ghost use Rattle.cube_space.specs.Cells.{IsCell, cube_of, elements_of};
 ghost use Rattle.cube_space.specs.Layout.{most_dimensions};
 
 use crate::model::Model;
+use cube_space::MAX_DIMENSIONS;
 
 /// The cube of a cell, and how many dimensions it has. The cell's elements are put into the first places of `at`.
-pub fn place_of(model: &Model, cell: u64, at: &mut [u32; 16]) -> (u32, usize)
+pub fn place_of(model: &Model, cell: u64, at: &mut [u32; MAX_DIMENSIONS]) -> (u32, usize)
     requires { IsCell model.now.space cell }
     ensures cube { result.0 ≡ cube_of model.now.space cell }
     ensures few { result.1 ≤ most_dimensions }
