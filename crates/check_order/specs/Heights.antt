@@ -3,11 +3,7 @@ use Rattle.std.specs.Prelude.{ℕ, ◌+◌, nat_lt, Option, List, map, take}
 use Rattle.std.specs.List.{range_with_len, find}
 use Rattle.cube_space.specs.Radix.{product}
 use Rattle.rule_model.specs.BoundModel.{BoundModel}
-use Rattle.rule_model.specs.Order.{most_positions, position_sizes}
-
--- the greatest height that an order may have
-abbrev pub greatest_height : ℕ
-greatest_height = 65536
+use Rattle.rule_model.specs.Order.{greatest_height, most_positions, position_sizes}
 
 -- the height up to each position: the product of the sizes of the positions up to it
 abbrev pub heights : List ℕ → List ℕ

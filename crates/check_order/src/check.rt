@@ -2,8 +2,7 @@ ghost use Rattle.std.specs.Prelude.{◌≡◌, ◌≤◌, Some, None, IfErr, OnE
 ghost use Rattle.cube_space.specs.Radix.{product};
 ghost use Rattle.rule_laws.specs.OrderByPlace.{IsOrderedByPlace};
 ghost use Rattle.rule_model.specs.System.{system_of, positions_of};
-ghost use Rattle.rule_model.specs.Order.{position_sizes};
-ghost use Rattle.check_order.specs.Heights.{greatest_height};
+ghost use Rattle.rule_model.specs.Order.{greatest_height, position_sizes};
 ghost use Rattle.check_order.specs.Verdict.{order_fault};
 
 use crate::fault::OrderFault;

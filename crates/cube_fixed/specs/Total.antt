@@ -1,9 +1,13 @@
 -- A weighted sum that is exact to its end.
-use Rattle.std.specs.Prelude.{ℕ, ◌+◌, ℤ, pos, ◌+ℤ◌, ◌*ℤ◌, Bool, false, not, ◌||◌, if◌then◌else◌}
+use Rattle.std.specs.Prelude.{ℕ, ◌+◌, ◌^◌, ℤ, pos, ◌+ℤ◌, ◌*ℤ◌, Bool, false, not, ◌||◌, if◌then◌else◌}
 use Rattle.std.specs.Ordering.{int_eq}
 use Rattle.cube_fixed.specs.declared.value.Value.{Value}
 use Rattle.cube_fixed.specs.declared.value.Value.TheVariants.{Num, Over}
 use Rattle.cube_fixed.specs.Arithmetic.{fit}
+
+-- how far the coefficient of a term may be from 0
+abbrev pub coef_limit : ℕ
+coef_limit = 10 ^ 9
 
 -- the terms added so far: their exact sum in millionths, whether Over is among them, and how many they are
 pub record Total : Type 0 where

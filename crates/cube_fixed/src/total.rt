@@ -1,5 +1,5 @@
 ghost use Rattle.std.specs.Prelude.{◌≡◌, ◌*◌, ◌^◌, ◌<◌, ◌≤◌, unsigned_abs};
-ghost use Rattle.cube_fixed.specs.Total.{no_terms, term_of, over_enters, with_term, value_of};
+ghost use Rattle.cube_fixed.specs.Total.{coef_limit, no_terms, term_of, over_enters, with_term, value_of};
 ghost use Rattle.cube_fixed.specs.Range.{limit};
 
 use crate::rounding::{exact_product, fitted};
@@ -17,13 +17,13 @@ pub struct Sum {
 impl Model for Sum {
     ghost use Rattle.std.specs.Prelude.{◌*◌, ◌^◌, ◌≤◌, unsigned_abs};
     ghost use Rattle.cube_fixed.specs.Range.{limit};
-    ghost use Rattle.cube_fixed.specs.Total.{Total};
+    ghost use Rattle.cube_fixed.specs.Total.{Total, coef_limit};
 
     ghost Value = { Total };
 
     ghost view = { λ s. record { exact = s.exact; over = s.over; terms = s.terms } };
 
-    ghost invariant = { λ s. (unsigned_abs s.exact ≤ s.terms * (10 ^ 9 * limit)) × (s.terms ≤ 2 ^ 32) };
+    ghost invariant = { λ s. (unsigned_abs s.exact ≤ s.terms * (coef_limit * limit)) × (s.terms ≤ 2 ^ 32) };
 }
 
 impl Sum {
@@ -41,7 +41,7 @@ impl Sum {
     /// Adds `coef * v`. With the coefficient 0 it adds nothing, also for `Over`; with another one an `Over` makes
     /// the sum `Over`.
     pub fn add(&mut self, coef: i64, v: Value)
-        requires size { unsigned_abs coef ≤ 10 ^ 9 }
+        requires size { unsigned_abs coef ≤ coef_limit }
         requires room { self.old.terms < 2 ^ 32 }
         ensures { self.new ≡ with_term self.old coef v }
     {
@@ -64,9 +64,9 @@ impl Sum {
 
 /// What a term adds to the exact sum.
 fn exact_term(coef: i64, v: Value) -> i128
-    requires { unsigned_abs coef ≤ 10 ^ 9 }
+    requires { unsigned_abs coef ≤ coef_limit }
     ensures value { result ≡ term_of coef v }
-    ensures size { unsigned_abs result ≤ 10 ^ 9 * limit }
+    ensures size { unsigned_abs result ≤ coef_limit * limit }
 {
     match v {
         Value::Num(number) => exact_product(coef, number.millionths()),

@@ -2,7 +2,7 @@ ghost use Rattle.std.specs.Prelude.{◌≡◌, ◌≤◌, ℕ, List, [], ◌∷�
 ghost use Rattle.std.specs.Prelude.{None, decimal};
 ghost use Rattle.std.specs.List.{list_all};
 ghost use Rattle.cube_lex.specs.Bytes.{is_plain};
-ghost use Rattle.cube_lex.specs.Parts.{IsWord, IsNumber, is_sign};
+ghost use Rattle.cube_lex.specs.Parts.{IsWord, IsNumber, is_sign, token_limit};
 ghost use Rattle.cube_lex.specs.Quoted.{quoted};
 ghost use Rattle.cube_lex.specs.Lexed.{Lexed};
 ghost use Rattle.cube_lex.specs.Reading.{IsReading, text_limit};
@@ -31,7 +31,7 @@ fn write_spaced(out: &mut Vec<u8>, piece: &[u8]) -> Result<(), AllocError>
 /// Writes a word, as `DIM`, and a space.
 pub fn write_word(out: &mut Vec<u8>, word: &[u8]) -> Result<(), AllocError>
     requires word { IsWord word.now }
-    requires short { length word.now ≤ 1024 }
+    requires short { length word.now ≤ token_limit }
     ensures ok { OnOk result (Adds out.old.items out.new.items (word_token word.now ∷ [])) }
     ensures spaced { OnOk result (Spaces out.old.items out.new.items (word_token word.now ∷ [])) }
     ensures err { OnErr result (out.new.items ≡ out.old.items) }
@@ -42,7 +42,7 @@ pub fn write_word(out: &mut Vec<u8>, word: &[u8]) -> Result<(), AllocError>
 /// Writes a number, as `12.5`, and a space.
 pub fn write_number(out: &mut Vec<u8>, number: &[u8]) -> Result<(), AllocError>
     requires number { IsNumber number.now }
-    requires short { length number.now ≤ 1024 }
+    requires short { length number.now ≤ token_limit }
     ensures ok { OnOk result (Adds out.old.items out.new.items (number_token number.now ∷ [])) }
     ensures spaced { OnOk result (Spaces out.old.items out.new.items (number_token number.now ∷ [])) }
     ensures err { OnErr result (out.new.items ≡ out.old.items) }
@@ -73,7 +73,7 @@ pub fn write_sign(out: &mut Vec<u8>, sign: &[u8]) -> Result<(), AllocError>
 /// Writes the quoted text that stands for the bytes, each quote among them doubled, and a space.
 pub fn write_quoted(out: &mut Vec<u8>, bytes: &[u8]) -> Result<(), AllocError>
     requires plain { IsTrue (list_all is_plain bytes.now) }
-    requires short { length (quoted bytes.now) ≤ 1024 }
+    requires short { length (quoted bytes.now) ≤ token_limit }
     ensures ok { OnOk result (Adds out.old.items out.new.items (text_token bytes.now ∷ [])) }
     ensures spaced { OnOk result (Spaces out.old.items out.new.items (text_token bytes.now ∷ [])) }
     ensures err { OnErr result (out.new.items ≡ out.old.items) }

@@ -1,10 +1,10 @@
 -- The cells of a space and their numbers.
-use Rattle.std.specs.Prelude.{ℕ, zero, suc, ◌+◌, ◌<◌, ◌≤◌, ◌^◌, ◌==◌, Bool, ◌&&◌, nat_lt, Option, Some, None, List, []}
+use Rattle.std.specs.Prelude.{ℕ, zero, suc, ◌+◌, ◌<◌, ◌≤◌, ◌==◌, Bool, ◌&&◌, nat_lt, Option, Some, None, List, []}
 use Rattle.std.specs.Prelude.{map, length, All, slice_index_or, if◌then◌else◌}
 use Rattle.std.specs.List.{flat_map, range_with_len, list_all, zip}
 use Rattle.dim_core.specs.Outline.{Outline, IsDimension, components_of}
 use Rattle.cube_space.specs.Radix.{product, are_digits, all_digits, number_of}
-use Rattle.cube_space.specs.Layout.{Layout, IsLayout, axes, sizes}
+use Rattle.cube_space.specs.Layout.{Layout, IsLayout, axes, sizes, fewest_dimensions, most_dimensions, most_model_cells}
 
 -- a cell as a planner names it: its cube, and one element of each dimension of the cube
 pub record Cell : Type 0 where
@@ -73,5 +73,6 @@ is_leaf_cell layout cell = are_leaves (axes layout (cube_of layout cell)) (eleme
 pub record IsSpace (space : Layout) : Type 0 where
   pub layout : IsLayout space
   pub dimensions : All IsDimension space.dimensions
-  pub counts : All (λ shape. (2 ≤ length shape.dims) × (length shape.dims ≤ 16)) space.cubes
-  pub size : size_of space ≤ 2 ^ 62
+  pub counts : All
+      (λ shape. (fewest_dimensions ≤ length shape.dims) × (length shape.dims ≤ most_dimensions)) space.cubes
+  pub size : size_of space ≤ most_model_cells

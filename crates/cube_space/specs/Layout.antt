@@ -10,6 +10,17 @@ pub record Layout : Type 0 where
   pub dimensions : List Outline
   pub cubes : List CubeShape
 
+-- how many dimensions a cube has at least, and at most
+abbrev pub fewest_dimensions : ℕ
+fewest_dimensions = 2
+
+abbrev pub most_dimensions : ℕ
+most_dimensions = 16
+
+-- how many cells all cubes together have at most
+abbrev pub most_model_cells : ℕ
+most_model_cells = 2 ^ 62
+
 -- the numbers of a cube's dimensions, in the order in which its cells name elements of them
 abbrev pub dims_of : Layout → ℕ → List ℕ
 dims_of layout cube = slice_index_or (map (λ shape. shape.dims) layout.cubes) cube []

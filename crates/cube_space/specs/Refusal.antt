@@ -1,19 +1,19 @@
 -- Why dimensions and cubes are no space.
-use Rattle.std.specs.Prelude.{◌≡◌, ℕ, ◌+◌, ◌^◌, ◌⊎◌, ◌||◌, nat_lt, Option, Some, None, Result, Ok, Err, length}
+use Rattle.std.specs.Prelude.{◌≡◌, ℕ, ◌+◌, ◌⊎◌, ◌||◌, nat_lt, Option, Some, None, Result, Ok, Err, length}
 use Rattle.std.specs.Prelude.{slice_get, if◌then◌else◌, ⊤}
 use Rattle.std.specs.List.{filter_map, range_with_len}
 use Rattle.cube_space.specs.declared.fault.SpaceFault.{SpaceFault}
 use Rattle.cube_space.specs.declared.fault.SpaceFault.TheVariants.{CubeTooLarge, ModelTooLarge, DimensionCount, Memory}
-use Rattle.cube_space.specs.Layout.{Layout, dims_of}
+use Rattle.cube_space.specs.Layout.{Layout, dims_of, fewest_dimensions, most_dimensions, most_model_cells}
 use Rattle.cube_space.specs.Cells.{cell_count, first_cell}
 
 -- the first cause that holds of a cube with this many dimensions and cells, after this many cells of the cubes before:
--- it hasn't 2 to 16 dimensions, it has more than 2 ^ 62 cells, or the cells so far, its own included, are more
+-- it has too few or too many dimensions, it has too many cells, or the cells so far, its own included, are too many
 abbrev pub fault_of : ℕ → ℕ → ℕ → ℕ → Option SpaceFault
 fault_of cube dimensions cells before =
-    if nat_lt dimensions 2 || nat_lt 16 dimensions then Some (DimensionCount cube)
-    else if nat_lt (2 ^ 62) cells then Some (CubeTooLarge cube)
-    else if nat_lt (2 ^ 62) (before + cells) then Some (ModelTooLarge cube)
+    if nat_lt dimensions fewest_dimensions || nat_lt most_dimensions dimensions then Some (DimensionCount cube)
+    else if nat_lt most_model_cells cells then Some (CubeTooLarge cube)
+    else if nat_lt most_model_cells (before + cells) then Some (ModelTooLarge cube)
     else None
 
 -- the fault of a cube, if it has one

@@ -1,5 +1,8 @@
 ghost use Rattle.std.specs.Prelude.{◌≡◌, ◌<◌, ◌≤◌, ◌^◌, IsTrue, length, take, drop};
 ghost use Rattle.cube_space.specs.Radix.{product, are_digits, number_of};
+ghost use Rattle.cube_space.specs.Layout.{most_dimensions};
+
+use crate::MAX_DIMENSIONS;
 
 /// Whether there is one digit for each size, and each is below its size.
 pub fn are_digits(sizes: &[u32], digits: &[u32]) -> bool
@@ -30,8 +33,8 @@ pub fn number_of(sizes: &[u32], digits: &[u32]) -> u64
 }
 
 /// Writes the digits of the number into the first places, and leaves the others.
-pub fn write_digits(sizes: &[u32], number: u64, places: &mut [u32; 16])
-    requires few { length sizes.now ≤ 16 }
+pub fn write_digits(sizes: &[u32], number: u64, places: &mut [u32; MAX_DIMENSIONS])
+    requires few { length sizes.now ≤ most_dimensions }
     requires within { number < product sizes.now }
     ensures digits { IsTrue (are_digits sizes.now (take (length sizes.now) places.new)) }
     ensures number { number_of sizes.now (take (length sizes.now) places.new) ≡ number }

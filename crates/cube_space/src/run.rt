@@ -1,6 +1,6 @@
-ghost use Rattle.std.specs.Prelude.{◌≡◌, ◌<◌, ◌≤◌, ◌^◌, All, IfOk, length, map, slice_index};
+ghost use Rattle.std.specs.Prelude.{◌≡◌, ◌<◌, ◌≤◌, All, IfOk, length, map, slice_index};
 ghost use Rattle.cube_space.specs.Radix.{product};
-ghost use Rattle.cube_space.specs.Layout.{IsLayout};
+ghost use Rattle.cube_space.specs.Layout.{IsLayout, most_model_cells};
 ghost use Rattle.cube_space.specs.Private.Kept.{IsNumbered, IsRunFrom};
 ghost use Rattle.cube_space.specs.Refusal.{fault_of, refusal_of, IsAnsweredBy};
 
@@ -51,7 +51,7 @@ fn run_from(
     first: u64,
 ) -> Result<Run, SpaceFault>
     requires in_range { All (λ dim. dim < length counts.now) dims.now }
-    requires before { first ≤ 2 ^ 62 }
+    requires before { first ≤ most_model_cells }
     ensures run { IfOk result (λ run. IsRunFrom (map (slice_index counts.now) dims.now) first run) }
     ensures answered { IsAnsweredBy (fault_of cube (length dims.now) (product (map
         (slice_index counts.now) dims.now)) first) result }

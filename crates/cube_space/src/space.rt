@@ -170,7 +170,7 @@ impl Space {
 
     /// The cube of a cell, whose elements are put into the first places of `at`. The places past the cube's dimensions
     /// stay as they were.
-    pub fn place(&self, cell: u64, at: &mut [u32; 16]) -> u32
+    pub fn place(&self, cell: u64, at: &mut [u32; MAX_DIMENSIONS]) -> u32
         requires { IsCell self.now cell }
         ensures cube { result ≡ cube_of self.now cell }
         ensures elements { at.new ≡ elements_of self.now cell ++ drop (length (elements_of self.now cell)) at.old }

@@ -13,6 +13,10 @@ most_open = 32
 abbrev pub most_primaries : ℕ
 most_primaries = 1000
 
+-- more expressions than may be one inside the other: each stands in parentheses of its own; and so with blocks
+abbrev pub most_inside : ℕ
+most_inside = 64
+
 -- before an expression inside so many open parentheses
 abbrev pub begun_within : ℕ → Limits
 begun_within depth = record { depth = depth; primaries = 0; due = true; bracketed = false }

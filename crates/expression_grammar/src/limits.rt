@@ -13,6 +13,10 @@ const MOST_OPEN: u32 = 32;
 /// How many primaries one whole expression may have, those inside others counted.
 const MOST_PRIMARIES: u32 = 1_000;
 
+/// How many expressions may be one inside the other, or how many blocks of a script. Each is opened by itself, and the
+/// 33rd that is open is refused, so no text comes to the last of them.
+pub const MOST_INSIDE: u32 = 64;
+
 /// How deep and how long a whole expression is so far.
 #[derive(Clone, Copy, Debug)]
 pub struct Limits {

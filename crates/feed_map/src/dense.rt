@@ -8,6 +8,7 @@ ghost use Rattle.feed_map.specs.Private.Follows.{IsDenseOf};
 use crate::fault::FedFault;
 use crate::growth::Growth;
 use crate::leaves::add_product;
+use cube_space::MAX_DIMENSIONS;
 use rule_model::Model;
 
 /// Finds the leaf cells of the dense cubes.
@@ -39,7 +40,7 @@ fn add_cube(model: &Model, cube: u32, growth: &mut Growth) -> Result<(), FedFaul
     ensures gains { OnOk result (Gains (IsLeafCellOf model.now.space cube) growth.old growth.new) }
     ensures stops { IfErr result (StopsBy (IsLeafCellOf model.now.space cube) growth.old growth.new) }
 {
-    let mut at = [0u32; 16];
+    let mut at = [0u32; MAX_DIMENSIONS];
     add_product(model, cube, &[], 0, &mut at, growth)
 }
 

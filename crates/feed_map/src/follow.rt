@@ -13,7 +13,7 @@ use crate::growth::Growth;
 use crate::leaves::add_leaves_of;
 use crate::source::is_source;
 use cell_store::Store;
-use cube_space::Space;
+use cube_space::{MAX_DIMENSIONS, Space};
 use rule_laws::Reference;
 use rule_model::{Feeder, Model, place_of, target};
 
@@ -90,7 +90,7 @@ fn follow(model: &Model, cell: u64, growth: &mut Growth) -> Result<(), FedFault>
     if !is_leaf_cell(model.space(), cell) {
         return Ok(());
     }
-    let mut at = [0u32; 16];
+    let mut at = [0u32; MAX_DIMENSIONS];
     let (cube, len) = place_of(model, cell, &mut at);
     let feeders = model.rules(cube).feeders.as_slice();
     'each: for n in 0..feeders.len() {

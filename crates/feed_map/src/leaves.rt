@@ -1,7 +1,7 @@
 ghost use Rattle.std.specs.Prelude.{◌≡◌, ◌+◌, ◌<◌, ◌≤◌, false, Some, IfSome, IfErr, OnOk, ◌∷◌, length, take, drop};
 ghost use Rattle.std.specs.Prelude.{slice_get, Contains};
 ghost use Rattle.dim_weights.specs.Table.{IsWeightsOf};
-ghost use Rattle.cube_space.specs.Layout.{axes_of, dims_of};
+ghost use Rattle.cube_space.specs.Layout.{axes_of, dims_of, most_dimensions};
 ghost use Rattle.cube_space.specs.Cells.{IsCell, cube_of, elements_of, is_leaf_cell, cell_number};
 ghost use Rattle.rule_laws.specs.Feeding.{leaves_of};
 ghost use Rattle.rule_model.specs.System.{system_of};
@@ -10,7 +10,7 @@ ghost use Rattle.feed_map.specs.Private.Leaves.{candidates, candidate, leaf_at, 
 
 use crate::fault::FedFault;
 use crate::growth::Growth;
-use cube_space::Space;
+use cube_space::{MAX_DIMENSIONS, Space};
 use dim_core::Dimension;
 use dim_weights::Weights;
 use rule_model::{Model, place_of};
@@ -24,7 +24,7 @@ pub fn add_leaves_of(model: &Model, cell: u64, growth: &mut Growth) -> Result<()
     if model.space().is_leaf(cell) {
         return growth.add(cell);
     }
-    let mut roots = [0u32; 16];
+    let mut roots = [0u32; MAX_DIMENSIONS];
     let (cube, len) = place_of(model, cell, &mut roots);
     add_below(model, cell, cube, &roots[..len], growth)
 }
@@ -44,7 +44,7 @@ fn add_below(
     ensures gains { OnOk result (Gains (Contains (leaves_of (system_of model.now) cell)) growth.old growth.new) }
     ensures stops { IfErr result (StopsBy (Contains (leaves_of (system_of model.now) cell)) growth.old growth.new) }
 {
-    let mut at = [0u32; 16];
+    let mut at = [0u32; MAX_DIMENSIONS];
     add_product(model, cube, elements, 0, &mut at, growth)
 }
 
@@ -56,7 +56,7 @@ pub fn add_product(
     cube: u32,
     roots: &[u32],
     place: usize,
-    at: &mut [u32; 16],
+    at: &mut [u32; MAX_DIMENSIONS],
     growth: &mut Growth,
 ) -> Result<(), FedFault>
     requires cube { cube < length model.now.space.cubes }
@@ -91,7 +91,7 @@ fn add_choice(
     roots: &[u32],
     place: usize,
     leaf: Option<u32>,
-    at: &mut [u32; 16],
+    at: &mut [u32; MAX_DIMENSIONS],
     growth: &mut Growth,
 ) -> Result<(), FedFault>
     requires cube { cube < length model.now.space.cubes }
@@ -119,7 +119,7 @@ fn add_choice(
 fn rank_of(model: &Model, cube: u32) -> usize
     requires { cube < length model.now.space.cubes }
     ensures rank { result ≡ length (dims_of model.now.space cube) }
-    ensures few { length (dims_of model.now.space cube) ≤ 16 }
+    ensures few { length (dims_of model.now.space cube) ≤ most_dimensions }
 {
     let space = model.space();
     space.shape(cube).dims.as_slice().len()

@@ -3,7 +3,7 @@ ghost use Rattle.std.specs.List.{list_any};
 ghost use Rattle.dim_core.specs.Outline.{Outline};
 ghost use Rattle.dim_weights.specs.Coefficients.{coef};
 ghost use Rattle.dim_weights.specs.Table.{IsWeightsOf, is_nonzero};
-ghost use Rattle.cube_space.specs.Layout.{axes, axes_of, sizes_of};
+ghost use Rattle.cube_space.specs.Layout.{axes, axes_of, sizes_of, most_dimensions};
 ghost use Rattle.cube_space.specs.Cells.{is_place};
 ghost use Rattle.cube_space.specs.Radix.{are_digits};
 ghost use Rattle.rule_model.specs.Areas.{in_source_set, in_source_sets};
@@ -31,7 +31,7 @@ fn in_source_sets(
     sets: &[Option<ListOf<u32>>],
     elements: &[u32],
 ) -> bool
-    requires few { length dims.now ≤ 16 }
+    requires few { length dims.now ≤ most_dimensions }
     requires dims { All (λ dim. dim < length model.now.space.dimensions) dims.now }
     requires sets { AllZip IsSet (sizes_of (axes_of model.now.space.dimensions dims.now)) sets.now }
     requires digits { are_digits (sizes_of (axes_of model.now.space.dimensions dims.now)) elements.now ≡ true }

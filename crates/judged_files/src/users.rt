@@ -5,16 +5,14 @@ ghost use Rattle.file_passes.specs.Halting.{Judges};
 ghost use Rattle.judged_files.specs.Inside.Judging.{IsHaltFor, texts_judgement};
 ghost use Rattle.judged_files.specs.Refusals.{user_refusal};
 ghost use Rattle.judged_files.specs.Users.{is_unknown, is_unknown_load, unknown_script, users_judgement};
+ghost use Rattle.user_text.specs.Counting.{most_commands};
 
 use crate::refusing::{halt_on, refused_on};
 use dim_name::Name;
 use file_passes::{Cause, Halt, Refusal, Source};
 use lists::ListOf;
 use std::alloc::{AllocError, Global};
-use user_text::{UserBody, UserCommand, UserFault, parse};
-
-// The most commands of all users together.
-const MOST_COMMANDS: u32 = 65_536;
+use user_text::{MOST_COMMANDS, UserBody, UserCommand, UserFault, parse};
 
 /// The commands of each user that the bytes of all user files stand for, where each load is one of a script of these
 /// names.
@@ -68,9 +66,9 @@ fn user_halt(alloc: Global, file: &str, fault: &UserFault) -> Halt
 // How many commands there are with so many more. A text has never too many, since those before were counted when it was
 // read.
 fn counted(before: u32, more: usize) -> Result<u32, AllocError>
-    requires { before ≤ MOST_COMMANDS }
+    requires { before ≤ most_commands }
     ensures sum { IfOk result (λ count. count ≡ before + more) }
-    ensures few { IfOk result (λ count. count ≤ MOST_COMMANDS) }
+    ensures few { IfOk result (λ count. count ≤ most_commands) }
 {
     match u32::try_from(more) {
         Ok(more) if more <= MOST_COMMANDS - before => Ok(before + more),

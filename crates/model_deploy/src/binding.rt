@@ -12,11 +12,8 @@ use cube_space::Space;
 use lists::ListOf;
 use rule_bind::{BindAt, BindCause, BindFault, CubeRules, bind};
 use rule_sizes::are_countable;
-use rule_tree::RuleText;
+use rule_tree::{MOST_STATEMENTS, RuleText};
 use std::alloc::Global;
-
-// The most statements and the most feeder statements of a rule text. A text that was read has no more of them.
-const MOST: usize = 1_000;
 
 /// The rules that the texts of all cubes mean, or the first fault of the first that has one.
 pub fn meanings_of(
@@ -48,7 +45,9 @@ fn meaning_of(
     ensures comes { Comes (meaning_stage space.now files.now cube text.now) result }
     ensures rules { IfOk result (AreCubeRules space.now cube) }
 {
-    if text.statements.as_slice().len() > MOST || text.feeders.as_slice().len() > MOST {
+    // a text that was read has no more statements and no more feeders
+    let most = MOST_STATEMENTS as usize;
+    if text.statements.as_slice().len() > most || text.feeders.as_slice().len() > most {
         return Err(DeployFault::memory());
     }
     // a space says of itself that it is one, and what is bound there meets the conditions on rules

@@ -1,11 +1,10 @@
 ghost use Rattle.std.specs.Prelude.{◌≡◌, ◌⊎◌, ◌≤◌, [], OnOk, option_map};
 ghost use Rattle.cube_space.specs.Radix.{product};
-ghost use Rattle.check_order.specs.Heights.{greatest_height};
 ghost use Rattle.check_order.specs.Verdict.{order_fault};
 ghost use Rattle.feed_map.specs.FedCells.{HasFewFed};
 ghost use Rattle.rule_laws.specs.Cover.{IsCovered};
 ghost use Rattle.rule_laws.specs.OrderByPlace.{IsOrderedByPlace};
-ghost use Rattle.rule_model.specs.Order.{position_sizes};
+ghost use Rattle.rule_model.specs.Order.{greatest_height, position_sizes};
 ghost use Rattle.rule_model.specs.System.{system_of, positions_of};
 ghost use Rattle.model_deploy.specs.Foundation.{memory};
 ghost use Rattle.model_deploy.specs.Stages.{unless, Comes};

@@ -1,8 +1,7 @@
 ghost use Rattle.std.specs.Prelude.{◌≡◌, ◌≤◌, length, IfOk};
 ghost use Rattle.cube_space.specs.Radix.{product};
-ghost use Rattle.check_order.specs.Heights.{greatest_height};
 ghost use Rattle.rule_model.specs.Conditions.{AreRules};
-ghost use Rattle.rule_model.specs.Order.{position_sizes};
+ghost use Rattle.rule_model.specs.Order.{greatest_height, position_sizes};
 ghost use Rattle.rule_model.specs.Weights.{AreWeightsOf};
 ghost use Rattle.model_deploy.specs.Stages.{Comes};
 ghost use Rattle.model_deploy.specs.Deployment.{deployment};

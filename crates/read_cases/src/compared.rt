@@ -8,14 +8,11 @@ ghost use Rattle.rule_dense.specs.Limits.{HasSmallCubes, IsLow};
 use cell_reader::Snapshot;
 use check_order::check_order;
 use cube_fixed::{Steps, Value};
-use rule_dense::dense;
+use rule_dense::{MOST_CUBE_CELLS, dense};
 use rule_model::{Model, governing};
 use std::alloc::{AllocError, Global};
 use std::marker::Brand;
 use std::sync::ledger::{Blank, Ledger};
-
-/// The most cells of a cube.
-const MOST_CELLS: u64 = 1_000_000;
 
 /// Tells how many cells a snapshot has, where it, another one that shares what it keeps, and plain evaluation give each
 /// the same value; else the first cell to which they don't.
@@ -39,7 +36,7 @@ fn has_small_cubes(model: &Model) -> bool
     ensures { IsTrue result → HasSmallCubes model.now.space }
 {
     for cube in 0..model.space().cubes() {
-        if model.space().cells(cube) > MOST_CELLS {
+        if model.space().cells(cube) > MOST_CUBE_CELLS {
             return false;
         }
     }

@@ -1,7 +1,7 @@
 ghost use Rattle.std.specs.Prelude.{◌≡◌, ℕ, ◌+◌, ◌*◌, ◌-◌, ◌<◌, ◌≤◌, ◌^◌, pos, neg_ℤ, ◌-ℤ◌};
 ghost use Rattle.std.specs.Prelude.{Some, length, drop, unsigned_abs, IfSome, slice_index_or};
 ghost use Rattle.std.specs.List.{AllZip};
-ghost use Rattle.cube_space.specs.Layout.{axes, sizes};
+ghost use Rattle.cube_space.specs.Layout.{axes, sizes, most_dimensions};
 ghost use Rattle.rule_model.specs.Conditions.{IsArg, IsReference, IsPrecedent};
 ghost use Rattle.order_laws.specs.Decision.{scale_of, fixed_sum, moved_sum, component_excess, components_excess};
 ghost use Rattle.order_laws.specs.Decision.{parts_in, excess, start};
@@ -26,7 +26,7 @@ fn moved_sum(
     element: u32,
 ) -> Option<i64>
     requires reference { IsReference model.now.space cube reference.now }
-    requires few { length reference.now.args ≤ 16 }
+    requires few { length reference.now.args ≤ most_dimensions }
     requires from { from ≤ length reference.now.args }
     ensures value { result ≡ moved_sum (scale_of model.now reference.now.cube place).worth from
         (drop from reference.now.args) dim element }
@@ -58,7 +58,7 @@ fn moved_sum(
 #[cycle(fixed_sum)]
 fn fixed_sum(model: &Model, cube: u32, reference: &Reference, place: u32, from: usize) -> u64
     requires reference { IsReference model.now.space cube reference.now }
-    requires few { length reference.now.args ≤ 16 }
+    requires few { length reference.now.args ≤ most_dimensions }
     requires from { from ≤ length reference.now.args }
     ensures value { result ≡ fixed_sum (scale_of model.now reference.now.cube place).worth from
         (drop from reference.now.args) }

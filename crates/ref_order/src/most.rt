@@ -1,5 +1,5 @@
 ghost use Rattle.std.specs.Prelude.{◌≡◌, ℕ, ◌+◌, ◌*◌, ◌-◌, ◌<◌, ◌≤◌, ◌^◌, length, unsigned_abs, IfSome, slice_index_or};
-ghost use Rattle.cube_space.specs.Layout.{axes, sizes};
+ghost use Rattle.cube_space.specs.Layout.{axes, sizes, most_dimensions};
 ghost use Rattle.rule_model.specs.Conditions.{IsArea, IsPrecedent};
 ghost use Rattle.order_laws.specs.Greatest.{greatest_sum, greatest_passing_sum, only};
 ghost use Rattle.order_laws.specs.Decision.{excess, greatest_by, excess_sum, most_excess, set_count, set_element};
@@ -121,7 +121,7 @@ fn leaf_sum(
     requires cube { cube < length model.now.space.cubes }
     requires area { IsArea model.now.space cube area.now }
     requires read { IsPrecedent model.now.space cube (precedent_of read) }
-    requires few { length (axes model.now.space cube) ≤ 16 }
+    requires few { length (axes model.now.space cube) ≤ most_dimensions }
     requires dim { dim + left ≡ length (axes model.now.space cube) }
     ensures value { result ≡ greatest_sum (greatest_by model.now cube area.now place (precedent_of read.entry)
         (test_of Leaves (axes model.now.space cube))) dim left }
@@ -160,7 +160,7 @@ fn total_sum(
     requires cube { cube < length model.now.space.cubes }
     requires area { IsArea model.now.space cube area.now }
     requires read { IsPrecedent model.now.space cube (precedent_of read) }
-    requires few { length (axes model.now.space cube) ≤ 16 }
+    requires few { length (axes model.now.space cube) ≤ most_dimensions }
     requires dim { dim + left ≡ length (axes model.now.space cube) }
     ensures all { result.all ≡ greatest_sum (greatest_by model.now cube area.now place (precedent_of read.entry)
         (test_of All (axes model.now.space cube))) dim left }

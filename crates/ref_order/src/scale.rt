@@ -1,5 +1,5 @@
 ghost use Rattle.std.specs.Prelude.{◌≡◌, ◌<◌, ◌≤◌, length, Some, slice_get, slice_index_or};
-ghost use Rattle.cube_space.specs.Layout.{axes, sizes};
+ghost use Rattle.cube_space.specs.Layout.{axes, sizes, most_dimensions};
 ghost use Rattle.cube_space.specs.Cells.{IsSpace};
 ghost use Rattle.rule_model.specs.declared.order.Position.TheVariants.{Constant};
 ghost use Rattle.order_laws.specs.Decision.{scale_of, position_scale, rank_at, level_in};
@@ -26,7 +26,7 @@ pub fn axis(model: &Model, cube: u32, dim: usize) -> &Dimension
 pub fn axis_count(model: &Model, cube: u32) -> usize
     requires { cube < length model.now.space.cubes }
     ensures count { result ≡ length (axes model.now.space cube) }
-    ensures few { result ≤ 16 }
+    ensures few { result ≤ most_dimensions }
 {
     model.space().shape(cube).dims.as_slice().len()
 }

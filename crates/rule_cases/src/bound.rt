@@ -7,11 +7,8 @@ use bind_laws::bound_rules_meet_the_conditions;
 use cube_space::Space;
 use rule_bind::{BindAt, BindCause, BindFault, CubeRules, bind};
 use rule_sizes::are_countable;
-use rule_tree::RuleText;
+use rule_tree::{MOST_STATEMENTS, RuleText};
 use std::alloc::{AllocError, Global};
-
-/// The most statements and the most feeder statements of a text.
-const MOST: usize = 1_000;
 
 /// The rules of a cube: those of the file `rules` for the first, `rules 2` for the second.
 pub fn bound_rules(
@@ -24,7 +21,8 @@ pub fn bound_rules(
     ensures { IfOk result (λ rules. AreCubeRules space.now cube rules) }
 {
     let text = rule_text(alloc, cube, files)?;
-    if text.statements.as_slice().len() > MOST || text.feeders.as_slice().len() > MOST {
+    let most = MOST_STATEMENTS as usize;
+    if text.statements.as_slice().len() > most || text.feeders.as_slice().len() > most {
         return Err(Refusal::Memory);
     }
     // a space says of itself that it is one, and what is bound there meets the conditions on rules

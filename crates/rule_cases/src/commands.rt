@@ -12,11 +12,9 @@ use crate::values::value_text;
 use cell_store::{Store, StoreFault};
 use cube_fixed::Money;
 use rule_core::{Model, cell_of, dense, is_input};
+use rule_dense::MOST_CUBE_CELLS;
 use std::alloc::Global;
 use user_text::UserBody;
-
-/// The most cells of a cube.
-const MOST_CELLS: u64 = 1_000_000;
 
 /// Adds what each command comes to, a line each, with what a case of this kind tells besides.
 pub fn answer_commands(
@@ -52,7 +50,7 @@ fn has_small_cubes(model: &Model) -> bool
     ensures { IsTrue result → HasSmallCubes model.now.space }
 {
     for cube in 0..model.space().cubes() {
-        if model.space().cells(cube) > MOST_CELLS {
+        if model.space().cells(cube) > MOST_CUBE_CELLS {
             return false;
         }
     }

@@ -10,6 +10,7 @@ use crate::refusal::Refusal;
 use crate::values::value_text;
 use cell_store::Store;
 use cube_fixed::{Steps, Value};
+use cube_space::MAX_DIMENSIONS;
 use rule_core::{Ask, Formula, Given, Model, dense, evaluate, governing, governing_after, target};
 use rule_evaluate::only_what_formulas_read_is_asked;
 use rule_model::{part_of, place_of};
@@ -77,7 +78,7 @@ fn part_at(model: &Model, cell: u64, statement: u32) -> Option<&Formula>
     requires there { statement < length (rules_of model.now (cube_of model.now.space cell)).statements }
     ensures { IsSome (formula_at model.now cell statement) }
 {
-    let mut at = [0u32; 16];
+    let mut at = [0u32; MAX_DIMENSIONS];
     let (cube, _) = place_of(model, cell, &mut at);
     part_of(model, cube, statement, model.space().is_leaf(cell))
 }

@@ -2,6 +2,7 @@ ghost use Rattle.cube_space.specs.Cells.{IsCell};
 
 use crate::refusal::Refusal;
 use cell_store::{CellSet, Store};
+use cube_space::MAX_DIMENSIONS;
 use feed_map::{Fed, FedFault};
 use rule_core::Model;
 use sparse_sum::Walk;
@@ -121,7 +122,7 @@ fn write_name(model: &Model, cell: u64, text: &mut Vec<u8>) -> Result<(), AllocE
     requires { IsCell model.now.space cell }
 {
     let space = model.space();
-    let mut at = [0u32; 16];
+    let mut at = [0u32; MAX_DIMENSIONS];
     let cube = space.place(cell, &mut at);
     if cube >= space.cubes() {
         return Ok(());

@@ -5,9 +5,9 @@ use Rattle.cube_space.specs.Radix.{product, are_digits, number_of}
 use Rattle.cube_space.proofs.Radix.{number-below, digits-length}
 use Rattle.cube_space.proofs.Steps.{number-so_far}
 use Rattle.rule_model.specs.BoundModel.{BoundModel}
-use Rattle.rule_model.specs.Order.{most_positions, number_at, position_sizes, numbers_of, rank}
+use Rattle.rule_model.specs.Order.{greatest_height, most_positions, number_at, position_sizes, numbers_of, rank}
 use Rattle.model_laws.proofs.Ranks.{digits-of, number-of, positions-many}
-use Rattle.rule_dense.specs.Limits.{IsLow, greatest_height}
+use Rattle.rule_dense.specs.Limits.{IsLow}
 
 module _ (m : BoundModel) (cell : ℕ) (is_cell : IsCell m.space cell) (low : IsLow m) where
   pub rank-low : rank m cell < greatest_height

@@ -4,12 +4,9 @@ use Rattle.cube_space.specs.Layout.{Layout}
 use Rattle.cube_space.specs.Cells.{cell_count}
 use Rattle.cube_space.specs.Radix.{product}
 use Rattle.rule_model.specs.BoundModel.{BoundModel}
-use Rattle.rule_model.specs.Order.{position_sizes}
+use Rattle.rule_model.specs.Order.{greatest_height, position_sizes}
 
--- the greatest height of the declared order: how many ranks there are, the sizes of the positions multiplied
-abbrev pub greatest_height : ℕ
-greatest_height = 65536
-
+-- the declared order is no higher than it may be
 abbrev pub IsLow : BoundModel → Type 0
 IsLow model = product (position_sizes model) ≤ greatest_height
 

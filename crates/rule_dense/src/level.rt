@@ -2,13 +2,13 @@ ghost use Rattle.std.specs.Prelude.{◌≡◌, ◌+◌, ◌<◌, ◌≤◌, true
 ghost use Rattle.std.specs.List.{zip};
 ghost use Rattle.dim_core.specs.Outline.{most_elements, level};
 ghost use Rattle.cube_space.specs.Radix.{are_digits};
-ghost use Rattle.cube_space.specs.Layout.{axes_of, sizes_of};
+ghost use Rattle.cube_space.specs.Layout.{axes_of, sizes_of, most_dimensions};
 ghost use Rattle.cube_space.specs.Cells.{IsCell};
 ghost use Rattle.rule_model.specs.Order.{cell_level, level_count};
 ghost use Rattle.rule_dense.specs.Private.Depths.{most_levels};
 
 use crate::place::place_of;
-use cube_space::Space;
+use cube_space::{MAX_DIMENSIONS, Space};
 use dim_core::Dimension;
 
 /// The level of a cell: the levels of its elements together.
@@ -18,14 +18,14 @@ pub fn cell_level(space: &Space, cell: u64) -> u64
     ensures level { result ≡ cell_level space.now cell }
     ensures most { result ≤ most_levels }
 {
-    let mut at = [0u32; 16];
+    let mut at = [0u32; MAX_DIMENSIONS];
     let (_, dims) = place_of(space, cell, &mut at);
     levels_of(space, dims, &at[..dims.len()])
 }
 
 // The levels of these elements, one of each of these dimensions, together.
 fn levels_of(space: &Space, dims: &[u32], elements: &[u32]) -> u64
-    requires few { length dims.now ≤ 16 }
+    requires few { length dims.now ≤ most_dimensions }
     requires dims { All (λ dim. dim < length space.now.dimensions) dims.now }
     requires elements { are_digits (sizes_of (axes_of space.now.dimensions dims.now)) elements.now ≡ true }
     ensures sum { result ≡ sum_by (λ p. level p.0 p.1) (zip (axes_of space.now.dimensions dims.now) elements.now) }

@@ -4,6 +4,7 @@ ghost use Rattle.rule_model.specs.Order.{most_positions, number_by, number_at, p
 ghost use Rattle.rule_dense.specs.Limits.{IsLow};
 
 use crate::place::{number_in, place_of};
+use cube_space::MAX_DIMENSIONS;
 use rule_model::{Model, Position};
 use std::alloc::{AllocError, Global};
 
@@ -28,7 +29,7 @@ fn number_at(model: &Model, place: usize, cell: u64) -> u32
     requires { IsCell model.now.space cell }
     ensures { result ≡ number_at model.now place cell }
 {
-    let mut at = [0u32; 16];
+    let mut at = [0u32; MAX_DIMENSIONS];
     let (cube, dims) = place_of(model.space(), cell, &mut at);
     match model.rules(cube).order.positions.as_slice().get(place) {
         Some(position) => number_by(position, &at[..dims.len()]),

@@ -9,7 +9,7 @@ use crate::place::place_of;
 use crate::sums::{sum_below, sum_of_parts};
 use cell_store::Store;
 use cube_fixed::Value;
-use cube_space::Space;
+use cube_space::{MAX_DIMENSIONS, Space};
 use dim_core::Dimension;
 use rule_model::Model;
 
@@ -96,7 +96,7 @@ pub fn parts_at<'a>(space: &'a Space, cell: u64, dim: usize) -> &'a [(u32, i64)]
     ensures few { length result.now ≤ most_components }
     ensures within { 0 < length result.now → dim < length (elements_of space.now cell) }
 {
-    let mut at = [0u32; 16];
+    let mut at = [0u32; MAX_DIMENSIONS];
     let (_, dims) = place_of(space, cell, &mut at);
     if dim >= dims.len() {
         return &[];

@@ -10,7 +10,7 @@ ghost use Rattle.rule_dense.specs.Private.Plain.{table_of, with_leaf};
 
 use crate::place::place_of;
 use cube_fixed::{Sum, Value};
-use cube_space::Space;
+use cube_space::{MAX_DIMENSIONS, Space};
 use rule_model::{Model, weight};
 
 /// The value that a table has for a cell: 0 past its end.
@@ -30,7 +30,7 @@ pub fn sum_below(model: &Model, values: &[Value], cell: u64) -> Value
     ensures { result ≡ weighted_sum (table_of values.now) (leaves_below model.now.space cell) }
 {
     let space = model.space();
-    let mut at = [0u32; 16];
+    let mut at = [0u32; MAX_DIMENSIONS];
     let (cube, _) = place_of(space, cell, &mut at);
     let first = space.first(cube);
     let mut sum = Sum::new();
@@ -86,7 +86,7 @@ pub fn with_element_at(space: &Space, cell: u64, dim: usize, element: u32) -> Op
     ensures value { result ≡ with_element_at space.now cell dim element }
     ensures cell { IfSome result (IsCell space.now) }
 {
-    let mut at = [0u32; 16];
+    let mut at = [0u32; MAX_DIMENSIONS];
     let (cube, dims) = place_of(space, cell, &mut at);
     at[dim] = element;
     space.number(cube, &at[..dims.len()])

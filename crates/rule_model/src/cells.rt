@@ -1,6 +1,6 @@
 ghost use Rattle.std.specs.Prelude.{◌≡◌, ◌<◌, ◌≤◌, true, IsTrue, IsFalse, Some, None, IfSome, unsigned_abs};
 ghost use Rattle.std.specs.Prelude.{length, map, take, drop, All};
-ghost use Rattle.cube_space.specs.Layout.{axes_of, sizes_of};
+ghost use Rattle.cube_space.specs.Layout.{axes_of, sizes_of, most_dimensions};
 ghost use Rattle.cube_space.specs.Cells.{IsCell};
 ghost use Rattle.cube_space.specs.Radix.{product, are_digits};
 ghost use Rattle.rule_model.specs.Weights.{weight, coef_product, greatest_coef};
@@ -8,7 +8,7 @@ ghost use Rattle.rule_model.specs.Named.{cell_named, elements_named};
 ghost use Rattle.rule_model.specs.Weights.{max_weight_product};
 
 use crate::model::Model;
-use cube_space::Space;
+use cube_space::{MAX_DIMENSIONS, Space};
 use dim_name::Name;
 
 /// The cell of a cube and of one element of each of its dimensions, in their order, all by name. None where the cube or
@@ -22,7 +22,7 @@ pub fn cell_of(model: &Model, cube: &Name, names: &[Name]) -> Option<u64>
         return None;
     };
     let dims = space.shape(cube).dims.as_slice();
-    let mut at = [0u32; 16];
+    let mut at = [0u32; MAX_DIMENSIONS];
     if !find_elements(space, dims, names, &mut at) {
         return None;
     }
@@ -32,9 +32,14 @@ pub fn cell_of(model: &Model, cube: &Name, names: &[Name]) -> Option<u64>
 
 // Puts the elements of these names, one of each of the dimensions, into the first places of `at`; false where there are
 // no such elements.
-fn find_elements(space: &Space, dims: &[u32], names: &[Name], at: &mut [u32; 16]) -> bool
+fn find_elements(
+    space: &Space,
+    dims: &[u32],
+    names: &[Name],
+    at: &mut [u32; MAX_DIMENSIONS],
+) -> bool
     requires dims { All (λ dim. dim < length space.now.dimensions) dims.now }
-    requires room { length dims.now ≤ 16 }
+    requires room { length dims.now ≤ most_dimensions }
     ensures found { IsTrue result →
         elements_named (axes_of space.now.dimensions dims.now) names.now ≡ Some (take (length dims.now) at.new) }
     ensures missing { IsFalse result → elements_named (axes_of space.now.dimensions dims.now) names.now ≡ None }
@@ -60,8 +65,8 @@ pub fn weight(model: &Model, cell: u64, leaf: u64) -> i64
     ensures size { unsigned_abs result ≤ max_weight_product }
 {
     let space = model.space();
-    let mut at = [0u32; 16];
-    let mut below = [0u32; 16];
+    let mut at = [0u32; MAX_DIMENSIONS];
+    let mut below = [0u32; MAX_DIMENSIONS];
     let cube = space.place(cell, &mut at);
     if space.place(leaf, &mut below) != cube {
         return 0;

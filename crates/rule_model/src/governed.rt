@@ -7,6 +7,7 @@ ghost use Rattle.rule_model.specs.Governing.{governing_from, formula_at};
 use crate::model::Model;
 use crate::parts::{first_part, part_of_kind};
 use crate::places::place_of;
+use cube_space::MAX_DIMENSIONS;
 use rule_laws::Formula;
 
 /// The statement that governs a cell, by its place among those of the cell's cube: the first that has the cell in its
@@ -37,7 +38,7 @@ fn governing_from(model: &Model, cell: u64, from: usize) -> Option<u32>
     ensures within { IfSome result
         (λ place. place < length (rules_of model.now (cube_of model.now.space cell)).statements) }
 {
-    let mut at = [0u32; 16];
+    let mut at = [0u32; MAX_DIMENSIONS];
     let (cube, len) = place_of(model, cell, &mut at);
     let is_leaf = model.space().is_leaf(cell);
     governing_in(model, cube, &at[..len], is_leaf, from)

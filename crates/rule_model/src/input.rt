@@ -8,6 +8,7 @@ use crate::parts::part_for;
 use crate::places::place_of;
 use crate::rules::Statement;
 use crate::words::words_of;
+use cube_space::MAX_DIMENSIONS;
 
 /// Whether a number can be stored in a cell: it is a leaf cell, and open for input. It is open where no statement
 /// governs it, or the N part that governs it has `STET` in it, or has `CONTINUE` and the cell is open from the next
@@ -19,7 +20,7 @@ pub fn is_input(model: &Model, cell: u64) -> bool
     if !model.space().is_leaf(cell) {
         return false;
     }
-    let mut at = [0u32; 16];
+    let mut at = [0u32; MAX_DIMENSIONS];
     let (cube, len) = place_of(model, cell, &mut at);
     is_open(model.rules(cube).statements.as_slice(), &at[..len])
 }

@@ -1,6 +1,7 @@
 ghost use Rattle.std.specs.Prelude.{◌≡◌, ℕ, ◌≤◌, true, is_some, IsTrue, IsFalse, Some, None, IfSome, option_and_then};
 ghost use Rattle.std.specs.Prelude.{length, take};
 ghost use Rattle.cube_space.specs.Cells.{IsCell, is_place, cell_number, cube_of, elements_of};
+ghost use Rattle.cube_space.specs.Layout.{most_dimensions};
 ghost use Rattle.rule_model.specs.Targets.{element_by, elements_by, target, component_cells};
 
 use crate::model::Model;
@@ -21,7 +22,7 @@ pub fn target_from(space: &Space, elements: &[u32], reference: &Reference) -> Op
         let _cells = space.size();
         return None;
     }
-    let mut at = [0u32; 16];
+    let mut at = [0u32; MAX_DIMENSIONS];
     if !put_elements(elements, args, &mut at) {
         return None;
     }
@@ -30,8 +31,8 @@ pub fn target_from(space: &Space, elements: &[u32], reference: &Reference) -> Op
 
 // Puts the elements that the arguments name from a cell of these elements into the first places of `at`; false where
 // one of them names nothing.
-fn put_elements(elements: &[u32], args: &[Arg], at: &mut [u32; 16]) -> bool
-    requires room { length args.now ≤ 16 }
+fn put_elements(elements: &[u32], args: &[Arg], at: &mut [u32; MAX_DIMENSIONS]) -> bool
+    requires room { length args.now ≤ most_dimensions }
     ensures found { IsTrue result → elements_by elements.now args.now ≡ Some (take (length args.now) at.new) }
     ensures missing { IsFalse result → elements_by elements.now args.now ≡ None }
 {
@@ -63,7 +64,7 @@ pub fn target(model: &Model, reference: &Reference, cell: u64) -> Option<u64>
     ensures value { result ≡ target model.now.space reference.now cell }
     ensures cell { IfSome result (IsCell model.now.space) }
 {
-    let mut at = [0u32; 16];
+    let mut at = [0u32; MAX_DIMENSIONS];
     let (_, len) = place_of(model, cell, &mut at);
     target_from(model.space(), &at[..len], reference)
 }

@@ -9,7 +9,7 @@ use Rattle.expression_grammar.specs.Limits.{begun_within}
 use Rattle.expression_grammar.specs.declared.limits.Limits.{Limits}
 use Rattle.expression_grammar.proofs.PrintedLimits.{Goes, goes_on, goes_through, some_is}
 use Rattle.expression_grammar.proofs.PrintedTokens.{split_at, split_next, none_written, is_written_sign}
-use Rattle.rule_tree.specs.Counting.{most, count}
+use Rattle.rule_tree.specs.Counting.{most_statements, count}
 use Rattle.rule_tree.specs.Formula.{formula, bracket}
 use Rattle.rule_tree.specs.RuleText.{area}
 use Rattle.rule_printer.specs.Spelled.{tree_spelled, bracket_spelled, area_spelled}
@@ -127,7 +127,7 @@ areas_open : OpensAlike places.Between places.Area
 unfolding count
 areas_open c r s t s-is t-is taken =
     let here : Counted = record c { place = places.Between } in
-    let (there, place) = one_of c.feeding (nat_lt c.feeders most) (not c.feeding) (nat_lt c.statements most)
+    let (there, place) = one_of c.feeding (nat_lt c.feeders most_statements) (not c.feeding) (nat_lt c.statements most_statements)
     (record here { feeders = c.feeders + 1; place = places.Area }) (record here { statements = c.statements + 1; place = places.Area }) r (excesses.TooMany t.line) (excesses.TooMany s.line) refl refl
     (sym (ap (step here) (sign_literal (codes "[") t t-is)) ∙ taken) in
     (ap (step here) (sign_literal (codes "[") s s-is) ∙ there, place)

@@ -3,11 +3,12 @@ use Rattle.std.proofs.Common.{codes, refl}
 use Rattle.grammar.proofs.Exact.{Exact, Not}
 use Rattle.grammar.proofs.Tokens.{sign_begins}
 use Rattle.expression_grammar.specs.Expression.{nothing}
+use Rattle.expression_grammar.specs.Limits.{most_inside}
 use Rattle.expression_grammar.proofs.Languages.{goes_on, IsLanguage}
 use Rattle.expression_grammar.proofs.ExpressionExact.{value_exact}
 use Rattle.rule_tree.specs.Counting.{count, counting}
 use Rattle.rule_tree.specs.Formula.{rules_language, primary, formula}
-use Rattle.rule_reader.specs.Readers.Reading.{read_primary, read_formula, most_inside}
+use Rattle.rule_reader.specs.Readers.Reading.{read_primary, read_formula}
 use Rattle.rule_reader.proofs.PrimaryExact.{primary_exact, primary_no_sign, number_sample}
 
 pub rules_are_language : IsLanguage count rules_language primary read_primary

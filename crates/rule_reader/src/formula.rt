@@ -3,15 +3,11 @@ ghost use Rattle.grammar.specs.Cursor.{Reads};
 ghost use Rattle.rule_reader.specs.Readers.Reading as reading;
 
 use crate::language::Formulas;
-use expression_grammar::{Nested, Sort, Want, expression_at};
+use expression_grammar::{MOST_INSIDE, Nested, Sort, Want, expression_at};
 use grammar::{Cursor, Item, Stop};
 use rule_tree::{Counted, Excess, Tree};
 use std::alloc::Global;
 use std::marker::PhantomData;
-
-/// How many formulas may be one inside the other. Each stands in parentheses of its own, and the 33rd `(` that is open
-/// is refused, so no text comes to the last of them.
-const MOST_INSIDE: u32 = 64;
 
 /// Reads a formula as wanted, with fewer than so many one inside the other.
 #[tactic(auto, unfolding(expression_grammar::specs::Readers::Reading::read_expression))]

@@ -13,8 +13,8 @@ use Rattle.rule_tree.specs.declared.excess.Excess.{Excess}
 use Rattle.rule_tree.specs.declared.excess.Excess.TheVariants as excesses
 
 -- of statements, and of feeders
-abbrev pub most : ℕ
-most = 1000
+abbrev pub most_statements : ℕ
+most_statements = 1000
 
 -- before the text's first token
 abbrev pub start : Counted
@@ -61,8 +61,8 @@ behind_argument l t =
 -- a `[` that begins a statement or a feeder is refused where there are enough
 abbrev pub one_more : Counted → Lexeme → Result Counted Excess
 one_more c t =
-    if c.feeding && nat_lt c.feeders most then Ok (record c { feeders = c.feeders + 1; place = places.Area })
-    else if not c.feeding && nat_lt c.statements most
+    if c.feeding && nat_lt c.feeders most_statements then Ok (record c { feeders = c.feeders + 1; place = places.Area })
+    else if not c.feeding && nat_lt c.statements most_statements
     then Ok (record c { statements = c.statements + 1; place = places.Area })
     else Err (excesses.TooMany t.line)
 

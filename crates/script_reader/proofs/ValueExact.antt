@@ -2,11 +2,12 @@
 use Rattle.std.proofs.Common.{codes, refl}
 use Rattle.grammar.proofs.Exact.{Exact, Not}
 use Rattle.expression_grammar.specs.Expression.{nothing}
+use Rattle.expression_grammar.specs.Limits.{most_inside}
 use Rattle.expression_grammar.proofs.Languages.{goes_on, IsLanguage}
 use Rattle.expression_grammar.proofs.ExpressionExact as expressions
 use Rattle.script_tree.specs.Counting.{count, counting}
 use Rattle.script_tree.specs.Expression.{scripts_language, primary, value, truth}
-use Rattle.script_reader.specs.Readers.Reading.{read_primary, read_value, read_truth, most_inside}
+use Rattle.script_reader.specs.Readers.Reading.{read_primary, read_value, read_truth}
 use Rattle.script_reader.proofs.PrimaryExact.{primary_exact, primary_no_sign, number_sample}
 
 scripts_are_language : IsLanguage count scripts_language primary read_primary

@@ -6,9 +6,10 @@ use Rattle.grammar.specs.Tokens.{is_any_word}
 use Rattle.grammar.proofs.Exact.{Exact, Outcome, Agrees, Always, exact_by}
 use Rattle.grammar.proofs.Begins.{Begins}
 use Rattle.grammar.proofs.Many.{exact_rest}
+use Rattle.expression_grammar.specs.Limits.{most_inside}
 use Rattle.script_tree.specs.Counting.{counting}
 use Rattle.script_tree.specs.Statement.{statement_within, statement}
-use Rattle.script_reader.specs.Readers.StatementReading.{begins_statement, read_within, most_inside}
+use Rattle.script_reader.specs.Readers.StatementReading.{begins_statement, read_within}
 use Rattle.script_tree.specs.declared.line.Line.{Line}
 use Rattle.script_tree.specs.declared.script.Section.{Section}
 use Rattle.script_reader.proofs.StatementExact.{statement_exact, statement_opens, statement_any, leaping_sample}

@@ -3,15 +3,11 @@ ghost use Rattle.grammar.specs.Cursor.{Reads};
 ghost use Rattle.script_reader.specs.Readers.Reading as reading;
 
 use crate::language::Expressions;
-use expression_grammar::{Nested, Sort, Want, expression_at};
+use expression_grammar::{MOST_INSIDE, Nested, Sort, Want, expression_at};
 use grammar::{Cursor, Item, Stop};
 use script_tree::{Counted, Excess, Expr};
 use std::alloc::Global;
 use std::marker::PhantomData;
-
-/// How many expressions may be one inside the other. Each stands in parentheses of its own, and the 33rd `(` that is
-/// open is refused, so no text comes to the last of them.
-const MOST_INSIDE: u32 = 64;
 
 /// Reads an expression as wanted, with fewer than so many one inside the other.
 #[tactic(auto, unfolding(expression_grammar::specs::Readers::Reading::read_expression))]

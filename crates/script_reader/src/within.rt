@@ -1,14 +1,13 @@
 ghost use Rattle.std.specs.Prelude.{◌≡◌};
 ghost use Rattle.grammar.specs.Cursor.{Reads};
+ghost use Rattle.expression_grammar.specs.Limits.{most_inside};
 ghost use Rattle.script_reader.specs.Readers.StatementReading as reading;
 
 use crate::statement::statement_at;
+use expression_grammar::MOST_INSIDE;
 use grammar::{Cursor, RepeatedItem, Stop, any_word_comes, word_comes};
 use script_tree::{Counted, Excess, Line, Section};
 use std::alloc::Global;
-
-/// How many blocks may be one inside the other. The 33rd that is open is refused, so no text comes to the last of them.
-const MOST_INSIDE: u32 = 64;
 
 /// A statement in a block, by a function that reads statements with fewer than so many blocks one inside the other.
 #[derive(Clone, Copy)]
@@ -75,7 +74,7 @@ pub fn whole_statement(
     cursor: &mut Cursor<'_, Counted>,
     section: Section,
 ) -> Result<Line, Stop<Excess>>
-    ensures { Reads (λ line. line) (reading.read_within section reading.most_inside) cursor.old result cursor.new }
+    ensures { Reads (λ line. line) (reading.read_within section most_inside) cursor.old result cursor.new }
 {
     statement_within(alloc, cursor, section, MOST_INSIDE)
 }

@@ -2,6 +2,7 @@ ghost use Rattle.std.specs.Prelude.{◌≡◌, ℕ, ◌+◌, ◌<◌, ◌≤◌,
 ghost use Rattle.cell_store.specs.Entries.{cells_of};
 ghost use Rattle.cube_fixed.specs.Total.{with_term, value_of};
 ghost use Rattle.cube_space.specs.Cells.{IsCell, cube_of};
+ghost use Rattle.cube_space.specs.Layout.{most_model_cells};
 ghost use Rattle.rule_model.specs.Weights.{AreWeightsOf, weight, weight_product, max_weight_product};
 ghost use Rattle.stored_values.specs.Stored.{stored_in};
 ghost use Rattle.sparse_sum.specs.Live.{live_from};
@@ -165,7 +166,7 @@ fn next_leaf<W: CellSet>(
     ensures weight { IfSome result (λ leaf. leaf.weight ≡ weight space.now cell leaf.cell) }
     ensures stored { IfSome result (λ leaf. leaf.stored ≡ stored_in stored.now leaf.cell) }
     ensures leaf { IfSome result (λ leaf. IsCell space.now leaf.cell) }
-    ensures few { IfSome result (λ leaf. leaf.cell < 2 ^ 62) }
+    ensures few { IfSome result (λ leaf. leaf.cell < most_model_cells) }
     ensures size { IfSome result (λ leaf. unsigned_abs leaf.weight ≤ max_weight_product) }
 {
     let _cells = space.size();

@@ -100,7 +100,10 @@ pub fn answer_to(alloc: Global, kind: &str, text: &[u8]) -> Result<Answer, Alloc
             Some(before) => commands::user(
                 alloc,
                 text,
-                before.parse::<u32>().unwrap_or(0).min(65_536),
+                before
+                    .parse::<u32>()
+                    .unwrap_or(0)
+                    .min(user_text::MOST_COMMANDS),
             ),
             None => refused(alloc, &"no kind of text"),
         },

@@ -1,4 +1,5 @@
 ghost use Rattle.std.specs.Prelude.{◌≤◌};
+ghost use Rattle.user_text.specs.Counting.{most_commands};
 
 use crate::answers::{Answer, Lines, refused, shown};
 use dim_name::Name;
@@ -7,7 +8,7 @@ use user_text::{LoadText, ParamText, SetText, UserBody, UserCommand, ViewText};
 
 /// The commands of a user, behind those of other users.
 pub fn user(alloc: Global, text: &[u8], before: u32) -> Result<Answer, AllocError>
-    requires { before ≤ 65536 }
+    requires { before ≤ most_commands }
 {
     match user_text::parse(alloc, text, before) {
         Ok(commands) => {

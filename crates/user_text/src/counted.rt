@@ -3,7 +3,7 @@ use cube_lex::Token;
 use grammar::{Scan, is_sign};
 
 /// How many commands all users together may have.
-const MOST_COMMANDS: u32 = 65_536;
+pub const MOST_COMMANDS: u32 = 65_536;
 
 /// How many commands have begun, and whether one still goes on to its `;`.
 #[derive(Clone, Copy, Debug)]

@@ -14,5 +14,6 @@ mod text;
 mod view;
 
 pub use command::{CellText, LoadText, ParamText, SetText, UserBody, UserCommand, ViewText};
+pub use counted::MOST_COMMANDS;
 pub use fault::UserFault;
 pub use text::parse;

@@ -41,11 +41,15 @@ bound_point dimensions point = do
   element ← known (index_of dimension point.1)
   done (place, element)
 
+-- the last value of a count in 64 bits: a count that would be larger stays there
+abbrev pub last_count : ℕ
+last_count = 2 ^ 64 - 1
+
 -- a view, unless it has too many cells
 abbrev pub within_limit : View → Meaning View
 within_limit view =
     if nat_lt most_cells (cell_count view.rows view.columns)
-    then Err (ViewLimit (min (cell_count view.rows view.columns) (2 ^ 64 - 1))) else done view
+    then Err (ViewLimit (min (cell_count view.rows view.columns) last_count)) else done view
 
 -- the same where each dimension of the cube stands in just one of rows, columns and points
 abbrev pub with_elements : List Outline → ℕ → ViewText → Meaning View

@@ -1,7 +1,8 @@
 ghost use Rattle.std.specs.Prelude.{◌≡◌, ◌-◌, ◌^◌, ◌*◌, ◌<◌, ◌==◌, length, min, IfOk};
 ghost use Rattle.cube_space.specs.Layout.{axes};
 ghost use Rattle.view_query.specs.Meaning.{Answers};
-ghost use Rattle.view_query.specs.Binding.{bound, bound_in, is_counted, is_each_once, with_elements, within_limit};
+ghost use Rattle.view_query.specs.Binding.{bound, bound_in, is_counted, is_each_once, last_count, with_elements};
+ghost use Rattle.view_query.specs.Binding.{within_limit};
 ghost use Rattle.view_query.specs.Views.{IsView, cell_count, lines, times_at};
 
 use crate::axis::axis_count;
@@ -113,7 +114,7 @@ fn within_limit(view: View) -> Result<View, ViewFault>
 
 // How many lines there are along axes, or the greatest number where they are more.
 fn line_count(axes: &[Axis]) -> u64
-    ensures { result ≡ min (length (lines axes.now)) (2 ^ 64 - 1) }
+    ensures { result ≡ min (length (lines axes.now)) last_count }
 {
     let mut count: u64 = 1;
     for axis in axes {

@@ -1,6 +1,6 @@
 ghost use Rattle.std.specs.Prelude.{◌≡◌, ◌<◌, ◌≤◌, All, IfOk, OnOk, Some, fold, length, map, take};
 ghost use Rattle.std.specs.List.{flat_map, range_with_len};
-ghost use Rattle.cube_space.specs.Layout.{axes};
+ghost use Rattle.cube_space.specs.Layout.{axes, most_dimensions};
 ghost use Rattle.cube_space.specs.Cells.{size_of};
 ghost use Rattle.view_query.specs.Views.{IsView, cell_at, element_at, element_in, elements_at, point_at};
 ghost use Rattle.view_query.specs.Inside.Lines.{IsLine};
@@ -46,7 +46,7 @@ fn element_at(view: &View, row: &[u32], column: &[u32], place: u32) -> u32
 
 // Puts the elements of the cell of a row and a column into the first places.
 fn put_elements(view: &View, row: &[u32], column: &[u32], count: usize, at: &mut [u32; 16])
-    requires { count ≤ 16 }
+    requires { count ≤ most_dimensions }
     ensures { take count at.new ≡ map (element_at view.now row.now column.now) (range_with_len 0 count) }
 {
     for place in 0..count {

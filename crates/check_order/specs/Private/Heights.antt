@@ -2,7 +2,7 @@
 use Rattle.std.specs.Prelude.{ℕ, ◌+◌, nat_lt, Option, List, map, take}
 use Rattle.std.specs.List.{range_with_len, find}
 use Rattle.cube_space.specs.Radix.{product}
-use Rattle.check_order.specs.Heights.{greatest_height}
+use Rattle.rule_model.specs.Order.{greatest_height}
 
 -- the first of so many heights from this position on that is too great
 abbrev pub high_from : List ℕ → ℕ → ℕ → Option ℕ

@@ -4,6 +4,7 @@ use Rattle.cube_lex.specs.Lexeme.{Lexeme}
 use Rattle.grammar.specs.Reading.{Reader, gives, take_one, choose, ◌>>=◌, ◌>>◌}
 use Rattle.grammar.specs.Lists.{read_listed, read_further}
 use Rattle.grammar.specs.Tokens.{sign, word, name, text, money, capital_word, is_sign, is_text, is_number, is_any_word}
+use Rattle.expression_grammar.specs.Limits.{most_inside}
 use Rattle.expression_grammar.specs.Readers.Reading.{read_expression, tree_of}
 use Rattle.expression_grammar.specs.declared.sort.Sort.{Sort}
 use Rattle.expression_grammar.specs.declared.sort.Want.{Want}
@@ -110,10 +111,6 @@ read_primary value truth =
 
 abbrev pub read_inner : ℕ → Want → Plan (Tree × Sort)
 read_inner left = read_expression count rules_language read_primary left
-
--- more than may be one inside the other
-abbrev pub most_inside : ℕ
-most_inside = 64
 
 unfoldable pub read_formula : Plan Tree
 read_formula = tree_of (read_inner most_inside wants.Value)

@@ -4,6 +4,7 @@ use Rattle.cube_lex.specs.Lexeme.{Lexeme}
 use Rattle.grammar.specs.Reading.{Reader, gives, take_one, choose, ◌>>=◌, ◌>>◌}
 use Rattle.grammar.specs.Lists.{read_listed}
 use Rattle.grammar.specs.Tokens.{sign, word, text, money, is_text, is_number}
+use Rattle.expression_grammar.specs.Limits.{most_inside}
 use Rattle.expression_grammar.specs.Readers.Reading.{read_expression, tree_of}
 use Rattle.expression_grammar.specs.declared.sort.Sort.{Sort}
 use Rattle.expression_grammar.specs.declared.sort.Want.{Want}
@@ -98,10 +99,6 @@ read_primary value truth = choose is_number read_number (choose is_text read_quo
 
 abbrev pub read_inner : ℕ → Want → Plan (Expr × Sort)
 read_inner left = read_expression count scripts_language read_primary left
-
--- more than may be one inside the other
-abbrev pub most_inside : ℕ
-most_inside = 64
 
 unfoldable pub read_value : Plan Expr
 read_value = tree_of (read_inner most_inside wants.Value)

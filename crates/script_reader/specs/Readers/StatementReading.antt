@@ -110,7 +110,3 @@ begins_statement t = is_any_word t && not (is_word (codes "ELSEIF") t || is_word
 unfoldable pub read_within : Section → ℕ → Plan Line
 read_within section zero = out_of_turns
 read_within section (suc k) = read_statement section (all_of begins_statement (read_within section k))
-
--- more than may be one inside the other
-abbrev pub most_inside : ℕ
-most_inside = 64

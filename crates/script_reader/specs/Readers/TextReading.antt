@@ -4,9 +4,10 @@ use Rattle.cube_lex.specs.Lexeme.{Lexeme}
 use Rattle.grammar.specs.After.{all_after}
 use Rattle.grammar.specs.Reading.{gives, choose, ◌>>=◌, ◌>>◌}
 use Rattle.grammar.specs.Tokens.{is_sign, is_word, is_any_word}
+use Rattle.expression_grammar.specs.Limits.{most_inside}
 use Rattle.expression_grammar.specs.Readers.Lookahead.{starts_pair, choose_pair}
 use Rattle.script_reader.specs.Readers.Reading.{Plan, take_sign, take_word}
-use Rattle.script_reader.specs.Readers.StatementReading.{read_within, most_inside}
+use Rattle.script_reader.specs.Readers.StatementReading.{read_within}
 use Rattle.script_reader.specs.declared.section.Piece.{Piece}
 use Rattle.script_reader.specs.declared.section.Piece.TheVariants as pieces
 use Rattle.script_tree.specs.ScriptText.{script_of}

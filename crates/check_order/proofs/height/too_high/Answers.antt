@@ -1,7 +1,7 @@
 use Rattle.std.proofs.Common.{◌≡◌, ◌∙◌, subst, ap, arith, suc, ◌+◌, ◌*◌, ◌-◌, ◌<◌, ◌≤◌, Some, take}
 use Rattle.cube_space.specs.Radix.{product}
-use Rattle.rule_model.specs.Order.{most_positions, position_sizes}
-use Rattle.check_order.specs.Heights.{greatest_height, first_too_high}
+use Rattle.rule_model.specs.Order.{greatest_height, most_positions, position_sizes}
+use Rattle.check_order.specs.Heights.{first_too_high}
 use Rattle.check_order.proofs.HeightFacts.{high-here, high-past, height-next}
 use Rattle.check_order.proofs.height.too_high.Goals as goal
 
