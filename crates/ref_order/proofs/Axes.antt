@@ -1,39 +1,17 @@
 -- The dimensions of a cube, as they are found by number.
-use Rattle.std.proofs.Common.{◌≡◌, refl, sym, ap, ◌∙◌, arith, subst, ℕ, zero, suc, ◌<◌, ◌≤◌, Option, Some, None, List, [], ◌∷◌, length, map, All}
+use Rattle.std.proofs.Common.{◌≡◌, refl, sym, ap, ◌∙◌, arith, subst, ℕ, zero, suc, ◌<◌, ◌≤◌, Option, Some, None, List, [], ◌∷◌, length, All}
 use Rattle.std.specs.Prelude.{slice_get, slice_index_or}
 use Rattle.dim_core.specs.Outline.{Outline}
 use Rattle.cube_space.specs.declared.shape.CubeShape.{CubeShape}
 use Rattle.cube_space.specs.Layout.{Layout, axes, axes_of, sizes}
 use Rattle.cube_space.specs.Cells.{IsSpace}
-use Rattle.cube_space.proofs.Axes.{length-axes_of}
-use Rattle.std.proofs.lemmas.List.{length-map}
+use Rattle.rule_model.proofs.Shapes.{shape_dims, axes_length, dims_within, dims_few}
 use Rattle.order_laws.proofs.ChildFacts.{size-at}
-
--- the shape of a cube has its dimensions
-found_holds : {X : Type 0} (P : X → Type 0) (xs : List X) (i : ℕ) (x : X) → All P xs → slice_get xs i ≡ Some x → P x
-found_holds P [] i x all is = absurd (cc is)
-found_holds P (y ∷ xs) zero x all is = let same : y ≡ x = cc in subst P same (all 0 y (omega arith))
-found_holds P (y ∷ xs) (suc i) x all is = found_holds P xs i x (λ k d low. all (suc k) d (omega arith)) is
-
-found_dims : (cubes : List CubeShape) (cube : ℕ) (shape : CubeShape) → slice_get cubes cube ≡ Some shape → slice_index_or (map (λ s. s.dims) cubes) cube [] ≡ shape.dims
-found_dims [] cube shape is = absurd (cc is)
-found_dims (s ∷ cubes) zero shape is = let same : s ≡ shape = cc in ap (λ (s : CubeShape). s.dims) same
-found_dims (s ∷ cubes) (suc cube) shape is = found_dims cubes cube shape is
-
-shape_dims : (space : Layout) (cube : ℕ) (shape : CubeShape) → slice_get space.cubes cube ≡ Some shape → axes space cube ≡ axes_of space.dimensions shape.dims
-shape_dims space cube shape is = ap (axes_of space.dimensions) (found_dims space.cubes cube shape is)
-
-axes_length : (D : List Outline) (ks : List ℕ) → All (λ k. k < length D) ks → length (axes_of D ks) ≡ length ks
-axes_length D ks within = sym (length-map (axes_of D ks) (λ d. length d.elements)) ∙ length-axes_of D ks within
-
-dims_within : (space : Layout) (cube : ℕ) (shape : CubeShape) → IsSpace space → slice_get space.cubes cube ≡ Some shape → All (λ dim. dim < length space.dimensions) shape.dims
-dims_within space cube shape valid is = found_holds (λ s. All (λ dim. dim < length space.dimensions) s.dims) space.cubes cube shape valid.layout.in_range is
 
 -- a cube has at most 16 dimensions
 pub axes-few : (space : Layout) (cube : ℕ) (shape : CubeShape) → IsSpace space → slice_get space.cubes cube ≡ Some shape → length (axes space cube) ≤ 16
 axes-few space cube shape valid is =
-    let few = (found_holds (λ s. (2 ≤ length s.dims) × (length s.dims ≤ 16)) space.cubes cube shape valid.counts is).1 in
-    omega (arith, few, ap length (shape_dims space cube shape is), axes_length space.dimensions shape.dims (dims_within space cube shape valid is))
+    omega (arith, dims_few space cube shape valid is, ap length (shape_dims space cube shape is), axes_length space.dimensions shape.dims (dims_within space cube shape valid is))
 
 axis-found : (D : List Outline) (dims : List ℕ) (i : ℕ) (d : Outline) → All (λ dim. dim < length D) dims → i < length dims → slice_get D (slice_index_or dims i 0) ≡ Some d → slice_get (axes_of D dims) i ≡ Some d
 axis-found D [] i d all low is = absurd (omega arith)

@@ -1,6 +1,6 @@
-mod Named
-mod Shapes
-mod Coefs
+pub mod Named
+pub mod Shapes
+pub mod Coefs
 mod Components
 mod Arguments
 mod Statements

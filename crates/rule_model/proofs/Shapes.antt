@@ -3,7 +3,7 @@ use Rattle.std.proofs.Common.{◌≡◌, ℕ, ◌<◌, ◌≤◌, zero, suc, Lis
 use Rattle.std.proofs.Common.{◌++◌, take, pos, true, false, eqb, eq-eqb, Bool}
 use Rattle.std.proofs.lemmas.List.{length-map}
 use Rattle.std.proofs.Math.Seq.{take-append_seam}
-use Rattle.std.proofs.lemmas.Bool.Decides.{Decides-eqb}
+use Rattle.std.proofs.lemmas.Bool.{ne_eqb}
 use Rattle.cube_space.specs.Radix.{are_digits, product}
 use Rattle.cube_space.proofs.Radix.{digits-length}
 use Rattle.rule_model.specs.Weights.{weight, coef_product, greatest_coef, HasSmallProducts}
@@ -53,16 +53,10 @@ digits_taken space cube shape elements rest valid is are =
     ap (are_digits (sizes_of (axes_of space.dimensions shape.dims))) (elements_taken space cube shape elements rest valid is are)
     ∙ ap (λ s. are_digits s elements) (ap sizes_of (sym (shape_dims space cube shape is))) ∙ are
 
-eqb-false : (a b : ℕ) → (a ≡ b → ⊥) → eqb a b ≡ false
-eqb-false a b differ = eqb_by a b (eqb a b) refl differ where
-  eqb_by : (a b : ℕ) (t : Bool) → eqb a b ≡ t → (a ≡ b → ⊥) → eqb a b ≡ false
-  eqb_by a b true e differ = absurd (differ ((Decides-eqb a b).0 e))
-  eqb_by a b false e differ = e
-
 pub weight_apart : (space : Layout) (cell leaf : ℕ) → (cube_of space cell ≡ cube_of space leaf → ⊥) → pos 0 ≡ weight space cell leaf
 unfolding weight
 weight_apart space cell leaf differ =
-    let e = eqb-false (cube_of space cell) (cube_of space leaf) differ in rw e refl
+    let e = ne_eqb (cube_of space cell) (cube_of space leaf) differ in rw e refl
 
 pub weight_same : (space : Layout) (cell leaf : ℕ) → cube_of space cell ≡ cube_of space leaf → weight space cell leaf ≡ coef_product (axes space (cube_of space cell)) (elements_of space cell) (elements_of space leaf)
 unfolding weight
