@@ -9,8 +9,8 @@ use Rattle.dim_core.specs.Outline.{Outline}
 use Rattle.bind_arguments.specs.Written.{AtPlace, AttributeOf, Part, argument_of_part}
 use Rattle.bind_arguments.specs.Bound.{dimension_at, dimension_named, attribute_named}
 use Rattle.bind_arguments.specs.Argument.{IsAnsweredBy}
-use Rattle.bind_arguments.specs.Private.Reading.{bound_part, bound_place, placed, attributed}
-use Rattle.bind_arguments.specs.Private.Within.{is_within, within_step, is_dimension, is_placed}
+use Rattle.bind_arguments.specs.Inside.Reading.{bound_part, bound_place, placed, attributed}
+use Rattle.bind_arguments.specs.Inside.Within.{is_within, within_step, is_dimension, is_placed}
 use Rattle.bind_arguments.specs.declared.bound_argument.BoundArgument.{BoundArgument}
 use Rattle.bind_arguments.specs.declared.bound_argument.BoundArgument.TheFolds.{fold-roll-BoundArgument}
 use Rattle.bind_arguments.specs.declared.bound_argument.BoundArgument.TheOpen.{BoundArgument-F}

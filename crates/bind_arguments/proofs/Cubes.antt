@@ -4,7 +4,7 @@ use Rattle.std.proofs.lemmas.List.{get_or-map}
 use Rattle.std.proofs.lemmas.Option.{slice_get_within, get_or_from_slice_get}
 use Rattle.cube_space.specs.declared.shape.CubeShape.{CubeShape}
 use Rattle.std.proofs.lemmas.Bool.{and_from, lt-ltb}
-use Rattle.bind_arguments.specs.Private.Within.{is_dimension, is_placed}
+use Rattle.bind_arguments.specs.Inside.Within.{is_dimension, is_placed}
 use Rattle.cube_space.specs.Cells.{IsSpace}
 use Rattle.cube_space.specs.Layout.{Layout, dims_of}
 

@@ -5,7 +5,7 @@ use Rattle.cube_fixed.specs.Range.{IsInRange, is_in_range}
 use Rattle.cube_space.specs.Layout.{Layout}
 use Rattle.dim_core.specs.Outline.{Outline, names_of}
 use Rattle.bind_arguments.specs.Bound.{dimension_at, name_at, index_in, attribute_in, given_step, name_given}
-use Rattle.bind_arguments.specs.Private.Within.{is_within, is_dimension, is_placed}
+use Rattle.bind_arguments.specs.Inside.Within.{is_within, is_dimension, is_placed}
 use Rattle.bind_arguments.specs.declared.bound_argument.BoundArgument.{BoundArgument}
 use Rattle.bind_arguments.specs.declared.bound_argument.BoundArgument.TheFolds.{fold-roll-BoundArgument}
 use Rattle.bind_arguments.specs.declared.bound_argument.BoundArgument.TheOpen.{BoundArgument-F}

@@ -10,7 +10,7 @@ use Rattle.rule_tree.specs.declared.tree.Tree.TheVariants.{rolls-Number, rolls-T
 use Rattle.rule_tree.specs.declared.tree.TreeOp.{TreeOp}
 use Rattle.rule_tree.specs.declared.tree.TreeOp.TheVariants as ops
 use Rattle.bind_arguments.specs.Written.{Written, Current, Quoted, Part, Whole, AttributeOf, Element, Place, Moved, Other, whole_number, number_part, argument_of_part, at_index, name_call, index_call, attribute_call, call_part, operation_part, part_step, part_in}
-use Rattle.bind_arguments.specs.Private.Reading.{text_of_part, whole_of_part, at_moved}
+use Rattle.bind_arguments.specs.Inside.Reading.{text_of_part, whole_of_part, at_moved}
 
 pub part_number : (tree : Tree) (z : ℤ) → tree ≡ trees.Number z → part_in tree ≡ number_part z
 unfolding part_in

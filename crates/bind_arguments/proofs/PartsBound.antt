@@ -10,7 +10,7 @@ use Rattle.rule_tree.specs.declared.tree.TreeOp.TheVariants as ops
 use Rattle.bind_arguments.specs.Written.{Written, Current, whole_number, number_part, AtPlace, AttributeOf, Quoted, Part, Whole, Element, Place, Moved, Other, argument_of_part, at_index, name_call, index_call, attribute_call, call_part, operation_part, part_in}
 use Rattle.bind_arguments.specs.Bound.{name_in, dimension_named, place_in_cube, bound_argument}
 use Rattle.bind_arguments.specs.Argument.{IsAnsweredBy}
-use Rattle.bind_arguments.specs.Private.Reading.{text_of_part, shift_in, bound_by_form, bound_part, at_moved}
+use Rattle.bind_arguments.specs.Inside.Reading.{text_of_part, shift_in, bound_by_form, bound_part, at_moved}
 use Rattle.bind_arguments.specs.declared.bound_argument.BoundArgument.{BoundArgument}
 use Rattle.bind_arguments.specs.declared.bound_argument.BoundArgument.TheVariants as bound
 use Rattle.bind_arguments.specs.declared.fault.ArgumentFault.{ArgumentFault}

@@ -22,8 +22,8 @@ use Rattle.rule_tree.specs.declared.tree.Tree.{Tree}
 use Rattle.bind_arguments.specs.Written.{Quoted, Part, Element, argument_of_part, part_in}
 use Rattle.bind_arguments.specs.Bound.{dimension_at, name_in, bound_argument, followed_step, followed, name_given, element_given}
 use Rattle.bind_arguments.specs.Argument.{size_at, still, table, arg_following, arg_of, argument_by_form, argument_of, IsAnsweredBy}
-use Rattle.bind_arguments.specs.Private.Reading.{text_of_part, bound_part}
-use Rattle.bind_arguments.specs.Private.Within.{is_within, within_step, is_dimension, is_placed}
+use Rattle.bind_arguments.specs.Inside.Reading.{text_of_part, bound_part}
+use Rattle.bind_arguments.specs.Inside.Within.{is_within, within_step, is_dimension, is_placed}
 use Rattle.bind_arguments.specs.declared.bound_argument.BoundArgument.{BoundArgument}
 use Rattle.bind_arguments.specs.declared.bound_argument.BoundArgument.TheFolds.{fold-roll-BoundArgument, ind-BoundArgument, map-BoundArgument}
 use Rattle.bind_arguments.specs.declared.bound_argument.BoundArgument.TheViews.{roll-BoundArgument}

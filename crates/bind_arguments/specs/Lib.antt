@@ -1,4 +1,4 @@
 pub mod Written
 pub mod Bound
 pub mod Argument
-pub mod Private
+pub mod Inside

@@ -10,7 +10,7 @@ ghost use Rattle.bind_arguments.specs.Bound.{name_in, dimension_at};
 ghost use Rattle.bind_arguments.specs.declared.bound_argument.BoundArgument.TheVariants as variants;
 ghost use Rattle.bind_arguments.specs.Argument as bindings;
 ghost use Rattle.bind_arguments.specs.Argument.{argument_of, size_at, table, IsAnsweredBy};
-ghost use Rattle.bind_arguments.specs.Private.Within.{is_within};
+ghost use Rattle.bind_arguments.specs.Inside.Within.{is_within};
 ghost use Rattle.bind_arguments.specs.declared.fault.ArgumentFault.TheVariants.{UnknownName};
 
 use crate::binding::bind_element;

@@ -6,9 +6,9 @@ ghost use Rattle.bind_arguments.specs.Written.{call_part, name_call, index_call,
 ghost use Rattle.bind_arguments.specs.declared.bound_argument.BoundArgument.TheVariants as bound;
 ghost use Rattle.bind_arguments.specs.declared.fault.ArgumentFault.TheVariants.{UnknownName};
 ghost use Rattle.bind_arguments.specs.Argument.{IsAnsweredBy};
-ghost use Rattle.bind_arguments.specs.Private.Reading.{bound_part, bound_place, placed, at_moved, attributed};
-ghost use Rattle.bind_arguments.specs.Private.Within.{is_within};
-ghost use Rattle.bind_arguments.specs.Private.Within.{is_within};
+ghost use Rattle.bind_arguments.specs.Inside.Reading.{bound_part, bound_place, placed, at_moved, attributed};
+ghost use Rattle.bind_arguments.specs.Inside.Within.{is_within};
+ghost use Rattle.bind_arguments.specs.Inside.Within.{is_within};
 
 use crate::bound_argument::BoundArgument;
 use crate::fault::ArgumentFault;

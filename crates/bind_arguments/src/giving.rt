@@ -4,7 +4,7 @@ ghost use Rattle.std.specs.Option.{option_and_then, option_map_or};
 ghost use Rattle.dim_core.specs.Outline.{index_of, names_of};
 ghost use Rattle.bind_arguments.specs.Bound as bound;
 ghost use Rattle.bind_arguments.specs.Bound.{name_in, name_at, name_given};
-ghost use Rattle.bind_arguments.specs.Private.Within.{is_within};
+ghost use Rattle.bind_arguments.specs.Inside.Within.{is_within};
 
 use crate::bound_argument::BoundArgument;
 use crate::naming::name_in;

@@ -3,7 +3,7 @@ ghost use Rattle.std.specs.Option.{option_copied};
 ghost use Rattle.cube_fixed.specs.Range.{IsInRange};
 ghost use Rattle.bind_arguments.specs.Written as written;
 ghost use Rattle.bind_arguments.specs.Written.{part_in};
-ghost use Rattle.bind_arguments.specs.Private.Reading.{text_of_part, whole_of_part, shift_in};
+ghost use Rattle.bind_arguments.specs.Inside.Reading.{text_of_part, whole_of_part, shift_in};
 
 use cube_fixed::Money;
 use rule_tree::{Tree, TreeOp};

@@ -3,7 +3,7 @@ use Rattle.std.proofs.Common.{◌≡◌, ℕ, ◌+◌, ◌<◌, ◌≤◌, Bool,
 use Rattle.std.proofs.lemmas.Bool.Decides.{nat_tests}
 use Rattle.std.proofs.lemmas.List.Elements.{filter-append}
 use Rattle.std.proofs.lemmas.List.{drop_more, drop_all}
-use Rattle.cell_store.specs.Private.Order.{IsRising, below_by, above_by, up_to_by, kept_by, with_entry, after_entries}
+use Rattle.cell_store.specs.Inside.Order.{IsRising, below_by, above_by, up_to_by, kept_by, with_entry, after_entries}
 use Rattle.cell_store.proofs.Rising.{AllAbove-lower, Rises-from_increasing, increasing_from_Rises}
 use Rattle.cell_store.proofs.InOrder.{InOrder, AllOver, AllUpTo, over-append, in_order-back}
 

@@ -4,7 +4,7 @@ use Rattle.std.proofs.lemmas.Bool.Decides.{nat_tests, leb_tells}
 use Rattle.std.specs.List.{slice_get, flat_map}
 use Rattle.std.proofs.lemmas.List.{nil_from_length}
 use Rattle.std.specs.List.Sorted.{IsNonDecreasingBy}
-use Rattle.cell_store.specs.Private.Order.{IsRising, at_least_by, first_from, EndsAt}
+use Rattle.cell_store.specs.Inside.Order.{IsRising, at_least_by, first_from, EndsAt}
 use Rattle.cell_store.proofs.Rising.{AllAbove, Rises, Rises-from_increasing}
 
 pub leb_not_ltb : (a b : ℕ) → leb a b ≡ not (ltb b a)

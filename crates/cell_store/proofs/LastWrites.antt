@@ -6,7 +6,7 @@ use Rattle.std.proofs.lemmas.List.{take_more, take_all, get_or_read}
 use Rattle.std.proofs.lemmas.Bool.{ne_eqb, cases_lt}
 use Rattle.std.proofs.lemmas.Bool.Decides.{nat_tests, eqb_tells}
 use Rattle.std.proofs.lemmas.List.Elements.{filter-append, filter_agree}
-use Rattle.cell_store.specs.Private.Order.{IsRising, below_by, above_by, kept_by, with_entry, after_entries, last_at}
+use Rattle.cell_store.specs.Inside.Order.{IsRising, below_by, above_by, kept_by, with_entry, after_entries, last_at}
 use Rattle.cell_store.proofs.Rising.{Rises-from_increasing, increasing_from_Rises}
 use Rattle.cell_store.proofs.InOrder.{InOrder, AllOver, AllUpTo}
 use Rattle.cell_store.proofs.Edits.{in_order-after, below_then, up_to-append, up_to-below}

@@ -4,8 +4,8 @@ use Rattle.std.specs.List.{slice_get, flat_map}
 use Rattle.std.proofs.lemmas.List.Concat.{flat_map-append}
 use Rattle.std.proofs.lemmas.List.Elements.{All-weaker}
 use Rattle.cell_store.specs.declared.node.Node.{Node}
-use Rattle.cell_store.specs.Private.Order.{EndsAt}
-use Rattle.cell_store.specs.Private.Levels.{IsNode, AreNodes, entries_under}
+use Rattle.cell_store.specs.Inside.Order.{EndsAt}
+use Rattle.cell_store.specs.Inside.Levels.{IsNode, AreNodes, entries_under}
 use Rattle.cell_store.proofs.InOrder.{item_at}
 
 abbrev pub last_of : {T : Type 0} → Node T → ℕ

@@ -5,7 +5,7 @@ use Rattle.std.proofs.lemmas.Bool.Decides.{leb_tells}
 use Rattle.std.proofs.lemmas.List.Elements.{All-head, All-tail}
 use Rattle.std.proofs.lemmas.List.{drop_more}
 use Rattle.std.proofs.lemmas.List.Concat.{flat_map-append}
-use Rattle.cell_store.specs.Private.Order.{IsRising, at_least_by, up_to_by, above_by, first_from, EndsAt, after_entries}
+use Rattle.cell_store.specs.Inside.Order.{IsRising, at_least_by, up_to_by, above_by, first_from, EndsAt, after_entries}
 use Rattle.cell_store.proofs.Rising.{Rises-from_increasing, increasing_from_Rises}
 use Rattle.cell_store.proofs.InOrder.{InOrder, AllOver, AllUpTo, in_order-front, in_order-back, ends_up_to, over-ended}
 use Rattle.cell_store.proofs.Edits.{up_to-up_to, over-above, after-parts}

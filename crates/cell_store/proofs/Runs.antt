@@ -3,7 +3,7 @@ use Rattle.std.proofs.Common.{◌≡◌, ℕ, List, [], ◌∷◌, ◌++◌, map
 use Rattle.std.proofs.lemmas.Bool.Decides.{leb_tells}
 use Rattle.std.proofs.lemmas.List.Elements.{All-head, All-tail}
 use Rattle.std.specs.List.{slice_get, flat_map}
-use Rattle.cell_store.specs.Private.Order.{at_least_by, first_from, EndsAt}
+use Rattle.cell_store.specs.Inside.Order.{at_least_by, first_from, EndsAt}
 use Rattle.cell_store.proofs.Rising.{AllAbove, Rises}
 use Rattle.cell_store.proofs.InOrder.{InOrder, AllOver, in_order-front, in_order-back, ends_up_to, ends_over, over-front, over-back, over-ended, first-stops, first-passes}
 

@@ -3,7 +3,7 @@ use Rattle.std.proofs.Common.{◌≡◌, ℕ, zero, suc, ◌<◌, ◌⊎◌, Boo
 use Rattle.std.proofs.lemmas.Bool.{cases_lt}
 use Rattle.std.proofs.lemmas.Bool.Decides.{nat_tests}
 use Rattle.cell_store.specs.Cells.{IsUnion}
-use Rattle.cell_store.specs.Private.Order.{IsRising, below_by, above_by, with_entry, after_entries, last_at}
+use Rattle.cell_store.specs.Inside.Order.{IsRising, below_by, above_by, with_entry, after_entries, last_at}
 use Rattle.cell_store.proofs.Rising.{Rises-from_increasing, increasing_from_Rises}
 use Rattle.cell_store.proofs.InOrder.{InOrder}
 use Rattle.cell_store.proofs.Edits.{in_order-after}

@@ -5,8 +5,8 @@ use Rattle.std.proofs.lemmas.Bool.Decides.{Decides-int_eq, not_from_Decides}
 use Rattle.std.proofs.lemmas.List.Elements.{All-append, All-filter, All-nil, All-cons}
 use Rattle.cell_store.specs.declared.entry.Entry.{Entry}
 use Rattle.cell_store.specs.Entries.{cells_of, IsStore, below, above, kept_of, with_write, after_writes}
-use Rattle.cell_store.specs.Private.Order.{last_at, after_entries}
-use Rattle.cell_store.specs.Private.Entries.{cell_of, is_zero, entry_of}
+use Rattle.cell_store.specs.Inside.Order.{last_at, after_entries}
+use Rattle.cell_store.specs.Inside.Entries.{cell_of, is_zero, entry_of}
 use Rattle.cell_store.proofs.Rising.{Rises-from_increasing, increasing_from_Rises}
 use Rattle.cell_store.proofs.Edits.{in_order-after}
 use Rattle.cell_store.proofs.LastWrites.{after-last}

@@ -1,3 +1,3 @@
 pub mod Cells
 pub mod Entries
-pub mod Private
+pub mod Inside

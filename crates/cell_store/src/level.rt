@@ -1,7 +1,7 @@
 ghost use Rattle.std.specs.Prelude.{◌≡◌, ◌*◌, ◌<◌, ◌≤◌, [], ◌++◌, length, IfOk, OnOk, IfSome, IfNone};
 ghost use Rattle.std.specs.List.{flat_map};
-ghost use Rattle.cell_store.specs.Private.Order.{EndsAt, IsRising, after_entries};
-ghost use Rattle.cell_store.specs.Private.Levels.{IsNode, AreNodes, IsLevel, entries_under, level_entries};
+ghost use Rattle.cell_store.specs.Inside.Order.{EndsAt, IsRising, after_entries};
+ghost use Rattle.cell_store.specs.Inside.Levels.{IsNode, AreNodes, IsLevel, entries_under, level_entries};
 
 use crate::node::{Node, node_of, shared};
 use crate::order::Stored;

@@ -8,7 +8,7 @@
 //!   that its writes change, and at each level the list of nodes that leads to them.
 //!
 //! Contracts see a store as its list of entries, in rising order of cells and without zeros, and a set as the list of
-//! its cells. They cite the definitions at the top of `specs/`; how both stand in pages is said in `specs/Private/`.
+//! its cells. They cite the definitions at the top of `specs/`; how both stand in pages is said in `specs/Inside/`.
 #![tactic(auto)]
 
 pub use cells::CellSet;

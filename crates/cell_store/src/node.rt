@@ -1,6 +1,6 @@
 ghost use Rattle.std.specs.Prelude.{◌≡◌, ◌*◌, ◌<◌, ◌≤◌, IfOk};
-ghost use Rattle.cell_store.specs.Private.Order.{EndsAt};
-ghost use Rattle.cell_store.specs.Private.Levels.{IsNode, entries_under};
+ghost use Rattle.cell_store.specs.Inside.Order.{EndsAt};
+ghost use Rattle.cell_store.specs.Inside.Levels.{IsNode, entries_under};
 
 use crate::order::{Placed, Stored};
 use crate::part::Part;

@@ -1,5 +1,5 @@
 ghost use Rattle.std.specs.Prelude.{◌≡◌, ◌++◌, length, OnOk};
-ghost use Rattle.cell_store.specs.Private.Order.{kept_by};
+ghost use Rattle.cell_store.specs.Inside.Order.{kept_by};
 
 use crate::order::Stored;
 use crate::part::Part;

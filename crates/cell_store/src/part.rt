@@ -1,6 +1,6 @@
 ghost use Rattle.std.specs.Prelude.{◌≡◌, ℕ, ◌*◌, ◌<◌, ◌≤◌, true, false, List, [], ◌++◌, length};
 ghost use Rattle.std.specs.Prelude.{IfOk, OnOk, IfSome, IfNone};
-ghost use Rattle.cell_store.specs.Private.Order.{EndsAt, IsRising, first_from, after_entries};
+ghost use Rattle.cell_store.specs.Inside.Order.{EndsAt, IsRising, first_from, after_entries};
 
 use crate::order::Stored;
 use std::alloc::{AllocError, Global};

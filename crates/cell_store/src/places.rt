@@ -1,5 +1,5 @@
 ghost use Rattle.std.specs.Prelude.{◌≡◌, ◌≤◌, length, take, drop};
-ghost use Rattle.cell_store.specs.Private.Order.{IsRising, below_by, at_least_by, up_to_by, above_by, first_from};
+ghost use Rattle.cell_store.specs.Inside.Order.{IsRising, below_by, at_least_by, up_to_by, above_by, first_from};
 
 use crate::order::Placed;
 

@@ -18,8 +18,8 @@ pub struct PageSet {
 
 impl Model for PageSet {
     ghost use Rattle.std.specs.Prelude.{List, ℕ};
-    ghost use Rattle.cell_store.specs.Private.Trees.{all_entries};
-    ghost use Rattle.cell_store.specs.Private.Sets.{IsKept};
+    ghost use Rattle.cell_store.specs.Inside.Trees.{all_entries};
+    ghost use Rattle.cell_store.specs.Inside.Sets.{IsKept};
 
     ghost Value = { List ℕ };
 

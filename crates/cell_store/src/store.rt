@@ -1,7 +1,7 @@
 ghost use Rattle.std.specs.Prelude.{◌≡◌, ℕ, ◌<◌, ◌≤◌, ◌⊎◌, [], Err, length, map, IfOk, IsOkUnless};
 ghost use Rattle.cell_store.specs.Entries.{IsStore, most_cells, number_at, entry_from, after_writes};
-ghost use Rattle.cell_store.specs.Private.Entries.{cell_of, entry_of};
-ghost use Rattle.cell_store.specs.Private.Trees.{all_entries, IsTree};
+ghost use Rattle.cell_store.specs.Inside.Entries.{cell_of, entry_of};
+ghost use Rattle.cell_store.specs.Inside.Trees.{all_entries, IsTree};
 
 use crate::cells::CellSet;
 use crate::entry::Entry;
@@ -29,8 +29,8 @@ impl Model for Store {
 
     ghost Value = { List Entry };
 
-    ghost use Rattle.cell_store.specs.Private.Trees.{all_entries};
-    ghost use Rattle.cell_store.specs.Private.Stores.{IsKept};
+    ghost use Rattle.cell_store.specs.Inside.Trees.{all_entries};
+    ghost use Rattle.cell_store.specs.Inside.Stores.{IsKept};
 
     ghost view = { λ s. all_entries s.tree };
 

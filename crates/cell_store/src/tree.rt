@@ -1,5 +1,5 @@
 ghost use Rattle.std.specs.Prelude.{◌≡◌, IfOk};
-ghost use Rattle.cell_store.specs.Private.Order.{IsRising, after_entries};
+ghost use Rattle.cell_store.specs.Inside.Order.{IsRising, after_entries};
 
 use crate::level::Level;
 use crate::order::Stored;

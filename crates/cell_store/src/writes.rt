@@ -1,6 +1,6 @@
 ghost use Rattle.std.specs.Prelude.{◌≡◌, ℕ, List, IfOk};
 ghost use Rattle.std.specs.List.Sorted.{IsNonDecreasingBy};
-ghost use Rattle.cell_store.specs.Private.Order.{IsRising, HaveSameLast};
+ghost use Rattle.cell_store.specs.Inside.Order.{IsRising, HaveSameLast};
 
 use crate::order::Stored;
 use crate::places::count_below;

@@ -11,7 +11,7 @@ use Rattle.feed_map.specs.FedCells.{AreFedCells, without}
 use Rattle.rule_model.specs.BoundModel.{BoundModel}
 use Rattle.rising_lists.proofs.Rising.{among}
 use Rattle.rising_lists.proofs.Members.{contains_from_among, among_from_contains}
-use Rattle.cell_versions.specs.Private.Changes.{IsAddedBy}
+use Rattle.cell_versions.specs.Inside.Changes.{IsAddedBy}
 use Rattle.cell_versions.proofs.Cells.{has, filtered, untouched}
 use Rattle.cell_versions.proofs.Fed.{AreFedCells-alike}
 

@@ -4,7 +4,7 @@ use Rattle.feed_map.specs.declared.fault.FedFault.{FedFault}
 use Rattle.feed_map.specs.declared.fault.FedFault.TheVariants as feds
 use Rattle.cell_versions.specs.declared.fault.NextFault.{NextFault}
 use Rattle.cell_versions.specs.declared.fault.NextFault.TheVariants.{FedLimit, Memory}
-use Rattle.cell_versions.specs.Private.Faults.{of_fed}
+use Rattle.cell_versions.specs.Inside.Faults.{of_fed}
 
 -- one of the two faults of the fed cells, as a fault of the version
 pub passed_on : {T U : Type 0} (count : ℕ) (e : FedFault) (s : Result T FedFault) (r : Result U NextFault) → s ≡ Err e

@@ -1,2 +1,2 @@
 pub mod Versions
-pub mod Private
+pub mod Inside

@@ -1,5 +1,5 @@
 ghost use Rattle.std.specs.Prelude.{IfOk, map, option_map};
-ghost use Rattle.cell_versions.specs.Private.Changes.{IsAddedIf};
+ghost use Rattle.cell_versions.specs.Inside.Changes.{IsAddedIf};
 
 use cell_store::{CellSet, Store};
 use cube_fixed::Money;

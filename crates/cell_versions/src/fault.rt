@@ -26,7 +26,7 @@ impl From<AllocError> for NextFault {
 
 impl From<StoreFault> for NextFault {
     ghost use Rattle.std.specs.Prelude.{◌≡◌};
-    ghost use Rattle.cell_versions.specs.Private.Faults.{of_store};
+    ghost use Rattle.cell_versions.specs.Inside.Faults.{of_store};
 
     ghost from_gives = { λ fault e. e ≡ of_store fault };
 
@@ -40,7 +40,7 @@ impl From<StoreFault> for NextFault {
 
 impl From<FedFault> for NextFault {
     ghost use Rattle.std.specs.Prelude.{◌≡◌};
-    ghost use Rattle.cell_versions.specs.Private.Faults.{of_fed};
+    ghost use Rattle.cell_versions.specs.Inside.Faults.{of_fed};
 
     ghost from_gives = { λ fault e. e ≡ of_fed fault };
 

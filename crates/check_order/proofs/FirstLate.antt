@@ -14,7 +14,7 @@ use Rattle.std.proofs.lemmas.List.{length-map}
 use Rattle.check_order.proofs.Walks.{seen-count}
 use Rattle.check_order.specs.declared.walk.Seen.{Seen}
 use Rattle.check_order.specs.References.{both_marks, marks_by, marks_of, part_marks, first_late}
-use Rattle.check_order.specs.Private.Walk.{seen_next, seen_after, none_seen, earliest}
+use Rattle.check_order.specs.Inside.Walk.{seen_next, seen_after, none_seen, earliest}
 
 -- the first mark that fails is the first one, where that does
 pub fails-first : (marks : List Bool) → position not (false ∷ marks) ≡ Some 0

@@ -10,7 +10,7 @@ use Rattle.cube_space.specs.Radix.{product}
 use Rattle.rule_model.specs.BoundModel.{BoundModel}
 use Rattle.rule_model.specs.Order.{greatest_height, most_positions, position_size, position_sizes}
 use Rattle.check_order.specs.Heights.{first_too_high}
-use Rattle.check_order.specs.Private.Heights.{high_from}
+use Rattle.check_order.specs.Inside.Heights.{high_from}
 
 pub product-next : (sizes : List ℕ) (n : ℕ) → n < length sizes → product (take (n + 1) sizes) ≡ product (take n sizes) * get_or sizes n 0
 product-next [] n low = absurd (omega arith)

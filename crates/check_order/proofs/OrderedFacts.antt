@@ -16,7 +16,7 @@ use Rattle.rule_model.specs.System.{system_of, positions_of}
 use Rattle.order_laws.specs.Decision.{is_earlier, IsEarlierStatement, IsOrderedByDimension}
 use Rattle.order_laws.proofs.Ordered.{dimension-place, place-dimension}
 use Rattle.check_order.specs.References.{marks_by, marks_of, part_marks, first_late, late_in, late_of, late_references}
-use Rattle.check_order.specs.Private.Walk.{earliest}
+use Rattle.check_order.specs.Inside.Walk.{earliest}
 use Rattle.check_order.proofs.Walks.{all-first, all-second}
 use Rattle.check_order.proofs.FirstLate.{fails-first, passes-first, both-first}
 use Rattle.check_order.proofs.Firsts.{no-options, no-lists, no_fault, none_there, options-none, lists-none}

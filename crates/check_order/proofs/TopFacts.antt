@@ -16,7 +16,7 @@ use Rattle.rule_model.specs.Conditions.{AreRules, IsPosition, greatest_rank}
 use Rattle.rule_model.specs.Order.{greatest, position_of, number_by, number_at, position_size}
 use Rattle.order_laws.proofs.CellFacts.{cell-there}
 use Rattle.order_laws.proofs.ChildFacts.{size-at}
-use Rattle.check_order.specs.Private.Tops.{position_top, cube_top, top}
+use Rattle.check_order.specs.Inside.Tops.{position_top, cube_top, top}
 
 -- the greatest of a list
 pub greatest-within : (xs : List ℕ) (most : ℕ) → All (λ x. x ≤ most) xs → greatest xs ≤ most

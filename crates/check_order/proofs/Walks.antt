@@ -8,7 +8,7 @@ use Rattle.cube_space.specs.Layout.{Layout}
 use Rattle.rule_laws.specs.Meaning.{Precedent}
 use Rattle.rule_model.specs.Conditions.{IsPrecedent}
 use Rattle.check_order.specs.declared.walk.Seen.{Seen}
-use Rattle.check_order.specs.Private.Walk.{AreReads, seen_next, seen_after}
+use Rattle.check_order.specs.Inside.Walk.{AreReads, seen_next, seen_after}
 
 -- what holds of all of two lists holds of all of each
 pub all-first : {X : Type 0} (P : X → Type 0) (ps qs : List X) → All P (ps ++ qs) → All P ps

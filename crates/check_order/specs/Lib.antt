@@ -1,4 +1,4 @@
 pub mod References
 pub mod Heights
 pub mod Verdict
-pub mod Private
+pub mod Inside

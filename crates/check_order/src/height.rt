@@ -3,7 +3,7 @@ ghost use Rattle.rule_model.specs.declared.order.Position.TheVariants.{Constant}
 ghost use Rattle.rule_model.specs.Conditions.{greatest_rank, AreRules};
 ghost use Rattle.rule_model.specs.Order.{greatest, greatest_height, most_positions, position_size};
 ghost use Rattle.check_order.specs.Heights.{first_too_high};
-ghost use Rattle.check_order.specs.Private.Tops.{position_top, cube_top, top};
+ghost use Rattle.check_order.specs.Inside.Tops.{position_top, cube_top, top};
 
 use ref_order::MOST_POSITIONS;
 use rule_model::{Model, Position};

@@ -4,7 +4,7 @@ ghost use Rattle.rule_model.specs.Conditions.{IsArea, IsPrecedent, IsConsolidate
 ghost use Rattle.order_laws.specs.Decision.{is_earlier};
 ghost use Rattle.ref_order.specs.Reads.{precedent_of};
 ghost use Rattle.check_order.specs.References.{part_marks};
-ghost use Rattle.check_order.specs.Private.Walk.{AreReads, seen_next, seen_after, earliest};
+ghost use Rattle.check_order.specs.Inside.Walk.{AreReads, seen_next, seen_after, earliest};
 
 use ref_order::{Read, is_earlier};
 use rule_laws::{Formula, Truth};

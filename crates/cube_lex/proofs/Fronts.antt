@@ -7,7 +7,7 @@ use Rattle.std.specs.Int.{is_in_range}
 use Rattle.std.specs.List.{list_all, prefix_len}
 use Rattle.cube_lex.specs.Bytes.{Begins, is_white, is_line_end, starts_word, is_word_byte}
 use Rattle.cube_lex.specs.Parts.{IsWord, IsSpace, IsComment, IsNumber, IsDigits, IsLongest}
-use Rattle.cube_lex.specs.Private.Front.{IsFractionLen}
+use Rattle.cube_lex.specs.Inside.Front.{IsFractionLen}
 use Rattle.cube_lex.proofs.Runs.{prefix-passes, prefix-ends, run-longest}
 use Rattle.cube_lex.proofs.Numbers.{whole-longest, fraction-longest}
 

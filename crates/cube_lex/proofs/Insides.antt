@@ -6,7 +6,7 @@ use Rattle.std.proofs.lemmas.List.{take_more}
 use Rattle.std.specs.List.{list_all}
 use Rattle.cube_lex.specs.Bytes.{Begins, is_quote, is_plain}
 use Rattle.cube_lex.specs.Fault.{Stops}
-use Rattle.cube_lex.specs.Private.Front.{IsInside, EndsQuote}
+use Rattle.cube_lex.specs.Inside.Front.{IsInside, EndsQuote}
 use Rattle.cube_lex.specs.Parts.{Stands}
 use Rattle.cube_lex.specs.Quoted.{doubled, quoted}
 use Rattle.cube_lex.specs.declared.token.Kind.TheVariants.{Text}

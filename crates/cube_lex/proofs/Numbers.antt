@@ -3,7 +3,7 @@ use Rattle.std.proofs.Common.{◌≡◌, ℕ, ◌≤◌, true, List, [], ◌∷�
 use Rattle.std.specs.Char.{is_ascii_digit}
 use Rattle.std.specs.List.{list_all}
 use Rattle.cube_lex.specs.Bytes.{Begins}
-use Rattle.cube_lex.specs.Private.Front.{BeginsFraction}
+use Rattle.cube_lex.specs.Inside.Front.{BeginsFraction}
 use Rattle.cube_lex.specs.Parts.{IsDigits, IsNumber, IsLongest}
 use Rattle.cube_lex.proofs.Runs.{run-longest, run-only}
 

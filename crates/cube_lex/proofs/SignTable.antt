@@ -7,7 +7,7 @@ use Rattle.std.proofs.lemmas.List.Sums.{AllPass-from_list_all}
 use Rattle.std.proofs.lemmas.Slice.Eq.{starts_is}
 use Rattle.std.specs.List.{list_all, find, starts_with, Contains}
 use Rattle.std.specs.Option.{option_map}
-use Rattle.cube_lex.specs.Private.Front.{IsSignLen}
+use Rattle.cube_lex.specs.Inside.Front.{IsSignLen}
 use Rattle.cube_lex.specs.Parts.{signs}
 use Rattle.cube_lex.proofs.Runs.{both}
 

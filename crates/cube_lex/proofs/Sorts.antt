@@ -5,7 +5,7 @@ use Rattle.std.specs.Char.{is_ascii_digit}
 use Rattle.std.specs.Int.{is_in_range}
 use Rattle.std.specs.List.{list_all, Contains}
 use Rattle.cube_lex.specs.Fault.{BeginsPart, BeginsNothing}
-use Rattle.cube_lex.specs.Private.Front.{IsSignLen}
+use Rattle.cube_lex.specs.Inside.Front.{IsSignLen}
 use Rattle.cube_lex.specs.Bytes.{is_white, is_quote, starts_word}
 use Rattle.cube_lex.specs.Parts.{IsWord, IsNumber, IsDigits, IsQuoted, IsToken, IsSpace, IsComment, IsLongest, Stands, IsPart, signs}
 use Rattle.cube_lex.specs.declared.token.Kind.{Kind}

@@ -1,6 +1,6 @@
 pub mod Bytes
 pub mod Fault
-pub mod Private
+pub mod Inside
 pub mod Lexeme
 pub mod Lexed
 pub mod Parts

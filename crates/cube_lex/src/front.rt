@@ -2,7 +2,7 @@ ghost use Rattle.std.specs.Prelude.{◌≡◌, ◌≢◌, ◌+◌, ◌<◌, ◌�
 ghost use Rattle.std.specs.Char.{is_ascii_digit};
 ghost use Rattle.std.specs.List.{prefix_len};
 ghost use Rattle.cube_lex.specs.Bytes.{Begins, is_white, is_line_end, is_quote, starts_word, is_word_byte};
-ghost use Rattle.cube_lex.specs.Private.Front.{IsFront, IsFractionLen};
+ghost use Rattle.cube_lex.specs.Inside.Front.{IsFront, IsFractionLen};
 ghost use Rattle.cube_lex.specs.Parts.{IsPart, Stands};
 ghost use Rattle.cube_lex.specs.declared.token.Kind.TheVariants.{Number};
 

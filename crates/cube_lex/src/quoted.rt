@@ -1,6 +1,6 @@
 ghost use Rattle.std.specs.Prelude.{◌≡◌, IfOk};
 ghost use Rattle.cube_lex.specs.Bytes.{is_plain};
-ghost use Rattle.cube_lex.specs.Private.Front.{EndsQuote};
+ghost use Rattle.cube_lex.specs.Inside.Front.{EndsQuote};
 ghost use Rattle.cube_lex.specs.Parts.{IsQuoted};
 ghost use Rattle.cube_lex.specs.Quoted.{unquoted, quoted};
 

@@ -1,6 +1,6 @@
 ghost use Rattle.std.specs.Prelude.{◌≡◌, nat_eq, map, find};
 ghost use Rattle.std.specs.List.{starts_with};
-ghost use Rattle.cube_lex.specs.Private.Front.{IsSignLen};
+ghost use Rattle.cube_lex.specs.Inside.Front.{IsSignLen};
 ghost use Rattle.cube_lex.specs.Parts.{signs};
 
 /// The signs, longer ones first.

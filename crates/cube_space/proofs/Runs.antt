@@ -10,7 +10,7 @@ use Rattle.cube_space.specs.declared.shape.CubeShape.{CubeShape}
 use Rattle.cube_space.specs.Radix.{product, are_digits, number_of}
 use Rattle.cube_space.specs.Layout.{Layout, sizes, dims_of}
 use Rattle.cube_space.specs.Cells.{IsSpace, IsCell, size_of, first_cell, cell_count, cell_at}
-use Rattle.cube_space.specs.Private.Kept.{IsRunOf, IsNumbered}
+use Rattle.cube_space.specs.Inside.Kept.{IsRunOf, IsNumbered}
 use Rattle.cube_space.proofs.Axes.{length-axes_of}
 use Rattle.cube_space.proofs.Places.{IsPlace, place_number, cell_at-place, first_cell-none, first_cell-least, run_within}
 

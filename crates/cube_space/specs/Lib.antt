@@ -1,5 +1,5 @@
 pub mod Cells
 pub mod Layout
-pub mod Private
+pub mod Inside
 pub mod Radix
 pub mod Refusal

@@ -1,7 +1,7 @@
 ghost use Rattle.std.specs.Prelude.{◌≡◌, ◌<◌, ◌≤◌, All, IfOk, length, map, slice_index};
 ghost use Rattle.cube_space.specs.Radix.{product};
 ghost use Rattle.cube_space.specs.Layout.{IsLayout, most_model_cells};
-ghost use Rattle.cube_space.specs.Private.Kept.{IsNumbered, IsRunFrom};
+ghost use Rattle.cube_space.specs.Inside.Kept.{IsNumbered, IsRunFrom};
 ghost use Rattle.cube_space.specs.Refusal.{fault_of, refusal_of, IsAnsweredBy};
 
 use crate::numbering::{element_counts, product, sizes};

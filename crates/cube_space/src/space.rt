@@ -35,7 +35,7 @@ pub struct Space {
 
 impl Model for Space {
     ghost use Rattle.cube_space.specs.Layout.{Layout};
-    ghost use Rattle.cube_space.specs.Private.Kept.{IsNumbered};
+    ghost use Rattle.cube_space.specs.Inside.Kept.{IsNumbered};
 
     ghost Value = { Layout };
 

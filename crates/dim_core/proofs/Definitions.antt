@@ -10,7 +10,7 @@ use Rattle.dim_core.specs.declared.attribute.NamedAttribute.{NamedAttribute}
 use Rattle.dim_name.specs.Name.{has_name, is_same_name}
 use Rattle.dim_core.specs.Draft.{has_weights, with_element}
 use Rattle.dim_core.specs.Refusal.{refusal_of}
-use Rattle.dim_core.specs.Private.Kept.{IsKept}
+use Rattle.dim_core.specs.Inside.Kept.{IsKept}
 use Rattle.dim_core.specs.Outline.{elements_of}
 use Rattle.dim_core.proofs.Elements.{elements_of-push, is_defined-elements_of, is_too_many-elements_of}
 

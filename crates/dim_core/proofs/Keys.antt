@@ -12,7 +12,7 @@ use Rattle.std.proofs.Math.Seq.{get_or-append_seam}
 use Rattle.dim_order.proofs.Places.{none_passes, position-none, position-first}
 use Rattle.dim_name.specs.Name.{is_same_name, has_name, place_of}
 use Rattle.dim_core.specs.declared.attribute.Attribute.{Attribute}
-use Rattle.dim_core.specs.Private.Kept.{IsKeyOf}
+use Rattle.dim_core.specs.Inside.Kept.{IsKeyOf}
 use Rattle.dim_core.specs.Outline.{is_attribute, is_same_attribute}
 use Rattle.dim_core.proofs.Naming.{same_names, same_place}
 

@@ -10,7 +10,7 @@ use Rattle.dim_core.specs.declared.attribute.Attribute.{Attribute}
 use Rattle.dim_core.specs.declared.attribute.NamedAttribute.{NamedAttribute}
 use Rattle.dim_name.specs.Name.{is_name, is_same_name}
 use Rattle.dim_core.specs.Draft.{IsResolved, has_weights, are_known, by_index, first_unknown, first_bad_among, first_bad_attribute, first_loop, IsFinished, IsResolvedAttribute}
-use Rattle.dim_core.specs.Private.Kept.{IsKept, IsStored, AreNamed, AreAttributed}
+use Rattle.dim_core.specs.Inside.Kept.{IsKept, IsStored, AreNamed, AreAttributed}
 use Rattle.dim_order.specs.Levels.{AreLevels}
 use Rattle.dim_order.specs.Loops.{IsOrder, ArePartsWithin, first_on_loop}
 use Rattle.dim_core.specs.Outline.{Element, elements_of, IsWeight, is_same_attribute, IsDimension, names_of, component_lists}

@@ -2,4 +2,4 @@ pub mod Draft
 pub mod Outline
 pub mod Refusal
 pub mod Written
-pub mod Private
+pub mod Inside

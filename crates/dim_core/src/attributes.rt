@@ -24,7 +24,7 @@ impl Model for Attributes {
     ghost use Rattle.std.specs.Prelude.{List};
     ghost use Rattle.std.specs.List.{AllZip};
     ghost use Rattle.dim_core.specs.declared.attribute.Attribute.{Attribute};
-    ghost use Rattle.dim_core.specs.Private.Kept.{IsKeyOf};
+    ghost use Rattle.dim_core.specs.Inside.Kept.{IsKeyOf};
 
     ghost Value = { List Attribute };
 

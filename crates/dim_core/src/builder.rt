@@ -39,7 +39,7 @@ pub struct Builder {
 impl Model for Builder {
     ghost use Rattle.dim_core.specs.Draft.{Draft};
     ghost use Rattle.dim_core.specs.Outline.{elements_of};
-    ghost use Rattle.dim_core.specs.Private.Kept.{IsKept, AreNamed};
+    ghost use Rattle.dim_core.specs.Inside.Kept.{IsKept, AreNamed};
 
     ghost Value = { Draft };
 

@@ -1,7 +1,7 @@
 ghost use Rattle.std.specs.Prelude.{◌≡◌, ◌↔◌, ◌<◌, ◌≤◌, [], length, IsTrue};
 ghost use Rattle.dim_order.specs.Levels.{AreLevels};
 ghost use Rattle.dim_order.specs.Loops.{IsOrder};
-ghost use Rattle.dim_core.specs.Private.Kept.{IsStored, AreAttributed};
+ghost use Rattle.dim_core.specs.Inside.Kept.{IsStored, AreAttributed};
 ghost use Rattle.dim_core.specs.Outline.{component_lists, name_of, components_of, index_of, attribute_of, elements_of};
 ghost use Rattle.dim_core.specs.Outline.{IsDimension, level};
 
@@ -25,7 +25,7 @@ pub struct Dimension {
 
 impl Model for Dimension {
     ghost use Rattle.dim_core.specs.Outline.{Outline, elements_of};
-    ghost use Rattle.dim_core.specs.Private.Kept.{IsStored, AreAttributed};
+    ghost use Rattle.dim_core.specs.Inside.Kept.{IsStored, AreAttributed};
 
     ghost Value = { Outline };
 

@@ -10,7 +10,7 @@ use Rattle.std.proofs.lemmas.Map.Keys.{IsDistinct-push}
 use Rattle.std.proofs.lemmas.Map.Steps.{length-le_from_distinct_below}
 use Rattle.dim_order.specs.declared.joining.Joining.{Joining}
 use Rattle.dim_order.specs.Members.{is_among}
-use Rattle.dim_order.specs.Private.Growth.{is_ready, IsGrown}
+use Rattle.dim_order.specs.Inside.Growth.{is_ready, IsGrown}
 use Rattle.dim_order.specs.Loops.{parts_of}
 
 -- a list that has one more member

@@ -8,7 +8,7 @@ use Rattle.std.proofs.lemmas.Map.Keys.{apart_from_distinct, IsDistinct-push}
 use Rattle.std.proofs.lemmas.Map.Steps.{length-le_from_distinct_below}
 use Rattle.dim_order.specs.declared.joining.Joining.TheVariants.{AfterAllParts, WhenLeadingTo}
 use Rattle.dim_order.specs.Members.{is_among}
-use Rattle.dim_order.specs.Private.Growth.{IsGrown, IsSettled, AreSettled}
+use Rattle.dim_order.specs.Inside.Growth.{IsGrown, IsSettled, AreSettled}
 use Rattle.dim_order.specs.Loops.{parts_of, is_reached, lies_on_loop, first_on_loop, IsOrder, ArePartsWithin}
 use Rattle.dim_order.proofs.GrowthLemmas.{length-grown, is_among-push}
 use Rattle.dim_order.proofs.Places.{position-none, position-first}

@@ -1,4 +1,4 @@
 pub mod Levels
 pub mod Loops
 pub mod Members
-pub mod Private
+pub mod Inside

@@ -1,7 +1,7 @@
 ghost use Rattle.std.specs.Prelude.{◌≡◌, ◌<◌, ◌⊎◌, ◌^◌, ◌==◌, ◌||◌, ℕ, length, IfOk, OnOk};
 ghost use Rattle.std.specs.List.{list_all, list_any};
 ghost use Rattle.dim_order.specs.Members.{is_among};
-ghost use Rattle.dim_order.specs.Private.Growth.{is_ready, IsGrown, IsSettled, AreSettled};
+ghost use Rattle.dim_order.specs.Inside.Growth.{is_ready, IsGrown, IsSettled, AreSettled};
 
 use crate::Components;
 use crate::joining::Joining;

@@ -1,5 +1,5 @@
 ghost use Rattle.std.specs.Prelude.{◌≡◌, ◌<◌, ◌^◌, length, IfOk};
-ghost use Rattle.dim_order.specs.Private.Growth.{IsGrown};
+ghost use Rattle.dim_order.specs.Inside.Growth.{IsGrown};
 ghost use Rattle.dim_order.specs.Loops.{lies_on_loop, first_on_loop, ArePartsWithin};
 
 use crate::Components;

@@ -11,7 +11,7 @@ use Rattle.std.proofs.lemmas.List.Sorted.{All-permutation, Contains-permutation,
 use Rattle.dim_core.specs.Outline.{Outline, IsDimension, IsElement, component_lists, level}
 use Rattle.dim_weights.specs.Refusal.{of_level}
 use Rattle.dim_order.specs.Levels.{AreLevels}
-use Rattle.dim_weights.specs.Private.Levels.{IsSortedByLevel, IsByLevel}
+use Rattle.dim_weights.specs.Inside.Levels.{IsSortedByLevel, IsByLevel}
 use Rattle.dim_core.proofs.LevelLaws.{length-component_lists, levels-below}
 
 range-push-from : (n a : ℕ) → range_with_len a (suc n) ≡ range_with_len a n ++ (a + n) ∷ []

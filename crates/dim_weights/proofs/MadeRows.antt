@@ -16,9 +16,9 @@ use Rattle.dim_core.specs.Outline.{IsElement, level}
 use Rattle.dim_weights.specs.Coefficients.{coef}
 use Rattle.dim_weights.specs.Table.{leaves_in, leaves_of, share, greatest_in, IsWeightsOf}
 use Rattle.dim_weights.specs.Refusal.{fault_of, fault_at, first_fault, refusal_of, pair_count}
-use Rattle.dim_weights.specs.Private.Sums.{IsRow, AreRows}
-use Rattle.dim_weights.specs.Private.Rows.{Rows, AreParts, pairs_over, counted_over, with_row, AreRowsOf, IsBuilding}
-use Rattle.dim_weights.specs.Private.Levels.{IsByLevel}
+use Rattle.dim_weights.specs.Inside.Sums.{IsRow, AreRows}
+use Rattle.dim_weights.specs.Inside.Rows.{Rows, AreParts, pairs_over, counted_over, with_row, AreRowsOf, IsBuilding}
+use Rattle.dim_weights.specs.Inside.Levels.{IsByLevel}
 use Rattle.dim_weights.proofs.Pairs.{agree-range, share-range, within-range, rises-range, rising-RisesFrom}
 use Rattle.dim_weights.proofs.Equations.{coef-from}
 use Rattle.dim_weights.proofs.Building.{among-more}

@@ -9,7 +9,7 @@ use Rattle.std.proofs.lemmas.List.Sorted.{sum_by-IsPermutation}
 use Rattle.std.proofs.lemmas.List.Sums.{sum_by-cons, sum_by_push, get_or-le-sum_by}
 use Rattle.dim_order.proofs.Tests.{neither}
 use Rattle.dim_weights.specs.Table.{nonzero_among, greatest_in}
-use Rattle.dim_weights.specs.Private.Sums.{sum_at, AreZero, IsTouched, ArePut}
+use Rattle.dim_weights.specs.Inside.Sums.{sum_at, AreZero, IsTouched, ArePut}
 use Rattle.dim_weights.proofs.Pairs.{differ, greatest-range}
 use Rattle.dim_weights.proofs.Touched.{AscendsFrom-sorted, nonzero_among-touched}
 

@@ -7,8 +7,8 @@ use Rattle.std.proofs.lemmas.List.{get_or-take, get_or-set_same, get_or-set_othe
 use borrow.Author.Differences.{up, down}
 use Rattle.dim_weights.specs.Coefficients.{weighted_sum}
 use Rattle.dim_weights.specs.Table.{share, greatest_in, leaves_in}
-use Rattle.dim_weights.specs.Private.Rows.{AreMerged, counted_over, most_merged_weight}
-use Rattle.dim_weights.specs.Private.Sums.{sum_at, AreZero, IsRow, AreRows, AreWithin}
+use Rattle.dim_weights.specs.Inside.Rows.{AreMerged, counted_over, most_merged_weight}
+use Rattle.dim_weights.specs.Inside.Sums.{sum_at, AreZero, IsRow, AreRows, AreWithin}
 use Rattle.dim_weights.proofs.Pairs.{share-push, share-size, greatest_in-take}
 
 times-plus : (w s c : ℤ) → w *ℤ (s +ℤ c) ≡ (w *ℤ s) +ℤ (w *ℤ c)

@@ -1,4 +1,4 @@
 pub mod Coefficients
 pub mod Refusal
 pub mod Table
-pub mod Private
+pub mod Inside

@@ -1,6 +1,6 @@
 ghost use Rattle.std.specs.Prelude.{◌≡◌, IfOk, OnOk, slice_index};
 ghost use Rattle.std.specs.List.{range_with_len};
-ghost use Rattle.dim_weights.specs.Private.Levels.{IsByLevel, IsSortedByLevel};
+ghost use Rattle.dim_weights.specs.Inside.Levels.{IsByLevel, IsSortedByLevel};
 
 use dim_core::Dimension;
 use std::alloc::{AllocError, Global};

@@ -2,7 +2,7 @@ ghost use Rattle.std.specs.Prelude.{◌≡◌, ℕ, ℤ, ◌+◌, ◌≤◌, ◌
 ghost use Rattle.std.specs.List.Sorted.{IsPermutation};
 ghost use Rattle.dim_core.specs.Outline.{IsWeight};
 ghost use Rattle.dim_weights.specs.Coefficients.{weighted_sum};
-ghost use Rattle.dim_weights.specs.Private.Rows.{most_merged_weight};
+ghost use Rattle.dim_weights.specs.Inside.Rows.{most_merged_weight};
 ghost use Rattle.dim_core.specs.Outline.{most_components, greatest_weight};
 
 use std::alloc::{AllocError, Global};

@@ -2,8 +2,8 @@ ghost use Rattle.std.specs.Prelude.{◌≡◌, ℕ, ◌+◌, ◌*◌, ◌^◌, �
 ghost use Rattle.std.specs.Prelude.{IfSome, IfNone};
 ghost use Rattle.dim_weights.specs.Coefficients.{weighted_sum};
 ghost use Rattle.dim_weights.specs.Table.{leaves_in, share, greatest_in};
-ghost use Rattle.dim_weights.specs.Private.Sums.{sum_at, AreZero, AreRows, IsRow, AreWithin};
-ghost use Rattle.dim_weights.specs.Private.Rows.{pairs_over, counted_over, AreMerged, AreParts, most_merged_weight};
+ghost use Rattle.dim_weights.specs.Inside.Sums.{sum_at, AreZero, AreRows, IsRow, AreWithin};
+ghost use Rattle.dim_weights.specs.Inside.Rows.{pairs_over, counted_over, AreMerged, AreParts, most_merged_weight};
 ghost use Rattle.dim_weights.specs.Coefficients.{most_coefficient};
 
 use crate::merged::merged;

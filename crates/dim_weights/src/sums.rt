@@ -3,7 +3,7 @@ ghost use Rattle.std.specs.Prelude.{slice_index_or, slice_set, unsigned_abs, if�
 ghost use Rattle.std.specs.Prelude.{IfNone, SomeIndex};
 ghost use Rattle.std.specs.List.Sorted.{IsStrictlyIncreasing};
 ghost use Rattle.dim_weights.specs.Table.{nonzero_among, greatest_in};
-ghost use Rattle.dim_weights.specs.Private.Sums.{sum_at, nonzero_pair, nonzero_sums, AreZero, ArePut};
+ghost use Rattle.dim_weights.specs.Inside.Sums.{sum_at, nonzero_pair, nonzero_sums, AreZero, ArePut};
 ghost use Rattle.dim_weights.specs.Coefficients.{most_coefficient};
 
 use crate::weights::MAX_COEFFICIENT;
@@ -21,7 +21,7 @@ pub struct Sums {
 
 impl Model for Sums {
     ghost use Rattle.std.specs.Prelude.{ℤ, List};
-    ghost use Rattle.dim_weights.specs.Private.Sums.{IsTouched};
+    ghost use Rattle.dim_weights.specs.Inside.Sums.{IsTouched};
 
     ghost Value = { List ℤ };
 

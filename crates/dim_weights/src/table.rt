@@ -4,8 +4,8 @@ ghost use Rattle.dim_core.specs.Outline.{IsDimension};
 ghost use Rattle.dim_core.specs.Outline.{IsElement};
 ghost use Rattle.dim_weights.specs.Table.{leaves_in, greatest_of, greatest_in};
 ghost use Rattle.dim_weights.specs.Refusal.{fault_of};
-ghost use Rattle.dim_weights.specs.Private.Sums.{AreRows, AreZero};
-ghost use Rattle.dim_weights.specs.Private.Rows.{pairs_over, row_of, with_row};
+ghost use Rattle.dim_weights.specs.Inside.Sums.{AreRows, AreZero};
+ghost use Rattle.dim_weights.specs.Inside.Rows.{pairs_over, row_of, with_row};
 ghost use Rattle.dim_weights.specs.Coefficients.{most_coefficient};
 
 use crate::fault::WeightFault;
@@ -26,7 +26,7 @@ pub struct TableBuilder {
 }
 
 impl Model for TableBuilder {
-    ghost use Rattle.dim_weights.specs.Private.Rows.{Rows, IsBuilding};
+    ghost use Rattle.dim_weights.specs.Inside.Rows.{Rows, IsBuilding};
 
     ghost Value = { Rows };
 

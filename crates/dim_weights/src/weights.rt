@@ -5,7 +5,7 @@ ghost use Rattle.dim_core.specs.Outline.{IsElement};
 ghost use Rattle.dim_weights.specs.Coefficients.{coef};
 ghost use Rattle.dim_weights.specs.Table.{IsWeightsOf, leaves_in, leaves_of, share, greatest_of, IsRising};
 ghost use Rattle.dim_weights.specs.Refusal.{refusal_of};
-ghost use Rattle.dim_weights.specs.Private.Sums.{AreRows};
+ghost use Rattle.dim_weights.specs.Inside.Sums.{AreRows};
 ghost use Rattle.dim_weights.specs.Coefficients.{most_coefficient};
 
 use crate::fault::WeightFault;
@@ -32,7 +32,7 @@ pub struct Weights {
 
 impl Model for Weights {
     ghost use Rattle.std.specs.Prelude.{ℕ, ℤ, List};
-    ghost use Rattle.dim_weights.specs.Private.Kept.{IsKept};
+    ghost use Rattle.dim_weights.specs.Inside.Kept.{IsKept};
 
     ghost Value = { List (List (ℕ × ℤ)) };
 

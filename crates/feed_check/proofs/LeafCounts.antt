@@ -11,7 +11,7 @@ use Rattle.cube_space.specs.Cells.{Cell, cells_of, all_cells, cell_at, cube_of, 
 use Rattle.cube_space.proofs.Places.{length-all_cells}
 use Rattle.rule_model.specs.Weights.{leaf_cells}
 use Rattle.feed_check.specs.Sizes.{leaf_count}
-use Rattle.feed_check.specs.Private.Leaves.{leaf_elements}
+use Rattle.feed_check.specs.Inside.Leaves.{leaf_elements}
 
 -- how many pass
 abbrev pub tally : {X : Type 0} → (X → Bool) → List X → ℕ

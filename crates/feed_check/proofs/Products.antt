@@ -6,7 +6,7 @@ use Rattle.cube_space.specs.Radix.{product}
 use Rattle.cube_space.specs.Layout.{Layout, sizes}
 use Rattle.cube_space.specs.Cells.{IsSpace, cell_count}
 use Rattle.cube_space.proofs.Places.{run_within}
-use Rattle.feed_check.specs.Private.Leaves.{leaf_elements}
+use Rattle.feed_check.specs.Inside.Leaves.{leaf_elements}
 
 pub leaves-step : (ds : List Outline) (k j : ℕ) (d : Outline) → slice_get ds k ≡ Some d → j ≡ k + 1 → product (map leaf_elements (drop k ds)) ≡ leaf_elements d * product (map leaf_elements (drop j ds))
 leaves-step [] k j d at e = absurd (cc)

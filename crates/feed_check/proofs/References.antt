@@ -11,7 +11,7 @@ use Rattle.rule_laws.specs.declared.reference.Reference.{Reference}
 use Rattle.rule_laws.specs.declared.reference.Arg.{Arg}
 use Rattle.rule_laws.specs.declared.reference.Arg.TheVariants.{Fixed, Moved}
 use Rattle.rule_model.specs.Conditions.{IsArg, IsReference}
-use Rattle.feed_check.specs.Private.References.{is_arg, are_args, is_reference}
+use Rattle.feed_check.specs.Inside.References.{is_arg, are_args, is_reference}
 
 arg-is : (source : List ℕ) (size : ℕ) (arg : Arg) → is_arg source size arg ≡ true → IsArg source size arg
 arg-is source size (Fixed e) h = ltb-true e size h

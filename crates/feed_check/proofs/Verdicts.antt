@@ -24,7 +24,7 @@ use Rattle.cover_laws.specs.Decision.{is_covered}
 use Rattle.cover_laws.proofs.Covered.{decided-covered, covered-decided}
 use Rattle.feed_check.specs.declared.fault.FeedCheckFault.{FeedCheckFault}
 use Rattle.feed_check.specs.declared.fault.FeedCheckFault.TheVariants.{NotFed, DenseTooLarge}
-use Rattle.feed_check.specs.Private.References.{is_reference}
+use Rattle.feed_check.specs.Inside.References.{is_reference}
 use Rattle.feed_check.specs.Sizes.{leaf_count, most_dense, AreSmall}
 use Rattle.feed_check.specs.Verdict.{IsBlamed, IsSound, IsFaultOf, IsFirstFault}
 use Rattle.feed_check.proofs.References.{is-reference}

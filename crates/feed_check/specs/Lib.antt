@@ -1,3 +1,3 @@
 pub mod Sizes
 pub mod Verdict
-pub mod Private
+pub mod Inside

@@ -1,7 +1,7 @@
 ghost use Rattle.std.specs.Prelude.{◌≡◌, ◌<◌, length};
 ghost use Rattle.rule_model.specs.Conditions.{IsArea};
 ghost use Rattle.cover_laws.specs.Decision.{is_covered};
-ghost use Rattle.feed_check.specs.Private.References.{is_reference};
+ghost use Rattle.feed_check.specs.Inside.References.{is_reference};
 
 use feed_cover::is_covered;
 use rule_laws::Reference;

@@ -4,7 +4,7 @@ ghost use Rattle.cube_space.specs.Radix.{product};
 ghost use Rattle.cube_space.specs.Layout.{axes, sizes};
 ghost use Rattle.cube_space.specs.Cells.{cell_count};
 ghost use Rattle.feed_check.specs.Sizes.{leaf_count};
-ghost use Rattle.feed_check.specs.Private.Leaves.{leaf_elements};
+ghost use Rattle.feed_check.specs.Inside.Leaves.{leaf_elements};
 
 use ref_order::{axis, axis_count};
 use rule_model::Model;

@@ -12,7 +12,7 @@ use Rattle.rule_model.specs.declared.rules.CubeRules.{CubeRules}
 use Rattle.rule_model.specs.declared.rules.Statement.{Statement}
 use Rattle.rule_model.specs.BoundModel.{BoundModel, rules_of}
 use Rattle.rule_model.specs.System.{system_of, rule_of, cube_rules, cubes_of}
-use Rattle.feed_map.specs.Private.Follows.{IsDenseBelow, IsDenseOf}
+use Rattle.feed_map.specs.Inside.Follows.{IsDenseBelow, IsDenseOf}
 use Rattle.feed_map.proofs.Members.{some-front, some-of-lists, list-of-some, some-mapped, some-unmapped}
 use Rattle.feed_map.proofs.FeederFacts.{range-has}
 

@@ -13,7 +13,7 @@ use Rattle.rule_model.specs.declared.rules.Feeder.{Feeder}
 use Rattle.rule_model.specs.BoundModel.{BoundModel, rules_of}
 use Rattle.rule_model.specs.Areas.{in_source_sets}
 use Rattle.rule_model.specs.System.{system_of, feed_of, cube_feeds, cubes_of}
-use Rattle.feed_map.specs.Private.Follows.{FeedsByOne, StandsFor}
+use Rattle.feed_map.specs.Inside.Follows.{FeedsByOne, StandsFor}
 use Rattle.feed_map.proofs.Members.{some-front, some-behind, some-cases, some-of-none, some-left, some-right, some-parts, some-of-lists, list-of-some, some-mapped, some-unmapped}
 
 pub range-has : (n k : ℕ) → k < n → Contains (range_with_len 0 n) k

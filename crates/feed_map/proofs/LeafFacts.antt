@@ -19,7 +19,7 @@ use Rattle.cube_space.specs.Cells.{IsCell, size_of, cube_of, elements_of, is_lea
 use Rattle.cube_space.proofs.Places.{cell-place, cell_number-cell, place_number, is_place-parts, place-within, cell_at-place}
 use Rattle.rule_model.specs.Weights.{coef_product, weight, leaf_cells, leaves_below}
 use Rattle.model_laws.proofs.Below.{weight-counted, leaf_cells-are}
-use Rattle.feed_map.specs.Private.Leaves.{candidates, candidate, leaf_at, IsChosen, AreChosen, GoesOn, GoesOnWithin, IsLeafCellOf}
+use Rattle.feed_map.specs.Inside.Leaves.{candidates, candidate, leaf_at, IsChosen, AreChosen, GoesOn, GoesOnWithin, IsLeafCellOf}
 use Rattle.feed_map.proofs.Members.{none-there, at-front, behind, front-or-behind}
 
 -- ---- values other than 0

@@ -11,8 +11,8 @@ use Rattle.cube_space.proofs.Places.{cell-place}
 use Rattle.model_laws.proofs.Levels.{element-of}
 use Rattle.feed_map.specs.declared.fault.FedFault.{FedFault}
 use Rattle.feed_map.specs.declared.growth.Growth.{Growth}
-use Rattle.feed_map.specs.Private.Gains.{Gains, StopsBy}
-use Rattle.feed_map.specs.Private.Leaves.{candidates, leaf_at, AreRoots, GoesOn, GoesOnBy, GoesOnWithin}
+use Rattle.feed_map.specs.Inside.Gains.{Gains, StopsBy}
+use Rattle.feed_map.specs.Inside.Leaves.{candidates, leaf_at, AreRoots, GoesOn, GoesOnBy, GoesOnWithin}
 use Rattle.feed_map.proofs.GainFacts.{gains-none, gains-as, gains-then, stops-then}
 use Rattle.feed_map.proofs.LeafFacts.{chosen-more, chosen-before, chosen-here, goes-on-next, next-goes-on}
 

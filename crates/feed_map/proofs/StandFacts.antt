@@ -6,7 +6,7 @@ use Rattle.cube_space.specs.Cells.{IsCell, cube_of, elements_of, is_leaf_cell}
 use Rattle.rule_laws.specs.Feeding.{leaves_of}
 use Rattle.rule_model.specs.BoundModel.{BoundModel}
 use Rattle.rule_model.specs.System.{system_of}
-use Rattle.feed_map.specs.Private.Leaves.{GoesOn}
+use Rattle.feed_map.specs.Inside.Leaves.{GoesOn}
 use Rattle.feed_map.proofs.Members.{none-there, at-front, front-or-behind}
 use Rattle.feed_map.proofs.LeafFacts.{goes-on-below, below-goes-on}
 

@@ -1,2 +1,2 @@
 pub mod FedCells
-pub mod Private
+pub mod Inside

@@ -1,9 +1,9 @@
 ghost use Rattle.std.specs.Prelude.{◌≡◌, ◌<◌, IfErr, OnOk, length};
 ghost use Rattle.rule_laws.specs.Feeding.{is_dense, IsDenseCell};
 ghost use Rattle.rule_model.specs.System.{system_of};
-ghost use Rattle.feed_map.specs.Private.Gains.{Gains, StopsBy};
-ghost use Rattle.feed_map.specs.Private.Leaves.{IsLeafCellOf};
-ghost use Rattle.feed_map.specs.Private.Follows.{IsDenseOf};
+ghost use Rattle.feed_map.specs.Inside.Gains.{Gains, StopsBy};
+ghost use Rattle.feed_map.specs.Inside.Leaves.{IsLeafCellOf};
+ghost use Rattle.feed_map.specs.Inside.Follows.{IsDenseOf};
 
 use crate::fault::FedFault;
 use crate::growth::Growth;

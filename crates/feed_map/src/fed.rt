@@ -1,7 +1,7 @@
 ghost use Rattle.std.specs.Prelude.{◌≡◌, ℕ, suc, ◌≤◌, ◌⊎◌, Err, IfOk, IfErr, IsOkUnless, length, All, Contains};
 ghost use Rattle.cell_store.specs.Entries.{cells_of};
 ghost use Rattle.feed_map.specs.FedCells.{AreFedCells, HasFewFed, HasManyFed, most_fed, without};
-ghost use Rattle.feed_map.specs.Private.Follows.{IsVerdict};
+ghost use Rattle.feed_map.specs.Inside.Follows.{IsVerdict};
 
 use crate::dense::add_dense;
 use crate::fault::FedFault;

@@ -5,8 +5,8 @@ ghost use Rattle.rule_laws.specs.Feeding.{FeedsBy, Feeds};
 ghost use Rattle.rule_model.specs.Conditions.{IsFeeder};
 ghost use Rattle.rule_model.specs.System.{system_of, feed_of};
 ghost use Rattle.feed_map.specs.FedCells.{most_fed};
-ghost use Rattle.feed_map.specs.Private.Gains.{Gains, StopsBy};
-ghost use Rattle.feed_map.specs.Private.Follows.{FeedsFrom, EndsChain, AreOpen, StandsFor};
+ghost use Rattle.feed_map.specs.Inside.Gains.{Gains, StopsBy};
+ghost use Rattle.feed_map.specs.Inside.Follows.{FeedsFrom, EndsChain, AreOpen, StandsFor};
 
 use crate::fault::FedFault;
 use crate::growth::Growth;

@@ -1,7 +1,7 @@
 ghost use Rattle.std.specs.Prelude.{◌≡◌, ◌≢◌, ◌<◌, ◌≤◌, ◌-◌, ◌⊎◌, IsTrue, IsFalse, None, [], IfOk, IfErr, OnOk};
 ghost use Rattle.std.specs.Prelude.{length, slice_get, slice_index};
 ghost use Rattle.std.specs.List.Sorted.{IsNonDecreasing};
-ghost use Rattle.feed_map.specs.Private.Gains.{Gains, AreFresh, NoCell, StopsBy};
+ghost use Rattle.feed_map.specs.Inside.Gains.{Gains, AreFresh, NoCell, StopsBy};
 
 use crate::fault::FedFault;
 use cell_store::{CellSet, PageSet};

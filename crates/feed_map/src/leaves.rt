@@ -5,8 +5,8 @@ ghost use Rattle.cube_space.specs.Layout.{axes_of, dims_of, most_dimensions};
 ghost use Rattle.cube_space.specs.Cells.{IsCell, cube_of, elements_of, is_leaf_cell, cell_number};
 ghost use Rattle.rule_laws.specs.Feeding.{leaves_of};
 ghost use Rattle.rule_model.specs.System.{system_of};
-ghost use Rattle.feed_map.specs.Private.Gains.{Gains, StopsBy};
-ghost use Rattle.feed_map.specs.Private.Leaves.{candidates, candidate, leaf_at, AreRoots, GoesOn, GoesOnBy};
+ghost use Rattle.feed_map.specs.Inside.Gains.{Gains, StopsBy};
+ghost use Rattle.feed_map.specs.Inside.Leaves.{candidates, candidate, leaf_at, AreRoots, GoesOn, GoesOnBy};
 
 use crate::fault::FedFault;
 use crate::growth::Growth;

@@ -21,8 +21,8 @@ use Rattle.rule_model.specs.System.{system_of, positions_of}
 use Rattle.model_laws.proofs.Formed.{well_formed}
 use Rattle.model_laws.proofs.Ranks.{ranked}
 use Rattle.model_laws.proofs.Below.{range-below}
-use Rattle.rule_dense.specs.Private.Depths.{with_depth, AreDeep, IsByDepth, AreDense}
-use Rattle.rule_dense.specs.Private.Plain.{table_of}
+use Rattle.rule_dense.specs.Inside.Depths.{with_depth, AreDeep, IsByDepth, AreDense}
+use Rattle.rule_dense.specs.Inside.Plain.{table_of}
 use Rattle.rule_dense.proofs.Ranges.{map-contains}
 
 module _ (m : BoundModel) where

@@ -17,7 +17,7 @@ use Rattle.model_laws.proofs.Statements.{range-split}
 use Rattle.rule_laws.proofs.SystemFacts.{add_pair}
 use Rattle.rule_model.specs.Weights.{weight, leaf_cells, leaves_below}
 use Rattle.rule_model.specs.Targets.{with_element_at, with_components}
-use Rattle.rule_dense.specs.Private.Plain.{with_leaf}
+use Rattle.rule_dense.specs.Inside.Plain.{with_leaf}
 
 fold-append : {X T : Type 0} (f : T → X → T) (total : T) (xs ys : List X) → fold f total (xs ++ ys) ≡ fold f (fold f total xs) ys
 fold-append f total [] ys = refl

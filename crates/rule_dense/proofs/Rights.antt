@@ -17,7 +17,7 @@ use Rattle.rule_evaluate.specs.Readings.{readings_of, statements_value}
 use Rattle.rule_evaluate.specs.Course.{MayRead, passes}
 use Rattle.rule_evaluate.proofs.TableReadings.{readings-same}
 use Rattle.rule_evaluate.proofs.AskedFacts.{all-pass}
-use Rattle.rule_dense.specs.Private.Plain.{PlainTable, plain_readings, may_be_asked}
+use Rattle.rule_dense.specs.Inside.Plain.{PlainTable, plain_readings, may_be_asked}
 
 first-of : {X : Type 0} (xs : List X) (k : ℕ) (x : X) → slice_get xs k ≡ Some x → drop k xs ≡ x ∷ drop (suc k) xs
 first-of [] k x is = absurd (cc)

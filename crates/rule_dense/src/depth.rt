@@ -5,7 +5,7 @@ ghost use Rattle.rule_laws.specs.RuleSystem.{depth};
 ghost use Rattle.rule_model.specs.Order.{level_count, position_sizes};
 ghost use Rattle.rule_model.specs.System.{system_of};
 ghost use Rattle.rule_dense.specs.Limits.{IsLow};
-ghost use Rattle.rule_dense.specs.Private.Depths.{AreDeep, IsByDepth, most_levels};
+ghost use Rattle.rule_dense.specs.Inside.Depths.{AreDeep, IsByDepth, most_levels};
 
 use crate::level::{cell_level, level_count};
 use crate::order::{position_sizes, rank};

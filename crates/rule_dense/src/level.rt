@@ -5,7 +5,7 @@ ghost use Rattle.cube_space.specs.Radix.{are_digits};
 ghost use Rattle.cube_space.specs.Layout.{axes_of, sizes_of, most_dimensions};
 ghost use Rattle.cube_space.specs.Cells.{IsCell};
 ghost use Rattle.rule_model.specs.Order.{cell_level, level_count};
-ghost use Rattle.rule_dense.specs.Private.Depths.{most_levels};
+ghost use Rattle.rule_dense.specs.Inside.Depths.{most_levels};
 
 use crate::place::place_of;
 use cube_space::{MAX_DIMENSIONS, Space};

@@ -3,7 +3,7 @@ ghost use Rattle.dim_core.specs.Outline.{IsWeight, components_of, most_component
 ghost use Rattle.cube_space.specs.Cells.{IsCell, elements_of};
 ghost use Rattle.rule_model.specs.Targets.{parts_at};
 ghost use Rattle.rule_dense.specs.Limits.{HasSmallCubes};
-ghost use Rattle.rule_dense.specs.Private.Plain.{base_in, children_in};
+ghost use Rattle.rule_dense.specs.Inside.Plain.{base_in, children_in};
 
 use crate::place::place_of;
 use crate::sums::{sum_below, sum_of_parts};
@@ -27,7 +27,7 @@ pub struct Plain<'a> {
 
 impl<'a> std::marker::Model for Plain<'a> {
     ghost use Rattle.rule_dense.specs.Limits.{HasSmallCubes};
-    ghost use Rattle.rule_dense.specs.Private.Plain.{PlainTable};
+    ghost use Rattle.rule_dense.specs.Inside.Plain.{PlainTable};
     ghost use Rattle.rule_laws.specs.contracts.formula.Formula as formula;
     ghost use Rattle.std.specs.Coded.{codes};
 

@@ -5,7 +5,7 @@ use rule_evaluate::Refs;
 
 impl<'a> Refs<()> for Plain<'a> {
     ghost use Rattle.std.specs.Prelude.{◌≡◌, true, ⊤};
-    ghost use Rattle.rule_dense.specs.Private.Plain.{PlainTable, plain_readings, may_be_asked};
+    ghost use Rattle.rule_dense.specs.Inside.Plain.{PlainTable, plain_readings, may_be_asked};
 
     type Fault = Never;
 
@@ -21,17 +21,17 @@ impl<'a> Refs<()> for Plain<'a> {
 
     ghost later = { λ before after. ⊤ };
 
-    #[tactic(auto, unfolding(crate::specs::Private::Plain::plain_readings))]
+    #[tactic(auto, unfolding(crate::specs::Inside::Plain::plain_readings))]
     fn value(&self, memory: &mut (), cell: u64) -> Result<Value, Never> {
         Ok(value_at(self.values(), cell))
     }
 
-    #[tactic(auto, unfolding(crate::specs::Private::Plain::plain_readings))]
+    #[tactic(auto, unfolding(crate::specs::Inside::Plain::plain_readings))]
     fn base(&self, memory: &mut (), cell: u64) -> Result<Value, Never> {
         Ok(self.base_of(cell))
     }
 
-    #[tactic(auto, unfolding(crate::specs::Private::Plain::plain_readings))]
+    #[tactic(auto, unfolding(crate::specs::Inside::Plain::plain_readings))]
     fn children(&self, memory: &mut (), cell: u64, dim: u32) -> Result<Value, Never> {
         Ok(self.children_of(cell, dim as usize))
     }

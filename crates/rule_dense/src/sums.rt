@@ -6,7 +6,7 @@ ghost use Rattle.rule_laws.specs.RuleSystem.{weighted_sum};
 ghost use Rattle.rule_model.specs.Weights.{leaves_below};
 ghost use Rattle.rule_model.specs.Targets.{with_element_at, with_components};
 ghost use Rattle.rule_dense.specs.Limits.{HasSmallCubes};
-ghost use Rattle.rule_dense.specs.Private.Plain.{table_of, with_leaf};
+ghost use Rattle.rule_dense.specs.Inside.Plain.{table_of, with_leaf};
 
 use crate::place::place_of;
 use cube_fixed::{Sum, Value};

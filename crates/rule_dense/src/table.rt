@@ -7,8 +7,8 @@ ghost use Rattle.rule_model.specs.Governing.{rules_for, formula_at};
 ghost use Rattle.rule_evaluate.specs.Readings.{statements_value};
 ghost use Rattle.stored_values.specs.Stored.{stored_in};
 ghost use Rattle.rule_dense.specs.Limits.{IsLow, HasSmallCubes};
-ghost use Rattle.rule_dense.specs.Private.Plain.{table_of, plain_readings};
-ghost use Rattle.rule_dense.specs.Private.Depths.{AreDense};
+ghost use Rattle.rule_dense.specs.Inside.Plain.{table_of, plain_readings};
+ghost use Rattle.rule_dense.specs.Inside.Depths.{AreDense};
 
 use crate::depth::by_depth;
 use crate::plain::Plain;

@@ -8,4 +8,4 @@ pub mod Feeding
 pub mod ZeroTest
 pub mod Cover
 pub mod Carry
-pub mod Private
+pub mod Inside

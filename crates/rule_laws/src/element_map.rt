@@ -23,7 +23,7 @@ pub(crate) enum Form {
 
 impl Model for ElementMap {
     ghost use Rattle.std.specs.Prelude.{ℕ, List, Option};
-    ghost use Rattle.rule_laws.specs.Private.Maps.{targets_of};
+    ghost use Rattle.rule_laws.specs.Inside.Maps.{targets_of};
 
     ghost Value = { List (Option ℕ) };
 

@@ -20,7 +20,7 @@ use Rattle.grammar.specs.Grammar.{Grammar, many}
 use Rattle.grammar.proofs.Kept.{Keeps, keeps_many}
 use Rattle.grammar.specs.Tokens.{is_word_kind, is_text_kind, is_number_kind, capitals}
 use Rattle.rule_printer.specs.Spelled.{is_word_text}
-use Rattle.rule_printer.specs.Writing.Writable.{is_quotable, is_short_word, is_marked}
+use Rattle.rule_printer.specs.Inside.Writable.{is_quotable, is_short_word, is_marked}
 
 -- each of several passes a test
 all_pass : {A : Type 0} (p : A → Bool) (list : List A) → All (λ a. p a ≡ true) list → list_all p list ≡ true

@@ -20,10 +20,10 @@ use Rattle.cube_lex.specs.Bytes.{is_plain, starts_word, is_word_byte}
 use Rattle.cube_lex.specs.Parts.{IsWord, IsDigits, IsNumber, token_limit}
 use Rattle.cube_lex.specs.Quoted.{quoted}
 use Rattle.cube_lex.specs.Written.{Spelling, Spaces, Writes, sign_token, word_token}
-use Rattle.rule_printer.specs.Writing.Separated.{separator}
+use Rattle.rule_printer.specs.Inside.Separated.{separator}
 use Rattle.rule_printer.specs.Spelled.{is_word_text, next_spelled, listed_spelled, name_spelled, elements_spelled, feeder_spelled, feeders_spelled}
 use Rattle.rule_tree.specs.declared.rule.FeederText.{FeederText}
-use Rattle.rule_printer.specs.Writing.Writable.{is_quotable, is_short_word}
+use Rattle.rule_printer.specs.Inside.Writable.{is_quotable, is_short_word}
 
 -- Tokens that may be written.
 

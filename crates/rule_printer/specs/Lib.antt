@@ -1,3 +1,3 @@
 pub mod Printed
 pub mod Spelled
-pub mod Writing
+pub mod Inside

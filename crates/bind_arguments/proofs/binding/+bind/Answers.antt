@@ -7,7 +7,7 @@ use mir.Val.{SFits}
 use Rattle.bind_arguments.specs.Written.{Quoted, Element, Current, argument_of_part, name_call, index_call, attribute_call, call_part, at_index, number_part, part_in}
 use Rattle.bind_arguments.specs.Argument.{IsAnsweredBy}
 use Rattle.bind_arguments.specs.Bound.{name_in, dimension_at, dimension_named, attribute_named}
-use Rattle.bind_arguments.specs.Private.Reading.{shift_in, at_moved}
+use Rattle.bind_arguments.specs.Inside.Reading.{shift_in, at_moved}
 use Rattle.bind_arguments.specs.declared.bound_argument.BoundArgument.TheVariants as bound
 use Rattle.bind_arguments.specs.declared.fault.ArgumentFault.TheVariants.{UnknownName}
 use Rattle.bind_arguments.proofs.Parts.{part_number, part_text, part_current, part_call, part_binary, no_argument, no_place, no_index}

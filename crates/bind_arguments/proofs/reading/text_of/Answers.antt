@@ -1,6 +1,6 @@
 use Rattle.std.proofs.Common.{ap, sym, ◌∙◌, Some}
 use Rattle.bind_arguments.proofs.Parts.{part_text, not_text}
-use Rattle.bind_arguments.specs.Private.Reading.{text_of_part}
+use Rattle.bind_arguments.specs.Inside.Reading.{text_of_part}
 use Rattle.bind_arguments.proofs.reading.text_of.Goals as goal
 
 pub returns-in-Text : goal.returns-in-Text

@@ -1,7 +1,7 @@
 use Rattle.std.proofs.Common.{ap, sym, ◌∙◌}
 use Rattle.bind_arguments.proofs.Parts.{part_number, number_whole, not_whole}
 use Rattle.bind_arguments.specs.Written.{whole_number}
-use Rattle.bind_arguments.specs.Private.Reading.{whole_of_part}
+use Rattle.bind_arguments.specs.Inside.Reading.{whole_of_part}
 use Rattle.bind_arguments.proofs.reading.whole_of.Goals as goal
 
 pub returns-in-Number-clause-value : goal.returns-in-Number-clause-value

@@ -1,7 +1,7 @@
 -- The last node ends at the last cell.
 use Rattle.std.proofs.Common.{◌≡◌, ◌-◌, length, Some, refl, sym}
 use Rattle.std.specs.List.{slice_get}
-use Rattle.cell_store.specs.Private.Levels.{entries_under}
+use Rattle.cell_store.specs.Inside.Levels.{entries_under}
 use Rattle.cell_store.proofs.InOrder.{EndsAt-flat}
 use Rattle.cell_store.proofs.Levels.{node_at}
 use Rattle.cell_store.proofs.level.last_of_nodes.Goals as goal

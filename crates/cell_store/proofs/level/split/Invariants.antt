@@ -1,7 +1,7 @@
 -- The entries stay, and what is made are nodes.
 use Rattle.std.proofs.Common.{◌≡◌, ◌++◌}
 use Rattle.std.specs.List.{flat_map}
-use Rattle.cell_store.specs.Private.Levels.{AreNodes, entries_under}
+use Rattle.cell_store.specs.Inside.Levels.{AreNodes, entries_under}
 use Rattle.cell_store.proofs.level.split.Given as goal
 
 abbrev pub invariant-loop-alloc : goal.invariant-loop-alloc

@@ -1,6 +1,6 @@
 -- What is written so far, with the rest of the writes, is the whole.
 use Rattle.std.proofs.Common.{◌≡◌, length}
-use Rattle.cell_store.specs.Private.Order.{IsRising, after_entries}
+use Rattle.cell_store.specs.Inside.Order.{IsRising, after_entries}
 use Rattle.cell_store.proofs.tree.changed.Given as goal
 
 abbrev pub invariant-loop-rest : goal.invariant-loop-rest

@@ -1,6 +1,6 @@
 -- Each write takes the place of those of its cell.
 use Rattle.std.proofs.Common.{◌≡◌, ◌∷◌, [], ◌++◌, take, ap, ◌∙◌, arith}
-use Rattle.cell_store.specs.Private.Order.{below_by}
+use Rattle.cell_store.specs.Inside.Order.{below_by}
 use Rattle.cell_store.proofs.LastWrites.{last-none, last-next}
 use Rattle.cell_store.proofs.writes.last_sorted.Goals as goal
 

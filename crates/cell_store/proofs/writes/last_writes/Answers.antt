@@ -1,7 +1,7 @@
 -- A stable sort keeps the last write of each cell.
 use Rattle.std.proofs.Common.{◌≡◌, rules, ap, ◌∙◌}
 use Rattle.std.proofs.lemmas.List.Sorted.{IsNonDecreasingBy-from_sort_by_key, answers_always}
-use Rattle.cell_store.specs.Private.Order.{last_at}
+use Rattle.cell_store.specs.Inside.Order.{last_at}
 use Rattle.cell_store.proofs.LastWrites.{last_at-sorted}
 use Rattle.cell_store.proofs.writes.last_writes.Goals as goal
 

@@ -1,5 +1,5 @@
 use Rattle.std.proofs.Common.{take, map}
-use Rattle.cell_versions.specs.Private.Changes.{IsAddedBy}
+use Rattle.cell_versions.specs.Inside.Changes.{IsAddedBy}
 use Rattle.cell_versions.proofs.changes.added_by.Given as goal
 
 -- the writes so far have added these cells

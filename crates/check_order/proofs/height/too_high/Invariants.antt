@@ -1,7 +1,7 @@
 use Rattle.std.proofs.Common.{◌≡◌, ◌≤◌, ◌-◌, take}
 use Rattle.cube_space.specs.Radix.{product}
 use Rattle.rule_model.specs.Order.{greatest_height, most_positions, position_sizes}
-use Rattle.check_order.specs.Private.Heights.{high_from}
+use Rattle.check_order.specs.Inside.Heights.{high_from}
 use Rattle.check_order.proofs.height.too_high.Given as goal
 
 abbrev pub invariant-each : goal.invariant-each

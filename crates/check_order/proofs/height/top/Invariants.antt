@@ -1,6 +1,6 @@
 use Rattle.std.proofs.Common.{◌≡◌, ◌-◌, max, length}
 use Rattle.rule_model.specs.Order.{greatest}
-use Rattle.check_order.specs.Private.Tops.{cube_tops, top}
+use Rattle.check_order.specs.Inside.Tops.{cube_tops, top}
 use Rattle.check_order.proofs.height.top.Given as goal
 
 abbrev pub invariant-each : goal.invariant-each

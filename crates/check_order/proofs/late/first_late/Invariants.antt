@@ -1,5 +1,5 @@
 use Rattle.std.proofs.Common.{◌≡◌, ◌-◌, length, slice_get}
-use Rattle.check_order.specs.Private.Walk.{late_cubes}
+use Rattle.check_order.specs.Inside.Walk.{late_cubes}
 use Rattle.check_order.proofs.late.first_late.Given as goal
 
 abbrev pub invariant-each : goal.invariant-each

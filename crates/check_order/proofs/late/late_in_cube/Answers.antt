@@ -2,7 +2,7 @@ use Rattle.std.proofs.Common.{◌≡◌, ◌∙◌, sym, ap, arith, suc, ◌+◌
 use Rattle.rule_model.specs.declared.rules.CubeRules.{CubeRules}
 use Rattle.rule_model.specs.declared.rules.Statement.{Statement}
 use Rattle.check_order.specs.References.{late_in, late_of}
-use Rattle.check_order.specs.Private.Walk.{late_statements}
+use Rattle.check_order.specs.Inside.Walk.{late_statements}
 use Rattle.check_order.proofs.Firsts.{option-first, option-past, late_there, none_there}
 use Rattle.check_order.proofs.late.late_in_cube.Goals as goal
 

@@ -1,5 +1,5 @@
 use Rattle.std.proofs.Common.{◌≡◌, ◌-◌, length, slice_get}
-use Rattle.check_order.specs.Private.Walk.{late_statements}
+use Rattle.check_order.specs.Inside.Walk.{late_statements}
 use Rattle.check_order.proofs.late.late_in_cube.Given as goal
 
 abbrev pub invariant-each : goal.invariant-each

@@ -1,5 +1,5 @@
 use Rattle.std.proofs.Common.{length, ◌-◌}
-use Rattle.cube_lex.specs.Private.Front.{IsInside}
+use Rattle.cube_lex.specs.Inside.Front.{IsInside}
 use Rattle.cube_lex.proofs.quoted.quote_end.Given as goal
 
 abbrev pub invariant-bytes : goal.invariant-bytes

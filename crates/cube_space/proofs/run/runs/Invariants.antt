@@ -1,7 +1,7 @@
 use Rattle.std.proofs.Common.{◌≡◌, ℕ, ◌<◌, ◌≤◌, None, length, get_or}
 use Rattle.cube_space.specs.declared.run.Run.{Run}
 use Rattle.cube_space.specs.Cells.{first_cell}
-use Rattle.cube_space.specs.Private.Kept.{IsRunOf}
+use Rattle.cube_space.specs.Inside.Kept.{IsRunOf}
 use Rattle.cube_space.specs.Refusal.{cube_fault}
 use Rattle.cube_space.proofs.run.runs.Given as goal
 

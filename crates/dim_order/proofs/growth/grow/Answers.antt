@@ -1,6 +1,6 @@
 use Rattle.std.proofs.Common.{subst, sym, arith}
 use Rattle.dim_order.specs.Members.{Joined}
-use Rattle.dim_order.specs.Private.Growth.{IsGrown}
+use Rattle.dim_order.specs.Inside.Growth.{IsGrown}
 use Rattle.dim_order.proofs.GrowthLemmas.{grown-empty, length-grown}
 use Rattle.dim_order.proofs.growth.grow.Goals as goal
 

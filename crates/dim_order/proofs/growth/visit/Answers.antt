@@ -1,6 +1,6 @@
 use Rattle.std.proofs.Common.{◌≡◌, sym, ◌∙◌, subst, true, false, List, ℕ, ℤ, []}
 use Rattle.dim_order.specs.Members.{Joined, is_among}
-use Rattle.dim_order.specs.Private.Growth.{IsGrown, is_ready}
+use Rattle.dim_order.specs.Inside.Growth.{IsGrown, is_ready}
 use Rattle.dim_order.specs.Loops.{parts_of}
 use Rattle.dim_order.proofs.GrowthLemmas.{push_grown}
 use Rattle.dim_order.proofs.Places.{get_or_within}

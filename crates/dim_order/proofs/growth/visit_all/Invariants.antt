@@ -1,5 +1,5 @@
 use Rattle.std.proofs.Common.{◌≡◌, ◌<◌, ◌⊎◌, ℕ, length}
-use Rattle.dim_order.specs.Private.Growth.{IsGrown, IsSettled}
+use Rattle.dim_order.specs.Inside.Growth.{IsGrown, IsSettled}
 use Rattle.dim_order.proofs.growth.visit_all.Given as goal
 
 abbrev pub invariant-loop-element : goal.invariant-loop-element

@@ -1,5 +1,5 @@
 use Rattle.std.proofs.Common.{◌≡◌, length}
-use Rattle.dim_order.specs.Private.Growth.{IsGrown}
+use Rattle.dim_order.specs.Inside.Growth.{IsGrown}
 use Rattle.dim_order.proofs.growth.visit_each.Given as goal
 
 abbrev pub invariant-elements : goal.invariant-elements

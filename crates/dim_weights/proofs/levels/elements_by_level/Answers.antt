@@ -1,6 +1,6 @@
 use Rattle.std.proofs.Common.{length}
 use Rattle.std.specs.List.{range_with_len}
-use Rattle.dim_weights.specs.Private.Levels.{IsSortedByLevel}
+use Rattle.dim_weights.specs.Inside.Levels.{IsSortedByLevel}
 use Rattle.dim_weights.proofs.ByLevel.{IsByLevel-sorted}
 use Rattle.dim_weights.proofs.levels.elements_by_level.Goals as goal
 

@@ -5,7 +5,7 @@ use Rattle.std.proofs.lemmas.List.{take_all}
 use Rattle.std.proofs.lemmas.List.Sorted.{All-permutation, length_permutation}
 use Rattle.dim_core.specs.Outline.{IsWeight}
 use Rattle.dim_weights.specs.Coefficients.{weighted_sum}
-use Rattle.dim_weights.specs.Private.Rows.{most_merged_weight}
+use Rattle.dim_weights.specs.Inside.Rows.{most_merged_weight}
 use Rattle.dim_weights.proofs.MergedSums.{weighted_sum-permuted, raised}
 use Rattle.dim_weights.proofs.SumFacts.{parts-step}
 use Rattle.dim_weights.proofs.merged.merged.Goals as goal

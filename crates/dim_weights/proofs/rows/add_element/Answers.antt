@@ -2,7 +2,7 @@ use Rattle.std.proofs.Common.{◌≡◌, ◌∙◌, ◌<◌, ap, sym, ℕ, ℤ, 
 use Rattle.std.proofs.lemmas.Bool.{eqb-true}
 use Rattle.std.proofs.lemmas.Bool.Decides.{nat_tests}
 use Rattle.dim_weights.specs.Coefficients.{weighted_sum}
-use Rattle.dim_weights.specs.Private.Sums.{sum_at}
+use Rattle.dim_weights.specs.Inside.Sums.{sum_at}
 use Rattle.dim_weights.specs.Table.{share, leaves_in}
 use Rattle.dim_weights.proofs.SumFacts.{leaf-sums, parts-sums}
 use Rattle.dim_weights.proofs.rows.add_element.Goals as goal

@@ -1,6 +1,6 @@
 use Rattle.std.proofs.Common.{◌≡◌, ℕ, take, length}
 use Rattle.dim_weights.specs.Coefficients.{weighted_sum}
-use Rattle.dim_weights.specs.Private.Sums.{sum_at}
+use Rattle.dim_weights.specs.Inside.Sums.{sum_at}
 use Rattle.dim_weights.specs.Table.{share, leaves_in}
 use Rattle.dim_weights.proofs.rows.add_parts.Given as goal
 

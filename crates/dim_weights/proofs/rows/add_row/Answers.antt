@@ -1,7 +1,7 @@
 use Rattle.std.proofs.Common.{◌≡◌, ◌∙◌, ◌<◌, ◌*ℤ◌, ◌+ℤ◌, ℕ, w64, to_z, of_z, FitsSigned, get_or, length, take, pos, rules, arith}
 use Rattle.std.specs.Int.{w128}
 use Rattle.std.proofs.lemmas.Int.{to_z-of_z}
-use Rattle.dim_weights.specs.Private.Sums.{sum_at}
+use Rattle.dim_weights.specs.Inside.Sums.{sum_at}
 use Rattle.dim_weights.specs.Table.{share}
 use Rattle.dim_weights.proofs.Pairs.{greatest_in-at}
 use Rattle.dim_weights.proofs.SumFacts.{row-fits, row-step}

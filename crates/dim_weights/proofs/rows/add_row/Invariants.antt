@@ -1,5 +1,5 @@
 use Rattle.std.proofs.Common.{◌≡◌, ◌+ℤ◌, ◌*ℤ◌, ℕ, take, length}
-use Rattle.dim_weights.specs.Private.Sums.{sum_at}
+use Rattle.dim_weights.specs.Inside.Sums.{sum_at}
 use Rattle.dim_weights.specs.Table.{share}
 use Rattle.dim_weights.proofs.rows.add_row.Given as goal
 

@@ -1,8 +1,8 @@
 use Rattle.std.proofs.Common.{◌≡◌, ◌∙◌, ◌<◌, ap, subst, ℕ, ℤ, List, length, IfOk, IfSome, IfNone, arith}
 use Rattle.std.specs.List.{range_with_len}
-use Rattle.dim_weights.specs.Private.Sums.{sum_at}
+use Rattle.dim_weights.specs.Inside.Sums.{sum_at}
 use Rattle.dim_weights.specs.Table.{nonzero_among, greatest_in}
-use Rattle.dim_weights.specs.Private.Rows.{pairs_over, counted_over}
+use Rattle.dim_weights.specs.Inside.Rows.{pairs_over, counted_over}
 use Rattle.dim_weights.proofs.Pairs.{agree-range}
 use Rattle.dim_weights.proofs.rows.pairs_over.Goals as goal
 

@@ -1,5 +1,5 @@
 use Rattle.std.proofs.Common.{take, pos, false}
-use Rattle.dim_weights.specs.Private.Sums.{ArePut}
+use Rattle.dim_weights.specs.Inside.Sums.{ArePut}
 use Rattle.dim_weights.proofs.sums.clear.Given as goal
 
 abbrev pub invariant-loop-leaf : goal.invariant-loop-leaf

@@ -1,7 +1,7 @@
 use Rattle.std.proofs.Common.{◌≡◌, ◌<◌, ◌++◌, length, FitsSigned, get_or, rules, arith}
 use Rattle.std.specs.Int.{w128}
 use Rattle.std.proofs.lemmas.Int.{to_z-of_z}
-use Rattle.dim_weights.specs.Private.Sums.{sum_at, nonzero_pair}
+use Rattle.dim_weights.specs.Inside.Sums.{sum_at, nonzero_pair}
 use Rattle.dim_weights.proofs.Pairs.{pairs-more, small-more}
 use Rattle.dim_weights.proofs.sums.pairs_of.Goals as goal
 

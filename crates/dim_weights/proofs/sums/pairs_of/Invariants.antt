@@ -1,5 +1,5 @@
 use Rattle.std.proofs.Common.{◌≡◌, ◌≤◌, take}
-use Rattle.dim_weights.specs.Private.Sums.{sum_at}
+use Rattle.dim_weights.specs.Inside.Sums.{sum_at}
 use Rattle.dim_weights.specs.Table.{nonzero_among, greatest_in}
 use Rattle.dim_weights.proofs.sums.pairs_of.Given as goal
 

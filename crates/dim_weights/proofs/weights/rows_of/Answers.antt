@@ -1,8 +1,8 @@
 use Rattle.std.proofs.Common.{◌∙◌, ◌+◌, ◌<◌, Err, ap, sym, subst, ℕ, List, length, take, arith}
 use Rattle.std.proofs.lemmas.Result.{err_from_is_err_and}
 use Rattle.dim_weights.specs.Refusal.{fault_at, refusal_of}
-use Rattle.dim_weights.specs.Private.Rows.{Rows, AreRowsOf}
-use Rattle.dim_weights.specs.Private.Levels.{IsByLevel}
+use Rattle.dim_weights.specs.Inside.Rows.{Rows, AreRowsOf}
+use Rattle.dim_weights.specs.Inside.Levels.{IsByLevel}
 use Rattle.dim_weights.proofs.MadeRows.{AreRowsOf-none, AreRowsOf-more, IsWeightsOf-all, fault-is, refusal-some, refusal-none, cause-refused, cause-accepted, ok-free, free-more}
 use Rattle.dim_weights.proofs.weights.rows_of.Goals as goal
 

@@ -1,7 +1,7 @@
 use Rattle.std.proofs.Common.{◌≡◌, ◌<◌, ℕ, length, take, None}
 use Rattle.dim_weights.specs.Refusal.{fault_at}
-use Rattle.dim_weights.specs.Private.Rows.{AreRowsOf}
-use Rattle.dim_weights.specs.Private.Sums.{AreZero}
+use Rattle.dim_weights.specs.Inside.Rows.{AreRowsOf}
+use Rattle.dim_weights.specs.Inside.Sums.{AreZero}
 use Rattle.dim_weights.proofs.weights.rows_of.Given as goal
 
 abbrev pub invariant-loop-element : goal.invariant-loop-element

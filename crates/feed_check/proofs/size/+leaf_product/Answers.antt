@@ -2,7 +2,7 @@ use Rattle.std.proofs.Common.{rules, ◌≡◌, ◌<◌, ◌∙◌, ◌+◌, ◌
 use Rattle.cube_space.specs.Layout.{axes}
 use Rattle.order_laws.proofs.CellFacts.{axes-sizes}
 use Rattle.cover_laws.proofs.Pairs.{arg-there}
-use Rattle.feed_check.specs.Private.Leaves.{leaf_elements}
+use Rattle.feed_check.specs.Inside.Leaves.{leaf_elements}
 use Rattle.feed_check.proofs.Products.{leaves-step, product-room}
 use Rattle.feed_check.proofs.size.+leaf_product.Goals as goal
 

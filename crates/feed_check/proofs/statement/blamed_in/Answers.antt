@@ -1,5 +1,5 @@
 use Rattle.std.proofs.Common.{◌∙◌, sym}
-use Rattle.feed_check.specs.Private.References.{is_reference}
+use Rattle.feed_check.specs.Inside.References.{is_reference}
 use Rattle.feed_check.proofs.Verdicts.{known, verdict-covered, verdict-blamed}
 use Rattle.feed_check.proofs.statement.blamed_in.Goals as goal
 

@@ -1,6 +1,6 @@
 use Rattle.std.proofs.Common.{[]}
 use Rattle.cube_space.specs.Layout.{axes}
-use Rattle.feed_map.specs.Private.Leaves.{IsLeafCellOf, GoesOn}
+use Rattle.feed_map.specs.Inside.Leaves.{IsLeafCellOf, GoesOn}
 use Rattle.feed_map.proofs.GainFacts.{gains-result, stops-result}
 use Rattle.feed_map.proofs.LeafFacts.{goes-on-cube, cube-goes-on}
 use Rattle.feed_map.proofs.LeafSteps.{no-roots}

@@ -2,8 +2,8 @@ use Rattle.std.proofs.Common.{◌+◌, ap, length, arith}
 use Rattle.cube_space.specs.Layout.{Layout}
 use Rattle.rule_laws.specs.Feeding.{IsDenseCell}
 use Rattle.rule_model.specs.System.{system_of}
-use Rattle.feed_map.specs.Private.Gains.{StopsBy}
-use Rattle.feed_map.specs.Private.Follows.{IsDenseBelow, IsDenseOf}
+use Rattle.feed_map.specs.Inside.Gains.{StopsBy}
+use Rattle.feed_map.specs.Inside.Follows.{IsDenseBelow, IsDenseOf}
 use Rattle.feed_map.proofs.GainFacts.{gains-then, gains-as, stops-then, handed-on}
 use Rattle.feed_map.proofs.DenseFacts.{dense-before, dense-here, dense-parts, dense-whole}
 use Rattle.feed_map.proofs.dense.add_dense.Goals as goal

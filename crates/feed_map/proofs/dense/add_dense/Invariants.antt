@@ -1,6 +1,6 @@
 -- Those of the cubes so far.
-use Rattle.feed_map.specs.Private.Gains.{Gains}
-use Rattle.feed_map.specs.Private.Follows.{IsDenseBelow}
+use Rattle.feed_map.specs.Inside.Gains.{Gains}
+use Rattle.feed_map.specs.Inside.Follows.{IsDenseBelow}
 use Rattle.feed_map.proofs.dense.add_dense.Given as goal
 
 abbrev pub invariant-each : goal.invariant-each

@@ -1,8 +1,8 @@
 use Rattle.std.proofs.Common.{rules, ◌≡◌, ◌∙◌, sym, true, false}
 use Rattle.rule_laws.specs.Feeding.{is_dense}
 use Rattle.rule_model.specs.System.{system_of}
-use Rattle.feed_map.specs.Private.Leaves.{IsLeafCellOf}
-use Rattle.feed_map.specs.Private.Follows.{IsDenseOf}
+use Rattle.feed_map.specs.Inside.Leaves.{IsLeafCellOf}
+use Rattle.feed_map.specs.Inside.Follows.{IsDenseOf}
 use Rattle.feed_map.proofs.GainFacts.{gains-none, gains-result, stops-result}
 use Rattle.feed_map.proofs.dense.add_if_dense.Goals as goal
 

@@ -2,7 +2,7 @@ use Rattle.std.proofs.Common.{◌∙◌}
 use Rattle.cell_store.specs.Entries.{cells_of}
 use Rattle.rule_laws.specs.Feeding.{IsDenseCell}
 use Rattle.rule_model.specs.System.{system_of}
-use Rattle.feed_map.specs.Private.Follows.{FeedsFrom, EndsChain}
+use Rattle.feed_map.specs.Inside.Follows.{FeedsFrom, EndsChain}
 use Rattle.feed_map.proofs.FedFacts.{verdict-of, stopped, dense-fed, none-known, dense-known, starts-known, starts-open, start-few, from-stored, ends-fed, all-from-nothing}
 use Rattle.feed_map.proofs.fed.all_fed.Goals as goal
 

@@ -1,4 +1,4 @@
-use Rattle.feed_map.specs.Private.Follows.{FeedsFrom, EndsChain}
+use Rattle.feed_map.specs.Inside.Follows.{FeedsFrom, EndsChain}
 use Rattle.feed_map.proofs.FedFacts.{verdict-of, stopped, before-known, added-fed, grown-known, grown-open, grown-few, ends-fed, all-from-before, union-known}
 use Rattle.feed_map.proofs.fed.more_fed.Goals as goal
 

@@ -1,6 +1,6 @@
 use Rattle.std.proofs.Common.{rules, ◌≡◌, false, refl, slice_index_or}
-use Rattle.feed_map.specs.Private.Gains.{StopsBy}
-use Rattle.feed_map.specs.Private.Follows.{FeedsFrom}
+use Rattle.feed_map.specs.Inside.Gains.{StopsBy}
+use Rattle.feed_map.specs.Inside.Follows.{FeedsFrom}
 use Rattle.feed_map.proofs.GainFacts.{gains-none, handed-on}
 use Rattle.feed_map.proofs.FollowSteps.{cells-more, cells-stop}
 use Rattle.feed_map.proofs.follow.follow_cells.Goals as goal

@@ -1,7 +1,7 @@
 -- What the cells so far feed.
 use Rattle.std.proofs.Common.{take}
-use Rattle.feed_map.specs.Private.Gains.{Gains}
-use Rattle.feed_map.specs.Private.Follows.{FeedsFrom}
+use Rattle.feed_map.specs.Inside.Gains.{Gains}
+use Rattle.feed_map.specs.Inside.Follows.{FeedsFrom}
 use Rattle.feed_map.proofs.follow.follow_cells.Given as goal
 
 abbrev pub invariant-each : goal.invariant-each

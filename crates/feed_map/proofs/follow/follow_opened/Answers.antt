@@ -1,6 +1,6 @@
 use Rattle.std.proofs.Common.{rules, ◌≡◌, false, arith, sym}
-use Rattle.feed_map.specs.Private.Gains.{NoCell, Gains, StopsBy}
-use Rattle.feed_map.specs.Private.Follows.{EndsChain}
+use Rattle.feed_map.specs.Inside.Gains.{NoCell, Gains, StopsBy}
+use Rattle.feed_map.specs.Inside.Follows.{EndsChain}
 use Rattle.feed_map.proofs.GainFacts.{handed-on, stops-then, stops-result, on-ok}
 use Rattle.feed_map.proofs.FollowSteps.{alone, opened-stops, opened-room, opened-grows, opened-only, opened-within, opened-followed, settled-end}
 use Rattle.feed_map.proofs.follow.follow_opened.Goals as goal

@@ -1,8 +1,8 @@
 -- What came are ends of chains, and what was opened up to `place` was followed.
 use Rattle.std.proofs.Common.{◌≤◌, ◌+◌, ◌-◌, length}
 use Rattle.feed_map.specs.FedCells.{most_fed}
-use Rattle.feed_map.specs.Private.Gains.{Grows, GainsOnly}
-use Rattle.feed_map.specs.Private.Follows.{EndsChain, AreFollowed}
+use Rattle.feed_map.specs.Inside.Gains.{Grows, GainsOnly}
+use Rattle.feed_map.specs.Inside.Follows.{EndsChain, AreFollowed}
 use Rattle.feed_map.proofs.follow.follow_opened.Given as goal
 
 abbrev pub invariant-each : goal.invariant-each

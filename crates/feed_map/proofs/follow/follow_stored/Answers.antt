@@ -1,8 +1,8 @@
 use Rattle.std.proofs.Common.{rules, ◌≡◌, ◌≤◌, ◌^◌, false, arith, ap, sym, ◌∙◌}
 use Rattle.cell_store.specs.Entries.{cells_of}
 use Rattle.cube_space.specs.Cells.{size_of}
-use Rattle.feed_map.specs.Private.Gains.{StopsBy}
-use Rattle.feed_map.specs.Private.Follows.{FeedsFrom}
+use Rattle.feed_map.specs.Inside.Gains.{StopsBy}
+use Rattle.feed_map.specs.Inside.Follows.{FeedsFrom}
 use Rattle.feed_map.proofs.GainFacts.{gains-none, handed-on}
 use Rattle.feed_map.proofs.FeederFacts.{feeds-below}
 use Rattle.feed_map.proofs.FollowSteps.{stored-more, stored-stops, stored-past, stored-done, from-first}

@@ -1,8 +1,8 @@
 -- What the stored cells below `from` feed.
 use Rattle.std.proofs.Common.{◌≤◌, ◌-◌, ◌^◌}
 use Rattle.cell_store.specs.Entries.{cells_of}
-use Rattle.feed_map.specs.Private.Gains.{Gains}
-use Rattle.feed_map.specs.Private.Follows.{FeedsBelow}
+use Rattle.feed_map.specs.Inside.Gains.{Gains}
+use Rattle.feed_map.specs.Inside.Follows.{FeedsBelow}
 use Rattle.feed_map.proofs.follow.follow_stored.Given as goal
 
 abbrev pub invariant-each : goal.invariant-each

@@ -1,5 +1,5 @@
 use Rattle.std.proofs.Common.{rules, ◌≡◌, ◌∙◌, ap, sym, subst, ℕ, ◌+◌, List, true, false, take}
-use Rattle.feed_map.specs.Private.Gains.{AreFresh}
+use Rattle.feed_map.specs.Inside.Gains.{AreFresh}
 use Rattle.feed_map.proofs.Fresh.{fresh-known, fresh-again, fresh-push}
 use Rattle.feed_map.proofs.growth.unknown_cells.Goals.{then-is_new+then-not-has+in_ok-push, else-is_new, else-is_new-via-then-is_new+else-not-has, else-is_new-via-else-is_new}
 use Rattle.feed_map.proofs.growth.unknown_cells.Goals as goal

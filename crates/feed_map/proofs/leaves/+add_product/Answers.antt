@@ -4,8 +4,8 @@ use Rattle.std.proofs.lemmas.List.{take_more_set}
 use Rattle.dim_core.specs.Outline.{Outline}
 use Rattle.cube_space.specs.Layout.{axes_of, dims_of}
 use Rattle.cube_space.specs.Cells.{cell_number}
-use Rattle.feed_map.specs.Private.Gains.{Gains, StopsBy}
-use Rattle.feed_map.specs.Private.Leaves.{candidates, leaf_at, GoesOn, GoesOnBy, GoesOnWithin}
+use Rattle.feed_map.specs.Inside.Gains.{Gains, StopsBy}
+use Rattle.feed_map.specs.Inside.Leaves.{candidates, leaf_at, GoesOn, GoesOnBy, GoesOnWithin}
 use Rattle.feed_map.proofs.GainFacts.{gains-result, stops-result, handed-on}
 use Rattle.feed_map.proofs.LeafSteps.{axes-past, front-kept, some-by, by-some, number-goes, goes-number, goes-more, goes-stops, goes-done}
 use Rattle.feed_map.proofs.leaves.+add_product.Goals.{add_choice-After-rank_of-rank, add_product-After-root_of-root}

@@ -1,8 +1,8 @@
 -- The cells of the leaves so far, in the dimension at the place.
 use Rattle.std.proofs.Common.{◌≡◌, ◌-◌, ◌+◌, ◌*◌, length, take, drop}
 use Rattle.cube_space.specs.Layout.{axes_of, dims_of}
-use Rattle.feed_map.specs.Private.Gains.{Gains}
-use Rattle.feed_map.specs.Private.Leaves.{GoesOnWithin}
+use Rattle.feed_map.specs.Inside.Gains.{Gains}
+use Rattle.feed_map.specs.Inside.Leaves.{GoesOnWithin}
 use Rattle.feed_map.proofs.leaves.+add_product.Given as goal
 
 abbrev pub decreases-add_product : goal.decreases-add_product

@@ -5,7 +5,7 @@ use Rattle.cube_space.specs.Cells.{cube_of}
 use Rattle.cube_space.proofs.Places.{cell-place}
 use Rattle.rule_laws.specs.Feeding.{leaves_of}
 use Rattle.rule_model.specs.System.{system_of}
-use Rattle.feed_map.specs.Private.Leaves.{GoesOn, AreRoots}
+use Rattle.feed_map.specs.Inside.Leaves.{GoesOn, AreRoots}
 use Rattle.feed_map.proofs.GainFacts.{gains-result, stops-result}
 use Rattle.feed_map.proofs.LeafSteps.{cell-roots}
 use Rattle.feed_map.proofs.StandFacts.{total-stands, stands-total}

@@ -1,5 +1,5 @@
 use Rattle.std.proofs.Common.{ap}
-use Rattle.rule_dense.specs.Private.Depths.{with_depth}
+use Rattle.rule_dense.specs.Inside.Depths.{with_depth}
 use Rattle.rule_dense.proofs.Ranges.{map-push}
 use Rattle.rule_dense.proofs.depth.all_with_depth.Goals as goal
 

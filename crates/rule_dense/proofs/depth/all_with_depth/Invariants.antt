@@ -1,6 +1,6 @@
 use Rattle.std.proofs.Common.{◌≡◌, map}
 use Rattle.std.specs.List.{range_with_len}
-use Rattle.rule_dense.specs.Private.Depths.{with_depth}
+use Rattle.rule_dense.specs.Inside.Depths.{with_depth}
 use Rattle.rule_dense.proofs.depth.all_with_depth.Given as goal
 
 abbrev pub invariant-loop-cell : goal.invariant-loop-cell

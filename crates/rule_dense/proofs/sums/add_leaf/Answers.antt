@@ -6,7 +6,7 @@ use Rattle.cube_fixed.specs.Total.{with_term}
 use Rattle.cube_space.specs.Layout.{Layout}
 use Rattle.cube_space.specs.Cells.{is_leaf_cell}
 use Rattle.rule_model.specs.Weights.{weight}
-use Rattle.rule_dense.specs.Private.Plain.{table_of}
+use Rattle.rule_dense.specs.Inside.Plain.{table_of}
 use Rattle.rule_dense.proofs.LeafSums.{added-some, added-none, added-other}
 use Rattle.rule_dense.proofs.sums.add_leaf.Goals.{After-is_leaf}
 use Rattle.rule_dense.proofs.sums.add_leaf.Goals as goal

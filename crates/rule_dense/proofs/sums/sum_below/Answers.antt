@@ -4,7 +4,7 @@ use Rattle.std.specs.List.{range_with_len}
 use Rattle.cube_fixed.specs.Total.{Total, no_terms, value_of}
 use Rattle.cube_space.specs.Layout.{Layout}
 use Rattle.cube_space.specs.Cells.{IsCell, cube_of, first_cell, cell_count, size_of}
-use Rattle.rule_dense.specs.Private.Plain.{table_of, with_leaf}
+use Rattle.rule_dense.specs.Inside.Plain.{table_of, with_leaf}
 use Rattle.rule_dense.proofs.LeafSums.{in_run-cell, leaves-by_cube, with_leaves-more}
 use Rattle.rule_dense.proofs.sums.sum_below.Goals.{After-cells-number-end}
 use Rattle.rule_dense.proofs.sums.sum_below.Goals as goal

@@ -1,7 +1,7 @@
 use Rattle.std.proofs.Common.{◌≡◌, ◌≤◌}
 use Rattle.std.specs.List.{range_with_len}
 use Rattle.cube_fixed.specs.Total.{no_terms}
-use Rattle.rule_dense.specs.Private.Plain.{table_of, with_leaf}
+use Rattle.rule_dense.specs.Inside.Plain.{table_of, with_leaf}
 use Rattle.std.specs.Prelude.{fold}
 use Rattle.rule_dense.proofs.sums.sum_below.Given as goal
 

@@ -3,7 +3,7 @@ use Rattle.std.proofs.lemmas.Int.{to_z-of_z}
 use mir.Val.{SFits}
 use Rattle.cube_fixed.specs.declared.value.Value.{Value}
 use Rattle.cube_fixed.specs.Total.{Total, with_term}
-use Rattle.rule_dense.specs.Private.Plain.{table_of}
+use Rattle.rule_dense.specs.Inside.Plain.{table_of}
 use Rattle.rule_dense.proofs.LeafSums.{parts-some, parts-none}
 use Rattle.rule_dense.proofs.sums.sum_of_parts.Goals as goal
 use Rattle.rule_dense.proofs.sums.sum_of_parts.Goals.{in-Some, in_default}

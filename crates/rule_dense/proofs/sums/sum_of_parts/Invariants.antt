@@ -3,7 +3,7 @@ use Rattle.std.specs.Prelude.{fold}
 use Rattle.cube_fixed.specs.Total.{no_terms}
 use Rattle.rule_laws.proofs.SystemFacts.{add_pair}
 use Rattle.rule_model.specs.Targets.{with_components}
-use Rattle.rule_dense.specs.Private.Plain.{table_of}
+use Rattle.rule_dense.specs.Inside.Plain.{table_of}
 use Rattle.rule_dense.proofs.sums.sum_of_parts.Given as goal
 
 abbrev pub invariant-loop-part : goal.invariant-loop-part

@@ -3,8 +3,8 @@ use Rattle.cube_fixed.specs.declared.value.Value.{Value}
 use Rattle.rule_laws.specs.RuleSystem.{right_side}
 use Rattle.rule_model.specs.System.{system_of}
 use Rattle.stored_values.specs.Stored.{stored_in}
-use Rattle.rule_dense.specs.Private.Plain.{table_of}
-use Rattle.rule_dense.specs.Private.Depths.{IsByDepth}
+use Rattle.rule_dense.specs.Inside.Plain.{table_of}
+use Rattle.rule_dense.specs.Inside.Depths.{IsByDepth}
 use Rattle.rule_dense.proofs.Depths.{dense-more, dense-all}
 use Rattle.std.specs.Prelude.{slice_index_or}
 use Rattle.rule_dense.proofs.table.all_values.Goals.{After-deref-cell-items}

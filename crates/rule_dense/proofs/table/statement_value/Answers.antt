@@ -4,7 +4,7 @@ use Rattle.rule_model.specs.BoundModel.{BoundModel}
 use Rattle.rule_model.specs.System.{system_of}
 use Rattle.rule_model.specs.Governing.{rules_for}
 use Rattle.rule_evaluate.specs.Course.{passes}
-use Rattle.rule_dense.specs.Private.Plain.{plain_readings, may_be_asked}
+use Rattle.rule_dense.specs.Inside.Plain.{plain_readings, may_be_asked}
 use Rattle.rule_dense.proofs.Rights.{asked-of_cell}
 use Rattle.rule_dense.proofs.table.statement_value.Goals as goal
 

@@ -2,7 +2,7 @@ use Rattle.std.proofs.Common.{◌+◌, ◌*◌, take, length}
 use Rattle.cube_lex.specs.Written.{Spaces}
 use Rattle.rule_printer.proofs.TreeWeights.{weight, weights}
 use Rattle.rule_printer.specs.Spelled.{written, written_at, listed_spelled, tree_spelled}
-use Rattle.rule_printer.specs.Writing.Spine.{Spine}
+use Rattle.rule_printer.specs.Inside.Spine.{Spine}
 use Rattle.rule_tree.specs.declared.tree.Tree.{Tree}
 use Rattle.rule_printer.proofs.tree_printing.+trees.Given as goal
 

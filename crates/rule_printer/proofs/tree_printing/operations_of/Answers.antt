@@ -1,7 +1,7 @@
 use Rattle.std.proofs.Common.{◌≡◌, [], ◌∷◌, ◌++◌, sym, ap, ◌∙◌, subst}
 use Rattle.rule_printer.proofs.Spines.{spine_more}
 use Rattle.rule_printer.specs.Spelled.{rank_of}
-use Rattle.rule_printer.specs.Writing.Spine.{Spine}
+use Rattle.rule_printer.specs.Inside.Spine.{Spine}
 use Rattle.rule_tree.specs.declared.tree.Tree.TheVariants as trees
 use Rattle.rule_printer.proofs.tree_printing.operations_of.Goals as goal
 

@@ -1,4 +1,4 @@
-use Rattle.rule_printer.specs.Writing.Spine.{Spine}
+use Rattle.rule_printer.specs.Inside.Spine.{Spine}
 use Rattle.rule_printer.proofs.tree_printing.operations_of.Given as goal
 
 abbrev pub invariant-down : goal.invariant-down

@@ -1,7 +1,7 @@
 -- Each node gets the writes up to its last cell.
 use Rattle.std.proofs.Common.{◌≡◌, ◌++◌, ◌<◌, length, take, drop, get_or, ap, sym, ◌∙◌, take-append-drop}
-use Rattle.cell_store.specs.Private.Order.{after_entries}
-use Rattle.cell_store.specs.Private.Levels.{entries_under, level_entries}
+use Rattle.cell_store.specs.Inside.Order.{after_entries}
+use Rattle.cell_store.specs.Inside.Levels.{entries_under, level_entries}
 use Rattle.cell_store.proofs.Edits.{rising-above}
 use Rattle.cell_store.proofs.Parts.{rising-part, rising-front, more_rising, changed-next}
 use Rattle.cell_store.proofs.Levels.{last_of, nodes_end}

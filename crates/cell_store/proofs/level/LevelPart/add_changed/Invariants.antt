@@ -1,8 +1,8 @@
 -- What is done, and the rest of the nodes with the rest of the writes, are the whole.
 use Rattle.std.proofs.Common.{◌≡◌, ◌++◌, drop}
 use Rattle.std.specs.List.{flat_map}
-use Rattle.cell_store.specs.Private.Order.{IsRising, after_entries}
-use Rattle.cell_store.specs.Private.Levels.{IsLevel, entries_under, level_entries}
+use Rattle.cell_store.specs.Inside.Order.{IsRising, after_entries}
+use Rattle.cell_store.specs.Inside.Levels.{IsLevel, entries_under, level_entries}
 use Rattle.cell_store.proofs.level.LevelPart.add_changed.Given as goal
 
 abbrev pub invariant-loop-node : goal.invariant-loop-node

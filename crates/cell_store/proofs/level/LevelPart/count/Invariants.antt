@@ -1,7 +1,7 @@
 -- The entries of the last part and of the nodes so far are counted.
 use Rattle.std.proofs.Common.{◌≡◌, ◌+◌, length, take}
 use Rattle.std.specs.List.{flat_map}
-use Rattle.cell_store.specs.Private.Levels.{entries_under}
+use Rattle.cell_store.specs.Inside.Levels.{entries_under}
 use Rattle.cell_store.proofs.level.LevelPart.count.Given as goal
 
 abbrev pub invariant-loop-node : goal.invariant-loop-node

@@ -3,7 +3,7 @@ use Rattle.std.proofs.Common.{◌≡◌, take, drop}
 use Rattle.std.proofs.lemmas.List.Elements.{All-take, All-drop}
 use Rattle.cell_store.specs.declared.level.TheConstants.{HALF_LEVEL}
 use Rattle.cell_store.specs.declared.node.Node.{Node}
-use Rattle.cell_store.specs.Private.Levels.{IsNode}
+use Rattle.cell_store.specs.Inside.Levels.{IsNode}
 use Rattle.cell_store.proofs.level.LevelPart.cut.Goals as goal
 
 pub returns-clause-front : goal.returns-clause-front

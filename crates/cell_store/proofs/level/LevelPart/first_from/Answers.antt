@@ -2,8 +2,8 @@
 use Rattle.std.proofs.Common.{◌≡◌, None, Some, ap, sym, ◌∙◌}
 use Rattle.std.specs.List.{slice_get}
 use Rattle.cell_store.specs.declared.node.Node.{Node}
-use Rattle.cell_store.specs.Private.Order.{at_least_by, first_from}
-use Rattle.cell_store.specs.Private.Levels.{entries_under, level_entries, IsNode}
+use Rattle.cell_store.specs.Inside.Order.{at_least_by, first_from}
+use Rattle.cell_store.specs.Inside.Levels.{entries_under, level_entries, IsNode}
 use Rattle.cell_store.proofs.Levels.{last_of, nodes_end}
 use Rattle.cell_store.proofs.Parts.{shared_rising, more_rising, found_rising, found_is, first-in_part, first-in_more}
 use Rattle.cell_store.proofs.level.LevelPart.first_from.Goals as goal

@@ -1,6 +1,6 @@
 -- The last entry of the last part.
 use Rattle.std.specs.List.{flat_map}
-use Rattle.cell_store.specs.Private.Levels.{entries_under}
+use Rattle.cell_store.specs.Inside.Levels.{entries_under}
 use Rattle.cell_store.proofs.InOrder.{EndsAt-append}
 use Rattle.cell_store.proofs.level.LevelPart.last_cell.Goals as goal
 

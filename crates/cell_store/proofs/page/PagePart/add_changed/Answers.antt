@@ -1,6 +1,6 @@
 -- Each write is merged at its place.
 use Rattle.std.proofs.Common.{◌≡◌, take, arith, ◌∙◌}
-use Rattle.cell_store.specs.Private.Order.{below_by, above_by}
+use Rattle.cell_store.specs.Inside.Order.{below_by, above_by}
 use Rattle.cell_store.proofs.Edits.{merge-next, rising-above}
 use Rattle.cell_store.proofs.page.PagePart.add_changed.Goals as goal
 

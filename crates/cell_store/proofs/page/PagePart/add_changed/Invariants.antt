@@ -1,6 +1,6 @@
 -- What is done, and the rest of the entries with the rest of the writes, are the whole.
 use Rattle.std.proofs.Common.{◌≡◌, ◌++◌, drop}
-use Rattle.cell_store.specs.Private.Order.{IsRising, after_entries}
+use Rattle.cell_store.specs.Inside.Order.{IsRising, after_entries}
 use Rattle.cell_store.proofs.page.PagePart.add_changed.Given as goal
 
 abbrev pub invariant-loop-write : goal.invariant-loop-write

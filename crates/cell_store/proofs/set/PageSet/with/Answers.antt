@@ -1,7 +1,7 @@
 -- The last writes of the cells make the union.
 use Rattle.std.proofs.Common.{◌≡◌}
-use Rattle.cell_store.specs.Private.Order.{after_entries}
-use Rattle.cell_store.specs.Private.Trees.{all_entries}
+use Rattle.cell_store.specs.Inside.Order.{after_entries}
+use Rattle.cell_store.specs.Inside.Trees.{all_entries}
 use Rattle.cell_store.proofs.Sets.{cell, stays, union_of}
 use Rattle.cell_store.proofs.set.PageSet.with.Goals as goal
 

@@ -1,9 +1,9 @@
 -- The last writes give the same entries as all.
 use Rattle.std.proofs.Common.{◌≡◌, ℕ, ap, ◌∙◌, map}
 use Rattle.cell_store.specs.Entries.{after_writes}
-use Rattle.cell_store.specs.Private.Entries.{cell_of, is_zero, entry_of}
-use Rattle.cell_store.specs.Private.Order.{after_entries, last_at}
-use Rattle.cell_store.specs.Private.Trees.{all_entries}
+use Rattle.cell_store.specs.Inside.Entries.{cell_of, is_zero, entry_of}
+use Rattle.cell_store.specs.Inside.Order.{after_entries, last_at}
+use Rattle.cell_store.specs.Inside.Trees.{all_entries}
 use Rattle.cell_store.proofs.Stores.{IsStore-after_writes, after-last_writes}
 use Rattle.cell_store.proofs.store.Store.changed.Goals as goal
 

@@ -2,7 +2,7 @@ use Rattle.std.proofs.Common.{rules, ◌≡◌, subst, sym, map}
 use Rattle.std.specs.Prelude.{option_map}
 use Rattle.cell_store.specs.Entries.{after_writes}
 use Rattle.feed_map.specs.FedCells.{HasManyFed}
-use Rattle.cell_versions.specs.Private.Changes.{IsAddedBy, IsAddedIf}
+use Rattle.cell_versions.specs.Inside.Changes.{IsAddedBy, IsAddedIf}
 use Rattle.cell_versions.proofs.Added.{fed_without}
 use Rattle.cell_versions.proofs.version.Version.fed_over.Goals as goal
 

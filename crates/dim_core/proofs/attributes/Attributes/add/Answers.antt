@@ -1,6 +1,6 @@
 use Rattle.std.proofs.Common.{◌≡◌, [], ◌∷◌, ◌++◌, refl, sym, ap, ◌∙◌, not, if◌then◌else◌}
 use Rattle.std.proofs.lemmas.Slice.Zip.{all_zipped_more}
-use Rattle.dim_core.specs.Private.Kept.{IsKeyOf}
+use Rattle.dim_core.specs.Inside.Kept.{IsKeyOf}
 use Rattle.dim_core.proofs.BadAttributes.{is_bad, is_good}
 use Rattle.dim_core.proofs.Keys.{keys_kept, key_found}
 use Rattle.dim_core.proofs.attributes.Attributes.add.Goals as goal

@@ -1,5 +1,5 @@
 use Rattle.std.proofs.Common.{pos, false}
-use Rattle.dim_weights.specs.Private.Sums.{ArePut}
+use Rattle.dim_weights.specs.Inside.Sums.{ArePut}
 use Rattle.dim_weights.proofs.Marks.{IsTouched-cleared, cleared-zero, touched-within}
 use Rattle.dim_weights.proofs.sums.Sums.clear.Goals as goal
 

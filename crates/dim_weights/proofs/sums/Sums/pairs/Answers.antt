@@ -1,7 +1,7 @@
 use Rattle.std.proofs.Common.{◌≡◌, ◌∙◌, ◌<◌, ap, subst, ℕ, ℤ, List, length, Option, Some, None, Result, Ok, Err, IfOk, IfSome, IfNone, SomeIndex, unsigned_abs}
 use Rattle.std.specs.List.{range_with_len}
 use Rattle.std.proofs.lemmas.List.Sorted.{IsNonDecreasingBy-from_sort}
-use Rattle.dim_weights.specs.Private.Sums.{sum_at}
+use Rattle.dim_weights.specs.Inside.Sums.{sum_at}
 use Rattle.dim_weights.specs.Table.{nonzero_among}
 use Rattle.dim_weights.proofs.Marks.{IsTouched-permuted, touched-within, touched-pairs, large-pair}
 use Rattle.dim_weights.proofs.sums.Sums.pairs.Goals as goal

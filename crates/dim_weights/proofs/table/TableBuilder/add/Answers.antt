@@ -1,6 +1,6 @@
 use Rattle.std.proofs.Common.{◌≡◌, ◌≤◌, ◌<◌, ap, subst, ℕ, length, arith}
-use Rattle.dim_weights.specs.Private.Rows.{Rows, pairs_over}
-use Rattle.dim_weights.specs.Private.Sums.{IsRow}
+use Rattle.dim_weights.specs.Inside.Rows.{Rows, pairs_over}
+use Rattle.dim_weights.specs.Inside.Sums.{IsRow}
 use Rattle.dim_weights.specs.Table.{greatest_in}
 use Rattle.dim_weights.proofs.MadeRows.{IsRow-made, IsBuilding-add}
 use Rattle.dim_weights.proofs.table.TableBuilder.add.Goals as goal

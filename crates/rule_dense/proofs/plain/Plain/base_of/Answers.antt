@@ -6,7 +6,7 @@ use Rattle.rule_laws.specs.RuleSystem.{base}
 use Rattle.rule_model.specs.System.{system_of}
 use Rattle.stored_values.specs.Stored.{stored_in}
 use Rattle.stored_values.proofs.Stored.{base-leaf}
-use Rattle.rule_dense.specs.Private.Plain.{PlainTable, table_of}
+use Rattle.rule_dense.specs.Inside.Plain.{PlainTable, table_of}
 use Rattle.rule_dense.proofs.plain.Plain.base_of.Goals as goal
 
 pub returns-then-is_leaf : goal.returns-then-is_leaf

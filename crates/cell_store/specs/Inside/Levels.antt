@@ -4,7 +4,7 @@ use Rattle.std.specs.Prelude.{◌≡◌, ℕ, ◌*◌, ◌<◌, ◌≤◌, List,
 use Rattle.std.specs.List.{flat_map}
 use Rattle.cell_store.specs.declared.node.Node.{Node}
 use Rattle.cell_store.specs.declared.level.Level.{Level}
-use Rattle.cell_store.specs.Private.Order.{EndsAt}
+use Rattle.cell_store.specs.Inside.Order.{EndsAt}
 
 -- the entries of a node's part
 abbrev pub entries_under : {E T : Type 0} → (T → List E) → Node T → List E

@@ -2,8 +2,8 @@
 use Rattle.std.specs.Prelude.{◌≡◌, ℕ, ◌≤◌, length}
 use Rattle.cell_store.specs.declared.entry.Entry.{Entry}
 use Rattle.cell_store.specs.Entries.{IsStore, most_cells}
-use Rattle.cell_store.specs.Private.Entries.{cell_of}
-use Rattle.cell_store.specs.Private.Trees.{Tree, all_entries, IsTree}
+use Rattle.cell_store.specs.Inside.Entries.{cell_of}
+use Rattle.cell_store.specs.Inside.Trees.{Tree, all_entries, IsTree}
 
 -- the tree holds a store's entries, of which there are `len`
 pub record IsKept (tree : Tree Entry) (len : ℕ) : Type 0 where

@@ -13,8 +13,8 @@ use Rattle.feed_map.specs.declared.fault.FedFault.{FedFault}
 use Rattle.feed_map.specs.declared.fault.FedFault.TheVariants.{FedLimit, Memory}
 use Rattle.feed_map.specs.declared.growth.Growth.{Growth}
 use Rattle.feed_map.specs.FedCells.{AreFedCells, HasManyFed, most_fed}
-use Rattle.feed_map.specs.Private.Gains.{HasCell}
-use Rattle.feed_map.specs.Private.Leaves.{IsLeafCellOf}
+use Rattle.feed_map.specs.Inside.Gains.{HasCell}
+use Rattle.feed_map.specs.Inside.Leaves.{IsLeafCellOf}
 
 -- by one of these feeders of a cube the cell is fed from this one
 abbrev pub FeedsByOne : BoundModel → ℕ → List Feeder → ℕ → ℕ → Type 0

@@ -4,7 +4,7 @@ use Rattle.cell_store.specs.declared.page.Page.{Page}
 use Rattle.cell_store.specs.declared.level.Level.{Level}
 use Rattle.cell_store.specs.declared.page.TheConstants.{HALF_PAGE}
 use Rattle.cell_store.specs.declared.level.TheConstants.{HALF_LEVEL}
-use Rattle.cell_store.specs.Private.Levels.{level_entries, IsLevel}
+use Rattle.cell_store.specs.Inside.Levels.{level_entries, IsLevel}
 
 abbrev pub Tree : Type 0 → Type 0
 Tree E = Level (Level (Level (Level (Level (Page E)))))

@@ -8,7 +8,7 @@ use Rattle.cube_space.specs.Cells.{IsCell, size_of}
 use Rattle.rule_laws.specs.RuleSystem.{Stored, depth, dense_value}
 use Rattle.rule_model.specs.BoundModel.{BoundModel}
 use Rattle.rule_model.specs.System.{system_of}
-use Rattle.rule_dense.specs.Private.Plain.{table_of}
+use Rattle.rule_dense.specs.Inside.Plain.{table_of}
 
 -- no cell has a greater level: it has at most 16 elements, each of a level below the most elements
 abbrev pub most_levels : ℕ

@@ -6,7 +6,7 @@ use Rattle.dim_order.specs.Members.{is_among}
 use Rattle.dim_weights.specs.Coefficients.{coef_over}
 use Rattle.dim_weights.specs.Table.{leaves_in, leaves_of, share, nonzero_among}
 use Rattle.dim_weights.specs.Refusal.{pair_count}
-use Rattle.dim_weights.specs.Private.Sums.{AreRows}
+use Rattle.dim_weights.specs.Inside.Sums.{AreRows}
 use Rattle.dim_weights.specs.Coefficients.{most_pairs}
 
 -- the rows that are made so far, without pairs for the other elements, and how many pairs they have
