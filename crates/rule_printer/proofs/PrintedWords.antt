@@ -19,7 +19,8 @@ use Rattle.dim_name.specs.Name.{is_name}
 use Rattle.grammar.specs.Grammar.{Grammar, one, both, many}
 use Rattle.grammar.specs.Tokens.{is_word_kind, is_text_kind, is_number_kind, is_word, capitals, sign, word, name, text, money, capital_word}
 use Rattle.grammar.proofs.Tokens.{when_picks, and_is, bytes_eq_self}
-use Rattle.expression_grammar.proofs.PrintedTokens.{split_at, split_next, none_written, Spells, Picks, spells_done, spells_one, spells_both, spells_next, spells_made, spells_left, spells_right, picks_sign}
+use Rattle.grammar.proofs.Spells.{split_at, none_spelled}
+use Rattle.expression_grammar.proofs.PrintedTokens.{split_next, Spells, Picks, spells_done, spells_one, spells_both, spells_next, spells_made, spells_left, spells_right, picks_sign}
 use Rattle.grammar.specs.Lists.{listed, perhaps_listed}
 use Rattle.rule_tree.specs.Formula.{word_name}
 use Rattle.rule_printer.specs.Spelled.{money_token, next_spelled, listed_spelled, name_spelled}
@@ -112,7 +113,7 @@ picks_money z within = record {
 -- Lists.
 
 pub many_again : {A : Type 0} (G : Grammar Lexeme A) (f : A → List Spelling) → ((u : List Lexeme) (a : A) → G u a → Spells G (f a) a) → (list : List A) (u : List Lexeme) → many G u list → Spells (many G) (flat_map f list) list
-many_again G f each [] u h = record { at = λ ts e. none_written ts e }
+many_again G f each [] u h = record { at = λ ts e. none_spelled ts e }
 many_again G f each (a ∷ list) u (v, w, parts, h, more) = record {
   at = λ ts e. (
       let (x, y, is, front, back) = split_at ts (f a) (flat_map f list) e in
