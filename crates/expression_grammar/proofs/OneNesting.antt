@@ -1,5 +1,6 @@
 -- The readers of an expression are exact, if those of the expressions inside it are.
 use Rattle.std.proofs.Common.{◌≡◌, List, [], ◌++◌, Bool, true, false, ◌&&◌, not, codes, refl, sym, ◌∙◌, ap, subst, inl, inr, append-nil}
+use Rattle.std.proofs.lemmas.Bool.{not-true}
 use Rattle.cube_lex.specs.Lexeme.{Lexeme}
 use Rattle.grammar.specs.Grammar.{Grammar, done, one, both, either}
 use Rattle.grammar.specs.Tokens.{sign, is_sign}
@@ -65,10 +66,6 @@ back_value : {A O : Type 0} (L : Language A O) (primary : Primaries A) (F : Sort
 back_value L primary F u (e, sorts.Value) h = h
 back_value L primary F u (e, sorts.Truth) h = absurd h.0
 
-not_false : (b : Bool) → not b ≡ true → b ≡ false
-not_false true e = cc
-not_false false e = refl
-
 module _ {A O R C : Type 0} {scan : Scanner R C} {L : Language A O} {primary : Primaries A} {read : PrimaryReader R C A} (l : IsLanguage scan L primary read) where
   -- the tables, level by level
   record Tables : Type 0 where
@@ -96,7 +93,7 @@ module _ {A O R C : Type 0} {scan : Scanner R C} {L : Language A O} {primary : P
       let (relation_apart, a3) = and_is (is_apart (on_sum L) L.relation) (is_apart (on_comparison L) L.and && (is_apart (on_and L) L.or && closes)) a2 in
       let (and_apart, a4) = and_is (is_apart (on_comparison L) L.and) (is_apart (on_and L) L.or && closes) a3 in
       let (or_apart, a5) = and_is (is_apart (on_and L) L.or) closes a4 in
-      record { product = product; sum = sum; relation = relation; and = and; or = or; product_apart = product_apart; sum_apart = sum_apart; relation_apart = relation_apart; and_apart = and_apart; or_apart = or_apart; closed = not_false (on_expression L (codes ")")) a5 }
+      record { product = product; sum = sum; relation = relation; and = and; or = or; product_apart = product_apart; sum_apart = sum_apart; relation_apart = relation_apart; and_apart = and_apart; or_apart = or_apart; closed = not-true (on_expression L (codes ")")) a5 }
 
   pub relation_filled : is_filled L.relation ≡ true
   relation_filled = tables.relation

@@ -2,6 +2,7 @@
 use Rattle.std.proofs.Common.{◌≡◌, ℕ, List, [], ◌∷◌, Some, Bool, true, false, ◌&&◌, ◌||◌, not, if◌then◌else◌, refl, ◌∙◌, ap}
 use Rattle.std.specs.List.{list_any}
 use Rattle.std.specs.Str.{bytes_eq}
+use Rattle.std.proofs.lemmas.Bool.{or_parts, or_right}
 use Rattle.std.proofs.lemmas.Slice.Eq.{bytes_eq-Decides}
 use Rattle.cube_lex.specs.Lexeme.{Lexeme}
 use Rattle.cube_lex.specs.declared.token.Kind.TheVariants as kinds
@@ -17,19 +18,12 @@ use Rattle.expression_grammar.specs.Expression.{operation}
 use Rattle.expression_grammar.specs.Readers.Reading.{Scanner}
 use Rattle.expression_grammar.proofs.Languages.{has_sign, is_sign_of, is_filled, is_apart}
 
-same_bytes : (a b : List ℕ) → bytes_eq a b ≡ true → a ≡ b
-same_bytes a b e = (bytes_eq-Decides a b).0 e
-
 -- of a sign it is told by its bytes
 pub sign_tells : (signs : List ℕ → Bool) (a : List ℕ) → Begins (one (sign a)) (is_sign_of signs) (signs a)
 sign_tells signs a = begins_one (sign a) (is_sign_of signs) (signs a) (λ t x e.
     let (is, _) = when_picks (is_sign a) (λ _. tt) t x e in
     let (kind, bytes) = and_is (is_sign_kind t.kind) (bytes_eq t.piece a) is in
-    ap (λ b. b && signs t.piece) kind ∙ ap signs (same_bytes t.piece a bytes))
-
-or_right : (a b : Bool) → b ≡ true → (a || b) ≡ true
-or_right true b e = refl
-or_right false b e = e
+    ap (λ b. b && signs t.piece) kind ∙ ap signs ((bytes_eq-Decides t.piece a).0 bytes))
 
 -- the token is a sign, and this is a sign of the table
 abbrev IsSignIn : {O : Type 0} → Table O → Lexeme → Type 0
@@ -61,7 +55,7 @@ or_none true b e = cc
 or_none false b e = (refl, e)
 
 none_at : {O : Type 0} (signs : List ℕ → Bool) (entry : List ℕ × O) (table : Table O) (piece : List ℕ) (b : Bool) → bytes_eq piece entry.0 ≡ b → is_apart signs (entry ∷ table) ≡ true → (is_apart signs table ≡ true → has_sign table piece ≡ true → signs piece ≡ false) → (b || has_sign table piece) ≡ true → signs piece ≡ false
-none_at signs entry table piece true is apart later e = ap signs (same_bytes piece entry.0 is) ∙ (or_none (signs entry.0) (list_any (λ other. signs other.0) table) apart).0
+none_at signs entry table piece true is apart later e = ap signs ((bytes_eq-Decides piece entry.0).0 is) ∙ (or_none (signs entry.0) (list_any (λ other. signs other.0) table) apart).0
 none_at signs entry table piece false is apart later e = later (or_none (signs entry.0) (list_any (λ other. signs other.0) table) apart).1 e
 
 none_of : {O : Type 0} (signs : List ℕ → Bool) (table : Table O) (piece : List ℕ) → is_apart signs table ≡ true → has_sign table piece ≡ true → signs piece ≡ false
@@ -92,14 +86,6 @@ exact_operator scan [] filled = cc
 exact_operator scan (entry ∷ table) filled = exact_one scan (operator (entry ∷ table)) (record { kind = kinds.Sign; piece = entry.0; start = 0; line = 0 }) entry.1
     (ap (λ b. if b then Some entry.1 else operator table (record { kind = kinds.Sign; piece = entry.0; start = 0; line = 0 })) (bytes_eq_self entry.0))
 
-or_left_false : (a b : Bool) → (a || b) ≡ false → a ≡ false
-or_left_false true b e = cc
-or_left_false false b e = refl
-
-or_right_false : (a b : Bool) → (a || b) ≡ false → b ≡ false
-or_right_false true b e = cc
-or_right_false false b e = e
-
 and_fewer : (a b c : Bool) → (b ≡ false → c ≡ false) → (a && b) ≡ false → (a && c) ≡ false
 and_fewer true b c fewer e = fewer e
 and_fewer false b c fewer e = refl
@@ -111,8 +97,8 @@ more_signs signs table sign = signs sign || has_sign table sign
 
 pub not_signs : {O : Type 0} (signs : List ℕ → Bool) (table : Table O) (rest : List Lexeme) → Not (is_sign_of (more_signs signs table)) rest → Not (is_sign_of signs) rest
 not_signs signs table [] stops = refl
-not_signs signs table (t ∷ rest) stops = and_fewer (is_sign_kind t.kind) (more_signs signs table t.piece) (signs t.piece) (or_left_false (signs t.piece) (has_sign table t.piece)) stops
+not_signs signs table (t ∷ rest) stops = and_fewer (is_sign_kind t.kind) (more_signs signs table t.piece) (signs t.piece) (λ none. (or_parts (signs t.piece) (has_sign table t.piece) none).0) stops
 
 pub not_operator : {O : Type 0} (signs : List ℕ → Bool) (table : Table O) (rest : List Lexeme) → Not (is_sign_of (more_signs signs table)) rest → Not (is_operator table) rest
 not_operator signs table [] stops = refl
-not_operator signs table (t ∷ rest) stops = operator_is table t ∙ and_fewer (is_sign_kind t.kind) (more_signs signs table t.piece) (has_sign table t.piece) (or_right_false (signs t.piece) (has_sign table t.piece)) stops
+not_operator signs table (t ∷ rest) stops = operator_is table t ∙ and_fewer (is_sign_kind t.kind) (more_signs signs table t.piece) (has_sign table t.piece) (λ none. (or_parts (signs t.piece) (has_sign table t.piece) none).1) stops

@@ -9,7 +9,8 @@ use Rattle.grammar.proofs.Tokens.{when_picks}
 use Rattle.expression_grammar.specs.Expression.{from_left, operation, chain, prefixed, enclosed}
 use Rattle.expression_grammar.specs.Language.{Table, operator}
 use Rattle.expression_grammar.specs.Spelled.{in_parentheses, placed}
-use Rattle.expression_grammar.proofs.PrintedTokens.{Spells, Picks, spells_next, spells_made, spells_left, spells_in, spells_enclosed, picks_sign, chain_of_one, chain_more, split_at, split_next}
+use Rattle.grammar.proofs.Spells.{split_at}
+use Rattle.expression_grammar.proofs.PrintedTokens.{Spells, Picks, spells_next, spells_made, spells_left, spells_in, spells_enclosed, picks_sign, chain_of_one, chain_more, split_next}
 use Rattle.expression_grammar.proofs.PrintedLimits.{Counting, Shorter, IsWrittenSign, shorter_joined, shorter_prefixed, shorter_without, shorter_enclosed}
 
 -- how trees are written: how tightly the root of one binds, its tokens without parentheses round it, and the sign of an operator

@@ -6,7 +6,8 @@ use Rattle.cube_lex.specs.Written.{Spelling, spelling_of, sign_token}
 use Rattle.grammar.specs.Tokens.{is_sign}
 use Rattle.expression_grammar.specs.Limits.{most_open, most_primaries}
 use Rattle.expression_grammar.specs.Spelled.{in_parentheses}
-use Rattle.expression_grammar.proofs.PrintedTokens.{split_at, split_next, none_written, is_written_sign}
+use Rattle.grammar.proofs.Spells.{split_at, none_spelled}
+use Rattle.expression_grammar.proofs.PrintedTokens.{split_next, is_written_sign}
 
 -- a state after one more primary inside one more parenthesis, if there is room for them
 abbrev pub opened : {S : Type 0} → (ℕ → ℕ → S) → ℕ → ℕ → Option S
@@ -145,6 +146,6 @@ shorter_enclosed {C = C} {xs = xs} {u = u} x y opening closing f = record {
       let (v, rest, is, first, back) = split_next ts (sign_token (codes "(")) (xs ++ sign_token (codes ")") ∷ []) e in
       let (a, last, parts, front, ends) = split_at rest xs (sign_token (codes ")") ∷ []) back in
       let (w, none, end, second, nothing) = split_next last (sign_token (codes ")")) [] ends in
-      subst (λ l. Fits C l (x ∷ (u ++ y ∷ []))) (sym (is ∙ ap (λ l. v ∷ l) (parts ∙ ap (λ l. a ++ l) (end ∙ ap (λ l. w ∷ l) (none_written none nothing)))))
+      subst (λ l. Fits C l (x ∷ (u ++ y ∷ []))) (sym (is ∙ ap (λ l. v ∷ l) (parts ∙ ap (λ l. a ++ l) (end ∙ ap (λ l. w ∷ l) (none_spelled none nothing)))))
       (fits_enclosed C a u v w x y (is_written_sign (codes "(") v first) (is_written_sign (codes ")") w second) opening closing (f.at a front)));
 }

@@ -1,24 +1,16 @@
 -- Written tokens that are texts of a grammar wherever they stand.
-use Rattle.std.proofs.Common.{◌≡◌, ℕ, List, [], ◌∷◌, ◌++◌, map, Bool, true, false, Option, Some, ◌&&◌, if◌then◌else◌, refl, sym, ap, ◌∙◌, inl, inr, append-nil, append_assoc, codes}
+use Rattle.std.proofs.Common.{◌≡◌, ℕ, List, [], ◌∷◌, ◌++◌, map, true, Option, Some, refl, sym, ap, ◌∙◌, inl, inr, append-nil, append_assoc, codes}
+use Rattle.std.proofs.lemmas.Bool.{and_from, cond-true}
 use Rattle.std.specs.Str.{bytes_eq}
 use Rattle.cube_lex.specs.Lexeme.{Lexeme}
 use Rattle.cube_lex.specs.Written.{Spelling, spelling_of, sign_token}
 use Rattle.grammar.specs.Grammar.{Grammar, done, one, both, either, many}
 use Rattle.grammar.specs.Tokens.{is_sign_kind, is_sign, sign}
+use Rattle.grammar.proofs.Spells.{split_at, none_spelled}
 use Rattle.grammar.proofs.Tokens.{bytes_eq_self}
 use Rattle.expression_grammar.specs.Expression.{from_left, operation, chain, enclosed}
 use Rattle.expression_grammar.specs.Language.{Table, operator}
 use Rattle.expression_grammar.specs.Spelled.{in_parentheses}
-
--- tokens written in two parts
-pub split_at : (ts : List Lexeme) (xs ys : List Spelling) → map spelling_of ts ≡ xs ++ ys → (u v : List Lexeme) × (ts ≡ u ++ v) × (map spelling_of u ≡ xs) × (map spelling_of v ≡ ys)
-split_at ts [] ys e = ([], ts, refl, refl, e)
-split_at [] (x ∷ xs) ys e = cc
-split_at (t ∷ ts) (x ∷ xs) ys e =
-    let first : spelling_of t ≡ x = cc in
-    let rest : map spelling_of ts ≡ xs ++ ys = cc in
-    let (u, v, parts, front, back) = split_at ts xs ys rest in
-    (t ∷ u, v, ap (λ l. t ∷ l) parts, ap (λ s. s ∷ map spelling_of u) first ∙ ap (λ l. x ∷ l) front, back)
 
 -- a first token and more
 pub split_next : (ts : List Lexeme) (x : Spelling) (xs : List Spelling) → map spelling_of ts ≡ x ∷ xs → (t : Lexeme) × (v : List Lexeme) × (ts ≡ t ∷ v) × (spelling_of t ≡ x) × (map spelling_of v ≡ xs)
@@ -27,10 +19,6 @@ split_next (t ∷ ts) x xs e =
     let first : spelling_of t ≡ x = cc in
     let rest : map spelling_of ts ≡ xs = cc in
     (t, ts, refl, first, rest)
-
-pub none_written : (ts : List Lexeme) → map spelling_of ts ≡ [] → ts ≡ []
-none_written [] e = refl
-none_written (t ∷ ts) e = cc
 
 -- these tokens, wherever they stand, are a text of G with this tree
 pub record Spells {A : Type 0} (G : Grammar Lexeme A) (tokens : List Spelling) (a : A) : Type 0 where
@@ -41,13 +29,13 @@ pub record Picks {A : Type 0} (pick : Lexeme → Option A) (token : Spelling) (a
   pub at : (t : Lexeme) → spelling_of t ≡ token → pick t ≡ Some a
 
 pub spells_done : {A : Type 0} (a : A) → Spells (done a) [] a
-spells_done a = record { at = λ ts e. (none_written ts e, refl) }
+spells_done a = record { at = λ ts e. (none_spelled ts e, refl) }
 
 pub spells_one : {A : Type 0} {pick : Lexeme → Option A} {token : Spelling} {a : A} → Picks pick token a → Spells (one pick) (token ∷ []) a
 spells_one {token = token} picks = record {
   at = λ ts e. (
       let (t, v, is, first, rest) = split_next ts token [] e in
-      (t, is ∙ ap (λ l. t ∷ l) (none_written v rest), picks.at t first));
+      (t, is ∙ ap (λ l. t ∷ l) (none_spelled v rest), picks.at t first));
 }
 
 pub spells_both : {A B : Type 0} {G : Grammar Lexeme A} {K : A → Grammar Lexeme B} {xs ys : List Spelling} {a : A} {b : B} → Spells G xs a → Spells (K a) ys b → Spells (both G K) (xs ++ ys) b
@@ -76,22 +64,14 @@ spells_in into g = record { at = λ ts e. into ts (g.at ts e) }
 
 -- One token.
 
-if_yes : {A : Type 0} (b : Bool) (a : A) (o : Option A) → b ≡ true → (if b then Some a else o) ≡ Some a
-if_yes true a o e = refl
-if_yes false a o e = cc
-
-and_both : (a b : Bool) → a ≡ true → b ≡ true → (a && b) ≡ true
-and_both true b h k = k
-and_both false b h k = cc
-
 pub is_written_sign : (s : List ℕ) (t : Lexeme) → spelling_of t ≡ sign_token s → is_sign s t ≡ true
 is_written_sign s t e =
     let kind : is_sign_kind t.kind ≡ true = ap (λ x. is_sign_kind x.kind) e in
     let piece : bytes_eq t.piece s ≡ true = ap (λ x. bytes_eq x.piece s) e ∙ bytes_eq_self s in
-    and_both _ _ kind piece
+    and_from _ _ kind piece
 
 pub picks_sign : (s : List ℕ) → Picks (sign s) (sign_token s) tt
-picks_sign s = record { at = λ t e. if_yes _ tt _ (is_written_sign s t e) }
+picks_sign s = record { at = λ t e. cond-true _ (Some tt) _ (is_written_sign s t e) }
 
 pub spells_enclosed : {A : Type 0} {G : Grammar Lexeme A} {tokens : List Spelling} {a : A} → Spells G tokens a → Spells (enclosed G) (in_parentheses tokens) a
 spells_enclosed {a = a} g = spells_next (picks_sign (codes "(")) (spells_both g (spells_next (picks_sign (codes ")")) (spells_done a)))

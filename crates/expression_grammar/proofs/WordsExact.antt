@@ -21,14 +21,11 @@ capitals_lowercase : (piece : List ℕ) → capitals (str_to_ascii_lowercase pie
 capitals_lowercase [] = refl
 capitals_lowercase (c ∷ piece) = ap (λ d. d ∷ capitals (str_to_ascii_lowercase piece)) (uppercase-lowercase c) ∙ ap (λ l. to_ascii_uppercase c ∷ l) (capitals_lowercase piece)
 
-same_bytes : (a b : List ℕ) → bytes_eq a b ≡ true → a ≡ b
-same_bytes a b e = (bytes_eq-Decides a b).0 e
-
 -- what a word in capitals is, it is in either case
 pub word_of_capitals : (w : List ℕ) (t : Lexeme) (function : List ℕ) → capital_word t ≡ Some function → bytes_eq function w ≡ true → word w t ≡ Some t.line
 word_of_capitals w t function picks same =
     let (kind, is) = when_picks (λ t. is_word_kind t.kind) (λ t. capitals t.piece) t function picks in
-    let lower : str_to_ascii_lowercase t.piece ≡ str_to_ascii_lowercase w = sym (lowercase_capitals t.piece) ∙ ap str_to_ascii_lowercase (is ∙ same_bytes function w same) in
+    let lower : str_to_ascii_lowercase t.piece ≡ str_to_ascii_lowercase w = sym (lowercase_capitals t.piece) ∙ ap str_to_ascii_lowercase (is ∙ (bytes_eq-Decides function w).0 same) in
     let spelled : str_eq_ignore_ascii_case t.piece w ≡ true = ap (λ l. bytes_eq l (str_to_ascii_lowercase w)) lower ∙ bytes_eq_self (str_to_ascii_lowercase w) in
     ap (λ b. if b && str_eq_ignore_ascii_case t.piece w then Some t.line else None) kind ∙ ap (λ b. if b then Some t.line else None) spelled
 
@@ -37,7 +34,7 @@ pub capitals_of_word : (w : List ℕ) → capitals w ≡ w → (t : Lexeme) (lin
 capitals_of_word w capital t line picks =
     let (is, _) = when_picks (is_word w) (λ t. t.line) t line picks in
     let (kind, spelled) = and_is (is_word_kind t.kind) (str_eq_ignore_ascii_case t.piece w) is in
-    let upper : capitals t.piece ≡ w = sym (capitals_lowercase t.piece) ∙ ap capitals (same_bytes (str_to_ascii_lowercase t.piece) (str_to_ascii_lowercase w) spelled) ∙ capitals_lowercase w ∙ capital in
+    let upper : capitals t.piece ≡ w = sym (capitals_lowercase t.piece) ∙ ap capitals ((bytes_eq-Decides (str_to_ascii_lowercase t.piece) (str_to_ascii_lowercase w)).0 spelled) ∙ capitals_lowercase w ∙ capital in
     ap (λ b. if b then Some (capitals t.piece) else None) kind ∙ ap (λ l. Some l) upper
 
 -- the same of texts of one token

@@ -10,7 +10,8 @@ use Rattle.expression_grammar.specs.declared.sort.Sort.TheVariants as sorts
 use Rattle.expression_grammar.specs.declared.limits.Limits.{Limits}
 use Rattle.expression_grammar.proofs.PrintedExpressions.{Includes, includes_both, includes_same, includes_either, includes_many, IsWriting, IsWrittenAgain, expression_again}
 use Rattle.expression_grammar.proofs.PrintedLimits.{Counting, Fits, Shorter, IsWrittenSign, shorter_joined}
-use Rattle.expression_grammar.proofs.PrintedTokens.{Spells, spells_both, spells_next, spells_left, spells_right, spells_done, picks_sign, split_at, split_next, none_written, is_written_sign}
+use Rattle.grammar.proofs.Spells.{split_at, none_spelled}
+use Rattle.expression_grammar.proofs.PrintedTokens.{Spells, spells_both, spells_next, spells_left, spells_right, spells_done, picks_sign, split_next, is_written_sign}
 use Rattle.grammar.specs.Lists.{listed, perhaps_listed}
 use Rattle.rule_tree.specs.Formula.{rules_language, primary, formula, number, quoted, current, reference, stet, continue, first_argument, is_if, call}
 use Rattle.rule_printer.specs.Spelled.{written, next_spelled, listed_spelled, tree_spelled}
@@ -124,14 +125,14 @@ module _ (place : Limits → Place) (base : ℕ) (is : IsPlace place base) (c : 
         let (s, more, is-rest, s-is, further) = split_next rest (sign_token (codes "(")) (xs ++ sign_token (codes ")") ∷ []) behind in
         let (a, last, parts, front, ends) = split_at more xs (sign_token (codes ")") ∷ []) further in
         let (t, none, is-last, t-is, nothing) = split_next last (sign_token (codes ")")) [] ends in
-        let whole : ts ≡ v ∷ s ∷ (a ++ t ∷ []) = is-ts ∙ ap (λ l. v ∷ l) (is-rest ∙ ap (λ l. s ∷ l) (parts ∙ ap (λ l. a ++ l) (is-last ∙ ap (λ l. t ∷ l) (none_written none nothing)))) in
+        let whole : ts ≡ v ∷ s ∷ (a ++ t ∷ []) = is-ts ∙ ap (λ l. v ∷ l) (is-rest ∙ ap (λ l. s ∷ l) (parts ∙ ap (λ l. a ++ l) (is-last ∙ ap (λ l. t ∷ l) (none_spelled none nothing)))) in
         subst (λ l. Fits (formula_counting place base is c) l (w ∷ x ∷ (inner ++ y ∷ []))) (sym whole)
         (fits_so a v s t front (word_no_sign v.kind (ap (λ k. is_word_kind k.kind) v-is)) (is_written_sign (codes "(") s s-is) (is_written_sign (codes ")") t t-is) short));
   } where
     fits_so : (a : List Lexeme) (v s t : Lexeme) → map spelling_of a ≡ xs → is_sign_kind v.kind ≡ false → is_sign (codes "(") s ≡ true → is_sign (codes ")") t ≡ true → ((xs ≡ []) × (inner ≡ [])) ⊎ Shorter (inside_counting place base is c) xs inner
         → Fits (formula_counting place base is c) (v ∷ s ∷ (a ++ t ∷ [])) (w ∷ x ∷ (inner ++ y ∷ []))
     fits_so a v s t front v-kind s-is t-is (inl (no_tokens, no_inner)) =
-        let none : a ≡ [] = none_written a (front ∙ no_tokens) in
+        let none : a ≡ [] = none_spelled a (front ∙ no_tokens) in
         subst (λ l. Fits (formula_counting place base is c) (v ∷ s ∷ (l ++ t ∷ [])) (w ∷ x ∷ (inner ++ y ∷ []))) (sym none)
         (subst (λ l. Fits (formula_counting place base is c) (v ∷ s ∷ t ∷ []) (w ∷ x ∷ (l ++ y ∷ []))) (sym no_inner) (fits_empty_call place base is c v s t w x y v-kind s-is t-is (word_no_sign w.kind kind) opens closes))
     fits_so a v s t front v-kind s-is t-is (inr shorter) = fits_call place base is c a inner v s t w x y v-kind s-is t-is (word_no_sign w.kind kind) opens closes (shorter.at a front)

@@ -8,7 +8,8 @@ use Rattle.grammar.specs.Tokens.{is_sign, is_word}
 use Rattle.expression_grammar.specs.Limits.{begun_within}
 use Rattle.expression_grammar.specs.declared.limits.Limits.{Limits}
 use Rattle.expression_grammar.proofs.PrintedLimits.{Goes, goes_on, goes_through, some_is}
-use Rattle.expression_grammar.proofs.PrintedTokens.{split_at, split_next, none_written, is_written_sign}
+use Rattle.grammar.proofs.Spells.{split_at, none_spelled}
+use Rattle.expression_grammar.proofs.PrintedTokens.{split_next, is_written_sign}
 use Rattle.rule_tree.specs.Counting.{most_statements, count}
 use Rattle.rule_tree.specs.Formula.{formula, bracket}
 use Rattle.rule_tree.specs.RuleText.{area}
@@ -31,7 +32,7 @@ pub record Follows (p q : Place) (tokens : List Spelling) (u : List Lexeme) : Ty
   pub at : (ts : List Lexeme) → map spelling_of ts ≡ tokens → (c r : Counted) → c.place ≡ p → Goes step c u r → Goes step c ts r × (r.place ≡ q)
 
 pub follows_none : {p : Place} → Follows p p [] []
-follows_none = record { at = λ ts same c r is goes. (subst (λ l. Goes step c l r) (sym (none_written ts same)) goes, ap (λ x. x.place) goes ∙ is) }
+follows_none = record { at = λ ts same c r is goes. (subst (λ l. Goes step c l r) (sym (none_spelled ts same)) goes, ap (λ x. x.place) goes ∙ is) }
 
 pub follows_both : {p m q : Place} {xs ys : List Spelling} {u v : List Lexeme} → Follows p m xs u → Follows m q ys v → Follows p q (xs ++ ys) (u ++ v)
 follows_both {xs = xs} {ys = ys} {u = u} {v = v} f g = record {
@@ -51,7 +52,7 @@ follows_one p q x t leads = record {
       let here : c ≡ record c { place = p } = ap (λ y. record c { place = y }) is in
       let (m-is, others) = leads c m (sym (ap (λ y. step y t) here) ∙ taken) in
       let next : step c s ≡ Some m = ap (λ y. step y s) here ∙ others s s-is in
-      (subst (λ l. Goes step c l r) (sym (ts-is ∙ ap (λ l. s ∷ l) (none_written none nothing))) (m, next, r-is), ap (λ y. y.place) r-is ∙ m-is));
+      (subst (λ l. Goes step c l r) (sym (ts-is ∙ ap (λ l. s ∷ l) (none_spelled none nothing))) (m, next, r-is), ap (λ y. y.place) r-is ∙ m-is));
 }
 
 -- a sign that leads to the other place
@@ -165,7 +166,7 @@ follows_formula place base is q s ends u e t h is-t = record {
       let (i, j, m-is, before, less) = (((formula_again place base is c).short u e h).at a front).at base base 0 0 (omega arith) (omega arith) (omega arith) m (subst (λ y. Goes step y u m) at_here within) in
       let k-is : k ≡ record c { place = q } = some_is k (record c { place = q }) (sym ended ∙ ap (λ y. step y t) m-is ∙ ap (step (behind_in place c base j)) (sign_literal s t is-t) ∙ ends c j t) in
       let after : Goes step (behind_in place c base i) (x ∷ []) r = (k, ap (step (behind_in place c base i)) (sign_literal s x (is_written_sign s x x-is)) ∙ ends c i x ∙ ap Some (sym k-is), r-is) in
-      let whole : ts ≡ a ++ x ∷ [] = parts ∙ ap (λ l. a ++ l) (last-is ∙ ap (λ l. x ∷ l) (none_written none nothing)) in (
+      let whole : ts ≡ a ++ x ∷ [] = parts ∙ ap (λ l. a ++ l) (last-is ∙ ap (λ l. x ∷ l) (none_spelled none nothing)) in (
         subst (λ l. Goes step c l r) (sym whole) (subst (λ y. Goes step y (a ++ x ∷ []) r) (sym at_here) (goes_on step a (x ∷ []) (record c { place = place (begun_within base) }) (behind_in place c base i) r before after)),
         ap (λ y. y.place) (r-is ∙ k-is),
       ));

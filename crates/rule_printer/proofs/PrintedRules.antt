@@ -10,7 +10,7 @@ use Rattle.grammar.specs.Tokens.{is_sign, is_word_kind, is_word, sign, word}
 use Rattle.grammar.proofs.Tokens.{when_picks, and_is, word_tells}
 use Rattle.expression_grammar.specs.Limits.{begun_within}
 use Rattle.expression_grammar.proofs.PrintedLimits.{Goes, goes_on, goes_through}
-use Rattle.expression_grammar.proofs.PrintedTokens.{split_at, none_written}
+use Rattle.grammar.proofs.Spells.{split_at, none_spelled}
 use Rattle.rule_tree.specs.Counting.{count}
 use Rattle.grammar.specs.Lists.{listed}
 use Rattle.rule_tree.specs.Formula.{formula}
@@ -225,7 +225,7 @@ ends_of : {p : Place} {tokens : List Spelling} {u : List Lexeme} → Follows pla
 ends_of f = record { at = λ ts same c r is goes. (r, (f.at ts same c r is goes).0) }
 
 ends_nothing : (u : List Lexeme) → Ends [] u
-ends_nothing u = record { at = λ ts same c r is goes. (c, subst (λ l. Goes step c l c) (sym (none_written ts same)) refl) }
+ends_nothing u = record { at = λ ts same c r is goes. (c, subst (λ l. Goes step c l c) (sym (none_spelled ts same)) refl) }
 
 ends_feeders : (list : List FeederText) (u : List Lexeme) → feeders u list → Ends (feeders_spelled list) u
 ends_feeders [] u h = ends_nothing u

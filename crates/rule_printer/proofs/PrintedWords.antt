@@ -1,6 +1,6 @@
 -- Words, numbers, names and lists, written again.
 use Rattle.std.proofs.Common.{◌≡◌, ℕ, ℤ, List, [], ◌∷◌, Bool, true, false, Option, Some, None, Ok, Err, ◌&&◌, if◌then◌else◌, refl, sym, ap, ◌∙◌, subst, inl, inr, codes}
-use Rattle.std.proofs.lemmas.Bool.{leb-true}
+use Rattle.std.proofs.lemmas.Bool.{and_from, cond-true, leb-true}
 use Rattle.std.proofs.lemmas.Str.Ascii.{uppercase-uppercase}
 use Rattle.std.specs.Char.{to_ascii_uppercase}
 use Rattle.std.specs.List.{flat_map}
@@ -19,33 +19,26 @@ use Rattle.dim_name.specs.Name.{is_name}
 use Rattle.grammar.specs.Grammar.{Grammar, one, both, many}
 use Rattle.grammar.specs.Tokens.{is_word_kind, is_text_kind, is_number_kind, is_word, capitals, sign, word, name, text, money, capital_word}
 use Rattle.grammar.proofs.Tokens.{when_picks, and_is, bytes_eq_self}
-use Rattle.expression_grammar.proofs.PrintedTokens.{split_at, split_next, none_written, Spells, Picks, spells_done, spells_one, spells_both, spells_next, spells_made, spells_left, spells_right, picks_sign}
+use Rattle.grammar.proofs.Spells.{split_at, none_spelled}
+use Rattle.expression_grammar.proofs.PrintedTokens.{split_next, Spells, Picks, spells_done, spells_one, spells_both, spells_next, spells_made, spells_left, spells_right, picks_sign}
 use Rattle.grammar.specs.Lists.{listed, perhaps_listed}
 use Rattle.rule_tree.specs.Formula.{word_name}
 use Rattle.rule_printer.specs.Spelled.{money_token, next_spelled, listed_spelled, name_spelled}
 
 -- One token.
 
-if_yes : {A : Type 0} (b : Bool) (a : A) (o : Option A) → b ≡ true → (if b then Some a else o) ≡ Some a
-if_yes true a o e = refl
-if_yes false a o e = cc
-
-and_both : (a b : Bool) → a ≡ true → b ≡ true → (a && b) ≡ true
-and_both true b h k = k
-and_both false b h k = cc
-
 pub is_written_word : (w : List ℕ) (t : Lexeme) → spelling_of t ≡ word_token w → is_word w t ≡ true
 is_written_word w t e =
     let kind : is_word_kind t.kind ≡ true = ap (λ s. is_word_kind s.kind) e in
     let piece : str_eq_ignore_ascii_case t.piece w ≡ true = ap (λ s. str_eq_ignore_ascii_case s.piece w) e ∙ bytes_eq_self (str_to_ascii_lowercase w) in
-    and_both _ _ kind piece
+    and_from _ _ kind piece
 
 -- a word whose line isn't asked for
 pub spells_word : {A : Type 0} {K : ℕ → Grammar Lexeme A} {ys : List Spelling} {b : A} (w : List ℕ) → ((line : ℕ) → Spells (K line) ys b) → Spells (both (one (word w)) K) (word_token w ∷ ys) b
 spells_word {ys = ys} w k = record {
   at = λ ts e. (
       let (t, v, is, first, rest) = split_next ts (word_token w) ys e in
-      (t ∷ [], v, t.line, is, (t, refl, if_yes _ t.line _ (is_written_word w t first)), (k t.line).at v rest));
+      (t ∷ [], v, t.line, is, (t, refl, cond-true _ (Some t.line) _ (is_written_word w t first)), (k t.line).at v rest));
 }
 
 pub picks_text : (bytes : List ℕ) → Picks text (text_token bytes) bytes
@@ -53,7 +46,7 @@ picks_text bytes = record {
   at = λ t e. (
       let kind : is_text_kind t.kind ≡ true = ap (λ x. is_text_kind x.kind) e in
       let same : unquoted t.piece ≡ bytes = ap (λ x. unquoted x.piece) e ∙ unquoted-quoted bytes in
-      if_yes _ (unquoted t.piece) _ kind ∙ ap Some same);
+      cond-true _ (Some (unquoted t.piece)) _ kind ∙ ap Some same);
 }
 
 pub picks_name : (bytes : List ℕ) → is_name bytes ≡ true → Picks name (text_token bytes) bytes
@@ -62,7 +55,7 @@ picks_name bytes is = record {
       let kind : is_text_kind t.kind ≡ true = ap (λ x. is_text_kind x.kind) e in
       let same : unquoted t.piece ≡ bytes = ap (λ x. unquoted x.piece) e ∙ unquoted-quoted bytes in
       let named : is_name (unquoted t.piece) ≡ true = ap is_name same ∙ is in
-      if_yes _ (unquoted t.piece) _ (and_both _ _ kind named) ∙ ap Some same);
+      cond-true _ (Some (unquoted t.piece)) _ (and_from _ _ kind named) ∙ ap Some same);
 }
 
 pub picks_word_name : (bytes : List ℕ) → is_name bytes ≡ true → Picks word_name (word_token bytes) bytes
@@ -71,7 +64,7 @@ picks_word_name bytes is = record {
       let kind : is_word_kind t.kind ≡ true = ap (λ x. is_word_kind x.kind) e in
       let same : t.piece ≡ bytes = ap (λ x. x.piece) e in
       let named : is_name t.piece ≡ true = ap is_name same ∙ is in
-      if_yes _ t.piece _ (and_both _ _ kind named) ∙ ap Some same);
+      cond-true _ (Some t.piece) _ (and_from _ _ kind named) ∙ ap Some same);
 }
 
 twice_capital : (bytes : List ℕ) → capitals (capitals bytes) ≡ capitals bytes
@@ -83,7 +76,7 @@ picks_capitals bytes function is = record {
   at = λ t e. (
       let kind : is_word_kind t.kind ≡ true = ap (λ x. is_word_kind x.kind) e in
       let same : capitals t.piece ≡ function = ap (λ x. capitals x.piece) e ∙ ap capitals (sym is) ∙ twice_capital bytes ∙ is in
-      if_yes _ (capitals t.piece) _ kind ∙ ap Some same);
+      cond-true _ (Some (capitals t.piece)) _ kind ∙ ap Some same);
 }
 
 -- what money picks is in range
@@ -112,7 +105,7 @@ picks_money z within = record {
 -- Lists.
 
 pub many_again : {A : Type 0} (G : Grammar Lexeme A) (f : A → List Spelling) → ((u : List Lexeme) (a : A) → G u a → Spells G (f a) a) → (list : List A) (u : List Lexeme) → many G u list → Spells (many G) (flat_map f list) list
-many_again G f each [] u h = record { at = λ ts e. none_written ts e }
+many_again G f each [] u h = record { at = λ ts e. none_spelled ts e }
 many_again G f each (a ∷ list) u (v, w, parts, h, more) = record {
   at = λ ts e. (
       let (x, y, is, front, back) = split_at ts (f a) (flat_map f list) e in
