@@ -5,9 +5,9 @@ ghost use Rattle.rule_model.specs.Conditions.{IsArea};
 ghost use Rattle.bind_areas.specs.Meaning.{Answers};
 ghost use Rattle.bind_areas.specs.Areas.{elements_called, set_at, sets_at, area_of};
 
-use crate::axis::{axis, axis_count};
 use crate::cause::BindCause;
 use crate::entry::{entry_for, entry_places};
+use cube_axes::{axis, axis_count};
 use cube_space::Space;
 use dim_core::Dimension;
 use dim_name::Name;

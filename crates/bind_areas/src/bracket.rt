@@ -4,9 +4,9 @@ ghost use Rattle.rule_model.specs.Conditions.{IsReference};
 ghost use Rattle.bind_areas.specs.Meaning.{Answers};
 ghost use Rattle.bind_areas.specs.Areas.{element_put, arg_at, args_at, bracket_of};
 
-use crate::axis::{axis, axis_count};
 use crate::cause::BindCause;
 use crate::entry::{entry_for, simple_places};
+use cube_axes::{axis, axis_count};
 use cube_space::Space;
 use dim_core::Dimension;
 use lists::ListOf;

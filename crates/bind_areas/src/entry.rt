@@ -5,8 +5,8 @@ ghost use Rattle.cube_space.specs.Layout.{axes};
 ghost use Rattle.bind_areas.specs.Meaning.{Answers};
 ghost use Rattle.bind_areas.specs.Areas.{is_called, has_all, owns, places_where, place_of, free_place, placed, alone};
 
-use crate::axis::{axis, axis_count};
 use crate::cause::BindCause;
+use cube_axes::{axis, axis_count};
 use cube_space::Space;
 use dim_core::Dimension;
 use dim_name::Name;

@@ -11,7 +11,6 @@ pub use cause::BindCause;
 pub use entry::place_of;
 
 mod area;
-mod axis;
 mod bracket;
 mod cause;
 mod entry;

@@ -1,13 +1,8 @@
 -- Lists of which each item may be missing.
-use Rattle.std.proofs.Common.{◌≡◌, ◌<◌, ◌≤◌, ℕ, zero, suc, ◌+◌, List, [], ◌∷◌, ◌++◌, map, length, drop, Option, Some, None, option_map, refl, sym, ap, ◌∙◌, arith, append_assoc, append-nil, get_or, slice_get}
-use Rattle.std.proofs.Common.{Bool, true, false, position}
+use Rattle.std.proofs.Common.{◌≡◌, ◌<◌, ◌≤◌, ℕ, zero, suc, ◌+◌, List, [], ◌∷◌, ◌++◌, map, length, drop, Option, Some, None, option_map, refl, sym, ap, ◌∙◌, arith, append_assoc, append-nil, get_or}
 use Rattle.std.proofs.lemmas.List.{drop_more, drop_all}
 use Rattle.std.proofs.lemmas.List.FromFn.{length-range_with_len, get_or-range_with_len}
 use Rattle.std.specs.List.{range_with_len}
-use Rattle.std.proofs.Common.{cond, nat_lt}
-use Rattle.std.proofs.lemmas.Bool.{lt-ltb, le-ltb}
-use Rattle.std.proofs.lemmas.Option.{slice_get_within, slice_get-get_or, get_or_from_slice_get}
-use Rattle.std.proofs.lemmas.List.Sums.{position_or_len_is}
 use Rattle.bind_order.specs.Orders.{all_of}
 
 -- all of these behind others
@@ -78,17 +73,3 @@ next_number n i low =
 
 pub no_number : (n i : ℕ) → n ≤ i → drop i (range_with_len 0 n) ≡ []
 no_number n i past = drop_all i (range_with_len 0 n) (omega (arith, past, length-range_with_len 0 n))
-
--- the first place that passes a test
-pub first_place : {A : Type 0} (test : A → Bool) (xs : List A) (i : ℕ) (x : A) → slice_get xs i ≡ Some x → test x ≡ true → ((k : ℕ) → k < i → (y : A) → slice_get xs k ≡ Some y → test y ≡ false) → Some i ≡ position test xs
-first_place test xs i x is passes before =
-    let low = slice_get_within xs i x is in
-    let first = position_or_len_is test xs i x (omega (arith, low)) (λ k earlier. before k earlier (get_or xs k x) (slice_get-get_or xs k x (omega (arith, earlier, low)))) (λ _. ap test (get_or_from_slice_get xs i x x is) ∙ passes) in
-    sym (ap (λ n. cond (nat_lt n (length xs)) (Some n) None) first ∙ ap (λ b. cond b (Some i) None) (lt-ltb i (length xs) low))
-
-pub no_place : {A : Type 0} (test : A → Bool) (xs : List A) → ((k : ℕ) → k < length xs → (y : A) → slice_get xs k ≡ Some y → test y ≡ false) → None ≡ position test xs
-no_place test [] none = refl
-no_place test (x ∷ xs) none =
-    let n : ℕ = length (x ∷ xs) in
-    let first = position_or_len_is test (x ∷ xs) n x (omega arith) (λ k low. none k low (get_or (x ∷ xs) k x) (slice_get-get_or (x ∷ xs) k x low)) (λ past. absurd (omega (arith, past))) in
-    sym (ap (λ k. cond (nat_lt k n) (Some k) None) first ∙ ap (λ b. cond b (Some n) None) (le-ltb n n (omega arith)))

@@ -1,14 +1,14 @@
 -- The order that an order line stands for.
 use Rattle.std.specs.Prelude.{◌≡◌, ⊤, ℕ, ◌+◌, ◌==◌, nat_le, nat_lt, Bool, true, false, not, ◌&&◌, ◌||◌, if◌then◌else◌}
-use Rattle.std.specs.Prelude.{List, [], ◌∷◌, ◌++◌, length, map, find, position, slice_get, slice_index_or}
+use Rattle.std.specs.Prelude.{List, [], ◌∷◌, ◌++◌, length, map, find, slice_get, slice_index_or}
 use Rattle.std.specs.Prelude.{Option, Some, None, is_some, unwrap_or, option_map, option_and_then, Result, Ok, Err}
 use Rattle.std.specs.List.{range_with_len, list_all}
 use Rattle.std.specs.Option.{option_map_or}
-use Rattle.dim_name.specs.Name.{is_same_name}
 use Rattle.dim_core.specs.Outline.{Outline, index_of}
 use Rattle.dim_weights.specs.Table.{leaves_of}
 use Rattle.cube_space.specs.Layout.{Layout, axes}
 use Rattle.cube_space.specs.Cells.{is_leaf}
+use Rattle.cube_axes.specs.Axes.{axis_called}
 use Rattle.model_text.specs.declared.order.OrderLine.{OrderLine}
 use Rattle.model_text.specs.declared.order.OrderWord.{OrderWord}
 use Rattle.model_text.specs.declared.order.OrderWord.TheVariants as words
@@ -102,10 +102,6 @@ list_ranks version list dimension =
     if are_writable list && are_listed dimension version [] list then ranks_of dimension (listed_ranks dimension list)
     else None
 
--- the place of the dimension of a cube that has this name
-abbrev pub axis_called : Layout → ℕ → List ℕ → Option ℕ
-axis_called space cube name = position (λ dimension. is_same_name name dimension.name) (axes space cube)
-
 -- the position by the ranks of the dimension at a place
 abbrev pub position_by : List Outline → (Outline → Option (List ℕ)) → ℕ → Option Position
 position_by dimensions ranks place =
@@ -123,9 +119,10 @@ list_position dimensions version list place = option_and_then (position_by dimen
 abbrev pub position_of : Layout → ℕ → ℕ → OrderWord → Option Position
 position_of space cube version (words.Constant number) =
     if nat_le number greatest_written then Some (positions.Constant number) else None
-position_of space cube version (words.Index name) = index_position (axes space cube) (axis_called space cube name)
+position_of space cube version (words.Index name) =
+    index_position (axes space cube) (axis_called (axes space cube) name)
 position_of space cube version (words.Ranks name list) =
-    list_position (axes space cube) version list (axis_called space cube name)
+    list_position (axes space cube) version list (axis_called (axes space cube) name)
 
 -- the order that a line stands for; None where it has too many positions or a bad one
 abbrev pub order_of : Layout → ℕ → OrderLine → Option Order

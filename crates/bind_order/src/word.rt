@@ -4,11 +4,13 @@ ghost use Rattle.cube_space.specs.Layout.{axes};
 ghost use Rattle.rule_model.specs.Conditions.{AreRanks, IsPosition};
 ghost use Rattle.rule_model.specs.Weights.{AreWeightsOf};
 ghost use Rattle.rule_model.specs.declared.order.Position.TheVariants.{Ranks};
-ghost use Rattle.bind_order.specs.Orders.{axis_called, position_of, index_position, list_position, list_ranks};
+ghost use Rattle.cube_axes.specs.Axes.{axis_called};
+ghost use Rattle.bind_order.specs.Orders.{position_of, index_position, list_position, list_ranks};
 
-use crate::axes::{axis, axis_count, axis_weights};
+use crate::axes::axis_weights;
 use crate::listed::{MAX_WRITTEN, are_writable, index_ranks, listed_ranks};
 use crate::ranks::ranks_of;
+use cube_axes::{axis, axis_called};
 use cube_space::Space;
 use dim_core::Dimension;
 use dim_name::Name;
@@ -17,20 +19,6 @@ use lists::ListOf;
 use model_text::OrderWord;
 use rule_model::Position;
 use std::alloc::{AllocError, Global};
-
-// The place of the dimension of a cube that has this name.
-fn axis_called(space: &Space, cube: u32, name: &Name) -> Option<u32>
-    requires { cube < length space.now.cubes }
-    ensures place { result ≡ axis_called space.now cube name.now }
-    ensures within { IfSome result (λ place. place < length (axes space.now cube)) }
-{
-    for place in 0..axis_count(space, cube) {
-        if name == axis(space, cube, place).name() {
-            return Some(place);
-        }
-    }
-    None
-}
 
 // The position by these ranks of the dimension at a place.
 fn position_by(place: u32, ranks: Option<ListOf<u32>>) -> Option<Position>
@@ -53,7 +41,7 @@ fn index_position(
     requires cube { cube < length space.now.cubes }
     requires weights { AreWeightsOf space.now.dimensions weights.now }
     ensures bound { IfOk result (λ found. found ≡ index_position (axes space.now cube)
-        (axis_called space.now cube name.now)) }
+        (axis_called (axes space.now cube) name.now)) }
     ensures valid { IfOk result (λ found. IfSome found (IsPosition (axes space.now cube))) }
 {
     match axis_called(space, cube, name) {
@@ -102,7 +90,7 @@ fn list_position(
     requires cube { cube < length space.now.cubes }
     requires weights { AreWeightsOf space.now.dimensions weights.now }
     ensures bound { IfOk result (λ found. found ≡ list_position (axes space.now cube) version list.now
-        (axis_called space.now cube name.now)) }
+        (axis_called (axes space.now cube) name.now)) }
     ensures valid { IfOk result (λ found. IfSome found (IsPosition (axes space.now cube))) }
 {
     match axis_called(space, cube, name) {

@@ -4,13 +4,14 @@ use Rattle.std.proofs.lemmas.Bool.{and_parts, and_from}
 use Rattle.dim_core.specs.Outline.{Outline, index_of}
 use Rattle.cube_space.specs.Layout.{Layout, axes}
 use Rattle.cube_space.specs.Cells.{is_leaf}
+use Rattle.cube_axes.specs.Axes.{axis_called}
 use Rattle.model_text.specs.declared.order.OrderLine.{OrderLine}
 use Rattle.model_text.specs.declared.order.OrderWord.{OrderWord}
 use Rattle.model_text.specs.declared.order.OrderWord.TheVariants as words
 use Rattle.rule_model.specs.declared.order.Order.{Order}
 use Rattle.rule_model.specs.declared.order.Position.{Position}
 use Rattle.rule_model.specs.Order.{most_positions}
-use Rattle.bind_order.specs.Orders.{all_of, are_writable, listed_rank, listed_ranks, ranks_of, may_list, entry_element, are_listed, list_ranks, axis_called, position_by, position_of, order_of}
+use Rattle.bind_order.specs.Orders.{all_of, are_writable, listed_rank, listed_ranks, ranks_of, may_list, entry_element, are_listed, list_ranks, position_by, position_of, order_of}
 use Rattle.version_laws.specs.Versions.{line_in}
 
 -- what may be listed in version 1 may be in version 2
@@ -82,7 +83,7 @@ position_too : (space : Layout) (cube : ℕ) (word : OrderWord) (p : Position) �
 position_too space cube (words.Constant number) p is = is
 position_too space cube (words.Index name) p is = is
 position_too space cube (words.Ranks name list) p is =
-    then_too (position_by (axes space cube) (list_ranks 1 list)) (position_by (axes space cube) (list_ranks 2 list)) (axis_called space cube name) p
+    then_too (position_by (axes space cube) (list_ranks 1 list)) (position_by (axes space cube) (list_ranks 2 list)) (axis_called (axes space cube) name) p
     (λ place here. mapped_too _ _ _ p (λ ranks found. then_too (list_ranks 1 list) (list_ranks 2 list) _ ranks (λ d. ranks_too list d ranks) found) here) is
 
 pub order_too : (space : Layout) (cube : ℕ) (line : OrderLine) (order : Order) → line.version ≡ 1 → order_of space cube line ≡ Some order → order_of space cube (line_in 2 line) ≡ Some order

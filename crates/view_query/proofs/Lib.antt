@@ -1,4 +1,3 @@
-pub mod AxisFacts
 pub mod Meanings
 pub mod Counts
 pub mod LineFacts

@@ -1,10 +1,11 @@
 -- What the text of a view is in a space, or why it is none.
-use Rattle.std.specs.Prelude.{ℕ, ◌-◌, ◌^◌, ◌==◌, nat_lt, min, Bool, List, map, length, slice_get}
+use Rattle.std.specs.Prelude.{ℕ, ◌-◌, ◌^◌, ◌==◌, nat_lt, min, Bool, List, length, slice_get}
 use Rattle.std.specs.Prelude.{Option, Some, None, Err, if◌then◌else◌}
 use Rattle.std.specs.List.{list_all, range_with_len}
 use Rattle.dim_name.specs.Name.{place_of}
 use Rattle.dim_core.specs.Outline.{Outline, index_of}
 use Rattle.cube_space.specs.Layout.{Layout, axes, cube_names}
+use Rattle.cube_axes.specs.Axes.{axis_called}
 use Rattle.user_text.specs.declared.command.SetText.{SetText}
 use Rattle.user_text.specs.declared.command.ViewText.{ViewText}
 use Rattle.view_query.specs.declared.fault.ViewFault.TheVariants.{WrongCount, ViewLimit}
@@ -15,7 +16,7 @@ use Rattle.view_query.specs.Views.{cell_count, most_cells, times_at}
 
 -- the place, among the dimensions of a cube, of the one that has this name
 abbrev pub place_named : List Outline → List ℕ → Meaning ℕ
-place_named dimensions name = known (place_of (map (λ dimension. dimension.name) dimensions) name)
+place_named dimensions name = known (axis_called dimensions name)
 
 -- whether each of so many dimensions stands at just one of these places of rows, columns and points
 abbrev pub is_each_once : ℕ → List ℕ → List ℕ → List ℕ → Bool

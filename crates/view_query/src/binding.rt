@@ -5,10 +5,10 @@ ghost use Rattle.view_query.specs.Binding.{bound, bound_in, is_counted, is_each_
 ghost use Rattle.view_query.specs.Binding.{within_limit};
 ghost use Rattle.view_query.specs.Views.{IsView, cell_count, lines, times_at};
 
-use crate::axis::axis_count;
 use crate::fault::ViewFault;
 use crate::sets::{bind_points, bind_sets, point_places, set_places};
 use crate::shape::{Axis, View};
+use cube_axes::axis_count;
 use cube_space::Space;
 use rule_model::Model;
 use std::alloc::Global;

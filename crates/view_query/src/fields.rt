@@ -8,8 +8,8 @@ ghost use Rattle.view_query.specs.Table.{joined, shown_name};
 ghost use Rattle.view_query.specs.Inside.Lines.{IsElementOf, IsLine};
 ghost use Rattle.view_query.specs.Inside.Text.{names_across, names_along, tabbed, tabbed_if};
 
-use crate::axis::axis;
 use crate::shape::Axis;
+use cube_axes::axis;
 use cube_fixed::{Value, print};
 use cube_space::Space;
 use lists::ListOf;

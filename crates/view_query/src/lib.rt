@@ -10,7 +10,6 @@ pub use fault::ViewFault;
 pub use shape::{Axis, View};
 pub use table::view;
 
-mod axis;
 mod binding;
 mod fault;
 mod fields;

@@ -5,9 +5,9 @@ ghost use Rattle.cube_space.specs.Cells.{size_of};
 ghost use Rattle.view_query.specs.Views.{IsView, cell_at, element_at, element_in, elements_at, point_at};
 ghost use Rattle.view_query.specs.Inside.Lines.{IsLine};
 
-use crate::axis::axis_count;
 use crate::shape::{Axis, View};
 use cells::Cells;
+use cube_axes::axis_count;
 use cube_fixed::Value;
 use cube_space::Space;
 use lists::ListOf;

@@ -5,9 +5,9 @@ ghost use Rattle.view_query.specs.Meaning.{Answers, each, known};
 ghost use Rattle.view_query.specs.Binding.{place_named, elements_of_set, bound_set, bound_point};
 ghost use Rattle.dim_core.specs.Outline.{index_of};
 
-use crate::axis::{axis, place_of};
 use crate::fault::ViewFault;
 use crate::shape::Axis;
+use cube_axes::{axis, axis_called};
 use cube_space::Space;
 use dim_core::Dimension;
 use dim_name::Name;
@@ -20,7 +20,7 @@ fn place_named(space: &Space, cube: u32, name: &Name) -> Result<u32, ViewFault>
     requires { cube < length space.now.cubes }
     ensures { Answers (place_named (axes space.now cube) name.now) result }
 {
-    match place_of(space, cube, name) {
+    match axis_called(space, cube, name) {
         Some(place) => Ok(place),
         None => Err(ViewFault::UnknownName),
     }

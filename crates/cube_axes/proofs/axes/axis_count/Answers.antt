@@ -1,10 +1,10 @@
 use Rattle.std.proofs.Common.{◌∙◌, length, sym, ap, arith}
-use Rattle.bind_areas.proofs.AxisFacts.{axis_total, dims_few}
-use Rattle.bind_areas.proofs.axis.axis_count.Goals as goal
+use Rattle.cube_axes.proofs.AxisFacts.{axes_count, dims_few}
+use Rattle.cube_axes.proofs.axes.axis_count.Goals as goal
 
 pub returns-clause-value : goal.returns-clause-value
 returns-clause-value c =
-    ap length c.as_slice.ensures ∙ sym (axis_total c.args.space.now c.args.cube c.shape.result.now c.size-cells.ensures.valid c.shape.ensures)
+    ap length c.as_slice.ensures ∙ sym (axes_count c.args.space.now c.args.cube c.shape.result.now c.size-cells.ensures.valid c.shape.ensures)
 
 pub returns-clause-few : goal.returns-clause-few
 returns-clause-few c =

@@ -1,8 +1,8 @@
 use Rattle.std.proofs.Common.{◌∙◌, sym, ap, arith}
 use Rattle.dim_name.specs.Name.{is_same_name}
 use Rattle.cube_space.specs.Layout.{axes}
-use Rattle.bind_order.proofs.ListFacts.{first_place, no_place}
-use Rattle.bind_order.proofs.word.axis_called.Goals as goal
+use Rattle.cube_axes.proofs.AxisFacts.{first_place, no_place}
+use Rattle.cube_axes.proofs.axes.axis_called.Goals as goal
 
 pub returns-then-eq-clause-place : goal.returns-then-eq-clause-place
 returns-then-eq-clause-place c =
