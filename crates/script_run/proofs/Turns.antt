@@ -1,5 +1,5 @@
 -- One more turn of a WHILE.
-use Rattle.std.proofs.Common.{◌≡◌, ◌<◌, ◌-◌, ℕ, zero, suc, Bool, true, false, List, Ok, Err, refl, sym, ap, ◌∙◌, arith}
+use Rattle.std.proofs.Common.{◌≡◌, ◌<◌, ◌-◌, ℕ, zero, suc, true, false, List, Ok, Err, sym, ap, ◌∙◌, arith}
 use Rattle.script_bound.specs.declared.term.Term.{Term}
 use Rattle.script_values.specs.declared.reason.Reason.{Reason}
 use Rattle.script_values.specs.declared.reason.Reason.TheVariants.{StepLimit}
@@ -9,7 +9,7 @@ use Rattle.script_run.specs.declared.ending.Ending.{Ending}
 use Rattle.script_run.specs.declared.ending.Ending.TheVariants.{Next, Stopped}
 use Rattle.script_run.specs.declared.place.Place.{Place}
 use Rattle.script_run.specs.Setting.{Setting, Progress}
-use Rattle.script_run.specs.Meaning.{Ended, Begins, Outcome, Doing, Deed, begin, begun_with, once, place_of, given, where_holds, then_do, end_with, turns}
+use Rattle.script_run.specs.Meaning.{Ended, Begins, Doing, Deed, begin, begun_with, once, place_of, given, where_holds, then_do, end_with, turns}
 
 module _ (number : ℕ) (test : Term) (deed : Deed) (store : Store) (here : Setting) where
   -- what is done where a test was begun

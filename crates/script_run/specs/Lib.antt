@@ -1,3 +1,4 @@
 pub mod Setting
 pub mod Meaning
 pub mod Load
+pub mod Inside

@@ -1,104 +1,34 @@
-ghost use Rattle.std.specs.Prelude.{◌≡◌, ◌≤◌, List, map, IfOk};
-ghost use Rattle.script_run.specs.Meaning as meaning;
-ghost use Rattle.script_run.specs.Meaning.{Ended, executed, turns, block, choose, deed_of, case_deed};
+ghost use Rattle.std.specs.Prelude.{◌≡◌, ◌≤◌, List, map, IfOk, IsFalse};
+ghost use Rattle.script_values.specs.Cells.{Store, Write};
+ghost use Rattle.script_values.specs.declared.reason.Reason.TheVariants as reason_of;
+ghost use Rattle.script_run.specs.Meaning.{Ended, Begins, stopped, turns, block, choose, deed_of, case_deed};
+ghost use Rattle.script_run.specs.Inside.Executions.{begun};
 
 use crate::ending::Ending;
 use crate::here::Here;
 use crate::progress::Run;
-use crate::writing::{assign, holds, increment, put};
+use crate::writing::{Change, assign, change_cell, holds};
 use script_bound::{Case, Statement, Term};
 use script_values::{Reason, WorkCells};
 use std::alloc::{AllocError, Global};
 
-/// Runs an assignment as one execution.
-#[tactic(auto, unfolding(crate::specs::Meaning::executed))]
-fn run_assign<C: WorkCells>(
-    alloc: Global,
-    number: u32,
-    place: usize,
-    term: &Term,
-    here: &Here<'_>,
-    run: &mut Run,
-    cells: &mut C,
-) -> Result<Ending, AllocError>
-    ensures ended { IfOk result (λ ending. Ended ending run.new (C.writes cells.new)
-        ≡ executed number (meaning.assign place term.now)
-        (C.store cells.old) here.now run.old (C.writes cells.old)) }
-    ensures left { run.new.left ≤ run.old.left }
-    ensures store { C.store cells.new ≡ C.store cells.old }
-{
-    if run.begin(here.place_of(number)) {
-        assign(alloc, place, term, here, run, cells)
-    } else {
-        Ok(Ending::Stopped(Reason::StepLimit))
-    }
-}
-
-/// Runs a `CellPutN` as one execution.
-#[tactic(auto, unfolding(crate::specs::Meaning::executed))]
-fn run_put<C: WorkCells>(
-    alloc: Global,
-    number: u32,
-    value: &Term,
-    names: &[Term],
-    here: &Here<'_>,
-    run: &mut Run,
-    cells: &mut C,
-) -> Result<Ending, AllocError>
-    ensures ended { IfOk result (λ ending. Ended ending run.new (C.writes cells.new)
-        ≡ executed number (meaning.put value.now names.now)
-        (C.store cells.old) here.now run.old (C.writes cells.old)) }
-    ensures left { run.new.left ≤ run.old.left }
-    ensures store { C.store cells.new ≡ C.store cells.old }
-{
-    if run.begin(here.place_of(number)) {
-        put(alloc, value, names, here, run, cells)
-    } else {
-        Ok(Ending::Stopped(Reason::StepLimit))
-    }
-}
-
-/// Runs a `CellIncrementN` as one execution.
-#[tactic(auto, unfolding(crate::specs::Meaning::executed))]
-fn run_increment<C: WorkCells>(
-    alloc: Global,
-    number: u32,
-    value: &Term,
-    names: &[Term],
-    here: &Here<'_>,
-    run: &mut Run,
-    cells: &mut C,
-) -> Result<Ending, AllocError>
-    ensures ended { IfOk result (λ ending. Ended ending run.new (C.writes cells.new)
-        ≡ executed number (meaning.increment value.now names.now)
-        (C.store cells.old) here.now run.old (C.writes cells.old)) }
-    ensures left { run.new.left ≤ run.old.left }
-    ensures store { C.store cells.new ≡ C.store cells.old }
-{
-    if run.begin(here.place_of(number)) {
-        increment(alloc, value, names, here, run, cells)
-    } else {
-        Ok(Ending::Stopped(Reason::StepLimit))
-    }
-}
-
-/// Ends as one execution.
-#[tactic(auto, unfolding(crate::specs::Meaning::executed))]
-fn run_ending<C: WorkCells>(
-    number: u32,
-    ending: Ending,
-    here: &Here<'_>,
-    run: &mut Run,
-    cells: &C,
-) -> Ending
-    ensures ended { Ended result run.new (C.writes cells.now)
-        ≡ executed number (meaning.end_with ending) (C.store cells.now) here.now run.old (C.writes cells.now) }
+/// Begins a statement as one execution, if one is left. A `WHILE` begins with each of its tests.
+#[tactic(auto, using(crate::proofs::Begun::not_begun), unfolding(crate::specs::Meaning::executed))]
+fn begin(statement: &Statement, here: &Here<'_>, run: &mut Run) -> bool
+    ensures begun { Begins result run.new ≡ begun statement.now here.now run.old }
+    ensures limit { IsFalse result → (store : Store) (writes : List Write) →
+        deed_of statement.now store here.now run.old writes ≡ stopped reason_of.StepLimit run.new writes }
     ensures left { run.new.left ≤ run.old.left }
 {
-    if run.begin(here.place_of(number)) {
-        ending
-    } else {
-        Ending::Stopped(Reason::StepLimit)
+    match statement {
+        Statement::Assign(number, ..)
+        | Statement::Put(number, ..)
+        | Statement::Increment(number, ..)
+        | Statement::Skip(number)
+        | Statement::Break(number)
+        | Statement::Error(number)
+        | Statement::If(number, _) => run.begin(here.place_of(*number)),
+        Statement::While(..) => true,
     }
 }
 
@@ -129,6 +59,7 @@ pub(crate) fn run_block<C: WorkCells>(
 
 /// Runs a statement.
 #[cycle(statements)]
+#[tactic(auto, unfolding(crate::specs::Meaning::executed))]
 fn run_statement<C: WorkCells>(
     alloc: Global,
     statement: &Statement,
@@ -141,60 +72,24 @@ fn run_statement<C: WorkCells>(
     ensures left { run.new.left ≤ run.old.left }
     ensures store { C.store cells.new ≡ C.store cells.old }
 {
-    match statement {
-        Statement::Assign(number, place, term) => {
-            run_assign(alloc, *number, *place, term, here, run, cells)
-        }
-        Statement::Put(number, value, names) => {
-            run_put(alloc, *number, value, names.as_slice(), here, run, cells)
-        }
-        Statement::Increment(number, value, names) => {
-            run_increment(alloc, *number, value, names.as_slice(), here, run, cells)
-        }
-        Statement::Skip(number) => Ok(run_ending(*number, Ending::Skipped, here, run, cells)),
-        Statement::Break(number) => Ok(run_ending(*number, Ending::Broken, here, run, cells)),
-        Statement::Error(number) => {
-            let ending = Ending::Stopped(Reason::ProcessError);
-            Ok(run_ending(*number, ending, here, run, cells))
-        }
-        Statement::If(number, cases) => {
-            run_if(alloc, *number, cases.as_slice(), here, run, cells)
-        }
-        Statement::While(number, test, statements) => {
-            run_while(
-                alloc,
-                *number,
-                statements.as_slice(),
-                test,
-                here,
-                run,
-                cells,
-            )
-        }
+    if !begin(statement, here, run) {
+        return Ok(Ending::Stopped(Reason::StepLimit));
     }
-}
-
-/// Runs an `IF` as one execution.
-#[cycle(statements)]
-#[tactic(auto, unfolding(crate::specs::Meaning::executed))]
-fn run_if<C: WorkCells>(
-    alloc: Global,
-    number: u32,
-    cases: &[Case],
-    here: &Here<'_>,
-    run: &mut Run,
-    cells: &mut C,
-) -> Result<Ending, AllocError>
-    ensures ended { IfOk result (λ ending. Ended ending run.new (C.writes cells.new)
-        ≡ executed number (choose (map case_deed cases.now))
-        (C.store cells.old) here.now run.old (C.writes cells.old)) }
-    ensures left { run.new.left ≤ run.old.left }
-    ensures store { C.store cells.new ≡ C.store cells.old }
-{
-    if run.begin(here.place_of(number)) {
-        run_choice(alloc, cases, here, run, cells)
-    } else {
-        Ok(Ending::Stopped(Reason::StepLimit))
+    match statement {
+        Statement::Assign(_, place, term) => assign(alloc, *place, term, here, run, cells),
+        Statement::Put(_, term, names) => {
+            change_cell(alloc, Change::Put, term, names.as_slice(), here, run, cells)
+        }
+        Statement::Increment(_, term, names) => {
+            change_cell(alloc, Change::Add, term, names.as_slice(), here, run, cells)
+        }
+        Statement::Skip(_) => Ok(Ending::Skipped),
+        Statement::Break(_) => Ok(Ending::Broken),
+        Statement::Error(_) => Ok(Ending::Stopped(Reason::ProcessError)),
+        Statement::If(_, cases) => run_choice(alloc, cases.as_slice(), here, run, cells),
+        Statement::While(number, test, block) => {
+            run_while(alloc, *number, block.as_slice(), test, here, run, cells)
+        }
     }
 }
 

@@ -2,7 +2,8 @@ ghost use Rattle.std.specs.Prelude.{◌≡◌, ◌≤◌, List, map, IfOk, Ok};
 ghost use Rattle.script_values.specs.Cells.{refusal, writes_after};
 ghost use Rattle.script_values.specs.Values as values;
 ghost use Rattle.script_run.specs.Meaning as meaning;
-ghost use Rattle.script_run.specs.Meaning.{Ended, executed, given};
+ghost use Rattle.script_run.specs.Meaning.{Ended, given};
+ghost use Rattle.script_run.specs.Inside.Executions.{changed};
 
 use crate::ending::Ending;
 use crate::here::Here;
@@ -15,6 +16,15 @@ use script_values::{
     value_of,
 };
 use std::alloc::{AllocError, Global};
+
+/// What a statement does to a cell.
+#[derive(Clone, Copy)]
+pub(crate) enum Change {
+    /// `CellPutN` writes a number.
+    Put,
+    /// `CellIncrementN` adds it to the cell's value.
+    Add,
+}
 
 /// What a variable holds after this is assigned to it.
 fn kept(alloc: Global, datum: Result<Datum<'_>, Reason>) -> Result<Result<Kept, Reason>, AllocError>
@@ -144,30 +154,6 @@ fn ending_of(refused: Option<Reason>) -> Ending
     }
 }
 
-/// Runs a `CellPutN`.
-#[tactic(auto, unfolding(crate::specs::Meaning::put))]
-pub(crate) fn put<C: WorkCells>(
-    alloc: Global,
-    value: &Term,
-    names: &[Term],
-    here: &Here<'_>,
-    run: &Run,
-    cells: &mut C,
-) -> Result<Ending, AllocError>
-    ensures ended { IfOk result (λ ending. Ended ending run.now (C.writes cells.new)
-        ≡ meaning.put value.now names.now (C.store cells.old) here.now run.now (C.writes cells.old)) }
-    ensures store { C.store cells.new ≡ C.store cells.old }
-{
-    let sight = run.sight(here);
-    match arguments(alloc, value, names, &sight, cells)? {
-        Ok((value, names)) => {
-            let refused = write(alloc, names.as_slice(), value, cells)?;
-            Ok(ending_of(refused))
-        }
-        Err(reason) => Ok(Ending::Stopped(reason)),
-    }
-}
-
 /// Writes the value of the cell of these names and a number more, if that isn't refused.
 fn add_to_cell<C: WorkCells>(
     alloc: Global,
@@ -187,10 +173,11 @@ fn add_to_cell<C: WorkCells>(
     }
 }
 
-/// Runs a `CellIncrementN`.
-#[tactic(auto, unfolding(crate::specs::Meaning::increment))]
-pub(crate) fn increment<C: WorkCells>(
+/// Runs a `CellPutN` or a `CellIncrementN`.
+#[tactic(auto, unfolding(crate::specs::Meaning::put, crate::specs::Meaning::increment))]
+pub(crate) fn change_cell<C: WorkCells>(
     alloc: Global,
+    change: Change,
     value: &Term,
     names: &[Term],
     here: &Here<'_>,
@@ -198,15 +185,15 @@ pub(crate) fn increment<C: WorkCells>(
     cells: &mut C,
 ) -> Result<Ending, AllocError>
     ensures ended { IfOk result (λ ending. Ended ending run.now (C.writes cells.new)
-        ≡ meaning.increment value.now names.now (C.store cells.old) here.now run.now (C.writes cells.old)) }
+        ≡ changed change value.now names.now (C.store cells.old) here.now run.now (C.writes cells.old)) }
     ensures store { C.store cells.new ≡ C.store cells.old }
 {
     let sight = run.sight(here);
     match arguments(alloc, value, names, &sight, cells)? {
-        Ok((more, names)) => {
-            let refused = add_to_cell(alloc, names.as_slice(), more, cells)?;
-            Ok(ending_of(refused))
-        }
+        Ok((number, names)) => match change {
+            Change::Put => Ok(ending_of(write(alloc, names.as_slice(), number, cells)?)),
+            Change::Add => { Ok(ending_of(add_to_cell(alloc, names.as_slice(), number, cells)?)) }
+        },
         Err(reason) => Ok(Ending::Stopped(reason)),
     }
 }

@@ -1,5 +1,5 @@
 -- What an expression gives.
-use Rattle.std.specs.Prelude.{ℕ, ℤ, ◌==◌, Bool, true, false, not, ◌&&◌, ◌||◌, List, [], ◌∷◌, ◌++◌, length, reverse}
+use Rattle.std.specs.Prelude.{ℕ, ℤ, ◌==◌, Bool, not, ◌&&◌, ◌||◌, List, [], ◌∷◌, ◌++◌, reverse}
 use Rattle.std.specs.Prelude.{Option, Some, None, Result, Ok, Err, slice_get, if◌then◌else◌}
 use Rattle.cube_fixed.specs.declared.value.Value.{Value}
 use Rattle.cube_fixed.specs.declared.value.Value.TheVariants.{Num}
@@ -7,7 +7,6 @@ use Rattle.cube_fixed.specs.declared.reading.NumberFault.{NumberFault}
 use Rattle.cube_fixed.specs.Arithmetic.{zero_value}
 use Rattle.cube_fixed.specs.Text.{number_of, reading_of, printed}
 use Rattle.dim_name.specs.Name.{is_same_name}
-use Rattle.rule_laws.specs.declared.operation.Fun.{Fun}
 use Rattle.rule_laws.specs.declared.operation.Op.{Op}
 use Rattle.rule_laws.specs.declared.operation.Rel.{Rel}
 use Rattle.rule_laws.specs.Operation.{operation_of, function_of, comparison_of}

@@ -57,58 +57,60 @@ pub fn value_of<'a, C: WorkCells>(
         Term::Variable(place) => Ok(sight.variable(*place)),
         Term::Column(place) => Ok(sight.column(*place)),
         Term::Get(names) => value_in_cell(alloc, names.as_slice(), sight, cells),
-        Term::Amount(fun, inner) => {
-            let inner = value_of(alloc, inner.get(), sight, cells)?;
-            Ok(function(*fun, inner))
-        }
+        Term::Amount(fun, inner) => Ok(function(*fun, value_of(alloc, inner.get(), sight, cells)?)),
         Term::Amounts(op, left, right) => {
-            let left = value_of(alloc, left.get(), sight, cells)?;
-            let right = value_of(alloc, right.get(), sight, cells)?;
+            let (left, right) = two_values(alloc, left.get(), right.get(), sight, cells)?;
             Ok(operation(*op, left, right))
         }
         Term::Compare(rel, left, right) => {
-            let left = value_of(alloc, left.get(), sight, cells)?;
-            let right = value_of(alloc, right.get(), sight, cells)?;
+            let (left, right) = two_values(alloc, left.get(), right.get(), sight, cells)?;
             Ok(comparison(*rel, left, right))
         }
-        Term::ToNumber(inner) => {
-            let inner = value_of(alloc, inner.get(), sight, cells)?;
-            Ok(number_in(inner))
-        }
-        Term::ToText(inner) => {
-            let inner = value_of(alloc, inner.get(), sight, cells)?;
-            text_of(alloc, inner)
-        }
+        Term::ToNumber(inner) => Ok(number_in(value_of(alloc, inner.get(), sight, cells)?)),
+        Term::ToText(inner) => text_of(alloc, value_of(alloc, inner.get(), sight, cells)?),
         Term::Join(left, right) => {
-            let left = value_of(alloc, left.get(), sight, cells)?;
-            let right = value_of(alloc, right.get(), sight, cells)?;
+            let (left, right) = two_values(alloc, left.get(), right.get(), sight, cells)?;
             joined(alloc, left, right)
         }
         Term::Same(left, right) => {
-            let left = value_of(alloc, left.get(), sight, cells)?;
-            let right = value_of(alloc, right.get(), sight, cells)?;
+            let (left, right) = two_values(alloc, left.get(), right.get(), sight, cells)?;
             Ok(same(left, right))
         }
         Term::Other(left, right) => {
-            let left = value_of(alloc, left.get(), sight, cells)?;
-            let right = value_of(alloc, right.get(), sight, cells)?;
+            let (left, right) = two_values(alloc, left.get(), right.get(), sight, cells)?;
             Ok(other(left, right))
         }
         Term::And(left, right) => {
-            let left = value_of(alloc, left.get(), sight, cells)?;
-            let right = value_of(alloc, right.get(), sight, cells)?;
+            let (left, right) = two_values(alloc, left.get(), right.get(), sight, cells)?;
             Ok(both_hold(left, right))
         }
         Term::Or(left, right) => {
-            let left = value_of(alloc, left.get(), sight, cells)?;
-            let right = value_of(alloc, right.get(), sight, cells)?;
+            let (left, right) = two_values(alloc, left.get(), right.get(), sight, cells)?;
             Ok(one_holds(left, right))
         }
-        Term::Not(inner) => {
-            let inner = value_of(alloc, inner.get(), sight, cells)?;
-            Ok(opposite(inner))
-        }
+        Term::Not(inner) => Ok(opposite(value_of(alloc, inner.get(), sight, cells)?)),
     }
+}
+
+/// What two expressions give, the left one first. The right one is evaluated whatever the left one gives.
+#[cycle(values)]
+fn two_values<'a, C: WorkCells>(
+    alloc: Global,
+    left: &'a Term,
+    right: &'a Term,
+    sight: &Sight<'a>,
+    cells: &mut C,
+) -> Result<(Result<Datum<'a>, Reason>, Result<Datum<'a>, Reason>), AllocError>
+    ensures left { IfOk result (λ both. both.0
+        ≡ value_of left.now sight.now (C.store cells.old) (C.writes cells.old)) }
+    ensures right { IfOk result (λ both. both.1
+        ≡ value_of right.now sight.now (C.store cells.old) (C.writes cells.old)) }
+    ensures store { C.store cells.new ≡ C.store cells.old }
+    ensures writes { C.writes cells.new ≡ C.writes cells.old }
+{
+    let left = value_of(alloc, left, sight, cells)?;
+    let right = value_of(alloc, right, sight, cells)?;
+    Ok((left, right))
 }
 
 /// The value of the cell that expressions name.

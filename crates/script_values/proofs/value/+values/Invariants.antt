@@ -1,4 +1,5 @@
-use Rattle.std.proofs.Common.{◌≡◌, map, drop}
+use Rattle.std.proofs.Common.{◌≡◌, ◌+◌, ◌*◌, max, map, drop}
+use Rattle.script_bound.proofs.term.Term.TheLaws.{the_size}
 use Rattle.script_values.specs.Values.{value_of, each_text}
 use Rattle.script_values.proofs.Behind.{behind}
 use Rattle.script_values.proofs.value.+values.Given as goal
@@ -9,3 +10,16 @@ invariant-texts_of-each g l =
     ≡ each_text (map value_of l.terms) l.sight (g.C.WorkCells.store l.initial.cells) (g.C.WorkCells.writes l.initial.cells))
     × (g.C.WorkCells.store l.cells ≡ g.C.WorkCells.store l.initial.cells)
     × (g.C.WorkCells.writes l.cells ≡ g.C.WorkCells.writes l.initial.cells)
+
+-- a call that goes no deeper ranks below its caller
+abbrev pub decreases-value_of : goal.decreases-value_of
+decreases-value_of g l = 3 * goal.size-value_of g l
+
+abbrev pub decreases-two_values : goal.decreases-two_values
+decreases-two_values g l = 3 * max (the_size l.left.now) (the_size l.right.now) + 1
+
+abbrev pub decreases-texts_of : goal.decreases-texts_of
+decreases-texts_of g l = 3 * goal.size-texts_of g l + 1
+
+abbrev pub decreases-value_in_cell : goal.decreases-value_in_cell
+decreases-value_in_cell g l = 3 * goal.size-value_in_cell g l + 2
