@@ -5,9 +5,11 @@
 #![tactic(auto)]
 
 mod answer;
+mod cases;
 mod spelled;
 mod texts;
 
 pub use answer::write_answer;
+pub use cases::{Answers, answered};
 pub use spelled::spell;
 pub use texts::Texts;

@@ -1,36 +1,31 @@
 use crate::memory::MemoryCells;
 use crate::scene::Scene;
-use case_lines::write_answer;
+use case_lines::{Answers, write_answer};
 use cube_fixed::{Value, print};
 use lists::ListOf;
 use script_parse::parse;
 use script_run::{Ran, Script, run};
 use std::alloc::{AllocError, Global};
 
-/// The cases, each with its answer behind it.
-pub fn answered(alloc: Global, cases: &str) -> Result<Vec<u8>, AllocError> {
-    let mut out = Vec::new(alloc);
-    for case in cases.split("\n\n") {
-        let case = case.trim_matches('\n');
-        out.extend_from_slice(case.as_bytes())?;
-        out.push(b'\n')?;
-        if !case.starts_with('#') {
-            answer_case(alloc, case, &mut out)?;
-        }
-        out.push(b'\n')?;
-    }
-    Ok(out)
-}
+/// Answers a case of a load script.
+pub struct ScriptCases;
 
-fn answer_case(alloc: Global, case: &str, out: &mut Vec<u8>) -> Result<(), AllocError> {
-    let (_heading, lines) = case.split_once('\n').unwrap_or((case, ""));
-    let mut scene = Scene::new(alloc);
-    for line in lines.lines() {
-        if !scene.add(alloc, line)? {
-            return write_answer(out, b"a line of this case says nothing");
+impl Answers for ScriptCases {
+    fn answer(
+        &self,
+        alloc: Global,
+        _heading: &str,
+        lines: &str,
+        out: &mut Vec<u8>,
+    ) -> Result<(), AllocError> {
+        let mut scene = Scene::new(alloc);
+        for line in lines.lines() {
+            if !scene.add(alloc, line)? {
+                return write_answer(out, b"a line of this case says nothing");
+            }
         }
+        answer_scene(alloc, scene, out)
     }
-    answer_scene(alloc, scene, out)
 }
 
 fn answer_scene(alloc: Global, scene: Scene, out: &mut Vec<u8>) -> Result<(), AllocError> {

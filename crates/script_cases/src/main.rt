@@ -25,11 +25,13 @@ mod listed;
 mod memory;
 mod scene;
 
+use crate::cases::ScriptCases;
+use case_lines::answered;
 use std::io;
 use std::io::Write;
 
 fn main(rt: HostRuntime) -> io::Result<()> {
     let cases = io::read_to_string(rt.alloc(), rt.reader())?;
-    let answers = cases::answered(rt.alloc(), &cases)?;
+    let answers = answered(rt.alloc(), &cases, &ScriptCases)?;
     io::writer(&rt).write_all(&answers)
 }

@@ -1,30 +1,25 @@
 use crate::answers::{Answer, answer_to};
-use case_lines::{spell, write_answer};
+use case_lines::{Answers, spell, write_answer};
 use std::alloc::{AllocError, Global};
 
-/// The cases, each with its answer behind it.
-pub fn answered(alloc: Global, cases: &str) -> Result<Vec<u8>, AllocError> {
-    let mut out = Vec::new(alloc);
-    for case in cases.split("\n\n") {
-        let case = case.trim_matches('\n');
-        out.extend_from_slice(case.as_bytes())?;
-        out.push(b'\n')?;
-        if !case.starts_with('#') {
-            answer_case(alloc, case, &mut out)?;
-        }
-        out.push(b'\n')?;
-    }
-    Ok(out)
-}
+/// Answers a case of a text.
+pub struct TextCases;
 
-fn answer_case(alloc: Global, case: &str, out: &mut Vec<u8>) -> Result<(), AllocError> {
-    let (heading, lines) = case.split_once('\n').unwrap_or((case, ""));
-    let (kind, _title) = heading.split_once(':').unwrap_or((heading, ""));
-    let mut text = Vec::new(alloc);
-    if spell_lines(lines, &mut text)? {
-        answer_text(alloc, kind, &text, out)
-    } else {
-        write_answer(out, b"a line of this case spells nothing")
+impl Answers for TextCases {
+    fn answer(
+        &self,
+        alloc: Global,
+        heading: &str,
+        lines: &str,
+        out: &mut Vec<u8>,
+    ) -> Result<(), AllocError> {
+        let (kind, _title) = heading.split_once(':').unwrap_or((heading, ""));
+        let mut text = Vec::new(alloc);
+        if spell_lines(lines, &mut text)? {
+            answer_text(alloc, kind, &text, out)
+        } else {
+            write_answer(out, b"a line of this case spells nothing")
+        }
     }
 }
 

@@ -26,11 +26,13 @@ mod numbers;
 mod texts;
 mod tokens;
 
+use crate::cases::TextCases;
+use case_lines::answered;
 use std::io;
 use std::io::Write;
 
 fn main(rt: HostRuntime) -> io::Result<()> {
     let cases = io::read_to_string(rt.alloc(), rt.reader())?;
-    let answers = cases::answered(rt.alloc(), &cases)?;
+    let answers = answered(rt.alloc(), &cases, &TextCases)?;
     io::writer(&rt).write_all(&answers)
 }
