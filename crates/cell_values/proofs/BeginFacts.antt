@@ -1,46 +1,41 @@
 -- How sums begin, and one step of them.
 use Rattle.std.proofs.Common.{unsigned_abs, get_or, w64, to_z, of_z, ◌≡◌, refl, sym, ◌∙◌, ap, subst, arith, ℕ, suc, ◌+◌, ◌<◌, ◌≤◌, leb, Bool, true, false, ℤ, pos, List, [], ◌∷◌, length, filter, Option, Some, None}
 use Rattle.std.specs.Prelude.{unwrap_or}
+use Rattle.std.specs.List.{All}
 use Rattle.std.specs.Option.{option_map_or}
 use Rattle.std.proofs.lemmas.Bool.Decides.{nat_tests}
-use Rattle.std.proofs.lemmas.Int.{to_z-of_z, ints}
 use Rattle.std.proofs.lemmas.List.{length-map}
-use mir.Val.{SFits}
 use Rattle.cell_store.specs.declared.entry.Entry.{Entry}
 use Rattle.cell_store.specs.Entries.{cells_of, number_at}
 use Rattle.cell_versions.specs.Versions.{NumberedVersion}
+use Rattle.cube_fixed.specs.declared.value.Value.{Value}
 use Rattle.cube_fixed.specs.declared.value.Value.TheVariants.{Num}
 use Rattle.cube_fixed.specs.Arithmetic.{zero_value}
-use Rattle.cube_fixed.specs.Total.{Total, no_terms, with_term}
+use Rattle.cube_fixed.specs.Total.{Total, no_terms, with_term, value_of as total_of}
 use Rattle.cube_space.specs.Cells.{IsCell, is_leaf_cell}
 use Rattle.cube_space.specs.Layout.{Layout}
-use Rattle.dim_core.specs.Outline.{most_components}
+use Rattle.dim_core.specs.Outline.{IsWeight, most_components}
 use Rattle.dim_weights.specs.Table.{is_nonzero}
 use Rattle.memo_cells.specs.Knowledge.{IsNumber}
 use Rattle.rule_evaluate.specs.declared.ask.Ask.TheVariants.{Value as of_value, Base as of_base, Children as of_children}
 use Rattle.rule_model.specs.Governing.{governing_from}
 use Rattle.rule_model.specs.Targets.{parts_at, with_components, with_element_at}
+use Rattle.rule_model.specs.Weights.{max_weight_product}
 use Rattle.sparse_sum.specs.Live.{live_below}
 use Rattle.sparse_sum.specs.Walking.{Progress, begun, left}
+use Rattle.sparse_sum.proofs.Placed.{word-is}
 use Rattle.stored_values.specs.Stored.{stored_in}
 use Rattle.stored_values.proofs.Stored.{stored-number}
 use Rattle.cell_values.specs.declared.frames.LeafSum.{LeafSum}
 use Rattle.cell_values.specs.declared.frames.ComponentSum.{ComponentSum}
 use Rattle.cell_values.specs.Reading.{value_on}
 use Rattle.cell_values.specs.Inside.Questions.{values_of, work_on, cost_on, components_on, leaves_on, is_grounded}
-use Rattle.cell_values.specs.Inside.Sums.{IsSum, Advances, sum_on}
+use Rattle.cell_values.specs.Inside.Sums.{IsSum, Advances, Stops, sum_on}
 use Rattle.cell_values.specs.Inside.Frames.{leaves_left, components_left}
 use Rattle.cell_values.specs.Inside.Sound.{IsSound}
 use Rattle.cell_values.proofs.Members.{filter-all}
 use Rattle.cell_values.proofs.Values.{ungoverned-value}
-use Rattle.cell_values.proofs.SumFacts.{base-sum, children-sum, base-work, total-work, children-work, advances-same, advances-term, component-zero, component-none, component-some}
-
--- a weight fits its type
-pub word-is : (z : ℤ) → unsigned_abs z ≤ 1000000000 → to_z w64 (of_z w64 z) ≡ z
-word-is z small = to_z-of_z w64 z (fits z small)
-  where
-    fits : (z : ℤ) → unsigned_abs z ≤ 1000000000 → SFits w64 z
-    fits z small = omega (arith, ints, small)
+use Rattle.cell_values.proofs.SumFacts.{base-sum, children-sum, base-work, total-work, children-work, advances-same, advances-term, advances-end, component-end, component-zero, component-none, component-some}
 
 -- the number of a cell is small
 pub small-number : (v : NumberedVersion) (c : ℕ) → IsSound v → IsCell v.model.space c → IsNumber c
@@ -147,48 +142,77 @@ module _ (v : NumberedVersion) (c : ℕ) where
 
 -- ---- components
 
-pub zero-word : (z : ℤ) → unsigned_abs z ≤ 1000000 → of_z w64 z ≡ 0 → z ≡ pos 0
-zero-word z small is = sym (word-is z (omega (arith, small))) ∙ ap (to_z w64) is
+-- how a sum goes on by the parts that are read, from the next of them on
+module _ (v : NumberedVersion) (begun s : ComponentSum) (space : Layout) (parts : List (ℕ × ℤ)) (on : space ≡ v.model.space) (read : parts ≡ parts_at space begun.cell begun.dim)
+    (cell : s.cell ≡ begun.cell) (dim : s.dim ≡ begun.dim) (so_far : Advances v begun.sum (components_left v begun) s.sum (components_left v s)) where
+  abbrev Reaches : Total → List (ℕ × ℤ) → Type 0
+  Reaches = Advances v begun.sum (components_left v begun)
 
-pub word-zero : (z : ℤ) → (of_z w64 z ≡ 0 → ⊥) → z ≡ pos 0 → ⊥
-word-zero z other none = other (ap (of_z w64) none)
+  abbrev rest : List (ℕ × ℤ)
+  rest = components_on v s.cell s.dim (s.next + 1)
 
-module _ (v : NumberedVersion) (first : Total) (all : List (ℕ × ℤ)) (s : ComponentSum) (P : List (ℕ × ℤ)) (are : P ≡ parts_at v.model.space s.cell s.dim) (low : s.next < length P)
-    (so_far : Advances v first all s.sum (components_left v s)) where
-  abbrev part : ℕ × ℤ
-  part = get_or P s.next (0, pos 0)
+  are : parts ≡ parts_at v.model.space s.cell s.dim
+  are =
+      read ∙ ap (λ (l : Layout). parts_at l begun.cell begun.dim) on
+      ∙ ap (λ (x : ℕ). parts_at v.model.space x begun.dim) (sym cell)
+      ∙ ap (parts_at v.model.space s.cell) (sym dim)
 
-  abbrev own : ℕ × ℤ
-  own = get_or (parts_at v.model.space s.cell s.dim) s.next (0, pos 0)
+  pub all-added : length parts ≤ s.next → total_of s.sum ≡ sum_on v begun.sum (components_left v begun)
+  all-added past =
+      advances-end v begun.sum (components_left v begun) s.sum (components_left v s) so_far
+      (component-end v s.cell s.dim s.next (subst (λ (ps : List (ℕ × ℤ)). length ps ≤ s.next) are past))
 
-  within : s.next < length (parts_at v.model.space s.cell s.dim)
-  within = subst (λ (ps : List (ℕ × ℤ)). s.next < length ps) are low
+  module _ (weights : All (λ pair. IsWeight pair.1) parts) (low : s.next < length parts) where
+    abbrev part : ℕ × ℤ
+    part = get_or parts s.next (0, pos 0)
 
-  same : part ≡ own
-  same = ap (λ (ps : List (ℕ × ℤ)). get_or ps s.next (0, pos 0)) are
+    abbrev word : ℕ
+    word = of_z w64 part.1
 
-  later : components_on v s.cell s.dim (suc s.next) ≡ components_on v s.cell s.dim (s.next + 1)
-  later = ap (components_on v s.cell s.dim) (let e : suc s.next ≡ s.next + 1 = omega arith in e)
+    abbrev own : ℕ × ℤ
+    own = get_or (parts_at v.model.space s.cell s.dim) s.next (0, pos 0)
 
-  pub skip-zero : part.1 ≡ pos 0 → Advances v first all s.sum (components_on v s.cell s.dim (s.next + 1))
-  skip-zero none =
-      advances-same v first all s.sum s.sum (components_left v s) (components_on v s.cell s.dim (s.next + 1)) so_far
-      (component-zero v s.cell s.dim s.next within (0, pos 0) (ap (λ (p : ℕ × ℤ). p.1) (sym same) ∙ none) ∙ later) refl
+    within : s.next < length (parts_at v.model.space s.cell s.dim)
+    within = subst (λ (ps : List (ℕ × ℤ)). s.next < length ps) are low
 
-  pub skip-none : with_element_at v.model.space s.cell s.dim part.0 ≡ None → Advances v first all s.sum (components_on v s.cell s.dim (s.next + 1))
-  skip-none none =
-      advances-same v first all s.sum s.sum (components_left v s) (components_on v s.cell s.dim (s.next + 1)) so_far
-      (component-none v s.cell s.dim s.next within (0, pos 0) (ap (λ (p : ℕ × ℤ). with_element_at v.model.space s.cell s.dim p.0) (sym same) ∙ none) ∙ later) refl
+    same : own ≡ part
+    same = ap (λ (ps : List (ℕ × ℤ)). get_or ps s.next (0, pos 0)) (sym are)
 
-  module _ (x : ℕ) (is : with_element_at v.model.space s.cell s.dim part.0 ≡ Some x) (counts : part.1 ≡ pos 0 → ⊥) where
-    next : components_left v s ≡ (x, part.1) ∷ components_on v s.cell s.dim (s.next + 1)
-    next =
-        component-some v s.cell s.dim s.next within (0, pos 0) x (ap (λ (p : ℕ × ℤ). with_element_at v.model.space s.cell s.dim p.0) (sym same) ∙ is) (λ none. counts (ap (λ (p : ℕ × ℤ). p.1) same ∙ none))
-        ∙ ap (λ (p : ℕ × ℤ). (x, p.1) ∷ components_on v s.cell s.dim (suc s.next)) (sym same)
-        ∙ ap (λ (pairs : List (ℕ × ℤ)). (x, part.1) ∷ pairs) later
+    found : with_element_at v.model.space s.cell s.dim own.0 ≡ with_element_at space s.cell s.dim part.0
+    found = ap (λ (l : Layout). with_element_at l s.cell s.dim own.0) (sym on) ∙ ap (λ (p : ℕ × ℤ). with_element_at space s.cell s.dim p.0) same
 
-    pub step-some : (after : Total) → after ≡ with_term s.sum part.1 (value_on v x) → Advances v first all after (components_on v s.cell s.dim (s.next + 1))
-    step-some after term = advances-term v first all s.sum after (components_left v s) (components_on v s.cell s.dim (s.next + 1)) x part.1 so_far next term
+    small : unsigned_abs part.1 ≤ 1000000
+    small = weights s.next (0, pos 0) low
 
-    pub stop-some : Advances v first all s.sum ((x, part.1) ∷ components_on v s.cell s.dim (s.next + 1))
-    stop-some = advances-same v first all s.sum s.sum (components_left v s) ((x, part.1) ∷ components_on v s.cell s.dim (s.next + 1)) so_far next refl
+    weight : to_z w64 word ≡ part.1
+    weight = word-is part.1 (omega (arith, small))
+
+    later : components_on v s.cell s.dim (suc s.next) ≡ rest
+    later = ap (components_on v s.cell s.dim) (let e : suc s.next ≡ s.next + 1 = omega arith in e)
+
+    skip : components_left v s ≡ components_on v s.cell s.dim (suc s.next) → Reaches s.sum rest
+    skip next = advances-same v begun.sum (components_left v begun) s.sum s.sum (components_left v s) rest so_far (next ∙ later) refl
+
+    pub skip-zero : word ≡ 0 → Reaches s.sum rest
+    skip-zero none = skip (component-zero v s.cell s.dim s.next within (0, pos 0) (ap (λ (p : ℕ × ℤ). p.1) same ∙ sym weight ∙ ap (to_z w64) none))
+
+    pub skip-none : with_element_at space s.cell s.dim part.0 ≡ None → Reaches s.sum rest
+    skip-none none = skip (component-none v s.cell s.dim s.next within (0, pos 0) (found ∙ none))
+
+    module _ (x : ℕ) (is : with_element_at space s.cell s.dim part.0 ≡ Some x) (counts : word ≡ 0 → ⊥) where
+      next : components_left v s ≡ (x, to_z w64 word) ∷ rest
+      next =
+          component-some v s.cell s.dim s.next within (0, pos 0) x (found ∙ is) (λ none. counts (ap (λ (p : ℕ × ℤ). of_z w64 p.1) (sym same) ∙ ap (of_z w64) none))
+          ∙ ap (λ (z : ℤ). (x, z) ∷ components_on v s.cell s.dim (suc s.next)) (ap (λ (p : ℕ × ℤ). p.1) same ∙ sym weight)
+          ∙ ap (λ (pairs : List (ℕ × ℤ)). (x, to_z w64 word) ∷ pairs) later
+
+      pub step-some : (after : Total) (value : Value) → after ≡ with_term s.sum (to_z w64 word) value → value ≡ value_on v x → Reaches after rest
+      step-some after value term known =
+          advances-term v begun.sum (components_left v begun) s.sum after (components_left v s) rest x (to_z w64 word) so_far next (term ∙ ap (with_term s.sum (to_z w64 word)) known)
+
+      pub stop-some : IsCell space x → Stops v begun.sum (components_left v begun) s.sum (to_z w64 word) rest x
+      stop-some is_cell = record {
+        is_cell = subst (λ (l : Layout). IsCell l x) on is_cell;
+        size = subst (λ (z : ℤ). unsigned_abs z ≤ max_weight_product) (sym weight) (omega (arith, small));
+        advances = advances-same v begun.sum (components_left v begun) s.sum s.sum (components_left v s) ((x, to_z w64 word) ∷ rest) so_far next refl;
+      }

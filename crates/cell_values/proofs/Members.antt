@@ -1,14 +1,11 @@
 -- Members of lists.
-use Rattle.std.proofs.Common.{◌≡◌, refl, sym, ◌∙◌, ap, subst, ℕ, zero, suc, eqb, ◌⊎◌, inl, inr, Bool, true, false, ◌||◌, ℤ, pos, negsuc, List, [], ◌∷◌, drop, filter, None}
+use Rattle.std.proofs.Common.{◌≡◌, refl, sym, ◌∙◌, ap, subst, ℕ, zero, suc, eqb, ◌⊎◌, inl, inr, Bool, true, false, ◌||◌, ℤ, pos, negsuc, List, [], ◌∷◌, drop, filter}
 use Rattle.std.specs.Prelude.{IsTrue, ◌↔◌}
 use Rattle.std.specs.List.{Contains, list_all}
-use Rattle.std.proofs.lemmas.Bool.{eq-eqb, eqb-true, ne_eqb}
-use Rattle.cell_store.specs.declared.entry.Entry.{Entry}
-use Rattle.cell_store.specs.Entries.{cells_of}
+use Rattle.std.proofs.lemmas.Bool.{eq-eqb, eqb-true}
 use Rattle.dim_order.specs.Members.{is_among}
 use Rattle.dim_weights.specs.Table.{is_nonzero}
 use Rattle.feed_map.proofs.Members.{none-there, at-front, behind, front-or-behind}
-use Rattle.stored_values.specs.Stored.{stored_in}
 
 module _ {X : Type 0} where
   pub filter-contains : (p : X → Bool) (xs : List X) (x : X) → Contains xs x → p x ≡ true → Contains (filter p xs) x
@@ -55,7 +52,7 @@ module _ {X : Type 0} where
       let rest = all-pass p xs (λ y has. all y (behind x xs y has)) in
       rw here rest
 
--- ---- stored and fed cells
+-- ---- members that are tested
 
 pub among-there : (xs : List ℕ) (x : ℕ) → Contains xs x → is_among xs x ≡ true
 among-there [] x has = absurd (none-there x has)
@@ -80,22 +77,6 @@ there-among (y ∷ xs) x is = by (eqb x y) refl (λ rest. there-among xs x rest)
 pub neither : (a b : Bool) → (a || b) ≡ false → (a ≡ false) × (b ≡ false)
 neither true b off = absurd (cc)
 neither false b off = (refl, off)
-
--- nothing is stored in a cell that is in no entry
-pub stored-none : (entries : List Entry) (n : ℕ) → is_among (cells_of entries) n ≡ false → stored_in entries n ≡ None
-unfolding stored_in
-stored-none [] n none = refl
-stored-none (e ∷ entries) n none = by (eqb e.cell n) refl (λ rest. stored-none entries n rest)
-  where
-    by : (b : Bool) → eqb e.cell n ≡ b → (is_among (cells_of entries) n ≡ false → stored_in entries n ≡ None) → stored_in (e ∷ entries) n ≡ None
-    by true is later =
-        let turned : eqb n e.cell ≡ true = eq-eqb n e.cell (sym (eqb-true e.cell n is)) in
-        let clash : true ≡ false = rw turned at none in
-        absurd (cc)
-    by false is later =
-        let turned : eqb n e.cell ≡ false = ne_eqb n e.cell (λ same. (let own = eq-eqb e.cell n (sym same) in let clash : true ≡ false = sym own ∙ is in cc)) in
-        let rest : is_among (cells_of entries) n ≡ false = rw turned at none in
-        rw is (later rest)
 
 -- ---- weights
 

@@ -21,11 +21,12 @@ use Rattle.rule_model.specs.Conditions.{AreRules}
 use Rattle.rule_model.specs.Governing.{rules_for, governing_from}
 use Rattle.rule_model.specs.System.{system_of, positions_of}
 use Rattle.sparse_sum.specs.Live.{is_live}
+use Rattle.sparse_sum.proofs.Nexts.{stored-none}
 use Rattle.stored_values.specs.Stored.{stored_in}
 use Rattle.stored_values.proofs.Stored.{base-leaf}
 use Rattle.cell_values.specs.Reading.{value_on}
 use Rattle.cell_values.specs.Inside.Questions.{base_on}
-use Rattle.cell_values.proofs.Members.{among-there, neither, stored-none}
+use Rattle.cell_values.proofs.Members.{among-there, neither}
 
 module _ (v : NumberedVersion) (valid : IsSpace v.model.space) (rules : AreRules v.model.space v.model.rules) (accepted : IsAccepted v.model) where
   pub formed : IsWellFormed (system_of v.model)

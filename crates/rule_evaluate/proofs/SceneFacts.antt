@@ -1,7 +1,8 @@
 -- The statements of the cell that is evaluated, one after the other.
-use Rattle.std.proofs.Common.{IsSome, false, arith, subst, ◌≡◌, refl, sym, ◌∙◌, ap, ℕ, suc, ◌+◌, Bool, true, ◌&&◌, List, [], ◌∷◌, drop, Option, None, Some}
+use Rattle.std.proofs.Common.{IsSome, false, arith, subst, ◌≡◌, refl, sym, ◌∙◌, ap, ℕ, suc, ◌+◌, add-one, Bool, true, ◌&&◌, List, [], ◌∷◌, drop, Option, None, Some}
 use Rattle.std.specs.Prelude.{option_and_then, slice_get, if◌then◌else◌}
 use Rattle.std.specs.Option.{option_map_or}
+use Rattle.std.specs.Borrow.{Bor}
 use Rattle.std.specs.List.{position}
 use Rattle.cube_fixed.specs.declared.value.Value.{Value}
 use Rattle.rule_laws.specs.declared.formula.Formula.{Formula}
@@ -13,7 +14,7 @@ use Rattle.rule_evaluate.specs.declared.ask.Ask.{Ask}
 use Rattle.rule_evaluate.specs.declared.ask.Ask.TheVariants.{Base as of_base}
 use Rattle.rule_evaluate.specs.Readings.{Readings, statements_value, formula_by}
 use Rattle.rule_evaluate.specs.Course.{course_before, passes, entered, sources_of}
-use Rattle.rule_evaluate.specs.Inside.Scene.{Scene, sources_at, course_at, value_from, passes_from, entered_from, entered_on}
+use Rattle.rule_evaluate.specs.Inside.Scene.{Scene, IsGoverning, sources_at, course_from, value_from, passes_from, entered_from, entered_on, entered_after, IsReady}
 use Rattle.rule_evaluate.proofs.CourseFacts.{course_is}
 use Rattle.rule_evaluate.proofs.FormulaWeights.{weight}
 use Rattle.rule_laws.proofs.StatementFacts.{slice_get-drop_at, drop_after}
@@ -59,20 +60,20 @@ module _ (s : Scene) where
     pub place-none : (from : ℕ) → governing_from s.model s.cell from ≡ None → from_place from ≡ none
     place-none from is = run-none w s.cell none step (drop from rules) (none-first from is)
 
-    pub place-some : (from p : ℕ) (f : Formula) → governing_from s.model s.cell from ≡ Some p → formula_at s.model s.cell p ≡ Some f
-        → from_place from ≡ step (drop (suc p) rules) (from_place (suc p)) f
-    place-some from p f is part =
-        let (k, here, add) = some-first from p is in
-        let there : option_and_then (part_at w s.cell) (slice_get (drop from rules) k) ≡ Some f =
-        ap (option_and_then (part_at w s.cell)) (slice_get-drop_at rules from k ∙ ap (slice_get rules) add) ∙ part in
-        let after : drop (suc k) (drop from rules) ≡ drop (suc p) rules = drop_after rules from k ∙ ap (λ n. drop (suc n) rules) add in
-        run-some w s.cell none step (drop from rules) k here f there
-        ∙ ap (λ later. step later (run w s.cell none step later) f) after
+    place-some : (from : ℕ) (found : ℕ × Bor Formula) → IsGoverning s from found
+        → from_place from ≡ step (drop (found.0 + 1) rules) (from_place (found.0 + 1)) found.1.now
+    place-some from found governs =
+        let (k, here, add) = some-first from found.0 governs.first in
+        let there : option_and_then (part_at w s.cell) (slice_get (drop from rules) k) ≡ Some found.1.now =
+        ap (option_and_then (part_at w s.cell)) (slice_get-drop_at rules from k ∙ ap (slice_get rules) add) ∙ governs.part in
+        let after : drop (suc k) (drop from rules) ≡ drop (found.0 + 1) rules = drop_after rules from k ∙ ap (λ n. drop n rules) (ap (λ n. suc n) add ∙ sym (add-one found.0)) in
+        run-some w s.cell none step (drop from rules) k here found.1.now there
+        ∙ ap (λ later. step later (run w s.cell none step later) found.1.now) after
 
-  pub cost-some : (from p : ℕ) (f : Formula) → governing_from s.model s.cell from ≡ Some p → formula_at s.model s.cell p ≡ Some f
-      → cost_from s from ≡ 4 + (weight f + cost_from s (suc p))
+  pub cost-some : (from : ℕ) (found : ℕ × Bor Formula) → IsGoverning s from found
+      → cost_from s from ≡ 4 + (weight found.1.now + cost_from s (found.0 + 1))
   unfolding cost_from
-  cost-some from p f is part = place-some 0 cost_step from p f is part
+  cost-some from found governs = place-some 0 cost_step from found governs
 
   module _ (t : Readings) where
     value_step : List Rule → Value → Formula → Value
@@ -84,16 +85,17 @@ module _ (s : Scene) where
     value-runs (rule ∷ rs) = ap (λ x. option_map_or (formula_by w t s.cell x) (part_at w s.cell rule) x) (value-runs rs)
 
     pub value-none : (from : ℕ) → governing_from s.model s.cell from ≡ None → (sources_at s t).stet.value ≡ value_from s t from
-    unfolding value_from sources_at sources_of
+    unfolding value_from sources_of
     value-none from is = sym (value-runs (drop from rules) ∙ place-none (t.base s.cell) value_step from is)
 
-    pub value-some : (from p : ℕ) (f : Formula) → governing_from s.model s.cell from ≡ Some p → formula_at s.model s.cell p ≡ Some f
-        → value_from s t from ≡ (course_at s t (value_from s t (suc p)) f).value
-    unfolding value_from value_step sources_at
-    value-some from p f is part =
-        value-runs (drop from rules) ∙ place-some (t.base s.cell) value_step from p f is part
-        ∙ ap (λ x. formula_by w t s.cell x f) (sym (value-runs (drop (suc p) rules)))
-        ∙ sym ((course_is w t s.cell (statements_value w t s.cell (drop (suc p) rules)) f).1)
+    pub value-some : (from : ℕ) (found : ℕ × Bor Formula) → IsGoverning s from found
+        → (course_from s t (found.0 + 1) found.1.now).value ≡ value_from s t from
+    unfolding value_from value_step
+    value-some from found governs =
+        let rest = drop (found.0 + 1) rules in
+        (course_is w t s.cell (statements_value w t s.cell rest) found.1.now).1
+        ∙ ap (λ x. formula_by w t s.cell x found.1.now) (value-runs rest)
+        ∙ sym (value-runs (drop from rules) ∙ place-some (t.base s.cell) value_step from found governs)
 
     entered_step : List Rule → ℕ → Formula → ℕ
     entered_step later x f = suc (entered_on (course_before w t s.cell later f) x)
@@ -107,12 +109,13 @@ module _ (s : Scene) where
     unfolding entered_from
     entered-none from is = entered-runs (drop from rules) ∙ place-none 0 entered_step from is
 
-    pub entered-some : (from p : ℕ) (f : Formula) → governing_from s.model s.cell from ≡ Some p → formula_at s.model s.cell p ≡ Some f
-        → entered_from s t from ≡ suc (entered_on (course_at s t (value_from s t (suc p)) f) (entered_from s t (suc p)))
-    unfolding entered_from entered_step value_from sources_at
-    entered-some from p f is part =
-        entered-runs (drop from rules) ∙ place-some 0 entered_step from p f is part
-        ∙ ap (λ x. suc (entered_on (course_before w t s.cell (drop (suc p) rules) f) x)) (sym (entered-runs (drop (suc p) rules)))
+    pub entered-some : (from : ℕ) (found : ℕ × Bor Formula) → IsGoverning s from found
+        → entered_from s t from ≡ suc (entered_after s t (found.0 + 1) found.1.now)
+    unfolding entered_from entered_step value_from
+    entered-some from found governs =
+        let rest = drop (found.0 + 1) rules in
+        entered-runs (drop from rules) ∙ place-some 0 entered_step from found governs
+        ∙ ap (λ x. suc (entered_on (course_before w t s.cell rest found.1.now) x)) (sym (entered-runs rest))
 
     module _ (may : Ask → Bool) where
       passes_step : List Rule → Bool → Formula → Bool
@@ -125,22 +128,21 @@ module _ (s : Scene) where
           ap (λ x. option_map_or (λ f. (course_before w t s.cell rs f).passes may && (if (course_before w t s.cell rs f).goes_on then x else true)) (part_at w s.cell rule) x) (passes-runs rs)
 
       pub passes-none : (from : ℕ) → governing_from s.model s.cell from ≡ None → passes_from s t may from ≡ true → (sources_at s t).stet.passes may ≡ true
-      unfolding passes_from sources_at sources_of
+      unfolding passes_from sources_of
       passes-none from is p = sym (passes-runs (drop from rules) ∙ place-none (may (of_base s.cell)) passes_step from is) ∙ p
 
       when_on : (b x : Bool) → (if b then x else true) ≡ true → b ≡ true → x ≡ true
       when_on b x e on = rw on at e
 
-      pub passes-some : (from p : ℕ) (f : Formula) → governing_from s.model s.cell from ≡ Some p → formula_at s.model s.cell p ≡ Some f → passes_from s t may from ≡ true
-          → ((course_at s t (value_from s t (suc p)) f).passes may ≡ true)
-          × ((course_at s t (value_from s t (suc p)) f).goes_on ≡ true → passes_from s t may (suc p) ≡ true)
-      unfolding passes_from passes_step value_from sources_at
-      passes-some from p f is part ok =
-          let x = course_before w t s.cell (drop (suc p) rules) f in
-          let e = passes-runs (drop from rules) ∙ place-some (may (of_base s.cell)) passes_step from p f is part
-          ∙ ap (λ b. x.passes may && (if x.goes_on then b else true)) (sym (passes-runs (drop (suc p) rules))) in
-          let (own, rest) = both (x.passes may) (if x.goes_on then passes w t s.cell may (drop (suc p) rules) else true) (sym e ∙ ok) in
-          (own, when_on x.goes_on (passes w t s.cell may (drop (suc p) rules)) rest)
+      pub passes-some : (from : ℕ) (found : ℕ × Bor Formula) → IsGoverning s from found → passes_from s t may from ≡ true → IsReady s t may (found.0 + 1) found.1.now
+      unfolding passes_from passes_step value_from
+      passes-some from found governs ok =
+          let rest = drop (found.0 + 1) rules in
+          let x = course_before w t s.cell rest found.1.now in
+          let e = passes-runs (drop from rules) ∙ place-some (may (of_base s.cell)) passes_step from found governs
+          ∙ ap (λ b. x.passes may && (if x.goes_on then b else true)) (sym (passes-runs rest)) in
+          let (own, later) = both (x.passes may) (if x.goes_on then passes w t s.cell may rest else true) (sym e ∙ ok) in
+          record { passes = own; rest = when_on x.goes_on (passes w t s.cell may rest) later }
 
 abbrev any_step : List Rule → Bool → Formula → Bool
 any_step later x f = true

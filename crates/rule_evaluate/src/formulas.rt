@@ -8,7 +8,7 @@ use cube_fixed::Value;
 use rule_laws::{Formula, Reference, Truth};
 
 /// What `STET` gives.
-#[tactic(auto, unfolding(crate::specs::Inside::Scene::sources_at, crate::specs::Course::sources_of))]
+#[tactic(auto, unfolding(crate::specs::Course::sources_of))]
 pub(crate) fn stet<M, R: Refs<M>>(here: &Here, refs: &R, memory: &mut M) -> Result<Value, R::Fault>
     requires { ((sources_at here.now (R.readings (R.terms refs.now memory.old))).stet).passes
         (R.may_ask (R.terms refs.now memory.old)) ≡ true }
@@ -22,7 +22,7 @@ pub(crate) fn stet<M, R: Refs<M>>(here: &Here, refs: &R, memory: &mut M) -> Resu
 }
 
 // What a reference gives.
-#[tactic(auto, unfolding(crate::specs::Inside::Scene::sources_at, crate::specs::Course::sources_of, rule_model::specs::System::system_of))]
+#[tactic(auto, unfolding(crate::specs::Course::sources_of, rule_model::specs::System::system_of))]
 fn named<M, R: Refs<M>>(
     here: &Here,
     reference: &Reference,
@@ -44,7 +44,7 @@ fn named<M, R: Refs<M>>(
 }
 
 // What `ConsolidateChildren` gives.
-#[tactic(auto, unfolding(crate::specs::Inside::Scene::sources_at, crate::specs::Course::sources_of, rule_model::specs::System::system_of))]
+#[tactic(auto, unfolding(crate::specs::Course::sources_of, rule_model::specs::System::system_of))]
 fn children<M, R: Refs<M>>(
     here: &Here,
     dim: u32,

@@ -1,6 +1,7 @@
 ghost use Rattle.std.specs.Prelude.{◌≡◌, ◌+◌, ◌≤◌, ◌<◌, true, false, IfOk, IfErr, IsSome};
 ghost use Rattle.rule_model.specs.Governing.{governing_from, has_continue};
-ghost use Rattle.rule_evaluate.specs.Inside.Scene.{course_at, value_from, passes_from, entered_from, entered_on, IsEnd};
+ghost use Rattle.rule_evaluate.specs.Inside.Scene.{value_from, passes_from, entered_from};
+ghost use Rattle.rule_evaluate.specs.Inside.Scene.{course_from, entered_after, IsReady, IsEnd};
 
 use crate::continues::{continues, truth_continues};
 use crate::formulas::{holds, stet, value_of};
@@ -20,26 +21,18 @@ fn whole<M, R: Refs<M>, L: Ledger>(
     memory: &mut M,
     steps: &mut Steps<L>,
 ) -> Result<Option<Value>, R::Fault>
-    requires passes { (course_at here.now (R.readings (R.terms refs.now memory.old))
-        (value_from here.now (R.readings (R.terms refs.now memory.old)) next) formula.now).passes
-        (R.may_ask (R.terms refs.now memory.old)) ≡ true }
-    requires rest { has_continue formula.now ≡ true
-        → passes_from here.now (R.readings (R.terms refs.now memory.old))
-        (R.may_ask (R.terms refs.now memory.old)) next ≡ true }
-    requires same { (course_at here.now (R.readings (R.terms refs.now memory.old))
-        (value_from here.now (R.readings (R.terms refs.now memory.old)) next) formula.now).goes_on
+    requires ready { IsReady here.now (R.readings (R.terms refs.now memory.old))
+        (R.may_ask (R.terms refs.now memory.old)) next formula.now }
+    requires same { (course_from here.now (R.readings (R.terms refs.now memory.old)) next formula.now).goes_on
         ≡ has_continue formula.now }
-    ensures end { IfOk result (IsEnd (course_at here.now (R.readings (R.terms refs.now memory.old))
-        (value_from here.now (R.readings (R.terms refs.now memory.old)) next) formula.now)
-        (value_from here.now (R.readings (R.terms refs.now memory.old)) next)
-        (entered_from here.now (R.readings (R.terms refs.now memory.old)) next) steps.old steps.new) }
+    ensures end { IfOk result
+        (IsEnd here.now (R.readings (R.terms refs.now memory.old)) next formula.now steps.old steps.new) }
     ensures fault { IfErr result (λ e. R.may_fail (R.terms refs.now memory.old) e) }
     ensures terms { R.terms refs.now memory.new ≡ R.terms refs.now memory.old }
     ensures later { R.later memory.old memory.new }
     ensures from { steps.old ≤ steps.new }
-    ensures most { steps.new ≤ steps.old + entered_on (course_at here.now (R.readings (R.terms refs.now memory.old))
-        (value_from here.now (R.readings (R.terms refs.now memory.old)) next) formula.now)
-        (entered_from here.now (R.readings (R.terms refs.now memory.old)) next) }
+    ensures most { steps.new ≤ steps.old
+        + entered_after here.now (R.readings (R.terms refs.now memory.old)) next formula.now }
 {
     if !continues(formula) {
         let value = value_of(here, &Value::ZERO, formula, refs, memory)?;
@@ -61,32 +54,25 @@ fn end_of<M, R: Refs<M>, L: Ledger>(
     memory: &mut M,
     steps: &mut Steps<L>,
 ) -> Result<Option<Value>, R::Fault>
-    requires passes { (course_at here.now (R.readings (R.terms refs.now memory.old))
-        (value_from here.now (R.readings (R.terms refs.now memory.old)) next) formula.now).passes
-        (R.may_ask (R.terms refs.now memory.old)) ≡ true }
-    requires rest { (course_at here.now (R.readings (R.terms refs.now memory.old))
-        (value_from here.now (R.readings (R.terms refs.now memory.old)) next) formula.now).goes_on ≡ true
-        → passes_from here.now (R.readings (R.terms refs.now memory.old))
-        (R.may_ask (R.terms refs.now memory.old)) next ≡ true }
-    ensures end { IfOk result (IsEnd (course_at here.now (R.readings (R.terms refs.now memory.old))
-        (value_from here.now (R.readings (R.terms refs.now memory.old)) next) formula.now)
-        (value_from here.now (R.readings (R.terms refs.now memory.old)) next)
-        (entered_from here.now (R.readings (R.terms refs.now memory.old)) next) steps.old steps.new) }
+    requires ready { IsReady here.now (R.readings (R.terms refs.now memory.old))
+        (R.may_ask (R.terms refs.now memory.old)) next formula.now }
+    ensures end { IfOk result
+        (IsEnd here.now (R.readings (R.terms refs.now memory.old)) next formula.now steps.old steps.new) }
     ensures fault { IfErr result (λ e. R.may_fail (R.terms refs.now memory.old) e) }
     ensures terms { R.terms refs.now memory.new ≡ R.terms refs.now memory.old }
     ensures later { R.later memory.old memory.new }
     ensures from { steps.old ≤ steps.new }
-    ensures most { steps.new ≤ steps.old + entered_on (course_at here.now (R.readings (R.terms refs.now memory.old))
-        (value_from here.now (R.readings (R.terms refs.now memory.old)) next) formula.now)
-        (entered_from here.now (R.readings (R.terms refs.now memory.old)) next) }
+    ensures most { steps.new ≤ steps.old
+        + entered_after here.now (R.readings (R.terms refs.now memory.old)) next formula.now }
 {
     match formula {
         Formula::Continue => Ok(None),
         Formula::If(truth, left, right) => {
-            if truth_continues(truth.get()) {
+            let truth = truth.get();
+            if truth_continues(truth) {
                 return whole(here, next, formula, refs, memory, steps);
             }
-            if holds(here, &Value::ZERO, truth.get(), refs, memory)? {
+            if holds(here, &Value::ZERO, truth, refs, memory)? {
                 end_of(here, next, left.get(), refs, memory, steps)
             } else {
                 end_of(here, next, right.get(), refs, memory, steps)

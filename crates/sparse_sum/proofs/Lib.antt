@@ -2,9 +2,9 @@ mod Firsts
 mod Fewness
 mod Heads
 mod Lefts
-mod Nexts
+pub mod Nexts
 mod Pairs
-mod Placed
+pub mod Placed
 mod Searches
 mod Steps
 mod Totals

@@ -30,7 +30,7 @@ pub record IsGoverning (s : Scene) (from : ℕ) (found : ℕ × Bor Formula) : T
   pub part : formula_at s.model s.cell found.0 ≡ Some found.1.now
 
 -- what a formula takes at the cell
-unfoldable pub sources_at : Scene → Readings → Sources
+abbrev pub sources_at : Scene → Readings → Sources
 sources_at s t = sources_of (system_of s.model) t s.cell
 
 abbrev pub course_at : Scene → Readings → Value → Formula → Course
@@ -49,11 +49,26 @@ passes_from s t may place = passes (system_of s.model) t s.cell may (drop place 
 unfoldable pub entered_from : Scene → Readings → ℕ → ℕ
 entered_from s t place = entered (system_of s.model) t s.cell (drop place (rules_for s.model s.cell))
 
--- how many statements after a formula's own are entered for it
+-- of a formula before the statements from a place on: its course, and how many of these statements are entered for it
+abbrev pub course_from : Scene → Readings → ℕ → Formula → Course
+course_from s t place = course_at s t (value_from s t place)
+
 abbrev pub entered_on : Course → ℕ → ℕ
 entered_on course entered = if course.goes_on then entered else 0
 
--- what is found at the end of a formula of this course: its value; or None where the statements after it give it
-abbrev pub IsEnd : Course → Value → ℕ → ℕ → ℕ → Option Value → Type 0
-IsEnd course rest entered old new (Some v) = (v ≡ course.value) × (new ≡ old + entered_on course entered)
-IsEnd course rest entered old new None = (rest ≡ course.value) × (course.goes_on ≡ true) × (new ≡ old)
+abbrev pub entered_after : Scene → Readings → ℕ → Formula → ℕ
+entered_after s t place f = entered_on (course_from s t place f) (entered_from s t place)
+
+-- a test passes its questions, and those of the statements where it takes them
+pub record IsReady (s : Scene) (t : Readings) (may : Ask → Bool) (place : ℕ) (f : Formula) : Type 0 where
+  pub passes : (course_from s t place f).passes may ≡ true
+  pub rest : (course_from s t place f).goes_on ≡ true → passes_from s t may place ≡ true
+
+-- what is found at its end: its value; or None where the statements give it
+abbrev pub IsEnd : Scene → Readings → ℕ → Formula → ℕ → ℕ → Option Value → Type 0
+IsEnd s t place f old new (Some v) =
+    (v ≡ (course_from s t place f).value) × (new ≡ old + entered_after s t place f)
+IsEnd s t place f old new None =
+    (value_from s t place ≡ (course_from s t place f).value)
+    × ((course_from s t place f).goes_on ≡ true)
+    × (new ≡ old)

@@ -9,7 +9,8 @@ use Rattle.cell_values.specs.declared.frames.Frame.TheVariants as frame
 use Rattle.cell_values.specs.Reading.{AreValuesOn, IsUngoverned, value_on}
 use Rattle.cell_values.specs.Inside.Frames.{IsWork, leaves_left}
 use Rattle.cell_values.specs.Inside.Growth.{grew-later}
-use Rattle.cell_values.proofs.BeginFacts.{word-is, total-sum, all-leaves}
+use Rattle.cell_values.proofs.BeginFacts.{total-sum, all-leaves}
+use Rattle.sparse_sum.proofs.Placed.{word-is}
 use Rattle.cell_values.proofs.FrameFacts.{leaves-first, leaves-given}
 use Rattle.cell_values.proofs.read.total.Goals as goal
 

@@ -6,7 +6,7 @@ use Rattle.cell_values.specs.declared.frames.ComponentSum.{ComponentSum}
 use Rattle.cell_values.specs.declared.frames.Frame.{Frame}
 use Rattle.cell_values.specs.Inside.Frames.{IsWaiting, work_left, open_asks}
 use Rattle.cell_values.specs.Inside.Questions.{cost_on}
-use Rattle.cell_values.proofs.BeginFacts.{word-is}
+use Rattle.sparse_sum.proofs.Placed.{word-is}
 use Rattle.cell_values.proofs.FrameFacts.{evaluation-answered, leaves-given, components-given, leaves-size, components-size}
 use Rattle.cell_values.proofs.turns.give.Goals as goal
 

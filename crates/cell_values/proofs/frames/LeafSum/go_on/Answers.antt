@@ -7,9 +7,10 @@ use Rattle.cube_space.specs.Cells.{IsCell}
 use Rattle.rule_model.specs.BoundModel.{BoundModel}
 use Rattle.sparse_sum.specs.Live.{live_from}
 use Rattle.sparse_sum.specs.Walking.{left}
+use Rattle.sparse_sum.proofs.Placed.{word-is}
 use Rattle.cell_values.specs.Reading.{IsUngoverned}
 use Rattle.cell_values.specs.Inside.Frames.{leaves_left}
-use Rattle.cell_values.proofs.BeginFacts.{left-same, word-is}
+use Rattle.cell_values.proofs.BeginFacts.{left-same}
 use Rattle.cell_values.proofs.SumFacts.{advances-term, advances-end, leaves-are, leaf-next}
 use Rattle.cell_values.specs.Inside.Growth.{grew-later}
 use Rattle.cell_values.proofs.frames.LeafSum.go_on.Goals as goal
