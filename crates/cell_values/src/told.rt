@@ -11,6 +11,7 @@ use crate::sound::is_sound;
 use cell_store::CellSet;
 use cell_versions::Version;
 use cube_fixed::Value;
+use cube_space::MAX_DIMENSIONS;
 use rule_model::{Model, governing_in, place_of};
 
 /// The value of a cell that takes no work: of a leaf cell that no statement governs, or that is neither stored nor fed.
@@ -55,7 +56,7 @@ pub fn governing_leaf(model: &Model, cell: u64) -> Option<u32>
     requires leaf { is_leaf_cell model.now.space cell ≡ true }
     ensures { result ≡ governing_from model.now cell 0 }
 {
-    let mut at = [0u32; 16];
+    let mut at = [0u32; MAX_DIMENSIONS];
     let (cube, len) = place_of(model, cell, &mut at);
     governing_in(model, cube, &at[..len], true, 0)
 }

@@ -6,7 +6,7 @@ use Rattle.std.proofs.lemmas.List.Sums.{position_or_len_is}
 use Rattle.std.proofs.lemmas.Option.{slice_get_within, slice_get-get_or, get_or_from_slice_get}
 use Rattle.dim_core.specs.Outline.{Outline}
 use Rattle.cube_space.specs.declared.shape.CubeShape.{CubeShape}
-use Rattle.cube_space.specs.Layout.{Layout, axes, axes_of, dims_of}
+use Rattle.cube_space.specs.Layout.{Layout, axes, axes_of, dims_of, fewest_dimensions, most_dimensions}
 use Rattle.cube_space.specs.Cells.{IsSpace}
 use Rattle.cube_space.proofs.Axes.{length-axes_of}
 
@@ -31,8 +31,8 @@ module _ (space : Layout) (cube : ℕ) (shape : CubeShape) (valid : IsSpace spac
   dims_within : All (λ dim. dim < length space.dimensions) shape.dims
   dims_within = found_holds (λ s. All (λ dim. dim < length space.dimensions) s.dims) space.cubes cube shape valid.layout.in_range is
 
-  pub dims_few : length shape.dims ≤ 16
-  dims_few = (found_holds (λ s. (2 ≤ length s.dims) × (length s.dims ≤ 16)) space.cubes cube shape valid.counts is).1
+  pub dims_few : length shape.dims ≤ most_dimensions
+  dims_few = (found_holds (λ s. (fewest_dimensions ≤ length s.dims) × (length s.dims ≤ most_dimensions)) space.cubes cube shape valid.counts is).1
 
   -- a cube has as many dimensions as its shape has numbers
   pub axes_count : length (axes space cube) ≡ length shape.dims

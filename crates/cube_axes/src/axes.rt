@@ -1,5 +1,5 @@
 ghost use Rattle.std.specs.Prelude.{◌≡◌, ◌<◌, ◌≤◌, IfSome, Some, length, slice_get};
-ghost use Rattle.cube_space.specs.Layout.{axes};
+ghost use Rattle.cube_space.specs.Layout.{axes, most_dimensions};
 ghost use Rattle.cube_axes.specs.Axes.{axis_called};
 
 use cube_space::Space;
@@ -10,7 +10,7 @@ use dim_name::Name;
 pub fn axis_count(space: &Space, cube: u32) -> u32
     requires { cube < length space.now.cubes }
     ensures value { result ≡ length (axes space.now cube) }
-    ensures few { result ≤ 16 }
+    ensures few { result ≤ most_dimensions }
 {
     // a space says of itself that it is one
     let _cells = space.size();

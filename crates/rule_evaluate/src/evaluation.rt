@@ -9,6 +9,7 @@ use crate::here::Here;
 use crate::refs::Refs;
 use crate::statements::statements;
 use cube_fixed::{Steps, Value};
+use cube_space::MAX_DIMENSIONS;
 use rule_model::{Model, place_of};
 use std::sync::ledger::Ledger;
 
@@ -45,7 +46,7 @@ pub fn evaluate<R: Refs<M>, M, L: Ledger>(
         + entered (system_of model.now) (R.readings (R.terms refs.now memory.old)) cell
         (drop statement (rules_for model.now cell)) }
 {
-    let mut at = [0u32; 16];
+    let mut at = [0u32; MAX_DIMENSIONS];
     let (cube, len) = place_of(model, cell, &mut at);
     let here = Here::new(model, cell, cube, &at[..len]);
     statements(&here, statement as usize, refs, memory, steps)

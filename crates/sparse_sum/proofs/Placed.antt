@@ -8,7 +8,7 @@ use Rattle.std.proofs.lemmas.List.{get_or-map, take_at}
 use Rattle.std.proofs.lemmas.Option.{slice_get_within, get_or_from_slice_get}
 use Rattle.cube_space.specs.declared.shape.CubeShape.{CubeShape}
 use Rattle.cube_space.specs.Radix.{product, are_digits}
-use Rattle.cube_space.specs.Layout.{Layout, dims_of, axes, axes_of, sizes_of}
+use Rattle.cube_space.specs.Layout.{Layout, dims_of, axes, axes_of, sizes_of, most_dimensions}
 use Rattle.cube_space.specs.Cells.{IsSpace, IsCell, cube_of, elements_of, cell_count, first_cell, size_of}
 use Rattle.cube_space.proofs.Axes.{length-axes_of}
 use Rattle.cube_space.proofs.Radix.{digits-length}
@@ -23,7 +23,7 @@ cube-there space cell cube here own = subst (λ (k : ℕ). k < length space.cube
 
 pub record IsPlaced (space : Layout) (cell cube : ℕ) (dims at : List ℕ) : Type 0 where
   pub there : cube < length space.cubes
-  pub few : length dims ≤ 16
+  pub few : length dims ≤ most_dimensions
   pub within : All (λ dim. dim < length space.dimensions) dims
   pub axes_are : axes_of space.dimensions dims ≡ axes space cube
   pub taken : take (length dims) at ≡ elements_of space cell
@@ -42,7 +42,7 @@ placed space cell cube shape dims at rest valid here own shaped its shown =
         let found : get_or space.cubes cube shape ≡ shape = get_or_from_slice_get space.cubes cube shape shape shaped in
         let named : dims_of space cube ≡ shape.dims = get_or-map (λ s. s.dims) space.cubes cube shape _ within ∙ ap (λ s. s.dims) found in
         let Range : CubeShape → Type 0 = λ s. All (λ dim. dim < length space.dimensions) s.dims in
-        let Few : CubeShape → Type 0 = λ s. length s.dims ≤ 16 in
+        let Few : CubeShape → Type 0 = λ s. length s.dims ≤ most_dimensions in
         let range = subst Range found (valid.layout.in_range cube shape within) in
         let axes_are : axes_of space.dimensions shape.dims ≡ axes space cube = ap (axes_of space.dimensions) (sym named) in
         let Are : ℕ → Type 0 = λ k. are_digits (sizes_of (axes space k)) (elements_of space cell) ≡ true in

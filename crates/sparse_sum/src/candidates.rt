@@ -10,7 +10,7 @@ ghost use Rattle.rule_model.specs.Weights.{AreWeightsOf, weight, greatest_coef, 
 ghost use Rattle.sparse_sum.specs.Inside.First.{IsClear, IsFirst};
 ghost use Rattle.sparse_sum.specs.Inside.Numbers.{weight_at};
 
-use cube_space::Space;
+use cube_space::{MAX_DIMENSIONS, Space};
 use dim_weights::Weights;
 
 /// The first cell at or above a number that counts in a cell, with its weight. It is a leaf cell.
@@ -23,7 +23,7 @@ pub fn leaf_from(space: &Space, weights: &[Weights], cell: u64, from: u64) -> Op
     ensures size { IfSome result (λ found. unsigned_abs found.1 ≤ max_weight_product) }
 {
     let _cells = space.size();
-    let mut at = [0u32; 16];
+    let mut at = [0u32; MAX_DIMENSIONS];
     let cube = space.place(cell, &mut at);
     let (first, cells) = (space.first(cube), space.cells(cube));
     let begin = from.saturating_sub(first);

@@ -9,7 +9,7 @@ use crate::shape::{Axis, View};
 use cells::Cells;
 use cube_axes::axis_count;
 use cube_fixed::Value;
-use cube_space::Space;
+use cube_space::{MAX_DIMENSIONS, Space};
 use lists::ListOf;
 use std::alloc::{AllocError, Global};
 
@@ -45,7 +45,13 @@ fn element_at(view: &View, row: &[u32], column: &[u32], place: u32) -> u32
 }
 
 // Puts the elements of the cell of a row and a column into the first places.
-fn put_elements(view: &View, row: &[u32], column: &[u32], count: usize, at: &mut [u32; 16])
+fn put_elements(
+    view: &View,
+    row: &[u32],
+    column: &[u32],
+    count: usize,
+    at: &mut [u32; MAX_DIMENSIONS],
+)
     requires { count ≤ most_dimensions }
     ensures { take count at.new ≡ map (element_at view.now row.now column.now) (range_with_len 0 count) }
 {
@@ -64,7 +70,7 @@ fn cell_at(space: &Space, view: &View, row: &[u32], column: &[u32]) -> u64
     ensures cell { result < size_of space.now }
 {
     let count = axis_count(space, view.cube) as usize;
-    let mut at = [0; 16];
+    let mut at = [0; MAX_DIMENSIONS];
     put_elements(view, row, column, count, &mut at);
     space.number(view.cube, &at[..count]).unwrap()
 }
