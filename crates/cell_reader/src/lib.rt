@@ -14,6 +14,8 @@ pub use work::Work;
 
 mod making;
 mod reading;
+mod room;
 mod snapshot;
 mod work;
 mod working;
+mod writing;

@@ -1,9 +1,7 @@
 ghost use Rattle.std.specs.Arc.{arc_value};
 ghost use Rattle.std.specs.Coded.{codes};
-ghost use Rattle.cell_values.specs.Reading.{AreValuesOn};
-ghost use Rattle.memo_cells.specs.Shared.{version_kept};
-ghost use Rattle.memo_cells.specs.Values.{cell_value};
 ghost use Rattle.memo_cells.specs.contracts.version.Version as kept;
+ghost use Rattle.cell_reader.specs.Inside.After.{KeepsValues};
 
 use cell_versions::Version;
 use memo_cells::SharedMemo;
@@ -18,5 +16,5 @@ pub const SLOTS: u32 = 4_096;
 pub struct Snapshot {
     pub(crate) version: Arc<Version, Global>,
     pub(crate) memo: SharedMemo,
-    ghost values: { AreValuesOn (arc_value version) (cell_value (version_kept memo)) } by { Prim.hlevel (codes, kept.the_row.coded) },
+    ghost values: { KeepsValues (arc_value version) memo } by { Prim.hlevel (codes, kept.the_row.coded) },
 }

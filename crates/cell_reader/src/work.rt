@@ -2,7 +2,7 @@ ghost use Rattle.std.specs.Arc.{arc_value};
 ghost use Rattle.std.specs.Coded.{codes};
 ghost use Rattle.memo_cells.specs.contracts.version.Version as kept;
 ghost use Rattle.rule_laws.specs.contracts.formula.Formula as formula;
-ghost use Rattle.cell_reader.specs.Inside.After.{HasValues, IsAfter};
+ghost use Rattle.cell_reader.specs.Inside.After.{HasValues, IsAhead};
 
 use cell_versions::Version;
 use cube_fixed::Money;
@@ -11,13 +11,17 @@ use std::alloc::Global;
 use std::sync::Arc;
 
 /// A version with the writes of a load so far. It sees its own writes.
+///
+/// Writes wait while no limit can be passed: the version with them is made when a cell is read, or a limit is near.
 #[derive(Drop)]
 pub struct Work {
     pub(crate) opening: Arc<Version, Global>,
-    /// The version with the writes so far, and a memory for its values; none after a write, until one is read.
+    /// The version with the writes that don't wait, and a memory for its values; none after a write, until one is read.
     pub(crate) latest: Arc<Version, Global>,
     pub(crate) memo: Option<SharedMemo>,
     pub(crate) written: Vec<(u64, Money)>,
-    ghost after: { IsAfter (arc_value opening) written.items (arc_value latest) } by { Prim.hlevel (codes, formula.the_row.coded) },
+    /// How many of the writes the latest version has. The others wait.
+    pub(crate) made: usize,
+    ghost ahead: { IsAhead opening latest written.items made } by { Prim.hlevel (codes, formula.the_row.coded) },
     ghost values: { HasValues (arc_value latest) memo } by { Prim.hlevel (codes, kept.the_row.coded) },
 }

@@ -1,23 +1,18 @@
-ghost use Rattle.std.specs.Prelude.{◌≡◌, suc, ◌<◌, ◌≤◌, ◌⊎◌, true, [], ◌∷◌, ◌++◌, length, Err};
-ghost use Rattle.std.specs.Prelude.{IfOk, OnOk, OnErr, IsOkUnless};
-ghost use Rattle.cell_store.specs.Entries.{most_cells};
+ghost use Rattle.std.specs.Prelude.{◌≡◌, ◌<◌, [], IfOk};
 ghost use Rattle.cell_versions.specs.Versions.{AreLeafWrites};
-ghost use Rattle.cube_space.specs.Cells.{IsCell, is_leaf_cell};
-ghost use Rattle.feed_map.specs.FedCells.{most_fed};
+ghost use Rattle.cube_space.specs.Cells.{IsCell};
 ghost use Rattle.rule_laws.specs.RuleSystem.{dense_value};
 ghost use Rattle.rule_model.specs.System.{system_of};
 ghost use Rattle.stored_values.specs.Stored.{stored_in};
-ghost use Rattle.cell_reader.specs.Limits.{fed_count};
 ghost use Rattle.cell_reader.specs.Snapshots.{known_in, memory_of, version_of};
 ghost use Rattle.cell_reader.specs.Works.{opening_of, stored_after, writes_of};
-ghost use Rattle.cell_reader.specs.Inside.After.{IsAfter};
 ghost use Rattle.cell_writes.specs.Writes.{last_writes};
 
-use crate::making::{memory_for, version_after};
+use crate::making::memory_for;
+use crate::room::passes_no_limit;
 use crate::snapshot::Snapshot;
 use crate::work::Work;
 use cell_values::value_of;
-use cell_versions::{NextFault, Version};
 use cell_writes::last_writes;
 use cube_fixed::{Money, Steps, Value};
 use rule_model::Model;
@@ -35,6 +30,7 @@ impl Work {
         ensures memory { memory_of snapshot.new ≡ memory_of snapshot.old }
         ensures known { known_in snapshot.new ≡ known_in snapshot.old }
     {
+        passes_no_limit(&snapshot.version);
         let opening = Arc::try_clone(&snapshot.version)?;
         let latest = Arc::try_clone(&snapshot.version)?;
         let memo = snapshot.memo.share()?;
@@ -43,6 +39,7 @@ impl Work {
             latest,
             memo: Some(memo),
             written: Vec::new(alloc),
+            made: 0,
         })
     }
 
@@ -59,6 +56,7 @@ impl Work {
         ensures opening { opening_of self.new ≡ opening_of self.old }
         ensures writes { writes_of self.new ≡ writes_of self.old }
     {
+        self.settle(alloc)?;
         let mut memo = match self.memo.take() {
             Some(memo) => memo,
             None => memory_for(alloc, &self.latest)?,
@@ -96,53 +94,6 @@ impl Work {
     {
         let mut steps = Steps::<L>::begin(blank);
         self.get(alloc, cell, &mut steps)
-    }
-
-    /// Writes a number into a leaf cell. A refused write changes nothing.
-    pub fn put(&mut self, alloc: Global, cell: u64, number: Money) -> Result<(), NextFault>
-        requires cell { IsCell (opening_of self.old).model.space cell }
-        requires leaf { is_leaf_cell (opening_of self.old).model.space cell ≡ true }
-        ensures opening { opening_of self.new ≡ opening_of self.old }
-        ensures written { OnOk result (writes_of self.new ≡ writes_of self.old ++ (cell, number) ∷ []) }
-        ensures same { OnErr result (writes_of self.new ≡ writes_of self.old) }
-
-        // each limit is told exactly where this write passes it, want of memory aside, that of the stored cells first
-        ensures within { length (stored_after self.old (writes_of self.old ++ (cell, number) ∷ [])) ≤ most_cells →
-            fed_count (opening_of self.old).model (stored_after self.old (writes_of self.old ++ (cell, number) ∷ []))
-            ≤ most_fed →
-            IsOkUnless result NextFault.Memory }
-        ensures past_store { most_cells < length (stored_after self.old (writes_of self.old ++ (cell, number) ∷ [])) →
-            (result ≡ Err (NextFault.StoreLimit
-            (length (stored_after self.old (writes_of self.old ++ (cell, number) ∷ [])))))
-            ⊎ (result ≡ Err NextFault.Memory) }
-        ensures past_fed { length (stored_after self.old (writes_of self.old ++ (cell, number) ∷ [])) ≤ most_cells →
-            most_fed < fed_count (opening_of self.old).model
-            (stored_after self.old (writes_of self.old ++ (cell, number) ∷ [])) →
-            (result ≡ Err (NextFault.FedLimit (suc most_fed))) ⊎ (result ≡ Err NextFault.Memory) }
-    {
-        let next = version_after(alloc, &self.latest, &[(cell, number)])?;
-        self.go_on(alloc, next, cell, number)?;
-        Ok(())
-    }
-
-    // Goes on with the version after one write more.
-    fn go_on(
-        &mut self,
-        alloc: Global,
-        next: Version,
-        cell: u64,
-        number: Money,
-    ) -> Result<(), AllocError>
-        requires { IsAfter (opening_of self.old) (writes_of self.old ++ (cell, number) ∷ []) next }
-        ensures opening { opening_of self.new ≡ opening_of self.old }
-        ensures written { OnOk result (writes_of self.new ≡ writes_of self.old ++ (cell, number) ∷ []) }
-        ensures same { OnErr result (writes_of self.new ≡ writes_of self.old) }
-    {
-        let latest = Arc::new(alloc, next)?;
-        self.written.push((cell, number))?;
-        self.latest = latest;
-        self.memo = None;
-        Ok(())
     }
 
     /// The model.

@@ -1,19 +1,42 @@
--- What a load's work keeps of its version.
-use Rattle.std.specs.Prelude.{◌≡◌, ℕ, ℤ, List, Option, Some}
-use Rattle.cell_store.specs.Entries.{after_writes}
+-- What a load's work keeps of its versions.
+use Rattle.std.specs.Prelude.{◌≡◌, ◌≤◌, ◌+◌, ℕ, ℤ, List, length, drop, Option, Some}
+use Rattle.std.specs.Arc.{arc_value}
+use Rattle.std.specs.declared.alloc.Global.{Global}
+use Rattle.std.specs.declared.sync.Arc.{Arc}
+use Rattle.cell_store.specs.Entries.{after_writes, most_cells}
+use Rattle.cell_store.specs.declared.entry.Entry.{Entry}
 use Rattle.cell_values.specs.Reading.{AreValuesOn}
 use Rattle.cell_versions.specs.Versions.{AreLeafWrites, NumberedVersion}
+use Rattle.feed_map.specs.FedCells.{most_fed}
 use Rattle.memo_cells.specs.declared.shared.SharedMemo.{SharedMemo}
 use Rattle.memo_cells.specs.Shared.{version_kept}
 use Rattle.memo_cells.specs.Values.{cell_value}
+use Rattle.rule_model.specs.BoundModel.{BoundModel}
+use Rattle.cell_reader.specs.Limits.{fed_count}
 
--- the version that these writes have made of the one that the work began with
-pub record IsAfter (opening : NumberedVersion) (writes : List (ℕ × ℤ)) (now : NumberedVersion) : Type 0 where
-  pub model : now.model ≡ opening.model
-  pub stored : now.stored ≡ after_writes opening.stored writes
+-- what these writes have made of the version that the work began with
+pub record IsAfter (opening : NumberedVersion) (writes : List (ℕ × ℤ)) (model : BoundModel) (stored : List Entry)
+    : Type 0 where
+  pub same : model ≡ opening.model
+  pub after : stored ≡ after_writes opening.stored writes
   pub leaves : AreLeafWrites opening.model.space writes
 
--- a memory, where there is one, has the values on this version
+-- writes that may wait: neither limit can be passed with them
+pub record MayWait (version : NumberedVersion) (writes : List (ℕ × ℤ)) : Type 0 where
+  pub few_stored : length version.stored + length writes ≤ most_cells
+  pub few_fed : fed_count version.model (after_writes version.stored writes) ≤ most_fed
+
+-- the latest version has the first so many writes, and the others wait
+pub record IsAhead (opening latest : Arc NumberedVersion Global) (writes : List (ℕ × ℤ)) (made : ℕ) : Type 0 where
+  pub made_first : made ≤ length writes
+  pub waiting : MayWait (arc_value latest) (drop made writes)
+  pub all : IsAfter (arc_value opening) writes (arc_value latest).model
+      (after_writes (arc_value latest).stored (drop made writes))
+
+-- a memory has the values on this version
+abbrev pub KeepsValues : NumberedVersion → SharedMemo → Type 0
+KeepsValues version memo = AreValuesOn version (cell_value (version_kept memo))
+
+-- so has a memory, where there is one
 abbrev pub HasValues : NumberedVersion → Option SharedMemo → Type 0
-HasValues version memo =
-    (kept : SharedMemo) → memo ≡ Some kept → AreValuesOn version (cell_value (version_kept kept))
+HasValues version memo = (kept : SharedMemo) → memo ≡ Some kept → KeepsValues version kept

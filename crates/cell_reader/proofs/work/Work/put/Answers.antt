@@ -1,13 +1,37 @@
-use Rattle.std.proofs.Common.{rules, ◌≡◌, [], ◌∷◌}
+use Rattle.std.proofs.Common.{◌≡◌, ◌∙◌, ap, arith, true, ℕ, ℤ, List, [], ◌∷◌, ◌++◌}
+use Rattle.std.specs.Prelude.{is_ok}
 use Rattle.std.specs.Arc.{arc_value}
 use Rattle.cell_store.specs.Entries.{after_writes}
-use Rattle.cell_reader.specs.Works.{opening_of, writes_of}
-use Rattle.cell_reader.proofs.Works.{more-after}
+use Rattle.cell_versions.specs.Versions.{NumberedVersion}
+use Rattle.cube_space.specs.Cells.{IsCell, is_leaf_cell}
+use Rattle.cell_reader.specs.Inside.After.{IsAfter, IsAhead}
+use Rattle.cell_reader.specs.Works.{opening_of}
+use Rattle.cell_reader.proofs.Works.{ahead_either, few_after, more-after, waits-behind}
 use Rattle.cell_reader.proofs.work.Work.put.Goals as goal
+
+pub invariant_of-self-clause-ahead : goal.invariant_of-self-clause-ahead
+invariant_of-self-clause-ahead c =
+    let work = c.args.self.now in
+    let more : IsAhead work.opening work.latest (work.written.items ++ (c.args.cell, c.args.number) ∷ []) work.made =
+    waits-behind work c.deref.result.now c.deref-2.result.now c.args.cell c.args.number c.deref.ensures c.deref-2.ensures.value c.requires.cell c.requires.leaf (c.may_wait.ensures c.if-may_wait.true c.args.number) in
+    rw c.extend_from_slice.ensures.items (ahead_either work.opening work.latest work.written.items (work.written.items ++ (c.args.cell, c.args.number) ∷ []) work.made work.ahead more (is_ok c.extend_from_slice.result))
 
 pub go_on-requires : goal.go_on-requires
 go_on-requires c =
-    let latest = arc_value c.args.self.now.latest in
-    let model : c.in_ok-next.next.model ≡ latest.model = search rules in
-    let stored : c.in_ok-next.next.stored ≡ after_writes latest.stored ((c.args.cell, c.args.number) ∷ []) = search rules in
-    more-after (opening_of c.args.self.now) latest c.in_ok-next.next (writes_of c.args.self.now) c.args.cell c.args.number c.args.self.now.after model stored c.requires.cell c.requires.leaf
+    let one : List (ℕ × ℤ) = (c.args.cell, c.args.number) ∷ [] in
+    let work = c.settle.new.self in
+    let latest = arc_value work.latest in
+    let settled : IsAfter (arc_value work.opening) work.written.items latest.model latest.stored = c.in_ok-settle.ensures.settled in
+    let begun : arc_value work.opening ≡ opening_of c.args.self.now = c.settle.ensures.opening in
+    let own : IsCell (arc_value work.opening).model.space c.args.cell = rw begun c.requires.cell in
+    let leaf : is_leaf_cell (arc_value work.opening).model.space c.args.cell ≡ true = rw begun c.requires.leaf in
+    let model : c.in_ok-next.next.model ≡ latest.model = c.in_ok-next.ensures.model ∙ ap (λ (version : NumberedVersion). version.model) c.deref-3.ensures in
+    let stored : c.in_ok-next.next.stored ≡ after_writes latest.stored one = c.in_ok-next.ensures.stored ∙ ap (λ (version : NumberedVersion). after_writes version.stored one) c.deref-3.ensures in
+    rw (model, stored) (more-after (arc_value work.opening) latest.model latest.stored work.written.items c.args.cell c.args.number settled own leaf)
+
+pub returns-then-may_wait-clause-past_store : goal.returns-then-may_wait-clause-past_store
+returns-then-may_wait-clause-past_store c = λ past.
+    let work = c.args.self.now in
+    let more : IsAhead work.opening work.latest (work.written.items ++ (c.args.cell, c.args.number) ∷ []) work.made =
+    waits-behind work c.deref.result.now c.deref-2.result.now c.args.cell c.args.number c.deref.ensures c.deref-2.ensures.value c.requires.cell c.requires.leaf (c.may_wait.ensures c.if-may_wait.true c.args.number) in
+    absurd (omega (arith, past, few_after work.opening work.latest (work.written.items ++ (c.args.cell, c.args.number) ∷ []) work.made more))

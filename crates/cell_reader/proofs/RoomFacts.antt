@@ -1,0 +1,135 @@
+-- How much one write more can pass a limit by.
+use Rattle.std.proofs.Common.{◌≡◌, ◌≢◌, refl, sym, ◌∙◌, ap, subst, arith, ℕ, zero, suc, ℤ, pos, Bool, true, false, cond, ◌&&◌, eqb, ltb, ltb-true, ne_eqb, ◌<◌, ◌≤◌, ◌+◌, List, [], ◌∷◌, ◌++◌, length, filter, inl, inr}
+use Rattle.std.specs.Prelude.{IsSome, is_some}
+use Rattle.std.specs.Ordering.{int_eq}
+use Rattle.std.proofs.lemmas.Bool.{and_parts, eqb-true}
+use Rattle.std.proofs.lemmas.List.{length-append}
+use Rattle.std.proofs.lemmas.List.FromFn.{length-range_with_len}
+use Rattle.cell_store.specs.declared.entry.Entry.{Entry}
+use Rattle.cell_store.specs.Entries.{above, after_writes, below, kept_of, most_cells, with_write}
+use Rattle.cell_versions.proofs.Cells.{stored_is, untouched}
+use Rattle.cube_space.specs.Cells.{IsSpace, cube_of, is_leaf_cell, size_of}
+use Rattle.fed_laws.proofs.Reached.{fed_list, list_fed, list_rises}
+use Rattle.fed_laws.specs.FedCells.{cells, fed_cells, is_reached}
+use Rattle.feed_map.proofs.Members.{list-of-some, some-unmapped}
+use Rattle.model_laws.proofs.Formed.{well_formed}
+use Rattle.rising_lists.proofs.Members.{same_members}
+use Rattle.rising_lists.proofs.Rising.{among}
+use Rattle.rule_laws.specs.Feeding.{Feeds, FeedsBy, IsFed, Leads}
+use Rattle.rule_laws.specs.Order.{IsWellFormed}
+use Rattle.rule_laws.specs.RuleSystem.{Feed, RuleSystem, Stored}
+use Rattle.rule_model.specs.BoundModel.{BoundModel, rules_of}
+use Rattle.rule_model.specs.Conditions.{AreRules}
+use Rattle.rule_model.specs.System.{cube_feeds, cubes_of, feed_of, system_of}
+use Rattle.stored_values.specs.Stored.{stored_in}
+use Rattle.cell_reader.specs.Limits.{fed_count}
+
+-- ---- the stored cells
+
+-- a cell that is written is neither below nor above itself
+apart : (es : List Entry) (cell : ℕ) → length (below es cell) + length (above es cell) ≤ length es
+apart [] cell = omega arith
+apart (e ∷ es) cell = by (ltb e.cell cell) refl (ltb cell e.cell) refl (apart es cell)
+  where
+    by : (low : Bool) → ltb e.cell cell ≡ low → (high : Bool) → ltb cell e.cell ≡ high → length (below es cell) + length (above es cell) ≤ length es
+        → length (cond low (e ∷ below es cell) (below es cell)) + length (cond high (e ∷ above es cell) (above es cell)) ≤ suc (length es)
+    by true low true high later = absurd (omega (arith, ltb-true e.cell cell low, ltb-true cell e.cell high))
+    by true low false high later = omega (arith, later)
+    by false low true high later = omega (arith, later)
+    by false low false high later = omega (arith, later)
+
+kept_one : (cell : ℕ) (number : ℤ) → length (kept_of cell number) ≤ 1
+kept_one cell number = by (int_eq number (pos 0))
+  where
+    by : (b : Bool) → length {A = Entry} (cond b [] (record { cell = cell; number = number } ∷ [])) ≤ 1
+    by true = omega arith
+    by false = omega arith
+
+one_more : (es : List Entry) (cell : ℕ) (number : ℤ) → length (with_write es cell number) ≤ length es + 1
+one_more es cell number =
+    omega (arith, apart es cell, kept_one cell number, length-append (below es cell) (kept_of cell number ++ above es cell), length-append (kept_of cell number) (above es cell))
+
+-- each write stores one cell more at most
+pub each_one_more : (es : List Entry) (ws : List (ℕ × ℤ)) → length (after_writes es ws) ≤ length es + length ws
+each_one_more es [] = omega arith
+each_one_more es (w ∷ ws) = omega (arith, each_one_more (with_write es w.0 w.1) ws, one_more es w.0 w.1)
+
+pub few_more : (es : List Entry) (ws : List (ℕ × ℤ)) (cell : ℕ) (number : ℤ) → length es + length ws < most_cells → length es + length (ws ++ (cell, number) ∷ []) ≤ most_cells
+few_more es ws cell number few = omega (arith, few, length-append ws ((cell, number) ∷ []))
+
+-- ---- the fed cells
+
+filter_few : (p : ℕ → Bool) (xs : List ℕ) → length (filter p xs) ≤ length xs
+filter_few p [] = omega arith
+filter_few p (x ∷ xs) = by (p x) (filter_few p xs)
+  where
+    by : (b : Bool) → length (filter p xs) ≤ length xs → length (cond b (x ∷ filter p xs) (filter p xs)) ≤ suc (length xs)
+    by true later = omega (arith, later)
+    by false later = omega (arith, later)
+
+-- no more cells are fed than there are
+pub fed_of_all : (m : BoundModel) (es : List Entry) → fed_count m es ≤ size_of m.space
+unfolding fed_count fed_cells system_of
+fed_of_all m es =
+    let w = system_of m in
+    omega (arith, filter_few (is_reached w (stored_in es) w.size) (cells w), length-range_with_len 0 w.size)
+
+pub none_there : {X : Type 0} (xs : List X) → eqb (length xs) 0 ≡ true → xs ≡ []
+none_there [] is = refl
+none_there (x ∷ xs) is = absurd (omega (arith, eqb-true (length (x ∷ xs)) 0 is))
+
+-- a cube without feeders feeds nothing from its cells
+pub no_feeds : (m : BoundModel) (x c : ℕ) → (rules_of m (cube_of m.space x)).feeders ≡ [] → Feeds (system_of m) x c → ⊥
+unfolding system_of
+no_feeds m x c none feeds =
+    let By : Feed → Type 0 = λ feed. FeedsBy (system_of m) feed x c in
+    let found = list-of-some By (cube_feeds m) (cubes_of m) feeds in
+    let one = some-unmapped By (feed_of m.space found.0) (rules_of m found.0).feeders found.1 in
+    let of_cube = and_parts (eqb (cube_of m.space x) found.0) _ (and_parts (eqb (cube_of m.space x) found.0 && is_leaf_cell m.space x) _ one.4.1).0 in
+    let same : cube_of m.space x ≡ found.0 = eqb-true (cube_of m.space x) found.0 of_cube.0 in
+    let empty : (rules_of m found.0).feeders ≡ [] = subst (λ (cube : ℕ). (rules_of m cube).feeders ≡ []) same none in
+    omega (arith, one.2, ap length empty)
+
+module _ (w : RuleSystem) (cell : ℕ) (feeds_none : (fed : ℕ) → Feeds w cell fed → ⊥) where
+  -- a chain begins with a feed from its first cell
+  begins : (n a c : ℕ) → Leads w (suc n) a c → (fed : ℕ) × Feeds w a fed
+  begins zero a c led = (c, subst (λ x. Feeds w x c) (sym led.1) led.2)
+  begins (suc n) a c led = begins n a led.0 led.1
+
+  still_fed : (s t : Stored) → ((x : ℕ) → cell ≢ x → IsSome (s x) → IsSome (t x)) → (c : ℕ) → IsFed w s c → IsFed w t c
+  still_fed s t more c (inl dense) = inl dense
+  still_fed s t more c (inr (n, a, inr dense, led)) = inr (n, a, inr dense, led)
+  still_fed s t more c (inr (n, a, inl own, led)) =
+      let first = begins n a c led in
+      let other : cell ≢ a = λ same. feeds_none first.0 (subst (λ x. Feeds w x first.0) (sym same) first.1) in
+      inr (n, a, inl (own.0, more a other own.1), led)
+
+-- a write changes only whether its own cell is stored
+still_stored : (es : List Entry) (cell : ℕ) (number : ℤ) (x : ℕ) → cell ≢ x → is_some (stored_in (with_write es cell number) x) ≡ is_some (stored_in es x)
+still_stored es cell number x other =
+    let outside : among x (cell ∷ []) ≡ false = rw (ne_eqb cell x other) refl in
+    stored_is x (with_write es cell number) ∙ (untouched x ((cell, number) ∷ []) es outside ∙ sym (stored_is x es))
+
+-- a write of a cell that feeds nothing leaves the fed cells as they are
+pub same_fed : (m : BoundModel) (es : List Entry) (cell : ℕ) (number : ℤ) → IsSpace m.space → AreRules m.space m.rules → ((fed : ℕ) → Feeds (system_of m) cell fed → ⊥)
+    → fed_count m (with_write es cell number) ≡ fed_count m es
+unfolding fed_count
+same_fed m es cell number valid rules feeds_none =
+    ap length
+    (same_members (fed_cells w now) (fed_cells w before) (list_rises w now) (list_rises w before)
+    (λ c. (
+      λ has. fed_list w before formed c (still_fed w cell feeds_none now before (λ x other some. sym (still_stored es cell number x other) ∙ some) c (list_fed w now c has)),
+      λ has. fed_list w now formed c (still_fed w cell feeds_none before now (λ x other some. still_stored es cell number x other ∙ some) c (list_fed w before c has)),
+    )))
+  where
+    w : RuleSystem
+    w = system_of m
+
+    before : Stored
+    before = stored_in es
+
+    now : Stored
+    now = stored_in (with_write es cell number)
+
+    formed : IsWellFormed w
+    formed = well_formed m valid rules

@@ -1,0 +1,19 @@
+use Rattle.std.proofs.Common.{rules, ◌≡◌, ◌∙◌, ap, arith, ◌-◌, ◌≤◌, drop, length, take}
+use Rattle.std.specs.Prelude.{IsOkUnless}
+use Rattle.std.specs.Arc.{arc_value}
+use Rattle.std.proofs.lemmas.List.{take_rest}
+use Rattle.cell_store.specs.Entries.{after_writes, most_cells}
+use Rattle.cell_versions.specs.declared.fault.NextFault.TheVariants.{Memory}
+use Rattle.cell_reader.proofs.RoomFacts.{each_one_more}
+use Rattle.cell_reader.proofs.work.Work.settle.Goals as goal
+
+-- what waits passes neither limit
+pub unreachable-requires : goal.unreachable-requires
+unreachable-requires c =
+    let work = c.args.self.now in
+    let latest = arc_value work.latest in
+    let waiting = drop work.made work.written.items in
+    let slice : take (length c.deref.result.now - work.made) (drop work.made c.deref.result.now) ≡ waiting = take_rest c.deref.result.now work.made ∙ ap (drop work.made) c.deref.ensures.value in
+    let few_stored : length (after_writes latest.stored waiting) ≤ most_cells = omega (arith, each_one_more latest.stored waiting, work.ahead.waiting.few_stored) in
+    let within : IsOkUnless c.version_after.result Memory = c.version_after.ensures.within (rw (slice, c.deref-2.ensures) few_stored) (rw (slice, c.deref-2.ensures) work.ahead.waiting.few_fed) in
+    search rules

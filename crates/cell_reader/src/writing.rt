@@ -1,0 +1,93 @@
+ghost use Rattle.std.specs.Prelude.{◌≡◌, suc, ◌<◌, ◌≤◌, ◌⊎◌, true, [], ◌∷◌, ◌++◌, length, Err};
+ghost use Rattle.std.specs.Prelude.{OnOk, OnErr, IsOkUnless};
+ghost use Rattle.std.specs.Arc.{arc_value};
+ghost use Rattle.cell_store.specs.Entries.{most_cells};
+ghost use Rattle.cube_space.specs.Cells.{IsCell, is_leaf_cell};
+ghost use Rattle.feed_map.specs.FedCells.{most_fed};
+ghost use Rattle.cell_reader.specs.Limits.{fed_count};
+ghost use Rattle.cell_reader.specs.Works.{opening_of, stored_after, writes_of};
+ghost use Rattle.cell_reader.specs.Inside.After.{IsAfter};
+
+use crate::making::version_after;
+use crate::room::{may_wait, passes_no_limit};
+use crate::work::Work;
+use cell_versions::{NextFault, Version};
+use cube_fixed::Money;
+use std::alloc::{AllocError, Global};
+use std::sync::Arc;
+
+impl Work {
+    /// Writes a number into a leaf cell. A refused write changes nothing.
+    pub fn put(&mut self, alloc: Global, cell: u64, number: Money) -> Result<(), NextFault>
+        requires cell { IsCell (opening_of self.old).model.space cell }
+        requires leaf { is_leaf_cell (opening_of self.old).model.space cell ≡ true }
+        ensures opening { opening_of self.new ≡ opening_of self.old }
+        ensures written { OnOk result (writes_of self.new ≡ writes_of self.old ++ (cell, number) ∷ []) }
+        ensures same { OnErr result (writes_of self.new ≡ writes_of self.old) }
+
+        // each limit is told exactly where this write passes it, want of memory aside, that of the stored cells first
+        ensures within { length (stored_after self.old (writes_of self.old ++ (cell, number) ∷ [])) ≤ most_cells →
+            fed_count (opening_of self.old).model (stored_after self.old (writes_of self.old ++ (cell, number) ∷ []))
+            ≤ most_fed →
+            IsOkUnless result NextFault.Memory }
+        ensures past_store { most_cells < length (stored_after self.old (writes_of self.old ++ (cell, number) ∷ [])) →
+            (result ≡ Err (NextFault.StoreLimit
+            (length (stored_after self.old (writes_of self.old ++ (cell, number) ∷ [])))))
+            ⊎ (result ≡ Err NextFault.Memory) }
+        ensures past_fed { length (stored_after self.old (writes_of self.old ++ (cell, number) ∷ [])) ≤ most_cells →
+            most_fed < fed_count (opening_of self.old).model
+            (stored_after self.old (writes_of self.old ++ (cell, number) ∷ [])) →
+            (result ≡ Err (NextFault.FedLimit (suc most_fed))) ⊎ (result ≡ Err NextFault.Memory) }
+    {
+        if may_wait(&self.latest, &self.written[self.made..], cell) {
+            self.written.extend_from_slice(&[(cell, number)])?;
+            return Ok(());
+        }
+        self.settle(alloc)?;
+        let next = version_after(alloc, &self.latest, &[(cell, number)])?;
+        self.go_on(alloc, next, &[(cell, number)])?;
+        Ok(())
+    }
+
+    /// Makes the version with the writes that wait.
+    pub(crate) fn settle(&mut self, alloc: Global) -> Result<(), AllocError>
+        ensures opening { opening_of self.new ≡ opening_of self.old }
+        ensures writes { writes_of self.new ≡ writes_of self.old }
+        ensures settled { let latest = arc_value self.new.latest in
+            OnOk result (IsAfter (opening_of self.new) (writes_of self.new) latest.model latest.stored) }
+    {
+        let waiting = &self.written[self.made..];
+        if waiting.is_empty() {
+            return Ok(());
+        }
+        match version_after(alloc, &self.latest, waiting) {
+            Ok(next) => self.go_on(alloc, next, &[]),
+            Err(NextFault::Memory) => Err(AllocError),
+            // what waits passes no limit
+            Err(NextFault::StoreLimit(_)) | Err(NextFault::FedLimit(_)) => unreachable!(),
+        }
+    }
+
+    // Goes on with the version after all writes, and these more.
+    fn go_on(
+        &mut self,
+        alloc: Global,
+        next: Version,
+        more: &[(u64, Money)],
+    ) -> Result<(), AllocError>
+        requires { IsAfter (opening_of self.old) (writes_of self.old ++ more.now) next.model next.stored }
+        ensures opening { opening_of self.new ≡ opening_of self.old }
+        ensures written { OnOk result (writes_of self.new ≡ writes_of self.old ++ more.now) }
+        ensures same { OnErr result (writes_of self.new ≡ writes_of self.old) }
+        ensures settled { let latest = arc_value self.new.latest in
+            OnOk result (IsAfter (opening_of self.new) (writes_of self.new) latest.model latest.stored) }
+    {
+        passes_no_limit(&next);
+        let latest = Arc::new(alloc, next)?;
+        self.written.extend_from_slice(more)?;
+        self.latest = latest;
+        self.made = self.written.len();
+        self.memo = None;
+        Ok(())
+    }
+}
