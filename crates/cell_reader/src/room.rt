@@ -7,6 +7,7 @@ ghost use Rattle.cell_reader.specs.Inside.After.{MayWait};
 use cell_store::MAX_CELLS;
 use cell_versions::Version;
 use cube_fixed::Money;
+use cube_space::MAX_DIMENSIONS;
 use feed_map::MAX_FED;
 use rule_model::{Model, place_of};
 
@@ -29,7 +30,7 @@ fn feeds_nothing(model: &Model, cell: u64) -> bool
     requires { IsCell model.now.space cell }
     ensures { IsTrue result → (fed : ℕ) → Feeds (system_of model.now) cell fed → ⊥ }
 {
-    let mut at = [0u32; 16];
+    let mut at = [0u32; MAX_DIMENSIONS];
     let (cube, _) = place_of(model, cell, &mut at);
     model.rules(cube).feeders.as_slice().is_empty()
 }
