@@ -45,6 +45,13 @@ few_set users index now few one i user is =
 pub same_user : {U : Type 0} (users : List U) (number : ℕ) (user other : U) → user_at users number ≡ Some user → user_at users number ≡ Some other → user ≡ other
 same_user users number user other one two = some_same (sym one ∙ two)
 
+-- what is read and what is written at the index are the user of the number
+pub users_here : {U : Type 0} (users : List U) (number index : ℕ) (read written : U) → number ≡ index + 1 → index < length users
+    → read ≡ slice_index_or users index read → written ≡ slice_index_or users index written → (user_at users number ≡ Some written) × (written ≡ read)
+users_here users number index read written at below is too =
+    let here = user_here users number index written at below too in
+    (here, same_user users number written read here (user_here users number index read at below is))
+
 -- a user that stays leaves the users as they were
 pub set_same : {U : Type 0} (users : List U) (index : ℕ) (user : U) → slice_get users index ≡ Some user → slice_set users index user ≡ users
 set_same [] index user is = absurd (none_some is)
