@@ -1,10 +1,11 @@
 -- Users' commands as they are run: with the scripts of their loads, and the records.
-use Rattle.std.specs.Prelude.{◌≡◌, ℕ, List, [], Option, Some, None, option_map, filter_map, slice_get}
+use Rattle.std.specs.Prelude.{◌≡◌, ℕ, List, [], Option, Some, None, IsSome, IfSome, IsTrue, All}
+use Rattle.std.specs.Prelude.{option_map, filter_map, slice_get}
 use Rattle.std.specs.Arc.{arc_value}
 use Rattle.std.specs.List.{AllZip, flat_map}
 use Rattle.std.specs.declared.alloc.Global.{Global}
 use Rattle.std.specs.declared.sync.Arc.{Arc}
-use Rattle.dim_name.specs.Name.{place_of}
+use Rattle.dim_name.specs.Name.{has_name, place_of}
 use Rattle.file_passes.specs.Pass.{Source, source_of, Judgement}
 use Rattle.load_job.specs.Rows.{rows_of}
 use Rattle.load_job.specs.declared.job.Job.{Job}
@@ -36,6 +37,21 @@ record_files users = flat_map user_files users
 abbrev pub records_of : List Source → Option (List ℕ) → ℕ → Option (List (List (List ℕ)))
 records_of sources None skip = Some []
 records_of sources (Some name) skip = option_map (λ source. rows_of skip source.1) (source_of sources name)
+
+-- a load's script is one of the model, and its file is one of those that were read
+pub record IsReadyLoad (scripts : Scripts) (sources : List Source) (load : LoadText) : Type 0 where
+  pub known : IsTrue (has_name scripts.names load.script)
+  pub read : IfSome load.file (λ name. IsSome (source_of sources name))
+
+-- the same of a command, where it is a load
+abbrev pub IsReady : Scripts → List Source → UserBody → Type 0
+IsReady scripts sources (bodies.Put cell number) = Unit {0}
+IsReady scripts sources (bodies.Get cell) = Unit {0}
+IsReady scripts sources (bodies.Load load) = IsReadyLoad scripts sources load
+IsReady scripts sources (bodies.View view) = Unit {0}
+
+abbrev pub AreReady : Scripts → List Source → List UserCommand → Type 0
+AreReady scripts sources commands = All (λ command. IsReady scripts sources command.body) commands
 
 -- a load as it is run: by the place of its script in the model, with its records and what is set
 pub record IsLoad (scripts : Scripts) (sources : List Source) (load : LoadText) (job : Job) (tree : Script)

@@ -1,6 +1,6 @@
 -- What the bytes of all user files are judged to be, in the order of the words.
 use Rattle.std.specs.Prelude.{◌≡◌, ℕ, ◌+◌, Bool, false, not, List, [], ◌∷◌, length, Option, Some, None}
-use Rattle.std.specs.Prelude.{option_map, find, Ok, Err, ◌⊎◌}
+use Rattle.std.specs.Prelude.{option_map, find, Ok, Err, ◌⊎◌, All}
 use Rattle.std.specs.Option.{option_or}
 use Rattle.dim_name.specs.Name.{has_name}
 use Rattle.user_text.specs.Answers.{Answers}
@@ -50,6 +50,10 @@ is_unknown_load scripts (bodies.View view) = false
 
 abbrev pub is_unknown : List (List ℕ) → UserCommand → Bool
 is_unknown scripts command = is_unknown_load scripts command.body
+
+-- no user has such a load
+abbrev pub AreKnown : List (List ℕ) → List (List UserCommand) → Type 0
+AreKnown scripts users = All (All (λ command. is_unknown scripts command ≡ false)) users
 
 -- the first such load of all users, in the order of the words
 abbrev pub unknown_script : List (List ℕ) → List Source → List (List UserCommand) → Option Refusal

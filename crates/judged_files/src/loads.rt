@@ -1,8 +1,9 @@
-ghost use Rattle.std.specs.Prelude.{◌≡◌, ◌++◌, IfOk, Some};
+ghost use Rattle.std.specs.Prelude.{◌≡◌, ◌++◌, All, IfOk, IfSome, IsSome, Some};
 ghost use Rattle.std.specs.List.{AllZip};
 ghost use Rattle.cube_words.specs.Words.{texts_of};
+ghost use Rattle.file_passes.specs.Pass.{source_of};
 ghost use Rattle.judged_files.specs.Loads.{user_files, record_files, records_of, IsLoadCommand, IsCommand};
-ghost use Rattle.judged_files.specs.Loads.{AreCommands};
+ghost use Rattle.judged_files.specs.Loads.{AreCommands, IsReady, IsReadyLoad, AreReady};
 
 use crate::scripts::Scripts;
 use file_passes::{Source, file_name, source_of};
@@ -47,13 +48,14 @@ fn add_files(
     Ok(())
 }
 
-/// The commands of all users as they are run.
+/// The commands of all users as they are run. The scripts and the files of their loads are there.
 pub fn commands_of(
     alloc: Global,
     scripts: &Scripts,
     sources: &[Source<'_>],
     users: ListOf<ListOf<UserCommand>>,
 ) -> Result<ListOf<ListOf<PlanCommand>>, AllocError>
+    requires { All (AreReady scripts.now sources.now) users }
     ensures { IfOk result (λ commands. AllZip (AreCommands scripts.now sources.now) users commands) }
 {
     let mut all = Vec::new(alloc);
@@ -71,6 +73,7 @@ fn user_commands(
     sources: &[Source<'_>],
     texts: ListOf<UserCommand>,
 ) -> Result<ListOf<PlanCommand>, AllocError>
+    requires { AreReady scripts.now sources.now texts }
     ensures { IfOk result (λ commands. AreCommands scripts.now sources.now texts commands) }
 {
     let mut commands = Vec::new(alloc);
@@ -87,6 +90,7 @@ fn command_of(
     sources: &[Source<'_>],
     body: UserBody,
 ) -> Result<PlanCommand, AllocError>
+    requires { IsReady scripts.now sources.now body }
     ensures { IfOk result (λ command. IsCommand scripts.now sources.now body command) }
 {
     match body {
@@ -97,18 +101,17 @@ fn command_of(
     }
 }
 
-// A load's script is in the model, since all of them were looked for when the texts were judged.
+// A load by the place of its script in the model, with its records.
 fn load_command(
     alloc: Global,
     scripts: &Scripts,
     sources: &[Source<'_>],
     load: LoadText,
 ) -> Result<PlanCommand, AllocError>
+    requires { IsReadyLoad scripts.now sources.now load }
     ensures { IfOk result (λ command. IsLoadCommand scripts.now sources.now load command) }
 {
-    let Some((script, tree)) = scripts.named(&load.script) else {
-        return Err(AllocError);
-    };
+    let (script, tree) = scripts.named(&load.script);
     let rows = records_of(alloc, sources, &load.file, load.skip)?;
     let job = Job {
         script,
@@ -118,20 +121,21 @@ fn load_command(
     Ok(PlanCommand::Load(job, Arc::try_clone(tree)?))
 }
 
-// The records of a load's file. It is among those that were read.
+// The records of a load's file, which is among those that were read.
 fn records_of(
     alloc: Global,
     sources: &[Source<'_>],
     file: &Option<ListOf<u8>>,
     skip: u32,
 ) -> Result<Vec<ListOf<ListOf<u8>>>, AllocError>
+    requires { IfSome file.now (λ name. IsSome (source_of sources.now name)) }
     ensures { IfOk result (λ records. records_of sources.now file.now skip ≡ Some records.items) }
 {
-    let Some(name) = file else {
-        return Ok(Vec::new(alloc));
-    };
-    match source_of(sources, name.as_slice()) {
-        Some(source) => rows(alloc, source.bytes(), skip),
-        None => Err(AllocError),
+    match file {
+        Some(name) => {
+            let source = source_of(sources, name.as_slice()).unwrap();
+            rows(alloc, source.bytes(), skip)
+        }
+        None => Ok(Vec::new(alloc)),
     }
 }

@@ -1,12 +1,12 @@
 ghost use Rattle.std.specs.Arc.{arc_value};
-ghost use Rattle.std.specs.Prelude.{◌≡◌, IfOk, IfSome, Some, map, slice_get};
+ghost use Rattle.std.specs.Prelude.{◌≡◌, IfOk, IsTrue, Some, map, slice_get};
 ghost use Rattle.cube_words.specs.Words.{texts_of};
-ghost use Rattle.dim_name.specs.Name.{place_of};
+ghost use Rattle.dim_name.specs.Name.{has_name, place_of};
 ghost use Rattle.file_passes.specs.Halting.{Judges};
 ghost use Rattle.model_text.specs.Contents.{script_names};
 ghost use Rattle.judged_files.specs.Inside.Judging.{IsHaltFor};
 ghost use Rattle.judged_files.specs.Refusals.{script_refusal};
-ghost use Rattle.judged_files.specs.Scripts.{script_files, scripts_judgement};
+ghost use Rattle.judged_files.specs.Scripts.{AreNamed, script_files, scripts_judgement};
 
 use crate::refusing::halt_on;
 use dim_name::Name;
@@ -30,13 +30,15 @@ impl Model for Scripts {
     ghost use Rattle.std.specs.Coded.{codes};
     ghost use Rattle.std.specs.Prelude.{map};
     ghost use Rattle.script_tree.specs.contracts.script.Script as script;
-    ghost use Rattle.judged_files.specs.Scripts.{Scripts as ScriptsOf};
+    ghost use Rattle.judged_files.specs.Scripts.{AreNamed, Scripts as ScriptsOf};
 
     ghost Value = { ScriptsOf };
 
     ghost coded = { Prim.hlevel (codes, script.the_row.coded) };
 
     ghost view = { λ scripts. record { names = scripts.names; trees = map arc_value scripts.trees.items } };
+
+    ghost invariant = { λ scripts. AreNamed scripts.names (map arc_value scripts.trees.items) };
 }
 
 impl Scripts {
@@ -46,6 +48,7 @@ impl Scripts {
         names: ListOf<Name>,
         trees: ListOf<Script>,
     ) -> Result<Scripts, AllocError>
+        requires { AreNamed names trees }
         ensures names { IfOk result (λ scripts. scripts.names ≡ names) }
         ensures trees { IfOk result (λ scripts. scripts.trees ≡ trees) }
     {
@@ -55,17 +58,14 @@ impl Scripts {
         })
     }
 
-    /// The script of this name, and its place.
-    pub fn named(&self, name: &Name) -> Option<(u32, &Arc<Script, Global>)>
-        ensures place { IfSome result (λ found. place_of self.now.names name.now ≡ Some found.0) }
-        ensures script { IfSome result (λ found. slice_get self.now.trees found.0 ≡ Some (arc_value found.1.now)) }
+    /// The script of this name, which is one of them, and its place.
+    pub fn named(&self, name: &Name) -> (u32, &Arc<Script, Global>)
+        requires { IsTrue (has_name self.now.names name.now) }
+        ensures place { place_of self.now.names name.now ≡ Some result.0 }
+        ensures script { slice_get self.now.trees result.0 ≡ Some (arc_value result.1.now) }
     {
-        let place = place_of(self.names.as_slice(), name)?;
-        let script = self.trees.get(place)?;
-        match u32::try_from(place) {
-            Ok(place) => Some((place, script)),
-            Err(_) => None,
-        }
+        let place = place_of(self.names.as_slice(), name).unwrap();
+        (place as u32, &self.trees[place])
     }
 }
 

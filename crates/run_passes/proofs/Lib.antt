@@ -1,2 +1,3 @@
 pub mod PlanWords
 pub mod PlanFacts
+pub mod ScriptsNamed

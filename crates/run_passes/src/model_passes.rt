@@ -1,7 +1,8 @@
-ghost use Rattle.std.specs.Prelude.{◌≡◌};
+ghost use Rattle.std.specs.Prelude.{◌≡◌, ◌≤◌, length};
 ghost use Rattle.cube_words.specs.Words.{texts_of};
 ghost use Rattle.file_passes.specs.Halting.{Comes};
 ghost use Rattle.file_passes.specs.Outside.{outside};
+ghost use Rattle.model_text.specs.Contents.{scripts_limit};
 ghost use Rattle.run_passes.specs.Inside.Plans.{behind_text, behind_rules};
 ghost use Rattle.run_passes.specs.Run.{text_pass, deploy_pass, scripts_pass, model_pass};
 
@@ -141,7 +142,7 @@ fn behind_text<F: Files>(
     }
 }
 
-// The pass behind that of the rule files.
+// The pass behind that of the rule files, of the scripts of these files and names.
 fn behind_rules<F: Files>(
     alloc: Global,
     files: &mut F,
@@ -150,6 +151,8 @@ fn behind_rules<F: Files>(
     names: ListOf<Name>,
     model: Accepted,
 ) -> Result<Checked, Halt>
+    requires each { length scripts.now ≡ length names }
+    requires few { length names ≤ scripts_limit }
     ensures known { F.known files.new ≡ F.known files.old }
     ensures comes { Comes (behind_rules (texts_of scripts.now) names model)
         (outside F.known F.faults F.missed F.asked files.old files.new) readings.old readings.new result }

@@ -2,6 +2,7 @@ ghost use Rattle.std.specs.Prelude.{◌≡◌};
 ghost use Rattle.cube_words.specs.Words.{asked, Check, Run, texts_of};
 ghost use Rattle.file_passes.specs.Halting.{Comes};
 ghost use Rattle.file_passes.specs.Outside.{outside};
+ghost use Rattle.judged_files.specs.Users.{AreKnown};
 ghost use Rattle.run_passes.specs.Inside.Plans.{behind_model, behind_users};
 ghost use Rattle.run_passes.specs.Run.{users_pass, records_pass, plan_pass, run_of};
 
@@ -38,7 +39,7 @@ fn users_pass<F: Files>(
     }
 }
 
-// The files of all records.
+// The files of all records. The script of each load is there.
 fn records_pass<F: Files>(
     alloc: Global,
     files: &mut F,
@@ -46,6 +47,7 @@ fn records_pass<F: Files>(
     scripts: &Scripts,
     users: ListOf<ListOf<UserCommand>>,
 ) -> Result<ListOf<ListOf<PlanCommand>>, Halt>
+    requires { AreKnown scripts.now.names users }
     ensures known { F.known files.new ≡ F.known files.old }
     ensures comes { Comes (records_pass scripts.now users)
         (outside F.known F.faults F.missed F.asked files.old files.new) readings.old readings.new result }
@@ -136,7 +138,7 @@ fn behind_model<F: Files>(
     }
 }
 
-// The pass behind that of the user files.
+// The pass behind that of the user files, in which each load is one of a script of the model.
 fn behind_users<F: Files>(
     alloc: Global,
     files: &mut F,
@@ -144,6 +146,7 @@ fn behind_users<F: Files>(
     checked: Checked,
     texts: ListOf<ListOf<UserCommand>>,
 ) -> Result<Job, Halt>
+    requires { AreKnown checked.scripts.names texts }
     ensures { Comes (behind_users checked texts) (outside F.known F.faults F.missed F.asked files.old files.new)
         readings.old readings.new result }
 {

@@ -1,7 +1,18 @@
-use Rattle.std.proofs.Common.{◌≡◌, ◌∙◌, [], append-nil, sym}
+use Rattle.std.proofs.Common.{◌≡◌, ◌∙◌, [], ◌∷◌, ◌++◌, All, append-nil, ap, subst, sym}
 use Rattle.std.specs.Vec.Iter.{into_iter_items}
-use Rattle.dim_core.proofs.BadAttributes.{nothing_left}
+use Rattle.dim_core.proofs.BadAttributes.{taken_front, nothing_left}
+use Rattle.judged_files.specs.Loads.{AreReady}
+use Rattle.judged_files.proofs.ReadyFacts.{all-here}
 use Rattle.judged_files.proofs.loads.commands_of.Goals as goal
+
+pub user_commands-requires : goal.user_commands-requires
+user_commands-requires c =
+    let before = c.loop-texts.yielded in
+    let here = c.in-Some.texts in
+    let rest = into_iter_items c.next.new.self in
+    let parts : c.args.users ≡ before ++ here ∷ rest =
+    sym c.into_vec-texts-items.ensures ∙ sym c.into_iter-texts-iterator.ensures.into_iter_gives.0 ∙ taken_front c.into_iter-texts-iterator.result before c.loop-texts.texts-iterator c.loop-texts.yielded_by ∙ ap (λ l. before ++ l) c.in-Some.ensures.steps.0 in
+    all-here (AreReady c.args.scripts.now c.args.sources.now) before here rest (subst (All (AreReady c.args.scripts.now c.args.sources.now)) parts c.requires)
 
 pub returns : goal.returns
 returns c =

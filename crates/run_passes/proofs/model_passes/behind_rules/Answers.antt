@@ -1,4 +1,6 @@
-use Rattle.std.proofs.Common.{◌≡◌, Ok, refl, subst}
+use Rattle.std.proofs.Common.{◌≡◌, ◌∙◌, Ok, refl, subst}
+use Rattle.std.specs.Prelude.{string_bytes}
+use Rattle.std.proofs.lemmas.List.{length-map}
 use Rattle.cube_words.specs.Words.{texts_of}
 use Rattle.file_passes.specs.Halting.{Comes}
 use Rattle.file_passes.specs.Outside.{outside}
@@ -7,7 +9,13 @@ use Rattle.file_passes.proofs.Going.{on-later}
 use Rattle.judged_files.specs.Scripts.{Checked}
 use Rattle.run_passes.specs.Run.{scripts_pass}
 use Rattle.run_passes.specs.Inside.Plans.{checked_of, behind_scripts, behind_rules}
+use Rattle.run_passes.proofs.ScriptsNamed.{scripts-named}
 use Rattle.run_passes.proofs.model_passes.behind_rules.Goals as goal
+
+pub new-requires : goal.new-requires
+new-requires g c =
+    scripts-named c.scripts_pass.new.readings (texts_of c.args.scripts.now) c.args.names c.in-Ok.trees c.in-Ok.ensures.comes.1
+    (length-map c.args.scripts.now string_bytes ∙ c.requires.each) c.requires.few
 
 pub returns-in-Err-clause-comes : goal.returns-in-Err-clause-comes
 returns-in-Err-clause-comes g c =

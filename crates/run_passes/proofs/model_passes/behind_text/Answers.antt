@@ -1,15 +1,30 @@
-use Rattle.std.proofs.Common.{◌≡◌, ◌∙◌, ap, subst}
+use Rattle.std.proofs.Common.{◌≡◌, ◌≤◌, ◌∙◌, ap, sym, subst, length}
+use Rattle.std.specs.Prelude.{string_bytes}
+use Rattle.std.proofs.lemmas.List.{length-map}
 use Rattle.cube_words.specs.Words.{texts_of}
 use Rattle.file_passes.specs.Halting.{Comes}
 use Rattle.file_passes.specs.Outside.{outside}
 use Rattle.file_passes.proofs.Coming.{comes-stopped, comes-behind}
 use Rattle.file_passes.proofs.Going.{on-refl}
 use Rattle.judged_files.specs.Scripts.{script_files}
-use Rattle.model_text.specs.Contents.{script_names}
+use Rattle.model_text.specs.Contents.{script_names, scripts_limit}
 use Rattle.run_passes.specs.Run.{deploy_pass}
 use Rattle.run_passes.specs.Inside.Plans.{behind_text, behind_rules}
 use Rattle.run_passes.proofs.PlanFacts.{steady-deploy}
 use Rattle.run_passes.proofs.model_passes.behind_text.Goals as goal
+
+pub behind_rules-requires-clause-each : goal.behind_rules-requires-clause-each
+behind_rules-requires-clause-each g c =
+    let files : texts_of c.deref.result.now ≡ script_files c.args.text.scripts = ap texts_of c.deref.ensures.value ∙ c.in-Ok.ensures ∙ ap script_files c.scripts.ensures.scripts in
+    let names : c.in-Ok-script_names.names ≡ script_names c.args.text.scripts = c.in-Ok-script_names.ensures ∙ ap script_names c.scripts-2.ensures.scripts in
+    sym (length-map c.deref.result.now string_bytes) ∙ ap length files ∙ length-map c.args.text.scripts (λ script. script.file)
+    ∙ sym (length-map c.args.text.scripts (λ script. script.name)) ∙ sym (ap length names)
+
+pub behind_rules-requires-clause-few : goal.behind_rules-requires-clause-few
+behind_rules-requires-clause-few g c =
+    let names : c.in-Ok-script_names.names ≡ script_names c.args.text.scripts = c.in-Ok-script_names.ensures ∙ ap script_names c.scripts-2.ensures.scripts in
+    let same : length c.in-Ok-script_names.names ≡ length c.args.text.scripts = ap length names ∙ length-map c.args.text.scripts (λ script. script.name) in
+    subst (λ n. n ≤ scripts_limit) (sym same) c.scripts.ensures.valid.few_scripts
 
 pub returns-in_default-clause-comes : goal.returns-in_default-clause-comes
 returns-in_default-clause-comes g c = (

@@ -3,10 +3,17 @@ use Rattle.cube_words.specs.Words.{texts_of}
 use Rattle.file_passes.specs.Halting.{Comes}
 use Rattle.file_passes.specs.Outside.{outside}
 use Rattle.file_passes.proofs.Coming.{comes-stopped, comes-behind}
+use Rattle.judged_files.proofs.ReadyFacts.{known-users}
 use Rattle.run_passes.specs.Run.{users_pass}
 use Rattle.run_passes.specs.Inside.Plans.{behind_users}
 use Rattle.run_passes.proofs.PlanFacts.{steady-users}
 use Rattle.run_passes.proofs.passes.behind_model.Goals as goal
+
+pub behind_users-requires : goal.behind_users-requires
+behind_users-requires g c =
+    let names : c.as_slice-scripts.result.now ≡ c.args.checked.scripts.names = search rules in
+    let found = subst (λ l. (users_pass l (texts_of c.args.users.now)).finds c.users_pass.new.readings c.in-Ok.texts) names c.in-Ok.ensures.comes.1 in
+    known-users c.args.checked.scripts.names found.0 c.in-Ok.texts found.2
 
 pub returns-in-Ok : goal.returns-in-Ok
 returns-in-Ok g c =

@@ -1,11 +1,15 @@
-use Rattle.std.proofs.Common.{Ok, Err, subst}
+use Rattle.std.proofs.Common.{Ok, Err, sym, subst}
 use Rattle.file_passes.specs.Halting.{Comes}
 use Rattle.file_passes.specs.Outside.{outside}
 use Rattle.file_passes.proofs.Coming.{comes-stopped, comes-mapped}
+use Rattle.judged_files.specs.Users.{AreKnown}
 use Rattle.run_passes.specs.declared.job.Job.TheVariants.{Serve}
 use Rattle.run_passes.specs.Run.{records_pass}
 use Rattle.run_passes.specs.Inside.Plans.{checked_of, served, behind_users}
 use Rattle.run_passes.proofs.passes.behind_users.Goals as goal
+
+pub records_pass-requires : goal.records_pass-requires
+records_pass-requires g c = subst (λ checked. AreKnown checked.scripts.names c.args.texts) (sym c.checked.view_is) c.requires
 
 pub returns-in-Ok : goal.returns-in-Ok
 returns-in-Ok g c =

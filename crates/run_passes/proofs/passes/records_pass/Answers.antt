@@ -1,4 +1,4 @@
-use Rattle.std.proofs.Common.{◌≡◌, ◌∙◌, ap, subst, Ok, Err}
+use Rattle.std.proofs.Common.{◌≡◌, ◌∙◌, ap, sym, subst, All, Ok, Err}
 use Rattle.cube_words.specs.Words.{texts_of}
 use Rattle.file_passes.specs.Halting.{ComesThrough, Judges}
 use Rattle.file_passes.specs.Outside.{outside}
@@ -6,9 +6,17 @@ use Rattle.file_passes.specs.Pass.{files, judged}
 use Rattle.file_passes.specs.Reading.{Goes}
 use Rattle.file_passes.proofs.Coming.{comes-stopped, comes-judged}
 use Rattle.file_passes.proofs.Going.{on-refl, on-later}
-use Rattle.judged_files.specs.Loads.{record_files, commands_judgement}
+use Rattle.judged_files.specs.Loads.{AreReady, record_files, commands_judgement}
+use Rattle.judged_files.proofs.ReadyFacts.{all-ready}
 use Rattle.run_passes.specs.Run.{records_pass}
 use Rattle.run_passes.proofs.passes.records_pass.Goals as goal
+
+pub commands_of-requires : goal.commands_of-requires
+commands_of-requires g c =
+    let again : texts_of c.deref-2.result.now ≡ record_files c.args.users = ap texts_of c.deref-2.ensures.value ∙ c.in-Ok.ensures ∙ ap record_files c.as_slice.ensures in
+    let read = subst (λ l. (files l).finds c.obtain_all.new.readings c.in-Ok-sources.sources.items) again c.in-Ok-sources.ensures in
+    subst (λ s. All (AreReady c.args.scripts.now s) c.args.users) (sym c.deref-3.ensures.value)
+    (all-ready c.args.scripts.now c.in-Ok-sources.sources.items c.obtain_all.new.readings c.args.users c.requires read)
 
 pub returns-in-Err-clause-comes : goal.returns-in-Err-clause-comes
 returns-in-Err-clause-comes g c = (on-refl (records_pass c.args.scripts.now c.args.users) (g.F.Files.known c.args.files.now) c.args.readings.now, tt)
