@@ -1,4 +1,4 @@
-ghost use Rattle.std.specs.Prelude.{◌≡◌, ◌<◌, ℕ, length, Some, None, IfOk, IsTrue};
+ghost use Rattle.std.specs.Prelude.{◌≡◌, ◌<◌, ℕ, length, Some, IfOk, IsTrue};
 ghost use Rattle.std.specs.Option.{option_map, option_and_then, ok_or};
 ghost use Rattle.cube_space.specs.Cells.{IsSpace};
 ghost use Rattle.cube_space.specs.Layout.{dims_of, sizes};
@@ -82,7 +82,10 @@ fn arg_of(
             let to = elements_from(alloc, space, cube, dim, argument, from)?;
             Ok(Arg::Moved { from, to })
         }
-        None => still(alloc, space, cube, dim, argument),
+        None => {
+            let element = element_given(alloc, space, space.dimension(dim), argument, 0)?;
+            Ok(still(space, cube, element))
+        }
     }
 }
 
@@ -120,28 +123,20 @@ fn is_own(argument: &BoundArgument, dim: u32) -> bool
     }
 }
 
-// An argument that follows no dimension.
-fn still(
-    alloc: Global,
-    space: &Space,
-    cube: u32,
-    dim: u32,
-    argument: &BoundArgument,
-) -> Result<Arg, AllocError>
+// An argument that follows no dimension: one element, or none from every cell.
+fn still(space: &Space, cube: u32, element: Option<u32>) -> Arg
     requires valid { IsSpace space.now }
     requires cube { cube < length space.now.cubes }
-    requires dim { dim < length space.now.dimensions }
-    requires within { IsTrue (is_within space.now cube argument.now) }
-    ensures { IfOk result (λ arg. arg ≡ bindings.arg_following space.now cube dim argument.now None) }
+    ensures { result ≡ bindings.still space.now cube element }
 {
-    match element_given(alloc, space, space.dimension(dim), argument, 0)? {
-        Some(element) => Ok(Arg::Fixed(element)),
+    match element {
+        Some(element) => Arg::Fixed(element),
         None => {
             let len = axis_len(space, cube, 0);
-            Ok(Arg::Moved {
+            Arg::Moved {
                 from: 0,
                 to: ElementMap::nowhere(len),
-            })
+            }
         }
     }
 }
