@@ -1,4 +1,4 @@
-use Rattle.rule_cases.proofs.ModelRules.{one_more}
+use Rattle.model_deploy.proofs.CubeRules.{one_more}
 use Rattle.rule_cases.proofs.models.all_rules.Goals as goal
 
 pub loop-cube-preserved : goal.loop-cube-preserved

@@ -1,4 +1,4 @@
-use Rattle.rule_cases.proofs.ModelRules.{AreFirst}
+use Rattle.model_deploy.proofs.CubeRules.{AreFirst}
 use Rattle.rule_cases.proofs.models.all_rules.Given as goal
 
 abbrev pub invariant-loop-cube : goal.invariant-loop-cube
