@@ -51,7 +51,8 @@ impl World for Adding {
     ghost content = { λ total. total };
 
     ghost effect = { λ total order. elim order [
-      | Add n ↦ (if nat_le n 100 && nat_le total 1000000 then Commit (total + n) (Added (total + n)) else Rejected (Refused n))
+      | Add n ↦ (if nat_le n 100 && nat_le total 1000000
+                 then Commit (total + n) (Added (total + n)) else Rejected (Refused n))
       | Ask ↦ Read (Total total)
     ] };
 

@@ -1,7 +1,7 @@
 //! Cases of users on threads, over a world of one total. `stdin` holds the cases and `stdout` what must come.
 //!
-//! A case is a heading, a line for each user, and an empty line. In a user's line a number is added, where it is at most
-//! 100, and `?` asks for the total. Lines are spelled as [`case_lines::spell`] says: `16 |1 2 ?` is sixteen users.
+//! A case is a heading, a line for each user, and an empty line. In a user's line a number is added, where it is at
+//! most 100, and `?` asks for the total. Lines are spelled as [`case_lines::spell`] says: `16 |1 2 ?` is sixteen users.
 //!
 //! The program writes each case again, and behind it how it ended, each line of it behind `> `. No order of the users
 //! changes that.
