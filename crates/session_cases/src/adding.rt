@@ -52,7 +52,7 @@ impl World for Adding {
 
     ghost effect = { λ total order. elim order [
       | Add n ↦ (if nat_le n 100 && nat_le total 1000000
-                 then Commit (total + n) (Added (total + n)) else Rejected (Refused n))
+          then Commit (total + n) (Added (total + n)) else Rejected (Refused n))
       | Ask ↦ Read (Total total)
     ] };
 
