@@ -1,2 +1,3 @@
+pub mod InOrder
 mod Found
 mod Runs

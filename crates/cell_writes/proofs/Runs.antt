@@ -8,7 +8,7 @@ use Rattle.std.specs.BTreeMap.{insert_entry}
 use Rattle.std.proofs.lemmas.Cmp.{ranked}
 use Rattle.std.proofs.lemmas.Bool.Decides.{nat_tests}
 use Rattle.cell_writes.specs.Writes.{last_writes}
-use Rattle.cell_writes.proofs.Found.{put_all}
+use Rattle.cell_writes.proofs.InOrder.{put_all}
 
 -- no write is of a cell below this one, nor below the cell of an earlier write
 abbrev NotFalling : ℕ → List (ℕ × ℤ) → Type 0

@@ -1,6 +1,6 @@
 -- For each cell its last write alone: what is stored after these is what is stored after all.
-use Rattle.std.proofs.Common.{◌≡◌, ◌∙◌, refl, sym, ap, ℕ, ◌<◌, ◌≤◌, ℤ, pos, Bool, true, false, cond, ◌&&◌, List, [], ◌∷◌, ◌++◌, fold, filter, All, Ordering, Less, Equal, Greater, nat_cmp, arith, ltb, append_assoc, append-nil}
-use Rattle.std.specs.Ordering.{int_eq, match_ordering}
+use Rattle.std.proofs.Common.{◌≡◌, ◌∙◌, refl, sym, ap, ℕ, ◌<◌, ◌≤◌, ℤ, pos, Bool, true, false, cond, ◌&&◌, List, [], ◌∷◌, ◌++◌, filter, All, Ordering, Less, Equal, Greater, nat_cmp, arith, ltb, append_assoc, append-nil}
+use Rattle.std.specs.Ordering.{int_eq}
 use Rattle.std.specs.BTreeMap.{insert_entry}
 use Rattle.std.proofs.lemmas.Cmp.{ranked}
 use Rattle.std.proofs.lemmas.Bool.Decides.{nat_tests}
@@ -8,6 +8,7 @@ use Rattle.std.proofs.lemmas.List.Elements.{All-nil, All-cons, All-head, All-tai
 use Rattle.cell_store.specs.declared.entry.Entry.{Entry}
 use Rattle.cell_store.specs.Entries.{above, after_writes, below, kept_of, with_write}
 use Rattle.cell_writes.specs.Writes.{last_writes}
+use Rattle.cell_writes.proofs.InOrder.{AllOver, InOrder, over-lower, put_in, in_order-inserted, put_all}
 
 -- ---- two writes, one after the other
 
@@ -49,34 +50,33 @@ module _ (es : List Entry) (c d : ℕ) where
       ∙ (filter_agree (λ e. ltb c e.cell && ltb e.cell d) (λ e. ltb e.cell d && ltb c e.cell) (λ e. grind (arith, nat_tests)) es
       ∙ sym (filter-filter (λ e. ltb c e.cell) (λ e. ltb e.cell d) es))
 
--- what is kept of a write lies at its cell
+-- what is kept of a write lies at its cell: a test of its cell keeps it or drops it
+module _ (p : ℕ → Bool) (c : ℕ) (n : ℤ) where
+  kept-passes : p c ≡ true → filter (λ e. p e.cell) (kept_of c n) ≡ kept_of c n
+  kept-passes passes = by (int_eq n (pos 0))
+    where
+      by : (b : Bool) → filter (λ e. p e.cell) (cond b [] (record { cell = c; number = n } ∷ [])) ≡ cond b [] (record { cell = c; number = n } ∷ [])
+      by true = refl
+      by false = rw passes refl
+
+  kept-fails : p c ≡ false → filter (λ e. p e.cell) (kept_of c n) ≡ []
+  kept-fails fails = by (int_eq n (pos 0))
+    where
+      by : (b : Bool) → filter (λ e. p e.cell) (cond b [] (record { cell = c; number = n } ∷ [])) ≡ []
+      by true = refl
+      by false = rw fails refl
+
 kept-below : (c d : ℕ) (n : ℤ) → c < d → below (kept_of c n) d ≡ kept_of c n
-kept-below c d n less = by (int_eq n (pos 0))
-  where
-    by : (b : Bool) → below (cond b [] (record { cell = c; number = n } ∷ [])) d ≡ cond b [] (record { cell = c; number = n } ∷ [])
-    by true = refl
-    by false = let here : ltb c d ≡ true = grind (arith, nat_tests, less) in rw here refl
+kept-below c d n less = kept-passes (λ cell. ltb cell d) c n (grind (arith, nat_tests, less))
 
 kept-not_below : (c d : ℕ) (n : ℤ) → d ≤ c → below (kept_of c n) d ≡ []
-kept-not_below c d n le = by (int_eq n (pos 0))
-  where
-    by : (b : Bool) → below (cond b [] (record { cell = c; number = n } ∷ [])) d ≡ []
-    by true = refl
-    by false = let here : ltb c d ≡ false = grind (arith, nat_tests, le) in rw here refl
+kept-not_below c d n le = kept-fails (λ cell. ltb cell d) c n (grind (arith, nat_tests, le))
 
 kept-above : (c d : ℕ) (n : ℤ) → d < c → above (kept_of c n) d ≡ kept_of c n
-kept-above c d n less = by (int_eq n (pos 0))
-  where
-    by : (b : Bool) → above (cond b [] (record { cell = c; number = n } ∷ [])) d ≡ cond b [] (record { cell = c; number = n } ∷ [])
-    by true = refl
-    by false = let here : ltb d c ≡ true = grind (arith, nat_tests, less) in rw here refl
+kept-above c d n less = kept-passes (λ cell. ltb d cell) c n (grind (arith, nat_tests, less))
 
 kept-not_above : (c d : ℕ) (n : ℤ) → c ≤ d → above (kept_of c n) d ≡ []
-kept-not_above c d n le = by (int_eq n (pos 0))
-  where
-    by : (b : Bool) → above (cond b [] (record { cell = c; number = n } ∷ [])) d ≡ []
-    by true = refl
-    by false = let here : ltb d c ≡ false = grind (arith, nat_tests, le) in rw here refl
+kept-not_above c d n le = kept-fails (λ cell. ltb d cell) c n (grind (arith, nat_tests, le))
 
 below-with : (es : List Entry) (c d : ℕ) (n : ℤ) → below (with_write es c n) d ≡ below (below es c) d ++ (below (kept_of c n) d ++ below (above es c) d)
 below-with es c d n =
@@ -112,28 +112,11 @@ swapped es c d m n less =
 
 -- ---- writes in the order of their cells
 
--- each write is of a cell above this one
-abbrev AllOver : ℕ → List (ℕ × ℤ) → Type 0
-AllOver c [] = Unit {0}
-AllOver c (w ∷ ws) = (c < w.0) × AllOver c ws
-
--- each cell is above those before it
-abbrev InOrder : List (ℕ × ℤ) → Type 0
-InOrder [] = Unit {0}
-InOrder (w ∷ ws) = AllOver w.0 ws × InOrder ws
-
-over-lower : (c d : ℕ) (ws : List (ℕ × ℤ)) → c ≤ d → AllOver d ws → AllOver c ws
-over-lower c d [] le all = tt
-over-lower c d (w ∷ ws) le all = (omega (arith, le, all.0), over-lower c d ws le all.1)
-
 -- a write before others of higher cells may come after them
 passed : (es : List Entry) (c : ℕ) (n : ℤ) (ws : List (ℕ × ℤ)) → AllOver c ws → after_writes (with_write es c n) ws ≡ with_write (after_writes es ws) c n
 passed es c n [] all = refl
 passed es c n (w ∷ ws) all =
     ap (λ stored. after_writes stored ws) (swapped es c w.0 n w.1 all.0) ∙ passed (with_write es w.0 w.1) c n ws all.1
-
-abbrev put_in : Ordering → ℕ → ℤ → ℕ × ℤ → List (ℕ × ℤ) → List (ℕ × ℤ)
-put_in o c n w ws = match_ordering o ((c, n) ∷ w ∷ ws) ((w.0, n) ∷ ws) (w ∷ insert_entry nat_cmp ws c n)
 
 -- a write that is put in among others counts as if it came last
 inserted : (es : List Entry) (c : ℕ) (n : ℤ) (ws : List (ℕ × ℤ)) → InOrder ws → after_writes es (insert_entry nat_cmp ws c n) ≡ with_write (after_writes es ws) c n
@@ -154,32 +137,7 @@ inserted es c n (w ∷ ws) order = by (nat_cmp c w.0) refl (inserted (with_write
         ∙ ap (λ k. with_write (after_writes (with_write es w.0 w.1) ws) k n) (sym same)))
     by Greater is later = later
 
-over-inserted : (a c : ℕ) (n : ℤ) (ws : List (ℕ × ℤ)) → a < c → AllOver a ws → AllOver a (insert_entry nat_cmp ws c n)
-over-inserted a c n [] less all = (less, tt)
-over-inserted a c n (w ∷ ws) less all = by (nat_cmp c w.0) (over-inserted a c n ws less all.1)
-  where
-    by : (o : Ordering) → AllOver a (insert_entry nat_cmp ws c n) → AllOver a (put_in o c n w ws)
-    by Less later = (less, all)
-    by Equal later = all
-    by Greater later = (all.0, later)
-
-in_order-inserted : (c : ℕ) (n : ℤ) (ws : List (ℕ × ℤ)) → InOrder ws → InOrder (insert_entry nat_cmp ws c n)
-in_order-inserted c n [] order = (tt, tt)
-in_order-inserted c n (w ∷ ws) order = by (nat_cmp c w.0) refl (in_order-inserted c n ws order.1)
-  where
-    by : (o : Ordering) → o ≡ nat_cmp c w.0 → InOrder (insert_entry nat_cmp ws c n) → InOrder (put_in o c n w ws)
-    by Less is later =
-        let less : c < w.0 = ranked c w.0 Less is in
-        ((less, over-lower c w.0 ws (omega (arith, less)) order.0), order)
-    by Equal is later = order
-    by Greater is later =
-        let less : w.0 < c = ranked c w.0 Greater is in
-        (over-inserted w.0 c n ws less order.0, later)
-
 -- ---- all the writes
-
-abbrev put_all : List (ℕ × ℤ) → List (ℕ × ℤ) → List (ℕ × ℤ)
-put_all last writes = fold (λ before write. insert_entry nat_cmp before write.0 write.1) last writes
 
 all_put : (stored : List Entry) (last writes : List (ℕ × ℤ)) → InOrder last → after_writes stored (put_all last writes) ≡ after_writes (after_writes stored last) writes
 all_put stored last [] order = refl

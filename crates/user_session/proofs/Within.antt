@@ -1,9 +1,10 @@
 -- Writes of leaf cells after which no limit is passed.
-use Rattle.std.proofs.Common.{◌≡◌, ℕ, ℤ, ◌≤◌, subst, ap, sym, true, List, [], length, Some}
+use Rattle.std.proofs.Common.{◌≡◌, ℕ, ℤ, ◌≤◌, subst, sym, true, List, [], length, Some}
 use Rattle.std.specs.Prelude.{option_and_then}
 use Rattle.std.proofs.lemmas.List.Elements.{All-nil}
 use Rattle.std.proofs.lemmas.Option.{cond_some, option_and_then_some}
 use Rattle.cell_reader.specs.Limits.{fed_count}
+use Rattle.cell_reader.proofs.Limits.{count_of}
 use Rattle.cell_store.specs.Entries.{after_writes, most_cells}
 use Rattle.cell_store.specs.declared.entry.Entry.{Entry}
 use Rattle.cell_versions.specs.Versions.{AreLeafWrites}
@@ -12,16 +13,10 @@ use Rattle.cube_space.specs.Cells.{IsCell, IsSpace, cell_number, is_leaf_cell, i
 use Rattle.cube_space.specs.Layout.{Layout, axes, cube_names}
 use Rattle.cube_space.proofs.Places.{place_number, is_place-parts, place-within}
 use Rattle.dim_name.specs.Name.{place_of}
-use Rattle.fed_laws.proofs.Reached.{fed_list, list_fed, list_rises}
 use Rattle.feed_map.specs.FedCells.{AreFedCells, most_fed}
-use Rattle.fed_laws.specs.FedCells.{fed_cells}
-use Rattle.model_laws.proofs.Formed.{well_formed}
-use Rattle.rising_lists.proofs.Members.{same_members}
 use Rattle.rule_model.specs.BoundModel.{BoundModel}
 use Rattle.rule_model.specs.Conditions.{AreRules}
 use Rattle.rule_model.specs.Named.{cell_named, elements_named}
-use Rattle.rule_model.specs.System.{system_of}
-use Rattle.stored_values.specs.Stored.{stored_in}
 use Rattle.user_session.specs.declared.content.Content.{Content}
 use Rattle.user_session.proofs.LastWrites.{each_last, leave_the_same}
 
@@ -45,15 +40,6 @@ named-cell space cube names c is =
     (λ k there here. option_and_then_some (cell_number space k) (elements_named (axes space k) names) c here (λ elements named number. number-cell space k elements c number))
 
 -- no limit is passed in a version
-count_of : (model : BoundModel) (stored : List Entry) (fed : List ℕ) → IsSpace model.space → AreRules model.space model.rules → AreFedCells model stored fed
-    → fed_count model stored ≡ length fed
-unfolding fed_count
-count_of model stored fed valid rules are =
-    let system = system_of model in
-    ap length
-    (same_members (fed_cells system (stored_in stored)) fed (list_rises system (stored_in stored)) are.rising
-    (λ c. (λ has. (are.fed c).1 (list_fed system (stored_in stored) c has), λ has. fed_list system (stored_in stored) (well_formed model valid rules) c ((are.fed c).0 has))))
-
 pub before-writes : (content : Content) (fed : List ℕ) → IsSpace content.model.space → AreRules content.model.space content.model.rules → length content.stored ≤ most_cells
     → AreFedCells content.model content.stored fed → length fed ≤ most_fed → AreWithin content []
 before-writes content fed valid rules few_stored are few_fed = record {
