@@ -52,17 +52,17 @@ module _ (es : List Entry) (c d : ℕ) where
 
 -- what is kept of a write lies at its cell: a test of its cell keeps it or drops it
 module _ (p : ℕ → Bool) (c : ℕ) (n : ℤ) where
-  kept-passes : p c ≡ true → filter (λ e. p e.cell) (kept_of c n) ≡ kept_of c n
+  kept-passes : p c ≡ true → filter (λ (e : Entry). p e.cell) (kept_of c n) ≡ kept_of c n
   kept-passes passes = by (int_eq n (pos 0))
     where
-      by : (b : Bool) → filter (λ e. p e.cell) (cond b [] (record { cell = c; number = n } ∷ [])) ≡ cond b [] (record { cell = c; number = n } ∷ [])
+      by : (b : Bool) → filter (λ (e : Entry). p e.cell) (cond b [] (record { cell = c; number = n } ∷ [])) ≡ cond b [] (record { cell = c; number = n } ∷ [])
       by true = refl
       by false = rw passes refl
 
-  kept-fails : p c ≡ false → filter (λ e. p e.cell) (kept_of c n) ≡ []
+  kept-fails : p c ≡ false → filter (λ (e : Entry). p e.cell) (kept_of c n) ≡ []
   kept-fails fails = by (int_eq n (pos 0))
     where
-      by : (b : Bool) → filter (λ e. p e.cell) (cond b [] (record { cell = c; number = n } ∷ [])) ≡ []
+      by : (b : Bool) → filter (λ (e : Entry). p e.cell) (cond b [] (record { cell = c; number = n } ∷ [])) ≡ []
       by true = refl
       by false = rw fails refl
 
