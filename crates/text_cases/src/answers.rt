@@ -6,17 +6,17 @@ use std::fmt::{Debug, Write};
 /// What a text gives.
 #[derive(Drop)]
 pub enum Answer {
-    /// What is shown of what was read.
-    Shown(Vec<u8>),
+    /// What is printed of what was read.
+    Printed(Vec<u8>),
     /// The fault for which the text is refused.
     Refused(String),
 }
 
 impl Answer {
     /// The bytes to be written.
-    pub fn into_shown(self) -> Vec<u8> {
+    pub fn into_bytes(self) -> Vec<u8> {
         match self {
-            Answer::Shown(shown) => shown,
+            Answer::Printed(printed) => printed,
             Answer::Refused(fault) => fault.into_bytes(),
         }
     }
@@ -53,7 +53,7 @@ impl Lines {
     /// All the lines.
     pub fn answer(self) -> Result<Answer, AllocError> {
         self.outcome?;
-        Ok(Answer::Shown(self.text.into_bytes()))
+        Ok(Answer::Printed(self.text.into_bytes()))
     }
 }
 

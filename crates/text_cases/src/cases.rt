@@ -33,10 +33,10 @@ fn answer_text(
         return answer_cuts(alloc, kind, text, out);
     }
     if let Some(kind) = kind.strip_prefix("last ") {
-        let shown = answer_to(alloc, kind, text)?.into_shown();
+        let shown = answer_to(alloc, kind, text)?.into_bytes();
         return write_answer(out, last_line(&shown));
     }
-    write_answer(out, &answer_to(alloc, kind, text)?.into_shown())
+    write_answer(out, &answer_to(alloc, kind, text)?.into_bytes())
 }
 
 fn spell_lines(lines: &str, text: &mut Vec<u8>) -> Result<bool, AllocError> {
@@ -80,7 +80,7 @@ fn answer_cuts(
 
 fn outcome_of(alloc: Global, kind: &str, text: &[u8]) -> Result<String, AllocError> {
     match answer_to(alloc, kind, text)? {
-        Answer::Shown(_) => String::from_str(alloc, "is read"),
+        Answer::Printed(_) => String::from_str(alloc, "is read"),
         Answer::Refused(fault) => Ok(fault),
     }
 }

@@ -34,7 +34,7 @@ pub fn block(alloc: Global, text: &[u8], part: Part) -> Result<Answer, AllocErro
 fn printed(alloc: Global, block: &DimText) -> Result<Answer, AllocError> {
     let mut out = Vec::new(alloc);
     dim_text::print(alloc, block, &mut out)?;
-    Ok(Answer::Shown(out))
+    Ok(Answer::Printed(out))
 }
 
 fn elements(

@@ -19,10 +19,10 @@ pub fn names(alloc: Global, text: &[u8]) -> Result<Answer, AllocError> {
 pub fn numbers(alloc: Global, text: &[u8]) -> Result<Answer, AllocError> {
     let mut out = Vec::new(alloc);
     for line in shown(text).lines() {
-        out.extend_from_slice(&result_of(alloc, line)?.into_shown())?;
+        out.extend_from_slice(&result_of(alloc, line)?.into_bytes())?;
         out.push(b'\n')?;
     }
-    Ok(Answer::Shown(out))
+    Ok(Answer::Printed(out))
 }
 
 fn result_of(alloc: Global, line: &str) -> Result<Answer, AllocError> {
@@ -33,7 +33,7 @@ fn result_of(alloc: Global, line: &str) -> Result<Answer, AllocError> {
         (Ok(a), Ok(b)) => {
             let mut out = Vec::new(alloc);
             cube_fixed::print(alloc, computed(word, a, b), &mut out)?;
-            Ok(Answer::Shown(out))
+            Ok(Answer::Printed(out))
         }
         (Err(fault), _) | (_, Err(fault)) => refused(alloc, &fault),
     }

@@ -14,7 +14,7 @@ pub fn model(alloc: Global, text: &[u8]) -> Result<Answer, AllocError> {
 fn printed(alloc: Global, model: &ModelText) -> Result<Answer, AllocError> {
     let mut out = Vec::new(alloc);
     model_text::print(alloc, model, &mut out)?;
-    Ok(Answer::Shown(out))
+    Ok(Answer::Printed(out))
 }
 
 /// Rules, printed.
@@ -23,7 +23,7 @@ pub fn rules(alloc: Global, text: &[u8]) -> Result<Answer, AllocError> {
         Ok(rules) => {
             let mut out = Vec::new(alloc);
             rule_parse::print(alloc, &rules, &mut out)?;
-            Ok(Answer::Shown(out))
+            Ok(Answer::Printed(out))
         }
         Err(fault) => refused(alloc, &fault),
     }
