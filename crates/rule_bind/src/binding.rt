@@ -1,5 +1,5 @@
 ghost use Rattle.std.specs.Prelude.{◌≡◌, ◌+◌, ◌∷◌, [], ◌++◌, ◌<◌, ◌≤◌, ◌^◌, length, OnOk, IfErr};
-ghost use Rattle.rule_tree.specs.Counting.{most};
+ghost use Rattle.rule_tree.specs.Counting.{most_statements};
 ghost use Rattle.bind_areas.specs.declared.cause.BindCause.TheVariants.{Memory};
 ghost use Rattle.rule_bind.specs.declared.fault.BindAt.TheVariants as places;
 ghost use Rattle.rule_bind.specs.Rules.{statement_of, feeders_of, standing_at, statements_of, all_feeders_of};
@@ -24,7 +24,7 @@ fn next_statement(
     text: &StatementText,
 ) -> Result<Statement, BindFault>
     requires cube { cube < length space.now.cubes }
-    requires few { before < most }
+    requires few { before < most_statements }
     ensures { IsBound (standing_at (places.Statement (before + 1)) (statement_of space.now cube text.now)) result }
 {
     match statement_of(alloc, space, cube, text) {
@@ -42,7 +42,7 @@ fn add_statement(
     before: u32,
     statement: Statement,
 ) -> Result<(), BindFault>
-    requires few { before < most }
+    requires few { before < most_statements }
     ensures added { OnOk result (statements.new.items ≡ statements.old.items ++ statement ∷ []) }
     ensures memory { IfErr result (λ fault. fault.cause ≡ Memory) }
 {
@@ -64,7 +64,7 @@ fn statements_of(
     texts: &[StatementText],
 ) -> Result<ListOf<Statement>, BindFault>
     requires cube { cube < length space.now.cubes }
-    requires few { length texts.now ≤ most }
+    requires few { length texts.now ≤ most_statements }
     ensures { IsBound (statements_of space.now cube 0 texts.now) result }
 {
     let mut statements = Vec::new(alloc);
@@ -84,7 +84,7 @@ fn next_feeders(
     text: &FeederText,
 ) -> Result<ListOf<Feeder>, BindFault>
     requires cube { cube < length space.now.cubes }
-    requires few { before < most }
+    requires few { before < most_statements }
     ensures { IsBound (standing_at (places.Feeder (before + 1)) (feeders_of space.now cube before text.now)) result }
 {
     match feeders_of(alloc, space, cube, before, text) {
@@ -102,7 +102,7 @@ fn add_feeders(
     before: u32,
     more: ListOf<Feeder>,
 ) -> Result<(), BindFault>
-    requires few { before < most }
+    requires few { before < most_statements }
     ensures added { OnOk result (feeders.new.items ≡ feeders.old.items ++ more) }
     ensures memory { IfErr result (λ fault. fault.cause ≡ Memory) }
 {
@@ -125,7 +125,7 @@ fn all_feeders_of(
     texts: &[FeederText],
 ) -> Result<ListOf<Feeder>, BindFault>
     requires cube { cube < length space.now.cubes }
-    requires few { length texts.now ≤ most }
+    requires few { length texts.now ≤ most_statements }
     ensures { IsBound (all_feeders_of space.now cube 0 texts.now) result }
 {
     let mut feeders = Vec::new(alloc);
@@ -148,8 +148,8 @@ pub fn bind(
     text: &RuleText,
 ) -> Result<CubeRules, BindFault>
     requires cube { cube < length space.now.cubes }
-    requires statements { length text.now.statements ≤ most }
-    requires feeders { length text.now.feeders ≤ most }
+    requires statements { length text.now.statements ≤ most_statements }
+    requires feeders { length text.now.feeders ≤ most_statements }
     ensures bound { IsBound (rules_of space.now cube text.now) result }
 {
     let statements = statements_of(alloc, space, cube, text.statements.as_slice())?;
