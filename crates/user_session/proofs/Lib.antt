@@ -3,3 +3,4 @@ pub mod Within
 pub mod Kept
 pub mod Accepted
 pub mod Loads
+pub mod Told

@@ -70,13 +70,18 @@ within_limits model stored writes =
     else if nat_lt most_fed (fed_count model stored) then rejected FedLimit
     else committed writes
 
--- a write of this number into a cell: the first reason that holds against it, or the one write
+-- one write of this number, into a leaf cell that takes numbers
+abbrev pub write_effect : Content → ℕ → ℤ → PlanEffect
+write_effect content cell number =
+    within_limits content.model (after_writes content.stored ((cell, number) ∷ [])) ((cell, number) ∷ [])
+
+-- a number that is put into a cell: the first reason that holds against it, or the one write
 abbrev pub put_effect : Content → Option ℕ → ℤ → PlanEffect
 put_effect content None number = rejected UnknownName
 put_effect content (Some cell) number =
     if not (is_leaf_cell content.model.space cell) then rejected NotALeaf
     else if not (is_input content.model cell) then rejected RuleDerived
-    else within_limits content.model (after_writes content.stored ((cell, number) ∷ [])) ((cell, number) ∷ [])
+    else write_effect content cell number
 
 -- a question for the value of a cell
 abbrev pub get_effect : Content → Option ℕ → PlanEffect

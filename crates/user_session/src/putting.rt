@@ -1,6 +1,7 @@
-ghost use Rattle.std.specs.Prelude.{◌≡◌, IfOk};
+ghost use Rattle.std.specs.Prelude.{◌≡◌, true, IfOk};
+ghost use Rattle.cube_space.specs.Cells.{IsCell, is_leaf_cell};
 ghost use Rattle.user_session.specs.Content.{content_of};
-ghost use Rattle.user_session.specs.Planning.{committed, named_cell, put_effect, rejected};
+ghost use Rattle.user_session.specs.Planning.{committed, named_cell, put_effect, rejected, write_effect};
 
 use crate::reply::{Reason, Reply};
 use crate::world::PlanEffect;
@@ -33,6 +34,21 @@ pub(crate) fn put(
     if !is_input(model, cell) {
         return rejected(alloc, Reason::RuleDerived);
     }
+    write(alloc, state, cell, number)
+}
+
+// The effect of one write into a leaf cell that takes numbers.
+fn write(
+    alloc: Global,
+    state: &mut Snapshot,
+    cell: u64,
+    number: Money,
+) -> Result<PlanEffect, AllocError>
+    requires cell { IsCell (content_of state.old).model.space cell }
+    requires leaf { is_leaf_cell (content_of state.old).model.space cell ≡ true }
+    ensures effect { IfOk result (λ found. found ≡ write_effect (content_of state.old) cell number) }
+    ensures kept { content_of state.new ≡ content_of state.old }
+{
     let mut work = Work::over(alloc, state)?;
     match work.put(alloc, cell, number) {
         Ok(()) => {
