@@ -2,7 +2,7 @@ use dim_name::Name;
 use sqlite_items::Boxed;
 
 /// An element argument with its names bound. Dimensions go by their numbers in the model.
-#[derive(Debug, Drop)]
+#[derive(Drop)]
 pub(crate) enum BoundArgument {
     /// A text, which is the name of an element, or no name.
     Text(Option<Name>),

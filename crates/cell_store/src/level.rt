@@ -15,7 +15,7 @@ use std::mem;
 pub const HALF_LEVEL: usize = 8;
 
 /// Entries in the order of their cells: nodes that versions share, and after them a part that they don't.
-#[derive(Debug, Drop)]
+#[derive(Drop)]
 pub struct Level<T> {
     pub nodes: Vec<Node<T>>,
     pub last: T,

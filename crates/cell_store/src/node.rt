@@ -8,7 +8,7 @@ use std::alloc::{AllocError, Global};
 use std::sync::Arc;
 
 /// A part that versions share.
-#[derive(Debug, Drop)]
+#[derive(Drop)]
 pub struct Node<T> {
     /// The cell of the last entry.
     pub last: u64,

@@ -10,7 +10,7 @@ use std::alloc::{AllocError, Global};
 pub const HALF_PAGE: usize = 32;
 
 /// Entries in the order of their cells, which are copied where one changes.
-#[derive(Debug, Drop)]
+#[derive(Drop)]
 pub struct Page<E> {
     pub entries: Vec<E>,
 }

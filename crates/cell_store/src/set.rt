@@ -10,7 +10,7 @@ use std::alloc::{AllocError, Global};
 use std::marker::Model;
 
 /// A set of cells, in pages that it shares with the sets that were made from it.
-#[derive(Debug, Drop)]
+#[derive(Drop)]
 pub struct PageSet {
     tree: Tree<u64>,
     len: usize,

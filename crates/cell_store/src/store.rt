@@ -17,7 +17,7 @@ use std::marker::Model;
 pub const MAX_CELLS: usize = 1_000_000;
 
 /// The stored cells with their numbers. A cell that isn't stored has the number 0.
-#[derive(Debug, Drop)]
+#[derive(Drop)]
 pub struct Store {
     tree: Tree<Entry>,
     len: usize,

@@ -3,7 +3,7 @@ use rule_evaluate::Ask;
 use sparse_sum::Walk;
 
 /// A cell is evaluated, from the statement that governs it on.
-#[derive(Debug, Drop)]
+#[derive(Drop)]
 pub struct Evaluation {
     pub(crate) cell: u64,
     pub(crate) statement: u32,
@@ -14,7 +14,7 @@ pub struct Evaluation {
 }
 
 /// The stored or fed leaf cells below a cell are added up.
-#[derive(Debug, Drop)]
+#[derive(Drop)]
 pub struct LeafSum {
     pub(crate) walk: Walk,
     /// How often the cell counts that waits for its value.
@@ -22,7 +22,7 @@ pub struct LeafSum {
 }
 
 /// The components of a cell's element in a dimension are added up.
-#[derive(Debug, Drop)]
+#[derive(Drop)]
 pub struct ComponentSum {
     pub(crate) cell: u64,
     pub(crate) dim: u32,
@@ -34,7 +34,7 @@ pub struct ComponentSum {
 }
 
 /// What is done of the work on a question.
-#[derive(Debug, Drop)]
+#[derive(Drop)]
 pub enum Frame {
     Evaluation(Evaluation),
     Leaves(LeafSum),

@@ -7,7 +7,7 @@ use crate::value::Value;
 use std::marker::Model;
 
 /// A weighted sum that is exact to its end: the range is tested once, by [`Sum::value`].
-#[derive(Debug, Drop)]
+#[derive(Drop)]
 pub struct Sum {
     exact: i128,
     over: bool,

@@ -15,7 +15,7 @@ use crate::token::Kind;
 const TOKEN_LIMIT: usize = 1024;
 
 /// What a text begins with: a token of a kind, or white space or a comment, which have none; and what follows.
-#[derive(Clone, Copy, Debug)]
+#[derive(Clone, Copy)]
 pub struct Front<'a> {
     pub kind: Option<Kind>,
     pub bytes: &'a [u8],

@@ -8,7 +8,7 @@ use std::alloc::{AllocError, Global};
 use std::marker::Model;
 
 /// The tokens of a text up to its first fault, in order. They borrow the text.
-#[derive(Debug, Drop)]
+#[derive(Drop)]
 pub struct Tokens<'a> {
     tokens: Vec<Token<'a>>,
     end_line: u32,

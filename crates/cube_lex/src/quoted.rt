@@ -10,7 +10,7 @@ use std::alloc::{AllocError, Global};
 pub const QUOTE: u8 = b'\'';
 
 /// How a quoted text goes on behind its first quote.
-#[derive(Clone, Copy, Debug)]
+#[derive(Clone, Copy)]
 pub enum QuoteEnd {
     /// Its last quote stands at this place.
     Closed(usize),

@@ -1,5 +1,5 @@
 /// The kind of a token.
-#[derive(Clone, Copy, Debug, PartialEq, Eq)]
+#[derive(Clone, Copy, Debug, Eq, PartialEq)]
 pub enum Kind {
     /// A letter or `_`, then letters, digits and `_`. The case of letters doesn't count.
     Word,
@@ -12,7 +12,7 @@ pub enum Kind {
 }
 
 /// A token of a text, which it borrows.
-#[derive(Clone, Copy, Debug)]
+#[derive(Clone, Copy)]
 pub struct Token<'a> {
     pub kind: Kind,
     /// Its bytes as they are written.

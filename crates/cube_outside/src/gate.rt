@@ -7,7 +7,7 @@ pub trait Gate {
 }
 
 /// The gate that holds nobody.
-#[derive(Clone, Copy, Debug)]
+#[derive(Clone, Copy)]
 pub struct FreeGate;
 
 impl Gate for FreeGate {

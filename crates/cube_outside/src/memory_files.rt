@@ -11,7 +11,7 @@ use std::alloc::{AllocError, Global};
 
 /// Files in memory: pairs of a name and its bytes, where the first pair with a name holds. A read fails at a name that
 /// no pair has, and at each call whose number was given to `fail_at`. Calls count from 1.
-#[derive(Debug, Drop)]
+#[derive(Drop)]
 pub struct MemoryFiles {
     pub pairs: Vec<(Vec<u8>, Vec<u8>)>,
     /// The numbers of the calls that fail.

@@ -10,7 +10,7 @@ use crate::sink::{Sink, SinkFault};
 use std::alloc::{AllocError, Global};
 
 /// A sink that keeps its bytes. A write fails at each call whose number was given to `fail_at`. Calls count from 1.
-#[derive(Debug, Drop)]
+#[derive(Drop)]
 pub struct MemorySink {
     pub bytes: Vec<u8>,
     /// The numbers of the calls that fail, each with the number of bytes that it keeps of its piece.

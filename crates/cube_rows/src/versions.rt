@@ -6,7 +6,7 @@ use version_core::{Core, Event};
 /// A world of two numbers.
 struct Numbers;
 
-#[derive(Clone, Copy, Debug, PartialEq, Eq)]
+#[derive(Clone, Copy, PartialEq, Eq)]
 struct Two {
     left: u32,
     right: u32,

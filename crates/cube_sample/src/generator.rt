@@ -6,7 +6,7 @@ const MULTIPLIER: u64 = 48_271;
 const MODULUS: u64 = 2_147_483_647;
 
 /// Numbers that follow from one another, by the multiplier 48,271 modulo 2^31 - 1.
-#[derive(Clone, Copy, Debug)]
+#[derive(Clone, Copy)]
 pub(crate) struct Generator {
     pub(crate) last: u32,
 }

@@ -11,7 +11,7 @@ use lists::ListOf;
 use std::alloc::Global;
 
 /// The cells of a cube: the number of the first, the number after the last, and how many elements each dimension has.
-#[derive(Debug, Drop)]
+#[derive(Drop)]
 pub struct Run {
     pub first: u64,
     pub end: u64,

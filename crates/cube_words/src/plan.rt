@@ -1,5 +1,5 @@
 /// What the words ask for.
-#[derive(Debug, Drop)]
+#[derive(Drop)]
 pub enum Plan<'a> {
     /// The users' commands are run on the model, each from the file of its name.
     Run { model: &'a str, users: &'a [String] },

@@ -2,7 +2,7 @@ use crate::Name;
 use lists::ListOf;
 
 /// A text of an element, under the name of an attribute as it was written.
-#[derive(Debug, Drop)]
+#[derive(Drop)]
 pub struct Attribute {
     pub element: u32,
     pub name: Name,

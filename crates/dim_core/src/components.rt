@@ -4,7 +4,7 @@ use crate::Name;
 use std::marker::Model;
 
 /// The components of an element by name, each with its weight.
-#[derive(Debug, Drop)]
+#[derive(Drop)]
 pub struct NamedComponents {
     items: Vec<(Name, i64)>,
 }

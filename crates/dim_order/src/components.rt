@@ -3,7 +3,7 @@ ghost use Rattle.std.specs.Prelude.{◌≡◌};
 use std::marker::Model;
 
 /// The components of an element by index, each with its weight.
-#[derive(Debug, Drop)]
+#[derive(Drop)]
 pub struct Components {
     items: Vec<(u32, i64)>,
 }

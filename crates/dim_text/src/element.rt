@@ -14,7 +14,7 @@ use grammar::{
 use std::alloc::Global;
 
 /// A statement of a block, with the line of its first word.
-#[derive(Debug, Drop)]
+#[derive(Drop)]
 pub enum Element {
     Leaf(u32, Name),
     /// Its components, each with its weight.

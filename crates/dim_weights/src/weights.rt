@@ -24,7 +24,7 @@ pub const MAX_COEFFICIENT: u64 = 1_000_000_000;
 pub const MAX_PAIRS: usize = 4_000_000;
 
 /// How much each leaf of a dimension counts in each element. Elements are named by their index.
-#[derive(Debug, Drop)]
+#[derive(Drop)]
 pub struct Weights {
     rows: Vec<ListOf<(u32, i64)>>,
     greatest: i64,

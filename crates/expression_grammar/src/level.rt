@@ -1,5 +1,5 @@
 /// A level of operators between two operands.
-#[derive(Clone, Copy, Debug)]
+#[derive(Clone, Copy)]
 pub enum Level {
     /// `%`, which joins truths.
     Or,

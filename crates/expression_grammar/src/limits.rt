@@ -18,7 +18,7 @@ const MOST_PRIMARIES: u32 = 1_000;
 pub const MOST_INSIDE: u32 = 64;
 
 /// How deep and how long a whole expression is so far.
-#[derive(Clone, Copy, Debug)]
+#[derive(Clone, Copy)]
 pub struct Limits {
     /// Parentheses that are open.
     pub depth: u32,

@@ -1,12 +1,12 @@
 /// What an expression is: a value, which is a number or a text, or a truth.
-#[derive(Clone, Copy, Debug)]
+#[derive(Clone, Copy)]
 pub enum Sort {
     Value,
     Truth,
 }
 
 /// What an expression may be at a place.
-#[derive(Clone, Copy, Debug)]
+#[derive(Clone, Copy)]
 pub enum Want {
     /// A value alone.
     Value,

@@ -3,7 +3,7 @@ use cube_outside::FileFault;
 use std::alloc::{AllocError, AllocFailed};
 
 /// Why a run goes no further.
-#[derive(Debug, Drop)]
+#[derive(Drop)]
 pub enum Halt {
     /// The words aren't in the grammar.
     NotWords,

@@ -11,7 +11,7 @@ use std::alloc::{AllocError, Global};
 use std::marker::Model;
 
 /// A file that was read, as it is judged: its name and its bytes.
-#[derive(Debug, Drop)]
+#[derive(Drop)]
 pub struct Source<'a> {
     name: &'a str,
     bytes: &'a [u8],

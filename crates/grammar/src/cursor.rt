@@ -77,7 +77,7 @@ impl<'a, S> Cursor<'a, S> {
 }
 
 /// No watch.
-#[derive(Clone, Copy, Debug)]
+#[derive(Clone, Copy)]
 pub struct Unwatched;
 
 impl<C> Scan<C> for Unwatched {

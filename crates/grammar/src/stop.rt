@@ -1,7 +1,7 @@
 use std::alloc::{AllocError, AllocFailed};
 
 /// Why a reader stops.
-#[derive(Debug, Drop)]
+#[derive(Drop)]
 pub enum Stop<C> {
     /// Want of memory.
     Memory,

@@ -1,6 +1,6 @@
 /// What a command does on one version of the content: it commits writes, it is rejected, or it only reads.
 /// Each has the reply that its user is told.
-#[derive(Debug, Drop)]
+#[derive(Drop)]
 pub enum Effect<T, R> {
     /// The command is accepted, and these are its writes.
     Commit(T, R),

@@ -1,5 +1,5 @@
 /// One accepted command of a history. Users and the commands of each user count from 1.
-#[derive(Debug, Drop)]
+#[derive(Drop)]
 pub struct Entry<T> {
     pub user: u32,
     pub command: u32,

@@ -1,5 +1,5 @@
 /// What a user is told of one command: the number of the version that the reply speaks of, and the reply.
-#[derive(Debug, Drop)]
+#[derive(Drop)]
 pub struct Told<R> {
     pub place: u64,
     pub reply: R,

@@ -2,7 +2,7 @@ use lists::ListOf;
 use user_text::ParamText;
 
 /// A load that is to run.
-#[derive(Debug, Drop)]
+#[derive(Drop)]
 pub struct Job {
     /// The script's place in the model, from 0.
     pub script: u32,

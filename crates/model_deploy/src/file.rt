@@ -7,7 +7,7 @@ use lists::ListOf;
 use std::alloc::{AllocError, Global};
 
 /// A file of rules that was read.
-#[derive(Debug, Drop)]
+#[derive(Drop)]
 pub struct RuleFile {
     /// The bytes of its name, by which a refusal tells it.
     pub name: ListOf<u8>,

@@ -2,7 +2,7 @@ use dim_name::Name;
 use lists::ListOf;
 
 /// The `ORDER` line of a cube, as it is written. Names aren't looked up yet.
-#[derive(Debug, Drop)]
+#[derive(Drop)]
 pub struct OrderLine {
     /// The version of the model text in which it stands, 1 or 2.
     pub version: u32,
@@ -11,7 +11,7 @@ pub struct OrderLine {
 }
 
 /// One position of an order line. Numbers are below 2^31.
-#[derive(Debug, Drop)]
+#[derive(Drop)]
 pub enum OrderWord {
     /// The same number for every cell.
     Constant(u32),

@@ -3,7 +3,7 @@ use dim_name::Name;
 use lists::ListOf;
 
 /// A cube as it stands in a model text.
-#[derive(Debug, Drop)]
+#[derive(Drop)]
 pub struct CubeText {
     /// The line of its `CUBE`.
     pub line: u32,
@@ -17,7 +17,7 @@ pub struct CubeText {
 }
 
 /// A load script as it stands in a model text.
-#[derive(Debug, Drop)]
+#[derive(Drop)]
 pub struct ScriptText {
     /// The line of its `SCRIPT`.
     pub line: u32,

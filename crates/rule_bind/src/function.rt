@@ -4,7 +4,7 @@ ghost use Rattle.rule_bind.specs.Functions.{value_function, function_of};
 use rule_laws::{Fun, Op};
 
 /// A function that is a value.
-#[derive(Clone, Copy, Debug, PartialEq, Eq)]
+#[derive(Clone, Copy, PartialEq, Eq)]
 pub(crate) enum Function {
     /// `IF`
     If,

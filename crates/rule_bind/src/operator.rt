@@ -5,7 +5,7 @@ use rule_laws::{Op, Rel};
 use rule_tree::TreeOp;
 
 /// What an operator stands for: a value of two values, a truth of two values, or a truth of two truths.
-#[derive(Clone, Copy, Debug, PartialEq, Eq)]
+#[derive(Clone, Copy, PartialEq, Eq)]
 pub(crate) enum Operator {
     Operation(Op),
     Comparison(Rel),

@@ -1,10 +1,8 @@
 use crate::commands::answer_commands;
-use crate::deploys::deployed;
 use crate::files::Files;
 use crate::kind::Kind;
-use crate::models::{accepted, model_of};
+use crate::models::{counts_of, model_of};
 use crate::refusal::Refusal;
-use crate::verdict::add_verdict;
 use case_lines::{Texts, write_answer};
 use std::alloc::{AllocError, Global};
 
@@ -51,17 +49,10 @@ fn unread(alloc: Global) -> Result<Option<String>, AllocError> {
     Ok(Some(String::from_str(alloc, "a line of this case is none of a text")?))
 }
 
-// What is told of the rules of these files, and then of their feeders or of each command.
+// What is told of the rules of these files, and then of each command.
 fn answer_of(alloc: Global, files: &Files, kind: Kind) -> Result<String, Refusal> {
-    if kind == Kind::Deploy {
-        return deployed(alloc, files);
-    }
-    let model = model_of(alloc, files)?;
-    let mut told = accepted(alloc, &model)?;
-    if kind == Kind::Feeders {
-        add_verdict(alloc, &model, &mut told)?;
-        return Ok(told);
-    }
-    answer_commands(alloc, &model, files.file("user"), kind, &mut told)?;
+    let accepted = model_of(alloc, files)?;
+    let mut told = counts_of(alloc, accepted.model())?;
+    answer_commands(alloc, accepted.model(), files.file("user"), kind, &mut told)?;
     Ok(told)
 }

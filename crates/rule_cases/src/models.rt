@@ -1,100 +1,77 @@
-ghost use Rattle.std.specs.Prelude.{◌≡◌, ◌<◌, ◌≤◌, length, IfOk};
-ghost use Rattle.rule_laws.specs.OrderByPlace.{IsOrderedByPlace};
-ghost use Rattle.rule_model.specs.Conditions.{AreCubeRules, AreRules};
-ghost use Rattle.rule_model.specs.System.{system_of, positions_of};
-ghost use Rattle.rule_model.specs.Weights.{AreWeightsOf, HasSmallProducts};
+ghost use Rattle.std.specs.Prelude.{◌≡◌, length, IfOk};
 ghost use Rattle.rule_dense.specs.Limits.{IsLow};
 
-use crate::bound::bound_rules;
 use crate::files::Files;
 use crate::refusal::Refusal;
-use bind_order::bind_order;
-use check_order::check_order;
-use model_deploy::{Foundation, foundation_of};
-use model_text::{CubeText, ModelText};
-use rule_model::{CubeRules, Model};
-use std::alloc::Global;
+use accepted::Accepted;
+use lists::ListOf;
+use model_deploy::{At, DeployCause, DeployFault, RuleFile, deploy};
+use rule_core::Model;
+use std::alloc::{AllocError, Global};
 
-/// The model of these files, whose order was checked.
-pub fn model_of(alloc: Global, files: &Files) -> Result<Model, Refusal>
-    ensures ordered { IfOk result (λ model. IsOrderedByPlace (system_of model) (positions_of model)) }
+/// The model of these files; where it isn't accepted the first refusal, as `refused rules 2: statement 1: NotFed(1)`.
+pub fn model_of(alloc: Global, files: &Files) -> Result<Accepted, Refusal>
     ensures low { IfOk result (λ model. IsLow model) }
 {
-    let (_dims, cubes, _scripts) = text_of(alloc, files)?.into_parts();
-    let found = foundation(alloc, files)?;
-    let rules = all_rules(alloc, &found, &cubes, files)?;
-    let Foundation { space, weights, .. } = found;
-    let model = Model::of(space, weights, rules)?;
-    match check_order(&model) {
-        Ok(()) => Ok(model),
-        Err(fault) => Err(Refusal::of(alloc, &fault)),
-    }
-}
-
-/// The model text of these files.
-pub fn text_of(alloc: Global, files: &Files) -> Result<ModelText, Refusal> {
-    match model_text::read(alloc, files.file("model")) {
-        Ok(text) => Ok(text),
-        Err(fault) => Err(Refusal::of(alloc, &fault)),
-    }
-}
-
-fn foundation(alloc: Global, files: &Files) -> Result<Foundation, Refusal>
-    ensures weights { IfOk result (λ found. AreWeightsOf found.space.dimensions found.weights.items) }
-    ensures products { IfOk result (λ found. HasSmallProducts found.space) }
-{
-    let text = text_of(alloc, files)?;
-    match foundation_of(alloc, text) {
-        Ok(found) => Ok(found),
-        Err(fault) => Err(Refusal::of(alloc, &fault)),
-    }
-}
-
-// The rules of each cube, or the first refusal.
-fn all_rules(
-    alloc: Global,
-    found: &Foundation,
-    cubes: &[CubeText],
-    files: &Files,
-) -> Result<Vec<CubeRules>, Refusal>
-    requires { AreWeightsOf found.now.space.dimensions found.now.weights.items }
-    ensures { IfOk result (λ rules. AreRules found.now.space rules.items) }
-{
-    let mut rules = Vec::new(alloc);
-    for cube in 0..found.space.cubes() {
-        let bound = rules_of(alloc, found, cube, cubes, files)?;
-        rules.push(bound)?;
-    }
-    Ok(rules)
-}
-
-// The rules of a cube, with its order.
-fn rules_of(
-    alloc: Global,
-    found: &Foundation,
-    cube: u32,
-    cubes: &[CubeText],
-    files: &Files,
-) -> Result<CubeRules, Refusal>
-    requires cube { cube < length found.now.space.cubes }
-    requires weights { AreWeightsOf found.now.space.dimensions found.now.weights.items }
-    ensures { IfOk result (λ rules. AreCubeRules found.now.space cube rules) }
-{
-    let rules = bound_rules(alloc, &found.space, cube, files)?;
-    let Some(text) = cubes.get(cube as usize) else {
-        return Ok(rules);
+    let text = match model_text::read(alloc, files.file("model")) {
+        Ok(text) => text,
+        Err(fault) => return Err(Refusal::of(alloc, &fault)),
     };
-    let Some((_line, order)) = &text.order else {
-        return Ok(rules);
+    let rules = rule_files(alloc, files, text.cubes().len())?;
+    match deploy(alloc, text, rules) {
+        Ok(model) => Ok(model),
+        Err(fault) => Err(told(alloc, fault)),
+    }
+}
+
+fn rule_files(alloc: Global, files: &Files, cubes: usize) -> Result<Vec<Option<RuleFile>>, Refusal>
+    ensures { IfOk result (λ all. length all.items ≡ cubes) }
+{
+    let mut all = Vec::with_capacity(alloc, cubes)?;
+    for cube in 0..cubes {
+        let file = rule_file(alloc, files, cube)?;
+        all.push(file)?;
+    }
+    Ok(all)
+}
+
+// The rule file of a cube, where the case has one.
+fn rule_file(alloc: Global, files: &Files, cube: usize) -> Result<Option<RuleFile>, AllocError> {
+    let name = Files::rules_of(alloc, cube)?;
+    let Some(text) = files.find(&name) else {
+        return Ok(None);
     };
-    match bind_order(alloc, &found.space, &found.weights, cube, order) {
-        Ok(order) => Ok(CubeRules { order, ..rules }),
-        Err(fault) => Err(Refusal::of(alloc, &fault)),
+    Ok(Some(RuleFile {
+        name: ListOf::new(Vec::from_slice(alloc, name.as_bytes())?),
+        bytes: ListOf::new(Vec::from_slice(alloc, text)?),
+    }))
+}
+
+fn told(alloc: Global, fault: DeployFault) -> Refusal {
+    match fault_told(alloc, &fault) {
+        Ok(text) => Refusal::Told(text),
+        Err(_) => Refusal::Memory,
+    }
+}
+
+fn fault_told(alloc: Global, fault: &DeployFault) -> Result<String, AllocError> {
+    let DeployFault { file, at, cause } = fault;
+    if *cause == DeployCause::Memory {
+        return Err(AllocError);
+    }
+    let name = match file {
+        Some(name) => std::str::from_utf8(name.as_slice()).unwrap_or("no UTF-8"),
+        None => "model",
+    };
+    match at {
+        At::Line(number) => format!(in alloc; "refused {name}: line {number}: {cause:?}"),
+        At::Statement(number) => format!(in alloc; "refused {name}: statement {number}: {cause:?}"),
+        At::Feeder(number) => format!(in alloc; "refused {name}: feeder {number}: {cause:?}"),
     }
 }
 
 /// How many statements and feeders the cubes of a model have: `accepted statements 4 feeders 3`.
-pub fn accepted(alloc: Global, model: &Model) -> Result<String, Refusal> {
+pub fn counts_of(alloc: Global, model: &Model) -> Result<String, Refusal> {
     let mut statements = 0u64;
     let mut feeders = 0u64;
     for cube in 0..model.space().cubes() {

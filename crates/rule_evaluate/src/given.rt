@@ -8,7 +8,7 @@ use std::marker::Model;
 
 /// Answers that are known. Who evaluates by restarts looks for the answer to the question that comes as a fault, lists
 /// it with the others and evaluates again.
-#[derive(Debug, Drop)]
+#[derive(Drop)]
 pub struct Given<'a> {
     known: &'a [(Ask, Value)],
 }

@@ -7,12 +7,12 @@ use std::marker::Model;
 /// For each element of a dimension, by index, an element of another one, or none.
 ///
 /// Most references keep an element or move to one of the same index, so the identity takes no memory.
-#[derive(Debug, Drop)]
+#[derive(Drop)]
 pub struct ElementMap {
     form: Form,
 }
 
-#[derive(Debug, Drop)]
+#[derive(Drop)]
 pub(crate) enum Form {
     /// Each of so many elements goes to itself.
     Identity(u32),

@@ -1,7 +1,7 @@
 use cube_fixed::{Money, Value};
 
 /// What the zero test finds of a formula.
-#[derive(Clone, Copy, Debug)]
+#[derive(Clone, Copy)]
 pub struct Finding {
     /// The number that it is written as, without `-`.
     pub number: Option<Money>,
@@ -16,7 +16,7 @@ pub struct Finding {
 }
 
 /// What the zero test finds of a condition.
-#[derive(Clone, Copy, Debug)]
+#[derive(Clone, Copy)]
 pub struct TruthFinding {
     /// The truth that it surely has, or nothing.
     pub sure: Option<bool>,

@@ -5,7 +5,7 @@ use sqlite_items::Boxed;
 
 /// A bound formula: a value for each cell of an area, by what its references give there.
 #[cycle(formula)]
-#[derive(Debug, Drop)]
+#[derive(Drop)]
 pub enum Formula {
     Number(Money),
     /// What the cell would have if no statement governed it.
@@ -24,7 +24,7 @@ pub enum Formula {
 
 /// A condition of an `IF`.
 #[cycle(formula)]
-#[derive(Debug, Drop)]
+#[derive(Drop)]
 pub enum Truth {
     Compare(Rel, Formula, Formula),
     And(Boxed<Truth>, Boxed<Truth>),

@@ -2,7 +2,7 @@ use cube_fixed::{Value, abs, add, compare, div, div_safe, floor, max, min, mul, 
 use std::cmp::Ordering;
 
 /// An operation on two values.
-#[derive(Clone, Copy, Debug, PartialEq, Eq)]
+#[derive(Clone, Copy, PartialEq, Eq)]
 pub enum Op {
     Add,
     Sub,
@@ -36,7 +36,7 @@ impl Op {
 }
 
 /// A function of one value.
-#[derive(Clone, Copy, Debug, PartialEq, Eq)]
+#[derive(Clone, Copy, PartialEq, Eq)]
 pub enum Fun {
     Minus,
     Abs,
@@ -64,7 +64,7 @@ impl Fun {
 }
 
 /// A comparison of two values. A value out of range equals itself, and is greater than every number.
-#[derive(Clone, Copy, Debug, PartialEq, Eq)]
+#[derive(Clone, Copy, PartialEq, Eq)]
 pub enum Rel {
     Equal,
     Unequal,

@@ -2,7 +2,7 @@ use crate::element_map::ElementMap;
 use lists::ListOf;
 
 /// A cell of some cube, named from the cell whose formula is evaluated.
-#[derive(Debug, Drop)]
+#[derive(Drop)]
 pub struct Reference {
     /// The cube of the cell that is named.
     pub cube: u32,
@@ -11,7 +11,7 @@ pub struct Reference {
 }
 
 /// How an element of the target is found.
-#[derive(Debug, Drop)]
+#[derive(Drop)]
 pub enum Arg {
     /// This element, from every cell.
     Fixed(u32),

@@ -4,7 +4,7 @@ use lists::ListOf;
 use rule_laws::{Formula, Reference};
 
 /// The rules of a cube, with every name bound.
-#[derive(Debug, Drop)]
+#[derive(Drop)]
 pub struct CubeRules {
     /// Whether the rules begin with `SKIPCHECK`.
     pub skipcheck: bool,
@@ -15,7 +15,7 @@ pub struct CubeRules {
 }
 
 /// A rule statement.
-#[derive(Debug, Drop)]
+#[derive(Drop)]
 pub struct Statement {
     pub area: Area,
     /// The N part, for leaf cells.
@@ -26,7 +26,7 @@ pub struct Statement {
 }
 
 /// How a statement was written, by which its references are counted.
-#[derive(Clone, Copy, Debug, PartialEq, Eq)]
+#[derive(Clone, Copy, PartialEq, Eq)]
 pub enum Form {
     /// One formula without a mark, which is both parts.
     Both,
@@ -37,7 +37,7 @@ pub enum Form {
 }
 
 /// A feeder with one target. A feeder statement with several targets is several feeders.
-#[derive(Debug, Drop)]
+#[derive(Drop)]
 pub struct Feeder {
     pub area: Area,
     pub target: Reference,

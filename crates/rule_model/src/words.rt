@@ -5,7 +5,7 @@ ghost use Rattle.rule_model.specs.Inside.Parts.{truth_has_stet, truth_has_contin
 use rule_laws::{Formula, Truth};
 
 /// Which words for what comes without a statement stand in a formula.
-#[derive(Clone, Copy, Debug)]
+#[derive(Clone, Copy)]
 pub struct Words {
     /// `STET`
     pub stet: bool,

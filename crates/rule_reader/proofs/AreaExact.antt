@@ -3,16 +3,16 @@ use Rattle.std.proofs.Common.{ℕ, List, [], ◌∷◌, ◌++◌, Option, Some, 
 use Rattle.cube_lex.specs.Lexeme.{Lexeme}
 use Rattle.grammar.specs.Grammar.{Grammar, one, both, done, either}
 use Rattle.grammar.specs.Tokens.{sign, name, is_sign}
-use Rattle.grammar.proofs.Exact.{Exact, Always, Not, exact_gives, exact_then, exact_both, exact_made, exact_before, exact_by}
+use Rattle.grammar.proofs.Exact.{Exact, Always, Not, exact_gives, exact_then, exact_made, exact_before, exact_by}
 use Rattle.grammar.proofs.Begins.{Begins, begins_both, begins_either, exact_or, exact_option, exact_before_next}
 use Rattle.grammar.proofs.Tokens.{exact_sign, exact_name, sign_begins, value_no_sign, name_is_value}
 use Rattle.rule_tree.specs.Counting.{count, counting}
-use Rattle.grammar.specs.Lists.{listed, perhaps_listed, read_listed}
+use Rattle.grammar.specs.Lists.{listed}
 use Rattle.rule_tree.specs.RuleText.{elements, entry, area}
-use Rattle.rule_reader.specs.Readers.TextReading.{read_braced, read_alone, read_elements, read_behind_first, read_entry, read_entries, read_area}
+use Rattle.rule_reader.specs.Readers.TextReading.{read_braced, read_alone, read_elements, read_behind_first, read_entry, read_area}
 use Rattle.rule_tree.specs.declared.rule.EntryText.{EntryText}
-use Rattle.grammar.proofs.Lists.{Closes, names_exact, perhaps_listed_exact, closed_list, swapped}
-use Rattle.rule_reader.proofs.BracketExact.{colon, with_dimension, no_dimension, dimension_no_sign}
+use Rattle.grammar.proofs.Lists.{names_exact, swapped}
+use Rattle.rule_reader.proofs.BracketExact.{colon, with_dimension, no_dimension, dimension_no_sign, in_brackets_exact}
 
 -- "{" name { "," name } "}"
 abbrev braced : Grammar Lexeme (List (List ℕ))
@@ -66,14 +66,8 @@ entry_exact = exact_by into_entry back_entry (exact_or (is_sign (codes "{")) (be
 entry_no_sign : (b : List ℕ) → Begins (one (sign (codes "{"))) (is_sign b) false → Begins entry (is_sign b) false
 entry_no_sign b brace = dimension_no_sign elements_of b (λ dim. begins_both (begins_either (begins_both (value_no_sign name_is_value b)) (begins_both brace)))
 
-entries_exact : Exact counting (perhaps_listed entry entry) (perhaps_listed entry entry) read_entries (Closes (codes "]") (is_sign (codes ":")))
-unfolding read_entries read_listed
-entries_exact = perhaps_listed_exact (codes "]") (is_sign (codes ":")) (sign_begins (codes ",") (codes ":")) (entry_no_sign (codes "]") (sign_begins (codes "{") (codes "]"))) entry_exact entry_exact
-
 pub area_exact : Exact counting area area read_area Always
-unfolding read_area
-area_exact = exact_then (exact_sign count (codes "[")) (λ _. exact_both entries_exact (λ entries. exact_then (exact_sign count (codes "]")) (λ _. exact_gives counting entries))
-    (λ entries v b rest l _. closed_list (codes "]") (done entries) (is_sign (codes ":")) (sign_begins (codes "]") (codes ":")) refl refl v b rest l))
+area_exact = in_brackets_exact (entry_no_sign (codes "]") (sign_begins (codes "{") (codes "]"))) entry_exact
 
 pub area_begins : Begins area (is_sign (codes "[")) true
 area_begins = begins_both (sign_begins (codes "[") (codes "["))

@@ -8,8 +8,8 @@ use Rattle.grammar.proofs.Begins.{Begins, begins_both, begins_optional, exact_op
 use Rattle.grammar.proofs.Tokens.{exact_sign, exact_name, sign_begins, value_no_sign, name_is_value}
 use Rattle.rule_tree.specs.Counting.{count, counting}
 use Rattle.grammar.specs.Lists.{perhaps_listed, read_listed}
-use Rattle.rule_tree.specs.Formula.{dimension, simple, bracket}
-use Rattle.rule_reader.specs.Readers.Reading.{read_behind_first, read_simple, read_simples, read_bracket}
+use Rattle.rule_tree.specs.Formula.{dimension, simple, in_brackets, bracket}
+use Rattle.rule_reader.specs.Readers.Reading.{Plan, read_behind_first, read_simple, read_up_to_bracket, read_in_brackets, read_bracket}
 use Rattle.rule_tree.specs.declared.tree.SimpleText.{SimpleText}
 use Rattle.grammar.proofs.Lists.{Closes, perhaps_listed_exact, closed_list}
 
@@ -58,11 +58,16 @@ simple_exact = exact_by into_simple back_simple (exact_then (exact_name count) (
 pub simple_no_sign : (b : List ℕ) → Begins simple (is_sign b) false
 simple_no_sign b = dimension_no_sign element_of b (λ dim. begins_both (value_no_sign name_is_value b))
 
-simples_exact : Exact counting (perhaps_listed simple simple) (perhaps_listed simple simple) read_simples (Closes (codes "]") (is_sign (codes ":")))
-unfolding read_simples read_listed
-simples_exact = perhaps_listed_exact (codes "]") (is_sign (codes ":")) (sign_begins (codes ",") (codes ":")) (simple_no_sign (codes "]")) simple_exact simple_exact
+up_to_bracket_exact : {A : Type 0} {item : Grammar Lexeme A} {read_item : Plan A} → Begins item (is_sign (codes "]")) false → Exact counting item item read_item (Not (is_sign (codes ":")))
+    → Exact counting (perhaps_listed item item) (perhaps_listed item item) (read_up_to_bracket read_item) (Closes (codes "]") (is_sign (codes ":")))
+unfolding read_up_to_bracket read_listed
+up_to_bracket_exact begins item_exact = perhaps_listed_exact (codes "]") (is_sign (codes ":")) (sign_begins (codes ",") (codes ":")) begins item_exact item_exact
+
+pub in_brackets_exact : {A : Type 0} {item : Grammar Lexeme A} {read_item : Plan A} → Begins item (is_sign (codes "]")) false → Exact counting item item read_item (Not (is_sign (codes ":")))
+    → Exact counting (in_brackets item) (in_brackets item) (read_in_brackets read_item) Always
+unfolding read_in_brackets
+in_brackets_exact begins item_exact = exact_then (exact_sign count (codes "[")) (λ _. exact_both (up_to_bracket_exact begins item_exact) (λ items. exact_then (exact_sign count (codes "]")) (λ _. exact_gives counting items))
+    (λ items v b rest l _. closed_list (codes "]") (done items) (is_sign (codes ":")) (sign_begins (codes "]") (codes ":")) refl refl v b rest l))
 
 pub bracket_exact : Exact counting bracket bracket read_bracket Always
-unfolding read_bracket
-bracket_exact = exact_then (exact_sign count (codes "[")) (λ _. exact_both simples_exact (λ simples. exact_then (exact_sign count (codes "]")) (λ _. exact_gives counting simples))
-    (λ simples v b rest l _. closed_list (codes "]") (done simples) (is_sign (codes ":")) (sign_begins (codes "]") (codes ":")) refl refl v b rest l))
+bracket_exact = in_brackets_exact (simple_no_sign (codes "]")) simple_exact

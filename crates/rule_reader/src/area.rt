@@ -2,8 +2,9 @@ ghost use Rattle.std.specs.Prelude.{[], ◌∷◌, ◌≡◌, IfOk};
 ghost use Rattle.grammar.specs.Cursor.{Reads};
 ghost use Rattle.rule_reader.specs.Readers.TextReading as reading;
 
+use crate::bracket::in_brackets;
 use dim_name::Name;
-use grammar::{Cursor, Item, Stop, listed, name, names, sign, sign_comes};
+use grammar::{Cursor, Item, Stop, name, names, sign, sign_comes};
 use lists::ListOf;
 use rule_tree::{Counted, EntryText, Excess};
 use std::alloc::{AllocError, Global};
@@ -105,31 +106,12 @@ impl Item<EntryText, Excess, Counted> for EntryItem {
     }
 }
 
-/// Reads the entries up to a `]`.
-#[tactic(auto, unfolding(crate::specs::Readers::TextReading::read_entries))]
-fn entries_at(
-    alloc: Global,
-    cursor: &mut Cursor<'_, Counted>,
-) -> Result<ListOf<EntryText>, Stop<Excess>>
-    ensures { Reads (λ entries. entries) reading.read_entries cursor.old result cursor.new }
-{
-    if sign_comes(cursor, b"]") {
-        Ok(ListOf::new(Vec::new(alloc)))
-    } else {
-        listed(alloc, cursor, &EntryItem)
-    }
-}
-
-/// Reads `[` entries `]`.
-#[tactic(auto, unfolding(crate::specs::Readers::TextReading::read_area))]
+/// Reads the entries of an area.
 pub fn area_at(
     alloc: Global,
     cursor: &mut Cursor<'_, Counted>,
 ) -> Result<ListOf<EntryText>, Stop<Excess>>
     ensures { Reads (λ entries. entries) reading.read_area cursor.old result cursor.new }
 {
-    sign(cursor, b"[")?;
-    let entries = entries_at(alloc, cursor)?;
-    sign(cursor, b"]")?;
-    Ok(entries)
+    in_brackets(alloc, cursor, &EntryItem)
 }

@@ -53,31 +53,45 @@ impl Item<SimpleText, Excess, Counted> for SimpleItem {
     }
 }
 
-/// Reads the elements up to a `]`.
-#[tactic(auto, unfolding(crate::specs::Readers::Reading::read_simples))]
-fn simples_at(
+/// Reads the items up to a `]`.
+#[tactic(auto, unfolding(crate::specs::Readers::Reading::read_up_to_bracket))]
+fn up_to_bracket<T: Drop, I: Item<T, Excess, Counted>>(
     alloc: Global,
     cursor: &mut Cursor<'_, Counted>,
-) -> Result<ListOf<SimpleText>, Stop<Excess>>
-    ensures { Reads (λ simples. simples) reading.read_simples cursor.old result cursor.new }
+    item: &I,
+) -> Result<ListOf<T>, Stop<Excess>>
+    requires { I.may_read item.now }
+    ensures { Reads (λ items. items) (reading.read_up_to_bracket (I.reads item.now)) cursor.old result cursor.new }
 {
     if sign_comes(cursor, b"]") {
         Ok(ListOf::new(Vec::new(alloc)))
     } else {
-        listed(alloc, cursor, &SimpleItem)
+        listed(alloc, cursor, item)
     }
 }
 
-/// Reads `[` elements `]`.
-#[tactic(auto, unfolding(crate::specs::Readers::Reading::read_bracket))]
+/// Reads `[`, items with commas or none, and `]`.
+#[tactic(auto, unfolding(crate::specs::Readers::Reading::read_in_brackets))]
+pub fn in_brackets<T: Drop, I: Item<T, Excess, Counted>>(
+    alloc: Global,
+    cursor: &mut Cursor<'_, Counted>,
+    item: &I,
+) -> Result<ListOf<T>, Stop<Excess>>
+    requires { I.may_read item.now }
+    ensures { Reads (λ items. items) (reading.read_in_brackets (I.reads item.now)) cursor.old result cursor.new }
+{
+    sign(cursor, b"[")?;
+    let items = up_to_bracket(alloc, cursor, item)?;
+    sign(cursor, b"]")?;
+    Ok(items)
+}
+
+/// Reads the elements that a bracket puts into the cell at hand.
 pub fn bracket_at(
     alloc: Global,
     cursor: &mut Cursor<'_, Counted>,
 ) -> Result<ListOf<SimpleText>, Stop<Excess>>
     ensures { Reads (λ simples. simples) reading.read_bracket cursor.old result cursor.new }
 {
-    sign(cursor, b"[")?;
-    let simples = simples_at(alloc, cursor)?;
-    sign(cursor, b"]")?;
-    Ok(simples)
+    in_brackets(alloc, cursor, &SimpleItem)
 }

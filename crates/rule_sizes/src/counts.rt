@@ -5,7 +5,7 @@ ghost use Rattle.rule_laws.specs.ZeroTest.{operands, operands_of_truth};
 use rule_laws::{Formula, Truth};
 
 /// What is counted of a formula: what it reads of other cells, and its operands.
-#[derive(Clone, Copy, Debug)]
+#[derive(Clone, Copy)]
 pub struct Counts {
     pub read: u32,
     pub operands: u32,

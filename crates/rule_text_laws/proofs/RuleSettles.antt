@@ -9,7 +9,7 @@ use Rattle.rule_tree.specs.Counting.{count}
 use Rattle.rule_tree.specs.Formula.{is_if, rules_language}
 use Rattle.rule_tree.specs.declared.tree.Tree.{Tree}
 use Rattle.rule_tree.specs.declared.tree.Tree.TheVariants as trees
-use Rattle.rule_reader.specs.Readers.Reading.{Plan, read_behind_first, read_simple, read_simples, read_bracket, read_number, read_quoted, read_dimension, read_current, read_reference, read_first_argument, read_arguments, read_call, read_alone, read_behind_word, read_worded, read_primary}
+use Rattle.rule_reader.specs.Readers.Reading.{Plan, read_behind_first, read_simple, read_up_to_bracket, read_in_brackets, read_bracket, read_number, read_quoted, read_dimension, read_current, read_reference, read_first_argument, read_arguments, read_call, read_alone, read_behind_word, read_worded, read_primary}
 use Rattle.rule_reader.specs.Readers.TextReading as text
 use Rattle.rule_text_laws.proofs.SettlesBelow.{SettlesBelow, below_gives, below_one, below_both, below_behind_one, below_if, below_choose, below_further, below_listed}
 use Rattle.rule_text_laws.proofs.ExpressionSettles.{below_tree, below_expression}
@@ -19,9 +19,12 @@ module _ (k : ℕ) where
   unfolding read_simple read_behind_first
   below_simple = below_both (below_one _ _) (λ first. below_choose _ (below_both (below_one _ _) (λ _. below_both (below_one _ _) (λ element. below_gives _))) (below_gives _))
 
+  below_in_brackets : {A : Type 0} {read_item : Plan A} → SettlesBelow k read_item → SettlesBelow k (read_in_brackets read_item)
+  unfolding read_in_brackets read_up_to_bracket
+  below_in_brackets item = below_both (below_one _ _) (λ _. below_both (below_choose _ (below_gives _) (below_listed count item)) (λ items. below_both (below_one _ _) (λ _. below_gives _)))
+
   pub below_bracket : SettlesBelow k read_bracket
-  unfolding read_bracket read_simples
-  below_bracket = below_both (below_one _ _) (λ _. below_both (below_choose _ (below_gives _) (below_listed count below_simple)) (λ simples. below_both (below_one _ _) (λ _. below_gives _)))
+  below_bracket = below_in_brackets below_simple
 
   below_braced : SettlesBelow k text.read_braced
   unfolding text.read_braced read_names
@@ -36,8 +39,7 @@ module _ (k : ℕ) where
   below_entry = below_choose _ (below_both below_braced (λ all. below_gives _)) (below_both (below_one _ _) (λ first. below_choose _ (below_both (below_one _ _) (λ _. below_both below_elements (λ all. below_gives _))) (below_gives _)))
 
   pub below_area : SettlesBelow k text.read_area
-  unfolding text.read_area text.read_entries
-  below_area = below_both (below_one _ _) (λ _. below_both (below_choose _ (below_gives _) (below_listed count below_entry)) (λ entries. below_both (below_one _ _) (λ _. below_gives _)))
+  below_area = below_in_brackets below_entry
 
   module _ (P Q : Plan Tree) (value : SettlesBelow k P) (truth : SettlesBelow k Q) where
     below_call : (function : List ℕ) → SettlesBelow k (read_call P Q function)

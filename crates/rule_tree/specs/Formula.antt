@@ -55,13 +55,16 @@ simple = do
   element ← one name
   done (record { dim = dim; element = element })
 
--- "[" [ simple { "," simple } ] "]"
-abbrev pub bracket : Grammar Lexeme (List SimpleText)
-bracket = do
+-- "[" [ item { "," item } ] "]"
+abbrev pub in_brackets : {A : Type 0} → Grammar Lexeme A → Grammar Lexeme (List A)
+in_brackets item = do
   one (sign (codes "["))
-  simples ← perhaps_listed simple simple
+  items ← perhaps_listed item item
   one (sign (codes "]"))
-  done simples
+  done items
+
+abbrev pub bracket : Grammar Lexeme (List SimpleText)
+bracket = in_brackets simple
 
 abbrev pub number : Grammar Lexeme Tree
 number = do value ← one money; done (trees.Number value)

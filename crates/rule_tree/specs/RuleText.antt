@@ -3,8 +3,8 @@ use Rattle.std.specs.Prelude.{ℕ, Bool, true, false, List, [], ◌∷◌, codes
 use Rattle.cube_lex.specs.Lexeme.{Lexeme}
 use Rattle.grammar.specs.Grammar.{Grammar, done, one, either, many, ◌>>=◌, ◌>>◌}
 use Rattle.grammar.specs.Tokens.{sign, word, name}
-use Rattle.grammar.specs.Lists.{listed, perhaps_listed}
-use Rattle.rule_tree.specs.Formula.{dimension, bracket, formula}
+use Rattle.grammar.specs.Lists.{listed}
+use Rattle.rule_tree.specs.Formula.{dimension, in_brackets, bracket, formula}
 use Rattle.rule_tree.specs.declared.rule.BodyText.{BodyText}
 use Rattle.rule_tree.specs.declared.rule.BodyText.TheVariants as bodies
 use Rattle.rule_tree.specs.declared.rule.EntryText.{EntryText}
@@ -27,13 +27,8 @@ entry = do
   all ← elements
   done (record { dim = dim; elements = all })
 
--- "[" [ entry { "," entry } ] "]"
 abbrev pub area : Grammar Lexeme (List EntryText)
-area = do
-  one (sign (codes "["))
-  entries ← perhaps_listed entry entry
-  one (sign (codes "]"))
-  done entries
+area = in_brackets entry
 
 -- formula ";"
 abbrev pub ended : Grammar Lexeme Tree

@@ -11,7 +11,7 @@ use grammar::{Scan, is_sign, is_word};
 pub const MOST_STATEMENTS: u32 = 1_000;
 
 /// Where in a rule text a token stands.
-#[derive(Clone, Copy, Debug)]
+#[derive(Clone, Copy)]
 pub enum Place {
     /// Outside of statements and feeders, or behind the `;` of a part.
     Between,
@@ -26,7 +26,7 @@ pub enum Place {
 }
 
 /// What was counted so far.
-#[derive(Clone, Copy, Debug)]
+#[derive(Clone, Copy)]
 pub struct Counted {
     pub statements: u32,
     pub feeders: u32,

@@ -1,5 +1,5 @@
 /// What there is too much of, with the line of the token at which it becomes so.
-#[derive(Clone, Copy, Debug)]
+#[derive(Clone, Copy)]
 pub enum Excess {
     /// Open parentheses, or primaries of one whole formula.
     TooDeep(u32),

@@ -3,7 +3,7 @@ use dim_name::Name;
 use lists::ListOf;
 
 /// The elements of one dimension that an area has, perhaps with that dimension.
-#[derive(Debug, Drop)]
+#[derive(Drop)]
 pub struct EntryText {
     pub dim: Option<Name>,
     /// At least one element. One alone is the same with and without braces.
@@ -26,14 +26,14 @@ pub enum BodyText {
 }
 
 /// A rule: which cells it is for, and how they are computed.
-#[derive(Debug, Drop)]
+#[derive(Drop)]
 pub struct StatementText {
     pub area: ListOf<EntryText>,
     pub body: BodyText,
 }
 
 /// A cell that a feeder feeds.
-#[derive(Debug, Drop)]
+#[derive(Drop)]
 pub enum TargetText {
     /// A cell of the same cube.
     Bracket(ListOf<SimpleText>),
@@ -42,7 +42,7 @@ pub enum TargetText {
 }
 
 /// A feeder: which cells feed, and what they feed.
-#[derive(Debug, Drop)]
+#[derive(Drop)]
 pub struct FeederText {
     pub area: ListOf<EntryText>,
     /// At least one target.
@@ -50,7 +50,7 @@ pub struct FeederText {
 }
 
 /// The rules of a cube.
-#[derive(Debug, Drop)]
+#[derive(Drop)]
 pub struct RuleText {
     /// Whether `SKIPCHECK` stands at the beginning.
     pub skipcheck: bool,

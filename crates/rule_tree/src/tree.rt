@@ -11,7 +11,7 @@ pub struct SimpleText {
 }
 
 /// An operator between two formulas.
-#[derive(Clone, Copy, Debug, PartialEq, Eq)]
+#[derive(Clone, Copy, Debug, Eq, PartialEq)]
 pub enum TreeOp {
     /// `%`
     Or,

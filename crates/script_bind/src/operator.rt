@@ -5,7 +5,7 @@ use rule_laws::{Op, Rel};
 use script_tree::ScriptOp;
 
 /// An operator, by what its operands are and what it gives.
-#[derive(Clone, Copy, Debug)]
+#[derive(Clone, Copy)]
 pub enum Operator {
     /// Of two numbers, a number.
     Amounts(Op),

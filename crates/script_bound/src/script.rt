@@ -3,7 +3,7 @@ use lists::ListOf;
 use sqlite_items::Items;
 
 /// A load script whose variables are numbered from 0, by their places in a list of their words.
-#[derive(Debug, Drop)]
+#[derive(Drop)]
 pub struct BoundScript {
     /// The words of the variables, in capitals.
     pub variables: ListOf<ListOf<u8>>,

@@ -2,7 +2,7 @@ use crate::term::Term;
 use sqlite_items::Items;
 
 /// A statement of a load script, with its number in its section.
-#[derive(Debug, Drop)]
+#[derive(Drop)]
 #[cycle(statements)]
 pub enum Statement {
     /// The variable of the second number is set.
@@ -24,7 +24,7 @@ pub enum Statement {
 }
 
 /// A block of an `IF`.
-#[derive(Debug, Drop)]
+#[derive(Drop)]
 #[cycle(statements)]
 pub enum Case {
     /// The block behind `IF` or `ELSEIF`, with its condition.

@@ -4,7 +4,7 @@ use rule_laws::{Fun, Op, Rel};
 use sqlite_items::{Boxed, Items};
 
 /// An expression of a load script. A condition is one that gives a truth.
-#[derive(Debug, Drop)]
+#[derive(Drop)]
 pub enum Term {
     Number(Money),
     Text(ListOf<u8>),

@@ -9,7 +9,7 @@ use sqlite_items::Items;
 use std::alloc::{AllocError, Global};
 
 /// A piece of a script, in the order of the text.
-#[derive(Debug, Drop)]
+#[derive(Drop)]
 pub enum Piece {
     /// The word and `:` that begin a section.
     Heading(Section),

@@ -1,7 +1,7 @@
 use script_values::Reason;
 
 /// How a statement, a block or a section ended.
-#[derive(Clone, Copy, Debug, PartialEq, Eq)]
+#[derive(Clone, Copy, PartialEq, Eq)]
 pub enum Ending {
     /// What stands behind it is next.
     Next,

@@ -2,7 +2,7 @@ use script_tree::Section;
 use script_values::Reason;
 
 /// How a load ended.
-#[derive(Clone, Copy, Debug, PartialEq, Eq)]
+#[derive(Clone, Copy, PartialEq, Eq)]
 pub enum Ran {
     /// Its writes are to be kept.
     Done,

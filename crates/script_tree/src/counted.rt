@@ -18,7 +18,7 @@ use std::alloc::{AllocError, Global};
 const MOST_OPEN: u32 = 32;
 
 /// Where in a script a token stands.
-#[derive(Clone, Copy, Debug)]
+#[derive(Clone, Copy)]
 pub enum Place {
     /// Before a statement or a part of one, or before a section.
     Between,
@@ -31,7 +31,7 @@ pub enum Place {
 }
 
 /// How deep a token stands, and where.
-#[derive(Clone, Copy, Debug)]
+#[derive(Clone, Copy)]
 pub struct Stage {
     /// Blocks that are open.
     pub blocks: u32,
@@ -41,7 +41,7 @@ pub struct Stage {
 }
 
 /// What was counted so far.
-#[derive(Debug, Drop)]
+#[derive(Drop)]
 pub struct Counted {
     /// Of each token of the text, whether a `(` stands behind it.
     pub called: ListOf<bool>,

@@ -1,5 +1,5 @@
 /// What a script is refused for besides its grammar, with the line of the token at which it is.
-#[derive(Clone, Copy, Debug)]
+#[derive(Clone, Copy)]
 pub enum Excess {
     /// A word that is no function, where an operand may begin and with a `(` behind it.
     UnknownFunction(u32),

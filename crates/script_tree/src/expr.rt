@@ -3,7 +3,7 @@ use lists::ListOf;
 use sqlite_items::{Boxed, Items};
 
 /// A function of load scripts.
-#[derive(Clone, Copy, Debug, PartialEq, Eq)]
+#[derive(Clone, Copy, PartialEq, Eq)]
 pub enum ScriptFun {
     /// The value of a cell: its cube and elements, at least two arguments.
     CellGetN,
@@ -21,7 +21,7 @@ pub enum ScriptFun {
 }
 
 /// An operator between two expressions.
-#[derive(Clone, Copy, Debug, PartialEq, Eq)]
+#[derive(Clone, Copy, PartialEq, Eq)]
 pub enum ScriptOp {
     /// `%`
     Or,
@@ -59,7 +59,7 @@ pub enum ScriptOp {
 
 /// An expression. Parentheses leave nothing in it. It is at most some thousand levels deep, since a whole expression
 /// has at most 1,000 primaries.
-#[derive(Debug, Drop)]
+#[derive(Drop)]
 pub enum Expr {
     Number(Money),
     /// The bytes that stand between the quotes, each doubled quote being one.

@@ -3,7 +3,7 @@ use lists::ListOf;
 use sqlite_items::Items;
 
 /// A statement of a load script.
-#[derive(Debug, Drop)]
+#[derive(Drop)]
 #[cycle(lines)]
 pub enum Line {
     /// `variable = expression;` The variable's word is kept in capitals.
@@ -25,7 +25,7 @@ pub enum Line {
 }
 
 /// A block of an `IF`.
-#[derive(Debug, Drop)]
+#[derive(Drop)]
 #[cycle(lines)]
 pub enum Arm {
     /// The block behind `IF` or `ELSEIF`, with its condition, which is a truth.

@@ -13,13 +13,13 @@ pub enum Section {
 }
 
 /// Statements in the order of the text.
-#[derive(Debug, Drop)]
+#[derive(Drop)]
 pub struct Block {
     pub lines: Items<Line>,
 }
 
 /// A load script. A section that isn't there is an empty block.
-#[derive(Debug, Drop)]
+#[derive(Drop)]
 pub struct Script {
     pub prolog: Block,
     /// `DATA:`

@@ -2,7 +2,7 @@ use crate::text::Text;
 use cube_fixed::Value;
 
 /// What an expression gives.
-#[derive(Debug, Drop)]
+#[derive(Drop)]
 pub enum Datum<'a> {
     Number(Value),
     Text(Text<'a>),

@@ -2,7 +2,7 @@ use cube_fixed::Value;
 use lists::ListOf;
 
 /// What a variable holds.
-#[derive(Debug, Drop)]
+#[derive(Drop)]
 pub enum Kept {
     Number(Value),
     Text(ListOf<u8>),

@@ -5,14 +5,14 @@ use std::alloc::{AllocError, Global};
 use std::marker::Model;
 
 /// Where the bytes of a text are.
-#[derive(Debug, Drop)]
+#[derive(Drop)]
 pub(crate) enum Bytes<'a> {
     Borrowed(&'a [u8]),
     Owned(ListOf<u8>),
 }
 
 /// A text. What stands in the script, in a variable or in the record is borrowed.
-#[derive(Debug, Drop)]
+#[derive(Drop)]
 pub struct Text<'a> {
     bytes: Bytes<'a>,
 }

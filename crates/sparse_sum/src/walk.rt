@@ -17,7 +17,7 @@ use dim_weights::Weights;
 use std::marker::Model;
 
 /// A stored or fed leaf cell below a cell.
-#[derive(Clone, Copy, Debug, PartialEq, Eq)]
+#[derive(Clone, Copy, PartialEq, Eq)]
 pub struct Leaf {
     pub cell: u64,
     /// How often it counts.
@@ -28,7 +28,7 @@ pub struct Leaf {
 
 /// A walk over the stored or fed leaf cells below a cell, from the least upwards, with the sum of the values that it is
 /// given. All calls of a walk take the same space, weights, stored and fed cells.
-#[derive(Debug, Drop)]
+#[derive(Drop)]
 pub struct Walk {
     cell: u64,
     from: u64,

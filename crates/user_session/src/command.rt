@@ -6,7 +6,7 @@ use std::sync::Arc;
 use user_text::{CellText, ViewText};
 
 /// A command that is run on a version of the numbers.
-#[derive(Debug, Drop)]
+#[derive(Drop)]
 pub enum PlanCommand {
     /// Stores this number in a cell. Only leaf cells are stored.
     Put(CellText, Money),

@@ -24,7 +24,7 @@ pub enum Reason {
 }
 
 /// What a user is told of a command.
-#[derive(Clone, Copy, Debug, PartialEq, Eq)]
+#[derive(Clone, Copy, PartialEq, Eq)]
 pub enum Reply {
     /// The command is accepted: so many cells were written.
     Committed(u64),

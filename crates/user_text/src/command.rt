@@ -3,14 +3,14 @@ use dim_name::Name;
 use lists::ListOf;
 
 /// A cell as a text names it: its cube, and elements in the order of the cube's dimensions.
-#[derive(Debug, Drop)]
+#[derive(Drop)]
 pub struct CellText {
     pub cube: Name,
     pub elements: ListOf<Name>,
 }
 
 /// What a parameter is set to.
-#[derive(Debug, Drop)]
+#[derive(Drop)]
 pub enum ParamText {
     Number(Money),
     /// The bytes that stand between the quotes, each doubled quote being one.
@@ -18,7 +18,7 @@ pub enum ParamText {
 }
 
 /// A load: which script runs over which records.
-#[derive(Debug, Drop)]
+#[derive(Drop)]
 pub struct LoadText {
     pub script: Name,
     /// The file of the records, which is UTF-8 and not empty. Without one there are no records.
@@ -30,7 +30,7 @@ pub struct LoadText {
 }
 
 /// A set on an axis of a view.
-#[derive(Debug, Drop)]
+#[derive(Drop)]
 pub struct SetText {
     pub dim: Name,
     /// The elements in order; without a list, all of the dimension.
@@ -38,7 +38,7 @@ pub struct SetText {
 }
 
 /// A view: a table of cells of a cube.
-#[derive(Debug, Drop)]
+#[derive(Drop)]
 pub struct ViewText {
     pub cube: Name,
     /// At least one set.
@@ -52,7 +52,7 @@ pub struct ViewText {
 }
 
 /// What a command does.
-#[derive(Debug, Drop)]
+#[derive(Drop)]
 pub enum UserBody {
     Put(CellText, Money),
     Get(CellText),
@@ -61,7 +61,7 @@ pub enum UserBody {
 }
 
 /// A command, with the line of its first word, from 1.
-#[derive(Debug, Drop)]
+#[derive(Drop)]
 pub struct UserCommand {
     pub line: u32,
     pub body: UserBody,

@@ -6,7 +6,7 @@ use grammar::{Scan, is_sign};
 pub const MOST_COMMANDS: u32 = 65_536;
 
 /// How many commands have begun, and whether one still goes on to its `;`.
-#[derive(Clone, Copy, Debug)]
+#[derive(Clone, Copy)]
 pub struct Counted {
     pub commands: u32,
     pub inside: bool,

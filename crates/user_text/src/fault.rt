@@ -24,7 +24,7 @@ impl From<AllocError> for UserFault {
 }
 
 /// One command more than there may be, with the line of its first word.
-#[derive(Clone, Copy, Debug)]
+#[derive(Clone, Copy)]
 pub struct TooMany {
     pub line: u32,
 }

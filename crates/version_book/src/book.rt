@@ -47,7 +47,7 @@ pub struct Pin<W: World> {
 }
 
 /// What a command did on a pin's state: the number of the version, and the effect.
-#[derive(Debug, Drop)]
+#[derive(Drop)]
 pub struct TriedOf<T, R> {
     pub place: u64,
     pub effect: Effect<T, R>,
@@ -58,7 +58,7 @@ pub type Tried<W> = TriedOf<<W as World>::Writes, <W as World>::Reply>;
 
 /// What a commit told: the number of the version that the reply speaks of, whether the command is in the history, and
 /// the reply.
-#[derive(Debug, Drop)]
+#[derive(Drop)]
 pub struct Settled<R> {
     pub place: u64,
     pub accepted: bool,

@@ -7,7 +7,7 @@ use std::alloc::{AllocError, Global};
 use std::marker::Model;
 
 /// An accepted command that was tried: what it would write, and its reply.
-#[derive(Debug, Drop)]
+#[derive(Drop)]
 pub struct Tried<T, R> {
     pub writes: T,
     pub reply: R,

@@ -1,7 +1,7 @@
 use lists::ListOf;
 
 /// A dimension along the rows or the columns of a view.
-#[derive(Debug, Drop)]
+#[derive(Drop)]
 pub struct Axis {
     /// The place of the dimension in the cube, from 0.
     pub place: u32,
@@ -10,7 +10,7 @@ pub struct Axis {
 }
 
 /// A view of a cube: each dimension of the cube stands in just one of rows, columns and points.
-#[derive(Debug, Drop)]
+#[derive(Drop)]
 pub struct View {
     pub cube: u32,
     /// All combinations of their elements are rows; the last axis runs fastest.

@@ -40,15 +40,19 @@ read_behind_first first = choose (is_sign (codes ":"))
 unfoldable pub read_simple : Plan SimpleText
 read_simple = do first ← take_name; read_behind_first first
 
-unfoldable pub read_simples : Plan (List SimpleText)
-read_simples = choose (is_sign (codes "]")) (gives []) (read_listed count read_simple)
+-- as many as there are up to a `]`
+unfoldable pub read_up_to_bracket : {A : Type 0} → Plan A → Plan (List A)
+read_up_to_bracket read_item = choose (is_sign (codes "]")) (gives []) (read_listed count read_item)
 
-unfoldable pub read_bracket : Plan (List SimpleText)
-read_bracket = do
+unfoldable pub read_in_brackets : {A : Type 0} → Plan A → Plan (List A)
+read_in_brackets read_item = do
   take_sign (codes "[")
-  simples ← read_simples
+  items ← read_up_to_bracket read_item
   take_sign (codes "]")
-  gives simples
+  gives items
+
+abbrev pub read_bracket : Plan (List SimpleText)
+read_bracket = read_in_brackets read_simple
 
 -- Primaries.
 

@@ -6,7 +6,7 @@ use Rattle.grammar.specs.Lists.{read_listed, read_names}
 use Rattle.grammar.specs.Tokens.{is_sign, is_word}
 use Rattle.expression_grammar.specs.Readers.Lookahead.{starts_pair, choose_pair}
 use Rattle.rule_tree.specs.Counting.{count}
-use Rattle.rule_reader.specs.Readers.Reading.{Plan, take_sign, take_word, take_name, read_bracket, read_formula}
+use Rattle.rule_reader.specs.Readers.Reading.{Plan, take_sign, take_word, take_name, read_in_brackets, read_bracket, read_formula}
 use Rattle.rule_tree.specs.declared.rule.BodyText.{BodyText}
 use Rattle.rule_tree.specs.declared.rule.BodyText.TheVariants as bodies
 use Rattle.rule_tree.specs.declared.rule.EntryText.{EntryText}
@@ -42,15 +42,8 @@ unfoldable pub read_entry : Plan EntryText
 read_entry = choose (is_sign (codes "{")) (do all ← read_braced; gives (record { dim = None; elements = all }))
     (do first ← take_name; read_behind_first first)
 
-unfoldable pub read_entries : Plan (List EntryText)
-read_entries = choose (is_sign (codes "]")) (gives []) (read_listed count read_entry)
-
-unfoldable pub read_area : Plan (List EntryText)
-read_area = do
-  take_sign (codes "[")
-  entries ← read_entries
-  take_sign (codes "]")
-  gives entries
+abbrev pub read_area : Plan (List EntryText)
+read_area = read_in_brackets read_entry
 
 -- Statements.
 
