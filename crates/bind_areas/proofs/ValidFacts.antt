@@ -14,11 +14,7 @@ use Rattle.rule_tree.specs.declared.rule.EntryText.{EntryText}
 use Rattle.rule_tree.specs.declared.tree.SimpleText.{SimpleText}
 use Rattle.bind_areas.specs.Areas.{elements_called, set_at, each_at, entry_for, element_put, arg_by, arg_at}
 use Rattle.bind_areas.proofs.ElementFacts.{called_within}
-
-range_below : (n : ℕ) → All (λ e. e < n) (range_with_len 0 n)
-range_below n k d low =
-    let long = length-range_with_len 0 n in
-    omega (arith, get_or-range_with_len 0 n k d (omega (arith, low, long)), low, long)
+use Rattle.dim_weights.proofs.ByLevel.{range-within as range_below}
 
 range_rises : (n : ℕ) → IsStrictlyIncreasing (range_with_len 0 n)
 range_rises n k low =

@@ -18,11 +18,7 @@ use Rattle.bind_arguments.specs.declared.bound_argument.BoundArgument.TheVariant
 use Rattle.bind_arguments.specs.declared.bound_argument.BoundArgument.TheVariants.{rolls-Text, rolls-Current, rolls-AtIndex, rolls-AtPlace, rolls-AttributeOf}
 use Rattle.bind_arguments.specs.declared.fault.ArgumentFault.TheVariants.{UnknownName}
 use Rattle.bind_arguments.proofs.Tables.{bound_arg, text_arg, cube_dims}
-
--- what an option that is there was made of
-pub mapped : {A B : Type 0} (f : A → B) (o : Option A) (b : B) → option_map f o ≡ Some b → (a : A) × (o ≡ Some a) × (f a ≡ b)
-mapped f None b is = absurd (cc is)
-mapped f (Some a) b is = (a, refl, cc is)
+pub use Rattle.lists.proofs.Found.{mapped}
 
 pub then_got : {A B : Type 0} (f : A → Option B) (o : Option A) (b : B) → option_and_then f o ≡ Some b → (a : A) × (o ≡ Some a) × (f a ≡ Some b)
 then_got f None b is = absurd (cc is)

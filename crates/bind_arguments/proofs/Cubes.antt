@@ -1,5 +1,5 @@
 -- The dimensions of a cube.
-use Rattle.std.proofs.Common.{◌≡◌, ℕ, ◌<◌, ◌≤◌, List, [], length, get_or, Some, ap, ◌∙◌, subst, All, slice_get, nat_lt, true, ◌&&◌, eq-eqb}
+use Rattle.std.proofs.Common.{◌≡◌, ℕ, ◌<◌, ◌≤◌, List, [], length, get_or, Some, ap, ◌∙◌, All, slice_get, nat_lt, true, ◌&&◌, eq-eqb}
 use Rattle.std.proofs.lemmas.List.{get_or-map}
 use Rattle.std.proofs.lemmas.Option.{slice_get_within, get_or_from_slice_get}
 use Rattle.cube_space.specs.declared.shape.CubeShape.{CubeShape}
@@ -7,9 +7,7 @@ use Rattle.std.proofs.lemmas.Bool.{and_from, lt-ltb}
 use Rattle.bind_arguments.specs.Inside.Within.{is_dimension, is_placed}
 use Rattle.cube_space.specs.Cells.{IsSpace}
 use Rattle.cube_space.specs.Layout.{Layout, dims_of}
-
-found_holds : (P : CubeShape → Type 0) (cubes : List CubeShape) (cube : ℕ) (shape : CubeShape) → All P cubes → slice_get cubes cube ≡ Some shape → P shape
-found_holds P cubes cube shape all is = subst P (get_or_from_slice_get cubes cube shape shape is) (all cube shape (slice_get_within cubes cube shape is))
+use Rattle.lists.proofs.Found.{found_holds}
 
 module _ (space : Layout) (cube : ℕ) (shape : CubeShape) (valid : IsSpace space) (is : slice_get space.cubes cube ≡ Some shape) where
   pub dims_are : dims_of space cube ≡ shape.dims

@@ -36,6 +36,7 @@ use Rattle.cube_space.specs.declared.shape.CubeShape.{CubeShape}
 use Rattle.bind_arguments.proofs.Cubes.{dims_are, dims_within, dims_count}
 use Rattle.bind_arguments.proofs.Around.{found_dimension}
 use Rattle.bind_arguments.proofs.NamesGiven.{current_parts, given_current}
+use Rattle.lists.proofs.Found.{there as found_among}
 
 -- Arguments other than texts.
 
@@ -77,11 +78,6 @@ module _ (space : Layout) (cube dim : ℕ) where
   argument_text tree text r is h = subst (λ p. IsAnsweredBy (argument_by_form space cube dim (argument_of_part p)) r) (sym is) h
 
 -- The sizes of dimensions.
-
-found_among : (cubes : List CubeShape) (cube : ℕ) → cube < length cubes → (shape : CubeShape) × (slice_get cubes cube ≡ Some shape)
-found_among [] cube low = absurd (omega arith)
-found_among (x ∷ cubes) zero low = (x, refl)
-found_among (x ∷ cubes) (suc cube) low = found_among cubes cube (omega arith)
 
 module _ (space : Layout) (cube : ℕ) (dims : List ℕ) (are : dims_of space cube ≡ dims) (all : All (λ dim. dim < length space.dimensions) dims) where
   pub sizes_length : length (sizes space cube) ≡ length dims

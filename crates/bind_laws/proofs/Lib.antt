@@ -2,6 +2,5 @@ mod Got
 mod AreaFacts
 mod CubeFacts
 mod ReferenceFacts
-mod PrecedentFacts
 mod FormulaFacts
 mod RuleFacts

@@ -1,5 +1,5 @@
 -- The ranks of elements hold the leaves below them.
-use Rattle.std.proofs.Common.{◌≡◌, ◌<◌, ◌≤◌, ℕ, zero, suc, max, Bool, true, false, cond, nat_le, eqb, ℤ, pos, negsuc, List, [], ◌∷◌, map, length, Option, Some, None, IfSome, unwrap_or, if◌then◌else◌, refl, sym, ap, ◌∙◌, subst, arith, get_or, slice_index_or}
+use Rattle.std.proofs.Common.{◌≡◌, ◌<◌, ◌≤◌, ℕ, zero, suc, max, Bool, true, false, cond, nat_le, eqb, ℤ, pos, List, [], ◌∷◌, map, length, Option, Some, None, IfSome, unwrap_or, if◌then◌else◌, refl, sym, ap, ◌∙◌, subst, arith, get_or, slice_index_or}
 use Rattle.std.specs.List.{range_with_len}
 use Rattle.std.proofs.lemmas.Bool.{leb-true, eqb-true}
 use Rattle.std.proofs.lemmas.List.FromFn.{length-range_with_len, get_or-range_with_len}
@@ -12,18 +12,13 @@ use Rattle.rule_model.specs.Conditions.{greatest_rank, AreRanks}
 use Rattle.bind_order.specs.Inside.Given.{AreWithin}
 use Rattle.bind_order.specs.Orders.{leaf_rank, greatest_leaf, fitting, rank_of, ranks_of}
 use Rattle.bind_order.proofs.ListFacts.{all_at, all_long}
+use Rattle.dim_weights.proofs.Nonzero.{counts-nonzero as nonzero}
 
 at_least : (a b : ℕ) → (a ≤ max a b) × (b ≤ max a b)
 at_least a b = (omega arith, omega arith)
 
 at_most : (a b n : ℕ) → a ≤ n → b ≤ n → max a b ≤ n
 at_most a b n la lb = omega (arith, la, lb)
-
--- a leaf that counts is at most the greatest
-nonzero : (z : ℤ) → (z ≡ pos 0 → ⊥) → is_nonzero z ≡ true
-nonzero (pos zero) other = absurd (other refl)
-nonzero (pos (suc n)) other = refl
-nonzero (negsuc n) other = refl
 
 counted : (v : ℕ → ℤ) (f : ℕ → ℕ) (xs : List ℕ) (k : ℕ) → k < length xs → (v (get_or xs k 0) ≡ pos 0 → ⊥) → f (get_or xs k 0) ≤ greatest (map (λ pair. f pair.0) (nonzero_among v xs))
 counted v f [] k low other = absurd (omega (arith, low))

@@ -7,6 +7,6 @@ mod LastWrites
 mod Parts
 mod Levels
 mod NextCells
-mod Numbers
+pub mod Numbers
 mod Stores
 mod Sets

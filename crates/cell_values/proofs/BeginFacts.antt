@@ -33,9 +33,9 @@ use Rattle.cell_values.specs.Inside.Questions.{values_of, work_on, cost_on, comp
 use Rattle.cell_values.specs.Inside.Sums.{IsSum, Advances, Stops, sum_on}
 use Rattle.cell_values.specs.Inside.Frames.{leaves_left, components_left}
 use Rattle.cell_values.specs.Inside.Sound.{IsSound}
-use Rattle.cell_values.proofs.Members.{filter-all}
 use Rattle.cell_values.proofs.Values.{ungoverned-value}
 use Rattle.cell_values.proofs.SumFacts.{base-sum, children-sum, base-work, total-work, children-work, advances-same, advances-term, advances-end, component-end, component-zero, component-none, component-some}
+pub use Rattle.sparse_sum.proofs.Totals.{all-left as left-all}
 
 -- the number of a cell is small
 pub small-number : (v : NumberedVersion) (c : ℕ) → IsSound v → IsCell v.model.space c → IsNumber c
@@ -51,9 +51,6 @@ stored-or entries c o is = number-or o ∙ ap (λ (o : Option ℤ). option_map_o
 
 least : (n : ℕ) → leb 0 n ≡ true
 least n = grind (arith, nat_tests)
-
-pub left-all : (space : Layout) (stored fed : List ℕ) (c : ℕ) → left space stored fed (begun c) ≡ live_below space stored fed c
-left-all space stored fed c = filter-all (λ pair. leb 0 pair.0) (live_below space stored fed c) (λ pair has. least pair.0)
 
 -- the same walk over the parts of a version
 pub left-same : (v : NumberedVersion) (space : Layout) (entries : List Entry) (fed : List ℕ) (w : Progress) → space ≡ v.model.space → entries ≡ v.stored → fed ≡ v.fed

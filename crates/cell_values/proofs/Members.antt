@@ -1,11 +1,12 @@
 -- Members of lists.
-use Rattle.std.proofs.Common.{◌≡◌, refl, sym, ◌∙◌, ap, subst, ℕ, zero, suc, eqb, ◌⊎◌, inl, inr, Bool, true, false, ◌||◌, ℤ, pos, negsuc, List, [], ◌∷◌, drop, filter}
+use Rattle.std.proofs.Common.{◌≡◌, refl, sym, ◌∙◌, ap, subst, ℕ, zero, suc, eqb, ◌⊎◌, inl, inr, Bool, true, false, ◌||◌, List, [], ◌∷◌, drop, filter}
 use Rattle.std.specs.Prelude.{IsTrue, ◌↔◌}
 use Rattle.std.specs.List.{Contains, list_all}
 use Rattle.std.proofs.lemmas.Bool.{eq-eqb, eqb-true}
 use Rattle.dim_order.specs.Members.{is_among}
-use Rattle.dim_weights.specs.Table.{is_nonzero}
 use Rattle.feed_map.proofs.Members.{none-there, at-front, behind, front-or-behind}
+pub use Rattle.std.proofs.lemmas.Bool.{or_parts as neither}
+pub use Rattle.dim_weights.proofs.Nonzero.{zero-is as nonzero-is, counts-nonzero, nonzero-counts}
 
 module _ {X : Type 0} where
   pub filter-contains : (p : X → Bool) (xs : List X) (x : X) → Contains xs x → p x ≡ true → Contains (filter p xs) x
@@ -74,26 +75,7 @@ there-among (y ∷ xs) x is = by (eqb x y) refl (λ rest. there-among xs x rest)
     by true on rest = subst (Contains (y ∷ xs)) (sym (eqb-true x y on)) (at-front y xs)
     by false off rest = behind y xs x (rest (rw off at is))
 
-pub neither : (a b : Bool) → (a || b) ≡ false → (a ≡ false) × (b ≡ false)
-neither true b off = absurd (cc)
-neither false b off = (refl, off)
-
 -- ---- weights
-
-pub nonzero-is : (z : ℤ) → is_nonzero z ≡ false → z ≡ pos 0
-nonzero-is (pos zero) none = refl
-nonzero-is (pos (suc n)) none = absurd (cc)
-nonzero-is (negsuc n) none = absurd (cc)
-
-pub nonzero-counts : (z : ℤ) → is_nonzero z ≡ true → z ≡ pos 0 → ⊥
-nonzero-counts z on none = let clash : is_nonzero (pos 0) ≡ true = ap is_nonzero (sym none) ∙ on in cc
-
-pub counts-nonzero : (z : ℤ) → (z ≡ pos 0 → ⊥) → is_nonzero z ≡ true
-counts-nonzero z counts = by (is_nonzero z) refl
-  where
-    by : (b : Bool) → is_nonzero z ≡ b → is_nonzero z ≡ true
-    by true is = is
-    by false is = absurd (counts (nonzero-is z is))
 
 -- a test for members
 pub has-is : (xs : List ℕ) (x : ℕ) (r : Bool) → IsTrue r ↔ Contains xs x → r ≡ is_among xs x

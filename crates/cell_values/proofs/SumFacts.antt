@@ -33,6 +33,7 @@ use Rattle.cell_values.specs.Inside.Sums.{sum_on, Advances}
 use Rattle.cell_values.proofs.Members.{nonzero-is, counts-nonzero}
 use Rattle.cell_values.proofs.Values.{formed, quiet-value}
 use Rattle.cell_values.proofs.Work.{cost-more, work-all, work-less}
+use Rattle.std.proofs.Math.Bool.{or-false as or_false}
 
 drop-past : (i : ℕ) (xs : List (ℕ × ℤ)) → length xs ≤ i → drop i xs ≡ []
 drop-past zero [] past = refl
@@ -49,10 +50,6 @@ some-components space c d some = by (parts_at space c d) refl some
     by (part ∷ parts) is some = rw is refl
 
 -- ---- terms that count for nothing
-
-or_false : (b : Bool) → (b || false) ≡ b
-or_false true = refl
-or_false false = refl
 
 module _ (v : NumberedVersion) where
   abbrev CountsNothing : ℕ × ℤ → Type 0

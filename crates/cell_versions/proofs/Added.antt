@@ -2,7 +2,7 @@
 use Rattle.std.proofs.Common.{◌≡◌, ◌↔◌, refl, sym, ◌∙◌, ap, arith, ℕ, ℤ, Bool, true, false, not, ◌&&◌, true≢false, List, [], ◌∷◌, ◌++◌, map, take, filter, Contains, ◌⊎◌, inl, inr, ⊎_elim, eqb, cond, length, get_or, ◌<◌, ◌+◌}
 use Rattle.std.specs.Prelude.{All, ◌==◌, IsTrue}
 use Rattle.std.specs.List.{list_any}
-use Rattle.std.proofs.lemmas.Bool.{and_parts}
+use Rattle.std.proofs.lemmas.Bool.{and_parts, not-true as not_true}
 use Rattle.std.proofs.lemmas.List.{take_more, map-append}
 use Rattle.std.proofs.lemmas.List.Elements.{All-contains, All-nil, All-push, All-weaker, Contains-append_left, Contains-push}
 use Rattle.cell_store.specs.declared.entry.Entry.{Entry}
@@ -55,10 +55,6 @@ module _ (model : BoundModel) (before : List Entry) (writes : List (ℕ × ℤ))
   cells = map (λ write. write.0) writes
 
   module _ (is : IsAddedBy before after cells added) where
-    not_true : (b : Bool) → not b ≡ true → b ≡ false
-    not_true false h = refl
-    not_true true h = absurd (true≢false (sym h))
-
     no_more : (c : ℕ) → among c cells ≡ false → (Contains (cells_of after) c → Contains (cells_of before) c) × (Contains (cells_of before) c → Contains (cells_of after) c)
     no_more c apart =
         let same : has c after ≡ has c before = untouched c writes before apart in (

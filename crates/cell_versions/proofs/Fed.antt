@@ -1,5 +1,5 @@
 -- What is fed rests on which cells are stored, and not on their numbers.
-use Rattle.std.proofs.Common.{◌≡◌, ◌↔◌, ◌∙◌, sym, ℕ, List, Contains, inl, inr}
+use Rattle.std.proofs.Common.{◌≡◌, ◌↔◌, ◌∙◌, ℕ, List, Contains, inl, inr}
 use Rattle.std.specs.Prelude.{IsSome}
 use Rattle.cell_store.specs.declared.entry.Entry.{Entry}
 use Rattle.cell_store.specs.Entries.{cells_of}
@@ -9,8 +9,7 @@ use Rattle.rule_model.specs.BoundModel.{BoundModel}
 use Rattle.rule_model.specs.System.{system_of}
 use Rattle.stored_values.specs.Stored.{stored_in}
 use Rattle.feed_map.specs.FedCells.{AreFedCells}
-use Rattle.rising_lists.proofs.Members.{contains_from_among, among_from_contains}
-use Rattle.cell_versions.proofs.Cells.{stored_is}
+use Rattle.feed_map.proofs.FedFacts.{entry-stored, stored-entry}
 
 start_alike : (w : RuleSystem) (s t : Stored) → ((x : ℕ) → IsSome (s x) → IsSome (t x)) → (x : ℕ) → IsStart w s x → IsStart w t x
 start_alike w s t more x (inl own) = inl (own.0, more x own.1)
@@ -19,12 +18,6 @@ start_alike w s t more x (inr dense) = inr dense
 fed_alike : (w : RuleSystem) (s t : Stored) → ((x : ℕ) → IsSome (s x) → IsSome (t x)) → (c : ℕ) → IsFed w s c → IsFed w t c
 fed_alike w s t more c (inl dense) = inl dense
 fed_alike w s t more c (inr chain) = inr (chain.0, chain.1, start_alike w s t more chain.1 chain.2, chain.3)
-
-entry-stored : (es : List Entry) (c : ℕ) → Contains (cells_of es) c → IsSome (stored_in es c)
-entry-stored es c has = stored_is c es ∙ among_from_contains (cells_of es) c has
-
-stored-entry : (es : List Entry) (c : ℕ) → IsSome (stored_in es c) → Contains (cells_of es) c
-stored-entry es c some = contains_from_among (cells_of es) c (sym (stored_is c es) ∙ some)
 
 pub AreFedCells-alike : (m : BoundModel) (es fs : List Entry) (fed : List ℕ) → ((c : ℕ) → Contains (cells_of es) c ↔ Contains (cells_of fs) c)
     → AreFedCells m es fed → AreFedCells m fs fed

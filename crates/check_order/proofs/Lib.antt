@@ -1,4 +1,3 @@
-pub mod PartsRead
 pub mod Walks
 pub mod FirstLate
 pub mod Firsts

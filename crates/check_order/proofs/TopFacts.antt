@@ -17,6 +17,7 @@ use Rattle.rule_model.specs.Order.{greatest, position_of, number_by, number_at, 
 use Rattle.order_laws.proofs.CellFacts.{cell-there}
 use Rattle.order_laws.proofs.ChildFacts.{size-at}
 use Rattle.check_order.specs.Inside.Tops.{position_top, cube_top, top}
+use Rattle.std.proofs.lemmas.List.{get_or_past as get-past, get_or_default as get_or-any}
 
 -- the greatest of a list
 pub greatest-within : (xs : List ℕ) (most : ℕ) → All (λ x. x ≤ most) xs → greatest xs ≤ most
@@ -69,17 +70,7 @@ digits-with (size ∷ sizes) (suc dim) e some low =
     let rest = digits-with sizes dim e (right-some size (product sizes) some) low in
     (0 ∷ rest.0, and_from _ _ (lt-ltb 0 size (left-some size (product sizes) some)) rest.1, rest.2)
 
-get_or-any : (xs : List ℕ) (k d e : ℕ) → k < length xs → get_or xs k d ≡ get_or xs k e
-get_or-any [] k d e low = absurd (omega arith)
-get_or-any (x ∷ xs) zero d e low = refl
-get_or-any (x ∷ xs) (suc k) d e low = get_or-any xs k d e (omega arith)
-
 module _ (m : BoundModel) (ruled : AreRules m.space m.rules) (place : ℕ) where
-  get-past : (ps : List Position) (k : ℕ) (d : Position) → length ps ≤ k → get_or ps k d ≡ d
-  get-past [] k d h = refl
-  get-past (p ∷ ps) zero d h = absurd (omega arith)
-  get-past (p ∷ ps) (suc k) d h = get-past ps k d (omega arith)
-
   -- what the order of a cube has at a position
   pub is-position : (cube : ℕ) → cube < length m.space.cubes → IsPosition (axes m.space cube) (position_of m cube place)
   is-position cube there = elim (cases_lt place (length (rules_of m cube).order.positions)) [

@@ -1,13 +1,11 @@
 -- The leaf cells that a cell stands for, element by element.
-use Rattle.std.proofs.Common.{◌≡◌, refl, sym, ap, ◌∙◌, arith, subst, ℕ, zero, suc, ◌+◌, ◌<◌, Bool, true, false, Option, Some, None, ℤ, pos, negsuc, ◌*ℤ◌, List, [], ◌∷◌, length, get_or, map, filter, ◌==◌, if◌then◌else◌, Contains, All, ext_get_or, unsigned_abs, mul-pos}
+use Rattle.std.proofs.Common.{◌≡◌, refl, sym, ap, ◌∙◌, arith, subst, ℕ, zero, suc, ◌+◌, ◌<◌, Bool, true, false, Option, Some, None, ℤ, pos, ◌*ℤ◌, List, [], ◌∷◌, length, get_or, map, filter, ◌==◌, if◌then◌else◌, Contains, All, ext_get_or}
 use Rattle.std.specs.Prelude.{slice_get}
 use Rattle.std.specs.List.{range_with_len}
 use Rattle.std.specs.Option.{option_map_or}
 use Rattle.std.proofs.lemmas.Bool.{and_parts, eq-eqb, cond_both}
 use Rattle.std.proofs.lemmas.Bool.Decides.{Decides-eqb}
 use Rattle.std.proofs.lemmas.List.Elements.{Contains-get_or}
-use Rattle.std.proofs.lemmas.List.FromFn.{get_or-range_with_len, length-range_with_len}
-use Rattle.std.proofs.lemmas.Int.{unsigned_abs-mul}
 use Rattle.std.proofs.Math.IntN.{*ℤ-zero, zero-*ℤ}
 use Rattle.dim_core.specs.Outline.{Outline, IsDimension, IsElement, components_of}
 use Rattle.dim_weights.specs.Coefficients.{coef, coef_over}
@@ -25,6 +23,9 @@ use Rattle.order_laws.proofs.CellFacts.{cell-digits, digits-long}
 use Rattle.cover_laws.specs.Decision.{counts_in}
 use Rattle.cover_laws.proofs.Pairs.{there-low, arg-there}
 use Rattle.cover_laws.proofs.Reached.{IsLeafBelow}
+pub use Rattle.dim_weights.proofs.ByLevel.{range-contains}
+use Rattle.dim_weights.proofs.Nonzero.{both-factors, first-factor, second-factor}
+pub use Rattle.dim_weights.proofs.Nonzero.{among-in}
 
 -- ---- what a leaf counts in a leaf
 
@@ -51,29 +52,6 @@ module _ (d : Outline) (dim : IsDimension d) where
 
 -- ---- products
 
-has-size : (z : ℤ) → is_nonzero z ≡ true → 0 < unsigned_abs z
-has-size (pos zero) h = absurd (cc)
-has-size (pos (suc n)) h = omega arith
-has-size (negsuc n) h = omega arith
-
-from-size : (z : ℤ) → 0 < unsigned_abs z → is_nonzero z ≡ true
-from-size (pos zero) h = absurd (omega (arith, h))
-from-size (pos (suc n)) h = refl
-from-size (negsuc n) h = refl
-
-both-factors : (a b : ℤ) → is_nonzero a ≡ true → is_nonzero b ≡ true → is_nonzero (a *ℤ b) ≡ true
-both-factors a b h k = from-size (a *ℤ b) (subst (λ n. 0 < n) (sym (unsigned_abs-mul a b)) (mul-pos (has-size a h) (has-size b k)))
-
-first-factor : (a b : ℤ) → is_nonzero (a *ℤ b) ≡ true → is_nonzero a ≡ true
-first-factor (pos zero) b h = ap is_nonzero (sym (zero-*ℤ b)) ∙ h
-first-factor (pos (suc n)) b h = refl
-first-factor (negsuc n) b h = refl
-
-second-factor : (a b : ℤ) → is_nonzero (a *ℤ b) ≡ true → is_nonzero b ≡ true
-second-factor a (pos zero) h = ap is_nonzero (sym (*ℤ-zero a)) ∙ h
-second-factor a (pos (suc n)) h = refl
-second-factor a (negsuc n) h = refl
-
 -- each element of the one counts in that of the other
 abbrev pub IsUnder : List Outline → List ℕ → List ℕ → Type 0
 IsUnder ds ts xs = (j : ℕ) (d : Outline) → slice_get ds j ≡ Some d → is_nonzero (coef d (get_or ts j 0) (get_or xs j 0)) ≡ true
@@ -95,19 +73,6 @@ product-under (d ∷ ds) (t ∷ ts) (x ∷ xs) h (suc j) o at = product-under ds
 
 -- ---- lists with values other than 0
 
-push-contains : {X : Type 0} (y : X) (xs : List X) (x : X) → Contains xs x → Contains (y ∷ xs) x
-push-contains y xs x c = let low = c.1 in (suc c.0, omega (arith, low), c.2)
-
-pub among-in : (f : ℕ → ℤ) (ls : List ℕ) (l : ℕ) → Contains ls l → is_nonzero (f l) ≡ true → Contains (nonzero_among f ls) (l, f l)
-among-in f [] l c h = absurd (let low = c.1 in omega (arith, low))
-among-in f (x ∷ ls) l (zero, low, at) h =
-    let same : x ≡ l = at in
-    subst (λ (xs : List (ℕ × ℤ)). Contains xs (l, f l)) (ap (λ t. if t then (x, f x) ∷ nonzero_among f ls else nonzero_among f ls) (sym (ap (λ x. is_nonzero (f x)) same ∙ h)))
-    (0, omega arith, ap (λ x. (x, f x)) same)
-among-in f (x ∷ ls) l (suc k, low, at) h =
-    let rest = among-in f ls l (k, omega (arith, low), at) h in
-    cond_both (is_nonzero (f x)) ((x, f x) ∷ nonzero_among f ls) (nonzero_among f ls) (λ (xs : List (ℕ × ℤ)). Contains xs (l, f l)) (λ on. push-contains (x, f x) (nonzero_among f ls) (l, f l) rest) (λ off. rest)
-
 -- a pair of these is one of the list, with a value other than 0
 abbrev IsAmong : (ℕ → ℤ) → List ℕ → ℕ × ℤ → Type 0
 IsAmong f ls p = Contains ls p.0 × (is_nonzero (f p.0) ≡ true)
@@ -117,9 +82,6 @@ in-among f ls = Rattle.model_laws.proofs.Below.among f (λ p. Contains ls p.0 ×
 
 pub contained : {X : Type 0} (P : X → Type 0) (xs : List X) (x : X) → All P xs → Contains xs x → P x
 contained P xs x all c = subst P c.2 (all c.0 x c.1)
-
-pub range-contains : (n k : ℕ) → k < n → Contains (range_with_len 0 n) k
-range-contains n k low = (k, omega (arith, low, length-range_with_len 0 n), get_or-range_with_len 0 n k k low ∙ (let own : 0 + k ≡ k = omega arith in own))
 
 -- ---- one dimension: the leaves below an element are those that count in it
 

@@ -60,7 +60,7 @@ module _ {X : Type 0} (P : X → Type 0) where
   any-map f (y ∷ ys) zero d low p = (0, f y, omega arith, refl, p)
   any-map f (y ∷ ys) (suc k) d low p = let (j, z, l, a, q) = any-map f ys k d (omega (arith, low)) p in (suc j, z, omega (arith, l), a, q)
 
-range-at : (n k d : ℕ) → k < n → get_or (range_with_len 0 n) k d ≡ k
+pub range-at : (n k d : ℕ) → k < n → get_or (range_with_len 0 n) k d ≡ k
 range-at n k d low = Rattle.std.proofs.lemmas.List.FromFn.get_or-range_with_len 0 n k d low ∙ (let own : 0 + k ≡ k = omega arith in own)
 
 range-long : (n : ℕ) → length (range_with_len 0 n) ≡ n

@@ -37,11 +37,9 @@ use Rattle.cover_laws.proofs.Named as naming
 use Rattle.cover_laws.proofs.Reached as reached
 use Rattle.cover_laws.proofs.Reached.{IsLeafBelow, has-some, some-has, all-elim, all-intro}
 use Rattle.cover_laws.proofs.Counted.{IsUnder, StandsFor, stands-contains, contains-stands, under-counts, counts-under, below-counts, counts-below}
+use Rattle.cover_laws.proofs.Looks.{shift}
 
 -- ---- lists
-
-shift : (base j : ℕ) → (suc base + j) ≡ (base + suc j)
-shift base j = omega arith
 
 reach_from-elim : (look : Look) (dims : List Outline) (base : ℕ) (args : List Arg) → all_reach look dims base args ≡ true → (d : ℕ) (b : Arg) → slice_get args d ≡ Some b → reaches look dims (base + d) b ≡ true
 reach_from-elim look dims base [] h d b at = absurd (cc)

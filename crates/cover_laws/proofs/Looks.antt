@@ -42,14 +42,14 @@ abbrev NamesFrom : (ℕ → ℕ → Bool) → ℕ → List Arg → ℕ → ℕ �
 NamesFrom counts base args i e =
     (j from : ℕ) (to : List (Option ℕ)) → slice_get args j ≡ Some (Moved from to) → from ≡ i → (t : ℕ) × (sent to e ≡ Some t) × (counts (base + j) t ≡ true)
 
-counted : (counts : ℕ → Bool) (o : Option ℕ) → option_map_or counts o false ≡ true → (t : ℕ) × (o ≡ Some t) × (counts t ≡ true)
+pub counted : (counts : ℕ → Bool) (o : Option ℕ) → option_map_or counts o false ≡ true → (t : ℕ) × (o ≡ Some t) × (counts t ≡ true)
 counted counts None h = absurd (cc)
 counted counts (Some t) h = (t, refl, h)
 
-counted-from : (counts : ℕ → Bool) (o : Option ℕ) (t : ℕ) → o ≡ Some t → counts t ≡ true → option_map_or counts o false ≡ true
+pub counted-from : (counts : ℕ → Bool) (o : Option ℕ) (t : ℕ) → o ≡ Some t → counts t ≡ true → option_map_or counts o false ≡ true
 counted-from counts o t e h = ap (λ o. option_map_or counts o false) e ∙ h
 
-shift : (base j : ℕ) → (suc base + j) ≡ (base + suc j)
+pub shift : (base j : ℕ) → (suc base + j) ≡ (base + suc j)
 shift base j = omega arith
 
 name_from-elim : (counts : ℕ → ℕ → Bool) (base : ℕ) (args : List Arg) (i e : ℕ) → name_each counts base args i e ≡ true → NamesFrom counts base args i e

@@ -2,7 +2,7 @@
 -- the one is narrow, and that the other is reached with it.
 use Rattle.std.proofs.Common.{◌≡◌, refl, sym, ap, ◌∙◌, arith, subst, ℕ, zero, suc, ◌+◌, ◌<◌, Bool, true, false, not, ◌&&◌, ◌||◌, Option, Some, List, [], ◌∷◌, length, get_or, ◌==◌}
 use Rattle.std.specs.Prelude.{slice_get}
-use Rattle.std.proofs.lemmas.Bool.{and_parts, and_from}
+use Rattle.std.proofs.lemmas.Bool.{and_parts, and_from, not-true as not-false}
 use Rattle.std.proofs.lemmas.Bool.Decides.{Decides-eqb}
 use Rattle.cube_space.specs.Layout.{axes, sizes}
 use Rattle.cube_space.specs.Radix.{are_digits}
@@ -23,6 +23,9 @@ use Rattle.order_laws.proofs.CellFacts.{axes-sizes, is_in_area, area-each}
 use Rattle.order_laws.proofs.Decided as decided
 use Rattle.cover_laws.specs.Looking.{Look, sent, is_narrow, is_possible}
 use Rattle.cover_laws.proofs.Looks.{NamesCounted, name_each-elim, name_each-intro, fixed-elim, fixed-intro, each-elim, each-intro, IsNarrow, some_in-elim, some_in-intro}
+pub use Rattle.std.proofs.lemmas.Option.{slice_get_within as there-low}
+pub use Rattle.rule_model.proofs.Arguments.{one_each as named-long}
+pub use Rattle.lists.proofs.Found.{there as arg-there}
 
 -- ---- lists of elements
 
@@ -52,10 +55,6 @@ any-not test base (e ∷ es) = parted (test base e) (any_from test (suc base) es
     parted true u = refl
     parted false u = refl
 
-not-false : (t : Bool) → not t ≡ true → t ≡ false
-not-false true h = absurd (cc)
-not-false false h = refl
-
 -- one for each number below this, chosen
 pub choose : (n : ℕ) (P : ℕ → ℕ → Type 0) → ((k : ℕ) → k < n → (x : ℕ) × P k x) → (xs : List ℕ) × (length xs ≡ n) × ((k : ℕ) → k < n → P k (get_or xs k 0))
 choose zero P h = ([], refl, λ k low. absurd (omega arith))
@@ -70,16 +69,6 @@ choose (suc n) P h =
 
 -- ---- arguments
 
-pub arg-there : {X : Type 0} (xs : List X) (j : ℕ) → j < length xs → (x : X) × (slice_get xs j ≡ Some x)
-arg-there [] j low = absurd (omega arith)
-arg-there (x ∷ xs) zero low = (x, refl)
-arg-there (x ∷ xs) (suc j) low = arg-there xs j (omega arith)
-
-pub there-low : {X : Type 0} (xs : List X) (j : ℕ) (x : X) → slice_get xs j ≡ Some x → j < length xs
-there-low [] j x is = absurd (cc)
-there-low (y ∷ xs) zero x is = omega arith
-there-low (y ∷ xs) (suc j) x is = omega (arith, there-low xs j x is)
-
 pub named-at : (es : List ℕ) (args : List Arg) (ts : List ℕ) → elements_by es args ≡ Some ts → (j : ℕ) (arg : Arg) → slice_get args j ≡ Some arg → element_by es arg ≡ Some (get_or ts j 0)
 named-at es [] ts h j arg is = absurd (cc)
 named-at es (a ∷ args) ts h zero arg is =
@@ -89,12 +78,6 @@ named-at es (a ∷ args) ts h zero arg is =
 named-at es (a ∷ args) ts h (suc j) arg is =
     let (t, us, first, rest, same) = with-parts (element_by es a) (elements_by es args) ts h in
     named-at es args us rest j arg is ∙ ap (λ l. Some (get_or l (suc j) 0)) same
-
-pub named-long : (es : List ℕ) (args : List Arg) (ts : List ℕ) → elements_by es args ≡ Some ts → length ts ≡ length args
-named-long es [] ts h = let same : [] ≡ ts = cc in ap length (sym same)
-named-long es (a ∷ args) ts h =
-    let (t, us, first, rest, same) = with-parts (element_by es a) (elements_by es args) ts h in
-    ap length (sym same) ∙ ap suc (named-long es args us rest)
 
 pub named-all : (es : List ℕ) (args : List Arg) → ((j : ℕ) (arg : Arg) → slice_get args j ≡ Some arg → (t : ℕ) × (element_by es arg ≡ Some t)) → (ts : List ℕ) × (elements_by es args ≡ Some ts)
 named-all es [] h = ([], refl)

@@ -19,7 +19,7 @@ use Rattle.rule_model.specs.Conditions.{IsArea, IsReference, AreRules}
 use Rattle.order_laws.proofs.ReferenceFacts.{moved-element}
 use Rattle.cover_laws.specs.Looking.{Look, sent, is_possible, each_narrow, each_named}
 use Rattle.cover_laws.specs.Decision.{leaves_at, has_leaves, counts_in, stands_over, each_sent, reaches_from, reaches, look_below}
-use Rattle.cover_laws.proofs.Looks.{IsNarrow, each_narrow-elim, each_narrow-intro}
+use Rattle.cover_laws.proofs.Looks.{IsNarrow, each_narrow-elim, each_narrow-intro, counted as some-passes, counted-from as passes-some}
 use Rattle.cover_laws.proofs.Named.{sent-passes, passes-sent}
 use Rattle.cover_laws.proofs.Pairs as pairs
 use Rattle.cover_laws.proofs.Pairs.{named-at, arg-there, there-low, follows-at}
@@ -47,13 +47,6 @@ all-elim p xs x h c = ap p (sym c.2) ∙ AllPass-from_list_all p xs h c.0 x c.1
 
 pub all-intro : (p : ℕ × ℤ → Bool) (xs : List (ℕ × ℤ)) → ((x : ℕ × ℤ) → Contains xs x → p x ≡ true) → list_all p xs ≡ true
 all-intro p xs h = list_all-from_AllPass p xs (λ k d low. h _ (Contains-get_or xs k d low))
-
-some-passes : (test : ℕ → Bool) (o : Option ℕ) → option_map_or test o false ≡ true → (u : ℕ) × (o ≡ Some u) × (test u ≡ true)
-some-passes test None h = absurd (cc)
-some-passes test (Some u) h = (u, refl, h)
-
-passes-some : (test : ℕ → Bool) (o : Option ℕ) (u : ℕ) → o ≡ Some u → test u ≡ true → option_map_or test o false ≡ true
-passes-some test o u e h = ap (λ o. option_map_or test o false) e ∙ h
 
 module _ (m : BoundModel) (ruled : AreRules m.space m.rules) (cube : ℕ) (there : cube < length m.space.cubes)
     (statement : Statement) (is_area : IsArea m.space cube statement.area) (r : Reference) (is : IsReference m.space cube r) where

@@ -2,7 +2,7 @@
 use Rattle.std.proofs.Common.{◌≡◌, refl, sym, ap, ◌∙◌, arith, subst, ℕ, suc, ◌+◌, ◌<◌, ◌≤◌, ◌⊎◌, Bool, true, false, not, ◌&&◌, ◌||◌, Option, Some, None, List, [], ◌∷◌, length, get_or, nat_lt, cond, if◌then◌else◌, inl, inr}
 use Rattle.std.specs.Prelude.{slice_index_or, is_none, is_some, option_map}
 use Rattle.std.specs.List.{list_all, position, position_or_len}
-use Rattle.std.proofs.lemmas.Bool.{and_parts, eq-eqb, ltb-true, lt-ltb, cases_lt}
+use Rattle.std.proofs.lemmas.Bool.{and_parts, eq-eqb, ltb-true, lt-ltb, cases_lt, false_from_ne_true as not-true}
 use Rattle.std.proofs.lemmas.List.Folds.{list_all-map}
 use Rattle.std.proofs.lemmas.List.Sums.{AllPass-from_list_all, list_all-from_AllPass}
 use Rattle.cube_space.specs.Layout.{axes, sizes}
@@ -207,10 +207,6 @@ module _ (m : BoundModel) (valid : IsSpace m.space) (ruled : AreRules m.space m.
         off b None h true k = refl
         off b None h false k = refl
         off b (Some f) h a k = ap (λ a. not (a && true)) (k h)
-
-        not-true : (a : Bool) → (a ≡ true → ⊥) → a ≡ false
-        not-true true h = absurd (h refl)
-        not-true false h = refl
 
         each : (s : Statement) → IsArea m.space r.cube s.area → is_none s.cons || names_no_total m cube statement.area r s.area ≡ true → not (has_part m t (rule_of m.space r.cube s)) ≡ true
         each s area h =

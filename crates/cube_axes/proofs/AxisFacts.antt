@@ -1,5 +1,5 @@
 -- The dimensions of a cube, one by one, by the numbers in its shape.
-use Rattle.std.proofs.Common.{◌≡◌, ◌<◌, ◌≤◌, ◌∙◌, ℕ, zero, suc, Bool, true, false, List, [], ◌∷◌, length, Some, None, All, refl, sym, ap, subst, arith, cond, nat_lt, get_or, position, slice_get}
+use Rattle.std.proofs.Common.{◌≡◌, ◌<◌, ◌≤◌, ◌∙◌, ℕ, zero, suc, Bool, true, false, List, [], ◌∷◌, length, Some, None, All, refl, sym, ap, arith, cond, nat_lt, get_or, position, slice_get}
 use Rattle.std.proofs.lemmas.Bool.{lt-ltb, le-ltb}
 use Rattle.std.proofs.lemmas.List.{get_or-map, length-map}
 use Rattle.std.proofs.lemmas.List.Sums.{position_or_len_is}
@@ -9,10 +9,7 @@ use Rattle.cube_space.specs.declared.shape.CubeShape.{CubeShape}
 use Rattle.cube_space.specs.Layout.{Layout, axes, axes_of, dims_of, fewest_dimensions, most_dimensions}
 use Rattle.cube_space.specs.Cells.{IsSpace}
 use Rattle.cube_space.proofs.Axes.{length-axes_of}
-
--- what holds of all shapes holds of the one that is found
-found_holds : (P : CubeShape → Type 0) (cubes : List CubeShape) (cube : ℕ) (shape : CubeShape) → All P cubes → slice_get cubes cube ≡ Some shape → P shape
-found_holds P cubes cube shape all is = subst P (get_or_from_slice_get cubes cube shape shape is) (all cube shape (slice_get_within cubes cube shape is))
+use Rattle.lists.proofs.Found.{found_holds}
 
 nothing : Outline
 nothing = record { name = []; elements = []; attributes = [] }

@@ -11,7 +11,7 @@ use Rattle.cube_fixed.specs.Rounding.{nearest}
 use Rattle.cube_fixed.specs.Text.{decimals_value}
 
 -- a byte of a text of digits is a digit
-digit_from_test : (c : ℕ) → is_ascii_digit c ≡ true → (48 ≤ c) × (c ≤ 57)
+pub digit_from_test : (c : ℕ) → is_ascii_digit c ≡ true → (48 ≤ c) × (c ≤ 57)
 digit_from_test c h = grind (arith, nat_tests)
 
 pub digit_at : (ds : List ℕ) (i : ℕ) → list_all is_ascii_digit ds ≡ true → i < length ds → (48 ≤ get_or ds i 0) × (get_or ds i 0 ≤ 57)

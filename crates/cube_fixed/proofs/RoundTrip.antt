@@ -1,5 +1,5 @@
 -- What is printed for a number reads back as that number.
-use Rattle.std.proofs.Common.{◌≡◌, ◌∙◌, sym, ap, refl, arith, lit≤, ℕ, zero, suc, ◌+◌, ◌-◌, ◌*◌, ◌/◌, ◌%◌, ◌^◌, ◌<◌, ◌≤◌, ℤ, pos, negsuc, unsigned_abs, Bool, true, false, not, ◌&&◌, ◌||◌, ◌==◌, nat_le, if◌then◌else◌, ltb, List, [], ◌∷◌, ◌++◌, length, take, drop, Some, Result, Ok, Err, decimal, codes, append-nil, append_assoc, length-append, pow-add, subst}
+use Rattle.std.proofs.Common.{◌≡◌, ◌∙◌, sym, ap, refl, arith, lit≤, ℕ, zero, suc, ◌+◌, ◌-◌, ◌*◌, ◌/◌, ◌%◌, ◌^◌, ◌<◌, ◌≤◌, ℤ, pos, negsuc, unsigned_abs, true, false, not, ◌&&◌, ◌||◌, ◌==◌, nat_le, if◌then◌else◌, ltb, List, [], ◌∷◌, ◌++◌, length, take, drop, Some, Result, Ok, Err, decimal, codes, append-nil, append_assoc, length-append, pow-add, subst}
 use Rattle.std.specs.Char.{is_ascii_digit, digit_value}
 use Rattle.std.specs.Int.{is_negative}
 use Rattle.std.specs.List.{list_all, list_any, position_or_len}
@@ -19,12 +19,9 @@ use Rattle.cube_fixed.specs.Rounding.{nearest}
 use Rattle.cube_fixed.specs.Text.{is_point, is_digits, is_decimal, decimals_value, decimal_value, signed, number_after_sign, number_of, reading_of, fraction_text, printed}
 use Rattle.cube_fixed.proofs.Digits.{Starts, starts, decimals, decimals-zero, decimals-step, below_place, fraction_text-pos}
 use Rattle.cube_fixed.proofs.Points.{HasPointAt, any-position, is_decimal-point, decimal_value-point, is_decimal-none, decimal_value-none, number_after_sign-decimal}
+use Rattle.std.proofs.lemmas.Bool.{and_parts as both_true}
 
 -- ---- texts of digits
-
-both_true : (a b : Bool) → (a && b) ≡ true → (a ≡ true) × (b ≡ true)
-both_true true b h = (refl, h)
-both_true false b h = cc
 
 digit_test : (c : ℕ) → 48 ≤ c → c ≤ 57 → is_ascii_digit c ≡ true
 digit_test c low high = grind (arith, nat_tests)
@@ -49,7 +46,7 @@ starts_from_length (c ∷ cs) h = (c, cs, refl)
 not_point : (c : ℕ) → is_ascii_digit c ≡ true → is_point c ≡ false
 not_point c h = grind (arith, nat_tests)
 
-not_minus : (c : ℕ) → is_ascii_digit c ≡ true → (c == 45) ≡ false
+pub not_minus : (c : ℕ) → is_ascii_digit c ≡ true → (c == 45) ≡ false
 not_minus c h = grind (arith, nat_tests)
 
 -- the first point after digits
@@ -224,7 +221,7 @@ says size h =
 
 -- ---- with its sign
 
-not_negative : (n : ℕ) → is_negative (pos n) ≡ false
+pub not_negative : (n : ℕ) → is_negative (pos n) ≡ false
 not_negative n = grind (arith, nat_tests)
 
 printed-pos : (n : ℕ) → printed (Num (pos n)) ≡ unsigned_text n

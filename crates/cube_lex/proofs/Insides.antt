@@ -14,6 +14,7 @@ use Rattle.cube_lex.specs.declared.fault.LexFault.TheVariants.{BadByte, OpenQuot
 use Rattle.cube_lex.specs.declared.quoted.QuoteEnd.TheVariants.{Closed, Forbidden, Open}
 use Rattle.cube_lex.proofs.Runs.{list_all-append}
 use Rattle.cube_lex.proofs.Quotes.{doubled-other}
+use Rattle.std.proofs.lemmas.Bool.{not-true}
 
 doubled-append : (xs ys : List ℕ) → doubled (xs ++ ys) ≡ doubled xs ++ doubled ys
 doubled-append xs ys = flat_map-append _ xs ys
@@ -107,7 +108,4 @@ forbidden-stops (q ∷ bytes) at place starts ends =
         before = ap (λ n. 1 + n) (sym split.1);
       },
       omega arith,
-    ) where
-      not-true : (b : Bool) → not b ≡ true → b ≡ false
-      not-true true e = absurd (cc)
-      not-true false e = refl
+    )

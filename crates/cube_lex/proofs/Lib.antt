@@ -1,5 +1,5 @@
 mod Runs
-mod Numbers
+pub mod Numbers
 mod Fronts
 pub mod Quotes
 mod Insides
@@ -11,3 +11,4 @@ pub mod WrittenTexts
 pub mod Wholes
 pub mod WellFormed
 pub mod Spaced
+pub mod Adding

@@ -3,7 +3,7 @@ use Rattle.std.proofs.Common.{◌≡◌, ℕ, ◌+◌, ◌-◌, ◌^◌, ◌<◌
 use Rattle.std.proofs.Math.Seq.{take-append_seam}
 use Rattle.std.proofs.lemmas.Bool.{leb-true}
 use Rattle.std.proofs.lemmas.Bool.Decides.{Decides-eqb}
-use Rattle.std.proofs.lemmas.List.{map-append}
+use Rattle.std.proofs.lemmas.List.{map-append, nil_from_length as nothing}
 use Rattle.std.proofs.lemmas.List.Sums.{sum_by-append, count_by-le-length, sum_by-cons}
 use Rattle.std.proofs.lemmas.Slice.Eq.{starts_is}
 use Rattle.std.specs.List.{list_all, count_by, cons_option, starts_with}
@@ -178,10 +178,7 @@ reading-done text tokens at line rest going empty small = record {
   oversize = λ large. absurd (omega (arith, large, small));
   within = λ fits. (going.parts, rest, going.divided, going.tokens_are, nothing rest empty);
   end = going.line_is ∙ ap (line_at text) (omega (arith, going.at_is, empty));
-} where
-  nothing : (xs : List ℕ) → length xs ≡ 0 → xs ≡ []
-  nothing [] e = refl
-  nothing (x ∷ xs) e = absurd (omega (arith, e))
+}
 
 -- at the first fault
 pub reading-stopped : (text : List ℕ) (tokens : List Token) (at line : ℕ) (rest : List ℕ) (fault : LexFault) → Going text tokens at line rest → Stops at rest (Some fault)

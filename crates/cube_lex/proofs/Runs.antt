@@ -3,16 +3,7 @@ use Rattle.std.proofs.Common.{◌≡◌, ℕ, ◌+◌, ◌≤◌, Bool, true, fa
 use Rattle.std.proofs.lemmas.List.Sums.{prefix_len-le-length}
 use Rattle.std.specs.List.{list_all, prefix_len}
 use Rattle.cube_lex.specs.Bytes.{Begins}
-
--- both sides of a conjunction that is true
-pub both : (a b : Bool) → (a && b) ≡ true → (a ≡ true) × (b ≡ true)
-both true b e = (refl, e)
-both false b e = absurd (cc)
-
--- a test that isn't true
-pub false-of : (a : Bool) → (a ≡ true → ⊥) → a ≡ false
-false-of true h = absurd (h refl)
-false-of false h = refl
+pub use Rattle.std.proofs.lemmas.Bool.{and_parts as both, false_from_ne_true as false-of}
 
 -- the front that prefix_len finds is there
 pub prefix_within : (p : ℕ → Bool) (xs : List ℕ) → prefix_len p xs ≤ length xs

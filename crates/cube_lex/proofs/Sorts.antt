@@ -1,6 +1,6 @@
 -- The first byte of a part tells what it is.
 use Rattle.std.proofs.Common.{◌<◌, length, get_or, ◌≡◌, ℕ, ◌≤◌, Bool, true, false, cond, ◌||◌, ◌==◌, List, [], ◌∷◌, ◌++◌, refl, sym, ap, ◌∙◌, subst, eqb-true, Some, None, Option, arith, inl, inr, ◌⊎◌}
-use Rattle.std.proofs.lemmas.Bool.{leb-true}
+use Rattle.std.proofs.lemmas.Bool.{leb-true, or_cases as either}
 use Rattle.std.specs.Char.{is_ascii_digit}
 use Rattle.std.specs.Int.{is_in_range}
 use Rattle.std.specs.List.{list_all, Contains}
@@ -49,10 +49,6 @@ StandsAs a_word = Stands Word
 StandsAs a_number = Stands Number
 StandsAs a_text = Stands Text
 StandsAs a_sign = Stands Sign
-
-either : (a b : Bool) → (a || b) ≡ true → (a ≡ true) ⊎ (b ≡ true)
-either true b e = inl refl
-either false b e = inr e
 
 -- white space begins no word
 white-values : (b : ℕ) → is_white b ≡ true → (b ≡ 32) ⊎ (b ≡ 9) ⊎ (b ≡ 13) ⊎ (b ≡ 10)

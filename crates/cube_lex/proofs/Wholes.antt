@@ -7,7 +7,7 @@ use Rattle.std.specs.List.{list_all}
 use Rattle.cube_lex.specs.Parts.{IsDigits}
 use Rattle.cube_lex.proofs.Runs.{list_all-append}
 
-digit-passes : (d : ℕ) → d < 10 → is_ascii_digit (48 + d) ≡ true
+pub digit-passes : (d : ℕ) → d < 10 → is_ascii_digit (48 + d) ≡ true
 digit-passes d small =
     let low : nat_le 48 (48 + d) ≡ true = le-leb 48 (48 + d) (omega arith) in
     let high : nat_le (48 + d) 57 ≡ true = le-leb (48 + d) 57 (omega arith) in

@@ -1,16 +1,14 @@
 -- The dimensions of a cube and their sizes.
-use Rattle.std.proofs.Common.{◌≡◌, ℕ, suc, ◌<◌, List, [], ◌∷◌, map, length, get_or, refl, ap, sym, ◌∙◌, arith, All, slice_index}
+use Rattle.std.proofs.Common.{◌≡◌, ℕ, ◌<◌, List, [], ◌∷◌, map, length, get_or, refl, ap, sym, ◌∙◌, arith, All, slice_index}
 use Rattle.std.proofs.lemmas.List.{get_or-map, length-map}
 use Rattle.std.proofs.lemmas.Option.{slice_get-get_or}
 use Rattle.dim_core.specs.Outline.{Outline}
 use Rattle.cube_space.specs.Layout.{axes_of, sizes_of}
+pub use Rattle.std.proofs.lemmas.List.Elements.{All-tail as All-rest}
 
 -- the first of the numbers names a dimension, and the others stay
 pub axes_of-cons : (dimensions : List Outline) (dim : ℕ) (dims : List ℕ) (d : Outline) → dim < length dimensions → axes_of dimensions (dim ∷ dims) ≡ get_or dimensions dim d ∷ axes_of dimensions dims
 axes_of-cons dimensions dim dims d h = rw (slice_get-get_or dimensions dim d h) refl
-
-pub All-rest : {X : Type 0} (P : X → Type 0) (x : X) (xs : List X) → All P (x ∷ xs) → All P xs
-All-rest P x xs all k d h = all (suc k) d (omega arith)
 
 pub element-count : (dimensions : List Outline) (dim : ℕ) (d : Outline) → dim < length dimensions → slice_index (sizes_of dimensions) dim ≡ length (get_or dimensions dim d).elements
 element-count dimensions dim d h = get_or-map (λ dimension. length dimension.elements) dimensions dim d 0 h

@@ -11,7 +11,7 @@ use Rattle.cube_space.specs.Layout.{Layout, sizes}
 use Rattle.cube_space.specs.Cells.{Cell, cells_of, all_cells, cell_at, cell_count, first_cell, size_of, is_place, IsCell, cell_number, cube_of, elements_of}
 use Rattle.cube_space.proofs.Radix.{length-all_digits, all_digits-at, number-below, number-digits, take-range}
 
-range-more : (a n : ℕ) → range_with_len a (suc n) ≡ range_with_len a n ++ (a + n) ∷ []
+pub range-more : (a n : ℕ) → range_with_len a (suc n) ≡ range_with_len a n ++ (a + n) ∷ []
 range-more a zero = ap (λ m. m ∷ []) (let e : a ≡ a + 0 = omega arith in e)
 range-more a (suc n) = let e : a + suc n ≡ a + 1 + n = omega arith in rw e (ap (λ xs. a ∷ xs) (range-more (a + 1) n))
 

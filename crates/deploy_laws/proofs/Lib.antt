@@ -1,5 +1,4 @@
 pub mod Single
 pub mod Texts
-pub mod Counts
 pub mod Models
 pub mod Deployments

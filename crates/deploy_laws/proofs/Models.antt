@@ -19,11 +19,12 @@ use Rattle.feed_check.specs.declared.fault.FeedCheckFault.TheVariants.{NotFed, D
 use Rattle.feed_check.specs.Verdict.{IsBlamed, IsFirstBlamed, IsSound, IsFaultOf, IsFirstFault}
 use Rattle.feed_check.proofs.Verdicts.{fault-refused}
 use Rattle.feed_map.specs.FedCells.{HasFewFed, HasManyFed}
-use Rattle.deploy_laws.proofs.Counts.{within-counts}
+use Rattle.feed_map.proofs.Counts.{within-counts}
 use Rattle.stored_values.specs.Stored.{stored_in}
 use Rattle.model_deploy.specs.declared.file.RuleFile.{RuleFile}
 use Rattle.model_deploy.specs.Deployment.{feeders_refusal, feeders_stage, fed_stage}
 use Rattle.deploy_laws.specs.OneAnswer.{HasOneAnswer}
+use Rattle.lists.proofs.Found.{same_truth as both-true}
 
 -- ---- of a list
 
@@ -40,11 +41,6 @@ module _ {X : Type 0} (P : X → Type 0) where
   taken-holds (y ∷ xs) (suc n) (suc k) x all low at = taken-holds xs n k x (λ j d less. all (suc j) d (omega (arith, less))) (omega (arith, low)) at
 
 -- ---- the operand that is blamed
-
-both-true : (t u : Bool) → (t ≡ true → u ≡ true) → (u ≡ true → t ≡ true) → t ≡ u
-both-true true u h k = sym (h refl)
-both-true false true h k = k refl
-both-true false false h k = refl
 
 module _ (w : RuleSystem) (rule : Rule) where
   agreed : (f : Formula) (covers other : Reference → Bool) → TellsCover w rule f covers → TellsCover w rule f other → blamed covers f ≡ blamed other f

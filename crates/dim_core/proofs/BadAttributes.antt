@@ -18,6 +18,7 @@ use Rattle.dim_core.specs.declared.attribute.NamedAttribute.{NamedAttribute}
 use Rattle.dim_core.specs.Draft.{is_repeated, is_bad_attribute, call_at, first_bad_among, IsResolvedAttribute}
 use Rattle.dim_core.specs.Outline.{is_same_attribute}
 use Rattle.dim_core.proofs.Naming.{same_attributes, repeated-resolved}
+pub use Rattle.std.proofs.lemmas.List.{nil_from_length as nothing_left}
 
 module _ (names : List (List ℕ)) where
   -- none of these calls is bad
@@ -114,7 +115,3 @@ two_ways (Err e) P Q R f p q = tt
 pub taken_front : {X A : Type 0} (s : IntoIter X A) (xs : List X) (t : IntoIter X A) → Yields into_iter_steps s xs t → into_iter_items s ≡ xs ++ into_iter_items t
 taken_front s [] t y = ap into_iter_items y
 taken_front s (x ∷ xs) t y = y.1.0 ∙ ap (λ ys. x ∷ ys) (taken_front y.0 xs t y.2)
-
-pub nothing_left : {X : Type 0} (xs : List X) → length xs ≡ 0 → xs ≡ []
-nothing_left [] h = refl
-nothing_left (x ∷ xs) h = absurd (omega arith)

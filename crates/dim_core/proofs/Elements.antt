@@ -1,11 +1,11 @@
 -- Elements made of names and lists of components, place by place.
-use Rattle.std.proofs.Common.{◌≡◌, ℕ, ◌+◌, ◌<◌, ◌≤◌, ℤ, List, [], ◌∷◌, ◌++◌, length, refl, ap, sym, ◌∙◌, arith, get_or, sum_by, nat_lt, ◌||◌, ◌-◌, Bool, true}
+use Rattle.std.proofs.Common.{◌≡◌, ℕ, ◌+◌, ◌<◌, ◌≤◌, ℤ, List, [], ◌∷◌, ◌++◌, length, refl, ap, sym, ◌∙◌, arith, sum_by, nat_lt, ◌||◌, ◌-◌, Bool, true}
 use Rattle.std.proofs.lemmas.Bool.Decides.{nat_tests}
-use Rattle.std.proofs.lemmas.Option.{slice_get-get_or}
 use Rattle.dim_name.specs.Name.{has_name}
 use Rattle.dim_core.specs.declared.attribute.NamedAttribute.{NamedAttribute}
 use Rattle.dim_core.specs.Draft.{is_defined, is_too_many}
 use Rattle.dim_core.specs.Outline.{elements_of, names_of, component_lists, component_count}
+pub use Rattle.std.proofs.lemmas.List.{get_or_default as get_or_within}
 
 module _ {C : Type 0} where
   pub length-elements_of : (names : List (List ℕ)) (lists : List (List (C × ℤ))) → length lists ≡ length names → length (elements_of names lists) ≡ length names
@@ -58,10 +58,3 @@ all_taken n d h = rw h refl
 
 pub room_left : (n count further : ℕ) → n ≤ 100000 → (n ≡ 100000 → ⊥) → count ≤ 1000000 → nat_lt (1000000 - count) further ≡ (nat_lt 100000 (n + 1) || nat_lt 1000000 (count + further))
 room_left n count further few other enough = grind (arith, nat_tests)
-
--- an element within a list doesn't depend on the default
-pub get_or_within : {X : Type 0} (xs : List X) (i : ℕ) (x y : X) → i < length xs → get_or xs i x ≡ get_or xs i y
-get_or_within xs i x y within =
-    let p = slice_get-get_or xs i x within in
-    let q = slice_get-get_or xs i y within in
-    cc

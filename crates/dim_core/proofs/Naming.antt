@@ -12,6 +12,7 @@ use Rattle.dim_core.specs.declared.attribute.Attribute.{Attribute}
 use Rattle.dim_core.specs.declared.attribute.NamedAttribute.{NamedAttribute}
 use Rattle.dim_core.specs.Draft.{is_repeated, IsResolvedAttribute}
 use Rattle.dim_core.specs.Outline.{is_same_attribute}
+pub use Rattle.std.proofs.lemmas.Option.{same_Some as same_number}
 
 pub same_names : IsEquivalence is_same_name
 same_names = on_equiv key_of nat_list_eq_equiv
@@ -19,9 +20,6 @@ same_names = on_equiv key_of nat_list_eq_equiv
 -- and so are attributes of an element
 pub same_attributes : IsEquivalence is_same_attribute
 same_attributes = and_equiv (on_equiv (λ (a : Attribute). a.element) nat_eq_equiv) (on_equiv (λ (a : Attribute). a.name) same_names)
-
-pub same_number : (i j : ℕ) → Some i ≡ Some j → i ≡ j
-same_number i j h = cc
 
 -- two names that have places are the same where their places are
 pub same_place : (names : List (List ℕ)) (a b : List ℕ) (i j : ℕ) → place_of names a ≡ Some i → place_of names b ≡ Some j → is_same_name a b ≡ eqb i j

@@ -23,7 +23,7 @@ use Rattle.dim_core.proofs.Naming.{same_names, same_attributes, same_number, pla
 use Rattle.dim_core.proofs.Resolving.{resolved_is}
 
 -- the elements of the draft
-names_of-written : (names : List (List ℕ)) (es : List (Element ℕ)) → names_of (map (written_element names) es) ≡ names_of es
+pub names_of-written : (names : List (List ℕ)) (es : List (Element ℕ)) → names_of (map (written_element names) es) ≡ names_of es
 names_of-written names [] = refl
 names_of-written names (e ∷ es) = ap (λ ns. e.name ∷ ns) (names_of-written names es)
 
@@ -200,15 +200,15 @@ written_finishes d is =
     ∙ ap (λ b. first_cause None b (first_loop (written d))) bad ∙ ap (first_cause None None) loop
 
 -- and nothing but the dimension comes of it
-element_is : (a b : Element ℕ) → a.name ≡ b.name → a.components ≡ b.components → a ≡ b
+pub element_is : (a b : Element ℕ) → a.name ≡ b.name → a.components ≡ b.components → a ≡ b
 element_is a b e f = ap (λ n. record { name = n; components = a.components }) e ∙ ap (λ c. record { name = b.name; components = c }) f
 
-attribute_is : (a b : Attribute) → a.element ≡ b.element → a.name ≡ b.name → a.text ≡ b.text → a ≡ b
+pub attribute_is : (a b : Attribute) → a.element ≡ b.element → a.name ≡ b.name → a.text ≡ b.text → a ≡ b
 attribute_is a b e f g =
     let A : ℕ → List ℕ → List ℕ → Attribute = λ e n t. record { element = e; name = n; text = t } in
     ap (λ e. A e a.name a.text) e ∙ ap (λ n. A b.element n a.text) f ∙ ap (A b.element b.name) g
 
-outline_is : (a b : Outline) → a.name ≡ b.name → a.elements ≡ b.elements → a.attributes ≡ b.attributes → a ≡ b
+pub outline_is : (a b : Outline) → a.name ≡ b.name → a.elements ≡ b.elements → a.attributes ≡ b.attributes → a ≡ b
 outline_is a b e f g =
     let O : List ℕ → List (Element ℕ) → List Attribute → Outline = λ n es as'. record { name = n; elements = es; attributes = as' } in
     ap (λ n. O n a.elements a.attributes) e ∙ ap (λ es. O b.name es a.attributes) f ∙ ap (O b.name b.elements) g

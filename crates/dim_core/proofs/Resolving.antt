@@ -1,7 +1,7 @@
 -- Components by name and by index.
-use Rattle.std.proofs.Common.{◌≡◌, ℕ, zero, suc, ◌<◌, ℤ, List, [], ◌∷◌, length, get_or, refl, ap, sym, ◌∙◌, arith, subst, Bool, true, false, ◌&&◌, nat_le, None, not, position, IsTrue, All, sum_by, unsigned_abs, map}
+use Rattle.std.proofs.Common.{◌≡◌, ℕ, zero, suc, ◌<◌, ℤ, List, [], ◌∷◌, length, get_or, refl, ap, sym, ◌∙◌, arith, subst, true, ◌&&◌, nat_le, None, not, position, IsTrue, All, sum_by, unsigned_abs, map}
 use Rattle.std.specs.List.{AllZip, IsDistinct}
-use Rattle.std.proofs.lemmas.Bool.{leb-true}
+use Rattle.std.proofs.lemmas.Bool.{leb-true, and_parts as and_true, not-false as not_false}
 use Rattle.std.proofs.lemmas.List.Elements.{All-cons, All-nil, All-head, All-tail}
 use Rattle.std.proofs.lemmas.List.Quantifiers.{position-Some}
 use Rattle.std.proofs.lemmas.List.Sums.{sum_by-cons}
@@ -25,21 +25,12 @@ first_unknown-elements_of of names lists calls paired =
     let parts = component_lists-elements_of names lists paired in
     rw (shown, parts) refl
 
-not_false : (b : Bool) → not b ≡ false → b ≡ true
-not_false true h = refl
-not_false false h = absurd (cc)
-
 -- a draft of which no component is unknown
 pub all_known : (of : List ℕ) (names : List (List ℕ)) (lists : List (List (List ℕ × ℤ))) (calls : List NamedAttribute) → length lists ≡ length names
     → first_unknown (record { name = of; elements = elements_of names lists; attributes = calls }) ≡ None → All (λ parts. IsTrue (are_known names parts)) lists
 all_known of names lists calls paired none =
     let unknown : position (λ parts. not (are_known names parts)) lists ≡ None = sym (first_unknown-elements_of of names lists calls paired) ∙ none in
     λ e d within. not_false _ (none_passes (λ parts. not (are_known names parts)) lists unknown e d within)
-
--- the two halves of a test that is a conjunction
-and_true : (a b : Bool) → (a && b) ≡ true → (a ≡ true) × (b ≡ true)
-and_true true b h = (refl, h)
-and_true false b h = absurd (cc)
 
 resolved_parts : (names : List (List ℕ)) (written : List (List ℕ × ℤ)) (resolved : List (ℕ × ℤ)) → IsResolved names written resolved → has_weights written ≡ true
     → All (λ c. (c.0 < length names) × IsWeight c.1) resolved

@@ -2,12 +2,9 @@
 use Rattle.std.proofs.Common.{◌≡◌, ap, ℕ, ◌<◌, ◌≤◌, List, [], ◌∷◌, length, get_or, nat_lt, not, Bool, true, false, cond, Some, None, All, position, refl, arith}
 use Rattle.std.specs.List.{position_or_len}
 use Rattle.std.proofs.lemmas.Bool.Decides.{nat_tests}
-use Rattle.std.proofs.lemmas.Option.{slice_get-get_or}
 use Rattle.std.proofs.lemmas.List.Sums.{prefix_len_passes, position_or_len_is}
-
-not_true : (b : Bool) → not b ≡ true → b ≡ false
-not_true true h = cc
-not_true false h = refl
+use Rattle.std.proofs.lemmas.Bool.{not-true as not_true}
+pub use Rattle.std.proofs.lemmas.List.{get_or_default as get_or_within}
 
 none_here : (n m : ℕ) (b : Bool) → nat_lt n m ≡ b → cond b (Some n) None ≡ None → m ≤ n
 none_here n m true e h = absurd (cc)
@@ -45,10 +42,3 @@ here_first n m i e within = by (nat_lt n m) refl
 pub position-first : {X : Type 0} (p : X → Bool) (xs : List X) (i : ℕ) (d : X) → i < length xs → ((k : ℕ) → k < i → p (get_or xs k d) ≡ false) → p (get_or xs i d) ≡ true → position p xs ≡ Some i
 position-first p xs i d within before here =
     here_first (position_or_len p xs) (length xs) i (position_or_len_is p xs i d (omega arith) before (λ _. here)) within
-
--- an element within a list doesn't depend on the default
-pub get_or_within : {X : Type 0} (xs : List X) (i : ℕ) (x y : X) → i < length xs → get_or xs i x ≡ get_or xs i y
-get_or_within xs i x y within =
-    let p = slice_get-get_or xs i x within in
-    let q = slice_get-get_or xs i y within in
-    cc

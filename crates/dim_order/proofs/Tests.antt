@@ -1,29 +1,10 @@
 -- Tests on the elements of a list.
-use Rattle.std.proofs.Common.{◌≡◌, ◌⊎◌, inl, inr, ℕ, zero, suc, ◌<◌, ◌≤◌, Bool, true, false, ◌||◌, ◌&&◌, eqb, List, [], ◌∷◌, length, take, get_or, refl, sym, ap, arith, All}
+use Rattle.std.proofs.Common.{◌≡◌, ◌⊎◌, inl, inr, ℕ, zero, suc, ◌<◌, ◌≤◌, Bool, true, false, ◌||◌, ◌&&◌, eqb, List, [], ◌∷◌, length, take, get_or, refl, sym, arith, All}
 use Rattle.std.specs.List.{list_any, list_all}
 use Rattle.std.proofs.lemmas.Bool.{eqb-true}
 use Rattle.std.proofs.lemmas.List.Elements.{All-head, All-tail}
 use Rattle.dim_order.specs.Members.{is_among}
-
--- a test of two halves
-pub either : (a b : Bool) → (a || b) ≡ true → (a ≡ true) ⊎ (b ≡ true)
-either true b h = inl refl
-either false b h = inr h
-
-pub neither : (a b : Bool) → (a || b) ≡ false → (a ≡ false) × (b ≡ false)
-neither true b h = absurd (cc)
-neither false b h = (refl, h)
-
-pub both : (a b : Bool) → (a && b) ≡ true → (a ≡ true) × (b ≡ true)
-both true b h = (refl, h)
-both false b h = absurd (cc)
-
-pub first_holds : (a b : Bool) → a ≡ true → (a || b) ≡ true
-first_holds a b h = ap (λ x. x || b) h
-
-pub second_holds : (a b : Bool) → b ≡ true → (a || b) ≡ true
-second_holds true b h = refl
-second_holds false b h = h
+pub use Rattle.std.proofs.lemmas.Bool.{or_parts as neither, and_parts as both, or_cases as either, or_left as first_holds, or_right as second_holds}
 
 -- no Bool is both
 pub not_both : {G : Type 0} (b : Bool) → b ≡ true → b ≡ false → G

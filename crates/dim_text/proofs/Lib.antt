@@ -10,7 +10,6 @@ pub mod Rebuilt
 pub mod OneReading
 pub mod OneBlock
 pub mod PrintedBack
-pub mod Adding
 pub mod PrintedParts
 pub mod Answering
 pub mod ElementLoop

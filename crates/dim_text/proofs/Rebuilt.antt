@@ -8,7 +8,7 @@ use Rattle.cube_lex.specs.Lexeme.{Lexeme}
 use Rattle.cube_lex.specs.Written.{spelling_of}
 use Rattle.dim_name.specs.Name.{is_name, is_same_name}
 use Rattle.dim_core.proofs.Naming.{place_at}
-use Rattle.dim_core.proofs.OwnDefinitions.{element_accepted, written_finishes}
+use Rattle.dim_core.proofs.OwnDefinitions.{element_accepted, written_finishes, names_of-written as names_again}
 use Rattle.dim_core.specs.Draft.{Draft, IsFinished, IsResolved, IsResolvedAttribute, with_element}
 use Rattle.dim_core.specs.Outline.{Element, Outline, IsDimension, IsWeight, names_of, name_of, components_of}
 use Rattle.dim_core.specs.Refusal.{refusal_of, finish_refusal_of}
@@ -170,10 +170,6 @@ body_again d is line ts e =
     }
 
 -- The dimension is what its own definitions come to.
-
-names_again : (names : List (List ℕ)) (es : List (Element ℕ)) → names_of (map (written_element names) es) ≡ names_of es
-names_again names [] = refl
-names_again names (e ∷ es) = ap (λ ns. e.name ∷ ns) (names_again names es)
 
 parts_again : (names : List (List ℕ)) → IsDistinct is_same_name names → (parts : List (ℕ × ℤ)) → All (λ c. (c.0 < length names) × IsWeight c.1) parts → IsResolved names (by_name names parts) parts
 parts_again names distinct [] within = tt

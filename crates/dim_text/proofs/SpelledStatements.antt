@@ -1,13 +1,12 @@
 -- Each statement as it is written is read as that statement again, on its new line.
-use Rattle.std.proofs.Common.{◌≡◌, ◌≤◌, ◌<◌, ◌^◌, ℕ, suc, ℤ, pos, negsuc, neg_ℤ, ◌==◌, List, [], ◌∷◌, true, false, Bool, Option, Some, ◌&&◌, cond, refl, sym, ap, ◌∙◌, nat_lt, codes, decimal, IsTrue, arith}
-use Rattle.std.proofs.lemmas.Bool.{lt-ltb, eqb-true}
+use Rattle.std.proofs.Common.{◌≡◌, ◌≤◌, ◌<◌, ◌^◌, ℕ, suc, ℤ, pos, negsuc, neg_ℤ, ◌==◌, List, [], ◌∷◌, true, false, Bool, Some, ◌&&◌, cond, refl, sym, ap, ◌∙◌, nat_lt, codes, decimal, IsTrue, arith}
+use Rattle.std.proofs.lemmas.Bool.{lt-ltb, eqb-true, and_from as and_both, cond-true}
 use Rattle.std.proofs.lemmas.Fmt.{decimal_is_IsNumeral}
 use Rattle.std.specs.Char.{is_ascii_digit}
 use Rattle.std.proofs.lemmas.List.Elements.{All-head, All-tail}
 use Rattle.std.specs.List.{All, AllZip, list_all, flat_map}
 use Rattle.std.specs.Str.{bytes_eq, str_eq_ignore_ascii_case, str_to_ascii_lowercase}
 use Rattle.std.specs.Str.Parse.{digits_value}
-use Rattle.cube_lex.specs.Parts.{IsDigits}
 use Rattle.cube_lex.specs.Quoted.{unquoted}
 use Rattle.cube_lex.proofs.Quotes.{unquoted-quoted}
 use Rattle.cube_lex.proofs.Wholes.{decimal-is_digits}
@@ -20,23 +19,16 @@ use Rattle.cube_lex.specs.Written.{word_token, sign_token, text_token}
 use Rattle.dim_text.specs.Spelled.{whole_token, weight_spelled, part_spelled, next_part_spelled, parts_spelled, spelled, defining}
 use Rattle.dim_text.specs.Statement.{Statement, Head, Leaf, Consolidated, Attribute, End, Close, signed, head, weight, part, parts, leaf, consolidated, attribute, element, ending, closing}
 use Rattle.grammar.proofs.Spells.{Spells, Picks, spells_done, spells_next, spells_both, spells_left, spells_right, spells_made, spells_many}
+use Rattle.cube_lex.proofs.Numbers.{digits-pass as digits_pass}
 
 -- One token.
-
-if_yes : {A : Type 0} (b : Bool) (a : A) (o : Option A) → b ≡ true → cond b (Some a) o ≡ Some a
-if_yes true a o e = refl
-if_yes false a o e = cc
-
-and_both : (a b : Bool) → a ≡ true → b ≡ true → (a && b) ≡ true
-and_both true b h k = k
-and_both false b h k = cc
 
 pub picks_word : (w : List ℕ) → Picks (word w) (word_token w) (λ _. Unit {0})
 picks_word w = record {
   at = λ t e. (
       let kind : is_word_kind t.kind ≡ true = ap (λ s. is_word_kind s.kind) e in
       let piece : str_eq_ignore_ascii_case t.piece w ≡ true = ap (λ s. str_eq_ignore_ascii_case s.piece w) e ∙ bytes_eq_self (str_to_ascii_lowercase w) in
-      (t.line, if_yes _ t.line _ (and_both _ _ kind piece), tt));
+      (t.line, cond-true _ (Some t.line) _ (and_both _ _ kind piece), tt));
 }
 
 pub picks_sign : (s : List ℕ) → Picks (sign s) (sign_token s) (λ _. Unit {0})
@@ -44,14 +36,14 @@ picks_sign s = record {
   at = λ t e. (
       let kind : is_sign_kind t.kind ≡ true = ap (λ x. is_sign_kind x.kind) e in
       let piece : bytes_eq t.piece s ≡ true = ap (λ x. bytes_eq x.piece s) e ∙ bytes_eq_self s in
-      (tt, if_yes _ tt _ (and_both _ _ kind piece), tt));
+      (tt, cond-true _ (Some tt) _ (and_both _ _ kind piece), tt));
 }
 
 pub picks_text : (bytes : List ℕ) → Picks text (text_token bytes) (λ value. value ≡ bytes)
 picks_text bytes = record {
   at = λ t e. (
       let kind : is_text_kind t.kind ≡ true = ap (λ x. is_text_kind x.kind) e in
-      (unquoted t.piece, if_yes _ (unquoted t.piece) _ kind, ap (λ x. unquoted x.piece) e ∙ unquoted-quoted bytes));
+      (unquoted t.piece, cond-true _ (Some (unquoted t.piece)) _ kind, ap (λ x. unquoted x.piece) e ∙ unquoted-quoted bytes));
 }
 
 pub picks_name : (bytes : List ℕ) → IsTrue (is_name bytes) → Picks name (text_token bytes) (λ value. value ≡ bytes)
@@ -60,12 +52,8 @@ picks_name bytes is = record {
       let kind : is_text_kind t.kind ≡ true = ap (λ x. is_text_kind x.kind) e in
       let same : unquoted t.piece ≡ bytes = ap (λ x. unquoted x.piece) e ∙ unquoted-quoted bytes in
       let named : is_name (unquoted t.piece) ≡ true = ap is_name same ∙ is in
-      (unquoted t.piece, if_yes _ (unquoted t.piece) _ (and_both _ _ kind named), same));
+      (unquoted t.piece, cond-true _ (Some (unquoted t.piece)) _ (and_both _ _ kind named), same));
 }
-
-digits_pass : (bytes : List ℕ) → IsDigits bytes → list_all is_ascii_digit bytes ≡ true
-digits_pass [] is = absurd is
-digits_pass (b ∷ bs) is = is
 
 pub picks_whole : (n : ℕ) → n < 2 ^ 31 → Picks whole (whole_token n) (λ value. value ≡ n)
 picks_whole n small = record {
@@ -75,7 +63,7 @@ picks_whole n small = record {
       let value : digits_value 10 t.piece ≡ n = ap (λ x. digits_value 10 x.piece) e ∙ (decimal_is_IsNumeral n wide).1 in
       let digits : list_all is_ascii_digit t.piece ≡ true = ap (λ x. list_all is_ascii_digit x.piece) e ∙ digits_pass (decimal n) (decimal-is_digits n wide) in
       let below : nat_lt (digits_value 10 t.piece) (2 ^ 31) ≡ true = ap (λ m. nat_lt m (2 ^ 31)) value ∙ lt-ltb n (2 ^ 31) small in
-      (digits_value 10 t.piece, if_yes _ (digits_value 10 t.piece) _ (and_both _ _ kind (and_both _ _ digits below)), value));
+      (digits_value 10 t.piece, cond-true _ (Some (digits_value 10 t.piece)) _ (and_both _ _ kind (and_both _ _ digits below)), value));
 }
 
 -- Parts.

@@ -117,13 +117,13 @@ filter-agree-all : (p q : ℕ → Bool) (xs : List ℕ) → All (λ x. p x ≡ q
 filter-agree-all p q [] all = refl
 filter-agree-all p q (x ∷ xs) all = rw (All-head (λ x. p x ≡ q x) x xs all, filter-agree-all p q xs (All-tail (λ x. p x ≡ q x) x xs all)) refl
 
-range-within : (n : ℕ) → All (λ x. x < n) (range_with_len 0 n)
+pub range-within : (n : ℕ) → All (λ x. x < n) (range_with_len 0 n)
 range-within n k d within =
     let low : k < n = omega (arith, length-range_with_len 0 n) in
     let at = get_or-range_with_len 0 n k d low in
     omega arith
 
-range-contains : (n k : ℕ) → k < n → Contains (range_with_len 0 n) k
+pub range-contains : (n k : ℕ) → k < n → Contains (range_with_len 0 n) k
 range-contains n k low = (k, omega (arith, length-range_with_len 0 n), omega (arith, get_or-range_with_len 0 n k k low))
 
 module _ (d : Outline) (dim : IsDimension d) (levels ys : List ℕ) (are : AreLevels (component_lists d.elements) levels) (sorted : IsSortedByLevel levels (range_with_len 0 (length d.elements)) ys) where

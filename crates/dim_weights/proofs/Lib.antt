@@ -5,6 +5,7 @@ pub mod Marks
 pub mod MergedSums
 pub mod Pairs
 pub mod MadeRows
+pub mod Nonzero
 pub mod Searches
 pub mod SumFacts
 pub mod Tables

@@ -8,6 +8,7 @@ use Rattle.std.proofs.lemmas.List.Sums.{sum_by-cons}
 use borrow.Author.Differences.{up, down}
 use Rattle.dim_core.specs.Outline.{IsWeight}
 use Rattle.dim_weights.specs.Coefficients.{weighted_sum}
+use Rattle.dim_weights.proofs.Nonzero.{abs-plus}
 
 -- a weighted sum by what it rises and what it falls
 balance : (f : ℕ → ℤ) (parts : List (ℕ × ℤ))
@@ -47,9 +48,6 @@ weighted_sum-more f parts i d w within =
     let put = weighted_sum-set f parts i d ((get_or parts i d).0, (get_or parts i d).1 +ℤ w) within in
     let both = plus-times (get_or parts i d).1 w (f (get_or parts i d).0) in
     omega (arith, ints, put, both)
-
-abs-plus : (a b : ℤ) → unsigned_abs (a +ℤ b) ≤ unsigned_abs a + unsigned_abs b
-abs-plus a b = omega (arith, ints)
 
 pub raised : (m n : ℕ) (parts : List (ℕ × ℤ)) → m ≤ n → All (λ p. unsigned_abs p.1 ≤ m) parts → All (λ p. unsigned_abs p.1 ≤ n) parts
 raised m n parts le small k d within = let at = small k d within in omega (arith, at, le)

@@ -1,5 +1,5 @@
 -- Pairs of a leaf and a coefficient.
-use Rattle.std.proofs.Common.{◌≡◌, ◌≢◌, ℕ, zero, suc, ◌+◌, ◌*◌, ◌<◌, ◌≤◌, max, Bool, true, false, cond, eqb, ℤ, pos, negsuc, ◌+ℤ◌, unsigned_abs, List, [], ◌∷◌, ◌++◌, length, take, get_or, map, refl, ap, sym, ◌∙◌, add-one, arith, All}
+use Rattle.std.proofs.Common.{◌≡◌, ◌≢◌, ℕ, zero, suc, ◌+◌, ◌*◌, ◌<◌, ◌≤◌, max, Bool, true, false, cond, eqb, ℤ, pos, ◌+ℤ◌, unsigned_abs, List, [], ◌∷◌, ◌++◌, length, take, get_or, map, refl, ap, sym, ◌∙◌, add-one, arith, All}
 use Rattle.std.specs.List.{AllPairs, range_with_len}
 use Rattle.std.proofs.Math.IntN.{+ℤ_idl}
 use Rattle.std.proofs.lemmas.Bool.{eqb-true, eq-eqb}
@@ -9,6 +9,8 @@ use Rattle.std.proofs.lemmas.List.Elements.{All-cons, All-nil}
 use Rattle.std.proofs.lemmas.List.{take_more, append-nil}
 use Rattle.std.proofs.lemmas.List.Kept.{AllPairs-from_increasing}
 use Rattle.dim_weights.specs.Table.{is_nonzero, nonzero_among, share, greatest_in, IsRising}
+use Rattle.dim_weights.proofs.Nonzero.{zero-is as is-zero, abs-plus}
+pub use Rattle.dim_weights.proofs.Nonzero.{counts-nonzero as nonzero-true}
 
 -- the leaves rise, by recursion, from this one on
 abbrev pub RisesFrom : ℕ → List (ℕ × ℤ) → Type 0
@@ -89,9 +91,6 @@ pub share-push : (ps : List (ℕ × ℤ)) (p : ℕ × ℤ) (leaf : ℕ) → shar
 share-push [] p leaf = omega (arith, ints)
 share-push (q ∷ ps) p leaf = let rest = share-push ps p leaf in omega (arith, ints)
 
-abs-plus : (a b : ℤ) → unsigned_abs (a +ℤ b) ≤ unsigned_abs a + unsigned_abs b
-abs-plus a b = omega (arith, ints)
-
 pub share-size : (m : ℕ) (ps : List (ℕ × ℤ)) (leaf : ℕ) → greatest_in ps ≤ m → unsigned_abs (share ps leaf) ≤ length ps * m
 share-size m [] leaf small = omega arith
 share-size m (p ∷ ps) leaf small = by (eqb p.0 leaf) (share-size m ps leaf (omega arith))
@@ -113,11 +112,6 @@ pub greatest_in-at : (ps : List (ℕ × ℤ)) (k : ℕ) (d : ℕ × ℤ) → k <
 greatest_in-at [] k d within = absurd (omega arith)
 greatest_in-at (p ∷ ps) zero d within = omega arith
 greatest_in-at (p ∷ ps) (suc k) d within = let later = greatest_in-at ps k d (omega arith) in omega arith
-
-is-zero : (z : ℤ) → is_nonzero z ≡ false → z ≡ pos 0
-is-zero (pos zero) h = refl
-is-zero (pos (suc n)) h = absurd (cc)
-is-zero (negsuc n) h = absurd (cc)
 
 -- values other than 0
 pub skip-zero : (f : ℕ → ℤ) (a : ℕ) (ls : List ℕ) → f a ≡ pos 0 → nonzero_among f (a ∷ ls) ≡ nonzero_among f ls
@@ -223,11 +217,6 @@ small-more m t v xs ys before small pushed = by (is_nonzero v) pushed
     by : (b : Bool) → ys ≡ xs ++ cond b ((t, v) ∷ []) [] → greatest_in ys ≤ m
     by true e = let all = greatest_in-push xs (t, v) in rw e (omega arith)
     by false e = rw (e, append-nil xs) before
-
-pub nonzero-true : (z : ℤ) → z ≢ pos 0 → is_nonzero z ≡ true
-nonzero-true (pos zero) h = absurd (h refl)
-nonzero-true (pos (suc n)) h = refl
-nonzero-true (negsuc n) h = refl
 
 pub greatest_in-more : (ps : List (ℕ × ℤ)) (i : ℕ) (d : ℕ × ℤ) → i < length ps → greatest_in (take (i + 1) ps) ≡ max (greatest_in (take i ps)) (unsigned_abs (get_or ps i d).1)
 greatest_in-more ps i d within = ap greatest_in (take_more ps i d within) ∙ greatest_in-push (take i ps) (get_or ps i d)

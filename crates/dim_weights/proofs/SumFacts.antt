@@ -10,6 +10,7 @@ use Rattle.dim_weights.specs.Table.{share, greatest_in, leaves_in}
 use Rattle.dim_weights.specs.Inside.Rows.{AreMerged, counted_over, most_merged_weight}
 use Rattle.dim_weights.specs.Inside.Sums.{sum_at, AreZero, IsRow, AreRows, AreWithin}
 use Rattle.dim_weights.proofs.Pairs.{share-push, share-size, greatest_in-take}
+use Rattle.dim_weights.proofs.Nonzero.{abs-plus}
 
 times-plus : (w s c : ℤ) → w *ℤ (s +ℤ c) ≡ (w *ℤ s) +ℤ (w *ℤ c)
 times-plus w s c =
@@ -46,9 +47,6 @@ row-step sums first row w i within inside before k =
         let here = before k in
         let none : share (take i row) k +ℤ pos 0 ≡ share (take i row) k = omega (arith, ints) in
         rw none here
-
-abs-plus : (a b : ℤ) → unsigned_abs (a +ℤ b) ≤ unsigned_abs a + unsigned_abs b
-abs-plus a b = omega (arith, ints)
 
 -- a weight times what a row says of a leaf
 row-bound : (row : List (ℕ × ℤ)) (leaf : ℕ) → greatest_in row ≤ 1000000000 → length row ≤ 4000000 → unsigned_abs (share row leaf) ≤ 4000000000000000

@@ -6,6 +6,7 @@ use Rattle.grammar.specs.Reading.{Stop, Read, Reader, gives, bound, both_of, rep
 use Rattle.grammar.specs.declared.stop.Stop.{Stop as CodeStop}
 use Rattle.grammar.specs.declared.stop.Stop.TheVariants as stops
 use Rattle.expression_grammar.specs.Expression.{from_left}
+use Rattle.grammar.proofs.Loops.{turn_is}
 
 -- the tree so far with what is still read, and a sort that stays
 abbrev pub with_operations : {T R C A O S : Type 0} → (O → A → A → A) → A → S → Read T R C (List (O × A)) → Read T R C (A × S)
@@ -21,12 +22,6 @@ pub record Folding {T R C A O S : Type 0} (p : T → Bool) (P : Reader T R C (O 
 pub begun_folding : {T R C A O S : Type 0} (p : T → Bool) (P : Reader T R C (O × A)) (joined : O → A → A → A) (e : A) (sort : S) (n : R) (ts : List T) (turns : ℕ)
     → turns ≡ length ts → Folding p P joined e sort n ts 0 turns (with_operations joined e sort (all_of p P n ts))
 begun_folding p P joined e sort n ts turns count = record { left = length ts; count = omega (arith, count); holds = refl }
-
-turn_is : {T R C A : Type 0} (p : T → Bool) (P : Reader T R C A) (n : R) (ts : List T) (k : ℕ) (r : Read T R C A)
-    → starts p ts ≡ true → P n ts ≡ r → repeat p P (suc k) n ts ≡ bound r (λ a. both_of (repeat p P k) (λ rest. gives (a ∷ rest)))
-turn_is p P n ts k r more read =
-    ap (λ b. if b then bound (P n ts) (λ a. both_of (repeat p P k) (λ rest. gives (a ∷ rest))) else gives [] n ts) more
-    ∙ ap (λ x. bound x (λ a. both_of (repeat p P k) (λ rest. gives (a ∷ rest)))) read
 
 one_further : {T R C A O S : Type 0} (joined : O → A → A → A) (e : A) (sort : S) (a : O × A) (r : Read T R C (List (O × A)))
     → with_operations joined e sort (bound r (λ rest. gives (a ∷ rest))) ≡ with_operations joined (joined a.0 e a.1) sort r

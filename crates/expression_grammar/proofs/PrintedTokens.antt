@@ -11,6 +11,7 @@ use Rattle.grammar.proofs.Tokens.{bytes_eq_self}
 use Rattle.expression_grammar.specs.Expression.{from_left, operation, chain, enclosed}
 use Rattle.expression_grammar.specs.Language.{Table, operator}
 use Rattle.expression_grammar.specs.Spelled.{in_parentheses}
+pub use Rattle.expression_grammar.proofs.ExpressionExact.{no_operations as chain_of_one}
 
 -- a first token and more
 pub split_next : (ts : List Lexeme) (x : Spelling) (xs : List Spelling) → map spelling_of ts ≡ x ∷ xs → (t : Lexeme) × (v : List Lexeme) × (ts ≡ t ∷ v) × (spelling_of t ≡ x) × (map spelling_of v ≡ xs)
@@ -77,10 +78,6 @@ pub spells_enclosed : {A : Type 0} {G : Grammar Lexeme A} {tokens : List Spellin
 spells_enclosed {a = a} g = spells_next (picks_sign (codes "(")) (spells_both g (spells_next (picks_sign (codes ")")) (spells_done a)))
 
 -- Chains.
-
--- an operand alone
-pub chain_of_one : {A O : Type 0} (joined : O → A → A → A) (table : Table O) (operand : Grammar Lexeme A) (ts : List Lexeme) (e : A) → operand ts e → chain joined table operand ts e
-chain_of_one joined table operand ts e h = (ts, [], e, sym (append-nil ts), h, ([], [], [], refl, refl, (refl, refl)))
 
 many_more : {A : Type 0} (G : Grammar Lexeme A) (list : List A) (u v : List Lexeme) (a : A) → many G u list → G v a → many G (u ++ v) (list ++ a ∷ [])
 many_more G [] u v a h g = (v, [], ap (λ x. x ++ v) h ∙ sym (append-nil v), g, refl)

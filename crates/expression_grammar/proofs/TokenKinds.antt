@@ -1,5 +1,5 @@
 -- The kinds of the tokens that texts begin with.
-use Rattle.std.proofs.Common.{◌≡◌, ℕ, ℤ, List, [], ◌∷◌, Option, Some, None, Bool, true, false, ◌&&◌, if◌then◌else◌, refl, ap}
+use Rattle.std.proofs.Common.{◌≡◌, ℕ, List, [], ◌∷◌, Option, Some, Bool, true, ◌&&◌, if◌then◌else◌, refl, ap}
 use Rattle.std.specs.Result.{result_ok}
 use Rattle.std.specs.Str.{bytes_eq}
 use Rattle.cube_fixed.specs.Text.{number_of, reading_of}
@@ -11,7 +11,7 @@ use Rattle.dim_name.specs.Name.{is_name}
 use Rattle.grammar.specs.Grammar.{Grammar, one}
 use Rattle.grammar.specs.Tokens.{sign, capital_word, text, name, money, is_sign, is_sign_kind, is_word_kind, is_text_kind, is_number_kind, capitals}
 use Rattle.grammar.proofs.Begins.{Begins}
-use Rattle.grammar.proofs.Tokens.{when_picks, and_is}
+use Rattle.grammar.proofs.Tokens.{when_picks, and_is, money_kind as if_kind}
 
 -- each text of G begins with a token of this kind
 pub record HasKind {A : Type 0} (G : Grammar Lexeme A) (k : Kind) : Type 0 where
@@ -58,10 +58,6 @@ text_kind = one_kind text kinds.Text (λ t a e. text_is t.kind (when_picks (λ t
 
 pub name_kind : HasKind (one name) kinds.Text
 name_kind = one_kind name kinds.Text (λ t a e. text_is t.kind (and_is (is_text_kind t.kind) (is_name (unquoted t.piece)) (when_picks (λ t. is_text_kind t.kind && is_name (unquoted t.piece)) (λ t. unquoted t.piece) t a e).0).0)
-
-if_kind : (b : Bool) (o : Option ℤ) (z : ℤ) → (if b then o else None) ≡ Some z → b ≡ true
-if_kind true o z e = refl
-if_kind false o z e = cc
 
 pub money_kind : HasKind (one money) kinds.Number
 money_kind = one_kind money kinds.Number (λ t a e. number_is t.kind (if_kind (is_number_kind t.kind) (result_ok (reading_of (number_of t.piece))) a e))

@@ -4,7 +4,7 @@ use Rattle.std.specs.Prelude.{nat_lt, is_some, Any, All}
 use Rattle.std.specs.List.{list_any}
 use Rattle.std.specs.Option.{option_map_or}
 use Rattle.std.specs.List.Sorted.{IsStrictlyIncreasing}
-use Rattle.std.proofs.lemmas.Bool.{and_parts}
+use Rattle.std.proofs.lemmas.Bool.{and_parts, or_cases, or_left, or_right, and_from as and_both}
 use Rattle.std.proofs.lemmas.List.Elements.{All-contains, All-map, All-cons, All-nil}
 use Rattle.std.proofs.lemmas.List.Folds.{Any-from_list_any, list_any_at}
 use Rattle.std.proofs.lemmas.List.FromFn.{length-range_with_len, get_or-range_with_len}
@@ -15,21 +15,6 @@ use Rattle.rule_laws.specs.Order.{IsWellFormed}
 use Rattle.rule_laws.specs.Feeding.{leaves_of, is_dense, IsDenseCell, Feeds, IsStart, Leads, IsFed}
 use Rattle.fed_laws.specs.FedCells.{cells, is_leaf_cell, is_under, feeds_by, feeds, is_dense_cell, is_start, is_reached, fed_cells}
 use Rattle.fed_laws.proofs.Rounds.{settled}
-
-or_cases : (a b : Bool) → (a || b) ≡ true → (a ≡ true) ⊎ (b ≡ true)
-or_cases true b is = inl refl
-or_cases false b is = inr is
-
-or_left : (a b : Bool) → a ≡ true → (a || b) ≡ true
-or_left true b is = refl
-or_left false b is = absurd (true≢false (sym is))
-
-or_right : (a b : Bool) → b ≡ true → (a || b) ≡ true
-or_right true b is = refl
-or_right false b is = is
-
-and_both : (a b : Bool) → a ≡ true → b ≡ true → (a && b) ≡ true
-and_both a b first second = rw (first, second) refl
 
 module _ (w : RuleSystem) where
   leaf_from : (c : ℕ) → is_leaf_cell w c ≡ true → IsLeafCell w c

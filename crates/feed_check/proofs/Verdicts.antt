@@ -28,6 +28,7 @@ use Rattle.feed_check.specs.Inside.References.{is_reference}
 use Rattle.feed_check.specs.Sizes.{leaf_count, most_dense, AreSmall}
 use Rattle.feed_check.specs.Verdict.{IsBlamed, IsSound, IsFaultOf, IsFirstFault}
 use Rattle.feed_check.proofs.References.{is-reference}
+use Rattle.lists.proofs.Found.{found_holds as slice-holds, same_truth as true-both}
 
 -- ---- a statement
 
@@ -66,11 +67,6 @@ module _ (m : BoundModel) (valid : IsSpace m.space) (ruled : AreRules m.space m.
         subst (λ g. TellsCover (system_of m) (rule_of m.space cube s) g (is_covered m cube s.area)) same tells,
         subst (λ g. zero_test (is_covered m cube s.area) g ≡ true) same (passes (zero_test (is_covered m cube s.area) f) _ h),
       )
-
-  true-both : (t u : Bool) → (t ≡ true → u ≡ true) → (u ≡ true → t ≡ true) → t ≡ u
-  true-both true u h k = sym (h refl)
-  true-both false true h k = k refl
-  true-both false false h k = refl
 
   pub verdict-blamed : ((covers other : Reference → Bool) → ((r : Reference) → Contains (precedents f) (Named r) → covers r ≡ other r) → zero_test covers f ≡ zero_test other f)
       → (rules_of m cube).skipcheck ≡ true → (n : ℕ) → zero_verdict (is_covered m cube s.area) f ≡ Err n → IsBlamed (system_of m) (rule_of m.space cube s) n
@@ -191,11 +187,6 @@ module _ (m : BoundModel) where
 
   pub sound-are_small : ((cube : ℕ) → cube < length m.space.cubes → IsSound m cube) → AreSmall m
   sound-are_small h cube low = (h cube low).small
-
-  slice-holds : {X : Type 0} (P : X → Type 0) (xs : List X) (n : ℕ) (x : X) → All P xs → slice_get xs n ≡ Some x → P x
-  slice-holds P [] n x all at = absurd (cc)
-  slice-holds P (y ∷ xs) zero x all at = let same : y ≡ x = cc in subst P same (all 0 y (omega arith))
-  slice-holds P (y ∷ xs) (suc n) x all at = slice-holds P xs n x (λ k d low. all (suc k) d (omega (arith, low))) at
 
   pub fault-refused : (fault : FeedCheckFault) → IsFirstFault m fault → IsCovered (system_of m) → AreSmall m → ⊥
   unfolding system_of

@@ -4,7 +4,7 @@ use Rattle.std.specs.List.{list_any, range_with_len}
 use Rattle.std.proofs.lemmas.Bool.{ne_eqb}
 use Rattle.std.proofs.lemmas.Bool.Decides.{Decides-eqb}
 use Rattle.std.proofs.lemmas.List.Folds.{list_any_at, list_any_none, Any-from_list_any}
-use Rattle.std.proofs.lemmas.List.FromFn.{get_or-range_with_len, length-range_with_len}
+use Rattle.std.proofs.lemmas.List.FromFn.{length-range_with_len}
 use Rattle.rule_laws.specs.declared.reference.Reference.{Reference}
 use Rattle.rule_model.specs.declared.area.Area.{Area}
 use Rattle.rule_model.specs.declared.rules.Feeder.{Feeder}
@@ -17,14 +17,8 @@ use Rattle.feed_cover.specs.Views.{counts_of, look_of}
 use Rattle.cover_laws.specs.Looking.{some_below, is_possible}
 use Rattle.cover_laws.specs.Decision.{look_below, feeds_all, covers, has_cover}
 use Rattle.cover_laws.proofs.Looks.{some-elim, some-intro}
-
-true-both : (t u : Bool) → (t ≡ true → u ≡ true) → (u ≡ true → t ≡ true) → t ≡ u
-true-both true u h k = sym (h refl)
-true-both false true h k = k refl
-true-both false false h k = refl
-
-range-at : (n k d : ℕ) → k < n → get_or (range_with_len 0 n) k d ≡ k
-range-at n k d low = get_or-range_with_len 0 n k d low ∙ (let own : 0 + k ≡ k = omega arith in own)
+use Rattle.cover_laws.proofs.Covered.{range-at}
+use Rattle.lists.proofs.Found.{same_truth as true-both}
 
 at-range : (f : ℕ → Bool) (n k : ℕ) → k < n → f k ≡ true → list_any f (range_with_len 0 n) ≡ true
 at-range f n k low h = list_any_at f (range_with_len 0 n) k 0 (omega (arith, low, length-range_with_len 0 n)) (ap f (range-at n k 0 low) ∙ h)

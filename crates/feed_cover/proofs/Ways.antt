@@ -4,12 +4,13 @@ use Rattle.std.specs.Prelude.{slice_index_or, unwrap_or, slice_get}
 use Rattle.cube_space.specs.Layout.{Layout, axes, sizes}
 use Rattle.rule_laws.specs.declared.reference.Reference.{Reference}
 use Rattle.rule_laws.specs.declared.reference.Arg.{Arg}
-use Rattle.rule_laws.specs.declared.reference.Arg.TheVariants.{Fixed, Moved}
+use Rattle.rule_laws.specs.declared.reference.Arg.TheVariants.{Moved}
 use Rattle.rule_model.specs.Conditions.{IsArg, IsReference}
 use Rattle.order_laws.proofs.SetFacts.{named-below}
 use Rattle.order_laws.proofs.CellFacts.{axes-sizes}
 use Rattle.ref_order.proofs.Args.{arg-at, args-long}
 use Rattle.cover_laws.specs.Looking.{sent}
+pub use Rattle.ref_order.proofs.Args.{fixed-below as fixed-at}
 
 -- an argument that moves: its dimension is there, and what it sends to is an element of the target's
 pub record IsMove (space : Layout) (cube : ℕ) (r : Reference) (place from : ℕ) (to : List (Option ℕ)) : Type 0 where
@@ -30,11 +31,6 @@ move-at space cube r args place from to arg is same low at moved =
       whole = shown.1;
       below = λ e t sends. named-below to e t (slice_index_or (sizes space r.cube) place 0) shown.2 sends;
     }
-
--- an argument that is the same element from everywhere
-pub fixed-at : (space : Layout) (cube : ℕ) (r : Reference) (args : List Arg) (place t : ℕ) (arg : Arg) → IsReference space cube r → args ≡ r.args → place < length r.args
-    → arg ≡ slice_index_or args place arg → arg ≡ Fixed t → t < slice_index_or (sizes space r.cube) place 0
-fixed-at = Rattle.ref_order.proofs.Args.fixed-below
 
 pub some-arg : {X : Type 0} (xs : List X) (j : ℕ) (d : X) → j < length xs → slice_get xs j ≡ Some (slice_index_or xs j d)
 some-arg [] j d low = absurd (omega (arith, low))

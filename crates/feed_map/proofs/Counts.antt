@@ -18,7 +18,7 @@ above-has n (x ∷ xs) c above has =
     ]
 
 -- what is in a list and above its first is behind that
-past-first : (u : ℕ) (us : List ℕ) (c : ℕ) → u < c → Contains (u ∷ us) c → Contains us c
+pub past-first : (u : ℕ) (us : List ℕ) (c : ℕ) → u < c → Contains (u ∷ us) c → Contains us c
 past-first u us c above has =
     elim (front-or-behind u us c has) [
       | inl is ↦ absurd (omega (arith, above, is))

@@ -1,9 +1,8 @@
 -- What the feeders of a cell's cube feed is what all feeders feed from it.
-use Rattle.std.proofs.Common.{◌≡◌, refl, sym, ap, ◌∙◌, subst, ℕ, zero, suc, ◌+◌, ◌<◌, ◌⊎◌, inl, inr, true, ◌&&◌, List, [], ◌∷◌, ◌++◌, length, take, get_or, eqb, arith, zero-add}
-use Rattle.std.specs.List.{Contains, range_with_len}
+use Rattle.std.proofs.Common.{◌≡◌, refl, sym, ap, ◌∙◌, subst, ℕ, zero, suc, ◌+◌, ◌<◌, ◌⊎◌, inl, inr, true, ◌&&◌, List, [], ◌∷◌, ◌++◌, length, take, get_or, eqb, arith}
+use Rattle.std.specs.List.{Contains}
 use Rattle.std.proofs.lemmas.Bool.{and_parts, and_from, eqb-true, eq-eqb}
 use Rattle.std.proofs.lemmas.List.{take_more}
-use Rattle.std.proofs.lemmas.List.FromFn.{get_or-range_with_len, length-range_with_len}
 use Rattle.cube_space.specs.Layout.{axes}
 use Rattle.cube_space.specs.Cells.{IsCell, cube_of, elements_of, is_leaf_cell}
 use Rattle.cube_space.proofs.Places.{cell-place}
@@ -15,10 +14,7 @@ use Rattle.rule_model.specs.Areas.{in_source_sets}
 use Rattle.rule_model.specs.System.{system_of, feed_of, cube_feeds, cubes_of}
 use Rattle.feed_map.specs.Inside.Follows.{FeedsByOne, StandsFor}
 use Rattle.feed_map.proofs.Members.{some-front, some-behind, some-cases, some-of-none, some-left, some-right, some-parts, some-of-lists, list-of-some, some-mapped, some-unmapped}
-
-pub range-has : (n k : ℕ) → k < n → Contains (range_with_len 0 n) k
-range-has n k low =
-    (k, omega (arith, low, length-range_with_len 0 n), get_or-range_with_len 0 n k k low ∙ zero-add k)
+pub use Rattle.dim_weights.proofs.ByLevel.{range-contains as range-has}
 
 module _ (m : BoundModel) (x c : ℕ) where
   abbrev By : Feed → Type 0

@@ -1,12 +1,10 @@
 -- The cells whose elements are leaves that count in a cell's elements are the leaf cells below it; those of any leaves are
 -- the leaf cells of a cube.
-use Rattle.std.proofs.Common.{◌≡◌, refl, sym, ap, ◌∙◌, subst, ℕ, zero, suc, ◌+◌, ◌*◌, ◌<◌, ◌≤◌, ◌⊎◌, inl, inr, Bool, true, false, cond, ℤ, pos, negsuc, ◌*ℤ◌, unsigned_abs, List, [], ◌∷◌, ◌++◌, append_assoc, length, map, get_or, Option, Some, None, nat_lt, arith, zero-add}
+use Rattle.std.proofs.Common.{◌≡◌, refl, sym, ap, ◌∙◌, subst, ℕ, zero, suc, ◌+◌, ◌*◌, ◌<◌, ◌≤◌, ◌⊎◌, inl, inr, Bool, true, false, cond, ℤ, ◌*ℤ◌, List, [], ◌∷◌, ◌++◌, append_assoc, length, map, get_or, Option, Some, None, nat_lt, arith, zero-add}
 use Rattle.std.specs.Prelude.{slice_get}
 use Rattle.std.specs.List.{Contains, filter, range_with_len}
 use Rattle.std.specs.Option.{option_map}
-use Rattle.std.proofs.Math.Nat.{mul-le-mul}
 use Rattle.std.proofs.lemmas.Bool.{and_parts, and_from, ltb-true, lt-ltb, cond_both, eq-eqb}
-use Rattle.std.proofs.lemmas.Int.{ints, unsigned_abs-mul}
 use Rattle.std.proofs.lemmas.Option.{cond_some, option_and_then_some, slice_get_within, slice_get-get_or, get_or_from_slice_get}
 use Rattle.std.proofs.lemmas.List.FromFn.{get_or-range_with_len, length-range_with_len}
 use Rattle.std.proofs.lemmas.List.Elements.{All-contains}
@@ -21,50 +19,11 @@ use Rattle.rule_model.specs.Weights.{coef_product, weight, leaf_cells, leaves_be
 use Rattle.model_laws.proofs.Below.{weight-counted, leaf_cells-are}
 use Rattle.feed_map.specs.Inside.Leaves.{candidates, candidate, leaf_at, IsChosen, AreChosen, GoesOn, GoesOnWithin, IsLeafCellOf}
 use Rattle.feed_map.proofs.Members.{none-there, at-front, behind, front-or-behind}
+use Rattle.dim_weights.proofs.Nonzero.{both-factors as product-nonzero, among-in as nonzero-has}
 
 -- ---- values other than 0
 
-nonzero-size : (z : ℤ) → is_nonzero z ≡ true → 1 ≤ unsigned_abs z
-nonzero-size (pos zero) on = absurd (cc)
-nonzero-size (pos (suc n)) on = omega (arith, ints)
-nonzero-size (negsuc n) on = omega (arith, ints)
-
-size-nonzero : (z : ℤ) → 1 ≤ unsigned_abs z → is_nonzero z ≡ true
-size-nonzero (pos zero) low = absurd (omega (arith, ints, low))
-size-nonzero (pos (suc n)) low = refl
-size-nonzero (negsuc n) low = refl
-
-product-nonzero : (a b : ℤ) → is_nonzero a ≡ true → is_nonzero b ≡ true → is_nonzero (a *ℤ b) ≡ true
-product-nonzero a b one other =
-    let least : 1 * 1 ≤ unsigned_abs a * unsigned_abs b = mul-le-mul (nonzero-size a one) (nonzero-size b other) in
-    size-nonzero (a *ℤ b) (omega (arith, least, unsigned_abs-mul a b))
-
-factors-nonzero : (a b : ℤ) → is_nonzero (a *ℤ b) ≡ true → (is_nonzero a ≡ true) × (is_nonzero b ≡ true)
-factors-nonzero a b on = (size-nonzero a (first (unsigned_abs a) refl), size-nonzero b (second (unsigned_abs b) refl))
-  where
-    whole : 1 ≤ unsigned_abs a * unsigned_abs b
-    whole = subst (λ (n : ℕ). 1 ≤ n) (unsigned_abs-mul a b) (nonzero-size (a *ℤ b) on)
-
-    first : (n : ℕ) → unsigned_abs a ≡ n → 1 ≤ unsigned_abs a
-    first zero none = absurd (let w : 1 ≤ 0 * unsigned_abs b = subst (λ (n : ℕ). 1 ≤ n * unsigned_abs b) none whole in omega (arith, w))
-    first (suc n) is = omega (arith, is)
-
-    second : (n : ℕ) → unsigned_abs b ≡ n → 1 ≤ unsigned_abs b
-    second zero none = absurd (let w : 1 ≤ unsigned_abs a * 0 = subst (λ (n : ℕ). 1 ≤ unsigned_abs a * n) none whole in omega (arith, w))
-    second (suc n) is = omega (arith, is)
-
 -- ---- the leaves with a value other than 0
-
-nonzero-has : (value : ℕ → ℤ) (leaves : List ℕ) (l : ℕ) → Contains leaves l → is_nonzero (value l) ≡ true → Contains (nonzero_among value leaves) (l, value l)
-nonzero-has value [] l has on = absurd (none-there l has)
-nonzero-has value (x ∷ leaves) l has on =
-    elim (front-or-behind x leaves l has) [
-      | inl is ↦ (let here : is_nonzero (value x) ≡ true = ap (λ (y : ℕ). is_nonzero (value y)) is ∙ on in
-          rw here (subst (λ (y : ℕ). Contains ((x, value x) ∷ nonzero_among value leaves) (y, value y)) is (at-front (x, value x) (nonzero_among value leaves))))
-      | inr more ↦ (let later = nonzero-has value leaves l more on in
-          cond_both (is_nonzero (value x)) ((x, value x) ∷ nonzero_among value leaves) (nonzero_among value leaves) (λ (ps : List (ℕ × ℤ)). Contains ps (l, value l))
-          (λ on. behind (x, value x) (nonzero_among value leaves) (l, value l) later) (λ off. later))
-    ]
 
 has-nonzero : (value : ℕ → ℤ) (leaves : List ℕ) (p : ℕ × ℤ) → Contains (nonzero_among value leaves) p → Contains leaves p.0 × (is_nonzero (value p.0) ≡ true)
 has-nonzero value [] p has = absurd (none-there p has)

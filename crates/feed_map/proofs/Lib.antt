@@ -1,11 +1,11 @@
 pub mod Members
-mod Counts
+pub mod Counts
 mod GainFacts
 mod ChainFacts
 mod FeederFacts
 mod LeafFacts
 mod DenseFacts
-mod FedFacts
+pub mod FedFacts
 mod LeafSteps
 mod SourceFacts
 mod FollowSteps

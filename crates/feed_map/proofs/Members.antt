@@ -2,12 +2,10 @@
 use Rattle.std.proofs.Common.{◌≡◌, refl, zero, suc, ◌⊎◌, inl, inr, List, [], ◌∷◌, ◌++◌, map, arith, subst, sym}
 use Rattle.std.specs.List.{Any, Contains, flat_map}
 use Rattle.std.proofs.lemmas.List.Elements.{Contains-push_cases, Contains-append_right, Contains-append_cases}
+pub use Rattle.rule_laws.proofs.SparseFacts.{Contains-here as at-front}
 
 pub none-there : {X : Type 0} (x : X) → Contains [] x → ⊥
 none-there x has = omega (arith, has.1)
-
-pub at-front : {X : Type 0} (x : X) (xs : List X) → Contains (x ∷ xs) x
-at-front x xs = (0, omega arith, refl)
 
 pub behind : {X : Type 0} (x : X) (xs : List X) (y : X) → Contains xs y → Contains (x ∷ xs) y
 behind x xs y has = Contains-append_right (x ∷ []) xs y has

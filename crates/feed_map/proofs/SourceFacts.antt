@@ -1,31 +1,20 @@
 -- Whether an area stands for a cell, dimension by dimension.
-use Rattle.std.proofs.Common.{◌≡◌, refl, sym, ap, ◌∙◌, subst, ℕ, zero, suc, ◌+◌, ◌<◌, ◌≤◌, inl, inr, true, ◌&&◌, ℤ, pos, negsuc, List, [], ◌∷◌, length, drop, get_or, Option, Some, None, arith}
+use Rattle.std.proofs.Common.{◌≡◌, refl, sym, ap, ◌∙◌, subst, ℕ, zero, suc, ◌+◌, ◌<◌, ◌≤◌, inl, inr, true, ◌&&◌, ℤ, List, [], ◌∷◌, length, drop, get_or, Option, Some, None, arith}
 use Rattle.std.specs.Prelude.{slice_get}
 use Rattle.std.specs.List.{All, AllZip}
-use Rattle.std.proofs.lemmas.List.{drop_more, drop_all, get_or-map, length-map}
+use Rattle.std.proofs.lemmas.List.{drop_more, drop_all, get_or-map, length-map, get_or_default as get_or-default}
 use Rattle.std.proofs.lemmas.List.Elements.{All-tail}
 use Rattle.std.proofs.lemmas.Option.{slice_get_within, slice_get_cases, get_or_from_slice_get}
 use Rattle.dim_core.specs.Outline.{Outline}
-use Rattle.dim_weights.specs.Table.{IsWeightsOf, is_nonzero}
+use Rattle.dim_weights.specs.Table.{IsWeightsOf}
 use Rattle.cube_space.specs.Radix.{are_digits}
 use Rattle.cube_space.specs.Layout.{axes_of, sizes_of}
 use Rattle.rule_model.specs.Areas.{in_source_set, in_source_sets}
 use Rattle.rule_model.specs.Conditions.{IsSet}
 use Rattle.model_laws.proofs.Levels.{element-of}
 use Rattle.feed_map.proofs.LeafSteps.{axes-from}
-
-pub nonzero-is : (z : ℤ) → (z ≡ pos 0 → ⊥) → is_nonzero z ≡ true
-nonzero-is (pos zero) other = absurd (other refl)
-nonzero-is (pos (suc n)) other = refl
-nonzero-is (negsuc n) other = refl
-
--- a dimension of a number that is there
-pub dimension-there : (D : List Outline) (k : ℕ) → k < length D → (d : Outline) × (slice_get D k ≡ Some d)
-dimension-there D k low =
-    elim (slice_get_cases D k).1 [
-      | inl some ↦ (some.0, some.2)
-      | inr none ↦ absurd (omega (arith, low, none.0))
-    ]
+pub use Rattle.rule_model.proofs.Coefs.{dimension_at as dimension-there}
+pub use Rattle.dim_weights.proofs.Nonzero.{counts-nonzero as nonzero-is}
 
 -- lists of pairs that go together
 zip-length : {A B : Type 0} (R : A → B → Type 0) (xs : List A) (ys : List B) → AllZip R xs ys → length xs ≡ length ys
@@ -93,8 +82,3 @@ sources-end D dims sets elements place past = rw (drop_all place dims past) refl
 -- what is read at a place, whatever is told past the end
 pub same-at : {X : Type 0} (xs : List X) (place : ℕ) (d x : X) → place < length xs → x ≡ get_or xs place x → get_or xs place d ≡ x
 same-at xs place d x low is = get_or-default xs place d x low ∙ sym is
-  where
-    get_or-default : {X : Type 0} (xs : List X) (place : ℕ) (d e : X) → place < length xs → get_or xs place d ≡ get_or xs place e
-    get_or-default [] place d e low = absurd (omega (arith, low))
-    get_or-default (x ∷ xs) zero d e low = refl
-    get_or-default (x ∷ xs) (suc place) d e low = get_or-default xs place d e (omega (arith, low))

@@ -19,7 +19,7 @@ pub record Cuts {T R C : Type 0} (W : Watch T R C) : Type 0 where
 abbrev pub Longer : {T : Type 0} → List T → List T → List T → List T → Type 0
 Longer {T} u x v y = (w : List T) × (v ≡ u ++ w) × (x ≡ w ++ y)
 
-same_head : {T : Type 0} (a b : T) (u v : List T) → a ∷ u ≡ b ∷ v → (a ≡ b) × (u ≡ v)
+pub same_head : {T : Type 0} (a b : T) (u v : List T) → a ∷ u ≡ b ∷ v → (a ≡ b) × (u ≡ v)
 same_head a b u v e = (cc, cc)
 
 pub fronts : {T : Type 0} (u x v y : List T) → u ++ x ≡ v ++ y → Longer u x v y ⊎ Longer v y u x

@@ -9,9 +9,8 @@ use Rattle.std.proofs.lemmas.Str.{digit_value_digit}
 use Rattle.std.proofs.Math.Seq.{take-suc}
 use Rattle.grammar.specs.Tokens.{is_whole, whole_limit}
 use Rattle.grammar.proofs.Tokens.{and_is}
-
-digit_range : (c : ℕ) → is_ascii_digit c ≡ true → (48 ≤ c) × (c ≤ 57)
-digit_range c e = grind (arith, nat_tests)
+use Rattle.std.proofs.lemmas.Bool.{and_from as both_true, and_right as second_false}
+use Rattle.cube_fixed.proofs.Decimals.{digit_from_test as digit_range}
 
 pub all_at : (p : ℕ → Bool) (xs : List ℕ) (i : ℕ) → list_all p xs ≡ true → i < length xs → p (get_or xs i 0) ≡ true
 all_at p [] i e h = absurd (omega (arith, h))
@@ -39,14 +38,6 @@ chosen false x e = cc
 refused : (b : Bool) (x : ℕ) → b ≡ false → None ≡ (if b then Some x else None)
 refused true x e = cc
 refused false x e = refl
-
-both_true : (a b : Bool) → a ≡ true → b ≡ true → (a && b) ≡ true
-both_true true b e f = f
-both_true false b e f = e
-
-second_false : (a b : Bool) → b ≡ false → (a && b) ≡ false
-second_false true b e = e
-second_false false b e = refl
 
 below : (a b : ℕ) → a < b → nat_lt a b ≡ true
 below a b h = grind (arith, nat_tests)

@@ -21,7 +21,7 @@ begun_all p P n ts = record { turns = length ts; room = omega arith; holds = wit
 pub begun_with : {T R C A : Type 0} (p : T → Bool) (P : Reader T R C A) (a : A) (n : R) (ts : List T) → Going p P (a ∷ []) n ts (both_of (all_of p P) (λ rest. gives (a ∷ rest)) n ts)
 begun_with p P a n ts = record { turns = length ts; room = omega arith; holds = refl }
 
-turn_is : {T R C A : Type 0} (p : T → Bool) (P : Reader T R C A) (n : R) (ts : List T) (k : ℕ) (r : Read T R C A) → starts p ts ≡ true → P n ts ≡ r → repeat p P (suc k) n ts ≡ bound r (λ a. both_of (repeat p P k) (λ rest. gives (a ∷ rest)))
+pub turn_is : {T R C A : Type 0} (p : T → Bool) (P : Reader T R C A) (n : R) (ts : List T) (k : ℕ) (r : Read T R C A) → starts p ts ≡ true → P n ts ≡ r → repeat p P (suc k) n ts ≡ bound r (λ a. both_of (repeat p P k) (λ rest. gives (a ∷ rest)))
 turn_is p P n ts k r more read = ap (λ b. if b then bound (P n ts) (λ a. both_of (repeat p P k) (λ rest. gives (a ∷ rest))) else gives [] n ts) more ∙ ap (λ x. bound x (λ a. both_of (repeat p P k) (λ rest. gives (a ∷ rest)))) read
 
 end_is : {T R C A : Type 0} (p : T → Bool) (P : Reader T R C A) (n : R) (ts : List T) (k : ℕ) → starts p ts ≡ false → repeat p P k n ts ≡ Ok ([], n, ts)

@@ -17,6 +17,8 @@ use Rattle.std.proofs.lemmas.Str.{IsUtf8-from_ascii, is_utf8-from_IsUtf8}
 use Rattle.grammar.specs.Tokens.{is_sign_kind, is_word_kind, is_text_kind, is_number_kind, is_sign, is_word, is_whole, is_file, when, sign, word, text, name, whole, money, file, any_word, capitals, capital_word}
 use Rattle.grammar.proofs.Exact.{Exact, Always, exact_one}
 use Rattle.grammar.proofs.Begins.{Begins, begins_one}
+pub use Rattle.std.proofs.lemmas.Bool.{and_parts as and_is}
+use Rattle.std.proofs.lemmas.Bool.{or_left as first_of_two, or_right as second_of_two}
 
 if_some : {A : Type 0} (b : Bool) (a x : A) → (if b then Some a else None) ≡ Some x → (b ≡ true) × (a ≡ x)
 if_some true a x e = (refl, cc)
@@ -25,10 +27,6 @@ if_some false a x e = cc
 -- what a pick that is a test says
 pub when_picks : {T A : Type 0} (p : T → Bool) (value : T → A) (t : T) (x : A) → when p value t ≡ Some x → (p t ≡ true) × (value t ≡ x)
 when_picks p value t x e = if_some (p t) (value t) x e
-
-pub and_is : (a b : Bool) → (a && b) ≡ true → (a ≡ true) × (b ≡ true)
-and_is true b e = (refl, e)
-and_is false b e = cc
 
 same_bytes : (a b : List ℕ) → bytes_eq a b ≡ true → a ≡ b
 same_bytes a b e = (bytes_eq-Decides a b).0 e
@@ -114,7 +112,7 @@ begins_any {p = p} {q = q} {b = b} {c = c} e f = record { at = begins_any_at p q
 
 -- One token.
 
-abbrev sample_of : Kind → List ℕ → Lexeme
+abbrev pub sample_of : Kind → List ℕ → Lexeme
 sample_of kind piece = record { kind = kind; piece = piece; start = 0; line = 0 }
 
 pub exact_sign : {R C : Type 0} (scan : R → Lexeme → Result R C) (a : List ℕ) → Exact (each_token scan) (one (sign a)) (one (sign a)) (take_one scan (sign a)) Always
@@ -134,14 +132,6 @@ exact_name scan = exact_one scan name (sample_of kinds.Text (39 ∷ 97 ∷ 39 �
 pub exact_whole_number : {R C : Type 0} (scan : R → Lexeme → Result R C) → Exact (each_token scan) (one whole) (one whole) (take_one scan whole) Always
 exact_whole_number scan = exact_one scan whole (sample_of kinds.Number (49 ∷ [])) 1 refl
 
-first_of_two : (a b : Bool) → a ≡ true → (a || b) ≡ true
-first_of_two true b e = refl
-first_of_two false b e = cc
-
-second_of_two : (a b : Bool) → b ≡ true → (a || b) ≡ true
-second_of_two true b e = refl
-second_of_two false b e = e
-
 pub text_is_value : IsValue text
 text_is_value = record { kind = λ t a e. first_of_two (is_text_kind t.kind) (is_number_kind t.kind) (when_picks (λ t. is_text_kind t.kind) (λ t. unquoted t.piece) t a e).0 }
 
@@ -156,7 +146,7 @@ pub exact_money : {R C : Type 0} (scan : R → Lexeme → Result R C) → Exact 
 unfolding number_of
 exact_money scan = exact_one scan money (sample_of kinds.Number (49 ∷ [])) (pos 1000000) refl
 
-one_ascii : (i : ℕ) → slice_index (97 ∷ []) i < 128
+pub one_ascii : (i : ℕ) → slice_index (97 ∷ []) i < 128
 one_ascii zero = omega arith
 one_ascii (suc i) = omega arith
 
@@ -171,7 +161,7 @@ exact_any_word scan = exact_one scan any_word (sample_of kinds.Word (65 ∷ []))
 pub exact_capital_word : {R C : Type 0} (scan : R → Lexeme → Result R C) → Exact (each_token scan) (one capital_word) (one capital_word) (take_one scan capital_word) Always
 exact_capital_word scan = exact_one scan capital_word (sample_of kinds.Word (65 ∷ [])) (65 ∷ []) refl
 
-money_kind : (b : Bool) (o : Option ℤ) (z : ℤ) → (if b then o else None) ≡ Some z → b ≡ true
+pub money_kind : (b : Bool) (o : Option ℤ) (z : ℤ) → (if b then o else None) ≡ Some z → b ≡ true
 money_kind true o z e = refl
 money_kind false o z e = cc
 

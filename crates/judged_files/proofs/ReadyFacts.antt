@@ -17,6 +17,8 @@ use Rattle.judged_files.specs.Loads.{file_of, user_files, record_files, IsReady,
 use Rattle.judged_files.specs.Refusals.{refused_on}
 use Rattle.judged_files.specs.Scripts.{Scripts, AreScripts}
 use Rattle.judged_files.specs.Users.{AreUserTexts, AreUsers, is_unknown_load, is_unknown, AreKnown, unknown_script}
+pub use Rattle.std.proofs.lemmas.List.Elements.{All-tail as all-rest}
+use Rattle.check_order.proofs.Walks.{all-first as all-before, all-second as all-behind}
 
 -- ---- lists
 
@@ -29,18 +31,6 @@ all-more P x xs first rest (suc k) d low = rest k d (omega (arith, low))
 
 pub all-first : {X : Type 0} (P : X → Type 0) (x : X) (xs : List X) → All P (x ∷ xs) → P x
 all-first P x xs all = all 0 x (omega arith)
-
-pub all-rest : {X : Type 0} (P : X → Type 0) (x : X) (xs : List X) → All P (x ∷ xs) → All P xs
-all-rest P x xs all k d low = all (suc k) d (omega (arith, low))
-
-all-before : {X : Type 0} (P : X → Type 0) (xs ys : List X) → All P (xs ++ ys) → All P xs
-all-before P [] ys all = all-none P
-all-before P (x ∷ xs) ys all =
-    all-more P x xs (all-first P x (xs ++ ys) all) (all-before P xs ys (all-rest P x (xs ++ ys) all))
-
-all-behind : {X : Type 0} (P : X → Type 0) (xs ys : List X) → All P (xs ++ ys) → All P ys
-all-behind P [] ys all = all
-all-behind P (x ∷ xs) ys all = all-behind P xs ys (all-rest P x (xs ++ ys) all)
 
 pub all-here : {X : Type 0} (P : X → Type 0) (before : List X) (here : X) (rest : List X) → All P (before ++ here ∷ rest) → P here
 all-here P before here rest all = all-first P here rest (all-behind P before (here ∷ rest) all)

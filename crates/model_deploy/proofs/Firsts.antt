@@ -1,10 +1,10 @@
 -- The first refusal is the answer.
 use Rattle.std.proofs.Common.{◌≡◌, inr, ℕ, ◌+◌, ◌<◌, ◌≤◌, Option, Some, None, Result, Ok, Err, List, [], ◌∷◌, ◌++◌, length, get_or, drop, refl, ap, sym, ◌∙◌, subst, IsErrAnd}
 use Rattle.std.specs.Option.{option_or}
-use Rattle.std.specs.List.{AllZip}
 use Rattle.std.proofs.lemmas.List.{drop_more, drop_all}
 use Rattle.model_deploy.specs.declared.fault.DeployFault.{DeployFault}
 use Rattle.model_deploy.specs.Foundation.{first_refusal, memory, IsAnsweredBy}
+pub use Rattle.model_text.proofs.Again.{zip_last as zip-push}
 
 -- an Ok has no cause
 pub unrefused : {T : Type 0} (cause : Option DeployFault) (x : T) → IsAnsweredBy cause (Ok x) → cause ≡ None
@@ -52,9 +52,3 @@ first-after refusal xs i x h is none =
 
 pub first-none : {A : Type 0} (refusal : A → Option DeployFault) (xs : List A) (i : ℕ) → length xs ≤ i → first_refusal refusal (drop i xs) ≡ None
 first-none refusal xs i h = ap (first_refusal refusal) (drop_all i xs h)
-
-pub zip-push : {A B : Type 0} (R : A → B → Type 0) (xs : List A) (ys : List B) (x : A) (y : B) → AllZip R xs ys → R x y → AllZip R (xs ++ x ∷ []) (ys ++ y ∷ [])
-zip-push R [] [] x y all last = (last, tt)
-zip-push R [] (b ∷ ys) x y all last = absurd all
-zip-push R (a ∷ xs) [] x y all last = absurd all
-zip-push R (a ∷ xs) (b ∷ ys) x y all last = (all.0, zip-push R xs ys x y all.1 last)

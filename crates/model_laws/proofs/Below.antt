@@ -6,7 +6,6 @@ use Rattle.std.proofs.Math.IntN.{*ℤ-zero, zero-*ℤ}
 use Rattle.std.proofs.lemmas.Bool.{cases_lt, cond_both, eqb-true}
 use Rattle.std.proofs.lemmas.List.{get_or_past}
 use Rattle.std.proofs.lemmas.List.Elements.{All-head, All-tail, All-nil, All-cons, All-filter, filter_passes}
-use Rattle.std.proofs.lemmas.List.FromFn.{get_or-range_with_len, length-range_with_len}
 use Rattle.dim_core.specs.Outline.{Outline}
 use Rattle.dim_weights.specs.Coefficients.{coef}
 use Rattle.dim_weights.specs.Table.{is_nonzero, nonzero_among}
@@ -22,6 +21,7 @@ use Rattle.rule_model.specs.Weights.{coef_product, weight, leaf_cells, leaves_be
 use Rattle.rule_model.specs.Order.{position_of, number_by, number_at, rank}
 use Rattle.model_laws.proofs.Levels.{element-of}
 use Rattle.model_laws.proofs.Ranks.{rank-at_most}
+pub use Rattle.dim_weights.proofs.ByLevel.{range-within as range-below}
 
 -- ---- weights
 
@@ -98,11 +98,6 @@ among value P (leaf ∷ leaves) each =
     cond_both (is_nonzero (value leaf)) ((leaf, value leaf) ∷ nonzero_among value leaves) (nonzero_among value leaves) (All P)
     (λ on. All-cons P (leaf, value leaf) (nonzero_among value leaves) (All-head (λ leaf. is_nonzero (value leaf) ≡ true → P (leaf, value leaf)) leaf leaves each on) rest)
     (λ off. rest)
-
-pub range-below : (n : ℕ) → All (λ x. x < n) (range_with_len 0 n)
-range-below n k d less =
-    let within : k < n = omega (arith, less, length-range_with_len 0 n) in
-    omega (arith, within, get_or-range_with_len 0 n k d within)
 
 pub leaf_cells-are : (space : Layout) → All (λ leaf. IsCell space leaf × (is_leaf_cell space leaf ≡ true)) (leaf_cells space)
 unfolding leaf_cells

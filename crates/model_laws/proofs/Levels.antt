@@ -5,7 +5,6 @@ use Rattle.std.specs.List.{All, zip, cons_option, filter_map}
 use Rattle.std.proofs.lemmas.Bool.{and_parts, ltb-true, eqb-true}
 use Rattle.std.proofs.lemmas.List.Elements.{All-head, All-tail, All-nil, All-cons}
 use Rattle.std.proofs.lemmas.List.Sums.{sum_by-cons}
-use Rattle.std.proofs.lemmas.Option.{slice_get_within, get_or_from_slice_get}
 use Rattle.dim_order.specs.Levels.{level_over}
 use Rattle.dim_core.specs.Outline.{Outline, IsDimension, IsElement, components_of, level}
 use Rattle.dim_core.proofs.LevelLaws.{levels-solve}
@@ -14,10 +13,7 @@ use Rattle.cube_space.specs.Layout.{Layout, axes, sizes_of}
 use Rattle.cube_space.specs.Cells.{IsSpace, IsCell, cube_of, elements_of, is_leaf, are_leaves, is_leaf_cell}
 use Rattle.cube_space.proofs.Places.{cell-place}
 use Rattle.rule_model.specs.Order.{cell_level}
-
--- what holds of all holds of each that is found
-pub found : {X : Type 0} (P : X → Type 0) (xs : List X) (i : ℕ) (x : X) → All P xs → slice_get xs i ≡ Some x → P x
-found P xs i x all is = subst P (get_or_from_slice_get xs i x x is) (all i x (slice_get_within xs i x is))
+pub use Rattle.rule_model.proofs.Shapes.{found_holds as found}
 
 -- what holds of all dimensions holds of those of a cube
 pub found_all : {X : Type 0} (P : X → Type 0) (xs : List X) (places : List ℕ) → All P xs → All P (filter_map (slice_get xs) places)

@@ -77,7 +77,7 @@ lets : (b : Bool) (line : ℕ) (parts : Parts) (current : Current) (cause : Mode
 lets true line parts current cause e = cc
 lets false line parts current cause e = refl
 
-zip_last : {X Y : Type 0} (R : X → Y → Type 0) (xs : List X) (ys : List Y) (x : X) (y : Y) → AllZip R xs ys → R x y → AllZip R (xs ++ x ∷ []) (ys ++ y ∷ [])
+pub zip_last : {X Y : Type 0} (R : X → Y → Type 0) (xs : List X) (ys : List Y) (x : X) (y : Y) → AllZip R xs ys → R x y → AllZip R (xs ++ x ∷ []) (ys ++ y ∷ [])
 zip_last R [] [] x y h is = (is, tt)
 zip_last R [] (b ∷ ys) x y h is = absurd h
 zip_last R (a ∷ xs) [] x y h is = absurd h

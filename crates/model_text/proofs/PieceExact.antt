@@ -1,5 +1,5 @@
 -- The readers of pieces are exact.
-use Rattle.std.proofs.Common.{◌≡◌, ℕ, zero, suc, ◌<◌, slice_index, arith, ◌&&◌, List, [], ◌∷◌, Option, Some, None, option_map, true, false, codes, refl, ◌∙◌, ap, inl, inr, ◌⊎◌, if◌then◌else◌}
+use Rattle.std.proofs.Common.{◌≡◌, ℕ, ◌<◌, ◌&&◌, List, [], ◌∷◌, Option, Some, None, option_map, true, false, codes, refl, ◌∙◌, ap, inl, inr, ◌⊎◌, if◌then◌else◌}
 use Rattle.std.proofs.lemmas.Str.{IsUtf8-from_ascii, is_utf8-from_IsUtf8}
 use Rattle.cube_lex.specs.Lexeme.{Lexeme}
 use Rattle.cube_lex.specs.declared.token.Kind.{Kind}
@@ -16,12 +16,13 @@ use Rattle.dim_name.specs.Name.{is_name}
 use Rattle.std.specs.Str.Parse.{digits_value}
 use Rattle.grammar.proofs.Exact.{Exact, Always, Not, exact_one, exact_gives, exact_then, exact_both, exact_before}
 use Rattle.grammar.proofs.Begins.{Begins, begins_one, begins_both, begins_behind, exact_or, exact_option, exact_before_next}
-use Rattle.grammar.proofs.Tokens.{IsValue, exact_sign, exact_word, exact_name, exact_whole_number, exact_file, sign_begins, word_begins, when_picks, and_is}
+use Rattle.grammar.proofs.Tokens.{IsValue, exact_sign, exact_word, exact_name, exact_whole_number, exact_file, sign_begins, word_begins, when_picks, and_is, sample_of, one_ascii}
 use Rattle.model_text.specs.declared.fault.ModelTextFault.{ModelTextFault}
 use Rattle.model_text.specs.declared.order.OrderWord.{OrderWord}
 use Rattle.model_text.specs.declared.order.OrderWord.TheVariants as words
 use Rattle.model_text.specs.Statement.{Version, Closing, DimensionWord, CubeWord, ScriptWord, QuotedText, CubeDimension, CubeEnd, version, closing, dimension_word, cube_word, script_word, naming, script_file, dimension_behind, rule_file, rules, rank, ranks, position, order_line, order, cube_end}
 use Rattle.model_text.specs.Readers.Reading.{read_version, read_closing, read_dimension_word, read_cube_word, read_script_word, read_naming, read_script_file, read_dimension_behind, read_rules, read_rank, read_ranks, read_position, read_order, read_cube_end}
+pub use Rattle.lists.proofs.Found.{mapped}
 
 -- nothing watches the parts of a piece
 abbrev pub free : Watch Lexeme Unwatched ModelTextFault
@@ -29,18 +30,11 @@ free = unwatched
 
 -- Tokens with their lines.
 
-pub mapped : {A B : Type 0} (f : A → B) (o : Option A) (x : B) → option_map f o ≡ Some x → (a : A) × (o ≡ Some a) × (f a ≡ x)
-mapped f None x e = cc
-mapped f (Some a) x e = (a, refl, cc)
-
 pub located_is : {A : Type 0} (pick : Lexeme → Option A) (t : Lexeme) (x : ℕ × A) → located pick t ≡ Some x → pick t ≡ Some x.1
 located_is pick t x e = let (a, picks, same) = mapped (λ a. (t.line, a)) (pick t) x e in picks ∙ ap (λ y. Some y.1) same
 
 pub located_is_value : {A : Type 0} {pick : Lexeme → Option A} → IsValue pick → IsValue (located pick)
 located_is_value {pick = pick} is = record { kind = λ t x e. is.kind t x.1 (located_is pick t x e) }
-
-abbrev sample_of : Kind → List ℕ → Lexeme
-sample_of kind piece = record { kind = kind; piece = piece; start = 0; line = 0 }
 
 -- `'a'`
 pub exact_located_name : Exact free (one (located name)) (one (located name)) (take_one unscanned (located name)) Always
@@ -49,10 +43,6 @@ exact_located_name = exact_one unscanned (located name) (sample_of kinds.Text (3
 -- `1`
 pub exact_located_whole : Exact free (one (located whole)) (one (located whole)) (take_one unscanned (located whole)) Always
 exact_located_whole = exact_one unscanned (located whole) (sample_of kinds.Number (49 ∷ [])) (0, 1) refl
-
-one_ascii : (i : ℕ) → slice_index (97 ∷ []) i < 128
-one_ascii zero = omega arith
-one_ascii (suc i) = omega arith
 
 -- `'a'`
 pub exact_located_file : Exact free (one (located file)) (one (located file)) (take_one unscanned (located file)) Always

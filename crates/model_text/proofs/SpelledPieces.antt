@@ -1,5 +1,5 @@
 -- Each piece as it is written is read as that piece again, on its new line.
-use Rattle.std.proofs.Common.{◌≡◌, ◌<◌, ◌^◌, ℕ, List, [], ◌∷◌, ◌++◌, true, false, Bool, Option, Some, None, option_map, IfSome, ◌&&◌, cond, refl, ap, ◌∙◌, length, codes, IsTrue, arith}
+use Rattle.std.proofs.Common.{◌≡◌, ◌<◌, ◌^◌, ℕ, List, [], ◌∷◌, ◌++◌, true, Option, Some, None, option_map, IfSome, ◌&&◌, refl, ap, ◌∙◌, length, codes, IsTrue, arith}
 use Rattle.std.proofs.lemmas.List.Elements.{All-head, All-tail}
 use Rattle.std.specs.List.{All, AllZip, flat_map}
 use Rattle.cube_lex.specs.Lexeme.{Lexeme}
@@ -19,16 +19,9 @@ use Rattle.model_text.specs.Writable.{IsFileText, IsWritableRank, IsWritableWord
 use Rattle.model_text.specs.declared.order.OrderLine.{OrderLine}
 use Rattle.model_text.specs.declared.order.OrderWord.{OrderWord}
 use Rattle.model_text.specs.declared.order.OrderWord.TheVariants as words
+use Rattle.std.proofs.lemmas.Bool.{and_from as and_both, cond-true}
 
 -- One token.
-
-if_yes : {A : Type 0} (b : Bool) (a : A) (o : Option A) → b ≡ true → cond b (Some a) o ≡ Some a
-if_yes true a o e = refl
-if_yes false a o e = cc
-
-and_both : (a b : Bool) → a ≡ true → b ≡ true → (a && b) ≡ true
-and_both true b h k = k
-and_both false b h k = cc
 
 picks_file : (bytes : List ℕ) → IsTrue (is_file bytes) → Picks file (text_token bytes) (λ value. value ≡ bytes)
 picks_file bytes is = record {
@@ -36,7 +29,7 @@ picks_file bytes is = record {
       let kind : is_text_kind t.kind ≡ true = ap (λ x. is_text_kind x.kind) e in
       let same : unquoted t.piece ≡ bytes = ap (λ x. unquoted x.piece) e ∙ unquoted-quoted bytes in
       let filed : is_file (unquoted t.piece) ≡ true = ap is_file same ∙ is in
-      (unquoted t.piece, if_yes _ (unquoted t.piece) _ (and_both _ _ kind filed), same));
+      (unquoted t.piece, cond-true _ (Some (unquoted t.piece)) _ (and_both _ _ kind filed), same));
 }
 
 -- a token with its line

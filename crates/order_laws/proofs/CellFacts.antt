@@ -1,9 +1,9 @@
 -- The cells of an area and what they have on a scale, by the lists of their elements.
-use Rattle.std.proofs.Common.{◌≡◌, refl, sym, ap, ◌∙◌, arith, subst, ℕ, zero, suc, ◌+◌, ◌<◌, ◌≤◌, Bool, true, false, ◌||◌, ◌&&◌, not, Some, None, List, [], ◌∷◌, length, get_or, nat_lt, if◌then◌else◌, inl, inr}
+use Rattle.std.proofs.Common.{◌≡◌, refl, sym, ap, ◌∙◌, arith, subst, ℕ, zero, suc, ◌+◌, ◌<◌, ◌≤◌, Bool, true, false, ◌||◌, ◌&&◌, not, Some, None, List, [], ◌∷◌, length, nat_lt, if◌then◌else◌, inl, inr}
 use Rattle.std.specs.Prelude.{slice_get, slice_index_or}
 use Rattle.std.specs.List.{zip}
 use Rattle.std.proofs.lemmas.Bool.{cases_lt}
-use Rattle.std.proofs.lemmas.List.{length-map}
+use Rattle.std.proofs.lemmas.List.{length-map, get_or_past as get_or-past}
 use Rattle.std.specs.Prelude.{sum_by}
 use Rattle.dim_core.specs.Outline.{Outline, level}
 use Rattle.cube_space.specs.Radix.{are_digits}
@@ -12,7 +12,6 @@ use Rattle.cube_space.specs.Layout.{Layout, axes, sizes}
 use Rattle.cube_space.specs.Cells.{IsCell, Cell, cube_of, elements_of, is_leaf, are_leaves, is_leaf_cell, cell_number}
 use Rattle.cube_space.proofs.Places.{IsPlace, cell-place, place_number, place-within, cell_at-place, cell_number-place}
 use Rattle.rule_model.specs.declared.area.Area.{Area}
-use Rattle.rule_model.specs.declared.order.Position.{Position}
 use Rattle.rule_model.specs.declared.order.Position.TheVariants.{Constant, Ranks}
 use Rattle.rule_model.specs.BoundModel.{BoundModel, rules_of}
 use Rattle.rule_model.specs.Areas.{in_set, in_sets}
@@ -112,11 +111,6 @@ position-there m cube q dim ranks ruled there is = elim (cases_lt q (length (rul
 
     within : IsPosition (axes m.space cube) (Ranks dim ranks) → dim < length (axes m.space cube)
     within h = found (axes m.space cube) dim h.0 h.1
-
-    get_or-past : (ps : List Position) (k : ℕ) (d : Position) → length ps ≤ k → get_or ps k d ≡ d
-    get_or-past [] k d h = refl
-    get_or-past (p ∷ ps) zero d h = absurd (omega arith)
-    get_or-past (p ∷ ps) (suc k) d h = get_or-past ps k d (omega arith)
 
 abbrev levels_of : List Outline → List ℕ → ℕ
 levels_of dims es = sum_by (λ p. level p.0 p.1) (zip dims es)

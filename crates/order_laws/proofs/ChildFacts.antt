@@ -1,25 +1,17 @@
 -- The components of an element, as cells.
-use Rattle.std.proofs.Common.{◌≡◌, refl, sym, ap, ◌∙◌, arith, subst, ℕ, zero, suc, ◌+◌, ◌<◌, true, ℤ, pos, negsuc, Option, Some, None, List, [], ◌∷◌, length, get_or, set, nat_lt, All, Contains}
+use Rattle.std.proofs.Common.{◌≡◌, refl, ap, ◌∙◌, arith, subst, ℕ, zero, suc, ◌+◌, ◌<◌, true, ℤ, pos, Option, Some, None, List, [], ◌∷◌, length, get_or, set, nat_lt, All, Contains}
 use Rattle.std.specs.Prelude.{slice_get, slice_index_or, option_map}
 use Rattle.std.specs.Option.{option_map_or}
 use Rattle.std.specs.List.{filter_map}
 use Rattle.std.proofs.lemmas.Bool.{and_parts, and_from, lt-ltb}
 use Rattle.dim_core.specs.Outline.{Outline, IsDimension, components_of}
-use Rattle.dim_weights.specs.Table.{is_nonzero}
 use Rattle.cube_space.specs.Radix.{are_digits}
 use Rattle.cube_space.specs.Layout.{Layout, axes, axes_of, dims_of, sizes, sizes_of}
 use Rattle.cube_space.specs.Cells.{IsSpace}
 use Rattle.rule_model.specs.Targets.{with_components, parts_at, component_cells}
 use Rattle.order_laws.specs.Decision.{parts_in}
 use Rattle.order_laws.proofs.ReferenceFacts.{added}
-
-pub nonzero-counts : (w : ℤ) → is_nonzero w ≡ true → w ≡ pos 0 → ⊥
-nonzero-counts w h e = absurd (let wrong : is_nonzero (pos 0) ≡ true = ap is_nonzero (sym e) ∙ h in cc)
-
-pub counts-nonzero : (w : ℤ) → (w ≡ pos 0 → ⊥) → is_nonzero w ≡ true
-counts-nonzero (pos zero) h = absurd (h refl)
-counts-nonzero (pos (suc n)) h = refl
-counts-nonzero (negsuc n) h = refl
+pub use Rattle.dim_weights.proofs.Nonzero.{counts-nonzero, nonzero-counts}
 
 -- another element in one dimension
 pub digits-set : (sizes es : List ℕ) (dim k : ℕ) → are_digits sizes es ≡ true → dim < length sizes → k < slice_index_or sizes dim 0 → are_digits sizes (set es dim k) ≡ true

@@ -3,7 +3,7 @@ use Rattle.std.proofs.Common.{◌≡◌, refl, sym, ap, ◌∙◌, arith, subst,
 use Rattle.std.specs.Prelude.{slice_get, slice_index_or, option_map, option_and_then}
 use Rattle.std.specs.List.{AllZip}
 use Rattle.std.proofs.lemmas.Int.{ints}
-use Rattle.std.proofs.lemmas.Bool.{eq-eqb, and_parts, and_from}
+use Rattle.std.proofs.lemmas.Bool.{eq-eqb, and_parts, and_from, not-true, not_from_false as not-false}
 use Rattle.std.proofs.lemmas.Bool.Decides.{Decides-eqb}
 use Rattle.cube_space.specs.Radix.{are_digits}
 use Rattle.cube_space.specs.Layout.{axes, sizes}
@@ -28,13 +28,6 @@ use Rattle.order_laws.proofs.CellFacts.{IsAt, axes-sizes, cell-there, number-the
 not-not : (t : Bool) → not (not t) ≡ t
 not-not true = refl
 not-not false = refl
-
-not-true : (t : Bool) → not t ≡ true → t ≡ false
-not-true true h = absurd (cc)
-not-true false h = refl
-
-not-false : (t : Bool) → t ≡ false → not t ≡ true
-not-false t h = ap not h
 
 -- a statement of a cube, and what its formulas read
 module _ (m : BoundModel) (ruled : AreRules m.space m.rules) (cube : ℕ) (there : cube < length m.space.cubes)

@@ -15,6 +15,7 @@ use Rattle.order_laws.specs.Greatest.{IsAtMost, only}
 use Rattle.order_laws.specs.Decision.{set_count, set_element, greatest_in}
 use Rattle.order_laws.proofs.GreatestFacts.{IsTop, greatest-top}
 use Rattle.order_laws.proofs.ReferenceFacts.{AllFollow, moved-element}
+pub use Rattle.std.proofs.lemmas.Slice.Zip.{AllZip-long as zip-long}
 
 -- an element is there by its place
 listed-place : (listed : List ℕ) (e : ℕ) → list_any (λ x. x == e) listed ≡ true → (k : ℕ) × (k < length listed) × (get_or listed k 0 ≡ e)
@@ -81,12 +82,6 @@ set-at [] (s ∷ sets) i h = absurd h
 set-at (n ∷ sizes) [] i h = absurd h
 set-at (n ∷ sizes) (s ∷ sets) zero h = h.0
 set-at (n ∷ sizes) (s ∷ sets) (suc i) h = set-at sizes sets i h.1
-
-pub zip-long : {A B : Type 0} (R : A → B → Type 0) (xs : List A) (ys : List B) → AllZip R xs ys → length ys ≡ length xs
-zip-long R [] [] h = refl
-zip-long R [] (y ∷ ys) h = absurd h
-zip-long R (x ∷ xs) [] h = absurd h
-zip-long R (x ∷ xs) (y ∷ ys) h = omega (arith, zip-long R xs ys h.1)
 
 pub follow-all : (source tsizes : List ℕ) (args : List Arg) → AllZip (IsArg source) tsizes args → AllFollow (length source) args
 follow-all source [] [] h = tt

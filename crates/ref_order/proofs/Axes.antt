@@ -7,6 +7,7 @@ use Rattle.cube_space.specs.Layout.{Layout, axes, axes_of, sizes}
 use Rattle.cube_space.specs.Cells.{IsSpace}
 use Rattle.rule_model.proofs.Shapes.{shape_dims, axes_length, dims_within, dims_few}
 use Rattle.order_laws.proofs.ChildFacts.{size-at}
+pub use Rattle.lists.proofs.Found.{there as shape-there}
 
 -- a cube has at most 16 dimensions
 pub axes-few : (space : Layout) (cube : ℕ) (shape : CubeShape) → IsSpace space → slice_get space.cubes cube ≡ Some shape → length (axes space cube) ≤ 16
@@ -56,12 +57,6 @@ axis-is space own cube dim shape dims d same valid found named low is =
 
 pub size-of-axis : (space : Layout) (cube dim : ℕ) (d : Outline) → slice_get (axes space cube) dim ≡ Some d → slice_index_or (sizes space cube) dim 0 ≡ length d.elements
 size-of-axis space cube dim d is = size-at (axes space cube) dim d is
-
--- a cube that is there has a shape
-pub shape-there : (cubes : List CubeShape) (cube : ℕ) → cube < length cubes → (shape : CubeShape) × (slice_get cubes cube ≡ Some shape)
-shape-there [] cube low = absurd (omega arith)
-shape-there (s ∷ cubes) zero low = (s, refl)
-shape-there (s ∷ cubes) (suc cube) low = shape-there cubes cube (omega arith)
 
 pub few-axes : (space : Layout) (cube : ℕ) → IsSpace space → cube < length space.cubes → length (axes space cube) ≤ 16
 few-axes space cube valid low = let (shape, is) = shape-there space.cubes cube low in axes-few space cube shape valid is

@@ -1,10 +1,11 @@
 -- What a rising list has, told by `Contains`.
-use Rattle.std.proofs.Common.{◌≡◌, ◌↔◌, ◌<◌, ◌+◌, ℕ, zero, suc, Bool, true, false, List, [], ◌∷◌, Contains, filter, get_or, refl, sym, ◌∙◌, subst, arith, eqb, eq-eqb, add-one}
+use Rattle.std.proofs.Common.{◌≡◌, ◌↔◌, ◌<◌, ◌+◌, ℕ, zero, suc, Bool, true, List, [], ◌∷◌, Contains, filter, get_or, ◌∙◌, subst, arith, eqb, eq-eqb, add-one}
 use Rattle.std.specs.List.{range_with_len}
 use Rattle.std.specs.List.Sorted.{IsStrictlyIncreasing}
 use Rattle.std.proofs.lemmas.Bool.Decides.{Decides-eqb}
 use Rattle.std.proofs.lemmas.List.Folds.{Any-from_list_any, list_any_at}
 use Rattle.rising_lists.proofs.Rising.{among, RisesFrom, rises, rising_same, kept_rises, among_kept}
+use Rattle.lists.proofs.Found.{same_truth as alike}
 
 pub contains_from_among : (xs : List ℕ) (n : ℕ) → among n xs ≡ true → Contains xs n
 contains_from_among xs n is =
@@ -14,12 +15,6 @@ contains_from_among xs n is =
 
 pub among_from_contains : (xs : List ℕ) (n : ℕ) → Contains xs n → among n xs ≡ true
 among_from_contains xs n has = list_any_at (λ x. eqb x n) xs has.0 n has.1 (eq-eqb (get_or xs has.0 n) n has.2)
-
--- two tests that hold together are the same
-alike : (a b : Bool) → (a ≡ true → b ≡ true) → (b ≡ true → a ≡ true) → a ≡ b
-alike true b there back = sym (there refl)
-alike false true there back = back refl
-alike false false there back = refl
 
 pub same_members : (xs ys : List ℕ) → IsStrictlyIncreasing xs → IsStrictlyIncreasing ys → ((c : ℕ) → Contains xs c ↔ Contains ys c) → xs ≡ ys
 same_members xs ys up_xs up_ys same =

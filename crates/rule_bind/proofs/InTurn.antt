@@ -1,11 +1,7 @@
 -- Lists that are bound item by item.
 use Rattle.std.proofs.Common.{◌≡◌, List, [], ◌∷◌, ◌++◌, Result, Ok, Err, refl, sym, ap, append_assoc}
 use Rattle.bind_areas.specs.Meaning.{◌>>=◌}
-
--- what is bound so far, before what is still to be bound
-abbrev pub behind : {E A : Type 0} → List A → Result (List A) E → Result (List A) E
-behind front (Ok rest) = Ok (front ++ rest)
-behind front (Err e) = Err e
+pub use Rattle.lists.proofs.Found.{behind}
 
 pub behind_none : {E A : Type 0} (all : Result (List A) E) → behind [] all ≡ all
 behind_none (Ok rest) = refl

@@ -1,5 +1,5 @@
 -- The sum of the leaf cells below a cell, one cell of its cube after another.
-use Rattle.std.proofs.Common.{◌≡◌, refl, sym, ◌∙◌, ap, subst, arith, ℕ, zero, suc, ◌+◌, ◌-◌, ◌<◌, ◌≤◌, Bool, true, false, ℤ, pos, negsuc, List, [], ◌∷◌, ◌++◌, length, get_or, take, Option, Some, None}
+use Rattle.std.proofs.Common.{◌≡◌, refl, sym, ◌∙◌, ap, subst, arith, ℕ, zero, suc, ◌+◌, ◌-◌, ◌<◌, ◌≤◌, Bool, true, false, ℤ, pos, List, [], ◌∷◌, ◌++◌, length, get_or, take, Option, Some, None}
 use Rattle.std.specs.Prelude.{fold, filter}
 use Rattle.std.specs.List.{range_with_len, filter_map}
 use Rattle.std.specs.Option.{option_map, option_map_or}
@@ -18,15 +18,8 @@ use Rattle.rule_laws.proofs.SystemFacts.{add_pair}
 use Rattle.rule_model.specs.Weights.{weight, leaf_cells, leaves_below}
 use Rattle.rule_model.specs.Targets.{with_element_at, with_components}
 use Rattle.rule_dense.specs.Inside.Plain.{with_leaf}
-
-fold-append : {X T : Type 0} (f : T → X → T) (total : T) (xs ys : List X) → fold f total (xs ++ ys) ≡ fold f (fold f total xs) ys
-fold-append f total [] ys = refl
-fold-append f total (x ∷ xs) ys = fold-append f (f total x) xs ys
-
-nonzero : (z : ℤ) → (z ≡ pos 0 → ⊥) → is_nonzero z ≡ true
-nonzero (pos zero) counted = absurd (counted refl)
-nonzero (pos (suc n)) counted = refl
-nonzero (negsuc n) counted = refl
+use Rattle.std.proofs.lemmas.List.Sums.{fold-append}
+use Rattle.dim_weights.proofs.Nonzero.{counts-nonzero as nonzero}
 
 module _ (space : Layout) (table : ℕ → Value) (cell : ℕ) where
   abbrev pub with_leaves : Total → List ℕ → Total

@@ -17,9 +17,7 @@ use Rattle.rule_evaluate.specs.declared.ask.Ask.{Ask}
 use Rattle.rule_evaluate.specs.declared.ask.Ask.TheVariants.{Value as of_value, Base as of_base, Children as of_children}
 use Rattle.rule_evaluate.specs.Readings.{Readings, statements_value}
 use Rattle.rule_evaluate.specs.Course.{Course, Trial, Sources, unasked, asked_once, course_step, trial_step, formula_course, sources_of, course_before, MayRead, passes}
-
-all : (a b : Bool) → a ≡ true → b ≡ true → (a && b) ≡ true
-all a b x y = rw (x, y) refl
+use Rattle.std.proofs.lemmas.Bool.{and_from as all}
 
 either_way : (h x y : Bool) → x ≡ true → y ≡ true → (if h then x else y) ≡ true
 either_way true x y ex ey = ex

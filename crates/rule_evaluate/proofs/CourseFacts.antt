@@ -22,10 +22,7 @@ use Rattle.rule_evaluate.specs.declared.ask.Ask.TheVariants.{Value as of_value, 
 use Rattle.rule_evaluate.specs.Readings.{Readings, others_by, children_by, formula_by}
 use Rattle.rule_evaluate.specs.Course.{Course, Trial, Sources, unasked, asked_once, course_step, trial_step, formula_course, truth_trial, sources_of}
 use Rattle.rule_evaluate.proofs.Parts.{if_is}
-
-either : (a b : Bool) → (a || b) ≡ false → (a ≡ false) × (b ≡ false)
-either true b e = cc
-either false b e = (refl, e)
+use Rattle.std.proofs.lemmas.Bool.{or_parts as either}
 
 module _ (w : RuleSystem) (t : Readings) (c : ℕ) where
   abbrev s : Sources

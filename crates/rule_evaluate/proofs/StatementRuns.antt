@@ -5,13 +5,8 @@ use Rattle.std.specs.List.{position}
 use Rattle.std.specs.Option.{option_map, option_map_or}
 use Rattle.rule_laws.specs.declared.formula.Formula.{Formula}
 use Rattle.rule_laws.specs.RuleSystem.{RuleSystem, Rule, part_at}
-use Rattle.rule_laws.proofs.StatementFacts.{position-cons}
-
-some-none : (k : ℕ) → Some k ≡ None → ⊥
-some-none k e = cc
-
-some-same : {X : Type 0} (k n : X) → Some k ≡ Some n → k ≡ n
-some-same k n e = cc
+use Rattle.rule_laws.proofs.StatementFacts.{position-cons, some-none}
+use Rattle.std.proofs.lemmas.Option.{same_Some as some-same}
 
 module _ (w : RuleSystem) (c : ℕ) {X : Type 0} (none : X) (step : List Rule → X → Formula → X) where
   abbrev pub run : List Rule → X

@@ -16,6 +16,7 @@ use Rattle.rule_laws.specs.ZeroTest.{of_operation, of_function, of_choice, is_di
 use Rattle.rule_laws.proofs.Folds.{Given, GivenTruth, Layers, TruthLayers, by_layers, by_layers_truth}
 use Rattle.rule_laws.proofs.FormulaFacts.{each_left, each_right}
 use Rattle.rule_laws.proofs.SystemFacts.{both}
+use Rattle.std.proofs.lemmas.Bool.{and_from as and_true}
 
 module _ (covers other : Reference → Bool) where
   -- the two tell the same of a reference
@@ -129,7 +130,7 @@ IsPassedBy test ps = (r : Reference) → Contains ps (Named r) → test r ≡ tr
 abbrev Passed : (Reference → Bool) → List Precedent → Bool → Bool → Type 0
 Passed test ps b _ = IsTrue b ↔ IsPassedBy test ps
 
-Contains-push_only : {X : Type 0} (x y : X) → Contains (x ∷ []) y → x ≡ y
+pub Contains-push_only : {X : Type 0} (x y : X) → Contains (x ∷ []) y → x ≡ y
 Contains-push_only x y (zero, less, is) = is
 Contains-push_only x y (suc k, less, is) = absurd (omega (arith, less))
 
@@ -145,9 +146,6 @@ module _ (test : Reference → Bool) where
     ],
     λ each. and_true a b (left.1 (λ r has. each r (Contains-append_left ps qs (Named r) has))) (right.1 (λ r has. each r (Contains-append_right ps qs (Named r) has))),
   )
-    where
-      and_true : (a b : Bool) → a ≡ true → b ≡ true → (a && b) ≡ true
-      and_true a b x y = rw (x, y) refl
 
   passed : Layers precedents_step truth_precedents_step (each_reference_step test) each_reference_truth_step (each_reference_step test) each_reference_truth_step (Passed test) (Passed test)
   passed (Formula-F.Number k) = none-passed

@@ -8,3 +8,4 @@ pub mod FindingFacts
 pub mod ZeroFacts
 pub mod SparseFacts
 pub mod Witness
+pub mod PrecedentFacts

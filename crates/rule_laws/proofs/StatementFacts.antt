@@ -8,12 +8,10 @@ use Rattle.std.specs.Option.{option_map}
 use Rattle.cube_fixed.specs.declared.value.Value.{Value}
 use Rattle.rule_laws.specs.declared.formula.Formula.{Formula}
 use Rattle.rule_laws.specs.RuleSystem.{RuleSystem, Rule, Stored, part_at, base, value_at, value_by, governing, governing_from, value_from, formula_at}
+use Rattle.std.proofs.lemmas.Option.{same_Some as some-same}
 
-some-none : (k : ℕ) → Some k ≡ None → ⊥
+pub some-none : (k : ℕ) → Some k ≡ None → ⊥
 some-none k e = cc
-
-some-same : (k n : ℕ) → Some k ≡ Some n → k ≡ n
-some-same k n e = cc
 
 pub slice_get-drop_at : {X : Type 0} (xs : List X) (n k : ℕ) → slice_get (drop n xs) k ≡ slice_get xs (n + k)
 slice_get-drop_at xs zero k = let e : 0 + k ≡ k = omega arith in rw e refl

@@ -18,15 +18,12 @@ use Rattle.rule_laws.specs.Meaning.{Others, formula_value, Precedent, Named, Com
 use Rattle.rule_laws.specs.RuleSystem.{RuleSystem, Rule, Stored, IsCell, IsLeafCell, part_of, applies, part_at, weighted_sum, base, children_value, named, others, value_at, value_by, right_side, SolvesRules, depth, dense_value}
 use Rattle.rule_laws.specs.Order.{IsWellFormed, IsCellOf, HasPrecedent, Throughout, IsOrderedRule, IsOrdered}
 use Rattle.rule_laws.proofs.FormulaFacts.{Alike, formula_value-agree}
+pub use Rattle.std.proofs.lemmas.Bool.{and_parts as both}
 
 -- ---- lists
 
 pub each : {X : Type 0} (xs : List X) (P : X → Type 0) → ((x : X) → Contains xs x → P x) → All P xs
 each xs P holds k d less = holds (get_or xs k d) (Contains-get_or xs k d less)
-
-pub both : (a b : Bool) → (a && b) ≡ true → (a ≡ true) × (b ≡ true)
-both true b e = (refl, e)
-both false b e = cc
 
 -- ---- the weighted sum
 

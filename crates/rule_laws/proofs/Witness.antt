@@ -24,13 +24,14 @@ use Rattle.rule_laws.specs.ZeroTest.{finding_step, truth_finding_step, zero_test
 use Rattle.rule_laws.specs.Cover.{CoversBy, NamesNoGovernedTotal, IsCoveredReference, TellsCover, IsCoveredRule, IsCovered}
 use Rattle.rule_laws.specs.Carry.{carry, carry_stored, carry_rule, passing_rule, summing_rule, carry_feed, closing, opening, total, total_cells, to, named_cell}
 use Rattle.rule_laws.proofs.SystemFacts.{dense_value-only}
+use Rattle.rule_laws.proofs.FindingFacts.{Contains-push_only as alone}
 
 -- ---- formulas of one level
 
 value_ref : (named : Reference → Value) (others : Others) (r : Reference) → formula_value named others (Ref r) ≡ named r
 value_ref named others r = ap (formula_value named others) (sym (rolls-Ref r)) ∙ fold-roll-Formula Value Bool (value_step named others) truth_step (Formula-F.Ref r)
 
-value_continue : (named : Reference → Value) (others : Others) → formula_value named others Continue ≡ others.rest
+pub value_continue : (named : Reference → Value) (others : Others) → formula_value named others Continue ≡ others.rest
 value_continue named others = ap (formula_value named others) (sym rolls-Continue) ∙ fold-roll-Formula Value Bool (value_step named others) truth_step Formula-F.Continue
 
 value_children : (named : Reference → Value) (others : Others) (dim : ℕ) → formula_value named others (Children dim) ≡ others.children dim
@@ -40,7 +41,7 @@ value_children named others dim =
 precedents_ref : (r : Reference) → precedents (Ref r) ≡ Named r ∷ []
 precedents_ref r = ap precedents (sym (rolls-Ref r)) ∙ fold-roll-Formula (List Precedent) (List Precedent) precedents_step truth_precedents_step (Formula-F.Ref r)
 
-precedents_continue : precedents Continue ≡ []
+pub precedents_continue : precedents Continue ≡ []
 precedents_continue = ap precedents (sym rolls-Continue) ∙ fold-roll-Formula (List Precedent) (List Precedent) precedents_step truth_precedents_step Formula-F.Continue
 
 precedents_children : (dim : ℕ) → precedents (Children dim) ≡ Components dim ∷ []
@@ -122,11 +123,8 @@ carry-formed =
 
 -- ---- lists
 
-in_pair : {X : Type 0} (P : X → Type 0) (x y z : X) → P x → P y → Contains (x ∷ y ∷ []) z → P z
+pub in_pair : {X : Type 0} (P : X → Type 0) (x y z : X) → P x → P y → Contains (x ∷ y ∷ []) z → P z
 in_pair P x y z first second has = All-contains P (x ∷ y ∷ []) z (All-cons P x (y ∷ []) first (All-cons P y [] second (All-nil P))) has
-
-alone : {X : Type 0} (x y : X) → Contains (x ∷ []) y → x ≡ y
-alone x y has = All-contains (λ z. x ≡ z) (x ∷ []) y (All-cons (λ z. x ≡ z) x [] refl (All-nil (λ z. x ≡ z))) has
 
 -- ---- ordered
 

@@ -9,7 +9,7 @@ use Rattle.rule_model.specs.Targets.{element_by, elements_by}
 use Rattle.rule_model.proofs.Shapes.{none_of_many}
 
 -- each argument names one element
-one_each : (elements : List ℕ) (args : List Arg) (found : List ℕ) → elements_by elements args ≡ Some found → length found ≡ length args
+pub one_each : (elements : List ℕ) (args : List Arg) (found : List ℕ) → elements_by elements args ≡ Some found → length found ≡ length args
 one_each elements [] found is = let e : [] ≡ found = cc in ap length (sym e)
 one_each elements (arg ∷ args) found is = by (λ es more. one_each elements args es more) (element_by elements arg) (elements_by elements args) refl is
   where

@@ -14,12 +14,7 @@ use Rattle.dim_weights.specs.Coefficients.{coef}
 use Rattle.dim_weights.specs.Table.{IsWeightsOf, leaves_of, greatest_of, greatest_in}
 use Rattle.rule_model.specs.Weights.{greatest_coef, coef_product}
 use Rattle.rule_model.proofs.Named.{axes_cons}
-
--- a dimension of this number
-pub dimension_at : (D : List Outline) (k : ℕ) → k < length D → (d : Outline) × (slice_get D k ≡ Some d)
-dimension_at [] k h = absurd (omega (arith, h))
-dimension_at (d ∷ D) zero h = (d, refl)
-dimension_at (d ∷ D) (suc k) h = dimension_at D k (omega (arith, h))
+pub use Rattle.lists.proofs.Found.{there as dimension_at}
 
 -- its coefficients
 pub weights_at : (D : List Outline) (W : List (List (List (ℕ × ℤ)))) (k : ℕ) (d : Outline) (w : List (List (ℕ × ℤ))) → AllZip IsWeightsOf D W → slice_get D k ≡ Some d → (k < length W) × IsWeightsOf d (slice_index_or W k w)

@@ -2,6 +2,6 @@ pub mod Named
 pub mod Shapes
 pub mod Coefs
 mod Components
-mod Arguments
-mod Statements
+pub mod Arguments
+pub mod Statements
 mod GoverningFacts

@@ -13,12 +13,7 @@ use Rattle.cube_space.specs.Cells.{IsSpace, IsCell, cube_of, elements_of, is_pla
 use Rattle.cube_space.proofs.Places.{cell-place, is_place-parts, is_place-from, cell_number-none}
 use Rattle.cube_space.proofs.Axes.{length-axes_of}
 use Rattle.dim_core.specs.Outline.{Outline}
-
--- an item that is found is one of which all that holds of the items holds
-pub found_holds : {X : Type 0} (P : X → Type 0) (xs : List X) (i : ℕ) (x : X) → All P xs → slice_get xs i ≡ Some x → P x
-found_holds P [] i x all is = absurd (cc is)
-found_holds P (y ∷ xs) zero x all is = let same : y ≡ x = cc in subst P same (all 0 y (omega arith))
-found_holds P (y ∷ xs) (suc i) x all is = found_holds P xs i x (λ k d low. all (suc k) d (omega arith)) is
+pub use Rattle.lists.proofs.Found.{found_holds}
 
 pub found_dims : (cubes : List CubeShape) (cube : ℕ) (shape : CubeShape) → slice_get cubes cube ≡ Some shape → slice_index_or (map (λ s. s.dims) cubes) cube [] ≡ shape.dims
 found_dims [] cube shape is = absurd (cc is)

@@ -1,7 +1,6 @@
 -- What is read of tokens of a text can be written: grammars whose texts, where each token is one of a text, have only such trees.
 use Rattle.std.proofs.Common.{◌≡◌, ◌≤◌, ◌<◌, ◌==◌, ℕ, ℤ, pos, List, [], ◌∷◌, ◌++◌, length, length-append, drop, Bool, true, false, not, ◌&&◌, ◌||◌, nat_le, if◌then◌else◌, Some, None, ◌⊎◌, inl, inr, refl, sym, ap, ◌∙◌, subst, arith, All}
 use Rattle.std.proofs.lemmas.Bool.{leb-true, le-leb, and_parts, and_from, or_cases, eqb-true, agree_below_at}
-use Rattle.std.proofs.lemmas.Bool.Decides.{nat_tests}
 use Rattle.std.proofs.lemmas.List.Elements.{All-head, All-tail}
 use Rattle.std.specs.Char.{is_ascii_digit, to_ascii_uppercase}
 use Rattle.std.specs.Int.{is_in_range, is_negative}
@@ -21,6 +20,7 @@ use Rattle.grammar.proofs.Kept.{Keeps, keeps_many}
 use Rattle.grammar.specs.Tokens.{is_word_kind, is_text_kind, is_number_kind, capitals}
 use Rattle.rule_printer.specs.Spelled.{is_word_text}
 use Rattle.rule_printer.specs.Inside.Writable.{is_quotable, is_short_word, is_marked}
+use Rattle.cube_fixed.proofs.RoundTrip.{not_minus as digit_no_minus, not_negative as pos_plain}
 
 -- each of several passes a test
 all_pass : {A : Type 0} (p : A → Bool) (list : List A) → All (λ a. p a ≡ true) list → list_all p list ≡ true
@@ -153,9 +153,6 @@ formed_function t function formed kind same =
 
 -- Numbers.
 
-digit_no_minus : (b : ℕ) → is_ascii_digit b ≡ true → (b == 45) ≡ false
-digit_no_minus b is = let low : 48 ≤ b = leb-true 48 b (and_parts (nat_le 48 b) (nat_le b 57) is).0 in grind (arith, nat_tests)
-
 begins_digit : (b : ℕ) (bytes rest : List ℕ) → IsDigits bytes → b ∷ rest ≡ bytes → (b == 45) ≡ false
 begins_digit b [] rest is same = absurd is
 begins_digit b (c ∷ bytes) rest is same = let here : b ≡ c = cc in ap (λ x. x == 45) here ∙ digit_no_minus c (and_parts (is_ascii_digit c) (list_all is_ascii_digit bytes) is).0
@@ -175,9 +172,6 @@ no_minus [] (inr (whole, fraction, is, _, same)) = absurd (empty whole is same) 
   empty [] is same = is
   empty (c ∷ whole) is same = cc
 no_minus (b ∷ rest) is = number_no_minus b rest is
-
-pos_plain : (n : ℕ) → is_negative (pos n) ≡ false
-pos_plain n = grind (arith, nat_tests)
 
 after_plain : (text : List ℕ) (z : ℤ) (b : Bool) → is_decimal text ≡ b → (if b then Some (signed false (decimal_value text)) else None) ≡ Some z → is_negative z ≡ false
 after_plain text z true is e = let same : pos (decimal_value text) ≡ z = cc in subst (λ y. is_negative y ≡ false) same (pos_plain (decimal_value text))

@@ -29,19 +29,12 @@ use Rattle.rule_tree.specs.declared.tree.Tree.{Tree}
 use Rattle.rule_printer.proofs.PrintedCounting.{step, limits, literal, formula_place, argument_place, word_step}
 use Rattle.rule_printer.proofs.PrintedPlaces.{Follows, follows_none, follows_both, follows_sign, follows_word, follows_area, follows_bracket, follows_formula}
 use Rattle.rule_printer.proofs.PrintedPrimaries.{word_no_sign}
+use Rattle.std.proofs.Math.Bool.{or-true as or_true, or-false as or_false}
 
 -- Words and signs outside of formulas.
 
 no_sign_word : (w s : List ℕ) (x : Lexeme) → is_word w x ≡ true → is_sign s x ≡ false
 no_sign_word w s x is = let (kind, _) = and_is (is_word_kind x.kind) (str_eq_ignore_ascii_case x.piece w) is in rw (word_no_sign x.kind kind) refl
-
-or_false : (b : Bool) → (b || false) ≡ b
-or_false true = refl
-or_false false = refl
-
-or_true : (b : Bool) → (b || true) ≡ true
-or_true true = refl
-or_true false = refl
 
 word_is : (w : List ℕ) (x : Lexeme) → is_word w x ≡ true → word w x ≡ Some x.line
 word_is w x is = rw is refl

@@ -1,5 +1,5 @@
 -- Operations on the left, one more and one less.
-use Rattle.std.proofs.Common.{◌≡◌, ◌≤◌, ◌<◌, ℕ, List, [], ◌∷◌, ◌++◌, length, true, if◌then◌else◌, refl, sym, ap, ◌∙◌, arith}
+use Rattle.std.proofs.Common.{◌≡◌, ◌≤◌, ◌<◌, ℕ, List, [], ◌∷◌, ◌++◌, true, if◌then◌else◌, refl, sym, ap, ◌∙◌, arith}
 use Rattle.std.proofs.lemmas.Bool.{le-ltb, ne_eqb}
 use Rattle.std.specs.Borrow.{Bor}
 use Rattle.cube_lex.specs.Written.{sign_token}
@@ -14,6 +14,7 @@ use Rattle.rule_tree.specs.declared.tree.TreeOp.TheVariants as ops
 use Rattle.rule_printer.proofs.PrintedTrees.{written_binary}
 use Rattle.rule_printer.proofs.TreeWeights.{weight, weight_binary}
 use Rattle.rule_printer.proofs.WritableTrees.{binary_is}
+pub use Rattle.std.proofs.lemmas.List.{nil_from_length as none_left}
 
 pub spine_more : (level : ℕ) (xs : List (TreeOp × Bor Tree)) (tree head left : Tree) (op : TreeOp) (right : Bor Tree) → Spine level tree xs head → head ≡ trees.Binary op left right.now → rank_of op ≡ level
     → Spine level tree (xs ++ (op, right) ∷ []) left
@@ -63,8 +64,3 @@ operation_at level above head right op small is rank =
     let tight : w.rank ≡ level = ap (λ x. x.rank) parts ∙ rank in
     let bare : written_at level w ≡ w.tokens = ap (λ b. if b then in_parentheses w.tokens else w.tokens) (le-ltb w.rank level (omega (arith, tight))) in
     sym (bare ∙ ap (λ x. x.tokens) parts ∙ ap (λ n. written_at n (written head) ++ sign_token (sign_of op) ∷ written_at (right_level op) (written right)) left)
-
--- no operation is left
-pub none_left : {A : Type 0} (xs : List A) → length xs ≡ 0 → xs ≡ []
-none_left [] e = refl
-none_left (x ∷ xs) e = absurd (omega (arith, e))

@@ -1,7 +1,7 @@
 -- Tokens that are written one after another.
-use Rattle.std.proofs.Common.{◌≡◌, ◌≤◌, ◌<◌, ◌+◌, ◌*◌, ◌/◌, ◌%◌, ◌^◌, ℕ, zero, suc, ℤ, pos, negsuc, List, [], ◌∷◌, ◌++◌, length, length-append, take, get_or, Bool, true, false, ◌&&◌, nat_le, Result, Ok, Err, OnOk, refl, sym, ap, ◌∙◌, subst, inl, inr, ◌⊎◌, append-nil, append_assoc, codes, decimal, arith, if◌then◌else◌}
+use Rattle.std.proofs.Common.{◌≡◌, ◌≤◌, ◌<◌, ◌+◌, ◌*◌, ◌/◌, ◌%◌, ◌^◌, ℕ, zero, suc, ℤ, pos, negsuc, List, [], ◌∷◌, ◌++◌, length, length-append, take, get_or, Bool, true, false, ◌&&◌, nat_le, refl, sym, ap, ◌∙◌, subst, inl, inr, ◌⊎◌, append-nil, append_assoc, codes, decimal, arith, if◌then◌else◌}
 use Rattle.std.proofs.Math.Nat.{div-lt_iff_lt-mul, one-le-pow}
-use Rattle.std.proofs.lemmas.Bool.{leb-true, le-leb, and_parts, cases_Bool, ne_eqb}
+use Rattle.std.proofs.lemmas.Bool.{leb-true, and_parts, cases_Bool, ne_eqb}
 use Rattle.std.proofs.lemmas.Bool.Decides.{nat_tests}
 use Rattle.std.proofs.lemmas.Fmt.{length-decimal-le}
 use Rattle.std.proofs.lemmas.Grind.{flat_map-append}
@@ -14,8 +14,8 @@ use Rattle.cube_fixed.proofs.Digits.{decimals, decimals-zero, decimals-step, bel
 use Rattle.cube_fixed.specs.Range.{IsInRange, unit, limit}
 use Rattle.cube_fixed.specs.Text.{printed, fraction_text}
 use Rattle.cube_fixed.specs.declared.value.Value.TheVariants.{Num}
-use Rattle.cube_lex.proofs.Wholes.{decimal-is_digits}
-use Rattle.cube_lex.proofs.Spaced.{spaces-both, writes-both, writes-more}
+use Rattle.cube_lex.proofs.Wholes.{decimal-is_digits, digit-passes as digit_passes}
+use Rattle.cube_lex.proofs.Spaced.{spaces-both, writes-more}
 use Rattle.cube_lex.specs.Bytes.{is_plain, starts_word, is_word_byte}
 use Rattle.cube_lex.specs.Parts.{IsWord, IsDigits, IsNumber, token_limit}
 use Rattle.cube_lex.specs.Quoted.{quoted}
@@ -24,6 +24,7 @@ use Rattle.rule_printer.specs.Inside.Separated.{separator}
 use Rattle.rule_printer.specs.Spelled.{is_word_text, next_spelled, listed_spelled, name_spelled, elements_spelled, feeder_spelled, feeders_spelled}
 use Rattle.rule_tree.specs.declared.rule.FeederText.{FeederText}
 use Rattle.rule_printer.specs.Inside.Writable.{is_quotable, is_short_word}
+pub use Rattle.cube_lex.proofs.Adding.{then_spaces as then_adds, then_writes, writes_same, spaces_same as adds_same}
 
 -- Tokens that may be written.
 
@@ -55,12 +56,6 @@ one_passes p xs i x within is all = decided (cases_Bool (p x)) where
   decided (inr e) = let none : list_all p xs ≡ false = list_all_at p xs i x within (ap p (sym is) ∙ e) in cc
 
 -- The text of a number.
-
-digit_passes : (d : ℕ) → d < 10 → is_ascii_digit (48 + d) ≡ true
-digit_passes d small =
-    let low : nat_le 48 (48 + d) ≡ true = le-leb 48 (48 + d) (omega arith) in
-    let high : nat_le (48 + d) 57 ≡ true = le-leb (48 + d) 57 (omega arith) in
-    rw (low, high) refl
 
 -- the decimals of a fraction are so many digits at most
 decimals_are : (k n : ℕ) → n < 10 ^ k → (list_all is_ascii_digit (decimals k n) ≡ true) × (length (decimals k n) ≤ k)
@@ -107,27 +102,6 @@ printed_is (pos n) plain within = printed_number n within
 printed_is (negsuc n) plain within = cc
 
 -- One after another.
-
--- what a call that succeeds adds to what was added before it on the line
-pub then_adds : {T E : Type 0} (r : Result T E) (old between new : List ℕ) (xs ys : List Spelling)
-    → Spaces old between xs → OnOk r (Spaces between new ys) → OnOk r (Spaces old new (xs ++ ys))
-then_adds (Ok x) old between new xs ys first second = spaces-both old between new xs ys first second
-then_adds (Err e) old between new xs ys first second = tt
-
--- and to lines before it
-pub then_writes : {T E : Type 0} (r : Result T E) (old between new : List ℕ) (xs ys : List Spelling)
-    → Writes old between xs → OnOk r (Writes between new ys) → OnOk r (Writes old new (xs ++ ys))
-then_writes (Ok x) old between new xs ys first second = writes-both old between new xs ys first second
-then_writes (Err e) old between new xs ys first second = tt
-
--- the same tokens
-pub adds_same : {T E : Type 0} (r : Result T E) (old new : List ℕ) (xs ys : List Spelling)
-    → xs ≡ ys → OnOk r (Spaces old new xs) → OnOk r (Spaces old new ys)
-adds_same r old new xs ys same h = subst (λ zs. OnOk r (Spaces old new zs)) same h
-
-pub writes_same : {T E : Type 0} (r : Result T E) (old new : List ℕ) (xs ys : List Spelling)
-    → xs ≡ ys → OnOk r (Writes old new xs) → OnOk r (Writes old new ys)
-writes_same r old new xs ys same h = subst (λ zs. OnOk r (Writes old new zs)) same h
 
 -- before an item that isn't the first
 pub further : (i : ℕ) → (i ≡ 0 → ⊥) → separator i ≡ sign_token (codes ",") ∷ []

@@ -4,10 +4,11 @@ use Rattle.grammar.specs.Grammar.{Grammar, done, one, both, either, many}
 use Rattle.grammar.specs.Watch.{AllPass, joined, Passes, each_token}
 use Rattle.grammar.specs.Reading.{Unexpected, Refused, OutOfTurns, Read, Reader, starts}
 use Rattle.grammar.proofs.Begins.{Begins, starts_text}
-use Rattle.grammar.proofs.Cuts.{no_token, token_cuts, passes_not_refused}
+use Rattle.grammar.proofs.Cuts.{no_token, token_cuts, passes_not_refused, same_head as same_token}
 use Rattle.grammar.proofs.Exact.{Exact, Outcome, Agrees, Always, Not}
 use Rattle.grammar.proofs.Many.{IsSettled}
 use Rattle.rule_text_laws.proofs.SettlesBelow.{SettlesBelow, settled_of}
+use Rattle.std.proofs.lemmas.Option.{same_Some as same_pick}
 
 -- Behind a front of what passes the rest passes.
 
@@ -45,12 +46,6 @@ once_read {T = T} {R = R} {C = C} {A = A} {scan = scan} {G = G} {S = S} P exact 
       read_once scan G (P k) n m (u ++ r) r s x y passes (P k n (u ++ r)) ((exact k).sound n (u ++ r)) (settled_of (length (u ++ r)) (P k n (u ++ r)) ((below k).at n (u ++ r) (omega arith))) first second
 
 -- The forms of grammars.
-
-same_token : {T : Type 0} (t s : T) (r z : List T) → t ∷ r ≡ s ∷ z → (t ≡ s) × (r ≡ z)
-same_token t s r z e = (cc, cc)
-
-same_pick : {A : Type 0} (x y : A) → Some x ≡ Some y → x ≡ y
-same_pick x y e = cc
 
 pub once_one : {T R C A : Type 0} {scan : R → T → Result R C} (pick : T → Option A) → OneTree scan (one pick) Always
 once_one {T = T} {R = R} {A = A} {scan = scan} pick = record { at = λ n m u r v s x y passes e (t, is, picks) (q, same, takes) _ _. at r s x y t q (ap (λ z. z ++ r) (sym is) ∙ e ∙ ap (λ z. z ++ s) same) picks takes } where

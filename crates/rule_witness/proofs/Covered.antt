@@ -15,6 +15,7 @@ use Rattle.rule_laws.specs.Cover.{CoversBy, NamesNoGovernedTotal, IsCoveredRefer
 use Rattle.rule_witness.specs.Replenishment.{replenishment, closing, opening, to, opening_formula, opening_rule, passing_rule, summing_rule, purchase_rule, stock_feed}
 use Rattle.rule_witness.proofs.FormulaFolds.{of-opening}
 use Rattle.rule_witness.proofs.Ordered.{opening-reads, opening-cell, closing-named}
+use Rattle.rule_laws.proofs.FindingFacts.{Contains-push_only as alone}
 
 -- by the feeder, the closing cell feeds the opening cell
 pub feeds-opening : FeedsBy replenishment stock_feed closing opening
@@ -24,9 +25,6 @@ both_are : {X : Type 0} (x y : X) → Contains (x ∷ x ∷ []) y → x ≡ y
 both_are {X} x y has =
     let P : X → Type 0 = λ z. x ≡ z in
     All-contains P (x ∷ x ∷ []) y (All-cons P x (x ∷ []) refl (All-cons P x [] refl (All-nil P))) has
-
-alone : {X : Type 0} (x y : X) → Contains (x ∷ []) y → x ≡ y
-alone x y has = All-contains (λ z. x ≡ z) (x ∷ []) y (All-cons (λ z. x ≡ z) x [] refl (All-nil (λ z. x ≡ z))) has
 
 closing-feeds : CoversBy replenishment opening_rule (to closing) stock_feed
 closing-feeds c t x here names among =

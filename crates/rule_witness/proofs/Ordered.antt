@@ -3,7 +3,7 @@ use Rattle.std.proofs.Common.{◌≡◌, sym, ◌∙◌, ap, subst, lit<, ℕ, �
 use Rattle.std.specs.Prelude.{◌==◌}
 use Rattle.std.specs.List.{All, Contains}
 use Rattle.std.proofs.lemmas.Bool.Decides.{Decides-eqb}
-use Rattle.std.proofs.lemmas.List.Elements.{All-cons, All-nil, All-contains}
+use Rattle.std.proofs.lemmas.List.Elements.{All-cons, All-nil}
 use Rattle.rule_laws.specs.declared.formula.Formula.{Formula}
 use Rattle.rule_laws.specs.declared.formula.Formula.TheVariants.{Continue, Children}
 use Rattle.rule_laws.specs.Meaning.{Precedent, Named, Components, precedents_step, truth_precedents_step, precedents}
@@ -11,7 +11,8 @@ use Rattle.rule_laws.specs.RuleSystem.{Rule, depth}
 use Rattle.rule_laws.specs.Order.{IsCellOf, Throughout, IsOrderedRule, IsOrdered}
 use Rattle.rule_laws.proofs.SystemFacts.{both}
 use Rattle.rule_witness.specs.Replenishment.{replenishment, closing, opening, available, purchase, available_cells, named_cell, cube_of_cell, stock_cube, purchase_cube, to, opening_formula, purchase_formula, opening_rule, passing_rule, summing_rule, purchase_rule}
-use Rattle.rule_witness.proofs.FormulaFolds.{of-opening, of-purchase, of-continue, of-children}
+use Rattle.rule_witness.proofs.FormulaFolds.{of-opening, of-purchase, of-children}
+use Rattle.rule_laws.proofs.Witness.{precedents_continue as continue-reads, in_pair}
 
 -- ---- what each formula reads
 
@@ -20,9 +21,6 @@ opening-reads = of-opening (List Precedent) (List Precedent) precedents_step tru
 
 purchase-reads : precedents purchase_formula ≡ Named (to available) ∷ []
 purchase-reads = of-purchase (List Precedent) (List Precedent) precedents_step truth_precedents_step
-
-continue-reads : precedents Continue ≡ []
-continue-reads = of-continue (List Precedent) (List Precedent) precedents_step truth_precedents_step
 
 children-reads : precedents (Children 0) ≡ Components 0 ∷ []
 children-reads = of-children (List Precedent) (List Precedent) precedents_step truth_precedents_step 0
@@ -63,9 +61,6 @@ available-sooner c t here names =
     let at : c ≡ purchase = purchase-cell true c here in
     let is : t ≡ available = available-named t names in
     rw (at, is) (lit< tt)
-
-in_pair : {X : Type 0} (P : X → Type 0) (x y z : X) → P x → P y → Contains (x ∷ y ∷ []) z → P z
-in_pair P x y z first second has = All-contains P (x ∷ y ∷ []) z (All-cons P x (y ∷ []) first (All-cons P y [] second (All-nil P))) has
 
 components-sooner : Sooner summing_rule false (Components 0)
 components-sooner c t here (pairs, is, (weight, has, counted)) =

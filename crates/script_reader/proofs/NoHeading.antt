@@ -1,5 +1,5 @@
 -- A statement is not taken for the beginning of a section, and a word that begins one may begin a statement too.
-use Rattle.std.proofs.Common.{◌≡◌, ℕ, zero, suc, List, [], ◌∷◌, ◌++◌, Bool, true, false, ◌&&◌, codes, refl, ◌∙◌, ap, inl, inr}
+use Rattle.std.proofs.Common.{◌≡◌, ℕ, zero, suc, List, [], ◌∷◌, ◌++◌, true, false, ◌&&◌, codes, refl, ◌∙◌, ap, inl, inr}
 use Rattle.std.specs.Str.{str_eq_ignore_ascii_case}
 use Rattle.cube_lex.specs.Lexeme.{Lexeme}
 use Rattle.cube_lex.specs.declared.token.Kind.TheVariants as kinds
@@ -16,10 +16,7 @@ use Rattle.script_tree.specs.declared.line.Line.TheVariants as lines
 use Rattle.script_tree.specs.declared.script.Section.{Section}
 use Rattle.script_reader.proofs.ValueExact.{value_exact}
 use Rattle.script_reader.proofs.FirstWords.{variable_of, leap_no_word}
-
-and_no : (a b : Bool) → b ≡ false → (a && b) ≡ false
-and_no true b e = e
-and_no false b e = refl
+use Rattle.std.proofs.lemmas.Bool.{and_right as and_no}
 
 -- what begins with another word
 pub other_word : {A : Type 0} {G : Grammar Lexeme A} (mark : List ℕ) → Begins G (is_word mark) false → (u : List Lexeme) (a : A) (rest : List Lexeme) → G u a → starts_heading mark (u ++ rest) ≡ false

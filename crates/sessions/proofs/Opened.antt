@@ -18,9 +18,7 @@ use Rattle.sessions.specs.declared.session.SessionOf.{SessionOf}
 use Rattle.sessions.specs.Sessions.{IsRunning}
 use Rattle.sessions.specs.Inside.AllSessions.{AreRunning, commands_of}
 use Rattle.sessions.specs.Inside.Gathered.{IsFurther}
-
-pub same_number : (m n : ℕ) → Some m ≡ Some n → m ≡ n
-same_number m n is = cc
+pub use Rattle.std.proofs.lemmas.Option.{same_Some as same_number}
 
 pub one_there : {A : Type 0} (x y : A) (place : ℕ) → slice_get (x ∷ []) place ≡ Some y → (place ≡ 0) × (x ≡ y)
 one_there x y zero is = (refl, cc)

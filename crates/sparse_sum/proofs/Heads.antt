@@ -1,9 +1,7 @@
 -- The first of some dimensions, and the others.
 use Rattle.std.proofs.Common.{◌≡◌, ◌∙◌, refl, sym, ap, subst, arith, ℕ, zero, suc, ◌+◌, ◌*◌, ◌/◌, ◌<◌, ◌≤◌, true, ℤ, ◌*ℤ◌, unsigned_abs, List, [], ◌∷◌, length, map, get_or, drop, take, ◌-◌, Some, find, nat_lt, Bool, false, inl, inr, Option, None, MatchOption, IfSome, leb}
 use Rattle.std.specs.List.{All, AllZip, range_with_len, slice_get, cons_option}
-use Rattle.std.proofs.Math.Nat.{mul-le-mul}
 use Rattle.std.proofs.lemmas.Bool.{and_parts, ltb-true, cases_eq}
-use Rattle.std.proofs.lemmas.Int.{unsigned_abs-mul}
 use Rattle.std.proofs.lemmas.Nat.{div-mul-add}
 use Rattle.std.proofs.lemmas.List.Elements.{All-tail}
 use Rattle.dim_core.specs.Outline.{Outline}
@@ -14,6 +12,7 @@ use Rattle.cube_space.specs.Radix.{product, are_digits}
 use Rattle.rule_model.specs.Weights.{greatest_coef}
 use Rattle.sparse_sum.specs.Inside.First.{IsClear, IsFirst}
 use Rattle.sparse_sum.proofs.Pairs.{found-none, found-some}
+pub use Rattle.rule_model.proofs.Coefs.{size_of_product as both-size}
 
 -- what is known of the first of these dimensions, and of the element at it
 pub record IsHead (D : List Outline) (W : List (List (List (ℕ × ℤ)))) (dims at ks es : List ℕ) : Type 0 where
@@ -94,9 +93,6 @@ row-size d e q p low is =
     let a = found-size q (leaves_of d e) p is in
     let b = among-greatest (leaves_of d) e 0 (length d.elements) (omega arith) (omega (arith, low)) in
     omega (arith, a, b)
-
-pub both-size : (a b : ℤ) (g rest : ℕ) → unsigned_abs a ≤ g → unsigned_abs b ≤ rest → unsigned_abs (a *ℤ b) ≤ g * rest
-both-size a b g rest one two = rw (unsigned_abs-mul a b) (mul-le-mul one two)
 
 -- how many cells have the same first element
 pub worth-is : (D : List Outline) (dims : List ℕ) (o : Outline) (cells : ℕ) → 0 < length dims → slice_get D (get_or dims 0 0) ≡ Some o → cells ≡ product (sizes_of (axes_of D dims)) → 0 < cells

@@ -7,5 +7,5 @@ mod Pairs
 pub mod Placed
 mod Searches
 mod Steps
-mod Totals
+pub mod Totals
 mod Weights

@@ -1,5 +1,5 @@
 -- The first of the pairs of numbers that count.
-use Rattle.std.proofs.Common.{◌≡◌, ◌≢◌, ◌∙◌, refl, sym, ap, subst, arith, ℕ, ◌+◌, ◌<◌, ◌≤◌, zero, suc, leb, inl, inr, ◌⊎◌, Bool, true, false, ℤ, pos, negsuc, List, [], ◌∷◌, Option, None, Some, find, length, get_or, drop, take, ◌-◌, ltb, map}
+use Rattle.std.proofs.Common.{◌≡◌, ◌≢◌, ◌∙◌, refl, ap, subst, arith, ℕ, ◌+◌, ◌<◌, ◌≤◌, zero, suc, leb, inl, inr, ◌⊎◌, Bool, true, false, ℤ, pos, List, [], ◌∷◌, Option, None, Some, find, length, get_or, drop, take, ◌-◌, ltb, map}
 use Rattle.std.specs.List.{range_with_len, slice_get}
 use Rattle.std.specs.List.Sorted.{IsNonDecreasingBy, IsPartitionedBy, IsPartitionPoint}
 use Rattle.std.proofs.lemmas.Bool.{ltb-true}
@@ -10,21 +10,7 @@ use Rattle.std.proofs.lemmas.Bool.{cases_eq}
 use Rattle.std.proofs.lemmas.Bool.Decides.{leb_tells, nat_tests}
 use Rattle.dim_weights.specs.Table.{is_nonzero, nonzero_among, IsRising}
 use Rattle.sparse_sum.specs.Inside.First.{IsClear, IsFirst}
-
-pub nonzero-is : (z : ℤ) → is_nonzero z ≡ false → z ≡ pos 0
-nonzero-is (pos zero) none = refl
-nonzero-is (pos (suc n)) none = absurd (cc)
-nonzero-is (negsuc n) none = absurd (cc)
-
-pub nonzero-counts : (z : ℤ) → is_nonzero z ≡ true → z ≢ pos 0
-nonzero-counts z on none = let clash : is_nonzero (pos 0) ≡ true = ap is_nonzero (sym none) ∙ on in cc
-
-pub counts-nonzero : (z : ℤ) → z ≢ pos 0 → is_nonzero z ≡ true
-counts-nonzero z counts = by (is_nonzero z) refl
-  where
-    by : (b : Bool) → is_nonzero z ≡ b → is_nonzero z ≡ true
-    by true is = is
-    by false is = absurd (counts (nonzero-is z is))
+pub use Rattle.dim_weights.proofs.Nonzero.{zero-is as nonzero-is, counts-nonzero, nonzero-counts}
 
 module _ (c : ℕ → ℤ) (from : ℕ) where
   abbrev first_among : ℕ → ℕ → Option (ℕ × ℤ)

@@ -1,7 +1,5 @@
 -- What is known of a cell and of the dimensions of its cube, and what is found in the cube.
-use Rattle.std.proofs.Common.{◌≡◌, ◌∙◌, sym, ap, subst, arith, ℕ, ◌+◌, ◌-◌, ◌<◌, ◌≤◌, true, List, ◌++◌, length, map, get_or, take, Some, inl, inr, pos, ℤ, unsigned_abs, w64, to_z, of_z}
-use mir.Val.{SFits}
-use Rattle.std.proofs.lemmas.Int.{to_z-of_z, ints}
+use Rattle.std.proofs.Common.{◌≡◌, ◌∙◌, sym, ap, subst, arith, ℕ, ◌+◌, ◌-◌, ◌<◌, ◌≤◌, true, List, ◌++◌, length, map, get_or, take, Some, inl, inr, pos, ℤ}
 use Rattle.std.specs.List.{All, slice_get}
 use Rattle.std.proofs.lemmas.Bool.{cases_lt}
 use Rattle.std.proofs.lemmas.List.{get_or-map, take_at}
@@ -17,6 +15,8 @@ use Rattle.rule_model.specs.Weights.{weight, greatest_coef, weight_product}
 use Rattle.sparse_sum.specs.Inside.First.{IsClear, IsFirst}
 use Rattle.sparse_sum.specs.Inside.Numbers.{weight_at}
 use Rattle.sparse_sum.proofs.Weights.{weight-outside, weight-inside}
+pub use Rattle.cube_space.proofs.Places.{run_within as run-within}
+pub use Rattle.rule_model.proofs.Coefs.{word_of as word-is}
 
 pub cube-there : (space : Layout) (cell cube : ℕ) → IsCell space cell → cube ≡ cube_of space cell → cube < length space.cubes
 cube-there space cell cube here own = subst (λ (k : ℕ). k < length space.cubes) (sym own) (cell-place space cell here).place.there
@@ -65,16 +65,6 @@ placed space cell cube shape dims at rest valid here own shaped its shown =
 
 pub cells-of : (space : Layout) (cell cube : ℕ) (dims at : List ℕ) → IsPlaced space cell cube dims at → cell_count space cube ≡ product (sizes_of (axes_of space.dimensions dims))
 cells-of space cell cube dims at p = ap (λ ds. product (sizes_of ds)) (sym p.axes_are)
-
-pub run-within : (space : Layout) (cube : ℕ) → cube < length space.cubes → first_cell space cube + cell_count space cube ≤ size_of space
-run-within = run_within
-
--- a weight fits its type
-pub word-is : (z : ℤ) → unsigned_abs z ≤ 1000000000 → to_z w64 (of_z w64 z) ≡ z
-word-is z small = to_z-of_z w64 z (fits z small)
-  where
-    fits : (z : ℤ) → unsigned_abs z ≤ 1000000000 → SFits w64 z
-    fits z small = omega (arith, ints, small)
 
 module _ (space : Layout) (cell cube : ℕ) (here : IsCell space cell) (own : cube ≡ cube_of space cell)
     (first cells from begin : ℕ) (first_is : first ≡ first_cell space cube) (cells_is : cells ≡ cell_count space cube) (begin_is : begin ≡ from - first) where

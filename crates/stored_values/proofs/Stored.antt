@@ -3,7 +3,7 @@ use Rattle.std.proofs.Common.{◌≡◌, refl, ◌∙◌, ap, arith, ℕ, ◌<�
 use Rattle.std.specs.List.{All, filter, range_with_len}
 use Rattle.std.specs.Option.{option_map_or}
 use Rattle.std.proofs.Math.IntN.{*ℤ-zero}
-use Rattle.std.proofs.lemmas.Bool.{eqb-true, ne_eqb}
+use Rattle.std.proofs.lemmas.Bool.{eqb-true}
 use Rattle.std.proofs.lemmas.Int.{ints}
 use Rattle.std.proofs.lemmas.List.Elements.{All-head, All-tail}
 use Rattle.cube_fixed.specs.declared.value.Value.{Value}
@@ -23,6 +23,7 @@ use Rattle.rule_model.specs.System.{system_of}
 use Rattle.model_laws.proofs.Below.{among, leaf_cells-are}
 use Rattle.stored_values.specs.Stored.{stored_in, AreLeafEntries, HaveStored, sum_of_entries}
 use Rattle.stored_values.proofs.Sums.{sum_of, fold-sum, sum-plus, sum-none, only_at, sum-only, sum-among, sum-numbers}
+use Rattle.cell_store.proofs.Numbers.{number_at-above as number-above}
 
 -- what is stored in a cell, as a value
 pub stored-number : (entries : List Entry) (c : ℕ) → option_map_or Num (stored_in entries c) zero_value ≡ Num (number_at entries c)
@@ -34,13 +35,6 @@ stored-number (e ∷ entries) c = by (eqb e.cell c) refl (stored-number entries 
         → option_map_or Num (stored_in (e ∷ entries) c) zero_value ≡ Num (number_at (e ∷ entries) c)
     by true same later = rw same refl
     by false other later = rw other later
-
--- no entry above a cell is its own
-number-above : (a c : ℕ) (entries : List Entry) → c ≤ a → AllAbove a (cells_of entries) → number_at entries c ≡ pos 0
-number-above a c [] low above = refl
-number-above a c (e ∷ entries) low above =
-    let other : eqb e.cell c ≡ false = ne_eqb e.cell c (λ same. omega (arith, low, above.0, same)) in
-    rw other (number-above a c entries low above.1)
 
 -- ---- the sum over the numbers that pass is the sum over the entries
 

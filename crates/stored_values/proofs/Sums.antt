@@ -1,5 +1,5 @@
 -- Exact sums over lists.
-use Rattle.std.proofs.Common.{◌≡◌, refl, sym, ◌∙◌, ap, arith, subst, ℕ, zero, suc, ◌+◌, ◌<◌, ◌≤◌, Bool, true, false, ◌||◌, ℤ, pos, negsuc, ◌+ℤ◌, ◌*ℤ◌, List, [], ◌∷◌, eqb, if◌then◌else◌}
+use Rattle.std.proofs.Common.{◌≡◌, refl, sym, ◌∙◌, ap, arith, subst, ℕ, zero, suc, ◌+◌, ◌<◌, ◌≤◌, Bool, true, false, ◌||◌, ℤ, pos, ◌+ℤ◌, ◌*ℤ◌, List, [], ◌∷◌, eqb, if◌then◌else◌}
 use Rattle.std.specs.Prelude.{fold}
 use Rattle.std.specs.List.{All, filter, range_with_len}
 use Rattle.std.proofs.Math.IntN.{zero-*ℤ}
@@ -12,6 +12,7 @@ use Rattle.cube_fixed.specs.declared.value.Value.TheVariants.{Num}
 use Rattle.cube_fixed.specs.Arithmetic.{fit}
 use Rattle.cube_fixed.specs.Total.{Total, no_terms, with_term, term_of, over_enters}
 use Rattle.rule_laws.specs.RuleSystem.{weighted_sum}
+use Rattle.dim_weights.proofs.Nonzero.{zero-is}
 
 abbrev pub sum_of : {X : Type 0} → (X → ℤ) → List X → ℤ
 sum_of f [] = pos 0
@@ -65,11 +66,6 @@ sum-only p v a start (suc n) low high passes = by (eqb a start) refl (λ above. 
         other (p start) refl differs (later (omega (arith, low, apart)))
 
 -- ---- weights
-
-zero-is : (z : ℤ) → is_nonzero z ≡ false → z ≡ pos 0
-zero-is (pos zero) none = refl
-zero-is (pos (suc n)) none = absurd (cc)
-zero-is (negsuc n) none = absurd (cc)
 
 -- those of weight 0 add nothing
 pub sum-among : (value n : ℕ → ℤ) (leaves : List ℕ) → sum_of (λ pair. pair.1 *ℤ n pair.0) (nonzero_among value leaves) ≡ sum_of (λ x. value x *ℤ n x) leaves

@@ -3,7 +3,7 @@ use Rattle.std.proofs.Common.{◌≡◌, List, [], ◌∷◌, ◌++◌, refl, sy
 use Rattle.cube_lex.specs.Lexeme.{Lexeme}
 use Rattle.grammar.specs.Watch.{Within, Refuses}
 use Rattle.grammar.proofs.Checked.{cut_last}
-use Rattle.grammar.proofs.Cuts.{within_not_refused}
+use Rattle.grammar.proofs.Cuts.{within_not_refused, same_head as same_rest}
 use Rattle.dim_text.specs.Building.{building}
 use Rattle.dim_text.specs.Progress.{Progress}
 use Rattle.dim_text.specs.Statement.{statement}
@@ -13,9 +13,6 @@ use Rattle.dim_text.proofs.OneReading.{building_cuts}
 nothing_before : {T : Type 0} (x y c : T) (b : List T) → x ∷ [] ≡ c ∷ (b ++ y ∷ []) → ⊥
 nothing_before x y c [] e = cc
 nothing_before x y c (d ∷ b) e = cc
-
-same_rest : {T : Type 0} (a b : T) (u v : List T) → a ∷ u ≡ b ∷ v → (a ≡ b) × (u ≡ v)
-same_rest a b u v e = (cc, cc)
 
 same_front : {T : Type 0} (a b : List T) (x y : T) → a ++ x ∷ [] ≡ b ++ y ∷ [] → a ≡ b
 same_front [] [] x y e = refl

@@ -2,10 +2,11 @@
 use Rattle.std.proofs.Common.{◌≡◌, ℕ, ℤ, List, [], ◌∷◌, Some, refl, sym, ◌∙◌, ap}
 use Rattle.std.specs.List.{AllZip}
 use Rattle.dim_core.specs.Draft.{Draft, IsResolvedPart, IsResolvedAttribute, IsFinished}
-use Rattle.dim_core.specs.Outline.{Element, Outline, names_of}
+use Rattle.dim_core.specs.Outline.{Outline, names_of}
 use Rattle.dim_core.specs.declared.attribute.Attribute.{Attribute}
 use Rattle.dim_core.specs.declared.attribute.NamedAttribute.{NamedAttribute}
 use Rattle.dim_text.specs.Progress.{Progress, Text, IsBuilt}
+use Rattle.dim_core.proofs.OwnDefinitions.{element_is, attribute_is, outline_is}
 
 -- what each item on the left determines on the right
 pub one_right : {A B : Type 0} (R : A → B → Type 0) → ((a : A) (x y : B) → R a x → R a y → x ≡ y) → (list : List A) (xs ys : List B) → AllZip R list xs → AllZip R list ys → xs ≡ ys
@@ -34,17 +35,8 @@ pair_is x y e f = ap (λ z. (z, x.1)) e ∙ ap (λ z. (y.0, z)) f
 one_part : (names : List (List ℕ)) (written : List ℕ × ℤ) (x y : ℕ × ℤ) → IsResolvedPart names written x → IsResolvedPart names written y → x ≡ y
 one_part names written x y h k = pair_is x y (one_some _ x.0 y.0 h.0 k.0) (h.1 ∙ sym k.1)
 
-element_is : (x y : Element ℕ) → x.name ≡ y.name → x.components ≡ y.components → x ≡ y
-element_is x y e f = ap (λ z. record { name = z; components = x.components }) e ∙ ap (λ z. record { name = y.name; components = z }) f
-
-attribute_is : (x y : Attribute) → x.element ≡ y.element → x.name ≡ y.name → x.text ≡ y.text → x ≡ y
-attribute_is x y e f g = ap (λ z. record { element = z; name = x.name; text = x.text }) e ∙ ap (λ z. record { element = y.element; name = z; text = x.text }) f ∙ ap (λ z. record { element = y.element; name = y.name; text = z }) g
-
 one_attribute : (names : List (List ℕ)) (written : NamedAttribute) (x y : Attribute) → IsResolvedAttribute names written x → IsResolvedAttribute names written y → x ≡ y
 one_attribute names written x y h k = attribute_is x y (one_some _ x.element y.element h.0 k.0) (h.1 ∙ sym k.1) (h.2 ∙ sym k.2)
-
-outline_is : (x y : Outline) → x.name ≡ y.name → x.elements ≡ y.elements → x.attributes ≡ y.attributes → x ≡ y
-outline_is x y e f g = ap (λ z. record { name = z; elements = x.elements; attributes = x.attributes }) e ∙ ap (λ z. record { name = y.name; elements = z; attributes = x.attributes }) f ∙ ap (λ z. record { name = y.name; elements = y.elements; attributes = z }) g
 
 pub one_outline : (draft : Draft) (x y : Outline) → IsFinished draft x → IsFinished draft y → x ≡ y
 one_outline draft x y h k = outline_is x y (h.name ∙ sym k.name)

@@ -1,7 +1,6 @@
 -- What is known of the writes of an accepted command.
-use Rattle.std.proofs.Common.{Result, Ok, Err, ◌≡◌, refl, subst, ℕ, ℤ, ◌≤◌, Bool, true, false, not, if◌then◌else◌, arith, List, [], ◌∷◌, length, Option, Some, None}
+use Rattle.std.proofs.Common.{Result, Ok, Err, ◌≡◌, refl, subst, ℕ, ℤ, ◌≤◌, Bool, true, false, not, if◌then◌else◌, List, [], ◌∷◌, length, Option, Some, None}
 use Rattle.std.specs.Prelude.{nat_lt}
-use Rattle.std.proofs.lemmas.Bool.Decides.{nat_tests}
 use Rattle.std.proofs.lemmas.List.Elements.{All-nil, All-cons}
 use Rattle.cell_reader.specs.Limits.{fed_count}
 use Rattle.cell_store.specs.declared.entry.Entry.{Entry}
@@ -31,14 +30,12 @@ use Rattle.view_query.specs.declared.shape.View as views
 use Rattle.user_session.proofs.Kept.{write-kept}
 use Rattle.user_session.proofs.Within.{AreWithin, last-within, named-cell}
 use Rattle.user_session.specs.declared.reply.Reason.TheVariants.{NotALeaf, RuleDerived, StoreLimit, FedLimit}
+use Rattle.std.proofs.lemmas.Bool.{ltb-false as at_most}
 
 -- ---- an accepted PUT
 
 abbrev IsAmong : BoundModel → List Entry → List (ℕ × ℤ) → List (ℕ × ℤ) → Type 0
 IsAmong model stored writes others = (writes ≡ others) × (length stored ≤ most_cells) × (fed_count model stored ≤ most_fed)
-
-at_most : (a b : ℕ) → nat_lt a b ≡ false → b ≤ a
-at_most a b is = grind (arith, nat_tests)
 
 limited : (model : BoundModel) (stored : List Entry) (writes others : List (ℕ × ℤ)) (reply : List ℕ) → within_limits model stored writes ≡ Commit others reply → IsAmong model stored writes others
 limited model stored writes others reply is = by (nat_lt most_cells (length stored)) refl (nat_lt most_fed (fed_count model stored)) refl is

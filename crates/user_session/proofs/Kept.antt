@@ -1,8 +1,7 @@
 -- A load that begins within the limits stays within them.
-use Rattle.std.proofs.Common.{Result, Ok, ◌≡◌, refl, subst, ℕ, ℤ, ◌≤◌, Bool, true, false, not, if◌then◌else◌, arith, List, [], ◌∷◌, ◌++◌, ◌&&◌, length, Option, Some, None}
+use Rattle.std.proofs.Common.{Result, Ok, ◌≡◌, refl, subst, ℕ, ℤ, ◌≤◌, Bool, true, false, not, if◌then◌else◌, List, [], ◌∷◌, ◌++◌, ◌&&◌, length, Option, Some, None}
 use Rattle.std.specs.Prelude.{nat_lt, suc}
 use Rattle.std.specs.List.{list_all}
-use Rattle.std.proofs.lemmas.Bool.Decides.{nat_tests}
 use Rattle.std.proofs.lemmas.List.Elements.{All-push}
 use Rattle.cell_reader.specs.Limits.{fed_count}
 use Rattle.cell_store.specs.declared.entry.Entry.{Entry}
@@ -22,9 +21,7 @@ use Rattle.script_values.specs.declared.reason.Reason.{Reason}
 use Rattle.script_values.specs.declared.reason.Reason.TheVariants.{NotALeaf, RuleDerived, StoreLimit, FedLimit}
 use Rattle.user_session.specs.declared.content.Content.{Content}
 use Rattle.user_session.proofs.Within.{AreWithin, named-cell}
-
-at_most : (a b : ℕ) → nat_lt a b ≡ false → b ≤ a
-at_most a b is = grind (arith, nat_tests)
+use Rattle.std.proofs.lemmas.Bool.{ltb-false as at_most}
 
 -- texts that name a cell
 texts-cell : (space : Layout) (cube : List ℕ) (elements : List (List ℕ)) (c : ℕ) → cell_by_texts space cube elements ≡ Some c → IsCell space c

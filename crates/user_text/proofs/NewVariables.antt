@@ -2,7 +2,7 @@
 use Rattle.std.proofs.Common.{◌≡◌, ◌<◌, ℕ, ◌+◌, List, [], ◌∷◌, length, Bool, true, false, not, ◌||◌, Some, None, if◌then◌else◌, refl, ap, arith, replicate}
 use Rattle.std.specs.Char.{to_ascii_uppercase}
 use Rattle.std.specs.Str.{bytes_eq}
-use Rattle.std.proofs.lemmas.Bool.{false_from_ne_true}
+use Rattle.std.proofs.lemmas.Bool.{false_from_ne_true, or_from as none_of_two}
 use Rattle.std.proofs.lemmas.List.{length-map, length-replicate}
 use Rattle.std.proofs.lemmas.Slice.Eq.{bytes_eq-Decides}
 use Rattle.cube_lex.specs.Lexeme.{Lexeme}
@@ -22,10 +22,6 @@ room (param ∷ params) = length param.0 + room params
 
 other_length : (a b : List ℕ) → length a < length b → bytes_eq a b ≡ false
 other_length a b h = false_from_ne_true (bytes_eq a b) (λ e. let same : a ≡ b = (bytes_eq-Decides a b).0 e in absurd (omega (arith, h, ap length same)))
-
-none_of_two : (a b : Bool) → a ≡ false → b ≡ false → (a || b) ≡ false
-none_of_two true b e f = cc
-none_of_two false b e f = f
 
 longer_is_new : (before : List (List ℕ × ParamText)) (word : List ℕ) → room before < length word → is_set before word ≡ false
 unfolding room

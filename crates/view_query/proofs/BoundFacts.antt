@@ -3,7 +3,6 @@ use Rattle.std.proofs.Common.{◌≡◌, ◌<◌, ◌≤◌, ◌+◌, ◌==◌, 
 use Rattle.std.specs.List.{AllByRecursion, list_all, range_with_len, position_or_len}
 use Rattle.std.proofs.lemmas.Bool.{and_parts, eqb-true, ltb-true, ltb-false}
 use Rattle.std.proofs.lemmas.List.{length-map}
-use Rattle.std.proofs.lemmas.List.FromFn.{length-range_with_len, get_or-range_with_len}
 use Rattle.dim_name.specs.Name.{place_of, is_same_name}
 use Rattle.dim_core.specs.Outline.{Outline, index_of, names_of}
 use Rattle.cube_space.specs.Layout.{Layout, axes, cube_names}
@@ -18,6 +17,7 @@ use Rattle.view_query.specs.Views.{IsView, IsAxis, IsPoint, times_at, cell_count
 use Rattle.view_query.specs.Binding.{place_named, is_each_once, elements_of_set, bound_set, bound_point, within_limit, with_elements, is_counted, if_counted, bound_in, bound}
 use Rattle.view_query.proofs.LineFacts.{from_each}
 use Rattle.view_query.proofs.Meanings.{goes_on, stops}
+use Rattle.dim_weights.proofs.ByLevel.{range-within as range_low}
 
 -- what two lines mean together, each of them means
 record Both {A B : Type 0} (meant : Meaning A) (next : A → Meaning B) (b : B) : Type 0 where
@@ -67,11 +67,6 @@ position_low test xs i e = by (nat_lt (position_or_len test xs) (length xs)) ref
 
 index_low : (d : Outline) (name : List ℕ) (e : ℕ) → index_of d name ≡ Some e → e < length d.elements
 index_low d name e is = omega (arith, position_low (is_same_name name) (names_of d.elements) e is, length-map d.elements (λ x. x.name))
-
-range_low : (n : ℕ) → All (λ e. e < n) (range_with_len 0 n)
-range_low n k d low =
-    let long = length-range_with_len 0 n in
-    omega (arith, get_or-range_with_len 0 n k d (omega (arith, low, long)), low, long)
 
 set_low : (d : Outline) (listed : Option (List (List ℕ))) (elements : List ℕ) → elements_of_set d listed ≡ Ok elements → All (λ e. e < length d.elements) elements
 set_low d None elements is = subst (All (λ e. e < length d.elements)) (ok_same (range_with_len 0 (length d.elements)) elements is) (range_low (length d.elements))

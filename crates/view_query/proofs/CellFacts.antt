@@ -1,5 +1,5 @@
 -- The cell of each row and column is there.
-use Rattle.std.proofs.Common.{◌≡◌, ◌<◌, ◌+◌, ◌==◌, ℕ, zero, suc, Bool, true, false, eqb, if◌then◌else◌, List, [], ◌∷◌, map, length, Option, Some, None, inl, inr, ◌⊎◌, refl, sym, ap, ◌∙◌, subst, arith, slice_get, count_by, unwrap_or}
+use Rattle.std.proofs.Common.{◌≡◌, ◌<◌, ◌+◌, ◌==◌, ℕ, suc, Bool, true, false, eqb, if◌then◌else◌, List, [], ◌∷◌, map, length, Option, Some, None, inl, inr, ◌⊎◌, refl, sym, ap, ◌∙◌, subst, arith, slice_get, count_by, unwrap_or}
 use Rattle.std.specs.List.{AllByRecursion, range_with_len}
 use Rattle.std.specs.Option.{option_or}
 use Rattle.std.proofs.lemmas.Bool.{and_from, lt-ltb, eqb-true, cases_Bool}
@@ -14,6 +14,7 @@ use Rattle.view_query.specs.declared.shape.View.{View}
 use Rattle.view_query.specs.Views.{IsView, IsPoint, element_in, point_at, element_at, elements_at, times_at}
 use Rattle.view_query.specs.Inside.Lines.{IsLine}
 use Rattle.view_query.proofs.LineFacts.{to_each}
+pub use Rattle.std.proofs.lemmas.Option.{slice_get_within as slice_low}
 
 -- one more is counted, or not
 counted : (p : ℕ → Bool) (x : ℕ) (xs : List ℕ) (b : Bool) → p x ≡ b → count_by p (x ∷ xs) ≡ (if b then 1 else 0) + count_by p xs
@@ -71,11 +72,6 @@ digits_from (d ∷ ds) f from low =
     let same : from + 0 ≡ from = omega arith in
     and_from _ _ (lt-ltb (f from) (length d.elements) (subst (λ n. f n < length d.elements) same (low 0 d refl)))
     (digits_from ds f (from + 1) (λ k x is. let later : from + suc k ≡ from + 1 + k = omega arith in subst (λ n. f n < length x.elements) later (low (suc k) x is)))
-
-pub slice_low : {X : Type 0} (xs : List X) (k : ℕ) (x : X) → slice_get xs k ≡ Some x → k < length xs
-slice_low [] k x is = absurd (cc is)
-slice_low (y ∷ xs) zero x is = omega arith
-slice_low (y ∷ xs) (suc k) x is = let low = slice_low xs k x is in omega (arith, low)
 
 pub cell_there : (space : Layout) (view : View) (row column : List ℕ) → IsView space view → IsLine (axes space view.cube) view.rows row → IsLine (axes space view.cube) view.columns column
     → IsPlace space view.cube (elements_at space view row column)

@@ -1,10 +1,11 @@
 -- How many lines there are along axes.
-use Rattle.std.proofs.Common.{◌≡◌, ℕ, zero, suc, ◌*◌, ◌+◌, List, [], ◌∷◌, ◌++◌, length, map, refl, sym, ap, ◌∙◌, arith, length-append}
+use Rattle.std.proofs.Common.{◌≡◌, ℕ, suc, ◌*◌, ◌+◌, List, [], ◌∷◌, ◌++◌, length, map, refl, sym, ap, ◌∙◌, arith, length-append}
 use Rattle.std.specs.List.{flat_map, range_with_len}
 use Rattle.std.proofs.lemmas.List.{length-map}
 use Rattle.cube_space.specs.Radix.{product}
 use Rattle.view_query.specs.declared.shape.Axis.{Axis}
 use Rattle.view_query.specs.Views.{lines}
+pub use Rattle.cube_space.proofs.Places.{range-more as range_more}
 
 -- how many elements each axis has
 abbrev pub counts : List Axis → List ℕ
@@ -19,11 +20,6 @@ length-spread (e ∷ es) later =
 pub length-lines : (axes : List Axis) → length (lines axes) ≡ product (counts axes)
 length-lines [] = refl
 length-lines (axis ∷ axes) = length-spread axis.elements (lines axes) ∙ ap (λ n. length axis.elements * n) (length-lines axes)
-
--- one number more
-pub range_more : (a n : ℕ) → range_with_len a (suc n) ≡ range_with_len a n ++ (a + n) ∷ []
-range_more a zero = ap (λ m. m ∷ []) (let e : a ≡ a + 0 = omega arith in e)
-range_more a (suc n) = let e : a + suc n ≡ a + 1 + n = omega arith in rw e (ap (λ xs. a ∷ xs) (range_more (a + 1) n))
 
 pub range_next : (n : ℕ) → range_with_len 0 n ++ n ∷ [] ≡ range_with_len 0 (n + 1)
 range_next n =

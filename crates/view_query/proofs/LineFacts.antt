@@ -6,14 +6,11 @@ use Rattle.dim_core.specs.Outline.{Outline}
 use Rattle.view_query.specs.declared.shape.Axis.{Axis}
 use Rattle.view_query.specs.Views.{lines, IsAxis}
 use Rattle.view_query.specs.Inside.Lines.{IsElementOf, IsLine}
+use Rattle.std.proofs.lemmas.List.{nil_from_length as nothing}
 
 -- each of these elements in front of each of these lines
 abbrev pub spread : List (List ℕ) → List ℕ → List (List ℕ)
 spread later elements = flat_map (λ element. map (λ line. element ∷ line) later) elements
-
-nothing : (xs : List ℕ) → length xs ≡ 0 → xs ≡ []
-nothing [] e = refl
-nothing (x ∷ xs) e = absurd (omega arith)
 
 spread_none : (elements : List ℕ) → spread [] elements ≡ []
 spread_none [] = refl

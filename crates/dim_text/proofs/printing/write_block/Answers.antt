@@ -3,7 +3,7 @@ use Rattle.std.specs.List.{flat_map}
 use Rattle.cube_lex.specs.Written.{Spelling, Writes}
 use Rattle.dim_core.specs.Draft.{Draft}
 use Rattle.dim_core.specs.Written.{written}
-use Rattle.dim_text.proofs.Adding.{then_writes}
+use Rattle.cube_lex.proofs.Adding.{then_writes}
 use Rattle.dim_text.specs.Spelled.{head_spelled, element_spelled, attribute_spelled, spelled}
 use Rattle.dim_text.specs.Statement.{End, Close}
 use Rattle.dim_text.proofs.printing.write_block.Goals as goal

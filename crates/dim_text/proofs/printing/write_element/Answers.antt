@@ -3,7 +3,7 @@ use Rattle.cube_lex.proofs.Spaced.{spaces-both}
 use Rattle.cube_lex.specs.Written.{Spelling, Spaces}
 use Rattle.dim_core.specs.Outline.{names_of, name_of, components_of}
 use Rattle.dim_core.specs.Written.{by_name}
-use Rattle.dim_text.proofs.Adding.{writes_same, then_ends}
+use Rattle.cube_lex.proofs.Adding.{writes_same, then_ends}
 use Rattle.dim_text.proofs.PrintedParts.{consolidated_spelled}
 use Rattle.cube_lex.specs.Written.{word_token, sign_token, text_token}
 use Rattle.dim_text.specs.Spelled.{parts_spelled, spelled, defining}

@@ -1,6 +1,6 @@
 use Rattle.std.proofs.Common.{◌≡◌, ◌<ℤ◌, ◌≤ℤ◌, pos, unsigned_abs, ◌∷◌, ap, ◌∙◌, arith, rules, w64}
 use Rattle.std.proofs.lemmas.Int.{ints, to_z-of_z}
-use Rattle.dim_text.proofs.Adding.{spaces_same}
+use Rattle.cube_lex.proofs.Adding.{spaces_same}
 use Rattle.dim_text.proofs.PrintedParts.{part_negative, part_one, part_more}
 use Rattle.cube_lex.specs.Written.{sign_token}
 use Rattle.dim_text.specs.Spelled.{part_spelled}

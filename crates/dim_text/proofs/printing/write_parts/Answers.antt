@@ -4,7 +4,7 @@ use Rattle.std.specs.List.{flat_map}
 use Rattle.cube_lex.specs.Written.{Spelling, Spaces}
 use Rattle.dim_core.specs.Outline.{names_of}
 use Rattle.dim_core.specs.Written.{by_name}
-use Rattle.dim_text.proofs.Adding.{spaces_same, then_spaces}
+use Rattle.cube_lex.proofs.Adding.{spaces_same, then_spaces}
 use Rattle.dim_text.proofs.PrintedParts.{parts_split}
 use Rattle.cube_lex.specs.Written.{sign_token}
 use Rattle.dim_text.specs.Spelled.{part_spelled, next_part_spelled, parts_spelled}

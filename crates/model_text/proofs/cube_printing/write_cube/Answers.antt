@@ -1,6 +1,6 @@
 use Rattle.std.proofs.Common.{List, ◌++◌}
 use Rattle.cube_lex.specs.Written.{Spelling}
-use Rattle.dim_text.proofs.Adding.{then_ends}
+use Rattle.cube_lex.proofs.Adding.{then_ends}
 use Rattle.model_text.specs.Contents.{dimension_names}
 use Rattle.model_text.specs.Spelled.{cube_head_spelled, cube_dimensions_spelled, cube_end_spelled}
 use Rattle.model_text.proofs.cube_printing.write_cube.Goals as goal

@@ -1,6 +1,6 @@
 use Rattle.std.proofs.Common.{List, [], ◌∷◌, ◌++◌, codes}
 use Rattle.cube_lex.specs.Written.{Spelling}
-use Rattle.dim_text.proofs.Adding.{then_writes}
+use Rattle.cube_lex.proofs.Adding.{then_writes}
 use Rattle.cube_lex.specs.Written.{sign_token}
 use Rattle.model_text.specs.Spelled.{rules_spelled, order_spelled, ending_spelled}
 use Rattle.model_text.proofs.cube_printing.write_end.Goals as goal

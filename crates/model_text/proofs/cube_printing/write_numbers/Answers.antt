@@ -1,6 +1,6 @@
 use Rattle.std.proofs.Common.{◌-◌, ℕ, List, [], length, take, drop, get_or, codes, refl}
 use Rattle.std.specs.List.{flat_map}
-use Rattle.dim_text.proofs.Adding.{spaces_same, then_spaces}
+use Rattle.cube_lex.proofs.Adding.{spaces_same, then_spaces}
 use Rattle.model_text.proofs.Adding.{first_and_rest}
 use Rattle.model_text.specs.Contents.{dimension_names}
 use Rattle.model_text.specs.Spelled.{dimension_spelled, next_dimension_spelled, cube_dimensions_spelled}

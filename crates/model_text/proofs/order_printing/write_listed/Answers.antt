@@ -1,6 +1,6 @@
 use Rattle.std.proofs.Common.{[], ◌∷◌, ◌++◌, codes, subst}
 use Rattle.cube_lex.specs.Written.{Spaces}
-use Rattle.dim_text.proofs.Adding.{then_spaces}
+use Rattle.cube_lex.proofs.Adding.{then_spaces}
 use Rattle.cube_lex.specs.Written.{sign_token, text_token}
 use Rattle.model_text.specs.Spelled.{ranks_spelled}
 use Rattle.model_text.proofs.order_printing.write_listed.Goals as goal

@@ -1,5 +1,5 @@
 use Rattle.std.proofs.Common.{[], ◌∷◌, codes}
-use Rattle.dim_text.proofs.Adding.{then_spaces}
+use Rattle.cube_lex.proofs.Adding.{then_spaces}
 use Rattle.cube_lex.specs.Written.{sign_token}
 use Rattle.model_text.specs.Spelled.{rank_spelled}
 use Rattle.model_text.proofs.order_printing.write_next_rank.Goals as goal

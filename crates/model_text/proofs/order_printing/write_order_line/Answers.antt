@@ -1,5 +1,5 @@
 use Rattle.std.proofs.Common.{[], ◌∷◌, ◌++◌, codes}
-use Rattle.dim_text.proofs.Adding.{then_ends}
+use Rattle.cube_lex.proofs.Adding.{then_ends}
 use Rattle.cube_lex.specs.Written.{word_token, sign_token}
 use Rattle.model_text.specs.Spelled.{positions_spelled}
 use Rattle.model_text.proofs.order_printing.write_order_line.Goals as goal

@@ -1,7 +1,7 @@
 use Rattle.std.proofs.Common.{◌-◌, length, take, drop, get_or, refl, subst}
 use Rattle.std.specs.List.{flat_map}
 use Rattle.cube_lex.specs.Written.{Spaces}
-use Rattle.dim_text.proofs.Adding.{spaces_same, then_spaces}
+use Rattle.cube_lex.proofs.Adding.{spaces_same, then_spaces}
 use Rattle.model_text.proofs.Adding.{first_and_rest}
 use Rattle.model_text.specs.Spelled.{position_spelled, next_position_spelled, positions_spelled}
 use Rattle.model_text.proofs.order_printing.write_positions.Goals as goal

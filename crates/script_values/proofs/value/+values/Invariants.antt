@@ -1,7 +1,7 @@
 use Rattle.std.proofs.Common.{◌≡◌, ◌+◌, ◌*◌, max, map, drop}
 use Rattle.script_bound.proofs.term.Term.TheLaws.{the_size}
 use Rattle.script_values.specs.Values.{value_of, each_text}
-use Rattle.script_values.proofs.Behind.{behind}
+use Rattle.lists.proofs.Found.{behind}
 use Rattle.script_values.proofs.value.+values.Given as goal
 
 abbrev pub invariant-texts_of-each : goal.invariant-texts_of-each
