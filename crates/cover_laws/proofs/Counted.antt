@@ -5,7 +5,7 @@ use Rattle.std.specs.List.{range_with_len}
 use Rattle.std.specs.Option.{option_map_or}
 use Rattle.std.proofs.lemmas.Bool.{and_parts, eq-eqb, cond_both}
 use Rattle.std.proofs.lemmas.Bool.Decides.{Decides-eqb}
-use Rattle.std.proofs.lemmas.List.Elements.{Contains-get_or}
+use Rattle.std.proofs.lemmas.List.Elements.{Contains-get_or, Contains-append_right}
 use Rattle.std.proofs.Math.IntN.{*ℤ-zero, zero-*ℤ}
 use Rattle.dim_core.specs.Outline.{Outline, IsDimension, IsElement, components_of}
 use Rattle.dim_weights.specs.Coefficients.{coef, coef_over}
@@ -185,7 +185,7 @@ module _ (m : BoundModel) (valid : IsSpace m.space) where
       mapped : (ps : List (ℕ × ℤ)) (p : ℕ × ℤ) → Contains ps p → Contains (map (λ pair. pair.0) ps) p.0
       mapped [] p c = absurd (let low = c.1 in omega (arith, low))
       mapped (q ∷ ps) p (zero, low, at) = (0, omega arith, ap (λ (q : ℕ × ℤ). q.0) at)
-      mapped (q ∷ ps) p (suc k, low, at) = push-contains q.0 (map (λ pair. pair.0) ps) p.0 (mapped ps p (k, omega (arith, low), at))
+      mapped (q ∷ ps) p (suc k, low, at) = Contains-append_right (q.0 ∷ []) (map (λ pair. pair.0) ps) p.0 (mapped ps p (k, omega (arith, low), at))
 
       filtered : (test : ℕ → Bool) (xs : List ℕ) (x : ℕ) → Contains xs x → test x ≡ true → Contains (filter test xs) x
       filtered test [] x c h = absurd (let low = c.1 in omega (arith, low))
@@ -194,7 +194,7 @@ module _ (m : BoundModel) (valid : IsSpace m.space) where
           subst (λ (zs : List ℕ). Contains zs x) (ap (λ b. if b then y ∷ filter test xs else filter test xs) (sym (ap test same ∙ h))) (0, omega arith, same)
       filtered test (y ∷ xs) x (suc k, low, at) h =
           let rest = filtered test xs x (k, omega (arith, low), at) h in
-          cond_both (test y) (y ∷ filter test xs) (filter test xs) (λ (zs : List ℕ). Contains zs x) (λ on. push-contains y (filter test xs) x rest) (λ off. rest)
+          cond_both (test y) (y ∷ filter test xs) (filter test xs) (λ (zs : List ℕ). Contains zs x) (λ on. Contains-append_right (y ∷ []) (filter test xs) x rest) (λ off. rest)
 
       by : (b : Bool) → is_leaf_cell m.space t ≡ b → Contains (if b then t ∷ [] else map (λ pair. pair.0) (leaves_below m.space t)) x
       by true e = single x (alone t x here e s)
@@ -212,7 +212,7 @@ module _ (m : BoundModel) (valid : IsSpace m.space) where
       unmapped : (ps : List (ℕ × ℤ)) (x : ℕ) → Contains (map (λ pair. pair.0) ps) x → (p : ℕ × ℤ) × Contains ps p × (p.0 ≡ x)
       unmapped [] x c = absurd (let low = c.1 in omega (arith, low))
       unmapped (q ∷ ps) x (zero, low, at) = (q, (0, omega arith, refl), at)
-      unmapped (q ∷ ps) x (suc k, low, at) = let found = unmapped ps x (k, omega (arith, low), at) in (found.0, push-contains q ps found.0 found.1, found.2)
+      unmapped (q ∷ ps) x (suc k, low, at) = let found = unmapped ps x (k, omega (arith, low), at) in (found.0, Contains-append_right (q ∷ []) ps found.0 found.1, found.2)
 
       by : (b : Bool) → is_leaf_cell m.space t ≡ b → Contains (if b then t ∷ [] else map (λ pair. pair.0) (leaves_below m.space t)) x → StandsFor t x
       by true e c = subst (StandsFor t) (single x c) (own-stands t here e)

@@ -19,7 +19,7 @@ use Rattle.rule_model.specs.Weights.{coef_product, weight, leaf_cells, leaves_be
 use Rattle.model_laws.proofs.Below.{weight-counted, leaf_cells-are}
 use Rattle.feed_map.specs.Inside.Leaves.{candidates, candidate, leaf_at, IsChosen, AreChosen, GoesOn, GoesOnWithin, IsLeafCellOf}
 use Rattle.feed_map.proofs.Members.{none-there, at-front, behind, front-or-behind}
-use Rattle.dim_weights.proofs.Nonzero.{both-factors as product-nonzero, among-in as nonzero-has}
+use Rattle.dim_weights.proofs.Nonzero.{both-factors as product-nonzero, first-factor, second-factor, among-in as nonzero-has}
 
 -- ---- values other than 0
 
@@ -224,12 +224,12 @@ product-counts [] es ls on k d l own other = absurd (cc)
 product-counts (x ∷ ds) [] ls on k d l own other = absurd (cc)
 product-counts (x ∷ ds) (e ∷ es) [] on k d l own other = absurd (cc)
 product-counts (x ∷ ds) (e ∷ es) (y ∷ ls) on zero d l own other =
-    let parts = factors-nonzero (coef x e y) (coef_product ds es ls) on in
+    let counts = first-factor (coef x e y) (coef_product ds es ls) on in
     let a : x ≡ d = cc in
     let b : y ≡ l = cc in
-    subst (λ (z : ℕ). is_nonzero (coef d e z) ≡ true) b (subst (λ (z : Outline). is_nonzero (coef z e y) ≡ true) a parts.0)
+    subst (λ (z : ℕ). is_nonzero (coef d e z) ≡ true) b (subst (λ (z : Outline). is_nonzero (coef z e y) ≡ true) a counts)
 product-counts (x ∷ ds) (e ∷ es) (y ∷ ls) on (suc k) d l own other =
-    product-counts ds es ls (factors-nonzero (coef x e y) (coef_product ds es ls) on).1 k d l own other
+    product-counts ds es ls (second-factor (coef x e y) (coef_product ds es ls) on) k d l own other
 
 -- ---- cells
 
