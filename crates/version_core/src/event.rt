@@ -1,5 +1,5 @@
 /// One step of one user, who is named by number, from 1. A cell is named by its number too.
-#[derive(Clone, Copy, PartialEq, Eq)]
+#[derive(Clone, Copy, Debug, PartialEq, Eq)]
 pub enum Event {
     /// The user pins the newest version, and gives up an older pin and its try.
     Pin(u32),

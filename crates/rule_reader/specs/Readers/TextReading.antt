@@ -6,7 +6,8 @@ use Rattle.grammar.specs.Lists.{read_listed, read_names}
 use Rattle.grammar.specs.Tokens.{is_sign, is_word}
 use Rattle.expression_grammar.specs.Readers.Lookahead.{starts_pair, choose_pair}
 use Rattle.rule_tree.specs.Counting.{count}
-use Rattle.rule_reader.specs.Readers.Reading.{Plan, take_sign, take_word, take_name, read_in_brackets, read_bracket, read_formula}
+use Rattle.rule_reader.specs.Readers.Reading.{Plan, take_sign, take_word, take_name}
+use Rattle.rule_reader.specs.Readers.Reading.{read_in_brackets, read_bracket, read_formula}
 use Rattle.rule_tree.specs.declared.rule.BodyText.{BodyText}
 use Rattle.rule_tree.specs.declared.rule.BodyText.TheVariants as bodies
 use Rattle.rule_tree.specs.declared.rule.EntryText.{EntryText}
