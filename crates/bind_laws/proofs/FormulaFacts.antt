@@ -19,7 +19,7 @@ use Rattle.rule_laws.specs.declared.operation.Rel.TheVariants as rels
 use Rattle.rule_tree.specs.declared.tree.TreeOp.{TreeOp}
 use Rattle.rule_tree.specs.declared.tree.TreeOp.TheVariants as signs
 use Rattle.rule_tree.specs.declared.tree.Tree.{Tree, roll-Tree}
-use Rattle.rule_tree.specs.declared.tree.Tree.TheFolds.{para-roll-Tree, map-Tree, ind-Tree}
+use Rattle.rule_tree.specs.declared.tree.Tree.TheFolds.{map-Tree, ind-Tree}
 use Rattle.rule_tree.specs.declared.tree.Tree.TheOpen.{Tree-F}
 use Rattle.bind_areas.specs.Meaning.{Meaning, ◌>>=◌}
 use Rattle.bind_areas.specs.Areas.{bracket_of}
@@ -28,6 +28,7 @@ use Rattle.rule_bind.specs.declared.standing.Standing.TheVariants.{Part, Consoli
 use Rattle.rule_bind.specs.Functions.{function_of, operator_of}
 use Rattle.rule_bind.specs.References.{db_of, children_of}
 use Rattle.rule_bind.specs.Formulas.{Meanings, Meant, alone, children, unary, binary, choice, choice_call, unary_call, binary_call, children_call, call_value, operator_value, operator_truth, meanings_step, meanings, meant}
+use Rattle.rule_bind.proofs.FormulaFacts.{by_layer}
 use Rattle.bind_laws.proofs.Got.{got, answer}
 use Rattle.bind_laws.proofs.AreaFacts.{bracket_valid}
 use Rattle.bind_laws.proofs.ReferenceFacts.{db_valid, children_low}
@@ -220,12 +221,8 @@ module _ (space : Layout) (cube : ℕ) where
       truth = operator_truth_good op (meant space cube left.0) (meant space cube right.0) left.1 right.1;
     }
 
-    by_layer : (l : Tree-F Tree) → meanings space cube (roll-Tree l) ≡ meanings_step space cube (map-Tree Tree Meant (meant space cube) l)
-    unfolding meanings
-    by_layer l = para-roll-Tree Meanings (meanings_step space cube) l
-
     layer : (l : Tree-F Held) → IsSound (meanings space cube (roll-Tree (out l)))
-    layer l = subst IsSound (sym (by_layer (out l))) (step l)
+    layer l = subst IsSound (sym (by_layer space cube (out l))) (step l)
 
     pub sound : (tree : Tree) → IsSound (meanings space cube tree)
     sound = ind-Tree (λ tree. IsSound (meanings space cube tree)) (λ x l is. subst (λ z. IsSound (meanings space cube (roll-Tree z))) is (layer l))

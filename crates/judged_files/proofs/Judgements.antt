@@ -20,7 +20,7 @@ use Rattle.script_reader.specs.declared.fault.ScriptFault.{ScriptFault}
 use Rattle.script_reader.specs.declared.fault.ScriptFault.TheVariants as script_faults
 use Rattle.script_tree.specs.declared.script.Script.{Script}
 use Rattle.judged_files.proofs.ScriptTexts.{no_fault_of_script}
-use Rattle.judged_files.proofs.StageFacts.{one-deployment}
+use Rattle.deploy_laws.proofs.Deployments.{single-deployment}
 
 -- ---- user files
 
@@ -97,5 +97,5 @@ no_scripts_refused sources trees r p q = no_first_script sources trees r p q
 
 pub one_deployment_judgement : (file : List ℕ) (contents : Contents) (sources : List Source) → IsOneJudgement (deployment_judgement file contents sources)
 one_deployment_judgement file contents sources =
-    let one = one-deployment contents (rule_files sources contents.cubes) in
+    let one = single-deployment contents (rule_files sources contents.cubes) in
     record { one_thing = one.one_found; not_both = λ x r p q. one.not_both x q.fault p q.first }

@@ -1,4 +1,3 @@
-pub mod StageFacts
 pub mod ScriptTexts
 pub mod JudgeFacts
 pub mod ScriptFacts

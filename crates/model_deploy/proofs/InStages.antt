@@ -25,9 +25,9 @@ use Rattle.model_deploy.specs.Stages.{Stage, found, unless, each, ◌>>=◌, Com
 use Rattle.bind_areas.specs.declared.cause.BindCause.TheVariants.{Memory}
 use Rattle.rule_bind.specs.declared.fault.BindFault.{BindFault}
 use Rattle.rule_bind.specs.Rules.{IsBound}
-use Rattle.model_deploy.specs.Rules.{text_stage, place_of, cause_of, meant_in, meaning_stage, order_stage}
+use Rattle.model_deploy.specs.Rules.{text_stage, place_of, cause_of, meant_in, meaning_stage, order_stage, rules_stage}
 use Rattle.model_deploy.specs.Deployment.{order_refusal, feeders_refusal, feeders_stage, fed_stage, model_of, deployment}
-use Rattle.model_deploy.specs.Inside.Grouped.{rules_stage, checked, grouped}
+use Rattle.model_deploy.specs.Inside.Grouped.{checked, grouped}
 use Rattle.model_deploy.proofs.Stages.{stopped, goes-on, as-many, in-turn, behind, one-by-one}
 
 answered-stage : (T : Type 0) (refusal : Option DeployFault) (fault : DeployFault) → IsAnsweredBy {T = T} refusal (Err fault) → Comes (unless refusal) (Err fault)

@@ -22,7 +22,7 @@ use Rattle.model_deploy.specs.declared.fault.DeployFault.{DeployFault}
 use Rattle.model_deploy.specs.declared.fault.DeployCause.{DeployCause}
 use Rattle.model_deploy.specs.declared.fault.DeployCause.TheVariants as causes
 use Rattle.model_deploy.specs.Foundation.{refused_on}
-use Rattle.model_deploy.specs.Stages.{Stage, found, meant}
+use Rattle.model_deploy.specs.Stages.{Stage, found, meant, each, ◌>>=◌}
 
 -- the name of a cube's rule file
 abbrev pub file_name : List (Option RuleFile) → ℕ → Option (List ℕ)
@@ -97,3 +97,11 @@ by_line space cube rules (Some line) = meant (in_order rules line.0 (order_of sp
 
 abbrev pub order_stage : Layout → List (Option (ℕ × OrderLine)) → ℕ → CubeRules → Stage CubeRules
 order_stage space lines cube rules = by_line space cube rules (slice_index_or lines cube None)
+
+-- the rules of each cube: all texts are read, then all are bound, and then all order lines
+unfoldable pub rules_stage
+    : Layout → List (Option (ℕ × OrderLine)) → List (Option RuleFile) → Stage (List CubeRules)
+rules_stage space lines files = do
+  texts ← each (λ _. text_stage) 0 files
+  meant ← each (meaning_stage space files) 0 texts
+  each (order_stage space lines) 0 meant

@@ -5,7 +5,7 @@ ghost use Rattle.rule_model.specs.Order.{greatest_height, position_sizes};
 ghost use Rattle.rule_model.specs.Weights.{AreWeightsOf};
 ghost use Rattle.model_deploy.specs.Stages.{Comes};
 ghost use Rattle.model_deploy.specs.Deployment.{deployment};
-ghost use Rattle.model_deploy.specs.Inside.Grouped.{rules_stage};
+ghost use Rattle.model_deploy.specs.Rules.{rules_stage};
 
 use crate::binding::meanings_of;
 use crate::checks::{check_covered, check_fed, check_ordered};
@@ -46,9 +46,12 @@ pub fn deploy(
     Ok(Accepted::new(model))
 }
 
-// The rules of each cube with its order.
-#[tactic(auto, unfolding(crate::specs::Inside::Grouped::rules_stage))]
-fn rules_of(
+/// The rules of each cube with its order, over what the model stands on; the file of each cube, None for one without
+/// rules. Whether what formulas read stands before their cells, and what feeders cover, isn't looked at here.
+///
+/// The first refusal is told: all rule texts are read, then all are bound, and then all order lines.
+#[tactic(auto, unfolding(crate::specs::Rules::rules_stage))]
+pub fn rules_of(
     alloc: Global,
     found: &Foundation,
     files: &[Option<RuleFile>],

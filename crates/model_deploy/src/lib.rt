@@ -1,7 +1,8 @@
 //! From a model text and the files of its cubes' rules to an accepted model, or to the first refusal.
 //!
 //! Read in this order: [`deploy`], which makes the model; [`RuleFile`], what it is given beside the text;
-//! [`DeployFault`], why it refuses. `specs/Deployment.antt` has the checks in their order, `specs/Rules.antt` those of
+//! [`DeployFault`], why it refuses; [`foundation_of`] and [`rules_of`], the parts of it that make a model which no check
+//! of the whole model has seen. `specs/Deployment.antt` has the checks in their order, `specs/Rules.antt` those of
 //! rules, and `specs/Foundation.antt` those of dimensions and cubes.
 #![tactic(auto)]
 
@@ -17,7 +18,7 @@ mod ordering;
 mod products;
 mod texts;
 
-pub use deploying::deploy;
+pub use deploying::{deploy, rules_of};
 pub use fault::{At, DeployCause, DeployFault};
 pub use file::{RuleFile, no_rule_files};
 pub use foundation::{Foundation, foundation_of};

@@ -3,3 +3,4 @@ pub mod Ranks
 pub mod Levels
 pub mod Below
 pub mod Formed
+pub mod Placed

@@ -25,7 +25,7 @@ use Rattle.rule_bind.specs.Functions.{function_of, operator_of}
 use Rattle.rule_bind.specs.Formulas.{Meanings, Meant, meanings, meanings_step, meant, value_of, truth_of, call_value, binary, operator_value, operator_truth}
 
 module _ (space : Layout) (cube : ℕ) where
-  by_layer : (layer : Tree-F Tree) → meanings space cube (roll-Tree layer) ≡ meanings_step space cube (map-Tree Tree Meant (meant space cube) layer)
+  pub by_layer : (layer : Tree-F Tree) → meanings space cube (roll-Tree layer) ≡ meanings_step space cube (map-Tree Tree Meant (meant space cube) layer)
   unfolding meanings
   by_layer layer = para-roll-Tree Meanings (meanings_step space cube) layer
 

@@ -3,31 +3,16 @@ use crate::files::Files;
 use crate::kind::Kind;
 use crate::models::{counts_of, model_of};
 use crate::refusal::Refusal;
-use case_lines::{Texts, write_answer};
+use case_lines::Texts;
 use std::alloc::{AllocError, Global};
 
-/// The cases with their answers.
-pub fn answered(alloc: Global, cases: &str) -> Result<Vec<u8>, AllocError> {
-    let mut texts = Texts::new(alloc);
-    let mut written = Vec::new(alloc);
-    for case in cases.trim_end_matches('\n').split("\n\n") {
-        let case = case.trim_matches('\n');
-        written.extend_from_slice(case.as_bytes())?;
-        written.push(b'\n')?;
-        if let Some(answer) = answer_to(alloc, &mut texts, case)? {
-            write_answer(&mut written, answer.as_bytes())?;
-        }
-        written.push(b'\n')?;
-    }
-    Ok(written)
-}
-
-// The answer to a case, where it has one. The text of a case `text: NAME` gets that name.
-fn answer_to(alloc: Global, texts: &mut Texts, case: &str) -> Result<Option<String>, AllocError> {
-    if case.starts_with('#') {
-        return Ok(None);
-    }
-    let (heading, lines) = case.split_once('\n').unwrap_or((case, ""));
+/// The answer to a case, where it has one. The text of a case `text: NAME` gets that name.
+pub fn answer_to(
+    alloc: Global,
+    texts: &mut Texts,
+    heading: &str,
+    lines: &str,
+) -> Result<Option<String>, AllocError> {
     if let Some(name) = heading.strip_prefix("text: ") {
         let Some(text) = texts.text_of(alloc, lines)? else {
             return unread(alloc);
@@ -51,8 +36,8 @@ fn unread(alloc: Global) -> Result<Option<String>, AllocError> {
 
 // What is told of the rules of these files, and then of each command.
 fn answer_of(alloc: Global, files: &Files, kind: Kind) -> Result<String, Refusal> {
-    let accepted = model_of(alloc, files)?;
-    let mut told = counts_of(alloc, accepted.model())?;
-    answer_commands(alloc, accepted.model(), files.file("user"), kind, &mut told)?;
+    let model = model_of(alloc, files)?;
+    let mut told = counts_of(alloc, &model)?;
+    answer_commands(alloc, &model, files.file("user"), kind, &mut told)?;
     Ok(told)
 }

@@ -1,27 +1,47 @@
 ghost use Rattle.std.specs.Prelude.{◌≡◌, length, IfOk};
+ghost use Rattle.rule_laws.specs.OrderByPlace.{IsOrderedByPlace};
+ghost use Rattle.rule_model.specs.System.{system_of, positions_of};
 ghost use Rattle.rule_dense.specs.Limits.{IsLow};
 
 use crate::files::Files;
 use crate::refusal::Refusal;
-use accepted::Accepted;
+use check_order::check_order;
 use lists::ListOf;
-use model_deploy::{At, DeployCause, DeployFault, RuleFile, deploy};
+use model_deploy::{At, DeployCause, DeployFault, Foundation, RuleFile, foundation_of, rules_of};
 use rule_core::Model;
 use std::alloc::{AllocError, Global};
 
-/// The model of these files; where it isn't accepted the first refusal, as `refused rules 2: statement 1: NotFed(1)`.
-pub fn model_of(alloc: Global, files: &Files) -> Result<Accepted, Refusal>
+/// The model of these files, whose order was checked. Feeders weren't, so that plain evaluation and what is fed are
+/// told of models too that deployment refuses. Where there is none the first refusal, as `refused model: line 3:
+/// Syntax`.
+pub fn model_of(alloc: Global, files: &Files) -> Result<Model, Refusal>
+    ensures ordered { IfOk result (λ model. IsOrderedByPlace (system_of model) (positions_of model)) }
     ensures low { IfOk result (λ model. IsLow model) }
 {
+    let model = unordered(alloc, files)?;
+    match check_order(&model) {
+        Ok(()) => Ok(model),
+        Err(fault) => Err(Refusal::of(alloc, &fault)),
+    }
+}
+
+// The model of these files, of which no check has seen the whole.
+fn unordered(alloc: Global, files: &Files) -> Result<Model, Refusal> {
     let text = match model_text::read(alloc, files.file("model")) {
         Ok(text) => text,
         Err(fault) => return Err(Refusal::of(alloc, &fault)),
     };
-    let rules = rule_files(alloc, files, text.cubes().len())?;
-    match deploy(alloc, text, rules) {
-        Ok(model) => Ok(model),
-        Err(fault) => Err(told(alloc, fault)),
-    }
+    let found = match foundation_of(alloc, text) {
+        Ok(found) => found,
+        Err(fault) => return Err(told(alloc, fault)),
+    };
+    let rules = rule_files(alloc, files, found.space.cubes() as usize)?;
+    let bound = match rules_of(alloc, &found, &rules) {
+        Ok(bound) => bound,
+        Err(fault) => return Err(told(alloc, fault)),
+    };
+    let Foundation { space, weights, .. } = found;
+    Ok(Model::of(space, weights, bound.into_vec())?)
 }
 
 fn rule_files(alloc: Global, files: &Files, cubes: usize) -> Result<Vec<Option<RuleFile>>, Refusal>

@@ -5,7 +5,6 @@ use Rattle.std.specs.List.{range_with_len, filter_map}
 use Rattle.std.specs.Option.{option_map, option_map_or}
 use Rattle.std.proofs.lemmas.List.{take_more}
 use Rattle.std.proofs.lemmas.List.Elements.{filter_map-append}
-use Rattle.std.proofs.lemmas.Bool.{ne_eqb}
 use Rattle.cube_fixed.specs.declared.value.Value.{Value}
 use Rattle.cube_fixed.specs.Total.{Total, no_terms, with_term}
 use Rattle.cube_space.specs.Layout.{Layout, sizes}
@@ -13,6 +12,7 @@ use Rattle.cube_space.specs.Cells.{IsCell, size_of, cube_of, elements_of, first_
 use Rattle.cube_space.proofs.Places.{cell-place, run_within}
 use Rattle.cube_space.proofs.Radix.{number-below}
 use Rattle.dim_weights.specs.Table.{is_nonzero, nonzero_among}
+use Rattle.model_laws.proofs.Placed.{weight-other}
 use Rattle.model_laws.proofs.Statements.{range-split}
 use Rattle.rule_laws.proofs.SystemFacts.{add_pair}
 use Rattle.rule_model.specs.Weights.{weight, leaf_cells, leaves_below}
@@ -38,11 +38,6 @@ module _ (space : Layout) (table : ℕ → Value) (cell : ℕ) where
       by true true leaf some later = rw (leaf, some) (later (with_term total (weight space cell x) (table x)))
       by true false leaf none later = rw (leaf, none) (later total)
       by false some other any later = rw other (later total)
-
-  -- a cell of another cube has the weight 0
-  apart : (x : ℕ) → (cube_of space cell ≡ cube_of space x → ⊥) → weight space cell x ≡ pos 0
-  unfolding weight
-  apart x other = let e = ne_eqb (cube_of space cell) (cube_of space x) other in rw e refl
 
   pub added-none : (total : Total) (x : ℕ) → weight space cell x ≡ pos 0 → with_leaf space table cell total x ≡ total
   unfolding with_leaf
@@ -89,10 +84,10 @@ module _ (space : Layout) (table : ℕ → Value) (cell : ℕ) where
         ap (range_with_len 0) whole ∙ range-split 0 first (count + rest) ∙ ap (λ (k : ℕ). range_with_len 0 first ++ range_with_len k (count + rest)) (let e : 0 + first ≡ first = omega arith in e)
         ∙ ap (λ (xs : List ℕ). range_with_len 0 first ++ xs) (range-split first count rest) in
         let before : with_leaves no_terms (range_with_len 0 first) ≡ no_terms =
-        nothing-added no_terms 0 first (λ x from less. apart x (λ same. (let run = in_run x (omega (arith, less, within)) same in omega (arith, run.0, less)))) in
+        nothing-added no_terms 0 first (λ x from less. weight-other space cell x (λ same. (let run = in_run x (omega (arith, less, within)) same in omega (arith, run.0, less)))) in
         let own = with_leaves no_terms (range_with_len first count) in
         let after : with_leaves own (range_with_len (first + count) rest) ≡ own =
-        nothing-added own (first + count) rest (λ x from less. apart x (λ same. (let run = in_run x (omega (arith, less, whole)) same in omega (arith, run.1, from)))) in
+        nothing-added own (first + count) rest (λ x from less. weight-other space cell x (λ same. (let run = in_run x (omega (arith, less, whole)) same in omega (arith, run.1, from)))) in
         with_leaves-are no_terms (range_with_len 0 (size_of space))
         ∙ ap (with_leaves no_terms) split
         ∙ fold-append (with_leaf space table cell) no_terms (range_with_len 0 first) (range_with_len first count ++ range_with_len (first + count) rest)

@@ -1,36 +1,26 @@
 use crate::memory::MemoryCells;
 use crate::scene::Scene;
-use case_lines::{Answers, write_answer};
+use case_lines::write_answer;
 use cube_fixed::{Value, print};
 use lists::ListOf;
 use script_parse::parse;
 use script_run::{Ran, Script, run};
 use std::alloc::{AllocError, Global};
 
-/// Answers a case of a load script.
-pub struct ScriptCases;
-
-impl Answers for ScriptCases {
-    fn answer(
-        &self,
-        alloc: Global,
-        _heading: &str,
-        lines: &str,
-        out: &mut Vec<u8>,
-    ) -> Result<(), AllocError> {
-        let mut scene = Scene::new(alloc);
-        for line in lines.lines() {
-            if !scene.add(alloc, line)? {
-                return write_answer(out, b"a line of this case says nothing");
-            }
+/// Writes the answer to a case of these lines.
+pub fn answer_load(alloc: Global, lines: &str, out: &mut Vec<u8>) -> Result<(), AllocError> {
+    let mut scene = Scene::new(alloc);
+    for line in lines.lines() {
+        if !scene.add(alloc, line)? {
+            return write_answer(out, b"a line of this case says nothing");
         }
-        answer_scene(alloc, scene, out)
     }
+    answer_scene(alloc, scene, out)
 }
 
 fn answer_scene(alloc: Global, scene: Scene, out: &mut Vec<u8>) -> Result<(), AllocError> {
     match parse(alloc, &scene.script) {
-        Ok(script) => answer_load(alloc, &script, scene, out),
+        Ok(script) => answer_script(alloc, &script, scene, out),
         Err(fault) => {
             let line = format!(in alloc; "{fault:?}")?;
             write_answer(out, line.as_bytes())
@@ -38,7 +28,7 @@ fn answer_scene(alloc: Global, scene: Scene, out: &mut Vec<u8>) -> Result<(), Al
     }
 }
 
-fn answer_load(
+fn answer_script(
     alloc: Global,
     script: &Script,
     scene: Scene,

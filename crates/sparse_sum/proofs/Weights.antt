@@ -2,7 +2,7 @@
 use Rattle.std.proofs.Common.{◌≡◌, ◌≢◌, ◌∙◌, refl, sym, ap, subst, arith, ℕ, ◌+◌, ◌*◌, ◌%◌, ◌<◌, ◌≤◌, suc, inl, inr, true, eqb, nat_lt, ℤ, pos, ◌*ℤ◌, List, [], ◌∷◌, length}
 use Rattle.std.specs.List.{All}
 use Rattle.std.proofs.Math.IntN.{*ℤ-zero, zero-*ℤ}
-use Rattle.std.proofs.lemmas.Bool.{and_parts, ltb-true, eq-eqb, ne_eqb, cases_lt}
+use Rattle.std.proofs.lemmas.Bool.{and_parts, ltb-true, eq-eqb, cases_lt}
 use Rattle.std.proofs.lemmas.List.Elements.{All-head, All-tail}
 use Rattle.std.proofs.lemmas.Nat.{div-mul-add, mod-mul-add}
 use Rattle.dim_core.specs.Outline.{Outline, IsDimension, IsElement, components_of}
@@ -17,6 +17,7 @@ use Rattle.cube_space.proofs.Places.{cell-place, first_cell-next, first_cell-lea
 use Rattle.rule_model.specs.Weights.{coef_product, weight}
 use Rattle.model_laws.proofs.Below.{weight-counted}
 use Rattle.model_laws.proofs.Levels.{axes-are}
+use Rattle.model_laws.proofs.Placed.{weight-other}
 use Rattle.sparse_sum.specs.Inside.Numbers.{weight_at}
 
 -- by the digits of the number
@@ -55,10 +56,6 @@ module _ (space : Layout) (cell : ℕ) where
         ]
       ]
 
-  weight-other : (x : ℕ) → (cube_of space cell ≡ cube_of space x → ⊥) → weight space cell x ≡ pos 0
-  unfolding weight
-  weight-other x apart = let e = ne_eqb (cube_of space cell) (cube_of space x) apart in rw e refl
-
   weight-own : (x : ℕ) → cube_of space cell ≡ cube_of space x → weight space cell x ≡ coef_product (axes space (cube_of space cell)) (elements_of space cell) (elements_of space x)
   unfolding weight
   weight-own x same = let e = eq-eqb (cube_of space cell) (cube_of space x) same in rw e refl
@@ -66,7 +63,7 @@ module _ (space : Layout) (cell : ℕ) where
   module _ (cube : ℕ) (own : cube ≡ cube_of space cell) where
     -- no cell outside the cube counts
     pub weight-outside : (x : ℕ) → IsCell space x → (first_cell space cube ≤ x → x < first_cell space cube + cell_count space cube → ⊥) → weight space cell x ≡ pos 0
-    weight-outside x here out = weight-other x (λ same. (
+    weight-outside x here out = weight-other space cell x (λ same. (
         let run = in-run x here in
         let e : cube_of space x ≡ cube = sym same ∙ sym own in
         let InRun : ℕ → Type 0 = λ (k : ℕ). (first_cell space k ≤ x) × (x < first_cell space k + cell_count space k) in

@@ -1,24 +1,13 @@
 -- The checks that one function makes.
-use Rattle.std.specs.Prelude.{ℕ, List, Option, option_map}
-use Rattle.cube_space.specs.Layout.{Layout}
+use Rattle.std.specs.Prelude.{List, Option, option_map}
 use Rattle.model_text.specs.Contents.{Contents}
-use Rattle.model_text.specs.declared.order.OrderLine.{OrderLine}
 use Rattle.check_order.specs.Verdict.{order_fault}
 use Rattle.rule_model.specs.BoundModel.{BoundModel}
-use Rattle.rule_model.specs.declared.rules.CubeRules.{CubeRules}
 use Rattle.model_deploy.specs.declared.file.RuleFile.{RuleFile}
 use Rattle.model_deploy.specs.Foundation.{layout_of, order_lines, foundation_refusal}
-use Rattle.model_deploy.specs.Rules.{text_stage, meaning_stage, order_stage}
-use Rattle.model_deploy.specs.Stages.{Stage, found, unless, each, ◌>>=◌}
+use Rattle.model_deploy.specs.Rules.{rules_stage}
+use Rattle.model_deploy.specs.Stages.{Stage, found, unless, ◌>>=◌}
 use Rattle.model_deploy.specs.Deployment.{order_refusal, feeders_stage, fed_stage, model_of}
-
--- the rules of each cube: all texts are read, then all are bound, and then all order lines
-unfoldable pub rules_stage
-    : Layout → List (Option (ℕ × OrderLine)) → List (Option RuleFile) → Stage (List CubeRules)
-rules_stage space lines files = do
-  texts ← each (λ _. text_stage) 0 files
-  meant ← each (meaning_stage space files) 0 texts
-  each (order_stage space lines) 0 meant
 
 -- a bound model that passes the checks of the whole model
 abbrev pub checked : List (Option RuleFile) → BoundModel → Stage BoundModel

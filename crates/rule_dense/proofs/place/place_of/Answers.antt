@@ -1,6 +1,6 @@
 use Rattle.std.proofs.Common.{sym, subst, ℕ, ◌<◌, length}
 use Rattle.cube_space.proofs.Places.{cell-place}
-use Rattle.rule_dense.proofs.Places.{placed}
+use Rattle.model_laws.proofs.Placed.{placed}
 use Rattle.rule_dense.proofs.place.place_of.Goals as goal
 
 pub shape-requires : goal.shape-requires

@@ -1,13 +1,20 @@
 -- The search in the cube of the cell.
-use Rattle.std.proofs.Common.{rules, ◌∙◌, arith, ◌<◌, ◌≤◌, ◌+◌, unsigned_abs}
-use Rattle.cube_space.specs.Cells.{size_of}
+use Rattle.std.proofs.Common.{rules, ◌∙◌, arith, ◌<◌, ◌≤◌, ◌+◌, map, unsigned_abs}
+use Rattle.cube_space.specs.Radix.{product}
+use Rattle.cube_space.specs.Layout.{axes_of}
+use Rattle.cube_space.specs.Cells.{size_of, cube_of}
+use Rattle.rule_model.specs.Weights.{greatest_coef, weight_product}
 use Rattle.sparse_sum.specs.Inside.First.{IsFirst}
-use Rattle.sparse_sum.proofs.Placed.{IsPlaced, cube-there, placed, none-in, none-past, first-of, cells-of, run-within, word-is}
+use Rattle.model_laws.proofs.Placed.{IsPlaced, placed}
+use Rattle.sparse_sum.proofs.Placed.{cube-there, small-of, none-in, none-past, first-of, cells-of, run-within, word-is}
 use Rattle.sparse_sum.proofs.candidates.leaf_from.Goals.{After-as_slice-dims}
 use Rattle.sparse_sum.proofs.candidates.leaf_from.Goals as goal
 
 here : (c : After-as_slice-dims) → IsPlaced c.args.space.now c.args.cell c.place-cube.result c.as_slice-dims.result.now c.place-cube.new.at
 here c = placed c.args.space.now c.args.cell c.place-cube.result c.shape.result.now c.as_slice-dims.result.now c.place-cube.new.at _ c.size-cells.ensures.valid c.requires.cell c.place-cube.ensures.cube c.shape.ensures c.as_slice-dims.ensures c.place-cube.ensures.elements
+
+small : (c : After-as_slice-dims) → product (map greatest_coef (axes_of c.args.space.now.dimensions c.as_slice-dims.result.now)) ≤ weight_product c.args.space.now (cube_of c.args.space.now c.args.cell)
+small c = small-of c.args.space.now c.args.cell c.place-cube.result c.as_slice-dims.result.now c.place-cube.new.at (here c)
 
 pub first-first-requires : goal.first-first-requires
 first-first-requires c = cube-there c.args.space.now c.args.cell c.place-cube.result c.requires.cell c.place-cube.ensures.cube
@@ -32,15 +39,15 @@ slice_bounds-first_leaf-end c =
     p.long
 
 pub first_leaf-requires-clause-dims : goal.first_leaf-requires-clause-dims
-first_leaf-requires-clause-dims c = (here (goal.at.first_leaf-requires-clause-dims c).After-as_slice-dims).within
+first_leaf-requires-clause-dims c = (here (goal.at.first_leaf-requires-clause-dims c).After-as_slice-dims).in_range
 
 pub first_leaf-requires-clause-at : goal.first_leaf-requires-clause-at
 first_leaf-requires-clause-at c = (here (goal.at.first_leaf-requires-clause-at c).After-as_slice-dims).digits
 
 pub first_leaf-requires-clause-small : goal.first_leaf-requires-clause-small
 first_leaf-requires-clause-small c =
-    let p = here (goal.at.first_leaf-requires-clause-small c).After-as_slice-dims in
-    omega (arith, p.small, c.requires.product)
+    let least = small (goal.at.first_leaf-requires-clause-small c).After-as_slice-dims in
+    omega (arith, least, c.requires.product)
 
 pub first_leaf-requires-clause-cells : goal.first_leaf-requires-clause-cells
 first_leaf-requires-clause-cells c =
@@ -60,16 +67,17 @@ overflow_add-result c =
 pub returns-in-Some-clause-first : goal.returns-in-Some-clause-first
 returns-in-Some-clause-first c =
     let p = here (goal.at.returns-in-Some-clause-first c).After-as_slice-dims in
-    let small = c.in-Some.ensures.size in
-    let word = word-is c.in-Some.weight (omega (arith, small, p.small, c.requires.product)) in
+    let least = small (goal.at.returns-in-Some-clause-first c).After-as_slice-dims in
+    let size = c.in-Some.ensures.size in
+    let word = word-is c.in-Some.weight (omega (arith, size, least, c.requires.product)) in
     rw word (first-of c.args.space.now c.args.cell c.place-cube.result c.requires.cell c.place-cube.ensures.cube c.first-first.result c.cells-cells.result c.args.from c.saturating_sub-begin.result
     c.first-first.ensures c.cells-cells.ensures c.saturating_sub-begin.ensures c.as_slice-dims.result.now c.place-cube.new.at p (c.in-Some.number, c.in-Some.weight) c.in-Some.ensures.first)
 
 pub returns-in-Some-clause-size : goal.returns-in-Some-clause-size
 returns-in-Some-clause-size c =
-    let p = here (goal.at.returns-in-Some-clause-size c).After-as_slice-dims in
-    let small = c.in-Some.ensures.size in
-    let most : unsigned_abs c.in-Some.weight ≤ 1000000000 = omega (arith, small, p.small, c.requires.product) in
+    let least = small (goal.at.returns-in-Some-clause-size c).After-as_slice-dims in
+    let size = c.in-Some.ensures.size in
+    let most : unsigned_abs c.in-Some.weight ≤ 1000000000 = omega (arith, size, least, c.requires.product) in
     let word = word-is c.in-Some.weight most in
     rw word most
 

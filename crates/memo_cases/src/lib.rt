@@ -1,6 +1,5 @@
-//! Two readers at a memo of one slot, over a model whose text is read from stdin: each looks for the value of a leaf
-//! cell and keeps it, and finds what the other kept; the slot is then for that cell alone. Last they look and keep in
-//! two threads at once.
+//! Cases of two readers at a memo of one slot: each looks for the value of a leaf cell and keeps it, and finds what the
+//! other kept; the slot is then for that cell alone. Last they look and keep in two threads at once.
 #![tactic(auto)]
 
 mod leaf;
@@ -13,23 +12,26 @@ use cube_fixed::Money;
 use model_deploy::{deploy, no_rule_files};
 use rule_model::Model;
 use std::alloc::{AllocError, Global};
-use std::io;
-use std::io::Write;
 use std::thread::Threads;
 
 // What is stored in the two cells, in millionths.
 const NUMBER: i64 = 25_000_000;
 
-fn main(rt: HostRuntime) -> io::Result<()> {
-    let text = io::read_to_string(rt.alloc(), rt.reader())?;
-    let mut out = String::new(rt.alloc());
-    if let Ok(text) = model_text::read(rt.alloc(), text.as_bytes())
-        && let Ok(rules) = no_rule_files(rt.alloc(), text.cubes().len())
-        && let Ok(accepted) = deploy(rt.alloc(), text, rules)
+/// What the readers of a case find, a line each. `model` is a model text without rules; nothing is told of one that is
+/// refused.
+pub fn readings<R: Threads + Sync>(
+    rt: &R,
+    alloc: Global,
+    model: &[u8],
+) -> Result<String, AllocError> {
+    let mut out = String::new(alloc);
+    if let Ok(text) = model_text::read(alloc, model)
+        && let Ok(rules) = no_rule_files(alloc, text.cubes().len())
+        && let Ok(accepted) = deploy(alloc, text, rules)
     {
-        read_over(&rt, rt.alloc(), accepted.model(), &mut out)?;
+        read_over(rt, alloc, accepted.model(), &mut out)?;
     }
-    io::writer(&rt).write_all(out.as_bytes())
+    Ok(out)
 }
 
 // The readers over this model and two stored numbers.

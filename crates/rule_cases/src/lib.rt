@@ -1,8 +1,7 @@
 //! Cases of what evaluation asks and what feeders feed, which no view shows. What rules give and why a model is refused
-//! are cases of whole runs, in `run_cases`. `stdin` holds the cases and `stdout` what must come; a case costs its run
-//! alone, and no proof.
+//! are cases of whole runs, in `run_cases`.
 //!
-//! A case is a heading, its files, and an empty line:
+//! A case is a heading and its files:
 //!
 //! ```text
 //! fed: a feeder to a total             KIND: TITLE
@@ -15,10 +14,10 @@
 //! ```
 //!
 //! Lines of a file are those of [`case_lines::spell`]. A case `text: NAME` gives its lines a name, for later cases.
-//! Lines that begin with `#` head a section.
 //!
-//! The program writes each case again, and behind it the answer, each line of it behind `> `: why the model is refused,
-//! or how many statements and feeders it has, and then for each command whether its number is stored, or the value.
+//! What is told of a case is why the model is refused, or how many statements and feeders it has, and then for each
+//! command whether its number is stored, or the value. The order of the rules is checked and what feeders cover isn't,
+//! so that a model without feeders has cases too.
 //!
 //! - In a case `course: TITLE` each value has behind it how it comes: by which statements, which cell a single
 //!   reference names, and what an evaluation asks that begins again with each answer.
@@ -37,12 +36,4 @@ mod models;
 mod refusal;
 mod values;
 
-use crate::cases::answered;
-use std::io;
-use std::io::Write;
-
-fn main(rt: HostRuntime) -> io::Result<()> {
-    let cases = io::read_to_string(rt.alloc(), rt.reader())?;
-    let answers = answered(rt.alloc(), &cases)?;
-    io::writer(&rt).write_all(&answers)
-}
+pub use cases::answer_to;

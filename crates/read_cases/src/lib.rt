@@ -1,10 +1,9 @@
 //! Cases of reading: a snapshot, another one that shares what it keeps, and plain evaluation of all cells give each
-//! cell the same value. `stdin` holds the cases and `stdout` what must come; a case costs its run alone, and no proof.
+//! cell the same value.
 //!
-//! A case is a heading, its files, and an empty line:
+//! The lines of a case are its files:
 //!
 //! ```text
-//! read: a product of two cells                       read: TITLE
 //! file model                                         the model text, of the lines that follow
 //! |MODEL 1;                                          a line, as those of [`case_lines::spell`] are
 //! file rules                                         the rules of the first cube; `file rules 2` the others'
@@ -13,10 +12,9 @@
 //! |GET 'Plan' ('Actual', 'Q1', 'Sales');
 //! ```
 //!
-//! The program writes each case again, and behind it the answer, each line of it behind `> `: for each command whether
-//! its number is stored, or the value that the snapshot reads; and last how many cells there are, where every way of
-//! reading gives each of them the same value, or else the first cell that is read otherwise. Lines that begin with `#`
-//! head a section.
+//! What is told of a case is for each command whether its number is stored, or the value that the snapshot reads; and
+//! last how many cells there are, where every way of reading gives each of them the same value, or else the first cell
+//! that is read otherwise.
 #![tactic(auto)]
 
 mod compared;
@@ -24,36 +22,19 @@ mod models;
 
 use crate::compared::compared;
 use crate::models::{file, snapshot_of};
-use case_lines::write_answer;
 use cell_reader::Snapshot;
 use cube_fixed::print;
 use rule_model::{cell_of, is_input};
 use std::alloc::{AllocError, Global};
-use std::io;
-use std::io::Write;
 use user_text::UserBody;
 
-fn main(rt: HostRuntime) -> io::Result<()> {
-    let cases = io::read_to_string(rt.alloc(), rt.reader())?;
-    let mut written = Vec::new(rt.alloc());
-    for case in cases.trim_end_matches('\n').split("\n\n") {
-        written.extend_from_slice(case.as_bytes())?;
-        written.push(b'\n')?;
-        if !case.starts_with('#') {
-            write_answer(&mut written, &answer_to(rt.alloc(), case)?)?;
-        }
-        written.push(b'\n')?;
-    }
-    io::writer(&rt).write_all(&written)
-}
-
-// What is told of the commands of a case, and of reading all cells after them.
-fn answer_to(alloc: Global, case: &str) -> Result<Vec<u8>, AllocError> {
-    let Some(mut snapshot) = snapshot_of(alloc, case)? else {
+/// What is told of the commands of a case, and of reading all cells after them.
+pub fn readings(alloc: Global, lines: &str) -> Result<Vec<u8>, AllocError> {
+    let Some(mut snapshot) = snapshot_of(alloc, lines)? else {
         return Vec::from_slice(alloc, b"the model is refused");
     };
     let mut told = Vec::new(alloc);
-    let Ok(commands) = user_text::parse(alloc, &file(alloc, case, "user")?, 0) else {
+    let Ok(commands) = user_text::parse(alloc, &file(alloc, lines, "user")?, 0) else {
         return Vec::from_slice(alloc, b"the commands are refused");
     };
     for command in &commands {

@@ -1,0 +1,27 @@
+//! Cases of users on threads, over a world of one total. The lines of a case are its users'.
+//!
+//! In a user's line a number is added, where it is at most 100, and `?` asks for the total. What is told of a case is
+//! how it ended, which no order of the users changes.
+#![tactic(auto)]
+
+mod adding;
+mod cases;
+mod restless;
+
+use crate::adding::Adding;
+use crate::cases::{ending, users_of};
+use crate::restless::Restless;
+use std::alloc::{AllocError, Global};
+use std::sync::Wait;
+use std::thread::Threads;
+
+/// How the users of a case ended, who have a line each.
+pub fn ending_of<R: Threads + Wait + Sync>(
+    rt: &R,
+    alloc: Global,
+    users: &str,
+) -> Result<String, AllocError> {
+    let users = users_of(alloc, users)?;
+    let served = sessions::serve::<Adding, _, _>(rt, alloc, &Restless, 0, users)?;
+    ending(alloc, &served)
+}
