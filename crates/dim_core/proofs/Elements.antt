@@ -1,5 +1,5 @@
 -- Elements made of names and lists of components, place by place.
-use Rattle.std.proofs.Common.{◌≡◌, ℕ, ◌+◌, ◌<◌, ◌≤◌, ℤ, List, [], ◌∷◌, ◌++◌, length, refl, ap, sym, ◌∙◌, arith, sum_by, nat_lt, ◌||◌, ◌-◌, Bool, true}
+use Rattle.std.proofs.Common.{◌≡◌, ℕ, ◌+◌, ◌≤◌, ℤ, List, [], ◌∷◌, ◌++◌, length, refl, ap, sym, ◌∙◌, arith, sum_by, nat_lt, ◌||◌, ◌-◌, Bool, true}
 use Rattle.std.proofs.lemmas.Bool.Decides.{nat_tests}
 use Rattle.dim_name.specs.Name.{has_name}
 use Rattle.dim_core.specs.declared.attribute.NamedAttribute.{NamedAttribute}

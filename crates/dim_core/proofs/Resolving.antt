@@ -1,5 +1,5 @@
 -- Components by name and by index.
-use Rattle.std.proofs.Common.{◌≡◌, ℕ, zero, suc, ◌<◌, ℤ, List, [], ◌∷◌, length, get_or, refl, ap, sym, ◌∙◌, arith, subst, true, ◌&&◌, nat_le, None, not, position, IsTrue, All, sum_by, unsigned_abs, map}
+use Rattle.std.proofs.Common.{◌≡◌, ℕ, zero, suc, ◌<◌, ℤ, List, [], ◌∷◌, length, get_or, refl, ap, sym, ◌∙◌, arith, subst, true, nat_le, None, not, position, IsTrue, All, sum_by, unsigned_abs, map}
 use Rattle.std.specs.List.{AllZip, IsDistinct}
 use Rattle.std.proofs.lemmas.Bool.{leb-true, and_parts as and_true, not-false as not_false}
 use Rattle.std.proofs.lemmas.List.Elements.{All-cons, All-nil, All-head, All-tail}
@@ -14,7 +14,7 @@ use Rattle.dim_core.specs.Inside.Kept.{IsKept, IsStored, AreNamed, AreAttributed
 use Rattle.dim_order.specs.Levels.{AreLevels}
 use Rattle.dim_order.specs.Loops.{IsOrder, ArePartsWithin, first_on_loop}
 use Rattle.dim_core.specs.Outline.{Element, elements_of, IsWeight, is_same_attribute, IsDimension, names_of, component_lists}
-use Rattle.dim_order.proofs.Places.{none_passes}
+use Rattle.numbered.proofs.Places.{none_passes}
 use Rattle.dim_core.proofs.Elements.{names_of-elements_of, component_lists-elements_of, length-elements_of, get_or_within}
 
 -- the test of a builder over its fields

@@ -6,7 +6,7 @@ ghost use Rattle.dim_core.specs.Outline.{is_attribute, is_same_attribute, text_a
 use crate::Name;
 use crate::attribute::Attribute;
 use dim_name::NameFault;
-use indexmap::IndexSet;
+use numbered::Numbered;
 use std::alloc::{AllocError, Global};
 use std::marker::Model;
 
@@ -15,9 +15,9 @@ use std::marker::Model;
 pub struct Attributes {
     list: Vec<Attribute>,
     // The names of the attributes, each once.
-    names: IndexSet<Name>,
+    names: Numbered<Name>,
     // The element of each attribute, with the place of its name.
-    keys: IndexSet<(u32, usize)>,
+    keys: Numbered<(u32, usize)>,
 }
 
 impl Model for Attributes {
@@ -30,7 +30,7 @@ impl Model for Attributes {
 
     ghost view = { λ a. a.list.items };
 
-    ghost invariant = { λ a. AllZip (IsKeyOf a.names.keys) a.list.items a.keys.keys };
+    ghost invariant = { λ a. AllZip (IsKeyOf a.names) a.list.items a.keys };
 }
 
 impl Attributes {
@@ -40,8 +40,8 @@ impl Attributes {
     {
         Attributes {
             list: Vec::new(alloc),
-            names: IndexSet::new(alloc),
-            keys: IndexSet::new(alloc),
+            names: Numbered::new(alloc),
+            keys: Numbered::new(alloc),
         }
     }
 
@@ -77,7 +77,8 @@ impl Attributes {
     {
         self.list.reserve(1)?;
         let number = number_of(alloc, &mut self.names, &attribute.name)?;
-        if !self.keys.insert((attribute.element, number))? {
+        let key = (attribute.element, number);
+        if !self.keys.insert(key, key)? {
             return Ok(false);
         }
         self.list.push_reserved(attribute);
@@ -86,20 +87,21 @@ impl Attributes {
 }
 
 // The place of a name, which is added where it isn't there.
-fn number_of(alloc: Global, names: &mut IndexSet<Name>, name: &Name) -> Result<usize, AllocError>
-    ensures number { IfOk result (λ number. place_of names.new.keys name.now ≡ Some number) }
-    ensures kept { (other : List ℕ) (number : ℕ) → place_of names.old.keys other ≡ Some number
-        → place_of names.new.keys other ≡ Some number }
+fn number_of(alloc: Global, names: &mut Numbered<Name>, name: &Name) -> Result<usize, AllocError>
+    ensures number { IfOk result (λ number. place_of names.new name.now ≡ Some number) }
+    ensures kept { (other : List ℕ) (number : ℕ) → place_of names.old other ≡ Some number
+        → place_of names.new other ≡ Some number }
 {
     if let Some(number) = names.get_index_of(name) {
         return Ok(number);
     }
     let number = names.len();
-    names.insert(copy_of(alloc, name)?)?;
+    names.insert(copy_of(alloc, name)?, copy_of(alloc, name)?)?;
     Ok(number)
 }
 
-fn copy_of(alloc: Global, name: &Name) -> Result<Name, AllocError>
+/// The same name once more.
+pub fn copy_of(alloc: Global, name: &Name) -> Result<Name, AllocError>
     ensures { IfOk result (λ copy. copy ≡ name.now) }
 {
     match Name::new(alloc, name.shown()) {

@@ -7,12 +7,13 @@ ghost use Rattle.dim_core.specs.Refusal.{refusal_of, first_cause, finish_refusal
 ghost use Rattle.dim_order.specs.Loops.{IsOrder, ArePartsWithin, first_on_loop};
 
 use crate::attribute::NamedAttribute;
+use crate::attributes::copy_of;
 use crate::components::NamedComponents;
 use crate::resolve::{first_unknown, resolve_all, resolve_attributes};
 use crate::{DimFault, Dimension, Name};
 use dim_order::{Components, first_on_loop, levels_of, order_of};
-use indexmap::IndexSet;
 use lists::ListOf;
+use numbered::Numbered;
 use std::alloc::{AllocError, Global};
 use std::marker::Model;
 
@@ -30,7 +31,7 @@ pub const MAX_WEIGHT: u64 = 1_000_000;
 pub struct Builder {
     alloc: Global,
     name: Name,
-    names: IndexSet<Name>,
+    names: Numbered<Name>,
     components: Vec<NamedComponents>,
     component_count: usize,
     attributes: Vec<NamedAttribute>,
@@ -45,12 +46,12 @@ impl Model for Builder {
 
     ghost view = { λ b. record {
       name = b.name;
-      elements = elements_of b.names.keys b.components.items;
+      elements = elements_of b.names b.components.items;
       attributes = b.attributes.items;
     } };
 
-    ghost invariant = { λ b. IsKept b.names.keys b.components.items b.component_count
-        × AreNamed b.name b.names.keys b.attributes.items };
+    ghost invariant = { λ b. IsKept b.names b.components.items b.component_count
+        × AreNamed b.name b.names b.attributes.items };
 }
 
 impl Builder {
@@ -62,7 +63,7 @@ impl Builder {
         Ok(Builder {
             alloc,
             name,
-            names: IndexSet::new(alloc),
+            names: Numbered::new(alloc),
             components: Vec::new(alloc),
             component_count: 0,
             attributes: Vec::new(alloc),
@@ -92,8 +93,9 @@ impl Builder {
         }
         let _is_name = name.shown();
         let count = self.component_count + components.len();
+        let copy = copy_of(self.alloc, &name)?;
         self.components.reserve(1)?;
-        self.names.insert(name)?;
+        self.names.insert(name, copy)?;
         self.components
             .push_reserved(NamedComponents::new(components));
         self.component_count = count;

@@ -9,14 +9,14 @@ use crate::Name;
 use crate::attribute::Attribute;
 use crate::attributes::Attributes;
 use dim_order::Components;
-use indexmap::IndexSet;
+use numbered::Numbered;
 use std::marker::Model;
 
 /// A finished dimension. Its elements are named by their index, from 0 in the order of definition.
 #[derive(Drop)]
 pub struct Dimension {
     name: Name,
-    names: IndexSet<Name>,
+    names: Numbered<Name>,
     components: Vec<Components>,
     order: Vec<u32>,
     levels: Vec<u32>,
@@ -31,28 +31,28 @@ impl Model for Dimension {
 
     ghost view = { λ d. record {
       name = d.name;
-      elements = elements_of d.names.keys d.components.items;
+      elements = elements_of d.names d.components.items;
       attributes = d.attributes;
     } };
 
-    ghost invariant = { λ d. IsStored d.names.keys d.components.items d.order.items d.levels.items
-        × AreAttributed d.name d.names.keys d.attributes };
+    ghost invariant = { λ d. IsStored d.names d.components.items d.order.items d.levels.items
+        × AreAttributed d.name d.names d.attributes };
 }
 
 impl Dimension {
     pub(crate) fn new(
         name: Name,
-        names: IndexSet<Name>,
+        names: Numbered<Name>,
         components: Vec<Components>,
         order: Vec<u32>,
         levels: Vec<u32>,
         attributes: Attributes,
     ) -> Dimension
-        requires stored { IsStored names.keys components.items order.items levels.items }
-        requires attributed { AreAttributed name names.keys attributes }
+        requires stored { IsStored names components.items order.items levels.items }
+        requires attributed { AreAttributed name names attributes }
         ensures { result ≡ record {
           name = name;
-          elements = elements_of names.keys components.items;
+          elements = elements_of names components.items;
           attributes = attributes;
         } }
     {

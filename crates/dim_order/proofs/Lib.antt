@@ -3,6 +3,5 @@ pub mod GrowthLemmas
 pub mod LevelFacts
 pub mod LoopLemmas
 pub mod Maxima
-pub mod Places
 pub mod Tests
 pub mod Walks

@@ -11,7 +11,7 @@ use Rattle.dim_core.proofs.resolve.add_call.Goals as goal
 
 pub returns-in-Some-clause-bad : goal.returns-in-Some-clause-bad
 returns-in-Some-clause-bad c =
-    let names = c.args.names.now.keys in
+    let names = c.args.names.now in
     let a : Attribute = record { element = c.in-Some.index; name = c.args.call.name; text = c.args.call.text } in
     let old = c.args.resolved.now in
     IfOk-weaker c.add.result (λ added. added ≡ not (list_any (is_same_attribute a) old))
@@ -21,7 +21,7 @@ returns-in-Some-clause-bad c =
 
 pub returns-in-Some-clause-added : goal.returns-in-Some-clause-added
 returns-in-Some-clause-added c =
-    let names = c.args.names.now.keys in
+    let names = c.args.names.now in
     let a : Attribute = record { element = c.in-Some.index; name = c.args.call.name; text = c.args.call.text } in
     let old = c.args.resolved.now in
     let new = c.add.new.self in

@@ -6,7 +6,7 @@ use Rattle.dim_core.proofs.dimension.Dimension.levels.Goals as goal
 
 pub returns : goal.returns
 returns c =
-    let listed = component_lists-elements_of c.self.inside.names.keys c.self.inside.components.items c.self.invariant.0.paired in
+    let listed = component_lists-elements_of c.self.inside.names c.self.inside.components.items c.self.invariant.0.paired in
     let L : List (List (ℕ × ℤ)) → Type 0 = λ lists. AreLevels lists c.deref.result.now in
     let P : Outline → Type 0 = λ d. AreLevels (component_lists d.elements) c.deref.result.now in
     let O : List ℕ → Type 0 = AreLevels c.self.inside.components.items in
