@@ -1,9 +1,9 @@
 //! From a model text and the files of its cubes' rules to an accepted model, or to the first refusal.
 //!
 //! Read in this order: [`deploy`], which makes the model; [`RuleFile`], what it is given beside the text;
-//! [`DeployFault`], why it refuses; [`foundation_of`] and [`rules_of`], the parts of it that make a model which no check
-//! of the whole model has seen. `specs/Deployment.antt` has the checks in their order, `specs/Rules.antt` those of
-//! rules, and `specs/Foundation.antt` those of dimensions and cubes.
+//! [`DeployFault`], why it refuses; [`foundation_of`] and [`rules_of`], the parts of it that make a model of which no
+//! check has seen the whole. `specs/Deployment.antt` has the checks in their order, `specs/Rules.antt` those of rules,
+//! and `specs/Foundation.antt` those of dimensions and cubes.
 #![tactic(auto)]
 
 mod binding;

@@ -1,4 +1,5 @@
-ghost use Rattle.std.specs.Prelude.{◌≡◌, ◌<◌, ◌↔◌, [], not, position, length, is_some, IfOk, IfSome, OnOk, OnErr, IsSome};
+ghost use Rattle.std.specs.Prelude.{◌≡◌, ◌<◌, ◌↔◌, [], not, position, length, is_some};
+ghost use Rattle.std.specs.Prelude.{IfOk, IfSome, OnOk, OnErr, IsSome};
 ghost use Rattle.std.specs.List.{list_any, slice_get, IsDistinct};
 ghost use Rattle.std.specs.Option.{option_copied};
 ghost use Rattle.numbered.specs.Keys.{insert_key};
