@@ -2,21 +2,13 @@
 use Rattle.std.proofs.Common.{◌≡◌, ◌<◌, ◌≤◌, ℕ, Bool, false, List, [], ◌∷◌, ◌⊎◌, inl, inr, length, filter, filter_map, Option, Some, None, refl, sym, ◌∙◌, arith, eqb, IsPermutation, nat_cmp, IsSorted}
 use Rattle.std.specs.List.{range_with_len, dedup}
 use Rattle.std.proofs.lemmas.Map.Keys.{IsStrictlyIncreasing-dedup}
-use Rattle.std.proofs.lemmas.List.{length-map}
 use Rattle.std.proofs.lemmas.Bool.{ne_eqb, cases_lt}
-use Rattle.std.proofs.lemmas.List.Quantifiers.{position-Some}
-use Rattle.dim_name.specs.Name.{is_same_name}
-use Rattle.dim_core.specs.Outline.{Outline, index_of, names_of}
+use Rattle.dim_core.specs.Outline.{Outline, index_of}
+use Rattle.dim_core.proofs.Naming.{called_within}
 use Rattle.bind_areas.specs.Areas.{elements_called}
 use Rattle.rising_lists.proofs.Rising.{among, rises, kept_rises, rising_same, among_kept, past_kept, among_dedup, among_moved}
 
--- an element that a name calls is one
-pub called_within : (d : Outline) (name : List ℕ) (element : ℕ) → index_of d name ≡ Some element → element < length d.elements
-called_within d name element is =
-    let found = position-Some (is_same_name name) (names_of d.elements) element [] is in
-    omega (arith, found.0, length-map d.elements (λ e. e.name))
-
--- so no number past the elements is called
+-- no number past the elements is called
 none_called : (d : Outline) (names : List (List ℕ)) (n : ℕ) → length d.elements ≤ n → among n (filter_map (index_of d) names) ≡ false
 none_called d [] n past = refl
 none_called d (name ∷ names) n past = by (none_called d names n past) (index_of d name) refl

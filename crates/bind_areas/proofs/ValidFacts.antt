@@ -13,7 +13,7 @@ use Rattle.rule_model.specs.Conditions.{IsSet, IsArg}
 use Rattle.rule_tree.specs.declared.rule.EntryText.{EntryText}
 use Rattle.rule_tree.specs.declared.tree.SimpleText.{SimpleText}
 use Rattle.bind_areas.specs.Areas.{elements_called, set_at, each_at, entry_for, element_put, arg_by, arg_at}
-use Rattle.bind_areas.proofs.ElementFacts.{called_within}
+use Rattle.dim_core.proofs.Naming.{called_within}
 use Rattle.dim_weights.proofs.ByLevel.{range-within as range_below}
 
 range_rises : (n : ℕ) → IsStrictlyIncreasing (range_with_len 0 n)

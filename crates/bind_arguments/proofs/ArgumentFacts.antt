@@ -12,17 +12,11 @@ use Rattle.bind_arguments.specs.Written.{Written, Quoted, Current, AtIndex, AtPl
 use Rattle.bind_arguments.specs.Bound.{dimension_at, dimension_named, attribute_named, place_in_cube, name_in, bound_argument, followed_step, followed}
 use Rattle.bind_arguments.specs.Argument.{arg_of, known_argument, argument_by_form, argument_of, IsAnsweredBy}
 use Rattle.bind_arguments.specs.declared.bound_argument.BoundArgument.{BoundArgument}
-use Rattle.bind_arguments.specs.declared.bound_argument.BoundArgument.TheFolds.{fold-roll-BoundArgument}
-use Rattle.bind_arguments.specs.declared.bound_argument.BoundArgument.TheOpen.{BoundArgument-F}
 use Rattle.bind_arguments.specs.declared.bound_argument.BoundArgument.TheVariants as bound
-use Rattle.bind_arguments.specs.declared.bound_argument.BoundArgument.TheVariants.{rolls-Text, rolls-Current, rolls-AtIndex, rolls-AtPlace, rolls-AttributeOf}
 use Rattle.bind_arguments.specs.declared.fault.ArgumentFault.TheVariants.{UnknownName}
 use Rattle.bind_arguments.proofs.Tables.{bound_arg, text_arg, cube_dims}
-pub use Rattle.lists.proofs.Found.{mapped}
-
-pub then_got : {A B : Type 0} (f : A → Option B) (o : Option A) (b : B) → option_and_then f o ≡ Some b → (a : A) × (o ≡ Some a) × (f a ≡ Some b)
-then_got f None b is = absurd (cc is)
-then_got f (Some a) b is = (a, refl, is)
+use Rattle.bind_arguments.proofs.ArgumentFolds.{of-text, of-current, of-index, of-place, of-attribute}
+pub use Rattle.lists.proofs.Found.{mapped, and_then_found}
 
 pub there : {E A : Type 0} (o : Option A) (e : E) (a : A) → ok_or o e ≡ Ok a → o ≡ Some a
 there None e a is = absurd (cc is)
@@ -31,19 +25,19 @@ there (Some b) e a is = cc is
 -- The dimension that an argument follows is one of the cube.
 
 follows_text : (name : Option (List ℕ)) → followed (bound.Text name) ≡ None
-follows_text name = ap followed (sym (rolls-Text name)) ∙ fold-roll-BoundArgument (Option ℕ) followed_step (BoundArgument-F.Text name)
+follows_text name = of-text (Option ℕ) followed_step name
 
 follows_current : (place dim : ℕ) → followed (bound.Current place dim) ≡ Some place
-follows_current place dim = ap followed (sym (rolls-Current place dim)) ∙ fold-roll-BoundArgument (Option ℕ) followed_step (BoundArgument-F.Current place dim)
+follows_current place dim = of-current (Option ℕ) followed_step place dim
 
 follows_index : (dim : ℕ) (n : ℤ) → followed (bound.AtIndex dim n) ≡ None
-follows_index dim n = ap followed (sym (rolls-AtIndex dim n)) ∙ fold-roll-BoundArgument (Option ℕ) followed_step (BoundArgument-F.AtIndex dim n)
+follows_index dim n = of-index (Option ℕ) followed_step dim n
 
 follows_place : (dim source : ℕ) (of : BoundArgument) (n : ℤ) → followed (bound.AtPlace dim source of n) ≡ followed of
-follows_place dim source of n = ap followed (sym (rolls-AtPlace dim source of n)) ∙ fold-roll-BoundArgument (Option ℕ) followed_step (BoundArgument-F.AtPlace dim source of n)
+follows_place dim source of n = of-place (Option ℕ) followed_step dim source of n
 
 follows_attribute : (dim : ℕ) (of : BoundArgument) (name : List ℕ) → followed (bound.AttributeOf dim of name) ≡ followed of
-follows_attribute dim of name = ap followed (sym (rolls-AttributeOf dim of name)) ∙ fold-roll-BoundArgument (Option ℕ) followed_step (BoundArgument-F.AttributeOf dim of name)
+follows_attribute dim of name = of-attribute (Option ℕ) followed_step dim of name
 
 followed_low : (space : Layout) (cube : ℕ) (w : Written) (a : BoundArgument) (place : ℕ) → bound_argument space cube w ≡ Some a → followed a ≡ Some place → place < length (dims_of space cube)
 followed_low space cube (Quoted text) a place is f =
@@ -58,13 +52,13 @@ followed_low space cube (AtIndex dim index) a place is f =
     let (d, found, same) = mapped (λ d. bound.AtIndex d index) (dimension_named space dim) a is in
     absurd (let e : None ≡ Some place = sym (follows_index d index) ∙ ap followed same ∙ f in cc e)
 followed_low space cube (AtPlace dim source of shift) a place is f =
-    let (x, inner, rest) = then_got (λ argument. option_and_then (λ s. option_map (λ d. bound.AtPlace d s argument shift) (dimension_named space dim)) (dimension_named space source)) (bound_argument space cube of) a is in
-    let (s, _, later) = then_got (λ s. option_map (λ d. bound.AtPlace d s x shift) (dimension_named space dim)) (dimension_named space source) a rest in
+    let (x, inner, rest) = and_then_found (λ argument. option_and_then (λ s. option_map (λ d. bound.AtPlace d s argument shift) (dimension_named space dim)) (dimension_named space source)) (bound_argument space cube of) a is in
+    let (s, _, later) = and_then_found (λ s. option_map (λ d. bound.AtPlace d s x shift) (dimension_named space dim)) (dimension_named space source) a rest in
     let (d, _, same) = mapped (λ d. bound.AtPlace d s x shift) (dimension_named space dim) a later in
     followed_low space cube of x place inner (sym (follows_place d s x shift) ∙ ap followed same ∙ f)
 followed_low space cube (AttributeOf dim of attribute) a place is f =
-    let (x, inner, rest) = then_got (λ argument. option_and_then (λ d. option_map (λ name. bound.AttributeOf d argument name) (attribute_named (dimension_at space d) attribute)) (dimension_named space dim)) (bound_argument space cube of) a is in
-    let (d, _, later) = then_got (λ d. option_map (λ name. bound.AttributeOf d x name) (attribute_named (dimension_at space d) attribute)) (dimension_named space dim) a rest in
+    let (x, inner, rest) = and_then_found (λ argument. option_and_then (λ d. option_map (λ name. bound.AttributeOf d argument name) (attribute_named (dimension_at space d) attribute)) (dimension_named space dim)) (bound_argument space cube of) a is in
+    let (d, _, later) = and_then_found (λ d. option_map (λ name. bound.AttributeOf d x name) (attribute_named (dimension_at space d) attribute)) (dimension_named space dim) a rest in
     let (name, _, same) = mapped (λ name. bound.AttributeOf d x name) (attribute_named (dimension_at space d) attribute) a later in
     followed_low space cube of x place inner (sym (follows_attribute d x name) ∙ ap followed same ∙ f)
 

@@ -12,13 +12,11 @@ use Rattle.bind_arguments.specs.Argument.{IsAnsweredBy}
 use Rattle.bind_arguments.specs.Inside.Reading.{bound_part, bound_place, placed, attributed}
 use Rattle.bind_arguments.specs.Inside.Within.{is_within, within_step, is_dimension, is_placed}
 use Rattle.bind_arguments.specs.declared.bound_argument.BoundArgument.{BoundArgument}
-use Rattle.bind_arguments.specs.declared.bound_argument.BoundArgument.TheFolds.{fold-roll-BoundArgument}
-use Rattle.bind_arguments.specs.declared.bound_argument.BoundArgument.TheOpen.{BoundArgument-F}
 use Rattle.bind_arguments.specs.declared.bound_argument.BoundArgument.TheVariants as bound
-use Rattle.bind_arguments.specs.declared.bound_argument.BoundArgument.TheVariants.{rolls-Text, rolls-Current, rolls-AtIndex, rolls-AtPlace, rolls-AttributeOf}
 use Rattle.bind_arguments.specs.declared.fault.ArgumentFault.{ArgumentFault}
 use Rattle.bind_arguments.specs.declared.fault.ArgumentFault.TheVariants.{UnknownName}
 use Rattle.bind_arguments.proofs.PartsBound.{refused, known}
+use Rattle.bind_arguments.proofs.ArgumentFolds.{of-text, of-current, of-index, of-place, of-attribute}
 
 module _ (space : Layout) (cube : ℕ) (dim : List ℕ) where
   pub placed_refused : (source : List ℕ) (p : Part) (n : ℤ) (f : ArgumentFault) → IsAnsweredBy (bound_part space cube p) (Err f)
@@ -48,25 +46,25 @@ module _ (space : Layout) (cube : ℕ) (dim : List ℕ) where
 
 pub within_text : (space : Layout) (cube : ℕ) (name : Option (List ℕ)) → is_within space cube (bound.Text name) ≡ true
 unfolding is_within
-within_text space cube name = ap (is_within space cube) (sym (rolls-Text name)) ∙ fold-roll-BoundArgument Bool (within_step space cube) (BoundArgument-F.Text name)
+within_text space cube name = of-text Bool (within_step space cube) name
 
 pub within_current : (space : Layout) (cube place dim : ℕ) → is_within space cube (bound.Current place dim) ≡ (is_dimension space dim && is_placed space cube place dim)
 unfolding is_within
-within_current space cube place dim = ap (is_within space cube) (sym (rolls-Current place dim)) ∙ fold-roll-BoundArgument Bool (within_step space cube) (BoundArgument-F.Current place dim)
+within_current space cube place dim = of-current Bool (within_step space cube) place dim
 
 pub within_index : (space : Layout) (cube dim : ℕ) (n : ℤ) → is_within space cube (bound.AtIndex dim n) ≡ is_dimension space dim
 unfolding is_within
-within_index space cube dim n = ap (is_within space cube) (sym (rolls-AtIndex dim n)) ∙ fold-roll-BoundArgument Bool (within_step space cube) (BoundArgument-F.AtIndex dim n)
+within_index space cube dim n = of-index Bool (within_step space cube) dim n
 
 pub within_place : (space : Layout) (cube dim source : ℕ) (of : BoundArgument) (n : ℤ) → is_within space cube (bound.AtPlace dim source of n)
     ≡ (is_within space cube of && is_dimension space dim && is_dimension space source && is_in_range n)
 unfolding is_within
-within_place space cube dim source of n = ap (is_within space cube) (sym (rolls-AtPlace dim source of n)) ∙ fold-roll-BoundArgument Bool (within_step space cube) (BoundArgument-F.AtPlace dim source of n)
+within_place space cube dim source of n = of-place Bool (within_step space cube) dim source of n
 
 pub within_attribute : (space : Layout) (cube dim : ℕ) (of : BoundArgument) (attribute : List ℕ) → is_within space cube (bound.AttributeOf dim of attribute)
     ≡ (is_within space cube of && is_dimension space dim)
 unfolding is_within
-within_attribute space cube dim of attribute = ap (is_within space cube) (sym (rolls-AttributeOf dim of attribute)) ∙ fold-roll-BoundArgument Bool (within_step space cube) (BoundArgument-F.AttributeOf dim of attribute)
+within_attribute space cube dim of attribute = of-attribute Bool (within_step space cube) dim of attribute
 
 pub there : (space : Layout) (dim : ℕ) → dim < length space.dimensions → is_dimension space dim ≡ true
 there space dim low = lt-ltb dim (length space.dimensions) low

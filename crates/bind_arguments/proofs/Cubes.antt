@@ -1,21 +1,14 @@
 -- The dimensions of a cube.
-use Rattle.std.proofs.Common.{◌≡◌, ℕ, ◌<◌, ◌≤◌, List, [], length, get_or, Some, ap, ◌∙◌, All, slice_get, nat_lt, true, ◌&&◌, eq-eqb}
-use Rattle.std.proofs.lemmas.List.{get_or-map}
-use Rattle.std.proofs.lemmas.Option.{slice_get_within, get_or_from_slice_get}
+use Rattle.std.proofs.Common.{◌≡◌, ℕ, ◌<◌, ◌≤◌, List, length, get_or, Some, ap, ◌∙◌, slice_get, nat_lt, true, ◌&&◌, eq-eqb}
 use Rattle.cube_space.specs.declared.shape.CubeShape.{CubeShape}
 use Rattle.std.proofs.lemmas.Bool.{and_from, lt-ltb}
 use Rattle.bind_arguments.specs.Inside.Within.{is_dimension, is_placed}
 use Rattle.cube_space.specs.Cells.{IsSpace}
 use Rattle.cube_space.specs.Layout.{Layout, dims_of}
 use Rattle.lists.proofs.Found.{found_holds}
+pub use Rattle.cube_space.proofs.CubeDims.{dims_are, dims_within}
 
 module _ (space : Layout) (cube : ℕ) (shape : CubeShape) (valid : IsSpace space) (is : slice_get space.cubes cube ≡ Some shape) where
-  pub dims_are : dims_of space cube ≡ shape.dims
-  dims_are = get_or-map (λ s. s.dims) space.cubes cube shape [] (slice_get_within space.cubes cube shape is) ∙ ap (λ s. s.dims) (get_or_from_slice_get space.cubes cube shape shape is)
-
-  pub dims_within : All (λ dim. dim < length space.dimensions) shape.dims
-  dims_within = found_holds (λ s. All (λ dim. dim < length space.dimensions) s.dims) space.cubes cube shape valid.layout.in_range is
-
   pub dims_count : (2 ≤ length shape.dims) × (length shape.dims ≤ 16)
   dims_count = found_holds (λ s. (2 ≤ length s.dims) × (length s.dims ≤ 16)) space.cubes cube shape valid.counts is
 

@@ -1,3 +1,4 @@
+mod ArgumentFolds
 mod Parts
 mod PartsBound
 mod Around

@@ -7,11 +7,9 @@ use Rattle.dim_core.specs.Outline.{Outline, names_of}
 use Rattle.bind_arguments.specs.Bound.{dimension_at, name_at, index_in, attribute_in, given_step, name_given}
 use Rattle.bind_arguments.specs.Inside.Within.{is_within, is_dimension, is_placed}
 use Rattle.bind_arguments.specs.declared.bound_argument.BoundArgument.{BoundArgument}
-use Rattle.bind_arguments.specs.declared.bound_argument.BoundArgument.TheFolds.{fold-roll-BoundArgument}
-use Rattle.bind_arguments.specs.declared.bound_argument.BoundArgument.TheOpen.{BoundArgument-F}
 use Rattle.bind_arguments.specs.declared.bound_argument.BoundArgument.TheVariants as bound
-use Rattle.bind_arguments.specs.declared.bound_argument.BoundArgument.TheVariants.{rolls-Current, rolls-AtIndex, rolls-AtPlace, rolls-AttributeOf}
 use Rattle.bind_arguments.proofs.Around.{within_current, within_index, within_place, within_attribute, found_dimension}
+use Rattle.bind_arguments.proofs.ArgumentFolds.{of-current, of-index, of-place, of-attribute}
 
 -- Numbers in range.
 
@@ -58,23 +56,23 @@ module _ (space : Layout) (cube : ℕ) (a : BoundArgument) (within : is_within s
 module _ (space : Layout) (element : ℕ) (a : BoundArgument) where
   pub given_current : (place dim : ℕ) (d : Outline) → a ≡ bound.Current place dim → slice_get space.dimensions dim ≡ Some d → name_given space element a ≡ slice_get (names_of d.elements) element
   given_current place dim d is there =
-      ap (name_given space element) (is ∙ sym (rolls-Current place dim)) ∙ fold-roll-BoundArgument (Option (List ℕ)) (given_step space element) (BoundArgument-F.Current place dim)
+      ap (name_given space element) is ∙ of-current (Option (List ℕ)) (given_step space element) place dim
       ∙ ap (λ d. slice_get (names_of d.elements) element) (found_dimension space dim d there)
 
   pub given_index : (dim : ℕ) (n : ℤ) (d : Outline) → a ≡ bound.AtIndex dim n → slice_get space.dimensions dim ≡ Some d → name_given space element a ≡ name_at d n
   given_index dim n d is there =
-      ap (name_given space element) (is ∙ sym (rolls-AtIndex dim n)) ∙ fold-roll-BoundArgument (Option (List ℕ)) (given_step space element) (BoundArgument-F.AtIndex dim n)
+      ap (name_given space element) is ∙ of-index (Option (List ℕ)) (given_step space element) dim n
       ∙ ap (λ d. name_at d n) (found_dimension space dim d there)
 
   pub given_place : (dim source : ℕ) (of : BoundArgument) (n : ℤ) (d s : Outline) → a ≡ bound.AtPlace dim source of n → slice_get space.dimensions dim ≡ Some d → slice_get space.dimensions source ≡ Some s
       → name_given space element a ≡ name_at d (index_in s (name_given space element of) +ℤ n)
   given_place dim source of n d s is there also =
-      ap (name_given space element) (is ∙ sym (rolls-AtPlace dim source of n)) ∙ fold-roll-BoundArgument (Option (List ℕ)) (given_step space element) (BoundArgument-F.AtPlace dim source of n)
+      ap (name_given space element) is ∙ of-place (Option (List ℕ)) (given_step space element) dim source of n
       ∙ ap (λ d. name_at d (index_in (dimension_at space source) (name_given space element of) +ℤ n)) (found_dimension space dim d there)
       ∙ ap (λ s. name_at d (index_in s (name_given space element of) +ℤ n)) (found_dimension space source s also)
 
   pub given_attribute : (dim : ℕ) (of : BoundArgument) (name : List ℕ) (d : Outline) → a ≡ bound.AttributeOf dim of name → slice_get space.dimensions dim ≡ Some d
       → name_given space element a ≡ attribute_in d name (name_given space element of)
   given_attribute dim of name d is there =
-      ap (name_given space element) (is ∙ sym (rolls-AttributeOf dim of name)) ∙ fold-roll-BoundArgument (Option (List ℕ)) (given_step space element) (BoundArgument-F.AttributeOf dim of name)
+      ap (name_given space element) is ∙ of-attribute (Option (List ℕ)) (given_step space element) dim of name
       ∙ ap (λ d. attribute_in d name (name_given space element of)) (found_dimension space dim d there)

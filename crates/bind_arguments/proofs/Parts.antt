@@ -1,36 +1,37 @@
 -- What formulas are within element arguments, by their roots.
-use Rattle.std.proofs.Common.{◌≡◌, ℕ, ℤ, List, [], ◌∷◌, map, Bool, true, false, Option, Some, None, refl, sym, ap, ◌∙◌, if◌then◌else◌}
+use Rattle.std.proofs.Common.{◌≡◌, ℕ, ℤ, List, [], ◌∷◌, map, Bool, true, false, Option, Some, None, refl, ap, ◌∙◌, if◌then◌else◌}
 use Rattle.std.specs.Option.{option_map_or}
 use Rattle.rule_tree.specs.declared.tree.Tree.{Tree}
 use Rattle.rule_tree.specs.declared.tree.Tree.TheFolds.{fold-roll-Tree, ind-Tree}
 use Rattle.rule_tree.specs.declared.tree.Tree.TheOpen.{Tree-F}
 use Rattle.rule_tree.specs.declared.tree.Tree.TheViews.{roll-Tree}
 use Rattle.rule_tree.specs.declared.tree.Tree.TheVariants as trees
-use Rattle.rule_tree.specs.declared.tree.Tree.TheVariants.{rolls-Number, rolls-Text, rolls-Current, rolls-Bracket, rolls-Stet, rolls-Continue, rolls-Call, rolls-Minus, rolls-Not, rolls-Binary}
+use Rattle.rule_tree.specs.declared.tree.Tree.TheVariants.{rolls-Number, rolls-Text, rolls-Current, rolls-Call, rolls-Binary}
 use Rattle.rule_tree.specs.declared.tree.TreeOp.{TreeOp}
 use Rattle.rule_tree.specs.declared.tree.TreeOp.TheVariants as ops
 use Rattle.bind_arguments.specs.Written.{Written, Current, Quoted, Part, Whole, AttributeOf, Element, Place, Moved, Other, whole_number, number_part, argument_of_part, at_index, name_call, index_call, attribute_call, call_part, operation_part, part_step, part_in}
 use Rattle.bind_arguments.specs.Inside.Reading.{text_of_part, whole_of_part, at_moved}
+use Rattle.rule_tree.proofs.TreeFolds.{of-number, of-text, of-current, of-call, of-binary}
 
 pub part_number : (tree : Tree) (z : ℤ) → tree ≡ trees.Number z → part_in tree ≡ number_part z
 unfolding part_in
-part_number tree z is = ap part_in (is ∙ sym (rolls-Number z)) ∙ fold-roll-Tree Part part_step (Tree-F.Number z)
+part_number tree z is = ap part_in is ∙ of-number Part part_step z
 
 pub part_text : (tree : Tree) (text : List ℕ) → tree ≡ trees.Text text → part_in tree ≡ Element (Quoted text)
 unfolding part_in
-part_text tree text is = ap part_in (is ∙ sym (rolls-Text text)) ∙ fold-roll-Tree Part part_step (Tree-F.Text text)
+part_text tree text is = ap part_in is ∙ of-text Part part_step text
 
 pub part_current : (tree : Tree) (dim : List ℕ) → tree ≡ trees.Current dim → part_in tree ≡ Element (Current dim)
 unfolding part_in
-part_current tree dim is = ap part_in (is ∙ sym (rolls-Current dim)) ∙ fold-roll-Tree Part part_step (Tree-F.Current dim)
+part_current tree dim is = ap part_in is ∙ of-current Part part_step dim
 
 pub part_call : (tree : Tree) (function : List ℕ) (arguments : List Tree) → tree ≡ trees.Call function arguments → part_in tree ≡ call_part function (map part_in arguments)
 unfolding part_in
-part_call tree function arguments is = ap part_in (is ∙ sym (rolls-Call function arguments)) ∙ fold-roll-Tree Part part_step (Tree-F.Call function arguments)
+part_call tree function arguments is = ap part_in is ∙ of-call Part part_step function arguments
 
 pub part_binary : (tree : Tree) (op : TreeOp) (left right : Tree) → tree ≡ trees.Binary op left right → part_in tree ≡ operation_part op (part_in left) (part_in right)
 unfolding part_in
-part_binary tree op left right is = ap part_in (is ∙ sym (rolls-Binary op left right)) ∙ fold-roll-Tree Part part_step (Tree-F.Binary op left right)
+part_binary tree op left right is = ap part_in is ∙ of-binary Part part_step op left right
 
 -- Texts and whole numbers are themselves alone.
 

@@ -3,12 +3,11 @@ use Rattle.std.proofs.Common.{◌≡◌, ℕ, zero, suc, ◌<◌, List, [], ◌�
 use Rattle.std.proofs.lemmas.Bool.{and_parts, ltb-true, eqb-true}
 use Rattle.std.proofs.lemmas.List.{get_or-map, length-map}
 use Rattle.std.proofs.lemmas.List.FromFn.{get_or-map-range_with_len, length-map-range_with_len}
-use Rattle.std.proofs.lemmas.List.Quantifiers.{position-Some}
 use Rattle.std.specs.List.{range_with_len}
 use Rattle.std.specs.Option.{option_map, option_and_then, ok_or}
 use Rattle.std.proofs.lemmas.Option.{slice_get-get_or}
 use Rattle.cube_fixed.specs.Range.{is_in_range}
-use Rattle.dim_name.specs.Name.{is_same_name}
+use Rattle.dim_core.proofs.Naming.{called_within}
 use Rattle.dim_core.proofs.Naming.{place_at}
 use Rattle.cube_space.specs.Cells.{IsSpace}
 use Rattle.cube_space.specs.Layout.{Layout, axes_of, dims_of, sizes, sizes_of}
@@ -162,9 +161,7 @@ own_table space cube dim a own place dims d are all there valid within is follow
 
 index_low : (d : Outline) (o : Option (List ℕ)) (e : ℕ) → option_and_then (index_of d) o ≡ Some e → e < length d.elements
 index_low d None e is = absurd (cc)
-index_low d (Some name) e is =
-    let low = (position-Some (is_same_name name) (names_of d.elements) e [] is).0 in
-    omega (arith, low, length-map d.elements (λ x. x.name))
+index_low d (Some name) e is = called_within d name e is
 
 if_low : (size : ℕ) (o : Option ℕ) → ((e : ℕ) → o ≡ Some e → e < size) → IfSome o (λ e. e < size)
 if_low size None h = tt

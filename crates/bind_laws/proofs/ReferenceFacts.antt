@@ -25,7 +25,7 @@ use Rattle.bind_arguments.specs.declared.fault.ArgumentFault.{ArgumentFault}
 use Rattle.rule_bind.specs.References.{caused, fixed_name, cube_of, dimension_called, children_of, args_of, cell_of_target, db_of}
 use Rattle.bind_laws.proofs.Got.{got, passed}
 use Rattle.bind_laws.proofs.CubeFacts.{dims_within}
-use Rattle.bind_arguments.proofs.ArgumentFacts.{then_got, there, argument_valid}
+use Rattle.bind_arguments.proofs.ArgumentFacts.{and_then_found, there, argument_valid}
 
 uncaused : {A : Type 0} (r : Result A ArgumentFault) (a : A) → caused r ≡ Ok a → r ≡ Ok a
 uncaused (Ok b) a is = cc is
@@ -34,7 +34,7 @@ uncaused (Err fault) a is = absurd (cc is)
 cube_low : (space : Layout) (tree : Tree) (cube : ℕ) → cube_of space tree ≡ Ok cube → cube < length space.cubes
 cube_low space tree cube is =
     let (name, _, rest) = got (fixed_name tree) (λ name. ok_or (option_and_then (place_of (cube_names space)) name) causes.UnknownName) cube is in
-    let (bytes, _, found) = then_got (place_of (cube_names space)) name cube (there (option_and_then (place_of (cube_names space)) name) causes.UnknownName cube rest) in
+    let (bytes, _, found) = and_then_found (place_of (cube_names space)) name cube (there (option_and_then (place_of (cube_names space)) name) causes.UnknownName cube rest) in
     let at = position-Some (is_same_name bytes) (cube_names space) cube [] found in
     omega (arith, at.0, length-map space.cubes (λ shape. shape.name))
 

@@ -8,7 +8,7 @@ use Rattle.std.proofs.lemmas.List.FromFn.{length-map-range_with_len}
 use Rattle.dim_core.specs.Outline.{Outline, IsDimension, index_of}
 use Rattle.cube_space.specs.Cells.{is_leaf}
 use Rattle.rule_model.specs.Conditions.{greatest_rank}
-use Rattle.bind_areas.proofs.ElementFacts.{called_within}
+use Rattle.dim_core.proofs.Naming.{called_within}
 use Rattle.bind_order.specs.Orders.{greatest_written, is_named, listed_rank, listed_ranks, index_rank, index_ranks, may_list, entry_element, are_listed, are_writable}
 use Rattle.bind_order.specs.Inside.Given.{AreWithin}
 

@@ -1,11 +1,12 @@
 -- Of the writes of one cell only the last matters.
-use Rattle.std.proofs.Common.{◌≡◌, ◌≢◌, ℕ, ◌+◌, ◌<◌, ◌≤◌, Bool, true, false, not, ◌&&◌, cond, Option, None, Some, List, [], ◌∷◌, ◌++◌, length, map, filter, fold, eqb, ltb, eq-eqb, arith, refl, ap, sym, ◌∙◌, inl, inr, append-nil, take, get_or}
-use Rattle.std.specs.Ordering.{is_lt, nat_cmp}
-use Rattle.std.specs.List.Sorted.{IsNonDecreasingBy, IsStableByKey, ties}
+use Rattle.std.proofs.Common.{◌≡◌, ◌≢◌, ℕ, ◌+◌, ◌<◌, ◌≤◌, Bool, true, false, cond, Option, None, Some, List, [], ◌∷◌, ◌++◌, length, map, filter, fold, eqb, ltb, eq-eqb, arith, refl, ap, sym, ◌∙◌, inl, inr, append-nil, take, get_or}
+use Rattle.std.specs.Ordering.{nat_cmp}
+use Rattle.std.specs.List.Sorted.{IsNonDecreasingBy, IsStableByKey}
 use Rattle.std.proofs.lemmas.List.{take_more, take_all, get_or_read}
 use Rattle.std.proofs.lemmas.Bool.{ne_eqb, cases_lt}
 use Rattle.std.proofs.lemmas.Bool.Decides.{nat_tests, eqb_tells}
-use Rattle.std.proofs.lemmas.List.Elements.{filter-append, filter_agree}
+use Rattle.std.proofs.lemmas.List.Elements.{filter-append}
+use Rattle.lists.proofs.Stable.{latest-sorted}
 use Rattle.cell_store.specs.Inside.Order.{IsRising, below_by, above_by, kept_by, with_entry, after_entries, last_at}
 use Rattle.cell_store.proofs.Rising.{Rises-from_increasing, increasing_from_Rises}
 use Rattle.cell_store.proofs.InOrder.{InOrder, AllOver, AllUpTo}
@@ -83,47 +84,9 @@ module _ {X : Type 0} (cell : X → ℕ) where
   abbrev latest : Option X → List X → ℕ → Option X
   latest old xs k = fold (λ before x. cond (eqb (cell x) k) (Some x) before) old xs
 
-  latest-part : (b : Bool) (x : X) (xs : List X) (old : Option X) (k : ℕ) → eqb (cell x) k ≡ b → latest (cond b (Some x) old) xs k ≡ latest old (cond b (x ∷ xs) xs) k
-  latest-part true x xs old k same = ap (λ (b : Bool). latest (cond b (Some x) old) xs k) (sym same)
-  latest-part false x xs old k same = refl
-
-  -- only the writes of the cell matter
-  latest-filter : (old : Option X) (xs : List X) (k : ℕ) → latest old xs k ≡ latest old (at xs k) k
-  latest-filter old [] k = refl
-  latest-filter old (x ∷ xs) k =
-      latest-filter (cond (eqb (cell x) k) (Some x) old) xs k ∙ latest-part (eqb (cell x) k) x (at xs k) old k refl
-
-  tie : (k m : ℕ) → eqb m k ≡ (not (is_lt (nat_cmp k m)) && not (is_lt (nat_cmp m k)))
-  tie k m = grind (arith, nat_tests)
-
-  agree : (y : X) (xs : List X) → at xs (cell y) ≡ filter (ties (λ (a : X) (b : X). is_lt (nat_cmp (cell a) (cell b))) y) xs
-  agree y xs = filter_agree (λ x. eqb (cell x) (cell y)) (ties (λ (a : X) (b : X). is_lt (nat_cmp (cell a) (cell b))) y) (λ x. tie (cell y) (cell x)) xs
-
-  stable_at : (ws sorted : List X) (y : X) → IsStableByKey cell nat_cmp ws sorted → at sorted (cell y) ≡ at ws (cell y)
-  stable_at ws sorted y stable = agree y sorted ∙ (stable y ∙ sym (agree y ws))
-
-  -- at a cell of none of them both are empty
-  at-item : (xs : List X) (k : ℕ) (y : X) (ys : List X) → at xs k ≡ y ∷ ys → cell y ≡ k
-  at-item [] k y ys is = absurd (cc)
-  at-item (x ∷ xs) k y ys is =
-      elim (eqb_tells (cell x) k) [
-        | inl t ↦ (let here = rw t.0 at is in let same : x ≡ y = cc in ap cell (sym same) ∙ t.1)
-        | inr t ↦ (let rest = rw t.0 at is in at-item xs k y ys rest)
-      ]
-
-  same_by_item : (us vs : List X) → ((y : X) → at us (cell y) ≡ at vs (cell y)) → (k : ℕ) (a b : List X) → at us k ≡ a → at vs k ≡ b → a ≡ b
-  same_by_item us vs same k [] [] ua vb = refl
-  same_by_item us vs same k (y ∷ a) b ua vb =
-      let here : cell y ≡ k = at-item us k y a ua in
-      sym ua ∙ (ap (λ (j : ℕ). at us j) (sym here) ∙ (same y ∙ (ap (λ (j : ℕ). at vs j) here ∙ vb)))
-  same_by_item us vs same k [] (y ∷ b) ua vb =
-      let here : cell y ≡ k = at-item vs k y b vb in
-      sym ua ∙ (ap (λ (j : ℕ). at us j) (sym here) ∙ (same y ∙ (ap (λ (j : ℕ). at vs j) here ∙ vb)))
-
   -- a stable sort by cell keeps the last write of each cell
   pub last_at-sorted : (ws sorted : List X) (k : ℕ) → IsStableByKey cell nat_cmp ws sorted → last_at cell sorted k ≡ last_at cell ws k
-  last_at-sorted ws sorted k stable =
-      latest-filter None sorted k ∙ (ap (λ (xs : List X). latest None xs k) (same_by_item sorted ws (λ y. stable_at ws sorted y stable) k (at sorted k) (at ws k) refl refl) ∙ sym (latest-filter None ws k))
+  last_at-sorted ws sorted k stable = latest-sorted cell (λ x. x) None ws sorted stable k
 
   latest-push : (old : Option X) (xs : List X) (x : X) (k : ℕ) → latest old (xs ++ x ∷ []) k ≡ cond (eqb (cell x) k) (Some x) (latest old xs k)
   latest-push old [] x k = refl

@@ -1,9 +1,8 @@
 -- Which cells are stored after writes.
-use Rattle.std.proofs.Common.{◌≡◌, ◌≢◌, refl, sym, ◌∙◌, ap, ap₂, subst, arith, ℕ, zero, suc, ℤ, Bool, true, false, not, ◌&&◌, ◌||◌, true≢false, cond, eqb, ne_eqb, lt-ltb, ltb-true, List, [], ◌∷◌, ◌++◌, map, filter, fold, Contains, ◌⊎◌, inl, inr, ⊎_elim, ◌<◌, ◌≤◌, Option, Some, None}
+use Rattle.std.proofs.Common.{◌≡◌, ◌≢◌, refl, sym, ◌∙◌, ap, ap₂, arith, ℕ, ℤ, Bool, true, false, ◌&&◌, ◌||◌, true≢false, cond, eqb, ne_eqb, lt-ltb, List, [], ◌∷◌, ◌++◌, map, filter, ◌⊎◌, inl, inr, ◌<◌, ◌≤◌, Some}
 use Rattle.std.specs.Prelude.{nat_lt, pos, is_some, option_map, find}
-use Rattle.std.specs.List.{list_any}
 use Rattle.std.specs.Ordering.{int_eq}
-use Rattle.std.proofs.lemmas.Bool.{cases_lt, cases_eq}
+use Rattle.std.proofs.lemmas.Bool.{cases_lt, and_right}
 use Rattle.std.proofs.lemmas.Bool.Decides.{eqb_tells}
 use Rattle.std.proofs.lemmas.List.Folds.{list_any-append}
 use Rattle.cell_store.specs.declared.entry.Entry.{Entry}
@@ -18,11 +17,7 @@ has c es = among c (cells_of es)
 -- the entries whose cells pass have a cell where it passes and is stored
 module _ (q : ℕ → Bool) where
   pub filtered : (c : ℕ) (es : List Entry) → has c (filter (λ entry. q entry.cell) es) ≡ (q c && has c es)
-  filtered c [] = sym (none (q c))
-    where
-      none : (b : Bool) → (b && false) ≡ false
-      none true = refl
-      none false = refl
+  filtered c [] = sym (and_right (q c) false refl)
   filtered c (e ∷ es) = by c e es (filtered c es) (q e.cell) refl (eqb_tells e.cell c)
     where
       by : (c : ℕ) (e : Entry) (es : List Entry) → has c (filter (λ entry. q entry.cell) es) ≡ (q c && has c es)

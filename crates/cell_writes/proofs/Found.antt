@@ -1,12 +1,12 @@
 -- The last writes of each cell, told by what is found at each cell: a stable sort by cell keeps them.
-use Rattle.std.proofs.Common.{◌≡◌, ◌≢◌, ◌∙◌, refl, sym, ap, ℕ, ◌<◌, ◌≤◌, ℤ, pos, Bool, true, false, cond, not, ◌&&◌, Option, None, Some, List, [], ◌∷◌, fold, filter, Ordering, Less, Equal, Greater, nat_cmp, eqb, arith, inl, inr}
-use Rattle.std.specs.Ordering.{is_lt}
-use Rattle.std.specs.List.Sorted.{IsStableByKey, ties}
+use Rattle.std.proofs.Common.{◌≡◌, ◌≢◌, ◌∙◌, refl, sym, ap, ℕ, ◌<◌, ◌≤◌, ℤ, Bool, true, false, cond, Option, None, Some, List, [], ◌∷◌, fold, Ordering, Less, Equal, Greater, nat_cmp, eqb, arith, inl, inr}
+use Rattle.std.specs.List.Sorted.{IsStableByKey}
 use Rattle.std.specs.BTreeMap.{insert_entry}
 use Rattle.std.proofs.lemmas.Cmp.{ranked}
 use Rattle.std.proofs.lemmas.Bool.{ne_eqb, cases_lt}
 use Rattle.std.proofs.lemmas.Bool.Decides.{nat_tests, eqb_tells}
-use Rattle.std.proofs.lemmas.List.Elements.{filter_agree}
+use Rattle.lists.proofs.Found.{none_some, some_same}
+use Rattle.lists.proofs.Stable.{latest-sorted}
 use Rattle.cell_writes.specs.Writes.{last_writes}
 use Rattle.cell_writes.proofs.InOrder.{AllOver, InOrder, over-lower, put_in, in_order-inserted, put_all}
 
@@ -51,28 +51,22 @@ found-inserted c n (w ∷ ws) k = by (nat_cmp c w.0) refl (found-inserted c n ws
         ∙ apart (eqb w.0 k) (eqb c k) (found ws k) (λ here. grind (arith, nat_tests, less, here))
 
 -- writes in order are told apart by what is found at each cell
-none_some : (n : ℤ) → None ≡ Some n → ⊥
-none_some n same = absurd (cc)
-
-some_same : (m n : ℤ) → Some m ≡ Some n → m ≡ n
-some_same m n same = cc
-
 same_found : (us vs : List (ℕ × ℤ)) → InOrder us → InOrder vs → ((k : ℕ) → found us k ≡ found vs k) → us ≡ vs
 same_found [] [] order_u order_v same = refl
-same_found [] (v ∷ vs) order_u order_v same = absurd (none_some v.1 (same v.0 ∙ found-head v vs v.0 refl))
-same_found (u ∷ us) [] order_u order_v same = absurd (none_some u.1 (sym (same u.0) ∙ found-head u us u.0 refl))
+same_found [] (v ∷ vs) order_u order_v same = absurd (none_some (same v.0 ∙ found-head v vs v.0 refl))
+same_found (u ∷ us) [] order_u order_v same = absurd (none_some (sym (same u.0) ∙ found-head u us u.0 refl))
 same_found (u ∷ us) (v ∷ vs) order_u order_v same =
     elim (cases_lt u.0 v.0) [
-      | inl less ↦ absurd (none_some u.1 (sym (found-over u.0 u.0 (v ∷ vs) (omega arith) (less, over-lower u.0 v.0 vs (omega (arith, less)) order_v.0)) ∙ (sym (same u.0) ∙ found-head u us u.0 refl)))
+      | inl less ↦ absurd (none_some (sym (found-over u.0 u.0 (v ∷ vs) (omega arith) (less, over-lower u.0 v.0 vs (omega (arith, less)) order_v.0)) ∙ (sym (same u.0) ∙ found-head u us u.0 refl)))
       | inr le ↦ elim (cases_lt v.0 u.0) [
-        | inl less ↦ absurd (none_some v.1 (sym (found-over v.0 v.0 (u ∷ us) (omega arith) (less, over-lower v.0 u.0 us (omega (arith, less)) order_u.0)) ∙ (same v.0 ∙ found-head v vs v.0 refl)))
+        | inl less ↦ absurd (none_some (sym (found-over v.0 v.0 (u ∷ us) (omega arith) (less, over-lower v.0 u.0 us (omega (arith, less)) order_u.0)) ∙ (same v.0 ∙ found-head v vs v.0 refl)))
         | inr ge ↦ together (omega (arith, le, ge)) (λ rest. same_found us vs order_u.1 order_v.1 rest)
       ]
     ]
   where
     together : u.0 ≡ v.0 → (((k : ℕ) → found us k ≡ found vs k) → us ≡ vs) → u ∷ us ≡ v ∷ vs
     together here rest =
-        let values : u.1 ≡ v.1 = some_same u.1 v.1 (sym (found-head u us u.0 refl) ∙ (same u.0 ∙ found-head v vs u.0 (sym here))) in
+        let values : u.1 ≡ v.1 = some_same (sym (found-head u us u.0 refl) ∙ (same u.0 ∙ found-head v vs u.0 (sym here))) in
         let tails : us ≡ vs = rest (λ k. elim (eqb_tells u.0 k) [
           | inl t ↦ found-over u.0 k us (omega (arith, t.1)) order_u.0 ∙ sym (found-over v.0 k vs (omega (arith, t.1, here)) order_v.0)
           | inr t ↦ sym (found-later u us k t.1) ∙ (same k ∙ found-later v vs k (λ e. t.1 (here ∙ e)))
@@ -95,37 +89,8 @@ found-put last (w ∷ writes) k =
     found-put (insert_entry nat_cmp last w.0 w.1) writes k
     ∙ ap (λ (now : Option ℤ). latest now writes k) (found-inserted w.0 w.1 last k)
 
--- ---- only the writes of the cell count
-
-abbrev of_cell : List (ℕ × ℤ) → ℕ → List (ℕ × ℤ)
-of_cell writes k = filter (λ write. eqb write.0 k) writes
-
-latest-part : (b : Bool) (w : ℕ × ℤ) (ws : List (ℕ × ℤ)) (before : Option ℤ) (k : ℕ) → eqb w.0 k ≡ b → latest (cond b (Some w.1) before) ws k ≡ latest before (cond b (w ∷ ws) ws) k
-latest-part true w ws before k same = ap (λ (b : Bool). latest (cond b (Some w.1) before) ws k) (sym same)
-latest-part false w ws before k same = refl
-
-latest-of_cell : (before : Option ℤ) (writes : List (ℕ × ℤ)) (k : ℕ) → latest before writes k ≡ latest before (of_cell writes k) k
-latest-of_cell before [] k = refl
-latest-of_cell before (w ∷ writes) k =
-    latest-of_cell (cond (eqb w.0 k) (Some w.1) before) writes k
-    ∙ latest-part (eqb w.0 k) w (of_cell writes k) before k refl
-
-abbrev cell_below : ℕ × ℤ → ℕ × ℤ → Bool
-cell_below a b = is_lt (nat_cmp a.0 b.0)
-
-tie : (k m : ℕ) → eqb m k ≡ (not (is_lt (nat_cmp k m)) && not (is_lt (nat_cmp m k)))
-tie k m = grind (arith, nat_tests)
-
-of_cell-ties : (writes : List (ℕ × ℤ)) (k : ℕ) → of_cell writes k ≡ filter (ties cell_below (k, pos 0)) writes
-of_cell-ties writes k = filter_agree (λ write. eqb write.0 k) (ties cell_below (k, pos 0)) (λ write. tie k write.0) writes
-
 -- a stable sort by cell keeps the last writes
 pub last_writes-sorted : (writes sorted : List (ℕ × ℤ)) → IsStableByKey (λ (write : ℕ × ℤ). write.0) nat_cmp writes sorted → last_writes sorted ≡ last_writes writes
 last_writes-sorted writes sorted stable =
     same_found (last_writes sorted) (last_writes writes) (in_order-put [] sorted tt) (in_order-put [] writes tt) (λ k.
-    let same : of_cell sorted k ≡ of_cell writes k = of_cell-ties sorted k ∙ (stable (k, pos 0) ∙ sym (of_cell-ties writes k)) in
-    found-put [] sorted k
-    ∙ (latest-of_cell None sorted k
-    ∙ (ap (λ (ws : List (ℕ × ℤ)). latest None ws k) same
-    ∙ (sym (latest-of_cell None writes k)
-    ∙ sym (found-put [] writes k)))))
+    found-put [] sorted k ∙ (latest-sorted (λ write. write.0) (λ write. write.1) None writes sorted stable k ∙ sym (found-put [] writes k)))

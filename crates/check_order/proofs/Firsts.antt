@@ -4,6 +4,7 @@ use Rattle.std.specs.Prelude.{slice_get}
 use Rattle.std.specs.List.{flat_map, filter_map, range_with_len, cons_option}
 use Rattle.std.proofs.lemmas.Bool.{cases_lt}
 use Rattle.std.specs.Option.{option_map_or}
+use Rattle.std.proofs.lemmas.Option.{slice_get_read}
 use Rattle.rule_model.specs.declared.rules.Statement.{Statement}
 use Rattle.rule_model.specs.BoundModel.{BoundModel}
 use Rattle.check_order.specs.declared.fault.OrderFault.{OrderFault}
@@ -65,18 +66,13 @@ module _ {Y : Type 0} (h : ℕ → List Y) where
   lists-none a (suc k) none =
       sym (list-past a (suc k) k refl (none a (omega arith) (omega arith))) ∙ lists-none (a + 1) k (λ n from low. none n (omega (arith, from)) (omega (arith, low)))
 
-pub found_at : {X : Type 0} (xs : List X) (n : ℕ) (x : X) → n < length xs → x ≡ get_or xs n x → slice_get xs n ≡ Some x
-found_at [] n x low is = absurd (omega arith)
-found_at (y ∷ xs) zero x low is = ap Some (sym is)
-found_at (y ∷ xs) (suc n) x low is = found_at xs n x (omega arith) is
-
 -- what a statement at a place has late
 module _ (m : BoundModel) (cube : ℕ) (ss : List Statement) (n : ℕ) (s : Statement) (low : n < length ss) (is : s ≡ get_or ss n s) where
   abbrev fault_by : Option ℕ → Option OrderFault
   fault_by late = option_map (NotEarlier cube (n + 1)) late
 
   here : late_in m cube ss n ≡ fault_by (first_late (marks_of m cube s))
-  here = ap (λ o. option_map_or (λ s. fault_by (first_late (marks_of m cube s))) o None) (found_at ss n s low is)
+  here = ap (λ o. option_map_or (λ s. fault_by (first_late (marks_of m cube s))) o None) (slice_get_read ss (length ss) n s refl low is)
 
   -- a statement that has nothing late has no fault
   pub no_fault : late_in m cube ss n ≡ None → first_late (marks_of m cube s) ≡ None

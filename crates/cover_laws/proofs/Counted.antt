@@ -1,12 +1,11 @@
 -- The leaf cells that a cell stands for, element by element.
-use Rattle.std.proofs.Common.{◌≡◌, refl, sym, ap, ◌∙◌, arith, subst, ℕ, zero, suc, ◌+◌, ◌<◌, Bool, true, false, Option, Some, None, ℤ, pos, ◌*ℤ◌, List, [], ◌∷◌, length, get_or, map, filter, ◌==◌, if◌then◌else◌, Contains, All, ext_get_or}
+use Rattle.std.proofs.Common.{◌≡◌, refl, sym, ap, ◌∙◌, arith, subst, ℕ, zero, suc, ◌<◌, Bool, true, false, Option, Some, None, ℤ, pos, List, [], ◌∷◌, length, get_or, map, filter, ◌==◌, if◌then◌else◌, Contains, All, ext_get_or}
 use Rattle.std.specs.Prelude.{slice_get}
 use Rattle.std.specs.List.{range_with_len}
 use Rattle.std.specs.Option.{option_map_or}
 use Rattle.std.proofs.lemmas.Bool.{and_parts, eq-eqb, cond_both}
 use Rattle.std.proofs.lemmas.Bool.Decides.{Decides-eqb}
 use Rattle.std.proofs.lemmas.List.Elements.{Contains-get_or, Contains-append_right}
-use Rattle.std.proofs.Math.IntN.{*ℤ-zero, zero-*ℤ}
 use Rattle.dim_core.specs.Outline.{Outline, IsDimension, IsElement, components_of}
 use Rattle.dim_weights.specs.Coefficients.{coef, coef_over}
 use Rattle.dim_weights.specs.Table.{is_nonzero, nonzero_among, leaves_of}
@@ -18,7 +17,7 @@ use Rattle.rule_model.specs.Weights.{coef_product, weight, leaf_cells, leaves_be
 use Rattle.rule_model.specs.BoundModel.{BoundModel}
 use Rattle.rule_model.specs.System.{system_of}
 use Rattle.rule_laws.specs.Feeding.{leaves_of as cells_of}
-use Rattle.model_laws.proofs.Levels.{axes-are, element-of}
+use Rattle.model_laws.proofs.Levels.{axis-is, element-of}
 use Rattle.order_laws.proofs.CellFacts.{cell-digits, digits-long}
 use Rattle.cover_laws.specs.Decision.{counts_in}
 use Rattle.cover_laws.proofs.Pairs.{there-low, arg-there}
@@ -130,9 +129,6 @@ module _ (m : BoundModel) (valid : IsSpace m.space) where
   element-at : (c j : ℕ) (d : Outline) → IsCell m.space c → slice_get (axes m.space (cube_of m.space c)) j ≡ Some d → IsElement d (get_or (elements_of m.space c) j 0)
   element-at c j d here at = (element-of (axes m.space (cube_of m.space c)) (elements_of m.space c) j d (cell-digits m.space c here) at).1
 
-  is-dimension : (cube j : ℕ) (d : Outline) → slice_get (axes m.space cube) j ≡ Some d → IsDimension d
-  is-dimension cube j d at = Rattle.model_laws.proofs.Levels.found IsDimension (axes m.space cube) j d (axes-are m.space valid cube) at
-
   leaf-at : (c j : ℕ) (d : Outline) → IsCell m.space c → is_leaf_cell m.space c ≡ true → slice_get (axes m.space (cube_of m.space c)) j ≡ Some d → is_leaf d (get_or (elements_of m.space c) j 0) ≡ true
   unfolding is_leaf_cell
   leaf-at c j d here leaf at = leaf-each (axes m.space (cube_of m.space c)) (elements_of m.space c) leaf (cell-long c here) j d at
@@ -158,7 +154,7 @@ module _ (m : BoundModel) (valid : IsSpace m.space) where
     cell = here;
     leaf = leaf;
     own = refl;
-    under = λ j d at. own-counts d (is-dimension (cube_of m.space t) j d at) (get_or (elements_of m.space t) j 0) (element-at t j d here at) (leaf-at t j d here leaf at);
+    under = λ j d at. own-counts d (axis-is m.space valid (cube_of m.space t) j d at) (get_or (elements_of m.space t) j 0) (element-at t j d here at) (leaf-at t j d here leaf at);
   }
 
   alone : (t x : ℕ) → IsCell m.space t → is_leaf_cell m.space t ≡ true → StandsFor t x → t ≡ x
@@ -173,7 +169,7 @@ module _ (m : BoundModel) (valid : IsSpace m.space) where
       each : (j : ℕ) → j < length (elements_of m.space t) → get_or (elements_of m.space t) j 0 ≡ get_or (elements_of m.space x) j 0
       each j low =
           let (d, at) = arg-there (axes m.space (cube_of m.space t)) j (omega (arith, low, cell-long t here)) in
-          only-own d (is-dimension (cube_of m.space t) j d at) (get_or (elements_of m.space t) j 0) (get_or (elements_of m.space x) j 0) (element-at t j d here at) (leaf-at t j d here leaf at) (s.under j d at)
+          only-own d (axis-is m.space valid (cube_of m.space t) j d at) (get_or (elements_of m.space t) j 0) (get_or (elements_of m.space x) j 0) (element-at t j d here at) (leaf-at t j d here leaf at) (s.under j d at)
 
   pub stands-contains : (t x : ℕ) → IsCell m.space t → StandsFor t x → Contains (cells_of (system_of m) t) x
   unfolding system_of leaf_cells

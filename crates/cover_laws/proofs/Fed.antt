@@ -32,7 +32,7 @@ use Rattle.order_laws.proofs.Decided as decided
 use Rattle.cover_laws.specs.Looking.{Look, is_possible}
 use Rattle.cover_laws.specs.Decision.{has_leaves, counts_in, are_sources, reaches, all_reach, look_below, feeds_all, covers}
 use Rattle.cover_laws.proofs.Pairs as pairs
-use Rattle.cover_laws.proofs.Pairs.{there-low, arg-there, named-at, named-long, named-all, follows-at}
+use Rattle.cover_laws.proofs.Pairs.{there-low, arg-there, named-at, named-all, follows-at}
 use Rattle.cover_laws.proofs.Named as naming
 use Rattle.cover_laws.proofs.Reached as reached
 use Rattle.cover_laws.proofs.Reached.{IsLeafBelow, has-some, some-has, all-elim, all-intro}
@@ -141,9 +141,6 @@ module _ (m : BoundModel) (valid : IsSpace m.space) (ruled : AreRules m.space m.
   abbrev look : Look
   look = look_below m cube statement.area r
 
-  dimension-at : (k j : ℕ) (d : Outline) → slice_get (axes m.space k) j ≡ Some d → IsDimension d
-  dimension-at k j d at = Rattle.model_laws.proofs.Levels.found IsDimension (axes m.space k) j d (Rattle.model_laws.proofs.Levels.axes-are m.space valid k) at
-
   args-long : length r.args ≡ length dims
   args-long = zip-long (Rattle.rule_model.specs.Conditions.IsArg (sizes m.space cube)) (sizes m.space r.cube) r.args is.1 ∙ axes-sizes m.space r.cube
 
@@ -162,7 +159,7 @@ module _ (m : BoundModel) (valid : IsSpace m.space) (ruled : AreRules m.space m.
       let (c, at, of) = decided.of-cell m ruled cube there statement is_area true es pair.of in
       let (t, names, at_t, long_t) = decided.at-target m ruled cube there statement is_area r c es ts is at pair.of.long pair.named in
       let digits_t = named-digits (sizes m.space cube) (sizes m.space r.cube) r.args es ts (pair.of.long ∙ sym (axes-sizes m.space cube)) is.1 pair.named in
-      let made = leaf-digits dims (λ j. get_or ts j 0) xs (dimension-at r.cube) (pair.long ∙ args-long) (λ j d here. (Rattle.model_laws.proofs.Levels.element-of dims ts j d digits_t here).1) (λ j low. pair.below j (omega (arith, low, args-long))) in
+      let made = leaf-digits dims (λ j. get_or ts j 0) xs (Rattle.model_laws.proofs.Levels.axis-is m.space valid r.cube) (pair.long ∙ args-long) (λ j d here. (Rattle.model_laws.proofs.Levels.element-of dims ts j d digits_t here).1) (λ j low. pair.below j (omega (arith, low, args-long))) in
       let found = cell-there m.space r.cube xs is.0 made.0 in
       let at_x : IsAt m.space r.cube xs found.0 = found.1 in
       let leaf : is_leaf_cell m.space found.0 ≡ true = ap (λ k. are_leaves (axes m.space k) (elements_of m.space found.0)) at_x.own ∙ ap (are_leaves dims) at_x.elements ∙ made.1 in

@@ -1,14 +1,15 @@
 -- The dimensions of a cube, one by one, by the numbers in its shape.
 use Rattle.std.proofs.Common.{◌≡◌, ◌<◌, ◌≤◌, ◌∙◌, ℕ, zero, suc, Bool, true, false, List, [], ◌∷◌, length, Some, None, All, refl, sym, ap, arith, cond, nat_lt, get_or, position, slice_get}
 use Rattle.std.proofs.lemmas.Bool.{lt-ltb, le-ltb}
-use Rattle.std.proofs.lemmas.List.{get_or-map, length-map}
+use Rattle.std.proofs.lemmas.List.{length-map}
 use Rattle.std.proofs.lemmas.List.Sums.{position_or_len_is}
 use Rattle.std.proofs.lemmas.Option.{slice_get_within, slice_get-get_or, get_or_from_slice_get}
 use Rattle.dim_core.specs.Outline.{Outline}
 use Rattle.cube_space.specs.declared.shape.CubeShape.{CubeShape}
-use Rattle.cube_space.specs.Layout.{Layout, axes, axes_of, dims_of, fewest_dimensions, most_dimensions}
+use Rattle.cube_space.specs.Layout.{Layout, axes, axes_of, fewest_dimensions, most_dimensions}
 use Rattle.cube_space.specs.Cells.{IsSpace}
 use Rattle.cube_space.proofs.Axes.{length-axes_of}
+use Rattle.cube_space.proofs.CubeDims.{dims_are, dims_within}
 use Rattle.lists.proofs.Found.{found_holds}
 
 nothing : Outline
@@ -22,20 +23,14 @@ axes_at D (dim ∷ dims) (suc place) all low =
     rw (slice_get-get_or D dim nothing (all 0 0 (omega arith))) (axes_at D dims place (λ k d below. all (suc k) d (omega (arith, below))) (omega (arith, low)))
 
 module _ (space : Layout) (cube : ℕ) (shape : CubeShape) (valid : IsSpace space) (is : slice_get space.cubes cube ≡ Some shape) where
-  dims_are : dims_of space cube ≡ shape.dims
-  dims_are = get_or-map (λ s. s.dims) space.cubes cube shape [] (slice_get_within space.cubes cube shape is) ∙ ap (λ s. s.dims) (get_or_from_slice_get space.cubes cube shape shape is)
-
-  dims_within : All (λ dim. dim < length space.dimensions) shape.dims
-  dims_within = found_holds (λ s. All (λ dim. dim < length space.dimensions) s.dims) space.cubes cube shape valid.layout.in_range is
-
   pub dims_few : length shape.dims ≤ most_dimensions
   dims_few = (found_holds (λ s. (fewest_dimensions ≤ length s.dims) × (length s.dims ≤ most_dimensions)) space.cubes cube shape valid.counts is).1
 
   -- a cube has as many dimensions as its shape has numbers
   pub axes_count : length (axes space cube) ≡ length shape.dims
   axes_count =
-      ap (λ dims. length (axes_of space.dimensions dims)) dims_are
-      ∙ sym (length-map (axes_of space.dimensions shape.dims) (λ d. length d.elements)) ∙ length-axes_of space.dimensions shape.dims dims_within
+      ap (λ dims. length (axes_of space.dimensions dims)) (dims_are space cube shape valid is)
+      ∙ sym (length-map (axes_of space.dimensions shape.dims) (λ d. length d.elements)) ∙ length-axes_of space.dimensions shape.dims (dims_within space cube shape valid is)
 
   module _ (dims : List ℕ) (place : ℕ) (same : dims ≡ shape.dims) (there : place < length (axes space cube)) where
     own_place : place < length shape.dims
@@ -45,12 +40,12 @@ module _ (space : Layout) (cube : ℕ) (shape : CubeShape) (valid : IsSpace spac
     place_within = omega (arith, own_place, ap length same)
 
     pub number_within : get_or dims place 0 < length space.dimensions
-    number_within = rw same (dims_within place 0 own_place)
+    number_within = rw same (dims_within space cube shape valid is place 0 own_place)
 
     pub number_is : slice_get space.dimensions (get_or dims place 0) ≡ slice_get (axes space cube) place
     number_is =
-        ap (λ l. slice_get space.dimensions (get_or l place 0)) same ∙ axes_at space.dimensions shape.dims place dims_within own_place
-        ∙ sym (ap (λ l. slice_get (axes_of space.dimensions l) place) dims_are)
+        ap (λ l. slice_get space.dimensions (get_or l place 0)) same ∙ axes_at space.dimensions shape.dims place (dims_within space cube shape valid is) own_place
+        ∙ sym (ap (λ l. slice_get (axes_of space.dimensions l) place) (dims_are space cube shape valid is))
 
 -- the first place that passes a test
 pub first_place : {A : Type 0} (test : A → Bool) (xs : List A) (i : ℕ) (x : A) → slice_get xs i ≡ Some x → test x ≡ true → ((k : ℕ) → k < i → (y : A) → slice_get xs k ≡ Some y → test y ≡ false) → Some i ≡ position test xs

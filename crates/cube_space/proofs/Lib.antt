@@ -1,4 +1,5 @@
 pub mod Axes
+pub mod CubeDims
 pub mod Distinct
 pub mod LeafCells
 pub mod LeafTests

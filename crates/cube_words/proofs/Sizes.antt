@@ -1,15 +1,13 @@
 -- Digits that aren't read as a number are no size.
-use Rattle.std.proofs.Common.{◌≡◌, ◌≤◌, ◌<◌, ◌==◌, ◌&&◌, ◌^◌, ℕ, List, [], ◌∷◌, length, false, true, Err, arith, refl}
+use Rattle.std.proofs.Common.{◌≡◌, ◌<◌, ◌==◌, ◌^◌, ℕ, List, [], ◌∷◌, length, false, true, Err, arith, refl}
 use Rattle.std.specs.Char.{is_ascii_digit}
 use Rattle.std.specs.List.{list_all}
 use Rattle.std.specs.Str.Parse.{AllDigits, ParsesUnsigned, digits_value, without_leading_plus}
 use Rattle.std.proofs.lemmas.Bool.Decides.{nat_tests}
 use Rattle.std.proofs.lemmas.Str.{digit_value_digit}
+use Rattle.cube_fixed.proofs.Decimals.{digit_from_test}
 use Rattle.cube_words.specs.Words.{IsSize}
 use Rattle.std.proofs.lemmas.Bool.{and_parts as both}
-
-range : (c : ℕ) → is_ascii_digit c ≡ true → (48 ≤ c) × (c ≤ 57)
-range c e = grind (arith, nat_tests)
 
 first_and_rest : (x : ℕ) (xs : List ℕ) → list_all is_ascii_digit (x ∷ xs) ≡ true
     → (is_ascii_digit x ≡ true) × (list_all is_ascii_digit xs ≡ true)
@@ -19,14 +17,14 @@ all_digits : (xs : List ℕ) → list_all is_ascii_digit xs ≡ true → AllDigi
 all_digits [] h = tt
 all_digits (x ∷ xs) h =
     let (first, rest) = first_and_rest x xs h in
-    let value = digit_value_digit x (range x first) in
-    let (low, high) = range x first in
+    let value = digit_value_digit x (digit_from_test x first) in
+    let (low, high) = digit_from_test x first in
     (omega (arith, value, low, high), all_digits xs rest)
 
 no_plus : (xs : List ℕ) → list_all is_ascii_digit xs ≡ true → without_leading_plus xs ≡ xs
 no_plus [] h = refl
 no_plus (x ∷ xs) h =
-    let (low, high) = range x (first_and_rest x xs h).0 in
+    let (low, high) = digit_from_test x (first_and_rest x xs h).0 in
     let other : (x == 43) ≡ false = grind (arith, nat_tests) in
     rw other refl
 

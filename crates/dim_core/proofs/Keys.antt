@@ -1,6 +1,7 @@
 -- Attributes and the keys by which they are found.
 use Rattle.std.proofs.Common.{◌≡◌, ℕ, ◌+◌, ◌≤◌, List, [], ◌∷◌, ◌++◌, length, get_or, cond, eqb, nat_lt, refl, ap, sym, ◌∙◌, arith, Bool, true, false, ◌&&◌, ◌||◌, not, Some, None, position, slice_get, All, length-append}
 use Rattle.std.specs.List.{AllZip, list_any, position_or_len, find}
+use Rattle.std.proofs.lemmas.Bool.{and_right}
 use Rattle.std.proofs.lemmas.Grind.{common_steps}
 use Rattle.std.proofs.lemmas.List.{get_or_append_left}
 use Rattle.std.proofs.lemmas.List.Elements.{All-nil, All-cons}
@@ -55,7 +56,7 @@ unnamed names [] [] z element name none = All-nil (λ a. is_attribute element na
 unnamed names [] (y ∷ ys) z element name none = elim z [ ]
 unnamed names (b ∷ bs) [] z element name none = elim z [ ]
 unnamed names (b ∷ bs) (y ∷ ys) z element name none =
-    All-cons (λ a. is_attribute element name a ≡ false) b bs (by (eqb element b.element) (is_same_name name b.name) (other (is_same_name name b.name) refl)) (unnamed names bs ys z.1 element name none)
+    All-cons (λ a. is_attribute element name a ≡ false) b bs (and_right (eqb element b.element) (is_same_name name b.name) (other (is_same_name name b.name) refl)) (unnamed names bs ys z.1 element name none)
   where
     other : (t : Bool) → is_same_name name b.name ≡ t → t ≡ false
     other false h = refl
@@ -63,10 +64,6 @@ unnamed names (b ∷ bs) (y ∷ ys) z element name none =
         let e : place_of names name ≡ place_of names b.name = λ i. position (λ x. same_names.congr name b.name x h i) names in
         let clash : None ≡ Some y.1 = sym none ∙ e ∙ z.0.1 in
         absurd (cc)
-
-    by : (s t : Bool) → t ≡ false → (s && t) ≡ false
-    by true t h = h
-    by false t h = refl
 
 pub no_place : (names : List (List ℕ)) (list : List Attribute) (keys : List (ℕ × ℕ)) → AllZip (IsKeyOf names) list keys → (element : ℕ) (name : List ℕ) → place_of names name ≡ None
     → position (is_attribute element name) list ≡ None

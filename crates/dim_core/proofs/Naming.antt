@@ -1,9 +1,10 @@
 -- Names and their places.
-use Rattle.std.proofs.Common.{◌≡◌, ℕ, ◌<◌, List, [], length, get_or, eqb, ap, sym, ◌∙◌, subst, true, ◌&&◌, Some, position}
+use Rattle.std.proofs.Common.{◌≡◌, ℕ, ◌<◌, List, [], length, get_or, eqb, arith, ap, sym, ◌∙◌, subst, true, ◌&&◌, Some, position}
 use Rattle.std.specs.Cmp.{IsEquivalence, both_ways}
 use Rattle.std.specs.List.{IsDistinct}
 use Rattle.std.proofs.lemmas.Bool.{eqb-true, eq-eqb}
 use Rattle.std.proofs.lemmas.Cmp.{nat_list_eq_equiv, nat_eq_equiv, on_equiv, and_equiv}
+use Rattle.std.proofs.lemmas.List.{length-map}
 use Rattle.std.proofs.lemmas.List.Quantifiers.{position-Some}
 use Rattle.std.proofs.lemmas.Map.Keys.{apart_from_distinct}
 use Rattle.numbered.proofs.Places.{position-first}
@@ -11,7 +12,7 @@ use Rattle.dim_name.specs.Name.{is_same_name, key_of, place_of}
 use Rattle.dim_core.specs.declared.attribute.Attribute.{Attribute}
 use Rattle.dim_core.specs.declared.attribute.NamedAttribute.{NamedAttribute}
 use Rattle.dim_core.specs.Draft.{is_repeated, IsResolvedAttribute}
-use Rattle.dim_core.specs.Outline.{is_same_attribute}
+use Rattle.dim_core.specs.Outline.{Outline, index_of, names_of, is_same_attribute}
 pub use Rattle.std.proofs.lemmas.Option.{same_Some as same_number}
 
 pub same_names : IsEquivalence is_same_name
@@ -50,3 +51,9 @@ repeated-resolved names a b x y at there =
     ap (λ t. t && is_same_name a.name b.name) (same_place names a.element b.element x.element y.element at.0 there.0)
     ∙ ap (λ n. eqb x.element y.element && is_same_name n b.name) (sym at.1)
     ∙ ap (λ n. eqb x.element y.element && is_same_name x.name n) (sym there.1)
+
+-- an element that a name calls is one
+pub called_within : (d : Outline) (name : List ℕ) (element : ℕ) → index_of d name ≡ Some element → element < length d.elements
+called_within d name element is =
+    let found = position-Some (is_same_name name) (names_of d.elements) element [] is in
+    omega (arith, found.0, length-map d.elements (λ e. e.name))

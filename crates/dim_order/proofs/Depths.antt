@@ -1,13 +1,13 @@
 -- What stands in an order in which components come first: equations that read components alone are grounded.
-use Rattle.std.proofs.Common.{◌≡◌, ℕ, ◌<◌, ◌≤◌, ◌⊎◌, inl, inr, true, eqb, ℤ, List, [], ◌∷◌, length, take, get_or, refl, sym, subst, arith}
+use Rattle.std.proofs.Common.{◌≡◌, ℕ, ◌<◌, ◌≤◌, ◌⊎◌, inl, inr, true, eqb, ℤ, List, [], ◌∷◌, length, take, get_or, refl, sym, ◌∙◌, subst, arith}
 use Rattle.std.specs.List.{list_all, position_or_len}
-use Rattle.std.proofs.lemmas.Bool.{eqb-true, eq-eqb, cases_lt}
+use Rattle.std.proofs.lemmas.Bool.{true≢false, eqb-true, eq-eqb, cases_lt}
 use Rattle.std.proofs.lemmas.List.{get_or-take, length-take}
 use Rattle.std.proofs.lemmas.List.Folds.{list_any_at}
 use Rattle.std.proofs.lemmas.List.Sums.{fails_before_first, passes_at_first}
 use Rattle.dim_order.specs.Members.{is_among}
 use Rattle.dim_order.specs.Loops.{IsOrder, parts_of}
-use Rattle.dim_order.proofs.Tests.{both, not_both, place_in_front, place_among}
+use Rattle.dim_order.proofs.Tests.{both, place_in_front, place_among}
 
 -- what stands at a place is among all
 pub among-at : (xs : List ℕ) (i : ℕ) → i < length xs → is_among xs (get_or xs i 0) ≡ true
@@ -34,7 +34,7 @@ first_place order j element here = by (cases_lt j (position_or_len (eqb element)
     at = eq-eqb element (get_or order j 0) (sym here)
 
     by : (j < position_or_len (eqb element) order) ⊎ (position_or_len (eqb element) order ≤ j) → position_or_len (eqb element) order ≤ j
-    by (inl before) = not_both (eqb element (get_or order j 0)) at (fails_before_first (eqb element) order j 0 before)
+    by (inl before) = absurd (true≢false (sym at ∙ fails_before_first (eqb element) order j 0 before))
     by (inr after) = after
 
 -- what holds of each part, as a recursion finds it

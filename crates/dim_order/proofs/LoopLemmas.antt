@@ -1,7 +1,7 @@
 -- What is reached by going down.
 use Rattle.std.proofs.Common.{◌≡◌, ◌⊎◌, inl, inr, ℕ, zero, suc, ◌<◌, ◌≤◌, Bool, true, false, ◌||◌, eqb, ℤ, List, [], ◌∷◌, ◌++◌, length, take, get_or, None, Some, refl, sym, ◌∙◌, subst, arith, All, length-append}
 use Rattle.std.specs.List.{range_with_len}
-use Rattle.std.proofs.lemmas.Bool.{eqb-true, eq-eqb}
+use Rattle.std.proofs.lemmas.Bool.{true≢false, eqb-true, eq-eqb}
 use Rattle.std.proofs.lemmas.Cmp.{nat_eq_equiv}
 use Rattle.std.proofs.lemmas.List.FromFn.{length-range_with_len, get_or-range_with_len}
 use Rattle.std.proofs.lemmas.Map.Keys.{apart_from_distinct, IsDistinct-push}
@@ -12,7 +12,7 @@ use Rattle.dim_order.specs.Inside.Growth.{IsGrown, IsSettled, AreSettled}
 use Rattle.dim_order.specs.Loops.{parts_of, is_reached, lies_on_loop, first_on_loop, IsOrder, ArePartsWithin}
 use Rattle.dim_order.proofs.GrowthLemmas.{length-grown, is_among-push}
 use Rattle.numbered.proofs.Places.{position-none, position-first}
-use Rattle.dim_order.proofs.Tests.{either, neither, not_both, first_holds, second_holds, list_any-implied, some_of_all, list_any-none_implied, place_in_front, place_among, is_among-take}
+use Rattle.dim_order.proofs.Tests.{either, neither, first_holds, second_holds, list_any-implied, some_of_all, list_any-none_implied, place_in_front, place_among, is_among-take}
 
 -- the components of one element, also past the end
 pub parts_within : (lists : List (List (ℕ × ℤ))) → ArePartsWithin lists → (e : ℕ) → e < length lists → All (λ part. part.0 < length lists) (parts_of lists e)
@@ -62,7 +62,7 @@ module _ (lists : List (List (ℕ × ℤ))) (target : ℕ) (list : List ℕ) (gr
   leads_not settled within (suc m) e there absent = by (settled e there) (λ k inside out. leads_not settled within m k inside out)
     where
       by : IsSettled (WhenLeadingTo target) lists list e → ((k : ℕ) → k < length lists → is_among list k ≡ false → is_reached lists m k target ≡ false) → is_reached lists (suc m) e target ≡ false
-      by (inl h) rest = not_both (is_among list e) h absent
+      by (inl h) rest = absurd (true≢false (sym h ∙ absent))
       by (inr h) rest =
           list_any-none_implied (λ part. eqb part.0 target || is_among list part.0) (λ part. eqb part.0 target || is_reached lists m part.0 target)
           (λ part. part.0 < length lists)
@@ -148,7 +148,7 @@ module _ (lists : List (List (ℕ × ℤ))) (list : List ℕ) (grown : IsGrown A
           let P : ℕ → Type 0 = λ x. is_reached lists (length lists) x e ≡ true in
           let before = place_in_front list at.0 e (reached_before (length lists) at.0 e at.1 (subst P (sym at.2) h)) in
           let apart = apart_from_distinct eqb list before.0 at.0 0 grown.distinct before.1 at.1 in
-          not_both (eqb (get_or list before.0 0) (get_or list at.0 0)) (eq-eqb _ _ (before.3 ∙ sym at.2)) apart
+          absurd (true≢false (sym (eq-eqb _ _ (before.3 ∙ sym at.2)) ∙ apart))
 
 -- an order of all elements
 pub first_on_loop-ordered : (lists : List (List (ℕ × ℤ))) (order : List ℕ) → IsOrder lists order → first_on_loop lists ≡ None

@@ -1,14 +1,10 @@
 -- Tests on the elements of a list.
-use Rattle.std.proofs.Common.{◌≡◌, ◌⊎◌, inl, inr, ℕ, zero, suc, ◌<◌, ◌≤◌, Bool, true, false, ◌||◌, ◌&&◌, eqb, List, [], ◌∷◌, length, take, get_or, refl, sym, arith, All}
+use Rattle.std.proofs.Common.{◌≡◌, ◌⊎◌, inl, inr, ℕ, zero, suc, ◌<◌, ◌≤◌, Bool, true, false, ◌||◌, eqb, List, [], ◌∷◌, length, take, get_or, refl, sym, arith, All}
 use Rattle.std.specs.List.{list_any, list_all}
 use Rattle.std.proofs.lemmas.Bool.{eqb-true}
 use Rattle.std.proofs.lemmas.List.Elements.{All-head, All-tail}
 use Rattle.dim_order.specs.Members.{is_among}
 pub use Rattle.std.proofs.lemmas.Bool.{or_parts as neither, and_parts as both, or_cases as either, or_left as first_holds, or_right as second_holds}
-
--- no Bool is both
-pub not_both : {G : Type 0} (b : Bool) → b ≡ true → b ≡ false → G
-not_both b t f = absurd (cc)
 
 module _ {X : Type 0} (p q : X → Bool) where
   -- what passes the first test passes the second

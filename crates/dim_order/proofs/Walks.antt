@@ -1,7 +1,7 @@
 -- A walk down among elements that can't join a list comes back to where it was.
 use Rattle.std.proofs.Common.{◌≡◌, ◌⊎◌, inl, inr, ℕ, zero, suc, ◌<◌, ◌≤◌, Bool, true, false, ◌||◌, ◌&&◌, cond, eqb, ℤ, List, [], ◌∷◌, ◌++◌, length, get_or, None, refl, sym, ◌∙◌, subst, arith, All, length-append}
 use Rattle.std.specs.List.{IsDistinct, list_any, list_all, range_with_len}
-use Rattle.std.proofs.lemmas.Bool.{eqb-true, eq-eqb}
+use Rattle.std.proofs.lemmas.Bool.{true≢false, eqb-true, eq-eqb}
 use Rattle.std.proofs.lemmas.Cmp.{nat_eq_equiv}
 use Rattle.std.proofs.lemmas.List.Elements.{All-head, All-tail}
 use Rattle.std.proofs.lemmas.List.FromFn.{length-range_with_len, get_or-range_with_len}
@@ -14,7 +14,7 @@ use Rattle.dim_order.specs.Loops.{parts_of, is_reached, lies_on_loop, first_on_l
 use Rattle.dim_order.proofs.GrowthLemmas.{length-grown, is_among-push}
 use Rattle.dim_order.proofs.LoopLemmas.{parts_within, is_reached-more}
 use Rattle.numbered.proofs.Places.{none_passes}
-use Rattle.dim_order.proofs.Tests.{either, not_both, first_holds, second_holds, list_any-implied}
+use Rattle.dim_order.proofs.Tests.{either, first_holds, second_holds, list_any-implied}
 
 -- the first component that is not in the list
 first_out : List ℕ → List (ℕ × ℤ) → ℕ
@@ -49,7 +49,7 @@ module _ (lists : List (List (ℕ × ℤ))) (list : List ℕ) (settled : AreSett
   next_out v out = by (settled v out.inside)
     where
       by : IsSettled AfterAllParts lists list v → IsOut lists list (first_out list (parts_of lists v)) × ((f : ℕ → Bool) → f (first_out list (parts_of lists v)) ≡ true → list_any (λ part. f part.0) (parts_of lists v) ≡ true)
-      by (inl h) = not_both (is_among list v) h out.absent
+      by (inl h) = absurd (true≢false (sym h ∙ out.absent))
       by (inr h) = is_out lists list (parts_of lists v) (parts_within lists within v out.inside) h
 
   -- one step more
@@ -119,7 +119,7 @@ module _ (lists : List (List (ℕ × ℤ))) (list : List ℕ) (settled : AreSett
         fresh false h = refl
         fresh true h =
             let o = (next_out (walk i) p.here).0 in
-            not_both (lies_on_loop lists (next (walk i))) (is_reached-more lists (suc i) (length lists) (next (walk i)) (next (walk i)) short (p.leads (next (walk i)) h)) (free (next (walk i)) o.inside)
+            absurd (true≢false (sym (is_reached-more lists (suc i) (length lists) (next (walk i)) (next (walk i)) short (p.leads (next (walk i)) h)) ∙ free (next (walk i)) o.inside))
 
     all_paths : (i : ℕ) → i ≤ length lists → IsPath i
     all_paths zero short = first_path

@@ -5,13 +5,13 @@ use Rattle.grammar.specs.Reading.{bound, both_of, gives, Read}
 use Rattle.grammar.specs.declared.cursor.Unwatched.{Unwatched}
 use Rattle.grammar.specs.declared.stop.Stop.{Stop}
 use Rattle.grammar.specs.declared.stop.Stop.TheVariants as stops
-use Rattle.dim_text.specs.Building.{opened, nothing}
+use Rattle.dim_text.specs.Building.{add, opened, nothing}
 use Rattle.dim_text.specs.Progress.{Progress, Text}
 use Rattle.dim_text.specs.Readers.Reading.{read_head, read_opening, read_elements, read_ending, read_closing, read_body, read_block}
 use Rattle.dim_text.specs.Statement.{Head}
 use Rattle.dim_text.specs.Readers.Views.{GivesEnd, GivesText}
 use Rattle.dim_text.specs.declared.fault.Refusal.{Refusal}
-use Rattle.dim_text.proofs.Built.{built_ok}
+use Rattle.grammar.proofs.Checked.{checked_ok}
 
 gives_text : (result : Result Text (Stop Refusal)) (p : Progress) (left : List Lexeme) (read : Read Lexeme Progress Refusal (Unit {0})) → GivesEnd result p left read → GivesText result left read
 gives_text (Ok text) p left read h = (p, h.0, h.1)
@@ -32,6 +32,6 @@ pub block_parts : (result : Result Text (Stop Refusal)) (line : ℕ) (shown : Li
     → GivesText result left (read_body (opened line shown) mid) → GivesText result left (read_block nothing ts)
 unfolding read_block read_opening
 block_parts result line shown state ts mid left head body =
-    let opening : read_opening nothing ts ≡ Ok (tt, opened line shown, mid) = ap (λ r. bound r (λ _. gives tt)) (built_ok read_head nothing head refl) in
+    let opening : read_opening nothing ts ≡ Ok (tt, opened line shown, mid) = ap (λ r. bound r (λ _. gives tt)) (checked_ok {U = Unwatched} (record {}) add read_head nothing head refl) in
     let chain : read_block nothing ts ≡ read_body (opened line shown) mid = ap (λ r. bound r (λ _. read_body)) opening in
     subst (GivesText result left) (sym chain) body

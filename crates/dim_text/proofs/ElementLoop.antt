@@ -14,7 +14,7 @@ use Rattle.dim_text.specs.Progress.{Progress}
 use Rattle.dim_text.specs.Building.{add}
 use Rattle.dim_text.specs.Readers.Reading.{built, read_element, read_every_element, read_elements, is_element_word}
 use Rattle.dim_text.specs.Readers.Views.{element_view, Adds, GivesPartial}
-use Rattle.dim_text.proofs.Built.{built_halt, built_refused}
+use Rattle.grammar.proofs.Checked.{checked_halt, checked_refused}
 
 -- what has been read of the elements, and what is still to be read
 abbrev pub Goes : List Statement → Progress → List Lexeme → Progress → List Lexeme → Type 0
@@ -27,11 +27,11 @@ halts start all halt going more read = ap (λ r. bound r (λ _. gives tt)) (is_s
 -- a statement isn't read
 pub element_halts : (start : Progress) (all left : List Lexeme) {front : List Statement} {partial : Progress} {tokens : List Lexeme} {state : Unwatched} (stop : Stop Refusal) → Goes front partial tokens start all → true ≡ starts is_element_word tokens → Gives {X = Element} element_view (Err stop) state left (read_element (record {}) tokens) → GivesPartial (Err stop) left (read_elements start all)
 element_halts start all left stops.Memory going more read = tt
-element_halts start all left {partial = partial} (stops.Unexpected n) going more read = halts start all (Unexpected n) going more (built_halt read_element partial read)
-element_halts start all left {partial = partial} (stops.Refused cause) going more read = halts start all (Refused cause) going more (built_halt read_element partial read)
+element_halts start all left {partial = partial} (stops.Unexpected n) going more read = halts start all (Unexpected n) going more (checked_halt {U = Unwatched} (record {}) add read_element partial read)
+element_halts start all left {partial = partial} (stops.Refused cause) going more read = halts start all (Refused cause) going more (checked_halt {U = Unwatched} (record {}) add read_element partial read)
 
 -- a statement is refused
 pub add_halts : (start new : Progress) (all : List Lexeme) {front : List Statement} {partial : Progress} {tokens left : List Lexeme} {state : Unwatched} {x : Statement} (stop : Stop Refusal) → Goes front partial tokens start all → true ≡ starts is_element_word tokens → read_element (record {}) tokens ≡ Ok (x, state, left) → Adds {X = Unit {0}} (Err stop) new (add partial x) → GivesPartial (Err stop) left (read_elements start all)
 add_halts start new all stops.Memory going more read added = tt
 add_halts start new all (stops.Unexpected n) going more read added = absurd added
-add_halts start new all {partial = partial} (stops.Refused cause) going more read added = halts start all (Refused cause) going more (built_refused read_element partial read added)
+add_halts start new all {partial = partial} (stops.Refused cause) going more read added = halts start all (Refused cause) going more (checked_refused {U = Unwatched} (record {}) add read_element partial read added)

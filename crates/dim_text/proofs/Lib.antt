@@ -1,6 +1,5 @@
 pub mod ElementExact
 pub mod BlockExact
-pub mod Built
 pub mod Builds
 pub mod BlockParts
 pub mod Refusals

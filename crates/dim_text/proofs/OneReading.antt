@@ -1,11 +1,10 @@
 -- Tokens are statements in one way only, so they build one thing only, and a block ends by itself.
-use Rattle.std.proofs.Common.{◌≡◌, List, [], ◌∷◌, ◌++◌, true, false, codes, inl, inr}
-use Rattle.cube_lex.specs.Lexeme.{Lexeme}
-use Rattle.grammar.specs.Grammar.{Grammar, one, either}
-use Rattle.grammar.specs.Reading.{choose, both_of, gives, all_of}
-use Rattle.grammar.specs.Tokens.{sign, is_sign, is_word}
+use Rattle.std.proofs.Common.{true, false, codes}
+use Rattle.grammar.specs.Grammar.{one}
+use Rattle.grammar.specs.Reading.{choose, both_of, unit_of, all_of}
+use Rattle.grammar.specs.Tokens.{sign, is_word}
 use Rattle.grammar.specs.declared.cursor.Unwatched.{Unwatched}
-use Rattle.grammar.proofs.Begins.{Begins, HasToken, begins_both, begins_either, exact_or, has_token, exact_before_next}
+use Rattle.grammar.proofs.Begins.{Begins, HasToken, begins_both, begins_either, exact_or, has_token, has_token_either, exact_before_next}
 use Rattle.grammar.proofs.Cuts.{Cuts}
 use Rattle.grammar.proofs.Exact.{Exact, Always, exact_then, exact_made}
 use Rattle.grammar.proofs.Many.{exact_rest}
@@ -90,12 +89,6 @@ statement_ends_itself = ends_itself statement_exact statement_settles start
 
 -- Statements one after another.
 
-one_of_two : {A : Type 0} {G H : Grammar Lexeme A} → HasToken G → HasToken H → HasToken (either G H)
-one_of_two g h = record { at = λ u a e. at g h u a e } where
-  at : {A : Type 0} {G H : Grammar Lexeme A} → HasToken G → HasToken H → (u : List Lexeme) (a : A) → either G H u a → (t : Lexeme) × (v : List Lexeme) × (u ≡ t ∷ v)
-  at g h u a (inl e) = g.at u a e
-  at g h u a (inr e) = h.at u a e
-
 head_begins : Begins head (is_word (codes "DIM")) true
 head_begins = begins_both (word_begins (codes "DIM") (codes "DIM"))
 
@@ -103,15 +96,12 @@ close_begins : Begins closing (is_word (codes "DIM")) false
 close_begins = begins_both (sign_no_word (codes ";") (codes "DIM"))
 
 statement_has_token : HasToken statement
-statement_has_token = one_of_two (has_token head_begins) (one_of_two (has_token element_begins) (one_of_two (has_token end_begins) (has_token close_begins)))
+statement_has_token = has_token_either (has_token head_begins) (has_token_either (has_token element_begins) (has_token_either (has_token end_begins) (has_token close_begins)))
 
 pub building_cuts : Cuts building
 building_cuts = text_cuts statement add statement_ends_itself statement_has_token
 
 -- The body, and the whole block.
-
-abbrev unit_of : {A : Type 0} → Plain A → Plain (Unit {0})
-unit_of P = both_of P (λ _. gives tt)
 
 abbrev plain_body : Plain (Unit {0})
 plain_body = both_of (unit_of (all_of is_element_word read_element)) (λ _. both_of (unit_of read_end) (λ _. unit_of read_close))

@@ -1,13 +1,13 @@
 -- A stable sort by level gives the elements level by level.
-use Rattle.std.proofs.Common.{◌≡◌, ℕ, zero, suc, ◌+◌, ◌<◌, ◌≤◌, Bool, true, false, cond, not, ◌&&◌, eqb, List, [], ◌∷◌, ◌++◌, length, get_or, filter, refl, ap, sym, ◌∙◌, subst, arith, All, Contains, slice_index}
+use Rattle.std.proofs.Common.{◌≡◌, ℕ, zero, suc, ◌+◌, ◌<◌, ◌≤◌, Bool, true, false, eqb, List, [], ◌∷◌, ◌++◌, length, get_or, filter, refl, ap, ◌∙◌, arith, All, Contains, slice_index}
 use Rattle.std.specs.List.{range_with_len, flat_map}
-use Rattle.std.specs.List.Sorted.{IsNonDecreasingBy, ties}
-use Rattle.std.specs.Ordering.{nat_cmp, is_lt}
+use Rattle.std.specs.List.Sorted.{IsNonDecreasingBy}
 use Rattle.std.proofs.lemmas.Bool.{eqb-true}
 use Rattle.std.proofs.lemmas.Bool.Decides.{nat_tests}
-use Rattle.std.proofs.lemmas.List.Elements.{filter_agree, All-head, All-tail}
+use Rattle.std.proofs.lemmas.List.Elements.{All-head, All-tail}
 use Rattle.std.proofs.lemmas.List.FromFn.{length-range_with_len, get_or-range_with_len}
 use Rattle.std.proofs.lemmas.List.Sorted.{All-permutation, Contains-permutation, length_permutation}
+use Rattle.lists.proofs.Stable.{of_key, stable_of_key}
 use Rattle.dim_core.specs.Outline.{Outline, IsDimension, IsElement, component_lists, level}
 use Rattle.dim_weights.specs.Refusal.{of_level}
 use Rattle.dim_order.specs.Levels.{AreLevels}
@@ -20,10 +20,6 @@ range-push-from (suc n) a = let rest = range-push-from n (a + 1) in let e : (a +
 
 pub range-push : (n : ℕ) → range_with_len 0 (n + 1) ≡ range_with_len 0 n ++ n ∷ []
 range-push n = let all = range-push-from n 0 in let e : 0 + n ≡ n = omega arith in let f : n + 1 ≡ suc n = omega arith in rw f (rw e at all)
-
--- those with this key
-abbrev of_key : (ℕ → ℕ) → List ℕ → ℕ → List ℕ
-of_key key xs k = filter (λ x. eqb (key x) k) xs
 
 abbrev Ascends : (ℕ → ℕ) → ℕ → List ℕ → Type 0
 Ascends key a [] = Unit {0}
@@ -85,34 +81,6 @@ splits key zero a (x ∷ xs) up within =
 splits key (suc m) a xs up within = splits-more key m (splits key m) a xs up within
 
 -- a stable sort keeps those of each key
-tie : (k m : ℕ) → eqb m k ≡ (not (is_lt (nat_cmp k m)) && not (is_lt (nat_cmp m k)))
-tie k m = grind (arith, nat_tests)
-
-head-passes : (p : ℕ → Bool) (xs : List ℕ) (y : ℕ) (ys : List ℕ) → filter p xs ≡ y ∷ ys → p y ≡ true
-head-passes p [] y ys h = absurd (cc)
-head-passes p (x ∷ xs) y ys h = by (p x) refl h (head-passes p xs y ys)
-  where
-    by : (b : Bool) → p x ≡ b → cond b (x ∷ filter p xs) (filter p xs) ≡ y ∷ ys → (filter p xs ≡ y ∷ ys → p y ≡ true) → p y ≡ true
-    by true e same rest = let first : x ≡ y = cc in ap p (sym first) ∙ e
-    by false e same rest = rest same
-
-module _ (key : ℕ → ℕ) (xs ys : List ℕ) (stable : (x : ℕ) → filter (ties (λ (a : ℕ) (b : ℕ). is_lt (nat_cmp (key a) (key b))) x) ys ≡ filter (ties (λ (a : ℕ) (b : ℕ). is_lt (nat_cmp (key a) (key b))) x) xs) where
-  at-element : (x : ℕ) → of_key key ys (key x) ≡ of_key key xs (key x)
-  at-element x =
-      let agree = λ (zs : List ℕ). filter_agree (λ (w : ℕ). eqb (key w) (key x)) (ties (λ (a : ℕ) (b : ℕ). is_lt (nat_cmp (key a) (key b))) x) (λ w. tie (key x) (key w)) zs in
-      agree ys ∙ (stable x ∙ sym (agree xs))
-
-  at-key : (k : ℕ) → of_key key ys k ≡ of_key key xs k
-  at-key k = by (of_key key xs k) (of_key key ys k) refl refl
-    where
-      to : (x : ℕ) → key x ≡ k → of_key key ys k ≡ of_key key xs k
-      to x same = let P : ℕ → Type 0 = λ n. of_key key ys n ≡ of_key key xs n in subst P same (at-element x)
-
-      by : (us vs : List ℕ) → of_key key xs k ≡ us → of_key key ys k ≡ vs → of_key key ys k ≡ of_key key xs k
-      by (x ∷ us) vs e f = to x (eqb-true (key x) k (head-passes (λ w. eqb (key w) k) xs x us e))
-      by [] (y ∷ vs) e f = to y (eqb-true (key y) k (head-passes (λ w. eqb (key w) k) ys y vs f))
-      by [] [] e f = f ∙ sym e
-
 filter-agree-all : (p q : ℕ → Bool) (xs : List ℕ) → All (λ x. p x ≡ q x) xs → filter p xs ≡ filter q xs
 filter-agree-all p q [] all = refl
 filter-agree-all p q (x ∷ xs) all = rw (All-head (λ x. p x ≡ q x) x xs all, filter-agree-all p q xs (All-tail (λ x. p x ≡ q x) x xs all)) refl
@@ -148,7 +116,7 @@ module _ (d : Outline) (dim : IsDimension d) (levels ys : List ℕ) (are : AreLe
   pub IsByLevel-sorted : IsByLevel d ys
   IsByLevel-sorted = record {
     is = splits (slice_index levels) (length d.elements) 0 ys (Ascends-from (slice_index levels) ys sorted.rising) keys-below
-        ∙ flat_map-agree (of_key (slice_index levels) ys) (of_level d) (length d.elements) 0 (λ k le. at-key (slice_index levels) (range_with_len 0 (length d.elements)) ys sorted.stable k ∙ of-level k);
+        ∙ flat_map-agree (of_key (slice_index levels) ys) (of_level d) (length d.elements) 0 (λ k le. stable_of_key (slice_index levels) (range_with_len 0 (length d.elements)) ys sorted.stable k ∙ of-level k);
     rising = λ i j e le within.
         let one = level-at (get_or ys i e) (inside i e (omega arith)) in
         let two = level-at (get_or ys j e) (inside j e within) in

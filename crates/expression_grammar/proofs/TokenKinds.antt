@@ -1,5 +1,5 @@
 -- The kinds of the tokens that texts begin with.
-use Rattle.std.proofs.Common.{◌≡◌, ℕ, List, [], ◌∷◌, Option, Some, Bool, true, ◌&&◌, if◌then◌else◌, refl, ap}
+use Rattle.std.proofs.Common.{◌≡◌, ℕ, List, [], ◌∷◌, Option, Some, Bool, true, ◌&&◌, refl, ap}
 use Rattle.std.specs.Result.{result_ok}
 use Rattle.std.specs.Str.{bytes_eq}
 use Rattle.cube_fixed.specs.Text.{number_of, reading_of}
@@ -20,7 +20,7 @@ pub record HasKind {A : Type 0} (G : Grammar Lexeme A) (k : Kind) : Type 0 where
 pub kind_begins : {A : Type 0} {G : Grammar Lexeme A} {k : Kind} (q : Kind → Bool) → HasKind G k → Begins G (λ t. q t.kind) (q k)
 kind_begins q e = record { at = λ u a h. (let (t, v, is, kind) = e.at u a h in (t, v, is, ap q kind)) }
 
-sign_is : (k : Kind) → is_sign_kind k ≡ true → k ≡ kinds.Sign
+pub sign_is : (k : Kind) → is_sign_kind k ≡ true → k ≡ kinds.Sign
 sign_is kinds.Word e = cc
 sign_is kinds.Number e = cc
 sign_is kinds.Text e = cc

@@ -2,7 +2,7 @@
 use Rattle.std.proofs.Common.{◌≡◌, refl, sym, ap, ◌∙◌, arith, subst, ℕ, zero, suc, ◌+◌, ◌^◌, ◌<◌, ◌≤◌, ◌⊎◌, Bool, true, false, not, ◌||◌, Some, None, Result, Ok, Err, List, [], ◌∷◌, length, map, take, get_or, ◌==◌, if◌then◌else◌, All, Contains, inl, inr}
 use Rattle.std.specs.Prelude.{slice_get, OnOk, OnErr}
 use Rattle.std.specs.List.{flat_map, range_with_len, list_any}
-use Rattle.std.proofs.lemmas.Bool.{eq-eqb, cases_lt, and_parts, and_from}
+use Rattle.std.proofs.lemmas.Bool.{eq-eqb, cases_lt, and_parts, and_from, or_right}
 use Rattle.std.proofs.lemmas.Bool.Decides.{Decides-eqb}
 use Rattle.std.proofs.lemmas.List.Elements.{All-nil, All-cons}
 use Rattle.std.proofs.lemmas.List.{length-map}
@@ -115,10 +115,6 @@ either : (t u : Bool) → t || u ≡ true → (t ≡ true) ⊎ (u ≡ true)
 either true u h = inl refl
 either false u h = inr h
 
-second : (t u : Bool) → u ≡ true → t || u ≡ true
-second true u h = refl
-second false u h = h
-
 module _ (m : BoundModel) (cube : ℕ) where
   -- whether a rule is one of the cube
   abbrev IsOwn : Rule → Bool
@@ -145,7 +141,7 @@ module _ (m : BoundModel) (cube : ℕ) where
   some-own : 0 < length (rules_of m cube).statements → (a n : ℕ) → a ≤ cube → cube < a + n → list_any IsOwn (flat_map (cube_rules m) (range_with_len a n)) ≡ true
   some-own some a zero from low = absurd (omega (arith, from, low))
   some-own some a (suc n) from low = list_any-append IsOwn (cube_rules m a) (flat_map (cube_rules m) (range_with_len (a + 1) n)) ∙ elim (cases_lt a cube) [
-    | inl before ↦ second (list_any IsOwn (cube_rules m a)) _ (some-own some (a + 1) n (omega (arith, before)) (omega (arith, low)))
+    | inl before ↦ or_right (list_any IsOwn (cube_rules m a)) _ (some-own some (a + 1) n (omega (arith, before)) (omega (arith, low)))
     | inr after ↦ let same : cube ≡ a = omega (arith, from, after) in
         ap (λ t. t || list_any IsOwn (flat_map (cube_rules m) (range_with_len (a + 1) n))) (ap (λ k. list_any IsOwn (cube_rules m k)) (sym same) ∙ one-own (rules_of m cube).statements some)
   ]

@@ -1,5 +1,5 @@
 -- Arguments that name the element that a cell has, in a dimension that both cubes have.
-use Rattle.std.proofs.Common.{◌≡◌, refl, sym, ap, ◌∙◌, arith, subst, ℕ, ◌<◌, ◌≤◌, Bool, true, false, not, Option, Some, None, ℤ, List, [], length, get_or, inl, inr}
+use Rattle.std.proofs.Common.{◌≡◌, refl, sym, ap, ◌∙◌, arith, subst, ℕ, ◌<◌, Bool, true, false, not, Option, Some, None, ℤ, List, [], length, get_or, inl, inr}
 use Rattle.std.specs.Prelude.{slice_get, slice_index_or}
 use Rattle.std.specs.List.{list_all, range_with_len}
 use Rattle.std.specs.Option.{option_map_or}
@@ -15,7 +15,7 @@ use Rattle.rule_laws.proofs.MapFacts.{inside, outside}
 use Rattle.rule_laws.specs.declared.reference.Arg.{Arg}
 use Rattle.rule_laws.specs.declared.reference.Arg.TheVariants.{Fixed, Moved}
 use Rattle.rule_model.specs.Conditions.{IsArea}
-use Rattle.model_laws.proofs.Levels.{axes-are, found}
+use Rattle.model_laws.proofs.Levels.{axis-is}
 use Rattle.order_laws.specs.Decision.{is_leaf_element}
 use Rattle.order_laws.proofs.SetFacts.{place-of}
 use Rattle.ref_order.proofs.Axes.{size-of-axis}
@@ -76,7 +76,7 @@ module _ (look : Look) (is_area : IsArea look.space look.cube look.area) where
           is-leaf = shown (is_leaf d e) (ap (λ o. not (option_map_or (λ d. not (is_leaf d e)) o false)) (sym at) ∙ leaf e is.narrow)
 
           dimension : IsDimension d
-          dimension = found IsDimension (axes look.space look.cube) i d (axes-are look.space valid look.cube) (same ∙ at)
+          dimension = axis-is look.space valid look.cube i d (same ∙ at)
 
           counts : counts_in (axes look.space look.cube) i e e ≡ true
           counts = ap (λ o. option_map_or (λ (d : Outline). is_nonzero (coef d e e)) o false) (same ∙ at) ∙ own-counts d dimension e here is-leaf

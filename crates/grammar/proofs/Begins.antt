@@ -72,6 +72,13 @@ exact_before_next e k begins = exact_both e k (λ a v b rest l stops. starts_tex
 pub has_token : {T A : Type 0} {G : Grammar T A} {p : T → Bool} {b : Bool} → Begins G p b → HasToken G
 has_token e = record { at = λ u a h. (let (t, v, is, _) = e.at u a h in (t, v, is)) }
 
+has_either : {T A : Type 0} {G H : Grammar T A} → HasToken G → HasToken H → (u : List T) (a : A) → either G H u a → (t : T) × (v : List T) × (u ≡ t ∷ v)
+has_either g h u a (inl e) = g.at u a e
+has_either g h u a (inr e) = h.at u a e
+
+pub has_token_either : {T A : Type 0} {G H : Grammar T A} → HasToken G → HasToken H → HasToken (either G H)
+has_token_either g h = record { at = has_either g h }
+
 optional_front : {T A : Type 0} {G : Grammar T A} {p : T → Bool} {b : Bool} (x : A) → Begins G p b → (u : List T) (a : A) → either G (done x) u a → (u ≡ []) ⊎ ((t : T) × (v : List T) × (u ≡ t ∷ v) × (p t ≡ b))
 optional_front x e u a (inl h) = inr (e.at u a h)
 optional_front x e u a (inr h) = inl h.0

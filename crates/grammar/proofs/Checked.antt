@@ -2,9 +2,19 @@
 use Rattle.std.proofs.Common.{◌≡◌, ℕ, List, [], ◌∷◌, ◌++◌, Result, Ok, Err, refl, sym, ◌∙◌, ap, subst, inr, append-nil, append_assoc}
 use Rattle.grammar.specs.Grammar.{Grammar}
 use Rattle.grammar.specs.Watch.{Within, each_text, unwatched}
-use Rattle.grammar.specs.Reading.{Unexpected, Refused, OutOfTurns, Read, Reader, let_through, checked_result, checked}
+use Rattle.grammar.specs.Reading.{Stop, Unexpected, Refused, OutOfTurns, Read, Reader, let_through, checked_result, checked}
 use Rattle.grammar.proofs.Exact.{Exact, Outcome, IsRead, IsStuck, Agrees, Always, passes_one, passes_nothing, refuses_one}
 use Rattle.grammar.proofs.Begins.{HasToken}
+
+module _ {T U R C X : Type 0} (u : U) (add : R → X → Result R C) (P : Reader T U C X) (s : R) where
+  pub checked_ok : {t : R} {ts rest : List T} {x : X} {v : U} → P u ts ≡ Ok (x, v, rest) → add s x ≡ Ok t → checked u add P s ts ≡ Ok (x, t, rest)
+  checked_ok {rest = rest} {x = x} read added = ap (checked_result (add s)) read ∙ ap (let_through x rest) added
+
+  pub checked_refused : {ts rest : List T} {x : X} {v : U} {cause : C} → P u ts ≡ Ok (x, v, rest) → add s x ≡ Err cause → checked u add P s ts ≡ Err (Refused cause)
+  checked_refused {rest = rest} {x = x} read refused = ap (checked_result (add s)) read ∙ ap (let_through x rest) refused
+
+  pub checked_halt : {ts : List T} {halt : Stop C} → P u ts ≡ Err halt → checked u add P s ts ≡ Err halt
+  checked_halt read = ap (checked_result (add s)) read
 
 -- the same list, cut before its last
 pub cut_last : {T : Type 0} (t : T) (v : List T) → (before : List T) × (last : T) × (t ∷ v ≡ before ++ last ∷ [])

@@ -372,37 +372,9 @@ exact_choose {W = W} {G = G} {H = H} {G' = G'} {H' = H'} {P = P} {Q = Q} {S'' = 
 
 -- Readers that answer the same.
 
-same_sound : {T R C A : Type 0} (G : Grammar T A) (W : Watch T R C) (P Q : Reader T R C A) → ((n : R) (ts : List T) → P n ts ≡ Q n ts) → (n : R) (ts : List T) (r : Read T R C A) → Outcome G W P n ts r → Outcome G W Q n ts r
-unfolding Outcome
-same_sound G W P Q same n ts (Ok x) f = record {
-  text = f.text;
-  parts = f.parts;
-  reads = f.reads;
-  passes = f.passes;
-  alone = λ other e. sym (same n (f.text ++ other)) ∙ f.alone other e;
-}
-same_sound G W P Q same n ts (Err (Unexpected left)) f = record {
-  text = f.text;
-  rest = f.rest;
-  parts = f.parts;
-  left_is = f.left_is;
-  alive = f.alive;
-  within = f.within;
-  alone = λ other e. sym (same n (f.text ++ other)) ∙ f.alone other e;
-}
-same_sound G W P Q same n ts (Err (Refused cause)) f = record {
-  before = f.before;
-  last = f.last;
-  rest = f.rest;
-  parts = f.parts;
-  alive = f.alive;
-  refused = f.refused;
-}
-same_sound G W P Q same n ts (Err OutOfTurns) f = tt
-
 pub exact_same : {T R C A : Type 0} {W : Watch T R C} {G H : Grammar T A} {P Q : Reader T R C A} {S : List T → Type 0} → ((n : R) (ts : List T) → P n ts ≡ Q n ts) → Exact W G H P S → Exact W G H Q S
 exact_same {W = W} {G = G} {P = P} {Q = Q} same e = record {
   word = e.word;
-  sound = λ n ts. same_sound G W P Q same n ts (Q n ts) (subst (Outcome G W P n ts) (same n ts) (e.sound n ts));
+  sound = λ n ts. outcome_by W G G P Q n ts (λ u a h. h) (λ text other rest parts e. sym (same n (text ++ other))) (Q n ts) (subst (Outcome G W P n ts) (same n ts) (e.sound n ts));
   complete = λ n u a rest h stops. subst (Agrees a rest) (same n (u ++ rest)) (e.complete n u a rest h stops);
 }

@@ -41,6 +41,9 @@ sign_tells a b t x e =
     let (kind, bytes) = and_is (is_sign_kind t.kind) (bytes_eq t.piece a) is in
     ap (λ k. k && bytes_eq t.piece b) kind ∙ ap (λ piece. bytes_eq piece b) (same_bytes t.piece a bytes)
 
+pub word_is : (w : List ℕ) (t : Lexeme) → is_word w t ≡ true → word w t ≡ Some t.line
+word_is w t is = ap (λ b. if b then Some t.line else None) is
+
 pub word_tells : (a b : List ℕ) (t : Lexeme) (x : ℕ) → word a t ≡ Some x → is_word b t ≡ str_eq_ignore_ascii_case a b
 word_tells a b t x e =
     let (is, _) = when_picks (is_word a) (λ t. t.line) t x e in
@@ -114,6 +117,9 @@ begins_any {p = p} {q = q} {b = b} {c = c} e f = record { at = begins_any_at p q
 
 abbrev pub sample_of : Kind → List ℕ → Lexeme
 sample_of kind piece = record { kind = kind; piece = piece; start = 0; line = 0 }
+
+abbrev pub sign_of : List ℕ → Lexeme
+sign_of piece = sample_of kinds.Sign piece
 
 pub exact_sign : {R C : Type 0} (scan : R → Lexeme → Result R C) (a : List ℕ) → Exact (each_token scan) (one (sign a)) (one (sign a)) (take_one scan (sign a)) Always
 exact_sign scan a = exact_one scan (sign a) (sample_of kinds.Sign a) tt (ap (λ b. if b then Some tt else None) (bytes_eq_self a))

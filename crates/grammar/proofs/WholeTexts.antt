@@ -1,15 +1,18 @@
 -- From an exact reader to what is answered of the bytes of a whole text.
-use Rattle.std.proofs.Common.{◌≡◌, ℕ, ◌-◌, List, [], ◌∷◌, ◌++◌, length, drop, Option, Some, None, Result, Ok, Err, refl, sym, ◌∙◌, ap, subst}
+use Rattle.std.proofs.Common.{◌≡◌, ℕ, ◌-◌, List, [], ◌∷◌, ◌++◌, length, drop, map, Option, Some, None, Result, Ok, Err, refl, sym, ◌∙◌, ap, subst}
 use Rattle.cube_lex.specs.Lexed.{Lexed}
-use Rattle.cube_lex.specs.Lexeme.{Lexeme}
+use Rattle.cube_lex.specs.Lexeme.{Lexeme, lexeme_of}
 use Rattle.cube_lex.specs.Reading.{IsReading}
 use Rattle.cube_lex.specs.declared.fault.LexFault.{LexFault}
+use Rattle.cube_lex.specs.declared.token.Token.{Token}
 use Rattle.grammar.specs.Grammar.{Grammar}
 use Rattle.grammar.specs.Watch.{Watch}
-use Rattle.grammar.specs.Cursor.{Gives}
+use Rattle.grammar.specs.Cursor.{lexemes, Gives, Reads}
 use Rattle.grammar.specs.Fault.{IsText, Fails, IsSyntax}
 use Rattle.grammar.specs.Reading.{Unexpected, Refused, Reader, first}
 use Rattle.grammar.specs.Whole.{IsWholeText, FailsBefore, line_of, IsWholeSyntax, IsWholeRefused, AnswersWhole, answer_of_text}
+use Rattle.grammar.specs.declared.answer.TextFault.{TextFault}
+use Rattle.grammar.specs.declared.cursor.Cursor.{Cursor}
 use Rattle.grammar.specs.declared.stop.Stop.{Stop}
 use Rattle.grammar.specs.declared.stop.Stop.TheVariants as stops
 use Rattle.grammar.proofs.Exact.{Exact, Outcome, IsRead, within_passes}
@@ -88,3 +91,13 @@ whole_told e nothing view n bytes lexed (Some f) (Ok x) m (t ∷ rest) reading g
 whole_told e nothing view n bytes lexed fault (Err stops.Memory) m rest reading given = tt
 whole_told e nothing view n bytes lexed fault (Err (stops.Unexpected left)) m rest reading given = whole_stuck_told e nothing n bytes lexed fault left reading given
 whole_told e nothing view n bytes lexed fault (Err (stops.Refused cause)) m rest reading given = whole_refused_told e n bytes lexed fault cause reading given
+
+-- the same of a function that was given a cursor over all tokens
+pub whole_answered : {X R C A : Type 0} {W : Watch Lexeme R C} {G : Grammar Lexeme A} {P : Reader Lexeme R C A} {S : List Lexeme → Type 0} → Exact W G G P S → S [] → (view : X → A) (bytes : List ℕ) (start : R) (lexed : Lexed) (fault : Option LexFault) (given : List Token) (read : Result X (Stop C)) (old new : Cursor R) (answer : Result X (TextFault C))
+    → IsReading bytes lexed fault → map lexeme_of given ≡ lexed.lexemes → old.tokens.now ≡ given → old.state ≡ start → Reads view P old read new → answer ≡ answer_of_text lexed fault read (lexemes new.tokens.now)
+    → AnswersWhole view G W start bytes answer
+whole_answered {W = W} {G = G} {P = P} e nothing view bytes start lexed fault given read old new answer reading same tokens state reads is =
+    let all : lexemes old.tokens.now ≡ lexed.lexemes = ap lexemes tokens ∙ same in
+    let given_start : Gives view read new.state (lexemes new.tokens.now) (P start (lexemes old.tokens.now)) = subst (λ s. Gives view read new.state (lexemes new.tokens.now) (P s (lexemes old.tokens.now))) state reads in
+    let given_all : Gives view read new.state (lexemes new.tokens.now) (P start lexed.lexemes) = subst (λ ts. Gives view read new.state (lexemes new.tokens.now) (P start ts)) all given_start in
+    subst (AnswersWhole view G W start bytes) (sym is) (whole_told e nothing view start bytes lexed fault read new.state (lexemes new.tokens.now) reading given_all)

@@ -56,6 +56,10 @@ infixl 10 ◌>>◌
 abbrev pub ◌>>◌ : {T R C A B : Type 0} → Reader T R C A → Reader T R C B → Reader T R C B
 P >> Q = both_of P (λ _. Q)
 
+-- a reader whose tree isn't kept
+abbrev pub unit_of : {T R C A : Type 0} → Reader T R C A → Reader T R C (Unit {0})
+unit_of P = both_of P (λ _. gives tt)
+
 -- by the next token
 abbrev pub choose : {T R C A : Type 0} → (T → Bool) → Reader T R C A → Reader T R C A → Reader T R C A
 choose p P Q s ts = if starts p ts then P s ts else Q s ts

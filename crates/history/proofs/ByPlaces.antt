@@ -1,5 +1,5 @@
 -- A run that is told along the list, and a run that is read place by place, are the same.
-use Rattle.std.proofs.Common.{◌≡◌, ℕ, ◌+◌, ◌≤◌, zero, suc, List, [], ◌∷◌, length, Some, None, refl, ap, sym, ◌∙◌, arith, inl, inr}
+use Rattle.std.proofs.Common.{◌≡◌, ℕ, ◌+◌, ◌≤◌, zero, suc, List, [], ◌∷◌, length, Some, refl, ap, sym, ◌∙◌, arith, inl, inr}
 use Rattle.std.specs.List.{slice_get}
 use Rattle.std.proofs.lemmas.Bool.{cases_lt}
 use Rattle.history.specs.declared.entry.Entry.{Entry}
@@ -9,15 +9,10 @@ use Rattle.history.specs.declared.effect.Effect.TheVariants.{Commit, Rejected, R
 use Rattle.history.specs.Version.{version, NoneWithin}
 use Rattle.history.specs.UserRun.{reply_of, least_after, Stands, ToldFrom, UserRun}
 use Rattle.history.specs.ByPlace.{IsToldEntry, IsRunByPlace}
-use Rattle.history.proofs.Lists.{get_some, get_below}
+use Rattle.std.proofs.lemmas.Option.{slice_get_within}
+use Rattle.lists.proofs.Found.{none_some, some_same, there}
 use Rattle.history.proofs.Runs.{least_after_le, place_le}
 use Rattle.history.proofs.Histories.{stands_cases}
-
-nothing : {A B : Type 0} {x : A} → None ≡ Some x → B
-nothing is = cc
-
-same : {A : Type 0} {x y : A} → Some x ≡ Some y → x ≡ y
-same is = cc
 
 module _ {C K T R : Type 0} (effect : C → K → Effect T R) (after : C → T → C) (first : C) where
   -- what one answer says, by its index
@@ -26,11 +21,11 @@ module _ {C K T R : Type 0} (effect : C → K → Effect T R) (after : C → T �
       → (i : ℕ) (answer : Told R) (command : K) → slice_get told i ≡ Some answer → slice_get commands i ≡ Some command
       → (answer.reply ≡ reply_of (effect (version after first log answer.place) command))
       × Stands (effect (version after first log answer.place) command) log answer.place user (i + number)
-  answer_at log user number least [] commands t i answer command is at = nothing is
+  answer_at log user number least [] commands t i answer command is at = absurd (none_some is)
   answer_at log user number least (one ∷ told) [] t i answer command is at = absurd t
   answer_at log user number least (one ∷ told) (next ∷ commands) t zero answer command is at =
       let zeroth : zero + number ≡ number = omega arith in
-      rw (sym (same is), sym (same at), zeroth) (t.2, t.3)
+      rw (sym (some_same is), sym (some_same at), zeroth) (t.2, t.3)
   answer_at log user number least (one ∷ told) (next ∷ commands) t (suc i) answer command is at =
       let shift : suc i + number ≡ i + (number + 1) = omega arith in
       rw shift (answer_at log user (number + 1) (least_after (effect (version after first log one.place) next) one.place) told commands t.4 i answer command is at)
@@ -39,12 +34,12 @@ module _ {C K T R : Type 0} (effect : C → K → Effect T R) (after : C → T �
       → ToldFrom effect after first log user number least told commands
       → (i : ℕ) (answer next : Told R) (command : K) → slice_get told i ≡ Some answer → slice_get told (suc i) ≡ Some next → slice_get commands i ≡ Some command
       → least_after (effect (version after first log answer.place) command) answer.place ≤ next.place
-  order_at log user number least [] commands t i answer next command is then at = nothing is
+  order_at log user number least [] commands t i answer next command is then at = absurd (none_some is)
   order_at log user number least (one ∷ told) [] t i answer next command is then at = absurd t
-  order_at log user number least (one ∷ []) (k ∷ commands) t zero answer next command is then at = nothing then
+  order_at log user number least (one ∷ []) (k ∷ commands) t zero answer next command is then at = absurd (none_some then)
   order_at log user number least (one ∷ two ∷ told) (k ∷ []) t zero answer next command is then at = absurd t.4
   order_at log user number least (one ∷ two ∷ told) (k ∷ l ∷ commands) t zero answer next command is then at =
-      rw (sym (same is), sym (same at), sym (same then)) t.4.0
+      rw (sym (some_same is), sym (some_same at), sym (some_same then)) t.4.0
   order_at log user number least (one ∷ told) (k ∷ commands) t (suc i) answer next command is then at =
       order_at log user (number + 1) (least_after (effect (version after first log one.place) k) one.place) told commands t.4 i answer next command is then at
 
@@ -75,7 +70,7 @@ module _ {C K T R : Type 0} (effect : C → K → Effect T R) (after : C → T �
   run_by_place log user told commands run = record {
     all = run.0;
     within = λ i answer is.
-        let command = get_some commands i (omega (arith, get_below told i answer is, run.0)) in
+        let command = there commands i (omega (arith, slice_get_within told i answer is, run.0)) in
         let found = effect (version after first log answer.place) command.0 in
         let at = answer_at log user 1 0 told commands run.1 i answer command.0 is command.1 in
         omega (arith, place_le found answer.place, least_after_le found log answer.place user (i + 1) at.1);
@@ -93,10 +88,10 @@ module _ {C K T R : Type 0} (effect : C → K → Effect T R) (after : C → T �
       → ((i : ℕ) (answer next : Told R) (command : K) → slice_get told i ≡ Some answer → slice_get told (suc i) ≡ Some next → slice_get commands i ≡ Some command
       → least_after (effect (version after first log answer.place) command) answer.place ≤ next.place)
       → (one : Told R) → slice_get told 0 ≡ Some one → (i : ℕ) (answer : Told R) → slice_get told i ≡ Some answer → one.place ≤ answer.place
-  rising log told commands few order one is zero answer at = let here : one ≡ answer = same (sym is ∙ at) in rw here (omega arith)
+  rising log told commands few order one is zero answer at = let here : one ≡ answer = some_same (sym is ∙ at) in rw here (omega arith)
   rising log told commands few order one is (suc i) answer at =
-      let before = get_some told i (omega (arith, get_below told (suc i) answer at)) in
-      let command = get_some commands i (omega (arith, get_below told (suc i) answer at)) in
+      let before = there told i (omega (arith, slice_get_within told (suc i) answer at)) in
+      let command = there commands i (omega (arith, slice_get_within told (suc i) answer at)) in
       let up = rising log told commands few order one is i before.0 before.1 in
       let step = order i before.0 answer command.0 before.1 at command.1 in
       omega (arith, up, step, place_le (effect (version after first log before.0.place) command.0) before.0.place)
@@ -114,9 +109,9 @@ module _ {C K T R : Type 0} (effect : C → K → Effect T R) (after : C → T �
       → (i : ℕ) (answer : Told R) (k : K) → slice_get (one ∷ told) i ≡ Some answer → slice_get (command ∷ commands) i ≡ Some k → answer.place ≡ place
       → effect (version after first log place) k ≡ Commit entry.writes reply → IsToldEntry effect after first log told commands entry place
   entry_past log one told command commands entry place reply from zero answer k is at here accepted =
-      let place_is : place ≡ one.place = sym here ∙ ap (λ (t : Told R). t.place) (sym (same is)) in
+      let place_is : place ≡ one.place = sym here ∙ ap (λ (t : Told R). t.place) (sym (some_same is)) in
       let found : effect (version after first log one.place) command ≡ Commit entry.writes reply =
-      ap (λ (p : ℕ). effect (version after first log p) command) (sym place_is) ∙ ap (λ (c : K). effect (version after first log place) c) (same at) ∙ accepted in
+      ap (λ (p : ℕ). effect (version after first log p) command) (sym place_is) ∙ ap (λ (c : K). effect (version after first log place) c) (some_same at) ∙ accepted in
       let least : least_after (effect (version after first log one.place) command) one.place ≡ one.place + 1 = ap (λ (f : Effect T R). least_after f one.place) found in
       absurd (omega (arith, from, least, place_is))
   entry_past log one told command commands entry place reply from (suc i) answer k is at here accepted = record {
@@ -144,7 +139,7 @@ module _ {C K T R : Type 0} (effect : C → K → Effect T R) (after : C → T �
       → ((place : ℕ) (entry : Entry T) → least ≤ place → slice_get log place ≡ Some entry → entry.user ≡ user → IsToldEntry effect after first log told commands entry place)
       → ToldFrom effect after first log user number least told commands
   told_by_place log user number least [] commands few low start within replies entries order others =
-      (low, λ place entry from is own. nothing (others place entry from is own).is_answer)
+      (low, λ place entry from is own. absurd (none_some (others place entry from is own).is_answer))
   told_by_place log user number least (one ∷ told) [] few low start within replies entries order others = absurd (omega arith)
   told_by_place log user number least (one ∷ told) (command ∷ commands) few low start within replies entries order others =
       let found = effect (version after first log one.place) command in

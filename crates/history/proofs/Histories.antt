@@ -9,7 +9,7 @@ use Rattle.history.specs.Version.{version}
 use Rattle.history.specs.UserRun.{least_after, Stands, ToldFrom, RunSoFar}
 use Rattle.history.specs.History.{IsLegal, EachRunSoFar, EachRun, IsHistoryOf, HasUsers}
 use Rattle.std.proofs.lemmas.Bool.{cases_lt}
-use Rattle.history.proofs.Lists.{get_some}
+use Rattle.lists.proofs.Found.{there}
 
 here_or_past : (a b : ℕ) → a ≤ b → (a ≡ b) ⊎ (a + 1 ≤ b)
 here_or_past a b h = elim (cases_lt a b) [ inl less ↦ inr (omega arith) | inr more ↦ inl (omega arith) ]
@@ -67,8 +67,8 @@ module _ {C K T R : Type 0} (effect : C → K → Effect T R) (after : C → T �
   runs_legal users told log all known runs place entry is =
       let user = known place entry is in
       let user_of = above_zero entry.user user.0 in
-      let commands = get_some users user_of.0 (omega (arith, user.1, user_of.1)) in
-      let replies = get_some told user_of.0 (omega (arith, user.1, user_of.1, all)) in
+      let commands = there users user_of.0 (omega (arith, user.1, user_of.1)) in
+      let replies = there told user_of.0 (omega (arith, user.1, user_of.1, all)) in
       let run : RunSoFar effect after first log (user_of.0 + 1) replies.0 commands.0 = runs user_of.0 commands.0 replies.0 commands.1 replies.1 in
       let found = told_entry log (user_of.0 + 1) place entry is user_of.1 1 0 replies.0 commands.0 run (omega arith) in
       record {

@@ -25,17 +25,6 @@ module _ {A : Type 0} where
   get_here (x ∷ xs) ys zero y is = is
   get_here (x ∷ xs) ys (suc k) y is = get_here xs ys k y is
 
-  pub get_below : (xs : List A) (k : ℕ) (y : A) → slice_get xs k ≡ Some y → k < length xs
-  get_below [] k y is = cc
-  get_below (x ∷ xs) zero y is = omega arith
-  get_below (x ∷ xs) (suc k) y is = omega (arith, get_below xs k y is)
-
-  -- an element at each place of the list
-  pub get_some : (xs : List A) (k : ℕ) → k < length xs → (y : A) × (slice_get xs k ≡ Some y)
-  get_some [] k below = absurd (omega arith)
-  get_some (x ∷ xs) zero below = (x, refl)
-  get_some (x ∷ xs) (suc k) below = get_some xs k (omega arith)
-
   pub get_drop : (n : ℕ) (xs : List A) (k : ℕ) (y : A) → slice_get (drop n xs) k ≡ Some y → slice_get xs (n + k) ≡ Some y
   get_drop zero xs k y is = let same : zero + k ≡ k = omega arith in rw same is
   get_drop (suc n) [] k y is = is

@@ -1,5 +1,5 @@
 -- Where one user runs, the commands leave one history, and one list of what is told.
-use Rattle.std.proofs.Common.{◌≡◌, ℕ, ◌+◌, ◌≤◌, zero, suc, List, [], ◌∷◌, ◌++◌, length, take, Some, None, refl, ap, sym, ◌∙◌, subst, arith, inl, inr}
+use Rattle.std.proofs.Common.{◌≡◌, ℕ, ◌+◌, ◌≤◌, zero, suc, List, [], ◌∷◌, ◌++◌, length, take, Some, refl, ap, sym, ◌∙◌, subst, arith, inl, inr}
 use Rattle.std.specs.List.{slice_get}
 use Rattle.std.proofs.lemmas.Bool.{cases_lt}
 use Rattle.std.proofs.Math.Seq.{take-length}
@@ -10,21 +10,16 @@ use Rattle.history.specs.declared.effect.Effect.TheVariants.{Commit, Rejected, R
 use Rattle.history.specs.Version.{content_after, version, NoneFrom, NoneWithin}
 use Rattle.history.specs.UserRun.{reply_of, least_after, Stands, ToldFrom}
 use Rattle.history.specs.History.{IsLegal, HasUsers, IsHistoryOf}
-use Rattle.history.proofs.Lists.{get_some, get_below}
+use Rattle.std.proofs.lemmas.Option.{slice_get_within}
+use Rattle.lists.proofs.Found.{none_some, some_same, there}
 use Rattle.history.proofs.Runs.{least_after_le, place_le}
-
-nothing : {A B : Type 0} {x : A} → None ≡ Some x → B
-nothing is = cc
-
-same : {A : Type 0} {x y : A} → Some x ≡ Some y → x ≡ y
-same is = cc
 
 take_next : {A : Type 0} (xs : List A) (n : ℕ) (x : A) → slice_get xs n ≡ Some x → take (n + 1) xs ≡ take n xs ++ x ∷ []
 take_next {A = A} xs n x is = let at : n + 1 ≡ suc n = omega arith in rw at (by_suc xs n is)
   where
     by_suc : (ys : List A) (k : ℕ) → slice_get ys k ≡ Some x → take (suc k) ys ≡ take k ys ++ x ∷ []
-    by_suc [] k found = nothing found
-    by_suc (y ∷ ys) zero found = ap (λ z. z ∷ []) (same found)
+    by_suc [] k found = absurd (none_some found)
+    by_suc (y ∷ ys) zero found = ap (λ z. z ∷ []) (some_same found)
     by_suc (y ∷ ys) (suc k) found = ap (λ zs. y ∷ zs) (by_suc ys k found)
 
 -- each entry of a legal history is of one of the users
@@ -32,7 +27,7 @@ pub legal_users : {C K T R : Type 0} (effect : C → K → Effect T R) (after : 
     → IsLegal effect after first users log → HasUsers (length users) log
 legal_users effect after first users log legal place entry is =
     let at = legal place entry is in
-    let below = get_below users at.index at.commands at.are_commands in
+    let below = slice_get_within users at.index at.commands at.are_commands in
     (omega (arith, at.is_user), omega (arith, at.is_user, below))
 
 module _ {T : Type 0} where
@@ -41,7 +36,7 @@ module _ {T : Type 0} where
   at_least log least place known from within none =
       elim (cases_lt least place) [
         | inl less ↦
-            let entry = get_some log least (omega arith) in
+            let entry = there log least (omega arith) in
             let user = known least entry.0 entry.1 in
             absurd (none least entry.0 (omega arith) less entry.1 (omega (arith, user.0, user.1)))
         | inr more ↦ omega arith
@@ -51,7 +46,7 @@ module _ {T : Type 0} where
   at_end log least known within none =
       elim (cases_lt least (length log)) [
         | inl less ↦
-            let entry = get_some log least less in
+            let entry = there log least less in
             let user = known least entry.0 entry.1 in
             absurd (none least entry.0 (omega arith) entry.1 (omega (arith, user.0, user.1)))
         | inr more ↦ omega arith

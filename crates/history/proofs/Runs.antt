@@ -9,7 +9,8 @@ use Rattle.history.specs.declared.effect.Effect.{Effect}
 use Rattle.history.specs.declared.effect.Effect.TheVariants.{Commit, Rejected, Read}
 use Rattle.history.specs.Version.{content_after, version, NoneFrom, NoneWithin}
 use Rattle.history.specs.UserRun.{reply_of, least_after, Stands, ToldFrom, RunSoFar}
-use Rattle.history.proofs.Lists.{get_left, get_split, get_end, get_here, get_below}
+use Rattle.history.proofs.Lists.{get_left, get_split, get_end, get_here}
+use Rattle.std.proofs.lemmas.Option.{slice_get_within}
 
 module _ {T : Type 0} where
   -- no entry of the user in a longer history, where the rest has none
@@ -26,10 +27,10 @@ module _ {T : Type 0} where
       before p entry least (rw (sym (get_left log extra p below)) is)
 
   pub none_at_end : (log : List (Entry T)) (user : ℕ) → NoneFrom log (length log) user
-  none_at_end log user p entry least is = absurd (omega (arith, get_below log p entry is))
+  none_at_end log user p entry least is = absurd (omega (arith, slice_get_within log p entry is))
 
   pub none_past_end : (log : List (Entry T)) (one : Entry T) (user : ℕ) → NoneFrom (log ++ one ∷ []) (length log + 1) user
-  none_past_end log one user p entry least is = absurd (omega (arith, get_below (log ++ one ∷ []) p entry is, length-append log (one ∷ [])))
+  none_past_end log one user p entry least is = absurd (omega (arith, slice_get_within (log ++ one ∷ []) p entry is, length-append log (one ∷ [])))
 
   pub none_in_one : (one : Entry T) (user : ℕ) → one.user ≢ user → NoneFrom (one ∷ []) 0 user
   none_in_one one user other zero entry least is = λ same. let here : one ≡ entry = cc in other (ap (λ e. e.user) here ∙ same)
@@ -49,7 +50,7 @@ module _ {T R : Type 0} where
 
   -- the next reply's least place is a version of the history
   pub least_after_le : (found : Effect T R) (log : List (Entry T)) (place user number : ℕ) → Stands found log place user number → least_after found place ≤ length log
-  least_after_le (Commit writes reply) log place user number h = omega (arith, get_below log place _ h)
+  least_after_le (Commit writes reply) log place user number h = omega (arith, slice_get_within log place _ h)
   least_after_le (Rejected reply) log place user number h = h
   least_after_le (Read reply) log place user number h = h
 

@@ -5,7 +5,7 @@ use Rattle.std.specs.List.{All, filter_map, cons_option}
 use Rattle.std.specs.Option.{option_map, option_map_or}
 use Rattle.std.proofs.lemmas.List.Elements.{All-head, All-tail, All-nil, All-cons}
 use Rattle.std.proofs.lemmas.Option.{cond_some, option_and_then_some}
-use Rattle.dim_core.specs.Outline.{Outline, IsDimension, components_of, level}
+use Rattle.dim_core.specs.Outline.{Outline, components_of, level}
 use Rattle.dim_core.proofs.LevelLaws.{component-lower}
 use Rattle.cube_space.specs.Layout.{Layout, axes}
 use Rattle.cube_space.specs.Cells.{IsSpace, IsCell, Cell, cube_of, elements_of, cell_at, cell_number, is_place}
@@ -17,7 +17,7 @@ use Rattle.rule_model.specs.Conditions.{AreRules}
 use Rattle.rule_model.specs.Targets.{elements_by, target, element_at, with_element_at, with_components, parts_at, component_cells}
 use Rattle.rule_model.specs.Order.{cell_level}
 use Rattle.rule_model.specs.System.{system_of}
-use Rattle.model_laws.proofs.Levels.{found, element-of, level_sum, lower-level, axes-are, leaf_cell-level, total_cell-level}
+use Rattle.model_laws.proofs.Levels.{axis-is, element-of, level_sum, lower-level, leaf_cell-level, total_cell-level}
 use Rattle.model_laws.proofs.Below.{below-ranks}
 
 -- ---- a cell of this place
@@ -66,7 +66,7 @@ module _ (space : Layout) (valid : IsSpace space) (c dim : ℕ) (cell : IsCell s
 
   lower-parts : (d : Outline) → slice_get (axes space (cube_of space c)) dim ≡ Some d → All IsLower (with_components space c dim (components_of d (element_at space c dim)))
   lower-parts d own =
-      let dimension = found IsDimension (axes space (cube_of space c)) dim d (axes-are space valid (cube_of space c)) own in
+      let dimension = axis-is space valid (cube_of space c) dim d own in
       let element = (element-of (axes space (cube_of space c)) (elements_of space c) dim d (cell-place space c cell).place.digits own).1 in
       mapped (λ part. level d part.0 < level d (element_at space c dim)) IsLower (λ part. option_map (λ x. (x, part.1)) (with_element_at space c dim part.0))
       (λ part pair lower is. by d own part pair lower (with_element_at space c dim part.0) refl is)

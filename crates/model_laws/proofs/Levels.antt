@@ -110,6 +110,9 @@ module _ (space : Layout) (valid : IsSpace space) where
   pub axes-are : (cube : ℕ) → All IsDimension (axes space cube)
   axes-are cube = found_all IsDimension space.dimensions _ valid.dimensions
 
+  pub axis-is : (cube k : ℕ) (d : Outline) → slice_get (axes space cube) k ≡ Some d → IsDimension d
+  axis-is cube k d at = found IsDimension (axes space cube) k d (axes-are cube) at
+
   pub leaf_cell-level : (c : ℕ) → IsCell space c → is_leaf_cell space c ≡ true → cell_level space c ≡ 0
   unfolding is_leaf_cell cell_level
   leaf_cell-level c cell leaf = leaves-level (axes space (cube_of space c)) (elements_of space c) (axes-are (cube_of space c)) (cell-place space c cell).place.digits leaf

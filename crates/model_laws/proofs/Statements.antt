@@ -19,6 +19,7 @@ use Rattle.rule_model.specs.BoundModel.{BoundModel, rules_of}
 use Rattle.rule_model.specs.System.{rule_of, cube_rules, system_of}
 use Rattle.rule_model.specs.Governing as model
 use Rattle.rule_model.specs.Governing.{rules_for, has_part}
+use Rattle.rule_model.proofs.Statements.{own_system}
 use Rattle.model_laws.specs.Statements.{statements_before, value_by_cube}
 
 -- ---- lists
@@ -245,27 +246,9 @@ module _ (m : BoundModel) (c : ℕ) where
 
 -- ---- in turn
 
--- the system with the statements of the cell's cube alone
-abbrev cube_system : BoundModel → ℕ → RuleSystem
-cube_system m c =
-    record {
-      size = (system_of m).size;
-      cube_of = (system_of m).cube_of;
-      skips_check = (system_of m).skips_check;
-      is_leaf = (system_of m).is_leaf;
-      below = (system_of m).below;
-      components = (system_of m).components;
-      rules = rules_for m c;
-      feeds = (system_of m).feeds;
-      target = (system_of m).target;
-      rank = (system_of m).rank;
-      level = (system_of m).level;
-      levels = (system_of m).levels;
-    }
-
 pub turn-none : (m : BoundModel) (stored : Stored) (table : ℕ → Value) (c n : ℕ) → model.governing_from m c n ≡ None → value_by_cube m stored table c n ≡ base (system_of m) stored table c
 unfolding model.governing_from
-turn-none m stored table c n none = from-none (cube_system m c) c stored table n none
+turn-none m stored table c n none = from-none (own_system m c) c stored table n none
 
 abbrev Governed : BoundModel → Stored → (ℕ → Value) → ℕ → ℕ → ℕ → Type 0
 Governed m stored table c n k =
@@ -276,4 +259,4 @@ pub turn-some : (m : BoundModel) (stored : Stored) (table : ℕ → Value) (c n 
     → (f : Formula) × (model.formula_at m c k ≡ Some f)
     × (value_by_cube m stored table c n ≡ value_at (system_of m) stored table c (value_by_cube m stored table c (suc k)) f)
 unfolding model.governing_from
-turn-some m stored table c n k some = from-some (cube_system m c) c stored table n k some
+turn-some m stored table c n k some = from-some (own_system m c) c stored table n k some

@@ -2,12 +2,12 @@
 use Rattle.std.proofs.Common.{◌≡◌, ℕ, List, Ok, Err, refl, sym, ◌∙◌, ap, subst}
 use Rattle.cube_lex.specs.Lexeme.{Lexeme}
 use Rattle.grammar.specs.Cursor.{Gives}
-use Rattle.grammar.specs.Reading.{gives, bound, ◌>>◌}
+use Rattle.grammar.specs.Reading.{unit_of, gives, bound, ◌>>◌}
 use Rattle.grammar.specs.declared.cursor.Unwatched.{Unwatched}
 use Rattle.grammar.specs.declared.stop.Stop.{Stop}
 use Rattle.model_text.specs.Statement.{Closing, QuotedText}
 use Rattle.model_text.specs.Gathering.{Nothing, ScriptDue, ScriptOpen, ScriptWhole, Parts, at, unless, with_text, gathered}
-use Rattle.model_text.specs.Readers.Reading.{Gatherer, gather, unit_of, read_closing, read_script_file, read_script, gather_closing, gather_naming, gather_script_file, read_dimension_word, read_cube_word, read_script_word, gather_dimension_word, gather_cube_word, gather_script_word}
+use Rattle.model_text.specs.Readers.Reading.{Gatherer, gather, read_closing, read_script_file, read_script, gather_closing, gather_naming, gather_script_file, read_dimension_word, read_cube_word, read_script_word, gather_dimension_word, gather_cube_word, gather_script_word}
 use Rattle.model_text.specs.Readers.Sections.{read_word, gather_word, word_piece, is_full, has, due, named}
 use Rattle.model_text.specs.Readers.Views.{Stops}
 use Rattle.model_text.specs.declared.fault.ModelTextFault.{ModelTextFault}

@@ -3,12 +3,12 @@ use Rattle.std.proofs.Common.{◌≡◌, List, Ok, refl}
 use Rattle.std.specs.List.{All}
 use Rattle.cube_lex.specs.Lexed.{IsWellFormed}
 use Rattle.cube_lex.specs.Lexeme.{Lexeme}
-use Rattle.grammar.specs.Reading.{all_of}
+use Rattle.grammar.specs.Reading.{unit_of, all_of}
 use Rattle.grammar.specs.Tokens.{is_word}
 use Rattle.grammar.proofs.Many.{Shortens}
 use Rattle.model_text.specs.Gathering.{Given}
 use Rattle.model_text.specs.Readers.Later.{word_of, read_one, read_all}
-use Rattle.model_text.specs.Readers.Reading.{unit_of, read_cubes, read_scripts}
+use Rattle.model_text.specs.Readers.Reading.{read_cubes, read_scripts}
 use Rattle.model_text.specs.declared.statements.LaterSection.{LaterSection}
 use Rattle.model_text.specs.declared.statements.LaterSection.TheVariants as sections
 use Rattle.model_text.proofs.ModelExact.{cube_exact, cube_shortens, script_exact, script_shortens}

@@ -1,15 +1,15 @@
 -- What holds of everything that a model text's pieces gather.
 use Rattle.std.proofs.Common.{◌≡◌, ℕ, ◌+◌, ◌<◌, ◌≤◌, nat_eq, nat_le, slice_index_or, List, [], ◌∷◌, ◌++◌, length, map, Option, Some, None, Bool, true, false, ◌||◌, Result, Ok, Err, refl, sym, ◌∙◌, ap, subst, arith, length-append, if◌then◌else◌, inl, inr}
 use Rattle.std.specs.List.{All, IsDistinct, list_any}
-use Rattle.std.proofs.lemmas.Cmp.{nat_eq_equiv, nat_list_eq_equiv}
+use Rattle.std.proofs.lemmas.Cmp.{nat_eq_equiv}
 use Rattle.std.proofs.lemmas.List.Quantifiers.{position-Some}
-use Rattle.std.specs.Cmp.{IsEquivalence, on_equiv}
 use Rattle.std.proofs.lemmas.List.{map-append}
 use Rattle.std.proofs.lemmas.List.Elements.{All-push, All-nil}
 use Rattle.std.proofs.lemmas.Map.Keys.{IsDistinct-push}
 use Rattle.cube_lex.specs.Lexeme.{Lexeme}
 use Rattle.grammar.specs.Watch.{AllPass, Passes}
-use Rattle.dim_name.specs.Name.{is_same_name, key_of, place_of}
+use Rattle.dim_name.specs.Name.{is_same_name, place_of}
+use Rattle.dim_core.proofs.Naming.{same_names}
 use Rattle.model_text.specs.Contents.{is_version, cube_names, script_names, AreDimensions}
 use Rattle.model_text.specs.Gathering.{Current, Nothing, DimensionDue, CubeDue, ScriptDue, DimensionOpen, CubeOpen, ScriptOpen, DimensionBody, ScriptWhole, Parts, Given, at, refused, unless, dimensions_are_full, cubes_are_full, scripts_are_full, has_dimension, has_cube, has_script, with_text, with_dimension, cube_of, with_end, closed, gathered}
 use Rattle.model_text.specs.Statement.{Piece, Version, Closing, DimensionWord, CubeWord, ScriptWord, QuotedText, CubeDimension, CubeEnd}
@@ -116,9 +116,6 @@ dimension_then parts line (Some k) (ScriptOpen l n) there sound due = record { s
 dimension_then parts line None (ScriptWhole l n file) there sound due = record { sound = sound; due = due }
 dimension_then parts line (Some k) (ScriptWhole l n file) there sound due = record { sound = sound; due = due }
 
-name_equiv : IsEquivalence is_same_name
-name_equiv = on_equiv key_of nat_list_eq_equiv
-
 pub any-map : {X Y : Type 0} (p : Y → Bool) (f : X → Y) (xs : List X) → list_any p (map f xs) ≡ list_any (λ x. p (f x)) xs
 any-map p f [] = refl
 any-map p f (x ∷ xs) = ap (λ b. p (f x) || b) (any-map p f xs)
@@ -136,7 +133,7 @@ end_then parts rules order (CubeOpen line shown dims) sound due =
         names = sound.names;
         scripts = sound.scripts;
         few_cubes = one_more parts.cubes cube 64 due.room;
-        cubes = subst (IsDistinct is_same_name) (sym (map-append (λ (c : CubeText). c.name) parts.cubes (cube ∷ []))) (IsDistinct-push name_equiv (cube_names parts.cubes) shown sound.cubes (any-map (is_same_name shown) (λ (c : CubeText). c.name) parts.cubes ∙ due.new));
+        cubes = subst (IsDistinct is_same_name) (sym (map-append (λ (c : CubeText). c.name) parts.cubes (cube ∷ []))) (IsDistinct-push same_names (cube_names parts.cubes) shown sound.cubes (any-map (is_same_name shown) (λ (c : CubeText). c.name) parts.cubes ∙ due.new));
         cube_dims = All-push (λ (c : CubeText). AreDimensions (length parts.names) c.dims) parts.cubes cube sound.cube_dims due.dims;
       };
       due = tt;
@@ -162,7 +159,7 @@ closed_then parts (ScriptWhole line shown file) sound due =
         cubes = sound.cubes;
         cube_dims = sound.cube_dims;
         few_scripts = one_more parts.scripts script 256 due.room;
-        scripts = subst (IsDistinct is_same_name) (sym (map-append (λ (s : ScriptText). s.name) parts.scripts (script ∷ []))) (IsDistinct-push name_equiv (script_names parts.scripts) shown sound.scripts (any-map (is_same_name shown) (λ (s : ScriptText). s.name) parts.scripts ∙ due.new));
+        scripts = subst (IsDistinct is_same_name) (sym (map-append (λ (s : ScriptText). s.name) parts.scripts (script ∷ []))) (IsDistinct-push same_names (script_names parts.scripts) shown sound.scripts (any-map (is_same_name shown) (λ (s : ScriptText). s.name) parts.scripts ∙ due.new));
       };
       due = tt;
     }
@@ -215,7 +212,7 @@ name_then parts shown sound new = record {
   few_names = one_more parts.names shown 256 new.room;
   few_cubes = sound.few_cubes;
   few_scripts = sound.few_scripts;
-  names = IsDistinct-push name_equiv parts.names shown sound.names new.new;
+  names = IsDistinct-push same_names parts.names shown sound.names new.new;
   cubes = sound.cubes;
   scripts = sound.scripts;
   cube_dims = all_more (length parts.names) (length (parts.names ++ shown ∷ [])) parts.cubes (length-append parts.names (shown ∷ [])) sound.cube_dims;

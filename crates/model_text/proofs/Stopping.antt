@@ -5,7 +5,7 @@ use Rattle.cube_lex.specs.Lexeme.{Lexeme}
 use Rattle.cube_lex.specs.Lexed.{IsWellFormed}
 use Rattle.grammar.specs.Grammar.{Grammar}
 use Rattle.grammar.specs.Watch.{Watch}
-use Rattle.grammar.specs.Reading.{Read, Reader, gives, bound, inside_result, all_of, starts}
+use Rattle.grammar.specs.Reading.{Read, Reader, unit_of, gives, bound, inside_result, all_of, starts}
 use Rattle.grammar.specs.Cursor.{Gives}
 use Rattle.grammar.specs.declared.cursor.Unwatched.{Unwatched}
 use Rattle.grammar.specs.declared.stop.Stop.{Stop}
@@ -22,9 +22,9 @@ use Rattle.grammar.proofs.Kept.{last_tokens}
 use Rattle.model_text.specs.Gathering.{Nothing, DimensionBody, Parts, Given, at, gathered}
 use Rattle.model_text.specs.Statement.{Piece}
 use Rattle.model_text.specs.Watching.{Seen, with_given, with_block, of_block}
-use Rattle.model_text.specs.Readers.Reading.{Plain, gather, unit_of, read_dimension_behind, gather_further_dimensions, read_cube_dimensions, read_dimension_head, read_dimension_body, read_dimension}
+use Rattle.model_text.specs.Readers.Reading.{Plain, gather, read_dimension_behind, gather_further_dimensions, read_cube_dimensions, read_dimension_head, read_dimension_body, read_dimension}
 use Rattle.model_text.specs.Readers.Views.{Stops, Gathers, GivesPiece, stop_of, seen}
-use Rattle.model_text.proofs.Gathered.{piece_ok, piece_refused, piece_halt}
+use Rattle.grammar.proofs.Checked.{checked_ok, checked_refused, checked_halt}
 use Rattle.model_text.specs.declared.fault.ModelTextFault.{ModelTextFault}
 
 -- what is left behind a text
@@ -82,12 +82,12 @@ first_stops g ts stop e = stops_bound stop _ (λ _. gather_further_dimensions) (
 
 -- what was read of a piece is gathered
 pub piece_gathers : {X : Type 0} (state : X → Given) (P : Plain Piece) (g : Given) (ts rest : List Lexeme) (x : Piece) (u : Unwatched) (result : Result X (Stop ModelTextFault)) → P (record {}) ts ≡ Ok (x, u, rest) → Gathers state result (gathered g x) → GivesPiece state result rest (gather P g ts)
-piece_gathers state P g ts rest x u (Ok y) read e = (x, piece_ok P g read e)
+piece_gathers state P g ts rest x u (Ok y) read e = (x, checked_ok {U = Unwatched} (record {}) gathered P g read e)
 piece_gathers state P g ts rest x u (Err stops.Memory) read e = tt
 piece_gathers state P g ts rest x u (Err (stops.Unexpected left)) read e = absurd e
-piece_gathers state P g ts rest x u (Err (stops.Refused fault)) read e = piece_refused P g read e
+piece_gathers state P g ts rest x u (Err (stops.Refused fault)) read e = checked_refused {U = Unwatched} (record {}) gathered P g read e
 
 pub piece_stops : {X : Type 0} (view : X → Piece) (P : Plain Piece) (g : Given) (ts left : List Lexeme) (m : Unwatched) (stop : Stop ModelTextFault) → Gives view (Err stop) m left (P (record {}) ts) → Stops stop (gather P g ts)
 piece_stops view P g ts left m stops.Memory e = tt
-piece_stops view P g ts left m (stops.Unexpected n) e = piece_halt P g e
-piece_stops view P g ts left m (stops.Refused fault) e = piece_halt P g e
+piece_stops view P g ts left m (stops.Unexpected n) e = checked_halt {U = Unwatched} (record {}) gathered P g e
+piece_stops view P g ts left m (stops.Refused fault) e = checked_halt {U = Unwatched} (record {}) gathered P g e

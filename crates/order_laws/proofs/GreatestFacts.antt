@@ -2,7 +2,7 @@
 use Rattle.std.proofs.Common.{◌≡◌, refl, sym, ap, ◌∙◌, arith, subst, ℕ, zero, suc, ◌<◌, Bool, true, false, ◌||◌, ℤ, pos, ◌+ℤ◌, ◌-ℤ◌, ◌≤ℤ◌, Option, Some, None, List, [], ◌∷◌, length, inl, inr}
 use Rattle.std.specs.Prelude.{⊤}
 use Rattle.std.proofs.lemmas.Int.{ints, clamps}
-use Rattle.std.proofs.lemmas.Bool.{cases_lt}
+use Rattle.std.proofs.lemmas.Bool.{cases_lt, or_right}
 use Rattle.order_laws.specs.Greatest.{plus, larger, IsAtMost, greatest, sum_from, any_from, greatest_sum, greatest_passing_sum}
 
 pub larger-parts : (a b : Option ℤ) (z : ℤ) → IsAtMost (larger a b) z → IsAtMost a z × IsAtMost b z
@@ -126,11 +126,7 @@ module _ (number : ℕ → ℕ → Option ℤ) (most : ℕ → Option ℤ) (top 
             (plus-least (λ e. test i e ≡ true) (λ (es : List ℕ). length es ≡ n) (number i) (sum_from number (suc i)) (passing i) (greatest_sum most (suc i) n) (top_passing i) all z (λ x es p q. h (x ∷ es) (omega (arith, q), ap (λ t. t || any_from test (suc i) es) p)))
           where
             later : (x : ℕ) (es : List ℕ) → any_from test (suc i) es ≡ true → test i x || any_from test (suc i) es ≡ true
-            later x es q = by (test i x) (any_from test (suc i) es) q
-              where
-                by : (t u : Bool) → u ≡ true → t || u ≡ true
-                by true u q = refl
-                by false u q = q
+            later x es q = or_right (test i x) (any_from test (suc i) es) q
 
     pub passing-top : (n i : ℕ) → IsTop (Among test true n i) (sum_from number i) (greatest_passing_sum most passing i n)
     passing-top zero i = record { over = over_none; least = λ z h. tt }

@@ -2,7 +2,7 @@
 use Rattle.std.proofs.Common.{◌≡◌, refl, sym, ap, ◌∙◌, arith, subst, ℕ, zero, suc, ◌<◌, Bool, true, false, ◌||◌, ◌&&◌, ℤ, Option, Some, None, IfSome, List, [], ◌∷◌, length, get_or, ◌==◌, nat_lt, All}
 use Rattle.std.specs.Prelude.{slice_get, slice_index_or, unwrap_or}
 use Rattle.std.specs.List.{list_any, AllZip}
-use Rattle.std.proofs.lemmas.Bool.{eq-eqb, and_parts, and_from, ltb-true, lt-ltb}
+use Rattle.std.proofs.lemmas.Bool.{eq-eqb, and_parts, and_from, or_right, ltb-true, lt-ltb}
 use Rattle.std.proofs.lemmas.Bool.Decides.{Decides-eqb}
 use Rattle.cube_space.specs.Radix.{are_digits}
 use Rattle.rule_laws.specs.declared.reference.Arg.{Arg}
@@ -29,11 +29,7 @@ listed-place (x ∷ listed) e h = by (x == e) refl h (listed-place listed e)
 listed-at : (listed : List ℕ) (k : ℕ) → k < length listed → list_any (λ x. x == get_or listed k 0) listed ≡ true
 listed-at [] k h = absurd (omega arith)
 listed-at (x ∷ listed) zero h = ap (λ t. t || list_any (λ y. y == x) listed) (eq-eqb x x refl)
-listed-at (x ∷ listed) (suc k) h = by (x == get_or listed k 0) _ (listed-at listed k (omega arith))
-  where
-    by : (t u : Bool) → u ≡ true → t || u ≡ true
-    by true u h = refl
-    by false u h = h
+listed-at (x ∷ listed) (suc k) h = or_right (x == get_or listed k 0) _ (listed-at listed k (omega arith))
 
 -- an element of a set of a dimension of this size
 abbrev pub is_in : ℕ → Option (List ℕ) → ℕ → Bool

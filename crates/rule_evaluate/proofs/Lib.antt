@@ -1,7 +1,6 @@
 pub mod Parts
 pub mod FormulaWeights
 pub mod CourseFacts
-pub mod StatementRuns
 pub mod SceneFacts
 pub mod EndFacts
 pub mod TableReadings

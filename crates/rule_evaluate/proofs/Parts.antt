@@ -3,16 +3,16 @@ use Rattle.std.proofs.Common.{◌≡◌, sym, ap, ◌∙◌, subst, Bool, true, 
 use Rattle.std.specs.Bool.{if◌then◌else◌}
 use Rattle.cube_fixed.specs.declared.value.Value.{Value}
 use Rattle.rule_laws.specs.declared.formula.Formula.{Formula}
-use Rattle.rule_laws.specs.declared.formula.Formula.TheFolds.{fold-roll-Formula, fold-roll-Truth}
 use Rattle.rule_laws.specs.declared.formula.Formula.TheOpen.{Formula-F, Truth-F}
-use Rattle.rule_laws.specs.declared.formula.Formula.TheVariants.{Binary, Unary, If, rolls-Binary, rolls-Unary, rolls-If}
-use Rattle.rule_laws.specs.declared.formula.Truth.TheVariants.{Compare, And, Or, Not, rolls-Compare, rolls-And, rolls-Or, rolls-Not}
+use Rattle.rule_laws.specs.declared.formula.Formula.TheVariants.{Binary, Unary, If}
+use Rattle.rule_laws.specs.declared.formula.Truth.TheVariants.{Compare, And, Or, Not}
 use Rattle.rule_laws.specs.declared.formula.Truth.{Truth}
 use Rattle.rule_laws.specs.declared.operation.Op.{Op}
 use Rattle.rule_laws.specs.declared.operation.Fun.{Fun}
 use Rattle.rule_laws.specs.declared.operation.Rel.{Rel}
 use Rattle.rule_laws.specs.Operation.{operation_of, comparison_of}
 use Rattle.rule_laws.proofs.SystemFacts.{both}
+use Rattle.rule_laws.proofs.FormulaFolds.{of-binary, of-unary, of-if, of-compare, of-and, of-or, of-not}
 use Rattle.rule_evaluate.specs.declared.ask.Ask.{Ask}
 use Rattle.rule_evaluate.specs.Course.{Course, Trial, Sources, course_step, trial_step, formula_course, truth_trial}
 
@@ -27,25 +27,25 @@ module _ (s : Sources) (rest : Value) where
   step = course_step s rest
 
   binary_is : (op : Op) (a b : Formula) → C (Binary op a b) ≡ step (Formula-F.Binary op (C a) (C b))
-  binary_is op a b = ap C (sym (rolls-Binary op a b)) ∙ fold-roll-Formula Course Trial step trial_step (Formula-F.Binary op a b)
+  binary_is op a b = of-binary Course Trial step trial_step op a b
 
   unary_is : (function : Fun) (a : Formula) → C (Unary function a) ≡ step (Formula-F.Unary function (C a))
-  unary_is function a = ap C (sym (rolls-Unary function a)) ∙ fold-roll-Formula Course Trial step trial_step (Formula-F.Unary function a)
+  unary_is function a = of-unary Course Trial step trial_step function a
 
   pub if_is : (t : Truth) (a b : Formula) → C (If t a b) ≡ step (Formula-F.If (H t) (C a) (C b))
-  if_is t a b = ap C (sym (rolls-If t a b)) ∙ fold-roll-Formula Course Trial step trial_step (Formula-F.If t a b)
+  if_is t a b = of-if Course Trial step trial_step t a b
 
   compare_is : (rel : Rel) (a b : Formula) → H (Compare rel a b) ≡ trial_step (Truth-F.Compare rel (C a) (C b))
-  compare_is rel a b = ap H (sym (rolls-Compare rel a b)) ∙ fold-roll-Truth Course Trial step trial_step (Truth-F.Compare rel a b)
+  compare_is rel a b = of-compare Course Trial step trial_step rel a b
 
   and_is : (a b : Truth) → H (And a b) ≡ trial_step (Truth-F.And (H a) (H b))
-  and_is a b = ap H (sym (rolls-And a b)) ∙ fold-roll-Truth Course Trial step trial_step (Truth-F.And a b)
+  and_is a b = of-and Course Trial step trial_step a b
 
   or_is : (a b : Truth) → H (Or a b) ≡ trial_step (Truth-F.Or (H a) (H b))
-  or_is a b = ap H (sym (rolls-Or a b)) ∙ fold-roll-Truth Course Trial step trial_step (Truth-F.Or a b)
+  or_is a b = of-or Course Trial step trial_step a b
 
   not_is : (a : Truth) → H (Not a) ≡ trial_step (Truth-F.Not (H a))
-  not_is a = ap H (sym (rolls-Not a)) ∙ fold-roll-Truth Course Trial step trial_step (Truth-F.Not a)
+  not_is a = of-not Course Trial step trial_step a
 
   module _ (may : Ask → Bool) where
     abbrev Passes : Formula → Type 0

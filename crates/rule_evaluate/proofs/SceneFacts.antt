@@ -17,8 +17,9 @@ use Rattle.rule_evaluate.specs.Course.{course_before, passes, entered, sources_o
 use Rattle.rule_evaluate.specs.Inside.Scene.{Scene, IsGoverning, sources_at, course_from, value_from, passes_from, entered_from, entered_on, entered_after, IsReady}
 use Rattle.rule_evaluate.proofs.CourseFacts.{course_is}
 use Rattle.rule_evaluate.proofs.FormulaWeights.{weight}
+use Rattle.lists.proofs.Found.{some_same}
 use Rattle.rule_laws.proofs.StatementFacts.{slice_get-drop_at, drop_after}
-use Rattle.rule_evaluate.proofs.StatementRuns.{run, run-none, run-some}
+use Rattle.rule_laws.proofs.StatementRuns.{run, run-none, run-some}
 
 -- how much there is to evaluate of the statements from a place on
 abbrev cost_step : List Rule → ℕ → Formula → ℕ
@@ -67,7 +68,9 @@ module _ (s : Scene) where
         let there : option_and_then (part_at w s.cell) (slice_get (drop from rules) k) ≡ Some found.1.now =
         ap (option_and_then (part_at w s.cell)) (slice_get-drop_at rules from k ∙ ap (slice_get rules) add) ∙ governs.part in
         let after : drop (suc k) (drop from rules) ≡ drop (found.0 + 1) rules = drop_after rules from k ∙ ap (λ n. drop n rules) (ap (λ n. suc n) add ∙ sym (add-one found.0)) in
-        run-some w s.cell none step (drop from rules) k here found.1.now there
+        let ran = run-some w s.cell none step (drop from rules) k here in
+        let same : ran.0 ≡ found.1.now = some_same (sym ran.1 ∙ there) in
+        subst (λ f. from_place from ≡ step (drop (suc k) (drop from rules)) (run w s.cell none step (drop (suc k) (drop from rules))) f) same ran.2
         ∙ ap (λ later. step later (run w s.cell none step later) found.1.now) after
 
   pub cost-some : (from : ℕ) (found : ℕ × Bor Formula) → IsGoverning s from found

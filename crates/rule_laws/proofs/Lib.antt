@@ -1,11 +1,12 @@
 pub mod MapFacts
 pub mod Folds
+pub mod FormulaFolds
 pub mod FormulaFacts
 pub mod SystemFacts
+pub mod StatementRuns
 pub mod StatementFacts
 pub mod PlaceFacts
 pub mod FindingFacts
 pub mod ZeroFacts
 pub mod SparseFacts
-pub mod Witness
 pub mod PrecedentFacts

@@ -7,5 +7,4 @@ pub mod OrderByPlace
 pub mod Feeding
 pub mod ZeroTest
 pub mod Cover
-pub mod Carry
 pub mod Inside

@@ -1,8 +1,6 @@
-ghost use Rattle.std.specs.Prelude.{◌≡◌, ℕ, suc, pos, ◌*◌, ◌≤◌, Some, None, IsTrue, ◌↔◌, Bool, true, Contains};
+ghost use Rattle.std.specs.Prelude.{◌≡◌, ℕ, suc, ◌≤◌, Some, None, IsTrue, ◌↔◌, Bool, true, Contains};
 ghost use Rattle.cube_fixed.specs.declared.value.Value.{Value};
-ghost use Rattle.cube_fixed.specs.declared.value.Value.TheVariants.{Num};
 ghost use Rattle.cube_fixed.specs.Arithmetic.{zero_value};
-ghost use Rattle.cube_fixed.specs.Range.{unit};
 ghost use Rattle.rule_laws.specs.declared.formula.Formula.{Formula};
 ghost use Rattle.rule_laws.specs.declared.formula.Truth.{Truth};
 ghost use Rattle.rule_laws.specs.declared.reference.Reference.{Reference};
@@ -13,7 +11,6 @@ ghost use Rattle.rule_laws.specs.Order.{IsWellFormed, IsOrdered};
 ghost use Rattle.rule_laws.specs.OrderByPlace.{Positions, IsOrderedByPlace, IsRankedBy};
 ghost use Rattle.rule_laws.specs.Feeding.{IsFed};
 ghost use Rattle.rule_laws.specs.Cover.{IsCovered};
-ghost use Rattle.rule_laws.specs.Carry.{carry, carry_stored, opening, total};
 ghost use Rattle.rule_laws.specs.ZeroTest.{zero_test, sure_test, blamed, operands};
 
 /// In an ordered system the dense values solve the rule equations, whatever is stored.
@@ -70,14 +67,4 @@ pub fn findings_rest_on_references()
     ensures within { (f : Formula) (covers : Reference → Bool) → blamed covers f ≤ operands f }
     ensures each { (f : Formula) (test : Reference → Bool)
         → IsTrue (each_reference test f) ↔ ((r : Reference) → Contains (precedents f) (Named r) → test r ≡ true) }
-{}
-
-/// The premises can be met: a stock of 40 units that is carried over by a rule and a feeder, with a total over it that
-/// counts one cell negatively, and that a rule passes on by `CONTINUE` to one that sums its components, meets them all.
-pub fn carried_stock_meets_the_premises()
-    ensures well_formed { IsWellFormed carry }
-    ensures ordered { IsOrdered carry }
-    ensures covered { IsCovered carry }
-    ensures fed { IsFed carry carry_stored opening }
-    ensures value { dense_value carry carry_stored total ≡ Num (pos (40 * unit)) }
 {}

@@ -10,8 +10,8 @@
 //!   `specs/ZeroTest.antt`, which also has the operand that a failing formula is blamed on.
 //! - The laws are the contracts of [`dense_values_solve`], [`only_dense_values_solve`] and [`unfed_cells_are_zero`];
 //!   [`statements_give_in_turn`] says which statement governs, [`order_by_place_is_an_order`] joins the two orders, and
-//!   [`findings_rest_on_references`] says what the zero test looks at. [`carried_stock_meets_the_premises`] shows a
-//!   system that meets the premises.
+//!   [`findings_rest_on_references`] says what the zero test looks at. A system that meets the premises stands in
+//!   `rule_witness`.
 //!
 //! Nothing here takes memory, and nothing knows of dimensions: cells are numbers.
 #![tactic(auto)]
@@ -20,9 +20,8 @@ pub use element_map::ElementMap;
 pub use finding::{Finding, TruthFinding};
 pub use formula::{Formula, Truth};
 pub use laws::{
-    carried_stock_meets_the_premises, dense_values_solve, findings_rest_on_references,
-    only_dense_values_solve, order_by_place_is_an_order, statements_give_in_turn,
-    unfed_cells_are_zero,
+    dense_values_solve, findings_rest_on_references, only_dense_values_solve,
+    order_by_place_is_an_order, statements_give_in_turn, unfed_cells_are_zero,
 };
 pub use operation::{Fun, Op, Rel};
 pub use reference::{Arg, Reference};

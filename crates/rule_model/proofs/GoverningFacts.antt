@@ -13,7 +13,7 @@ use Rattle.cube_space.specs.Cells.{cube_of, elements_of, is_leaf_cell, is_place}
 use Rattle.cube_space.proofs.Radix.{digits-length}
 use Rattle.cube_space.proofs.Places.{is_place-parts}
 use Rattle.rule_laws.specs.declared.formula.Formula.{Formula}
-use Rattle.rule_laws.specs.RuleSystem.{RuleSystem, Rule, part_of, part_at}
+use Rattle.rule_laws.specs.RuleSystem.{Rule, part_of, part_at}
 use Rattle.rule_laws.proofs.StatementFacts.{from-some}
 use Rattle.cube_fixed.specs.Arithmetic.{zero_value}
 use Rattle.rule_model.specs.declared.rules.Statement.{Statement}
@@ -22,8 +22,9 @@ use Rattle.rule_model.specs.BoundModel.{BoundModel, rules_of}
 use Rattle.rule_model.specs.Areas.{in_sets}
 use Rattle.rule_model.specs.Conditions.{IsSet, AreCubeRules}
 use Rattle.rule_model.specs.System.{system_of, rule_of}
-use Rattle.rule_model.specs.Governing.{governing_from, has_part, formula_at, rules_for, is_open, is_input, has_stet, has_continue}
+use Rattle.rule_model.specs.Governing.{governing_from, has_part, formula_at, is_open, is_input, has_stet, has_continue}
 use Rattle.rule_model.specs.Inside.Parts.{HaveSets, part_of_kind, part_for, first_part, is_open_by}
+use Rattle.rule_model.proofs.Statements.{own_system}
 
 -- ---- the areas of a cube's statements
 
@@ -105,28 +106,10 @@ module _ (model : BoundModel) (cell : ℕ) where
   unfolding is_input
   never_open off = rw off refl
 
-  -- the system with the statements of the cell's cube alone
-  abbrev pub own_system : RuleSystem
-  own_system =
-      record {
-        size = (system_of model).size;
-        cube_of = (system_of model).cube_of;
-        skips_check = (system_of model).skips_check;
-        is_leaf = (system_of model).is_leaf;
-        below = (system_of model).below;
-        components = (system_of model).components;
-        rules = rules_for model cell;
-        feeds = (system_of model).feeds;
-        target = (system_of model).target;
-        rank = (system_of model).rank;
-        level = (system_of model).level;
-        levels = (system_of model).levels;
-      }
-
   -- a statement that governs has a formula
   formula_there : (from place : ℕ) → governing_from model cell from ≡ Some place → (f : Formula) × (formula_at model cell place ≡ Some f)
   unfolding governing_from
-  formula_there from place some = let found = from-some own_system cell (λ k. None) (λ k. zero_value) from place some in (found.0, found.1)
+  formula_there from place some = let found = from-some (own_system model cell) cell (λ k. None) (λ k. zero_value) from place some in (found.0, found.1)
 
   own_kind : (s : Statement) (f : Formula) → own s ≡ Some f → part_of_kind s (is_leaf_cell model.space cell) ≡ Some f
   unfolding part_for

@@ -9,7 +9,11 @@ use Rattle.std.proofs.lemmas.Bool.Decides.{nat_tests}
 use Rattle.std.proofs.lemmas.List.Folds.{list_any_none, list_any_at}
 use Rattle.std.proofs.lemmas.List.Sorted.{searched}
 use Rattle.std.proofs.lemmas.List.{get_or_default, drop_all}
+use Rattle.rule_laws.specs.RuleSystem.{RuleSystem}
 use Rattle.rule_model.specs.declared.rules.Statement.{Statement}
+use Rattle.rule_model.specs.BoundModel.{BoundModel}
+use Rattle.rule_model.specs.System.{system_of}
+use Rattle.rule_model.specs.Governing.{rules_for}
 use Rattle.rule_model.specs.Areas.{in_set, in_sets}
 use Rattle.rule_model.specs.Inside.Parts.{part_for, first_part}
 
@@ -121,3 +125,21 @@ module _ (statements : List Statement) (elements : List ℕ) (leaf : Bool) where
   pub part_nowhere : (place : ℕ) → length statements ≤ place → first_part statements elements leaf place ≡ None
   unfolding first_part
   part_nowhere place past = ap (λ ss. option_map (λ k. place + k) (position has ss)) (drop_all place statements past)
+
+-- the system of a model with the statements of a cell's cube alone
+abbrev pub own_system : BoundModel → ℕ → RuleSystem
+own_system model cell =
+    record {
+      size = (system_of model).size;
+      cube_of = (system_of model).cube_of;
+      skips_check = (system_of model).skips_check;
+      is_leaf = (system_of model).is_leaf;
+      below = (system_of model).below;
+      components = (system_of model).components;
+      rules = rules_for model cell;
+      feeds = (system_of model).feeds;
+      target = (system_of model).target;
+      rank = (system_of model).rank;
+      level = (system_of model).level;
+      levels = (system_of model).levels;
+    }

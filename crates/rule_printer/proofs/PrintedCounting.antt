@@ -11,6 +11,7 @@ use Rattle.grammar.specs.Tokens.{is_sign_kind, is_sign}
 use Rattle.grammar.proofs.Tokens.{and_is}
 use Rattle.expression_grammar.specs.Limits.{most_open, most_primaries, begun_within, scanned}
 use Rattle.expression_grammar.specs.declared.limits.Limits.{Limits}
+use Rattle.expression_grammar.proofs.TokenKinds.{sign_is}
 use Rattle.expression_grammar.proofs.PrintedLimits.{opened, Counting}
 use Rattle.rule_tree.specs.Counting.{with_token, in_place, moved, count}
 use Rattle.rule_tree.specs.declared.counted.Counted.{Counted}
@@ -32,12 +33,7 @@ literal kind piece t = record { kind = kind; piece = piece; start = t.start; lin
 pub sign_literal : (s : List ℕ) (t : Lexeme) → is_sign s t ≡ true → t ≡ literal kinds.Sign s t
 sign_literal s t is =
     let (kind, bytes) = and_is (is_sign_kind t.kind) (bytes_eq t.piece s) is in
-    ap (λ k. literal k t.piece t) (sign_kind t.kind kind) ∙ ap (λ b. literal kinds.Sign b t) ((bytes_eq-Decides t.piece s).0 bytes) where
-      sign_kind : (k : Kind) → is_sign_kind k ≡ true → k ≡ kinds.Sign
-      sign_kind kinds.Word e = cc
-      sign_kind kinds.Number e = cc
-      sign_kind kinds.Text e = cc
-      sign_kind kinds.Sign e = refl
+    ap (λ k. literal k t.piece t) (sign_is t.kind kind) ∙ ap (λ b. literal kinds.Sign b t) ((bytes_eq-Decides t.piece s).0 bytes)
 
 -- a sign that is none of those that parentheses, brackets, lists and formulas end or begin with
 pub record IsQuiet (t : Lexeme) : Type 0 where

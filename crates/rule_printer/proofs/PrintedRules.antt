@@ -1,5 +1,5 @@
 -- Rules, written again, are read as the same rules, and within the same limits.
-use Rattle.std.proofs.Common.{◌≡◌, ℕ, List, [], ◌∷◌, ◌++◌, map, Bool, true, false, Some, ◌||◌, refl, sym, ap, ◌∙◌, subst, inl, inr, codes, append-nil, append_assoc}
+use Rattle.std.proofs.Common.{◌≡◌, ℕ, List, [], ◌∷◌, ◌++◌, map, Bool, true, false, Some, refl, sym, ap, ◌∙◌, subst, inl, inr, codes, append-nil, append_assoc}
 use Rattle.std.specs.List.{flat_map}
 use Rattle.std.specs.Str.{str_eq_ignore_ascii_case}
 use Rattle.cube_lex.specs.Lexeme.{Lexeme}
@@ -7,7 +7,7 @@ use Rattle.cube_lex.specs.Written.{Spelling, spelling_of, sign_token, word_token
 use Rattle.cube_lex.specs.declared.token.Kind.TheVariants as kinds
 use Rattle.grammar.specs.Grammar.{Grammar, one, both, many}
 use Rattle.grammar.specs.Tokens.{is_sign, is_word_kind, is_word, sign, word}
-use Rattle.grammar.proofs.Tokens.{when_picks, and_is, word_tells}
+use Rattle.grammar.proofs.Tokens.{when_picks, and_is, word_is, word_tells}
 use Rattle.expression_grammar.specs.Limits.{begun_within}
 use Rattle.expression_grammar.proofs.PrintedLimits.{Goes, goes_on, goes_through}
 use Rattle.grammar.proofs.Spells.{split_at, none_spelled}
@@ -35,9 +35,6 @@ use Rattle.std.proofs.Math.Bool.{or-true as or_true, or-false as or_false}
 
 no_sign_word : (w s : List ℕ) (x : Lexeme) → is_word w x ≡ true → is_sign s x ≡ false
 no_sign_word w s x is = let (kind, _) = and_is (is_word_kind x.kind) (str_eq_ignore_ascii_case x.piece w) is in rw (word_no_sign x.kind kind) refl
-
-word_is : (w : List ℕ) (x : Lexeme) → is_word w x ≡ true → word w x ≡ Some x.line
-word_is w x is = rw is refl
 
 other_word : (w v : List ℕ) → str_eq_ignore_ascii_case w v ≡ false → (x : Lexeme) → is_word w x ≡ true → is_word v x ≡ false
 other_word w v other x is = word_tells w v x x.line (word_is w x is) ∙ other

@@ -9,35 +9,33 @@ use Rattle.rule_printer.specs.Spelled.{is_word_text}
 use Rattle.rule_printer.specs.Inside.Writable.{is_quotable, is_short_word, is_marked, is_writable_simple, itself, writable_step, is_writable}
 use Rattle.rule_tree.specs.declared.tree.SimpleText.{SimpleText}
 use Rattle.rule_tree.specs.declared.tree.Tree.{Tree}
-use Rattle.rule_tree.specs.declared.tree.Tree.TheFolds.{fold-roll-Tree}
-use Rattle.rule_tree.specs.declared.tree.Tree.TheOpen.{Tree-F}
 use Rattle.rule_tree.specs.declared.tree.Tree.TheVariants as trees
-use Rattle.rule_tree.specs.declared.tree.Tree.TheVariants.{rolls-Number, rolls-Text, rolls-Current, rolls-Bracket, rolls-Stet, rolls-Continue, rolls-Call, rolls-Minus, rolls-Not, rolls-Binary}
 use Rattle.rule_tree.specs.declared.tree.TreeOp.{TreeOp}
+use Rattle.rule_tree.proofs.TreeFolds.{of-number, of-text, of-current, of-bracket, of-stet, of-continue, of-call, of-minus, of-not, of-binary}
 
 pub writable_number : (z : ℤ) → is_writable (trees.Number z) ≡ (not (is_negative z) && is_in_range z)
 unfolding is_writable writable_step
-writable_number z = ap is_writable (sym (rolls-Number z)) ∙ fold-roll-Tree Bool writable_step (Tree-F.Number z)
+writable_number z = of-number Bool writable_step z
 
 pub writable_text : (bytes : List ℕ) → is_writable (trees.Text bytes) ≡ is_quotable bytes
 unfolding is_writable writable_step
-writable_text bytes = ap is_writable (sym (rolls-Text bytes)) ∙ fold-roll-Tree Bool writable_step (Tree-F.Text bytes)
+writable_text bytes = of-text Bool writable_step bytes
 
 pub writable_current : (dim : List ℕ) → is_writable (trees.Current dim) ≡ is_marked dim
 unfolding is_writable writable_step
-writable_current dim = ap is_writable (sym (rolls-Current dim)) ∙ fold-roll-Tree Bool writable_step (Tree-F.Current dim)
+writable_current dim = of-current Bool writable_step dim
 
 pub writable_bracket : (simples : List SimpleText) → is_writable (trees.Bracket simples) ≡ list_all is_writable_simple simples
 unfolding is_writable writable_step
-writable_bracket simples = ap is_writable (sym (rolls-Bracket simples)) ∙ fold-roll-Tree Bool writable_step (Tree-F.Bracket simples)
+writable_bracket simples = of-bracket Bool writable_step simples
 
 pub writable_stet : is_writable trees.Stet ≡ true
 unfolding is_writable writable_step
-writable_stet = ap is_writable (sym rolls-Stet) ∙ fold-roll-Tree Bool writable_step Tree-F.Stet
+writable_stet = of-stet Bool writable_step
 
 pub writable_continue : is_writable trees.Continue ≡ true
 unfolding is_writable writable_step
-writable_continue = ap is_writable (sym rolls-Continue) ∙ fold-roll-Tree Bool writable_step Tree-F.Continue
+writable_continue = of-continue Bool writable_step
 
 all_themselves : (list : List Tree) → list_all itself (map is_writable list) ≡ list_all is_writable list
 all_themselves [] = refl
@@ -45,19 +43,19 @@ all_themselves (e ∷ list) = ap (λ b. is_writable e && b) (all_themselves list
 
 pub writable_call : (function : List ℕ) (arguments : List Tree) → is_writable (trees.Call function arguments) ≡ (is_short_word function && list_all is_writable arguments)
 unfolding is_writable writable_step
-writable_call function arguments = ap is_writable (sym (rolls-Call function arguments)) ∙ fold-roll-Tree Bool writable_step (Tree-F.Call function arguments) ∙ ap (λ b. is_short_word function && b) (all_themselves arguments)
+writable_call function arguments = of-call Bool writable_step function arguments ∙ ap (λ b. is_short_word function && b) (all_themselves arguments)
 
 pub writable_minus : (e : Tree) → is_writable (trees.Minus e) ≡ is_writable e
 unfolding is_writable writable_step
-writable_minus e = ap is_writable (sym (rolls-Minus e)) ∙ fold-roll-Tree Bool writable_step (Tree-F.Minus e)
+writable_minus e = of-minus Bool writable_step e
 
 pub writable_not : (e : Tree) → is_writable (trees.Not e) ≡ is_writable e
 unfolding is_writable writable_step
-writable_not e = ap is_writable (sym (rolls-Not e)) ∙ fold-roll-Tree Bool writable_step (Tree-F.Not e)
+writable_not e = of-not Bool writable_step e
 
 pub writable_binary : (op : TreeOp) (left right : Tree) → is_writable (trees.Binary op left right) ≡ (is_writable left && is_writable right)
 unfolding is_writable writable_step
-writable_binary op left right = ap is_writable (sym (rolls-Binary op left right)) ∙ fold-roll-Tree Bool writable_step (Tree-F.Binary op left right)
+writable_binary op left right = of-binary Bool writable_step op left right
 
 -- A formula that can be written, where its root is known.
 

@@ -6,4 +6,3 @@ pub mod FeederExact
 pub mod WordFirst
 pub mod StatementExact
 pub mod RulesExact
-pub mod Answering

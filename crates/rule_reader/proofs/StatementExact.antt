@@ -5,8 +5,8 @@ use Rattle.cube_lex.specs.Lexeme.{Lexeme}
 use Rattle.grammar.specs.Grammar.{Grammar, one, both, done, either}
 use Rattle.grammar.specs.Tokens.{sign, word, is_sign, is_word, is_word_kind, capitals}
 use Rattle.grammar.proofs.Exact.{Exact, Always, Not, exact_gives, exact_then, exact_made}
-use Rattle.grammar.proofs.Begins.{Begins, HasToken, begins_both, has_token, starts_text, made_is, exact_option, exact_before_next}
-use Rattle.grammar.proofs.Tokens.{when_picks, and_is, exact_sign, exact_word, word_begins, sign_no_word}
+use Rattle.grammar.proofs.Begins.{Begins, begins_both, has_token, has_token_either, starts_text, made_is, exact_option, exact_before_next}
+use Rattle.grammar.proofs.Tokens.{sign_of, when_picks, and_is, exact_sign, exact_word, word_begins, sign_no_word}
 use Rattle.expression_grammar.specs.declared.sort.Sort.TheVariants as sorts
 use Rattle.expression_grammar.proofs.Languages.{goes_on}
 use Rattle.expression_grammar.proofs.ExpressionExact.{sign_goes_on, expression_has_token}
@@ -20,7 +20,7 @@ use Rattle.rule_tree.specs.declared.tree.Tree.{Tree}
 use Rattle.rule_tree.specs.declared.tree.Tree.TheVariants as trees
 use Rattle.rule_reader.proofs.FormulaExact.{rules_are_language, formula_exact}
 use Rattle.rule_reader.proofs.AreaExact.{area_exact, area_begins}
-use Rattle.rule_reader.proofs.WordFirst.{ended_no_part, sign_of, formula_of_word}
+use Rattle.rule_reader.proofs.WordFirst.{ended_no_part, formula_of_word}
 use Rattle.expression_grammar.proofs.LookaheadExact.{no_pair, exact_choose_pair}
 
 pub semicolon : Begins (one (sign (codes ";"))) (goes_on rules_language) false
@@ -81,10 +81,6 @@ leaf_first_tells b = begins_both (begins_both (word_begins (codes "N") b))
 plain_begins : Begins plain (λ _. true) true
 plain_begins = begins_both (begins_both (expression_has_token rules_are_language sorts.Value))
 
-has_either : {A : Type 0} {G H : Grammar Lexeme A} → HasToken G → HasToken H → (u : List Lexeme) (a : A) → either G H u a → (t : Lexeme) × (v : List Lexeme) × (u ≡ t ∷ v)
-has_either e f u a (inl h) = e.at u a h
-has_either e f u a (inr h) = f.at u a h
-
 -- Texts that begin with a word.
 
 part_of_word : (mark : List ℕ) (t : Lexeme) → is_word mark t ≡ true → (v : List Lexeme) × (tree : Tree) × part mark (t ∷ v) tree
@@ -133,7 +129,7 @@ body_exact : Exact counting body body read_body BehindBody
 unfolding read_body
 body_exact = exact_choose_pair count (is_word (codes "N")) (is_sign (codes ":"))
     (record { exact = leaf_first_exact; ends = refl; has = has_token (leaf_first_tells (codes "N")); begun = leaf_of_word })
-    (record { exact = cons_or_plain; ends = refl; has = record { at = has_either (has_token (cons_first_tells (codes "C"))) (has_token plain_begins) }; begun = plain_of_leaf })
+    (record { exact = cons_or_plain; ends = refl; has = has_token_either (has_token (cons_first_tells (codes "C"))) (has_token plain_begins); begun = plain_of_leaf })
     (λ u a rest h stops. (part_first (codes "N") behind_leaf u a rest h, stops.cons))
     (λ u a rest h stops. (no_leaf u a rest h, stops.leaf))
 

@@ -8,7 +8,7 @@ use Rattle.grammar.specs.Reading.{starts}
 use Rattle.grammar.specs.Tokens.{sign, word, capital_word, is_sign, is_word, is_word_kind, capitals}
 use Rattle.grammar.proofs.Exact.{Not}
 use Rattle.grammar.proofs.Begins.{Begins, begins_both, starts_text, starts_many}
-use Rattle.grammar.proofs.Tokens.{and_is, sign_begins}
+use Rattle.grammar.proofs.Tokens.{sign_of, and_is, sign_begins}
 use Rattle.expression_grammar.specs.Language.{Table}
 use Rattle.expression_grammar.specs.Expression.{chain, prefixed, value_of, within, nothing}
 use Rattle.expression_grammar.specs.declared.sort.Sort.TheVariants as sorts
@@ -110,9 +110,6 @@ ended_no_part mark u a rest (f, w, tree, parts, h, l) =
     ap (starts is_colon) (append_assoc v w rest) ∙ tells kind (w ++ rest) (starts_text (semicolon tree) w a rest l))
 
 -- A formula that begins with this word: a call with no arguments.
-
-abbrev pub sign_of : List ℕ → Lexeme
-sign_of piece = record { kind = kinds.Sign; piece = piece; start = 0; line = 0 }
 
 pub formula_of_word : (t : Lexeme) → is_word_kind t.kind ≡ true → formula (t ∷ sign_of (codes "(") ∷ sign_of (codes ")") ∷ []) (trees.Call (capitals t.piece) [])
 formula_of_word t kind =

@@ -3,16 +3,16 @@ use Rattle.std.proofs.Common.{◌≡◌, sym, ◌∙◌, ap, subst, lit<, ℕ, �
 use Rattle.std.specs.Prelude.{◌==◌}
 use Rattle.std.specs.List.{All, Contains}
 use Rattle.std.proofs.lemmas.Bool.Decides.{Decides-eqb}
-use Rattle.std.proofs.lemmas.List.Elements.{All-cons, All-nil}
+use Rattle.std.proofs.lemmas.List.Elements.{All-cons, All-nil, All-contains}
 use Rattle.rule_laws.specs.declared.formula.Formula.{Formula}
 use Rattle.rule_laws.specs.declared.formula.Formula.TheVariants.{Continue, Children}
 use Rattle.rule_laws.specs.Meaning.{Precedent, Named, Components, precedents_step, truth_precedents_step, precedents}
 use Rattle.rule_laws.specs.RuleSystem.{Rule, depth}
 use Rattle.rule_laws.specs.Order.{IsCellOf, Throughout, IsOrderedRule, IsOrdered}
 use Rattle.rule_laws.proofs.SystemFacts.{both}
+use Rattle.rule_laws.proofs.PrecedentFacts.{continue_reads, children_reads}
 use Rattle.rule_witness.specs.Replenishment.{replenishment, closing, opening, available, purchase, available_cells, named_cell, cube_of_cell, stock_cube, purchase_cube, to, opening_formula, purchase_formula, opening_rule, passing_rule, summing_rule, purchase_rule}
-use Rattle.rule_witness.proofs.FormulaFolds.{of-opening, of-purchase, of-children}
-use Rattle.rule_laws.proofs.Witness.{precedents_continue as continue-reads, in_pair}
+use Rattle.rule_witness.proofs.FormulaFolds.{of-opening, of-purchase}
 
 -- ---- what each formula reads
 
@@ -21,9 +21,6 @@ opening-reads = of-opening (List Precedent) (List Precedent) precedents_step tru
 
 purchase-reads : precedents purchase_formula ≡ Named (to available) ∷ []
 purchase-reads = of-purchase (List Precedent) (List Precedent) precedents_step truth_precedents_step
-
-children-reads : precedents (Children 0) ≡ Components 0 ∷ []
-children-reads = of-children (List Precedent) (List Precedent) precedents_step truth_precedents_step 0
 
 -- ---- the cells of each rule
 
@@ -62,6 +59,9 @@ available-sooner c t here names =
     let is : t ≡ available = available-named t names in
     rw (at, is) (lit< tt)
 
+in_pair : {X : Type 0} (P : X → Type 0) (x y z : X) → P x → P y → Contains (x ∷ y ∷ []) z → P z
+in_pair P x y z first second has = All-contains P (x ∷ y ∷ []) z (All-cons P x (y ∷ []) first (All-cons P y [] second (All-nil P))) has
+
 components-sooner : Sooner summing_rule false (Components 0)
 components-sooner c t here (pairs, is, (weight, has, counted)) =
     let at : c ≡ available = summing-cell false c here in
@@ -83,7 +83,7 @@ ordered =
     passing true f e = cc
     passing false f e =
         let same : Continue ≡ f = cc in
-        subst (Earlier passing_rule false) same (rw continue-reads (All-nil (Sooner passing_rule false)))
+        subst (Earlier passing_rule false) same (rw continue_reads (All-nil (Sooner passing_rule false)))
 
     carrying : IsOrderedRule replenishment opening_rule
     carrying true f e =
@@ -98,7 +98,7 @@ ordered =
     summing false f e =
         let same : Children 0 ≡ f = cc in
         subst (Earlier summing_rule false) same
-        (rw children-reads (All-cons (Sooner summing_rule false) (Components 0) [] components-sooner (All-nil (Sooner summing_rule false))))
+        (rw (children_reads 0) (All-cons (Sooner summing_rule false) (Components 0) [] components-sooner (All-nil (Sooner summing_rule false))))
 
     purchasing : IsOrderedRule replenishment purchase_rule
     purchasing true f e =

@@ -7,16 +7,16 @@ use Rattle.cube_fixed.specs.Range.{unit}
 use Rattle.cube_fixed.specs.Arithmetic.{zero_value, order_of, difference_of}
 use Rattle.rule_laws.specs.declared.operation.Rel.TheVariants.{Greater}
 use Rattle.rule_laws.specs.declared.reference.Reference.{Reference}
-use Rattle.rule_laws.specs.declared.formula.Formula.TheVariants.{Children}
+use Rattle.rule_laws.specs.declared.formula.Formula.TheVariants.{Continue, Children}
 use Rattle.rule_laws.specs.Operation.{comparison_of}
 use Rattle.rule_laws.specs.Meaning.{Others, value_step, truth_step, formula_value}
 use Rattle.rule_laws.specs.RuleSystem.{SolvesRules, dense_value}
 use Rattle.rule_laws.proofs.SystemFacts.{dense_value-only}
+use Rattle.rule_laws.proofs.FormulaFolds.{of-continue, of-children}
 use Rattle.rule_witness.specs.Replenishment.{replenishment, closing, opening, available, purchase, to, opening_formula, purchase_formula, carried_over, entered}
-use Rattle.rule_witness.proofs.FormulaFolds.{of-opening, of-purchase, of-children}
+use Rattle.rule_witness.proofs.FormulaFolds.{of-opening, of-purchase}
 use Rattle.rule_witness.proofs.WellFormed.{formed}
 use Rattle.rule_witness.proofs.Ordered.{ordered}
-use Rattle.rule_laws.proofs.Witness.{value_continue as continue-gives}
 
 -- ---- what each formula gives
 
@@ -31,6 +31,9 @@ purchase-gives named others = of-purchase Value Bool (value_step named others) t
 
 children-gives : (named : Reference → Value) (others : Others) → formula_value named others (Children 0) ≡ others.children 0
 children-gives named others = of-children Value Bool (value_step named others) truth_step 0
+
+continue-gives : (named : Reference → Value) (others : Others) → formula_value named others Continue ≡ others.rest
+continue-gives named others = of-continue Value Bool (value_step named others) truth_step
 
 more : comparison_of Greater (Num (pos (40 * unit))) zero_value ≡ true
 unfolding order_of

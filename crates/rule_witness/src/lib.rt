@@ -1,4 +1,4 @@
-//! A second witness that the premises of the laws of rules (`rule_laws`) can be met, by two cubes that stand together.
+//! A witness that the premises of the laws of rules (`rule_laws`) can be met, by two cubes that stand together.
 #![tactic(auto)]
 
 ghost use Rattle.std.specs.Prelude.{◌≡◌, pos, ◌*◌};

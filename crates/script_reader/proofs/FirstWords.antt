@@ -1,7 +1,7 @@
 -- What the first words of statements tell: which of the statements it is, and that one begins.
 use Rattle.std.proofs.Common.{◌≡◌, ℕ, List, [], ◌∷◌, Some, None, Bool, true, false, not, ◌&&◌, ◌||◌, if◌then◌else◌, codes, refl, sym, ◌∙◌, ap}
 use Rattle.std.specs.Str.{str_eq_ignore_ascii_case}
-use Rattle.std.proofs.lemmas.Bool.{false_from_ne_true}
+use Rattle.std.proofs.lemmas.Bool.{false_from_ne_true, true≢false}
 use Rattle.cube_lex.specs.Lexeme.{Lexeme}
 use Rattle.cube_lex.specs.declared.token.Kind.TheVariants as kinds
 use Rattle.grammar.specs.Grammar.{one}
@@ -10,7 +10,7 @@ use Rattle.grammar.specs.Tokens.{word, is_word, is_any_word, is_word_kind, capit
 use Rattle.grammar.specs.Variables.{is_variable}
 use Rattle.grammar.proofs.Exact.{Exact, Always, exact_one}
 use Rattle.grammar.proofs.Begins.{Begins, begins_one}
-use Rattle.grammar.proofs.Tokens.{when_picks, and_is, word_tells}
+use Rattle.grammar.proofs.Tokens.{when_picks, and_is, word_is, word_tells}
 use Rattle.expression_grammar.proofs.WordsExact.{capitals_of_word}
 use Rattle.script_tree.specs.Counting.{count, counting}
 use Rattle.script_tree.specs.Statement.{variable, leap, may_skip, may_break}
@@ -55,14 +55,11 @@ word_leaps w t x e = three (is_word (codes "ITEMSKIP") t) (is_word (codes "PROCE
 variable_word : (t : Lexeme) (a : List ℕ) → variable t ≡ Some a → (is_word_kind t.kind ≡ true) × (is_variable (capitals t.piece) ≡ true)
 variable_word t a e = and_is (is_word_kind t.kind) (is_variable (capitals t.piece)) (when_picks (λ t. is_word_kind t.kind && is_variable (capitals t.piece)) (λ t. capitals t.piece) t a e).0
 
-contrary : {A : Type 0} (b : Bool) → b ≡ true → b ≡ false → A
-contrary b e f = cc
-
 -- a fixed word that can't name a variable
 variable_other : (w : List ℕ) → capitals w ≡ w → is_variable w ≡ false → (t : Lexeme) (a : List ℕ) → variable t ≡ Some a → is_word w t ≡ false
 variable_other w capital none t a e = false_from_ne_true (is_word w t) (λ is.
-    let same : capitals t.piece ≡ w = (when_picks (λ t. is_word_kind t.kind) (λ t. capitals t.piece) t w (capitals_of_word w capital t t.line (ap (λ b. if b then Some t.line else None) is))).1 in
-    contrary (is_variable w) (ap is_variable (sym same) ∙ (variable_word t a e).1) none)
+    let same : capitals t.piece ≡ w = (when_picks (λ t. is_word_kind t.kind) (λ t. capitals t.piece) t w (capitals_of_word w capital t t.line (word_is w t is))).1 in
+    true≢false (sym (ap is_variable (sym same) ∙ (variable_word t a e).1) ∙ none))
 
 pub variable_no_word : (w : List ℕ) → capitals w ≡ w → is_variable w ≡ false → Begins (one variable) (is_word w) false
 variable_no_word w capital none = begins_one variable (is_word w) false (variable_other w capital none)
@@ -92,16 +89,13 @@ variable_of w capital names t is =
 
 -- Statements of one word.
 
-word_of : (w : List ℕ) (t : Lexeme) → is_word w t ≡ true → word w t ≡ Some t.line
-word_of w t is = ap (λ b. if b then Some t.line else None) is
-
 -- what is told of each of the three words
 module _ (p : Lexeme → Bool) (c : Bool) (skip : (t : Lexeme) (x : ℕ) → word (codes "ITEMSKIP") t ≡ Some x → p t ≡ c) (breaks : (t : Lexeme) (x : ℕ) → word (codes "PROCESSBREAK") t ≡ Some x → p t ≡ c) (fails : (t : Lexeme) (x : ℕ) → word (codes "PROCESSERROR") t ≡ Some x → p t ≡ c) where
   leap_is : (section : Section) (t : Lexeme) (l : Line) (a b d : Bool) → (may_skip section && is_word (codes "ITEMSKIP") t) ≡ a → (may_break section && is_word (codes "PROCESSBREAK") t) ≡ b → is_word (codes "PROCESSERROR") t ≡ d
       → (if a then Some lines.Skip else if b then Some lines.Break else if d then Some lines.Error else None) ≡ Some l → p t ≡ c
-  leap_is section t l true b d ea eb ed e = skip t t.line (word_of (codes "ITEMSKIP") t (and_is (may_skip section) (is_word (codes "ITEMSKIP") t) ea).1)
-  leap_is section t l false true d ea eb ed e = breaks t t.line (word_of (codes "PROCESSBREAK") t (and_is (may_break section) (is_word (codes "PROCESSBREAK") t) eb).1)
-  leap_is section t l false false true ea eb ed e = fails t t.line (word_of (codes "PROCESSERROR") t ed)
+  leap_is section t l true b d ea eb ed e = skip t t.line (word_is (codes "ITEMSKIP") t (and_is (may_skip section) (is_word (codes "ITEMSKIP") t) ea).1)
+  leap_is section t l false true d ea eb ed e = breaks t t.line (word_is (codes "PROCESSBREAK") t (and_is (may_break section) (is_word (codes "PROCESSBREAK") t) eb).1)
+  leap_is section t l false false true ea eb ed e = fails t t.line (word_is (codes "PROCESSERROR") t ed)
   leap_is section t l false false false ea eb ed e = cc
 
   leap_tells : (section : Section) → Begins (one (leap section)) p c

@@ -1,5 +1,5 @@
 -- A statement is not taken for the beginning of a section, and a word that begins one may begin a statement too.
-use Rattle.std.proofs.Common.{◌≡◌, ℕ, zero, suc, List, [], ◌∷◌, ◌++◌, true, false, ◌&&◌, codes, refl, ◌∙◌, ap, inl, inr}
+use Rattle.std.proofs.Common.{◌≡◌, ℕ, zero, suc, List, [], ◌∷◌, ◌++◌, true, false, codes, refl, ◌∙◌, ap, inl, inr}
 use Rattle.std.specs.Str.{str_eq_ignore_ascii_case}
 use Rattle.cube_lex.specs.Lexeme.{Lexeme}
 use Rattle.cube_lex.specs.declared.token.Kind.TheVariants as kinds
@@ -7,7 +7,7 @@ use Rattle.grammar.specs.Grammar.{Grammar, one, many}
 use Rattle.grammar.specs.Tokens.{word, is_sign, is_word, capitals}
 use Rattle.grammar.specs.Variables.{is_variable}
 use Rattle.grammar.proofs.Begins.{Begins, begins_both, starts_text}
-use Rattle.grammar.proofs.Tokens.{sign_tells, word_begins}
+use Rattle.grammar.proofs.Tokens.{sign_of, sign_tells, word_begins}
 use Rattle.expression_grammar.proofs.LookaheadExact.{no_pair}
 use Rattle.script_tree.specs.Statement.{assignment, branching, looping, put, increment, leaping, statement_within, statement}
 use Rattle.script_reader.specs.Readers.TextReading.{starts_heading}
@@ -68,9 +68,6 @@ module _ (mark : List ℕ) (free : IsFree mark) (section : Section) where
 
   pub statement_no_heading : (u : List Lexeme) (l : Line) (rest : List Lexeme) → statement section u l → starts_heading mark (u ++ rest) ≡ false
   statement_no_heading u l rest (h, g) = within_no h u l rest g
-
-abbrev sign_of : List ℕ → Lexeme
-sign_of piece = record { kind = kinds.Sign; piece = piece; start = 0; line = 0 }
 
 -- `mark = 1 ;`
 pub statement_of_word : (mark : List ℕ) → capitals mark ≡ mark → is_variable mark ≡ true → (section : Section) (t : Lexeme) → is_word mark t ≡ true → (v : List Lexeme) × (l : Line) × statement section (t ∷ v) l

@@ -9,7 +9,7 @@ use Rattle.grammar.specs.Variables.{is_variable}
 use Rattle.grammar.proofs.Exact.{Exact, Always, Not, exact_then, exact_made}
 use Rattle.grammar.proofs.After.{exact_rest_after}
 use Rattle.grammar.proofs.Begins.{Begins, begins_both, begins_either, has_token, made_is, exact_or}
-use Rattle.grammar.proofs.Tokens.{when_picks, sign_tells, exact_sign, exact_word, word_begins}
+use Rattle.grammar.proofs.Tokens.{sign_of, when_picks, sign_tells, exact_sign, exact_word, word_begins}
 use Rattle.expression_grammar.proofs.LookaheadExact.{exact_choose_pair}
 use Rattle.script_tree.specs.Counting.{count, counting}
 use Rattle.script_tree.specs.ScriptText.{heading}
@@ -77,9 +77,6 @@ data_is_free = record { branches = refl; loops = refl; puts = refl; increments =
 
 epilog_is_free : IsFree (codes "EPILOG")
 epilog_is_free = record { branches = refl; loops = refl; puts = refl; increments = refl; skips = refl; breaks = refl; fails = refl }
-
-abbrev sign_of : List ℕ → Lexeme
-sign_of piece = record { kind = kinds.Sign; piece = piece; start = 0; line = 0 }
 
 heading_of_word : (mark : List ℕ) (section : Section) (t : Lexeme) → is_word mark t ≡ true → (v : List Lexeme) × (a : Piece) × heading_piece mark section (t ∷ v) a
 heading_of_word mark section t is =

@@ -5,10 +5,11 @@ use Rattle.std.proofs.lemmas.List.{length-map}
 use Rattle.history.specs.declared.entry.Entry.{Entry}
 use Rattle.history.specs.declared.told.Told.{Told}
 use Rattle.history.specs.declared.effect.Effect.{Effect}
-use Rattle.history.specs.History.{EachRun, HasUsers, IsHistoryOf}
+use Rattle.history.specs.History.{EachRun, IsHistoryOf}
 use Rattle.history.specs.UserRun.{RunSoFar, UserRun}
 use Rattle.history.specs.Version.{NoneFrom}
-use Rattle.history.proofs.Lists.{get_below, get_end, get_left, get_split}
+use Rattle.std.proofs.lemmas.Option.{slice_get_within}
+use Rattle.history.proofs.Lists.{get_end, get_left, get_split}
 use Rattle.history.proofs.Runs.{none_from-append, none_in_nothing, told_more}
 use Rattle.history.proofs.Histories.{runs_history}
 use Rattle.version_book.specs.declared.book.PassOf.{PassOf}
@@ -52,7 +53,7 @@ module _ {C K T R : Type 0} (effect : C → K → Effect T R) (after : C → T �
     runs_more answered run index ks ts is told_is =
         elim (get_split users (commands ∷ []) index ks is) [
           | inl here ↦
-              let within : index < length users = get_below users index ks here in
+              let within : index < length users = slice_get_within users index ks here in
               let below : index < length told = omega (arith, within, gathered.all) in
               let there : slice_get told index ≡ Some ts = sym (get_left told (replies ∷ []) index below) ∙ told_is in
               let before = gathered.runs index ks ts here there in

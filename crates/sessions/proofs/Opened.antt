@@ -1,5 +1,5 @@
 -- Sessions that are opened, and that ran on.
-use Rattle.std.proofs.Common.{◌≡◌, ℕ, ◌+◌, ◌<◌, zero, suc, List, [], ◌∷◌, ◌++◌, length, map, Some, slice_get, refl, ap, sym, ◌∙◌, subst, arith, inl, inr}
+use Rattle.std.proofs.Common.{◌≡◌, ℕ, ◌+◌, ◌<◌, zero, suc, List, [], ◌∷◌, ◌++◌, length, Some, slice_get, refl, ap, sym, ◌∙◌, subst, arith, inl, inr}
 use Rattle.std.specs.Prelude.{All, get_or}
 use Rattle.std.specs.declared.snapshot.Snapshot.{Snapshot}
 use Rattle.std.proofs.lemmas.Option.{slice_get-get_or, slice_get_read}
@@ -8,7 +8,8 @@ use Rattle.history.specs.declared.entry.Entry.{Entry}
 use Rattle.history.specs.declared.told.Told.{Told}
 use Rattle.history.specs.declared.effect.Effect.{Effect}
 use Rattle.history.specs.UserRun.{RunSoFar}
-use Rattle.history.proofs.Lists.{get_below, get_split}
+use Rattle.history.proofs.Lists.{get_split}
+use Rattle.std.proofs.lemmas.Option.{slice_get_within}
 use Rattle.history.proofs.Runs.{none_in_nothing, run_starts}
 use Rattle.version_book.specs.declared.view.View.{View}
 use Rattle.version_book.specs.declared.book.BookOf.{BookOf}
@@ -76,7 +77,7 @@ module _ {L S C T K R Q : Type 0} (effect : C → K → Effect T R) (after : C �
       → ((i : ℕ) (d : SessionOf L S T K R) → i < length before → IsFurther effect after content book (get_or before i d) (get_or later i d))
       → AreRunning effect after content book before → AreRunning effect after content book later
   further_running before later len further are index session is =
-      let within : index < length before = omega (arith, get_below later index session is, len) in
+      let within : index < length before = omega (arith, slice_get_within later index session is, len) in
       let go = further index session within in
       let was = are index (get_or before index session) (slice_get-get_or before index session within) in
       let now : get_or later index session ≡ session = get_at later index session is in

@@ -2,7 +2,7 @@
 use Rattle.std.proofs.Common.{◌≡◌, ℕ, List, Some, Bool, true, false, Result, Ok, Err, codes, refl, sym, subst}
 use Rattle.cube_lex.specs.Lexeme.{Lexeme}
 use Rattle.grammar.specs.Watch.{unscanned}
-use Rattle.grammar.specs.Reading.{Unexpected, Refused, OutOfTurns, Read, Reader, gives, bound, take_one, let_through, checked_result, inside_result}
+use Rattle.grammar.specs.Reading.{Unexpected, Refused, OutOfTurns, Read, Reader, unit_of, gives, bound, take_one, let_through, checked_result, inside_result}
 use Rattle.grammar.specs.Tokens.{sign, word, name, located, is_sign, is_word}
 use Rattle.grammar.specs.declared.cursor.Unwatched.{Unwatched}
 use Rattle.grammar.proofs.Many.{IsSettled}
@@ -16,7 +16,7 @@ use Rattle.model_text.specs.Statement.{Piece, DimensionWord, QuotedText, Closing
 use Rattle.model_text.specs.Gathering.{Current, DimensionDue, DimensionOpen, Parts, Given, at, unless, has_dimension, dimensions_are_full, with_text, closed, gathered}
 use Rattle.model_text.specs.Watching.{Seen, with_given, head_of, with_block, of_block}
 use Rattle.model_text.specs.Readers.Reading as model
-use Rattle.model_text.specs.Readers.Reading.{Plain, Gatherer, gather, outside, body_from, read_version, read_dimension_word, read_naming, read_dimension_behind, gather_version, gather_closing, gather_dimension_word, gather_cube_word, gather_script_word, gather_naming, gather_script_file, gather_first_dimension, gather_further_dimensions, gather_cube_end, read_opening, read_dimension_head, read_cube_head, read_cube_dimensions, read_cube, read_script, read_cubes, read_scripts, read_dimension_body, read_dimension, read_dimensions, read_model}
+use Rattle.model_text.specs.Readers.Reading.{Plain, Gatherer, gather, outside, body_from, read_dimension_word, read_naming, gather_version, gather_closing, gather_dimension_word, gather_cube_word, gather_script_word, gather_naming, gather_further_dimensions, gather_cube_end, read_opening, read_dimension_head, read_cube_head, read_cube_dimensions, read_cube, read_script, read_cubes, read_scripts, read_dimension_body, read_dimension, read_dimensions, read_model}
 use Rattle.model_text.specs.declared.fault.ModelTextFault.{ModelTextFault}
 use Rattle.model_text.specs.declared.fault.ModelTextCause.{ModelTextCause}
 use Rattle.model_text.specs.declared.fault.ModelTextCause.TheVariants as causes
@@ -27,7 +27,7 @@ use Rattle.text_laws.proofs.ModelPieces.{version_settles, closing_settles, dimen
 gathers : {P : Plain Piece} → Settles P → Settles (gather P)
 gathers e = settles_checked (record {}) gathered e
 
-units : {R A : Type 0} {P : Reader Lexeme R ModelTextFault A} → Settles P → Settles (model.unit_of P)
+units : {R A : Type 0} {P : Reader Lexeme R ModelTextFault A} → Settles P → Settles (unit_of P)
 units e = settles_both e (λ _. settles_gives tt)
 
 opening_settles : Settles read_opening

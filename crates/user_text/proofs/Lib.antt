@@ -3,5 +3,4 @@ pub mod NewVariables
 pub mod LoadExact
 pub mod ViewExact
 pub mod UserExact
-pub mod Answering
 pub mod Settled

@@ -6,7 +6,8 @@ use Rattle.std.proofs.lemmas.List.{append-nil, append_assoc}
 use Rattle.std.proofs.lemmas.List.Folds.{list_any-append}
 use Rattle.history.specs.declared.entry.Entry.{Entry}
 use Rattle.history.specs.Version.{NoneFrom}
-use Rattle.history.proofs.Lists.{get_split, get_below}
+use Rattle.history.proofs.Lists.{get_split}
+use Rattle.std.proofs.lemmas.Option.{slice_get_within}
 use Rattle.history.proofs.Runs.{none_from-append, none_in_nothing}
 use Rattle.version_book.specs.Lists.{GoesOn}
 use Rattle.version_book.specs.Inside.Rule.{Among}
@@ -62,7 +63,7 @@ module _ {T : Type 0} where
   none-past : (earlier later : List (Entry T)) (users : List ℕ) (user : ℕ) → GoesOn earlier later users → has users user ≡ true → NoneFrom later (length earlier) user
   none-past earlier later users user goes own p entry least is =
       ⊎_elim
-      (λ here. absurd (omega (arith, get_below earlier p entry here)))
+      (λ here. absurd (omega (arith, slice_get_within earlier p entry here)))
       (λ there. goes.none user own there.0 entry (omega arith) there.2)
       (get_split earlier goes.added p entry (subst (λ (xs : List (Entry T)). slice_get xs p ≡ Some entry) goes.is is))
 

@@ -9,7 +9,7 @@ use Rattle.history.specs.declared.entry.Entry.{Entry}
 use Rattle.history.specs.declared.effect.Effect.{Effect}
 use Rattle.history.specs.Version.{version}
 use Rattle.history.specs.History.{HasUsers, EachRunSoFar}
-use Rattle.history.proofs.Lists.{get_split, get_below}
+use Rattle.std.proofs.lemmas.Option.{slice_get_within}
 use Rattle.history.proofs.Runs.{none_in_nothing, version-append}
 use Rattle.history.proofs.Histories.{runs_legal}
 use Rattle.version_core.specs.declared.user.Tried.{Tried}
@@ -19,7 +19,9 @@ use Rattle.version_core.specs.CoreState.{UserState, KeptValue, CoreState, start,
 use Rattle.version_core.specs.Events.{pinned, unpinned, answered, after_try, has_kept, with_kept, pin_by, try_by, commit_by, read_by, keep_by, unpin_by, event_after}
 use Rattle.version_core.specs.Inside.Sound.{IsUserSound, IsSound}
 use Rattle.version_core.specs.OneHistory.{IsKeptSound, IsOneHistory}
-use Rattle.version_core.proofs.Finding.{none_some, some_same, and_then_some, map_some, get_replicate, user_index, length-set_user, get_set_user}
+use Rattle.lists.proofs.Found.{none_some, some_same, and_then_found, mapped}
+use Rattle.history.proofs.Lists.{get_split}
+use Rattle.version_core.proofs.Finding.{get_replicate, user_index, length-set_user, get_set_user}
 use Rattle.version_core.proofs.Users.{user_starts, user_pins, user_unpins, user_given, user_tries, user_commits, user_beside}
 
 pub only_one : {A : Type 0} (x y : A) (j : ℕ) → slice_get (x ∷ []) j ≡ Some y → x ≡ y
@@ -100,7 +102,7 @@ module _ {C K T R V : Type 0} (effect : C → K → Effect T R) (after : C → T
         | inl old ↦ sound.known p e old
         | inr new ↦
             let same : entry ≡ e = only_one entry e new.0 new.2 in
-            let index : place.0 < length core.users = get_below core.users place.0 user place.2 in
+            let index : place.0 < length core.users = slice_get_within core.users place.0 user place.2 in
             rw (sym same) (omega (arith, place.1, index), omega (arith, place.1, index))
       ] in
       record {
@@ -150,30 +152,30 @@ module _ {C K T R V : Type 0} (effect : C → K → Effect T R) (after : C → T
   pub event_sound : (core next : CoreState C K T R V) (event : Event) → IsSound effect after value core
       → event_after effect after value core event ≡ Some next → IsSound effect after value next
   event_sound core next (event.Pin number) sound is =
-      let user = and_then_some (λ user. pin_by core number user) (user_at core.users number) next is in
-      let command = map_some (λ command. with_user core number (pinned user.0 (length core.log))) (next_command user.0) next user.2 in
-      subst (λ (c : CoreState C K T R V). IsSound effect after value c) (sym command.2)
+      let user = and_then_found (λ user. pin_by core number user) (user_at core.users number) next is in
+      let command = mapped (λ command. with_user core number (pinned user.0 (length core.log))) (next_command user.0) next user.2 in
+      subst (λ (c : CoreState C K T R V). IsSound effect after value c) command.2
       (with_user_sound core number (pinned user.0 (length core.log)) sound
       (user_pins effect after core.first core.log number user.0 command.0 (user_sound core number user.0 sound user.1) command.1))
   event_sound core next (event.Try number) sound is =
-      let user = and_then_some (λ user. try_by effect after core number user user.pin user.tried (next_command user)) (user_at core.users number) next is in
+      let user = and_then_found (λ user. try_by effect after core number user user.pin user.tried (next_command user)) (user_at core.users number) next is in
       try_sound core next number user.0 user.0.pin user.0.tried (next_command user.0) sound user.1 refl refl user.2
   event_sound core next (event.Commit number) sound is =
-      let user = and_then_some (λ user. commit_by core number user user.pin user.tried) (user_at core.users number) next is in
+      let user = and_then_found (λ user. commit_by core number user user.pin user.tried) (user_at core.users number) next is in
       commit_sound core next number user.0 user.0.pin user.0.tried sound user.1 refl refl user.2
   event_sound core next (event.Read number cell) sound is =
-      let user = and_then_some (λ user. read_by core user cell) (user_at core.users number) next is in
-      let place = and_then_some (λ place. if has_kept core.memo place cell then Some core else None) user.0.pin next user.2 in
+      let user = and_then_found (λ user. read_by core user cell) (user_at core.users number) next is in
+      let place = and_then_found (λ place. if has_kept core.memo place cell then Some core else None) user.0.pin next user.2 in
       subst (λ (c : CoreState C K T R V). IsSound effect after value c) (same_core core next (has_kept core.memo place.0 cell) place.2) sound
   event_sound core next (event.Keep number cell) sound is =
-      let user = and_then_some (λ user. keep_by after value core user cell) (user_at core.users number) next is in
-      let place = map_some (λ place. record core { memo = with_kept core.memo place cell (value (version after core.first core.log place) cell) }) user.0.pin next user.2 in
+      let user = and_then_found (λ user. keep_by after value core user cell) (user_at core.users number) next is in
+      let place = mapped (λ place. record core { memo = with_kept core.memo place cell (value (version after core.first core.log place) cell) }) user.0.pin next user.2 in
       let pin = (user_sound core number user.0 sound user.1).pin place.0 place.1 in
-      subst (λ (c : CoreState C K T R V). IsSound effect after value c) (sym place.2) (keep_sound core place.0 cell pin.within sound)
+      subst (λ (c : CoreState C K T R V). IsSound effect after value c) place.2 (keep_sound core place.0 cell pin.within sound)
   event_sound core next (event.Unpin number) sound is =
-      let user = and_then_some (λ user. unpin_by core number user) (user_at core.users number) next is in
-      let place = map_some (λ place. with_user core number (unpinned user.0)) user.0.pin next user.2 in
-      subst (λ (c : CoreState C K T R V). IsSound effect after value c) (sym place.2)
+      let user = and_then_found (λ user. unpin_by core number user) (user_at core.users number) next is in
+      let place = mapped (λ place. with_user core number (unpinned user.0)) user.0.pin next user.2 in
+      subst (λ (c : CoreState C K T R V). IsSound effect after value c) place.2
       (with_user_sound core number (unpinned user.0) sound (user_unpins effect after core.first core.log number user.0 (user_sound core number user.0 sound user.1)))
 
   -- a sound core has one history
@@ -181,10 +183,10 @@ module _ {C K T R V : Type 0} (effect : C → K → Effect T R) (after : C → T
   sound_history core sound =
       let runs : EachRunSoFar effect after core.first (commands_of core.users) (told_of core.users) core.log =
       λ index commands replies is told_is.
-      let a = map_some (λ (u : UserState K T R). u.commands) (slice_get core.users index) commands (sym (slice_get-map (λ (u : UserState K T R). u.commands) core.users index) ∙ is) in
-      let b = map_some (λ (u : UserState K T R). u.told) (slice_get core.users index) replies (sym (slice_get-map (λ (u : UserState K T R). u.told) core.users index) ∙ told_is) in
+      let a = mapped (λ (u : UserState K T R). u.commands) (slice_get core.users index) commands (sym (slice_get-map (λ (u : UserState K T R). u.commands) core.users index) ∙ is) in
+      let b = mapped (λ (u : UserState K T R). u.told) (slice_get core.users index) replies (sym (slice_get-map (λ (u : UserState K T R). u.told) core.users index) ∙ told_is) in
       let same : b.0 ≡ a.0 = some_same (sym b.1 ∙ a.1) in
-      rw (a.2, b.2, same) ((sound.users index a.0 a.1).run) in
+      rw (sym a.2, sym b.2, same) ((sound.users index a.0 a.1).run) in
       let lengths : length (told_of core.users) ≡ length (commands_of core.users) = simp length-map in
       let count : length (commands_of core.users) ≡ length core.users = simp length-map in
       record {

@@ -1,24 +1,12 @@
 -- What a look-up found: in an option, in a list after a write, and among the users by number.
 use Rattle.std.proofs.Common.{◌≡◌, ◌≢◌, ℕ, ◌+◌, zero, suc, List, [], ◌∷◌, length, true, false, Option, Some, None, Result, Ok, Err, OnErr, Bor, refl, ap, sym, arith, ◌⊎◌, inl, inr}
 use Rattle.std.specs.List.{slice_get}
-use Rattle.std.specs.Option.{option_map, option_and_then, option_copied, is_some}
+use Rattle.std.specs.Option.{option_copied, is_some}
 use Rattle.std.specs.Prelude.{slice_set, replicate}
 use Rattle.std.proofs.lemmas.List.{length-set}
+use Rattle.std.proofs.lemmas.Bool.{false≢true}
+use Rattle.lists.proofs.Found.{none_some, some_same}
 use Rattle.version_core.specs.CoreState.{user_at, set_user}
-
-pub none_some : {A : Type 0} {x : A} → None ≡ Some x → ⊥
-none_some is = cc
-
-pub some_same : {A : Type 0} {x y : A} → Some x ≡ Some y → x ≡ y
-some_same is = cc
-
-pub and_then_some : {A B : Type 0} (f : A → Option B) (o : Option A) (y : B) → option_and_then f o ≡ Some y → (x : A) × (o ≡ Some x) × (f x ≡ Some y)
-and_then_some f None y is = absurd (none_some is)
-and_then_some f (Some x) y is = (x, refl, is)
-
-pub map_some : {A B : Type 0} (f : A → B) (o : Option A) (y : B) → option_map f o ≡ Some y → (x : A) × (o ≡ Some x) × (y ≡ f x)
-map_some f None y is = absurd (none_some is)
-map_some f (Some x) y is = (x, refl, sym (some_same is))
 
 -- what stands in a list after a write: what was written, or what stood there elsewhere
 pub get_set : {A : Type 0} (xs : List A) (i : ℕ) (y : A) (j : ℕ) (x : A) → slice_get (slice_set xs i y) j ≡ Some x
@@ -72,21 +60,18 @@ user_set users (suc index) user zero x is = absurd (none_some is)
 user_set users (suc index) user (suc j) x is =
     elim (get_set users index user j x is) [ inl here ↦ inl (ap suc here.0, here.1) | inr there ↦ inr (λ e. there.0 (omega arith), there.1) ]
 
-false_true : false ≡ true → ⊥
-false_true is = cc
-
 pub some_from : {A : Type 0} (found : Option A) → is_some found ≡ true → (x : A) × (found ≡ Some x)
-some_from None is = absurd (false_true is)
+some_from None is = absurd (false≢true is)
 some_from (Some x) is = (x, refl)
 
 -- a look-up that answered has the value that it copies
 pub copied_some : {A : Type 0} (found : Option (Bor A)) → is_some found ≡ true → (x : A) × (option_copied found ≡ Some x)
-copied_some None is = absurd (false_true is)
+copied_some None is = absurd (false≢true is)
 copied_some (Some x) is = (x.now, refl)
 
 pub copied_none : {A : Type 0} (found : Option (Bor A)) → is_some found ≡ false → option_copied found ≡ None
 copied_none None is = refl
-copied_none (Some x) is = absurd (false_true (sym is))
+copied_none (Some x) is = absurd (false≢true (sym is))
 
 pub on_err : {A E : Type 0} {P : Type 0} (result : Result A E) → P → OnErr result P
 on_err (Ok x) p = tt

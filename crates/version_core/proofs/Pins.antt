@@ -15,7 +15,8 @@ use Rattle.version_core.specs.CoreState.{UserState, CoreState, start, new_user, 
 use Rattle.version_core.specs.Events.{pinned, unpinned, answered, after_try, has_kept, with_kept, pin_by, try_by, commit_by, read_by, keep_by, unpin_by, event_after}
 use Rattle.version_core.specs.Inside.Sound.{IsSound}
 use Rattle.version_core.specs.Acts.{Act, Give, Happen, act_after, acts_after, IsLastPin, TellsAtLastPin}
-use Rattle.version_core.proofs.Finding.{none_some, some_same, and_then_some, map_some, get_replicate, user_index, user_set}
+use Rattle.lists.proofs.Found.{none_some, some_same, and_then_found, mapped}
+use Rattle.version_core.proofs.Finding.{get_replicate, user_index, user_set}
 use Rattle.version_core.proofs.Cores.{start_sound, user_sound, give_sound, event_sound, same_core, only_one}
 
 -- what one act does to the pin and the told list of the user of this number
@@ -102,32 +103,32 @@ module _ {C K T R V : Type 0} (effect : C → K → Effect T R) (after : C → T
       → event_after effect after value core event ≡ Some after_event → user_at after_event.users number ≡ Some next
       → WasChanged core (Happen event) number next
   event_changed core done (kind.Pin writer) number next is at =
-      let user = and_then_some (λ user. pin_by core writer user) (user_at core.users writer) done is in
-      let command = map_some (λ command. with_user core writer (pinned user.0 (length core.log))) (next_command user.0) done user.2 in
-      let at' : user_at (set_user core.users writer (pinned user.0 (length core.log))) number ≡ Some next = rw command.2 at at in
+      let user = and_then_found (λ user. pin_by core writer user) (user_at core.users writer) done is in
+      let command = mapped (λ command. with_user core writer (pinned user.0 (length core.log))) (next_command user.0) done user.2 in
+      let at' : user_at (set_user core.users writer (pinned user.0 (length core.log))) number ≡ Some next = rw (sym command.2) at at in
       written core (Happen (kind.Pin writer)) writer user.0 (pinned user.0 (length core.log)) number next user.1 at'
       (λ other same. other (sym (same_pin (same_act (kind.Pin writer) (kind.Pin number) same))))
       (λ own. Pins (ap (λ (n : ℕ). Happen (kind.Pin n)) (sym own)) refl refl)
   event_changed core done (kind.Try writer) number next is at =
-      let user = and_then_some (λ user. try_by effect after core writer user user.pin user.tried (next_command user)) (user_at core.users writer) done is in
+      let user = and_then_found (λ user. try_by effect after core writer user user.pin user.tried (next_command user)) (user_at core.users writer) done is in
       tried_changed core done writer user.0 user.0.pin user.0.tried (next_command user.0) number next user.1 refl user.2 at
   event_changed core done (kind.Commit writer) number next is at =
-      let user = and_then_some (λ user. commit_by core writer user user.pin user.tried) (user_at core.users writer) done is in
+      let user = and_then_found (λ user. commit_by core writer user user.pin user.tried) (user_at core.users writer) done is in
       committed_changed core done writer user.0 user.0.pin user.0.tried number next user.1 refl user.2 at
   event_changed core done (kind.Read writer cell) number next is at =
-      let user = and_then_some (λ user. read_by core user cell) (user_at core.users writer) done is in
-      let place = and_then_some (λ place. if has_kept core.memo place cell then Some core else None) user.0.pin done user.2 in
+      let user = and_then_found (λ user. read_by core user cell) (user_at core.users writer) done is in
+      let place = and_then_found (λ place. if has_kept core.memo place cell then Some core else None) user.0.pin done user.2 in
       let same : core ≡ done = same_core effect after value core done (has_kept core.memo place.0 cell) place.2 in
       untouched core (Happen (kind.Read writer cell)) number next (λ e. cc) (rw same at)
   event_changed core done (kind.Keep writer cell) number next is at =
-      let user = and_then_some (λ user. keep_by after value core user cell) (user_at core.users writer) done is in
-      let place = map_some (λ place. record core { memo = with_kept core.memo place cell (value (version after core.first core.log place) cell) }) user.0.pin done user.2 in
-      let at' : user_at core.users number ≡ Some next = rw place.2 at at in
+      let user = and_then_found (λ user. keep_by after value core user cell) (user_at core.users writer) done is in
+      let place = mapped (λ place. record core { memo = with_kept core.memo place cell (value (version after core.first core.log place) cell) }) user.0.pin done user.2 in
+      let at' : user_at core.users number ≡ Some next = rw (sym place.2) at at in
       untouched core (Happen (kind.Keep writer cell)) number next (λ e. cc) at'
   event_changed core done (kind.Unpin writer) number next is at =
-      let user = and_then_some (λ user. unpin_by core writer user) (user_at core.users writer) done is in
-      let place = map_some (λ place. with_user core writer (unpinned user.0)) user.0.pin done user.2 in
-      let at' : user_at (set_user core.users writer (unpinned user.0)) number ≡ Some next = rw place.2 at at in
+      let user = and_then_found (λ user. unpin_by core writer user) (user_at core.users writer) done is in
+      let place = mapped (λ place. with_user core writer (unpinned user.0)) user.0.pin done user.2 in
+      let at' : user_at (set_user core.users writer (unpinned user.0)) number ≡ Some next = rw (sym place.2) at at in
       written core (Happen (kind.Unpin writer)) writer user.0 (unpinned user.0) number next user.1 at' (λ other e. cc) (λ own. Ends refl refl)
 
   -- ## Acts

@@ -11,7 +11,9 @@ use Rattle.history.specs.declared.entry.Entry.{Entry}
 use Rattle.history.specs.declared.effect.Effect.{Effect}
 use Rattle.history.specs.declared.effect.Effect.TheVariants.{Commit, Rejected, Read}
 use Rattle.history.specs.Version.{content_after, version}
-use Rattle.history.proofs.Lists.{get_below, get_split}
+use Rattle.lists.proofs.Found.{none_some, some_same}
+use Rattle.history.proofs.Lists.{get_split}
+use Rattle.std.proofs.lemmas.Option.{slice_get_within}
 use Rattle.history.proofs.Runs.{version-append, content_after-append}
 use Rattle.version_core.specs.declared.event.Event.{Event}
 use Rattle.version_core.specs.declared.event.Event.TheVariants as kind
@@ -22,7 +24,7 @@ use Rattle.version_core.specs.Events.{pinned, unpinned, answered, after_try, has
 use Rattle.version_core.specs.Acts.{Give, act_after}
 use Rattle.version_core.specs.Inside.Sound.{IsSound}
 use Rattle.version_core.specs.Inside.Stored.{kept_value, core_of, IsStored}
-use Rattle.version_core.proofs.Finding.{none_some, some_same, get_set, get_replicate, user_index}
+use Rattle.version_core.proofs.Finding.{get_set, get_replicate, user_index}
 use Rattle.version_core.proofs.Cores.{start_sound, user_sound, give_sound, event_sound, only_one}
 
 -- the user of a number stands at the index below it
@@ -194,7 +196,7 @@ module _ {S C K T R V : Type 0} (content : S → C) (effect : C → K → Effect
       → IsStored content effect after value core versions → user_at core.users number ≡ Some user → user.tried ≡ Some tried → length user.told + 1 < 2 ^ 32
   commit_number core versions number user tried stored here try =
       let t = (user_sound effect after value core number user stored.sound here).tried tried try in
-      omega (arith, get_below user.commands (length user.told) t.command t.is_next, few_commands core versions number user stored here)
+      omega (arith, slice_get_within user.commands (length user.told) t.command t.is_next, few_commands core versions number user stored here)
 
   -- the kept values stay while the history goes on
   kept_stay : (first : C) (log : List (Entry T)) (entry : Entry T) (known : List Known)
@@ -237,10 +239,10 @@ module _ {S C K T R V : Type 0} (content : S → C) (effect : C → K → Effect
           are_versions = λ p s found.
               elim (get_split versions (next ∷ []) p s found) [
                 | inl old ↦
-                    let within : p ≤ length log = omega (arith, get_below versions p s old) in
+                    let within : p ≤ length log = omega (arith, slice_get_within versions p s old) in
                     rw (version-append after first log (entry ∷ []) p within) (stored.are_versions p s old)
                 | inr new ↦
-                    let end : p ≡ length (log ++ entry ∷ []) = omega (arith, new.1, get_below (next ∷ []) new.0 s new.2, length-append log (entry ∷ [])) in
+                    let end : p ≡ length (log ++ entry ∷ []) = omega (arith, new.1, slice_get_within (next ∷ []) new.0 s new.2, length-append log (entry ∷ [])) in
                     let whole : version after first (log ++ entry ∷ []) (length (log ++ entry ∷ [])) ≡ content_after after first (log ++ entry ∷ []) = ap (content_after after first) (take-length (log ++ entry ∷ [])) in
                     let here_version : content state ≡ content_after after first log = version_here core versions place state stored below state_is ∙ ap (λ (n : ℕ). version after first log n) newest ∙ ap (content_after after first) (take-length log) in
                     let writes : entry.writes ≡ tried.writes = ap (λ (e : Entry T). e.writes) entry_is in

@@ -13,7 +13,7 @@ use Rattle.history.proofs.Runs.{told_more, told_given, run_told, run_committed, 
 use Rattle.version_core.specs.declared.user.Tried.{Tried}
 use Rattle.version_core.specs.CoreState.{UserState, new_user, next_command, given}
 use Rattle.version_core.specs.Events.{pinned, unpinned, answered, after_try}
-use Rattle.version_core.proofs.Finding.{none_some, some_same}
+use Rattle.lists.proofs.Found.{none_some, some_same}
 use Rattle.version_core.specs.Inside.Sound.{IsUserSound}
 
 module _ {C K T R : Type 0} (effect : C → K → Effect T R) (after : C → T → C) (first : C) where

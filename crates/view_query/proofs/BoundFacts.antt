@@ -1,10 +1,12 @@
 -- What is bound is a view.
-use Rattle.std.proofs.Common.{◌≡◌, ◌<◌, ◌≤◌, ◌+◌, ◌==◌, ℕ, zero, suc, Bool, true, false, nat_lt, if◌then◌else◌, List, [], ◌∷◌, map, length, position, min, Option, Some, None, Result, Ok, Err, refl, sym, ap, ◌∙◌, subst, arith, All, IfOk, slice_get}
-use Rattle.std.specs.List.{AllByRecursion, list_all, range_with_len, position_or_len}
-use Rattle.std.proofs.lemmas.Bool.{and_parts, eqb-true, ltb-true, ltb-false}
+use Rattle.std.proofs.Common.{◌≡◌, ◌<◌, ◌≤◌, ◌+◌, ◌==◌, ℕ, zero, suc, Bool, true, false, nat_lt, if◌then◌else◌, List, [], ◌∷◌, map, length, min, Option, Some, None, Result, Ok, Err, refl, sym, ap, ◌∙◌, subst, arith, All, IfOk, slice_get}
+use Rattle.std.specs.List.{AllByRecursion, list_all, range_with_len}
+use Rattle.std.proofs.lemmas.Bool.{and_parts, eqb-true, ltb-false}
 use Rattle.std.proofs.lemmas.List.{length-map}
+use Rattle.std.proofs.lemmas.List.Quantifiers.{position-Some}
 use Rattle.dim_name.specs.Name.{place_of, is_same_name}
-use Rattle.dim_core.specs.Outline.{Outline, index_of, names_of}
+use Rattle.dim_core.specs.Outline.{Outline, index_of}
+use Rattle.dim_core.proofs.Naming.{called_within}
 use Rattle.cube_space.specs.Layout.{Layout, axes, cube_names}
 use Rattle.user_text.specs.declared.command.SetText.{SetText}
 use Rattle.user_text.specs.declared.command.ViewText.{ViewText}
@@ -58,20 +60,10 @@ each_maps f g h same (x ∷ xs) ys zs e w =
     ∙ ap (λ l. two.first ∷ l) (each_maps f g h same xs more.first rest.first more.is rest.is)
     ∙ ok_same (two.first ∷ rest.first) zs rest.then_is
 
-position_low : {X : Type 0} (test : X → Bool) (xs : List X) (i : ℕ) → position test xs ≡ Some i → i < length xs
-position_low test xs i e = by (nat_lt (position_or_len test xs) (length xs)) refl e
-  where
-    by : (b : Bool) → nat_lt (position_or_len test xs) (length xs) ≡ b → (if b then Some (position_or_len test xs) else None) ≡ Some i → i < length xs
-    by true low is = let same : position_or_len test xs ≡ i = cc in subst (λ n. n < length xs) same (ltb-true _ _ low)
-    by false low is = absurd (cc is)
-
-index_low : (d : Outline) (name : List ℕ) (e : ℕ) → index_of d name ≡ Some e → e < length d.elements
-index_low d name e is = omega (arith, position_low (is_same_name name) (names_of d.elements) e is, length-map d.elements (λ x. x.name))
-
 set_low : (d : Outline) (listed : Option (List (List ℕ))) (elements : List ℕ) → elements_of_set d listed ≡ Ok elements → All (λ e. e < length d.elements) elements
 set_low d None elements is = subst (All (λ e. e < length d.elements)) (ok_same (range_with_len 0 (length d.elements)) elements is) (range_low (length d.elements))
 set_low d (Some names) elements is =
-    from_each (λ e. e < length d.elements) elements (each_holds (λ name. known (index_of d name)) (λ e. e < length d.elements) (λ name e found. index_low d name e (known_is (index_of d name) e found)) names elements is)
+    from_each (λ e. e < length d.elements) elements (each_holds (λ name. known (index_of d name)) (λ e. e < length d.elements) (λ name e found. called_within d name e (known_is (index_of d name) e found)) names elements is)
 
 -- a bound set: its place, its dimension and its elements
 record Parts (dimensions : List Outline) (set : SetText) (axis : Axis) : Type 0 where
@@ -98,7 +90,7 @@ point_parts dimensions point at e =
     let three = both (known (index_of two.first point.1)) (λ element. done (one.first, element)) at two.then_is in
     let made : ℕ × ℕ = (one.first, three.first) in
     subst (PointParts dimensions point) (ok_same made at three.then_is)
-    (record { place = one.is; own = (two.first, known_is (slice_get dimensions one.first) two.first two.is, index_low two.first point.1 three.first (known_is (index_of two.first point.1) three.first three.is)) })
+    (record { place = one.is; own = (two.first, known_is (slice_get dimensions one.first) two.first two.is, called_within two.first point.1 three.first (known_is (index_of two.first point.1) three.first three.is)) })
 
 one_place : (m : Meaning ℕ) (a b : ℕ) → m ≡ Ok a → m ≡ Ok b → a ≡ b
 one_place m a b e w = ok_same a b (sym e ∙ w)
@@ -181,7 +173,7 @@ bound_is : (space : Layout) (text : ViewText) (view : View) → bound space text
 unfolding bound
 bound_is space text view e =
     let cube = both (known (place_of (cube_names space) text.cube)) (λ c. bound_in (axes space c) c text) view e in
-    let low = position_low (is_same_name text.cube) (cube_names space) cube.first (known_is (place_of (cube_names space) text.cube) cube.first cube.is) in
+    let low = (position-Some (is_same_name text.cube) (cube_names space) cube.first [] (known_is (place_of (cube_names space) text.cube) cube.first cube.is)).0 in
     in_cube space cube.first text view (omega (arith, low, length-map space.cubes (λ shape. shape.name))) cube.then_is
 
 -- an answer that is what is bound

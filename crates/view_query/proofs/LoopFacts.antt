@@ -4,7 +4,7 @@ use Rattle.std.specs.List.{flat_map, range_with_len}
 use Rattle.std.proofs.lemmas.Bool.{cases_lt}
 use Rattle.std.proofs.lemmas.List.{drop_more, drop_all, append-nil, append_assoc}
 use Rattle.std.proofs.lemmas.List.FromFn.{map-range_with_len_more}
-use Rattle.std.proofs.lemmas.Option.{slice_get-get_or}
+use Rattle.std.proofs.lemmas.Option.{slice_get-get_or, slice_get_past}
 use Rattle.std.proofs.Math.Seq.{take-suc-set}
 use Rattle.dim_core.specs.Outline.{Outline}
 use Rattle.view_query.specs.declared.shape.Axis.{Axis}
@@ -53,11 +53,6 @@ one_cell_asked after cell asked next whole xs i x low is own before =
 abbrev pub sought : List Axis → List ℕ → ℕ → ℕ → Option ℕ
 sought along line place i = element_in (drop i along) (drop i line) place
 
-got : {X : Type 0} (xs : List X) (i : ℕ) → length xs ≤ i → slice_get xs i ≡ None
-got [] i past = refl
-got (x ∷ xs) zero past = absurd (omega arith)
-got (x ∷ xs) (suc i) past = got xs i (omega arith)
-
 pub sought_here : (along : List Axis) (line : List ℕ) (place i : ℕ) (axis : Axis) → i < length along → axis ≡ get_or along i axis → (axis.place == place) ≡ true → slice_get line i ≡ sought along line place i
 sought_here along line place i axis low is here =
     by (cases_lt i (length line)) ∙ ap (λ l. element_in l (drop i line) place) (sym (drop_more along i axis low))
@@ -67,7 +62,7 @@ sought_here along line place i axis low is here =
 
     by : (i < length line) ⊎ (length line ≤ i) → slice_get line i ≡ element_in (get_or along i axis ∷ drop (i + 1) along) (drop i line) place
     by (inl more) = slice_get-get_or line i 0 more ∙ sym (rw (drop_more line i 0 more, own) refl)
-    by (inr past) = got line i past ∙ sym (rw (drop_all i line past) refl)
+    by (inr past) = slice_get_past line i past ∙ sym (rw (drop_all i line past) refl)
 
 pub sought_later : (along : List Axis) (line : List ℕ) (place i : ℕ) (axis : Axis) → i < length along → axis ≡ get_or along i axis → (axis.place == place) ≡ false
     → sought along line place i ≡ sought along line place (i + 1)

@@ -3,7 +3,7 @@ use Rattle.std.specs.Prelude.{ℕ, ℤ, pos, List, [], ◌∷◌, Bool, true, fa
 use Rattle.cube_lex.specs.Lexeme.{Lexeme}
 use Rattle.grammar.specs.Watch.{unscanned}
 use Rattle.grammar.specs.Lists.{read_minus, read_listed}
-use Rattle.grammar.specs.Reading.{Reader, gives, take_one, choose, all_of, checked, ◌>>=◌, ◌>>◌}
+use Rattle.grammar.specs.Reading.{Reader, gives, take_one, choose, all_of, unit_of, checked, ◌>>=◌, ◌>>◌}
 use Rattle.grammar.specs.Tokens.{sign, word, whole, name, text, is_sign, is_word}
 use Rattle.grammar.specs.declared.cursor.Unwatched.{Unwatched}
 use Rattle.dim_text.specs.declared.fault.Refusal.{Refusal}
@@ -89,11 +89,6 @@ read_close = do
 -- a statement that is built in
 abbrev pub built : Plain Statement → Reader Lexeme Progress Refusal Statement
 built P = checked (record {}) add P
-
-abbrev pub unit_of : {A : Type 0} → Reader Lexeme Progress Refusal A → Reader Lexeme Progress Refusal (Unit {0})
-unit_of P = do
-  P
-  gives tt
 
 abbrev pub read_every_element : Reader Lexeme Progress Refusal (List Statement)
 read_every_element = all_of is_element_word (built read_element)

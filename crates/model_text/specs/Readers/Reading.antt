@@ -2,7 +2,7 @@
 use Rattle.std.specs.Prelude.{ℕ, List, Option, Some, None, codes, Err}
 use Rattle.cube_lex.specs.Lexeme.{Lexeme}
 use Rattle.grammar.specs.Watch.{unscanned}
-use Rattle.grammar.specs.Reading.{OutOfTurns, Reader, gives, take_one, choose, all_of, checked}
+use Rattle.grammar.specs.Reading.{unit_of, OutOfTurns, Reader, gives, take_one, choose, all_of, checked}
 use Rattle.grammar.specs.Reading.{inside_result, inside, ◌>>=◌, ◌>>◌}
 use Rattle.grammar.specs.Lists.{read_listed}
 use Rattle.grammar.specs.Tokens.{sign, word, whole, name, file, located, is_sign, is_word, is_number}
@@ -123,11 +123,6 @@ Gatherer = Reader Lexeme Given ModelTextFault (Unit {0})
 -- a piece that is gathered
 abbrev pub gather : Plain Piece → Reader Lexeme Given ModelTextFault Piece
 gather P = checked (record {}) gathered P
-
-abbrev pub unit_of : {R A : Type 0} → Reader Lexeme R ModelTextFault A → Reader Lexeme R ModelTextFault (Unit {0})
-unit_of P = do
-  P
-  gives tt
 
 unfoldable pub gather_version : Gatherer
 gather_version = unit_of (gather read_version)

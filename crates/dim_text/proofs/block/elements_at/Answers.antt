@@ -6,7 +6,9 @@ use Rattle.grammar.proofs.Loops.{begun_all, goes_further, is_done}
 use Rattle.dim_text.specs.Readers.Views.{element_view}
 use Rattle.dim_text.specs.Readers.Reading.{built, read_element, read_elements, is_element_word}
 use Rattle.dim_text.proofs.BlockExact.{element_shortens}
-use Rattle.dim_text.proofs.Built.{built_ok}
+use Rattle.grammar.specs.declared.cursor.Unwatched.{Unwatched}
+use Rattle.dim_text.specs.Building.{add}
+use Rattle.grammar.proofs.Checked.{checked_ok}
 use Rattle.dim_text.proofs.ElementLoop.{element_halts, add_halts}
 use Rattle.dim_text.proofs.block.elements_at.Goals as goal
 
@@ -21,7 +23,7 @@ element-smaller c =
 pub element-preserved : goal.element-preserved
 element-preserved c =
     let (front, going) = c.element.invariant in
-    (front ++ element_view c.in_ok-element.element ∷ [], goes_further going c.element-test.ensures (built_ok read_element c.element.block c.in_ok-element.ensures c.in_ok-add.ensures) (element_shortens _ _ _ _ _ c.in_ok-element.ensures) refl)
+    (front ++ element_view c.in_ok-element.element ∷ [], goes_further going c.element-test.ensures (checked_ok {U = Unwatched} (record {}) add read_element c.element.block c.in_ok-element.ensures c.in_ok-add.ensures) (element_shortens _ _ _ _ _ c.in_ok-element.ensures) refl)
 
 pub returns-in_err-element : goal.returns-in_err-element
 returns-in_err-element c =

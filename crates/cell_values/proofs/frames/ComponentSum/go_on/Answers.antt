@@ -1,14 +1,11 @@
-use Rattle.std.proofs.Common.{◌≡◌, ◌∙◌, arith, refl, sym, ap, subst, ℕ, Option, None, Some}
+use Rattle.std.proofs.Common.{◌∙◌, arith, sym, ap, subst}
+use Rattle.lists.proofs.Found.{none_found}
 use Rattle.cube_space.specs.Cells.{IsCell}
 use Rattle.cube_space.specs.Layout.{Layout}
 use Rattle.rule_model.specs.BoundModel.{BoundModel}
 use Rattle.cell_values.specs.Inside.Growth.{grew-later}
 use Rattle.cell_values.proofs.BeginFacts.{all-added, skip-zero, skip-none, step-some, stop-some}
 use Rattle.cell_values.proofs.frames.ComponentSum.go_on.Goals as goal
-
-none_of : (o : Option ℕ) → ((x : ℕ) → o ≡ Some x → ⊥) → o ≡ None
-none_of None other = refl
-none_of (Some x) other = absurd (other x refl)
 
 pub parts-preserved-then-weight-eq0 : goal.parts-preserved-then-weight-eq0
 parts-preserved-then-weight-eq0 g c =
@@ -52,7 +49,7 @@ returns-in-None-clause-stops g c =
 pub parts-preserved : goal.parts-preserved
 parts-preserved g c =
     let space = c.space-space.ensures.space ∙ ap (λ (m : BoundModel). m.space) c.model.ensures.model in
-    let none = sym c.with_element_at.ensures.value ∙ none_of c.with_element_at.result c.in_default.not-Some in
+    let none = sym c.with_element_at.ensures.value ∙ none_found c.with_element_at.result c.in_default.not-Some in
     record {
       advances = skip-none c.args.version.now c.args.self.now c.parts.self c.space-space.result.now c.parts_at-parts.result.now space c.parts_at-parts.ensures.parts c.parts.invariant.cell c.parts.invariant.dim c.parts.invariant.advances c.parts_at-parts.ensures.weights c.parts-test.true none;
       cell = c.parts.invariant.cell;
