@@ -1,7 +1,6 @@
 -- A run that is told along the list, and a run that is read place by place, are the same.
-use Rattle.std.proofs.Common.{◌≡◌, ℕ, ◌+◌, ◌≤◌, zero, suc, List, [], ◌∷◌, length, Some, refl, ap, sym, ◌∙◌, arith, inl, inr}
+use Rattle.std.proofs.Common.{◌≡◌, ℕ, ◌+◌, ◌≤◌, zero, suc, List, [], ◌∷◌, length, Some, refl, ap, sym, ◌∙◌, arith}
 use Rattle.std.specs.List.{slice_get}
-use Rattle.std.proofs.lemmas.Bool.{cases_lt}
 use Rattle.history.specs.declared.entry.Entry.{Entry}
 use Rattle.history.specs.declared.told.Told.{Told}
 use Rattle.history.specs.declared.effect.Effect.{Effect}
@@ -12,7 +11,7 @@ use Rattle.history.specs.ByPlace.{IsToldEntry, IsRunByPlace}
 use Rattle.std.proofs.lemmas.Option.{slice_get_within}
 use Rattle.lists.proofs.Found.{none_some, some_same, there}
 use Rattle.history.proofs.Runs.{least_after_le, place_le}
-use Rattle.history.proofs.Histories.{stands_cases}
+use Rattle.history.proofs.Histories.{told_entry}
 
 module _ {C K T R : Type 0} (effect : C → K → Effect T R) (after : C → T → C) (first : C) where
   -- what one answer says, by its index
@@ -43,24 +42,6 @@ module _ {C K T R : Type 0} (effect : C → K → Effect T R) (after : C → T �
   order_at log user number least (one ∷ told) (k ∷ commands) t (suc i) answer next command is then at =
       order_at log user (number + 1) (least_after (effect (version after first log one.place) k) one.place) told commands t.4 i answer next command is then at
 
-  entry_at : (log : List (Entry T)) (user place : ℕ) (entry : Entry T) → slice_get log place ≡ Some entry → entry.user ≡ user
-      → (number least : ℕ) (told : List (Told R)) (commands : List K) → ToldFrom effect after first log user number least told commands → least ≤ place
-      → IsToldEntry effect after first log told commands entry place
-  entry_at log user place entry is own number least [] commands t from = absurd (t.1 place entry from is own)
-  entry_at log user place entry is own number least (one ∷ told) [] t from = absurd t
-  entry_at log user place entry is own number least (one ∷ told) (command ∷ commands) t from =
-      elim (cases_lt place one.place) [
-        | inl before ↦ absurd (t.1 place entry from before is own)
-        | inr since ↦
-            elim (stands_cases (effect (version after first log one.place) command) log one.place user number place entry t.3 is since) [
-              | inl past ↦
-                  let rest = entry_at log user place entry is own (number + 1) (least_after (effect (version after first log one.place) command) one.place) told commands t.4 past in
-                  record { index = suc rest.index; answer = rest.answer; command = rest.command; reply = rest.reply; is_answer = rest.is_answer; is_command = rest.is_command; is_place = rest.is_place; is_accepted = rest.is_accepted }
-              | inr here ↦
-                  record { index = 0; answer = one; command = command; reply = here.0; is_answer = refl; is_command = refl; is_place = sym here.1; is_accepted = rw here.1 here.3 }
-            ]
-      ]
-
   stands_entry : (found : Effect T R) (log : List (Entry T)) (place user number : ℕ) (writes : T) (reply : R) → Stands found log place user number → found ≡ Commit writes reply
       → slice_get log place ≡ Some (record { user = user; command = number; writes = writes })
   stands_entry found log place user number writes reply stands is = rw is at stands
@@ -80,7 +61,7 @@ module _ {C K T R : Type 0} (effect : C → K → Effect T R) (after : C → T �
     order = λ i answer next command is then at.
         let after_i : i + 1 ≡ suc i = omega arith in
         order_at log user 1 0 told commands run.1 i answer next command is (rw after_i at then) at;
-    others = λ place entry is own. entry_at log user place entry is own 1 0 told commands run.1 (omega arith);
+    others = λ place entry is own. (told_entry effect after first log user place entry is own 1 0 told commands run.1 (omega arith)).by;
   }
 
   -- the places never fall

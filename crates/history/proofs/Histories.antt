@@ -7,6 +7,7 @@ use Rattle.history.specs.declared.effect.Effect.{Effect}
 use Rattle.history.specs.declared.effect.Effect.TheVariants.{Commit, Rejected, Read}
 use Rattle.history.specs.Version.{version}
 use Rattle.history.specs.UserRun.{least_after, Stands, ToldFrom, RunSoFar}
+use Rattle.history.specs.ByPlace.{IsToldEntry}
 use Rattle.history.specs.History.{IsLegal, EachRunSoFar, EachRun, IsHistoryOf, HasUsers}
 use Rattle.std.proofs.lemmas.Bool.{cases_lt}
 use Rattle.lists.proofs.Found.{there}
@@ -34,31 +35,34 @@ above_zero zero h = absurd (omega arith)
 above_zero (suc m) h = (m, omega arith)
 
 module _ {C K T R : Type 0} (effect : C → K → Effect T R) (after : C → T → C) (first : C) where
-  -- the entry is one of these commands, of which the first has this number, and is accepted
-  pub record IsAnswered (log : List (Entry T)) (p : ℕ) (entry : Entry T) (number : ℕ) (commands : List K) : Type 0 where
-    pub index : ℕ
-    pub command : K
-    pub reply : R
-    pub is_number : entry.command ≡ index + number
-    pub is_command : slice_get commands index ≡ Some command
-    pub is_accepted : effect (version after first log p) command ≡ Commit entry.writes reply
+  -- the entry is told by one of the user's answers, and its number is that of the answer's command: the first has this one
+  pub record IsAnswered (log : List (Entry T)) (p : ℕ) (entry : Entry T) (number : ℕ) (told : List (Told R)) (commands : List K) : Type 0 where
+    pub by : IsToldEntry effect after first log told commands entry p
+    pub is_number : entry.command ≡ by.index + number
 
-  -- an entry of the user is one of the answered commands, accepted on the version of its place
+  -- an entry of the user is that of one of the answers, accepted on the version of its place
   pub told_entry : (log : List (Entry T)) (user p : ℕ) (entry : Entry T) → slice_get log p ≡ Some entry → entry.user ≡ user
       → (number least : ℕ) (told : List (Told R)) (commands : List K)
       → ToldFrom effect after first log user number least told commands → least ≤ p
-      → IsAnswered log p entry number commands
+      → IsAnswered log p entry number told commands
   told_entry log user p entry is own number least [] commands t from = absurd (t.1 p entry from is own)
-  told_entry log user p entry is own number least (told ∷ more) [] t from = absurd t
-  told_entry log user p entry is own number least (told ∷ more) (command ∷ commands) t from =
-      elim (cases_lt p told.place) [
+  told_entry log user p entry is own number least (one ∷ told) [] t from = absurd t
+  told_entry log user p entry is own number least (one ∷ told) (command ∷ commands) t from =
+      elim (cases_lt p one.place) [
         | inl before ↦ absurd (t.1 p entry from before is own)
         | inr since ↦
-            elim (stands_cases (effect (version after first log told.place) command) log told.place user number p entry t.3 is since) [
+            elim (stands_cases (effect (version after first log one.place) command) log one.place user number p entry t.3 is since) [
               | inl past ↦
-                  let rest = told_entry log user p entry is own (number + 1) (least_after (effect (version after first log told.place) command) told.place) more commands t.4 past in
-                  record { index = suc rest.index; command = rest.command; reply = rest.reply; is_number = omega (arith, rest.is_number); is_command = rest.is_command; is_accepted = rest.is_accepted }
-              | inr here ↦ record { index = 0; command = command; reply = here.0; is_number = omega (arith, here.2); is_command = refl; is_accepted = rw here.1 here.3 }
+                  let rest = told_entry log user p entry is own (number + 1) (least_after (effect (version after first log one.place) command) one.place) told commands t.4 past in
+                  record {
+                    by = record { index = suc rest.by.index; answer = rest.by.answer; command = rest.by.command; reply = rest.by.reply; is_answer = rest.by.is_answer; is_command = rest.by.is_command; is_place = rest.by.is_place; is_accepted = rest.by.is_accepted };
+                    is_number = omega (arith, rest.is_number);
+                  }
+              | inr here ↦
+                  record {
+                    by = record { index = 0; answer = one; command = command; reply = here.0; is_answer = refl; is_command = refl; is_place = sym here.1; is_accepted = rw here.1 here.3 };
+                    is_number = omega (arith, here.2);
+                  }
             ]
       ]
 
@@ -74,14 +78,14 @@ module _ {C K T R : Type 0} (effect : C → K → Effect T R) (after : C → T �
       record {
         index = user_of.0;
         commands = commands.0;
-        before = found.index;
-        command = found.command;
-        reply = found.reply;
+        before = found.by.index;
+        command = found.by.command;
+        reply = found.by.reply;
         is_user = user_of.1;
         are_commands = commands.1;
         is_number = found.is_number;
-        is_command = found.is_command;
-        is_accepted = found.is_accepted;
+        is_command = found.by.is_command;
+        is_accepted = found.by.is_accepted;
       }
 
   pub runs_history : (users : List (List K)) (told : List (List (Told R))) (log : List (Entry T))
