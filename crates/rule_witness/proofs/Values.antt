@@ -71,6 +71,9 @@ carried-solves (suc (suc (suc (suc (suc n))))) cell = absurd (omega (arith, cell
 pub carried-opening : dense_value replenishment carried_over opening ≡ Num (pos (40 * unit))
 carried-opening = sym (dense_value-only replenishment formed carried_over ordered carried carried-solves opening (lit< tt))
 
+pub carried-available : dense_value replenishment carried_over available ≡ Num (pos (30 * unit))
+carried-available = sym (dense_value-only replenishment formed carried_over ordered carried carried-solves available (lit< tt))
+
 pub carried-purchase : dense_value replenishment carried_over purchase ≡ Num (pos (70 * unit))
 carried-purchase = sym (dense_value-only replenishment formed carried_over ordered carried carried-solves purchase (lit< tt))
 

@@ -3,7 +3,7 @@ use Rattle.rule_witness.specs.Replenishment.{stock_feed, closing}
 use Rattle.rule_witness.proofs.WellFormed.{formed}
 use Rattle.rule_witness.proofs.Ordered.{ordered}
 use Rattle.rule_witness.proofs.Covered.{covered, feeds-opening}
-use Rattle.rule_witness.proofs.Values.{carried-opening, carried-purchase, entered-opening, entered-purchase}
+use Rattle.rule_witness.proofs.Values.{carried-opening, carried-available, carried-purchase, entered-opening, entered-purchase}
 use Rattle.rule_witness.proofs.replenishment_meets_the_premises.Goals as goal
 
 pub returns-clause-well_formed : goal.returns-clause-well_formed
@@ -23,6 +23,9 @@ returns-clause-dense c stored = inl ((lit< tt, refl), refl)
 
 pub returns-clause-carried : goal.returns-clause-carried
 returns-clause-carried c = carried-opening
+
+pub returns-clause-total : goal.returns-clause-total
+returns-clause-total c = carried-available
 
 pub returns-clause-to_purchase : goal.returns-clause-to_purchase
 returns-clause-to_purchase c = carried-purchase
