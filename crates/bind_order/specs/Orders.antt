@@ -8,7 +8,7 @@ use Rattle.dim_core.specs.Outline.{Outline, index_of}
 use Rattle.dim_weights.specs.Table.{leaves_of}
 use Rattle.cube_space.specs.Layout.{Layout, axes}
 use Rattle.cube_space.specs.Cells.{is_leaf}
-use Rattle.cube_axes.specs.Axes.{axis_called}
+use Rattle.cube_space.specs.Axes.{axis_called}
 use Rattle.model_text.specs.declared.order.OrderLine.{OrderLine}
 use Rattle.model_text.specs.declared.order.OrderWord.{OrderWord}
 use Rattle.model_text.specs.declared.order.OrderWord.TheVariants as words

@@ -24,8 +24,8 @@ use Rattle.rule_model.specs.Weights.{max_weight_product}
 use Rattle.sparse_sum.specs.Live.{live_below}
 use Rattle.sparse_sum.specs.Walking.{Progress, begun, left}
 use Rattle.sparse_sum.proofs.Placed.{word-is}
-use Rattle.stored_values.specs.Stored.{stored_in}
-use Rattle.stored_values.proofs.Stored.{stored-number}
+use Rattle.stored_laws.specs.Stored.{stored_in}
+use Rattle.stored_laws.proofs.Stored.{stored-number}
 use Rattle.cell_values.specs.declared.frames.LeafSum.{LeafSum}
 use Rattle.cell_values.specs.declared.frames.ComponentSum.{ComponentSum}
 use Rattle.cell_values.specs.Reading.{value_on}

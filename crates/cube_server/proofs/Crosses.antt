@@ -47,7 +47,7 @@ use Rattle.script_tree.specs.contracts.script.Script as Script
 use Rattle.user_text.proofs.command.CellText.TheSendSync as cell_text
 use Rattle.user_text.proofs.command.ViewText.TheSendSync as view_text
 use Rattle.user_text.proofs.command.ParamText.TheSendSync as param_text
-use Rattle.load_job.specs.contracts.job.Job as Job
+use Rattle.user_text.specs.contracts.job.Job as Job
 use Rattle.user_session.specs.contracts.command.PlanCommand as PlanCommand
 
 -- each step is a lemma, since a `search` that goes down through all of them runs out of steps

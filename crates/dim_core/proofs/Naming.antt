@@ -7,7 +7,7 @@ use Rattle.std.proofs.lemmas.Cmp.{nat_list_eq_equiv, nat_eq_equiv, on_equiv, and
 use Rattle.std.proofs.lemmas.List.{length-map}
 use Rattle.std.proofs.lemmas.List.Quantifiers.{position-Some}
 use Rattle.std.proofs.lemmas.Map.Keys.{apart_from_distinct}
-use Rattle.numbered.proofs.Places.{position-first}
+use Rattle.lists.proofs.Places.{position-first}
 use Rattle.dim_name.specs.Name.{is_same_name, key_of, place_of}
 use Rattle.dim_core.specs.declared.attribute.Attribute.{Attribute}
 use Rattle.dim_core.specs.declared.attribute.NamedAttribute.{NamedAttribute}

@@ -9,7 +9,7 @@ use Rattle.std.proofs.lemmas.List.Sums.{sum_by_more_le, sum_by-cons}
 use Rattle.std.proofs.lemmas.Map.Keys.{apart_from_distinct}
 use Rattle.dim_order.specs.Loops.{first_on_loop}
 use Rattle.dim_order.proofs.LoopLemmas.{first_on_loop-ordered}
-use Rattle.numbered.proofs.Places.{position-none, get_or_within}
+use Rattle.lists.proofs.Places.{position-none, get_or_within}
 use Rattle.dim_name.specs.Name.{has_name, is_same_name, place_of}
 use Rattle.dim_core.specs.declared.attribute.Attribute.{Attribute}
 use Rattle.dim_core.specs.declared.attribute.NamedAttribute.{NamedAttribute}

@@ -12,8 +12,7 @@ use crate::components::NamedComponents;
 use crate::resolve::{first_unknown, resolve_all, resolve_attributes};
 use crate::{DimFault, Dimension, Name};
 use dim_order::{Components, first_on_loop, levels_of, order_of};
-use lists::ListOf;
-use numbered::Numbered;
+use lists::{ListOf, Numbered};
 use std::alloc::{AllocError, Global};
 use std::marker::Model;
 

@@ -12,7 +12,7 @@ use crate::attributes::Attributes;
 use crate::components::NamedComponents;
 use crate::{DimFault, Name};
 use dim_order::Components;
-use numbered::Numbered;
+use lists::Numbered;
 use std::alloc::{AllocError, Global};
 
 /// The first of these lists that has a name which isn't among the names.

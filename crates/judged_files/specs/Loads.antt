@@ -7,8 +7,8 @@ use Rattle.std.specs.declared.alloc.Global.{Global}
 use Rattle.std.specs.declared.sync.Arc.{Arc}
 use Rattle.dim_name.specs.Name.{has_name, place_of}
 use Rattle.file_passes.specs.Pass.{Source, source_of, Judgement}
-use Rattle.load_job.specs.Rows.{rows_of}
-use Rattle.load_job.specs.declared.job.Job.{Job}
+use Rattle.user_text.specs.Rows.{rows_of}
+use Rattle.user_text.specs.declared.job.Job.{Job}
 use Rattle.script_tree.specs.declared.script.Script.{Script}
 use Rattle.user_session.specs.declared.command.PlanCommand.{PlanCommand}
 use Rattle.user_session.specs.declared.command.PlanCommand.TheVariants as plans

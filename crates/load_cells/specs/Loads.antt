@@ -16,7 +16,7 @@ use Rattle.rule_model.specs.System.{system_of}
 use Rattle.script_values.specs.Cells.{Store}
 use Rattle.script_values.specs.declared.reason.Reason.{Reason}
 use Rattle.script_values.specs.declared.reason.Reason.TheVariants.{NotALeaf, RuleDerived, StoreLimit, FedLimit}
-use Rattle.stored_values.specs.Stored.{stored_in}
+use Rattle.stored_laws.specs.Stored.{stored_in}
 
 -- the cell that these texts name; a text that is no name names nothing
 abbrev pub cell_by_texts : Layout → List ℕ → List (List ℕ) → Option ℕ

@@ -5,7 +5,7 @@ use Rattle.cube_fixed.specs.Arithmetic.{fit}
 use Rattle.cube_fixed.specs.Range.{limit}
 use Rattle.rule_laws.specs.RuleSystem.{dense_value}
 use Rattle.rule_model.specs.System.{system_of}
-use Rattle.stored_values.specs.Stored.{stored_in}
+use Rattle.stored_laws.specs.Stored.{stored_in}
 use Rattle.memo_cells.specs.declared.version.Version.{Version}
 
 -- the value of a cell on a version: what plain rounds of evaluation over all cells give it there

@@ -7,11 +7,10 @@ ghost use Rattle.model_deploy.specs.Stages.{each, Comes};
 
 use crate::fault::{At, DeployCause, DeployFault};
 use crate::file::{RuleFile, fault_in};
-use bind_laws::bound_rules_meet_the_conditions;
+use bind_laws::{are_countable, bound_rules_meet_the_conditions};
 use cube_space::Space;
 use lists::ListOf;
 use rule_bind::{BindAt, BindCause, BindFault, CubeRules, bind};
-use rule_sizes::are_countable;
 use rule_tree::{MOST_STATEMENTS, RuleText};
 use std::alloc::Global;
 

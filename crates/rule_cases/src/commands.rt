@@ -11,8 +11,8 @@ use crate::refusal::Refusal;
 use crate::values::value_text;
 use cell_store::{Store, StoreFault};
 use cube_fixed::Money;
-use rule_core::{Model, cell_of, dense, is_input};
-use rule_dense::MOST_CUBE_CELLS;
+use rule_dense::{MOST_CUBE_CELLS, dense};
+use rule_model::{Model, cell_of, is_input};
 use std::alloc::Global;
 use user_text::UserBody;
 

@@ -4,7 +4,7 @@ use crate::refusal::Refusal;
 use cell_store::{CellSet, Store};
 use cube_space::MAX_DIMENSIONS;
 use feed_map::{Fed, FedFault};
-use rule_core::Model;
+use rule_model::Model;
 use sparse_sum::Walk;
 use std::alloc::{AllocError, Global};
 

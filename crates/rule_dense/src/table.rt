@@ -5,7 +5,7 @@ ghost use Rattle.rule_laws.specs.OrderByPlace.{IsOrderedByPlace};
 ghost use Rattle.rule_model.specs.System.{system_of, positions_of};
 ghost use Rattle.rule_model.specs.Governing.{rules_for, formula_at};
 ghost use Rattle.rule_evaluate.specs.Readings.{statements_value};
-ghost use Rattle.stored_values.specs.Stored.{stored_in};
+ghost use Rattle.stored_laws.specs.Stored.{stored_in};
 ghost use Rattle.rule_dense.specs.Limits.{IsLow, HasSmallCubes};
 ghost use Rattle.rule_dense.specs.Inside.Plain.{table_of, plain_readings};
 ghost use Rattle.rule_dense.specs.Inside.Depths.{AreDense};

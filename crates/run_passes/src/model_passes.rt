@@ -15,7 +15,7 @@ use judged_files::{
 };
 use lists::ListOf;
 use model_text::ModelText;
-use script_parse::Script;
+use script_tree::Script;
 use std::alloc::Global;
 use std::marker::Model;
 

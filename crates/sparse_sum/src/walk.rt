@@ -4,7 +4,7 @@ ghost use Rattle.cube_fixed.specs.Total.{with_term, value_of};
 ghost use Rattle.cube_space.specs.Cells.{IsCell, cube_of};
 ghost use Rattle.cube_space.specs.Layout.{most_model_cells};
 ghost use Rattle.rule_model.specs.Weights.{AreWeightsOf, weight, weight_product, max_weight_product};
-ghost use Rattle.stored_values.specs.Stored.{stored_in};
+ghost use Rattle.stored_laws.specs.Stored.{stored_in};
 ghost use Rattle.sparse_sum.specs.Live.{live_from};
 ghost use Rattle.sparse_sum.specs.Walking.{begun, left};
 

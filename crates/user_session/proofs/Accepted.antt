@@ -9,7 +9,7 @@ use Rattle.cell_writes.specs.Writes.{last_writes}
 use Rattle.cube_space.specs.Cells.{IsCell, is_leaf_cell}
 use Rattle.feed_map.specs.FedCells.{most_fed}
 use Rattle.load_cells.specs.Loads.{store_of}
-use Rattle.load_job.specs.declared.job.Job.{Job}
+use Rattle.user_text.specs.declared.job.Job.{Job}
 use Rattle.history.specs.declared.effect.Effect.TheVariants.{Commit}
 use Rattle.rule_model.specs.BoundModel.{BoundModel}
 use Rattle.rule_model.specs.Governing.{is_input}

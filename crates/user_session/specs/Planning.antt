@@ -14,7 +14,7 @@ use Rattle.feed_map.specs.FedCells.{most_fed}
 use Rattle.history.specs.declared.effect.Effect.{Effect}
 use Rattle.history.specs.declared.effect.Effect.TheVariants as effects
 use Rattle.load_cells.specs.Loads.{store_of}
-use Rattle.load_job.specs.declared.job.Job.{Job}
+use Rattle.user_text.specs.declared.job.Job.{Job}
 use Rattle.rule_laws.specs.RuleSystem.{dense_value}
 use Rattle.rule_model.specs.BoundModel.{BoundModel}
 use Rattle.rule_model.specs.Governing.{is_input}
@@ -25,7 +25,7 @@ use Rattle.script_run.specs.Load.{load, ran_of, writes_of}
 use Rattle.script_run.specs.declared.ran.Ran.{Ran}
 use Rattle.script_run.specs.declared.ran.Ran.TheVariants.{Done, Rejected as Stopped}
 use Rattle.script_tree.specs.declared.script.Script.{Script}
-use Rattle.stored_values.specs.Stored.{stored_in}
+use Rattle.stored_laws.specs.Stored.{stored_in}
 use Rattle.user_session.specs.declared.content.Content.{Content}
 use Rattle.user_session.specs.Replies.{fault_text, reply_text, stopped_text}
 use Rattle.user_session.specs.declared.command.PlanCommand.{PlanCommand}

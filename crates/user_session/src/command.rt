@@ -1,9 +1,8 @@
 use cube_fixed::Money;
-use load_job::Job;
 use script_tree::Script;
 use std::alloc::Global;
 use std::sync::Arc;
-use user_text::{CellText, ViewText};
+use user_text::{CellText, Job, ViewText};
 
 /// A command that is run on a version of the numbers.
 #[derive(Drop)]

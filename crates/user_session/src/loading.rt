@@ -9,11 +9,11 @@ use cell_reader::{Snapshot, Work};
 use history::Effect;
 use lists::ListOf;
 use load_cells::LoadCells;
-use load_job::Job;
 use script_run::{Ran, run};
 use script_tree::{Script, Section};
 use script_values::Reason;
 use std::alloc::{AllocError, Global};
+use user_text::Job;
 
 /// The effect of a LOAD: for each cell that it writes the last number, or why none of its writes is kept.
 pub(crate) fn load(

@@ -5,7 +5,7 @@ use Rattle.std.specs.List.{list_all, range_with_len}
 use Rattle.dim_name.specs.Name.{place_of}
 use Rattle.dim_core.specs.Outline.{Outline, index_of}
 use Rattle.cube_space.specs.Layout.{Layout, axes, cube_names}
-use Rattle.cube_axes.specs.Axes.{axis_called}
+use Rattle.cube_space.specs.Axes.{axis_called}
 use Rattle.user_text.specs.declared.command.SetText.{SetText}
 use Rattle.user_text.specs.declared.command.ViewText.{ViewText}
 use Rattle.view_query.specs.declared.fault.ViewFault.TheVariants.{WrongCount, ViewLimit}

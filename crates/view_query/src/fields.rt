@@ -9,9 +9,8 @@ ghost use Rattle.view_query.specs.Inside.Lines.{IsElementOf, IsLine};
 ghost use Rattle.view_query.specs.Inside.Text.{names_across, names_along, tabbed, tabbed_if};
 
 use crate::shape::Axis;
-use cube_axes::axis;
 use cube_fixed::{Value, print};
-use cube_space::Space;
+use cube_space::{Space, axis};
 use lists::ListOf;
 use std::alloc::{AllocError, Global};
 

@@ -1,6 +1,6 @@
 use Rattle.std.proofs.Common.{◌≡◌, length, ◌++◌, ◌∷◌, [], ◌∙◌, sym, ap, subst, List, ℕ, None, IsTrue}
 use Rattle.std.specs.List.{IsDistinct}
-use Rattle.numbered.specs.Keys.{insert_key}
+use Rattle.lists.specs.Keys.{insert_key}
 use Rattle.std.proofs.lemmas.List.Elements.{All-push}
 use Rattle.dim_name.specs.Name.{is_name, is_same_name}
 use Rattle.dim_core.specs.Draft.{Draft}
