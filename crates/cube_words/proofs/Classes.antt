@@ -1,5 +1,5 @@
 -- What a word may be that passes the test before `clap`.
-use Rattle.std.proofs.Common.{◌≡◌, ◌∙◌, ◌==◌, ℕ, List, [], ◌∷◌, ◌++◌, Bool, false, true, Option, Some, None, ap, subst, sym, refl, codes, arith, take, drop, cond, suc, ◌+◌}
+use Rattle.std.proofs.Common.{◌≡◌, ◌∙◌, ◌==◌, ℕ, [], ◌∷◌, ◌++◌, Bool, false, true, Option, Some, None, ap, subst, sym, refl, codes, arith, take, drop, cond, suc, ◌+◌}
 use Rattle.std.specs.Str.{bytes_eq}
 use Rattle.std.proofs.lemmas.Slice.Eq.{bytes_eq-Decides}
 use Rattle.std.proofs.lemmas.Bool.Decides.{nat_tests}

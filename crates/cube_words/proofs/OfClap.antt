@@ -1,14 +1,14 @@
 -- What `clap` makes of the model and of any number of users.
-use Rattle.std.proofs.Common.{◌≡◌, ◌∙◌, ℕ, ◌<◌, ◌≤◌, zero, suc, List, [], ◌∷◌, ◌++◌, Bool, false, true, Option, Some, None, ap, ap₂, sym, refl, codes, length, append_assoc, append-nil, fold, arith, is_some, cond, nat_lt, ◌==◌}
+use Rattle.std.proofs.Common.{◌≡◌, ◌∙◌, suc, List, [], ◌∷◌, ◌++◌, Bool, false, true, Option, Some, None, ap, ap₂, sym, refl, codes, length, append_assoc, append-nil, fold, arith, is_some, cond, nat_lt, ◌==◌}
 use Rattle.std.specs.Str.{bytes_eq}
 use Rattle.std.specs.List.{list_all}
 use Rattle.std.proofs.lemmas.Bool.{and_parts}
 use Rattle.std.proofs.lemmas.Bool.Decides.{nat_tests}
 use Rattle.clap.specs.Lexer.{long_of, short_of}
-use Rattle.clap.specs.Walk.{Held, idle, Row, Rule, Text, Walk, finished, nothing_held, one_of, first_of, positional, settled, walk, walk_from, walked}
-use Rattle.clap.specs.Simple.{Shape, built, entered, matches_of, names_of}
+use Rattle.clap.specs.Walk.{idle, Row, Rule, Text, Walk, finished, nothing_held, one_of, first_of, positional, settled, walk, walk_from, walked}
+use Rattle.clap.specs.Simple.{Shape, built, entered, matches_of}
 use Rattle.clap.specs.Faults.{check_fault, defaults_fault, entered_fault, fault_of, settle_fault, turn_fault, values_fault, walk_fault}
-use Rattle.clap.specs.Kinds.{Kinds, or_else, range_kinds}
+use Rattle.clap.specs.Kinds.{Kinds, or_else}
 use Rattle.clap.specs.Values.{bool_text}
 use Rattle.clap.specs.declared.error.kind.ErrorKind.TheVariants.{TooManyValues}
 use Rattle.clap.specs.declared.builder.value_parser.Reading.TheVariants.{AsWritten}

@@ -1,5 +1,5 @@
 -- What the getters read of the matches, and what the words then are.
-use Rattle.std.proofs.Common.{◌≡◌, ◌∙◌, ℕ, List, [], ◌∷◌, ◌-◌, length, map, take, drop, Bool, false, true, Option, Some, None, ap, sym, refl, codes}
+use Rattle.std.proofs.Common.{◌≡◌, ◌∙◌, ℕ, List, [], ◌-◌, length, map, take, drop, Bool, false, true, Option, Some, None, ap, sym, codes}
 use Rattle.std.specs.Prelude.{option_map, ⊤}
 use Rattle.std.proofs.lemmas.List.{drop-map, take_rest}
 use Rattle.std.specs.Borrow.{Bor}
@@ -48,8 +48,12 @@ module _ (f : Found) (words : List Text) (rows : rows_of f ≡ matches_of cube w
   formed : (b : Bool) (s m u : Option Text) → IsTaken words b s m u → IsForm b s m u → IsForm check (now_of size) (now_of model) (now_of user)
   formed b s m u taken form =
       let shown = taken.shown in
-      rw (flag_read b (ap (λ (x : Seen). x.0) shown), text_read size (codes "sample") size_is ∙ ap (λ (x : Seen). x.1) shown,
-      text_read model (codes "model") model_is ∙ ap (λ (x : Seen). x.2) shown, text_read user (codes "users") user_is ∙ ap (λ (x : Seen). x.3) shown) form
+      rw (
+        flag_read b (ap (λ (x : Seen). x.0) shown),
+        text_read size (codes "sample") size_is ∙ ap (λ (x : Seen). x.1) shown,
+        text_read model (codes "model") model_is ∙ ap (λ (x : Seen). x.2) shown,
+        text_read user (codes "users") user_is ∙ ap (λ (x : Seen). x.3) shown,
+      ) form
 
   pub form : (plan : Plan) → IsPlan words plan → IsForm check (now_of size) (now_of model) (now_of user)
   form (Run m us) is = let (u, taken) = run_taken words m us is in formed _ _ _ _ taken tt

@@ -1,5 +1,5 @@
 -- What `clap` makes of words that pass the test, and of the words of a plan.
-use Rattle.std.proofs.Common.{◌≡◌, ◌∙◌, ◌==◌, ◌⊎◌, ◌≤◌, ◌&&◌, ℕ, suc, List, [], ◌∷◌, ◌++◌, Bool, false, true, Option, Some, None, ap, ap₂, subst, sym, refl, codes, arith, inl, inr, length, drop, nat_lt, IsTrue}
+use Rattle.std.proofs.Common.{◌≡◌, ◌∙◌, ◌==◌, ◌≤◌, ◌&&◌, ℕ, suc, List, [], ◌∷◌, Bool, false, true, Option, Some, None, ap, ap₂, subst, refl, arith, inl, inr, length, drop, nat_lt}
 use Rattle.std.specs.Prelude.{⊤}
 use Rattle.std.specs.List.{list_all}
 use Rattle.std.specs.Char.{is_ascii_digit}
@@ -151,12 +151,14 @@ run_taken words m [] is = let some = is.some in absurd (omega arith)
 run_taken words m (u ∷ us) is =
     let files : list_all names_a_file (m ∷ u ∷ us) ≡ true = subst (λ ws. list_all names_a_file ws ≡ true) is.all is.files in
     let few = is.few in
-    let enough : nat_lt 16 (suc (length us)) ≡ false = grind (arith, nat_tests) in
-    (u, rw is.all (record {
-      spelled = all_spelled (m ∷ u ∷ us) files;
-      taken = fault_of_run m u us files ∙ ap faults_of enough;
-      shown = seen_of_run m u us files;
-    }))
+    let enough : nat_lt 16 (suc (length us)) ≡ false = grind (arith, nat_tests) in (
+      u,
+      rw is.all (record {
+        spelled = all_spelled (m ∷ u ∷ us) files;
+        taken = fault_of_run m u us files ∙ ap faults_of enough;
+        shown = seen_of_run m u us files;
+      }),
+    )
 
 pub check_taken : (words : List Text) (m : Text) → IsCheck words m → IsTaken words true None (Some m) None
 unfolding clap_on_literals
@@ -181,11 +183,14 @@ pub sample_taken : (words : List Text) (size : ℕ) → IsSample words size → 
 unfolding clap_on_literals
 sample_taken words size (digits, is, all) =
     let f = digits_file digits size is in
-    let p = plain_file digits f in
-    (digits, is, elim all [
-      | inl e ↦ rw e (record { spelled = rw f refl; taken = rw (p.dashes, p.long, p.short) refl; shown = rw (p.dashes, p.long, p.short) refl })
-      | inr e ↦ rw e (record { spelled = refl; taken = refl; shown = refl })
-    ])
+    let p = plain_file digits f in (
+      digits,
+      is,
+      elim all [
+        | inl e ↦ rw e (record { spelled = rw f refl; taken = rw (p.dashes, p.long, p.short) refl; shown = rw (p.dashes, p.long, p.short) refl })
+        | inr e ↦ rw e (record { spelled = refl; taken = refl; shown = refl })
+      ],
+    )
 
 -- the words of a plan pass the test, and `clap` takes them
 pub plan_passes : (words : List Text) (plan : Plan) → IsPlan words plan → (are_spelled words ≡ true) × (fault_of cube words ≡ [])

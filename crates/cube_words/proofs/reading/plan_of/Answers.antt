@@ -1,4 +1,4 @@
-use Rattle.std.proofs.Common.{rules, ◌≡◌, true, false, None, Some, arith}
+use Rattle.std.proofs.Common.{rules, ◌≡◌, true, false}
 use Rattle.std.specs.String.{string_bytes}
 use Rattle.clap.specs.Words.{found_of}
 use Rattle.cube_words.specs.Words.{texts_of}
