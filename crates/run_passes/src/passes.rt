@@ -9,7 +9,7 @@ ghost use Rattle.run_passes.specs.Run.{users_pass, records_pass, plan_pass, run_
 use crate::job::Job;
 use crate::model_passes::{Checked, model_pass};
 use cube_outside::Files;
-use cube_words::{Plan, words as plan_of};
+use cube_words::{Plan, WordsFault, words as plan_of};
 use dim_name::Name;
 use file_passes::{Halt, Readings, obtain_all};
 use judged_files::{Scripts, commands_of, record_files, users_of};
@@ -166,8 +166,9 @@ pub fn run_passes<F: Files>(
     ensures { Comes (run_of (texts_of words.now)) (outside F.known F.faults F.missed F.asked files.old files.new)
         readings.old readings.new result }
 {
-    match plan_of(words) {
+    match plan_of(alloc, words) {
         Ok(plan) => plan_pass(alloc, files, readings, &plan),
-        Err(_) => Err(Halt::NotWords),
+        Err(WordsFault::OutOfMemory) => Err(Halt::Memory),
+        Err(WordsFault::Usage) => Err(Halt::NotWords),
     }
 }

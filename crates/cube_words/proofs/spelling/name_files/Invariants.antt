@@ -1,7 +1,7 @@
 use Rattle.std.proofs.Common.{◌≡◌, drop}
 use Rattle.std.specs.List.{list_all}
 use Rattle.cube_words.specs.Words.{texts_of, names_a_file}
-use Rattle.cube_words.proofs.reading.name_files.Given as goal
+use Rattle.cube_words.proofs.spelling.name_files.Given as goal
 
 -- the words so far name files
 abbrev pub invariant-loop-word : goal.invariant-loop-word
