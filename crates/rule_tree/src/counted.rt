@@ -8,7 +8,7 @@ use expression_grammar::Limits;
 use grammar::{Scan, is_sign, is_word};
 
 /// How many statements there may be, and how many feeders.
-pub const MOST_STATEMENTS: u32 = 1_000;
+pub const MAX_STATEMENTS: u32 = 1_000;
 
 /// Where in a rule text a token stands.
 #[derive(Clone, Copy)]
@@ -106,14 +106,14 @@ impl Counted {
         ensures { result ≡ counting.one_more self.now (lexeme_of token.now) }
     {
         let place = Place::Area;
-        if self.feeding && self.feeders < MOST_STATEMENTS {
+        if self.feeding && self.feeders < MAX_STATEMENTS {
             let feeders = self.feeders + 1;
             Ok(Counted {
                 feeders,
                 place,
                 ..*self
             })
-        } else if !self.feeding && self.statements < MOST_STATEMENTS {
+        } else if !self.feeding && self.statements < MAX_STATEMENTS {
             let statements = self.statements + 1;
             Ok(Counted {
                 statements,

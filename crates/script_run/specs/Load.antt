@@ -18,8 +18,8 @@ use Rattle.script_run.specs.Setting.{Setting, Progress}
 use Rattle.script_run.specs.Meaning.{Outcome, Ended, Doing, Deed, then_do, block_of}
 
 -- the most statements that a load executes
-abbrev pub step_limit : ℕ
-step_limit = 1000000
+abbrev pub most_steps : ℕ
+most_steps = 1000000
 
 abbrev pub setting : Section → ℕ → List (List ℕ) → Setting
 setting section row columns = record { section = section; row = row; columns = columns }
@@ -64,7 +64,7 @@ param_of (param ∷ params) word = if bytes_eq param.0 word then Some (param_val
 abbrev pub start : BoundScript → List (List ℕ × ParamText) → Progress
 start script params = record {
   variables = map (param_of params) script.variables;
-  left = step_limit;
+  left = most_steps;
   last = record { section = Prolog; row = 0; statement = 0 };
 }
 

@@ -19,7 +19,7 @@ use std::alloc::{AllocError, Global};
 use user_text::ParamText;
 
 /// The most statements that a load executes.
-const STEP_LIMIT: u32 = 1_000_000;
+const MAX_STEPS: u32 = 1_000_000;
 
 fn param_value(alloc: Global, param: &ParamText) -> Result<Kept, AllocError>
     ensures { IfOk result (λ kept. kept ≡ loads.param_value param.now) }
@@ -80,7 +80,7 @@ fn start(
         row: 0,
         statement: 0,
     };
-    Ok(Run::new(variables, STEP_LIMIT, last))
+    Ok(Run::new(variables, MAX_STEPS, last))
 }
 
 /// How a load ended whose last execution stands there.

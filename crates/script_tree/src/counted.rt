@@ -15,7 +15,7 @@ use lists::ListOf;
 use std::alloc::{AllocError, Global};
 
 /// How many parentheses and blocks may be open at once.
-const MOST_OPEN: u32 = 32;
+const MAX_OPEN: u32 = 32;
 
 /// Where in a script a token stands.
 #[derive(Clone, Copy)]
@@ -93,7 +93,7 @@ pub fn begun(alloc: Global, tokens: &[Token<'_>]) -> Result<Counted, AllocError>
 fn one_more(opened: u32, token: &Token<'_>) -> Result<u32, Excess>
     ensures { result ≡ counting.one_more opened (lexeme_of token.now) }
 {
-    if opened < MOST_OPEN {
+    if opened < MAX_OPEN {
         Ok(opened + 1)
     } else {
         Err(Excess::TooDeep(token.line))

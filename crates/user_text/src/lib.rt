@@ -16,7 +16,7 @@ mod text;
 mod view;
 
 pub use command::{CellText, LoadText, ParamText, SetText, UserBody, UserCommand, ViewText};
-pub use counted::MOST_COMMANDS;
+pub use counted::MAX_COMMANDS;
 pub use fault::UserFault;
 pub use job::Job;
 pub use records::rows;
