@@ -4,8 +4,8 @@ use Rattle.history.specs.declared.entry.Entry.{Entry}
 use Rattle.history.specs.declared.told.Told.{Told}
 use Rattle.file_passes.specs.declared.refusal.Cause.{Cause}
 use Rattle.file_passes.specs.declared.refusal.Cause.TheVariants as causes
-use Rattle.file_passes.specs.declared.refusal.Place.{Place}
-use Rattle.file_passes.specs.declared.refusal.Place.TheVariants.{Line, Statement, Feeder}
+use Rattle.file_passes.specs.declared.refusal.FilePlace.{FilePlace}
+use Rattle.file_passes.specs.declared.refusal.FilePlace.TheVariants.{Line, Statement, Feeder}
 use Rattle.file_passes.specs.declared.refusal.Refusal.{Refusal}
 
 -- the end of a line
@@ -84,7 +84,7 @@ cause_text (causes.FedLimit count) = codes "FedLimit " ++ decimal count
 cause_text causes.UnknownScript = codes "UnknownScript"
 
 -- `line L`, `statement S` or `feeder S`
-abbrev pub place_text : Place → List ℕ
+abbrev pub place_text : FilePlace → List ℕ
 place_text (Line line) = codes "line " ++ decimal line
 place_text (Statement statement) = codes "statement " ++ decimal statement
 place_text (Feeder feeder) = codes "feeder " ++ decimal feeder

@@ -11,7 +11,7 @@ use Rattle.script_values.specs.declared.kept.Kept.TheVariants as kept
 use Rattle.script_values.specs.Cells.{Store, Write}
 use Rattle.script_run.specs.declared.ending.Ending.{Ending}
 use Rattle.script_run.specs.declared.ending.Ending.TheVariants.{Next, Skipped, Broken, Stopped}
-use Rattle.script_run.specs.declared.place.Place.{Place}
+use Rattle.script_run.specs.declared.execution_place.ExecutionPlace.{ExecutionPlace}
 use Rattle.script_run.specs.declared.ran.Ran.{Ran}
 use Rattle.script_run.specs.declared.ran.Ran.TheVariants.{Done, Rejected}
 use Rattle.script_run.specs.Setting.{Setting, Progress}
@@ -73,7 +73,7 @@ abbrev pub load : BoundScript → List (List ℕ × ParamText) → List (List (L
 load script params rows store writes = sections script store rows (start script params) writes
 
 -- how a load ended whose last execution stands there: it is told there why
-abbrev pub ran_at : Ending → Place → Ran
+abbrev pub ran_at : Ending → ExecutionPlace → Ran
 ran_at Next last = Done
 ran_at Skipped last = Done
 ran_at Broken last = Done

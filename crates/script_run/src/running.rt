@@ -5,7 +5,7 @@ ghost use Rattle.script_run.specs.Load.{load, ran_of, writes_of, start};
 ghost use Rattle.script_run.specs.Meaning.{Ended};
 
 use crate::ending::Ending;
-use crate::place::Place;
+use crate::execution_place::ExecutionPlace;
 use crate::progress::Run;
 use crate::ran::Ran;
 use crate::sections::run_sections;
@@ -75,7 +75,7 @@ fn start(
     ensures { IfOk result (λ run. run ≡ start script.now params.now) }
 {
     let variables = variables(alloc, script.variables.as_slice(), params)?;
-    let last = Place {
+    let last = ExecutionPlace {
         section: Section::Prolog,
         row: 0,
         statement: 0,
@@ -84,7 +84,7 @@ fn start(
 }
 
 /// How a load ended whose last execution stands there.
-fn ran_at(ending: Ending, last: Place) -> Ran
+fn ran_at(ending: Ending, last: ExecutionPlace) -> Ran
     ensures { result ≡ loads.ran_at ending last }
 {
     match ending {
