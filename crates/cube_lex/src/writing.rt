@@ -1,6 +1,7 @@
 ghost use Rattle.std.specs.Prelude.{◌≡◌, ◌≤◌, ℕ, List, [], ◌∷◌, ◌++◌, length, map, take, IsTrue, OnOk, OnErr, Option};
 ghost use Rattle.std.specs.Prelude.{None, decimal};
 ghost use Rattle.std.specs.List.{list_all};
+ghost use Rattle.dim_name.specs.Bytes.{newline, space};
 ghost use Rattle.cube_lex.specs.Bytes.{is_plain};
 ghost use Rattle.cube_lex.specs.Parts.{IsWord, IsNumber, is_sign, most_token_bytes};
 ghost use Rattle.cube_lex.specs.Quoted.{quoted};
@@ -16,7 +17,7 @@ use std::fmt::Display;
 
 /// Writes a piece and a space. A refusal changes nothing.
 fn write_spaced(out: &mut Vec<u8>, piece: &[u8]) -> Result<(), AllocError>
-    ensures ok { OnOk result (out.new.items ≡ (out.old.items ++ piece.now) ++ 32 ∷ []) }
+    ensures ok { OnOk result (out.new.items ≡ (out.old.items ++ piece.now) ++ space ∷ []) }
     ensures err { OnErr result (out.new.items ≡ out.old.items) }
 {
     let len = out.len();
@@ -88,7 +89,7 @@ pub fn write_quoted(out: &mut Vec<u8>, bytes: &[u8]) -> Result<(), AllocError>
 
 /// Writes a line end, LF, which is no token.
 pub fn write_line_end(out: &mut Vec<u8>) -> Result<(), AllocError>
-    ensures byte { OnOk result (out.new.items ≡ out.old.items ++ 10 ∷ []) }
+    ensures byte { OnOk result (out.new.items ≡ out.old.items ++ newline ∷ []) }
     ensures ok { OnOk result (Adds out.old.items out.new.items []) }
     ensures err { OnErr result (out.new.items ≡ out.old.items) }
 {
@@ -98,7 +99,7 @@ pub fn write_line_end(out: &mut Vec<u8>) -> Result<(), AllocError>
 
 /// Writes the quoted text and a space. What a refusal leaves begins as before.
 fn push_quoted(out: &mut Vec<u8>, bytes: &[u8]) -> Result<(), AllocError>
-    ensures ok { OnOk result (out.new.items ≡ (out.old.items ++ quoted bytes.now) ++ 32 ∷ []) }
+    ensures ok { OnOk result (out.new.items ≡ (out.old.items ++ quoted bytes.now) ++ space ∷ []) }
     ensures begins { take (length out.old.items) out.new.items ≡ out.old.items }
 {
     out.push(QUOTE)?;

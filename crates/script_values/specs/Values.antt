@@ -6,6 +6,7 @@ use Rattle.cube_fixed.specs.declared.value.Value.TheVariants.{Num}
 use Rattle.cube_fixed.specs.declared.reading.NumberFault.{NumberFault}
 use Rattle.cube_fixed.specs.Arithmetic.{zero_value}
 use Rattle.cube_fixed.specs.Text.{number_of, reading_of, printed}
+use Rattle.dim_name.specs.Bytes.{space, tab}
 use Rattle.dim_name.specs.Name.{is_same_name}
 use Rattle.rule_laws.specs.declared.operation.Op.{Op}
 use Rattle.rule_laws.specs.declared.operation.Rel.{Rel}
@@ -26,7 +27,7 @@ use Rattle.script_values.specs.Scene.{Scene}
 -- ---- a datum as what is wanted
 
 abbrev pub is_blank : ℕ → Bool
-is_blank byte = byte == 32 || byte == 9
+is_blank byte = byte == space || byte == tab
 
 abbrev pub without_blanks : List ℕ → List ℕ
 without_blanks [] = []
