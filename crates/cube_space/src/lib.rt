@@ -22,4 +22,4 @@ mod space;
 pub use axes::{axis, axis_called, axis_count, axis_number};
 pub use fault::SpaceFault;
 pub use shape::CubeShape;
-pub use space::{MAX_CELLS, MAX_DIMENSIONS, MIN_DIMENSIONS, Space};
+pub use space::{MAX_DIMENSIONS, MAX_MODEL_CELLS, MIN_DIMENSIONS, Space};

@@ -11,7 +11,7 @@ use bind_laws::{are_countable, bound_rules_meet_the_conditions};
 use cube_space::Space;
 use lists::ListOf;
 use rule_bind::{BindAt, BindCause, BindFault, CubeRules, bind};
-use rule_tree::{MOST_STATEMENTS, RuleText};
+use rule_tree::{MAX_STATEMENTS, RuleText};
 use std::alloc::Global;
 
 /// The rules that the texts of all cubes mean, or the first fault of the first that has one.
@@ -45,7 +45,7 @@ fn meaning_of(
     ensures rules { IfOk result (AreCubeRules space.now cube) }
 {
     // a text that was read has no more statements and no more feeders
-    let most = MOST_STATEMENTS as usize;
+    let most = MAX_STATEMENTS as usize;
     if text.statements.as_slice().len() > most || text.feeders.as_slice().len() > most {
         return Err(DeployFault::memory());
     }

@@ -21,7 +21,7 @@ pub struct Older<T> {
 }
 
 /// What a pass has seen and who it is.
-pub struct View<C, T> {
+pub struct PassView<C, T> {
     /// Its own number, under which it commits.
     pub(crate) number: u64,
     /// The numbers of the passes that were met into it.

@@ -12,7 +12,7 @@ pub enum Counted<'a> {
 
 /// What is looked at: what a reference names from the leaf cells of an area of a cube.
 #[derive(Clone, Copy)]
-pub struct View<'a> {
+pub struct ReferenceView<'a> {
     pub cube: u32,
     pub area: &'a Area,
     pub reference: &'a Reference,

@@ -2,7 +2,7 @@ use script_tree::Section;
 
 /// Where an execution stands.
 #[derive(Clone, Copy, Debug, PartialEq, Eq)]
-pub struct Place {
+pub struct ExecutionPlace {
     pub section: Section,
     /// The record, from 1, or 0 outside of Data.
     pub row: u32,

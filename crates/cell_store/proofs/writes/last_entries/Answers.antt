@@ -3,7 +3,7 @@ use Rattle.std.proofs.Common.{◌≡◌, rules, ap, ◌∙◌}
 use Rattle.std.proofs.lemmas.List.Sorted.{IsNonDecreasingBy-from_sort_by_key, answers_always}
 use Rattle.cell_store.specs.Inside.Order.{last_at}
 use Rattle.cell_store.proofs.LastWrites.{last_at-sorted}
-use Rattle.cell_store.proofs.writes.last_writes.Goals as goal
+use Rattle.cell_store.proofs.writes.last_entries.Goals as goal
 
 pub last_sorted-requires : goal.last_sorted-requires
 last_sorted-requires g c = rw c.deref.ensures.value (IsNonDecreasingBy-from_sort_by_key g.E.Placed.cell _ c.in_ok-sort_by_key.ensures.sorted (λ a r q k. search rules))

@@ -1,6 +1,6 @@
 /// Why a load ends, and none of its writes is kept.
 #[derive(Clone, Copy, Debug, PartialEq, Eq)]
-pub enum Reason {
+pub enum LoadReason {
     /// The cube or an element is unknown, or the count of elements is wrong.
     UnknownName,
     /// The written cell is consolidated.

@@ -3,7 +3,7 @@ use lists::ListOf;
 
 /// A load that is to run.
 #[derive(Drop)]
-pub struct Job {
+pub struct LoadJob {
     /// The script's place in the model, from 0.
     pub script: u32,
     /// The records, each the list of its columns.

@@ -4,7 +4,7 @@ use user_session::PlanCommand;
 
 /// What is to be done by a run that isn't refused.
 #[derive(Drop)]
-pub enum Job {
+pub enum RunJob {
     /// Runs the commands of each user on the model.
     Serve(Accepted, ListOf<ListOf<PlanCommand>>),
     /// Tells that the model is accepted, with its rules and scripts.
