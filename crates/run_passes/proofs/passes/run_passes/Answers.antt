@@ -10,8 +10,11 @@ returns-in-Ok g c =
     run-planned g.F.Files.known g.F.Files.faults g.F.Files.missed g.F.Files.asked (texts_of c.args.words.now) c.args.files.now c.plan_pass.new.files c.args.readings.now c.plan_pass.new.readings
     (asked c.in-Ok.plan) c.plan_pass.result c.in-Ok.ensures c.plan_pass.ensures
 
-pub returns-in-Err : goal.returns-in-Err
-returns-in-Err g c = (
+pub returns-in-Err-OutOfMemory : goal.returns-in-Err-OutOfMemory
+returns-in-Err-OutOfMemory g c = (on-refl (run_of (texts_of c.args.words.now)) (g.F.Files.known c.args.files.now) c.args.readings.now, tt)
+
+pub returns-in-Err-Usage : goal.returns-in-Err-Usage
+returns-in-Err-Usage g c = (
   on-refl (run_of (texts_of c.args.words.now)) (g.F.Files.known c.args.files.now) c.args.readings.now,
-  (inl (c.in-Err.ensures, refl), refl, λ base begun. begun),
+  (inl (c.in-Err-Usage.ensures c.in-Err-Usage.field-0-is, refl), refl, λ base begun. begun),
 )
