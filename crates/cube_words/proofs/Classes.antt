@@ -9,7 +9,7 @@ use Rattle.clap.specs.Faults.{flag_word_fault}
 use Rattle.clap.specs.declared.error.kind.ErrorKind.{ErrorKind}
 use Rattle.clap.specs.declared.error.kind.ErrorKind.TheVariants as kinds
 use Rattle.cube_words.specs.Words.{names_a_file}
-use Rattle.cube_words.specs.Command.{is_spelled}
+use Rattle.cube_words.specs.Inside.Command.{is_spelled}
 use Rattle.cube_words.proofs.OfClap.{rules_here}
 
 -- `clap` refuses the word, whatever it holds

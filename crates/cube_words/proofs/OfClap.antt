@@ -14,7 +14,7 @@ use Rattle.clap.specs.declared.error.kind.ErrorKind.TheVariants.{TooManyValues}
 use Rattle.clap.specs.declared.builder.value_parser.Reading.TheVariants.{AsWritten}
 use Rattle.clap.specs.declared.parser.matches.ValueSource.TheVariants.{CommandLine}
 use Rattle.clap.proofs.OnLiterals.{clap_on_literals}
-use Rattle.cube_words.specs.Command.{cube, users_rule}
+use Rattle.cube_words.specs.Inside.Command.{cube, users_rule}
 use Rattle.cube_words.specs.Words.{names_a_file}
 
 abbrev pub top : Shape

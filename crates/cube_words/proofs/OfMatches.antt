@@ -10,7 +10,7 @@ use Rattle.clap.specs.Simple.{matches_of}
 use Rattle.clap.specs.Matches.{first_value, one_text}
 use Rattle.clap.specs.declared.parser.matches.Found.{Found}
 use Rattle.clap.proofs.WalkLemmas.{first_value-rows, one_text-rows}
-use Rattle.cube_words.specs.Command.{are_spelled, cube}
+use Rattle.cube_words.specs.Inside.Command.{are_spelled, cube}
 use Rattle.cube_words.specs.Words.{IsPlan, IsSize, Plan, Run, Check, Sample}
 use Rattle.cube_words.proofs.OfClap.{Seen, seen}
 use Rattle.cube_words.proofs.Outcomes.{Fits, IsTaken, check_taken, judged, run_taken, sample_taken}

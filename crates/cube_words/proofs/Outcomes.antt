@@ -11,7 +11,7 @@ use Rattle.clap.specs.Kinds.{Kinds, or_else}
 use Rattle.clap.specs.Faults.{fault_of, turn_fault}
 use Rattle.clap.specs.Walk.{Text, Waiting, Walk, idle, option, positional, subcommand_met, walked}
 use Rattle.clap.proofs.OnLiterals.{clap_on_literals}
-use Rattle.cube_words.specs.Command.{are_spelled, cube, is_spelled}
+use Rattle.cube_words.specs.Inside.Command.{are_spelled, cube, is_spelled}
 use Rattle.cube_words.specs.Words.{IsCheck, IsPlan, IsRun, IsSample, IsSize, Plan, Run, Check, Sample, names_a_file}
 use Rattle.cube_words.proofs.Classes.{IsRefused, Sort, file, check, sample, given, refused, sort_of}
 use Rattle.cube_words.proofs.OfClap.{Seen, fault_of_run, faults_of, first_and_rest, plain_file, rules_here, seen, seen_of_run, start, top}

@@ -1,6 +1,6 @@
 ghost use Rattle.std.specs.Prelude.{◌≡◌, IfOk, false};
 ghost use Rattle.clap.specs.Words.{app_of, rule_of};
-ghost use Rattle.cube_words.specs.Command.{check_rule, cube, model_rule, sample_rule, users_rule};
+ghost use Rattle.cube_words.specs.Inside.Command.{check_rule, cube, model_rule, sample_rule, users_rule};
 
 use clap::{Arg, ArgAction, Command};
 use std::alloc::{AllocError, Global};

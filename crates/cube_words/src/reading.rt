@@ -1,6 +1,6 @@
 ghost use Rattle.std.specs.Prelude.{◌≡◌, [], MatchOption, MatchResult, true};
 ghost use Rattle.clap.specs.Words.{fault_of, found_of, matches_of, rows_of};
-ghost use Rattle.cube_words.specs.Command.{are_spelled, cube};
+ghost use Rattle.cube_words.specs.Inside.Command.{are_spelled, cube};
 ghost use Rattle.cube_words.specs.Words.{IsPlan, Plan as PlanOf, asked, texts_of};
 
 use crate::command::command;

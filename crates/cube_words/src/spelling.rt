@@ -1,6 +1,6 @@
 ghost use Rattle.std.specs.Prelude.{◌≡◌};
 ghost use Rattle.std.specs.List.{list_all};
-ghost use Rattle.cube_words.specs.Command.{are_spelled, goes_on, is_spelled};
+ghost use Rattle.cube_words.specs.Inside.Command.{are_spelled, goes_on, is_spelled};
 ghost use Rattle.cube_words.specs.Words.{names_a_file, texts_of};
 
 /// Whether a word may name a file.

@@ -1,7 +1,7 @@
 use Rattle.std.proofs.Common.{rules, ◌≡◌, ◌∙◌, ap₂}
 use Rattle.std.proofs.lemmas.Result.{IfOk-weaker}
 use Rattle.clap.specs.Words.{app_of, with_rule}
-use Rattle.cube_words.specs.Command.{plain}
+use Rattle.cube_words.specs.Inside.Command.{plain}
 use Rattle.cube_words.proofs.command.command.Goals as goal
 
 pub returns : goal.returns

@@ -1,4 +1,4 @@
--- The command line as `clap` sees it, and the words that are handed to it.
+-- The command that `clap` is given, and the test of the words that goes before it.
 use Rattle.std.specs.Prelude.{◌&&◌, ◌||◌, ◌==◌, ℕ, Bool, false, true, List, [], ◌∷◌, Some, codes}
 use Rattle.std.specs.List.{list_all}
 use Rattle.clap.specs.Simple.{on_top}
