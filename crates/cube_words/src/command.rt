@@ -6,7 +6,7 @@ use clap::{Arg, ArgAction, Command};
 use std::alloc::{AllocError, Global};
 
 /// The most users of one run.
-pub const MOST_USERS: usize = 16;
+pub const MAX_USERS: usize = 16;
 
 fn check_flag<'a>(alloc: Global) -> Arg<'a>
     ensures local { result.global ≡ false }
@@ -28,7 +28,7 @@ fn users_after_the_model<'a>(alloc: Global) -> Arg<'a>
     ensures local { result.global ≡ false }
     ensures rule { rule_of result ≡ users_rule }
 {
-    Arg::new(alloc, "users").num_args(1..=MOST_USERS)
+    Arg::new(alloc, "users").num_args(1..=MAX_USERS)
 }
 
 /// The command line as `clap` reads it. Nothing is required there, so that each fault is one of spelling.

@@ -9,7 +9,7 @@ mod reading;
 mod size;
 mod spelling;
 
-pub use command::MOST_USERS;
+pub use command::MAX_USERS;
 pub use plan::{Plan, WordsFault};
 pub use reading::words;
-pub use size::MOST_RECORDS;
+pub use size::MAX_RECORDS;

@@ -4,10 +4,10 @@ ghost use Rattle.std.specs.List.{list_all};
 ghost use Rattle.cube_words.specs.Words.{IsSize};
 
 /// The most records of a sample.
-pub const MOST_RECORDS: u32 = 100_000;
+pub const MAX_RECORDS: u32 = 100_000;
 
 /// The most digits of a sample's size.
-const MOST_DIGITS: usize = 6;
+const MAX_DIGITS: usize = 6;
 
 fn are_digits(bytes: &[u8]) -> bool
     ensures { result ≡ list_all is_ascii_digit bytes.now }
@@ -19,13 +19,13 @@ fn are_digits(bytes: &[u8]) -> bool
 pub(crate) fn size_of(text: &str) -> Option<u32>
     ensures { MatchOption result ((size : ℕ) → ¬ IsSize text.now size) (λ size. IsSize text.now size) }
 {
-    if text.len() > MOST_DIGITS || !are_digits(text.as_bytes()) {
+    if text.len() > MAX_DIGITS || !are_digits(text.as_bytes()) {
         return None;
     }
     let Ok(size) = text.parse::<u32>() else {
         return None;
     };
-    if 1 <= size && size <= MOST_RECORDS {
+    if 1 <= size && size <= MAX_RECORDS {
         Some(size)
     } else {
         None
