@@ -1,7 +1,7 @@
 ghost use Rattle.std.specs.Prelude.{◌≡◌, IfOk};
 ghost use Rattle.user_session.specs.Content.{content_of};
 ghost use Rattle.user_session.specs.Planning.{load_effect};
-ghost use Rattle.user_session.specs.Replies.{cause_text, section_text, stopped_text};
+ghost use Rattle.user_session.specs.RejectedLoad.{cause_text, section_text, stopped_text};
 
 use crate::put_command::committed;
 use crate::world::PlanEffect;

@@ -1,4 +1,4 @@
--- The passes of a run, in order.
+-- The passes of a run, in order: the first that refuses gives the refusal.
 use Rattle.std.specs.Prelude.{ℕ, List}
 use Rattle.cube_words.specs.Words.{Plan, Run, Check, Sample, IsPlan}
 use Rattle.file_passes.specs.Pass.{Pass, NotWords, found, the, file, files, judged, ◌>>=◌}
