@@ -1,11 +1,8 @@
 -- Which statement governs a cell.
-use Rattle.std.specs.Prelude.{ℕ, ◌+◌, Bool, Option}
-use Rattle.std.specs.Prelude.{option_map, option_and_then, is_some, List}
-use Rattle.std.specs.Prelude.{drop, slice_get}
-use Rattle.std.specs.List.{position}
+use Rattle.std.specs.Prelude.{ℕ, Bool, List, Option, is_some}
 use Rattle.cube_space.specs.Cells.{cube_of}
 use Rattle.rule_laws.specs.declared.formula.Formula.{Formula}
-use Rattle.rule_laws.specs.RuleSystem.{Rule, part_at}
+use Rattle.rule_laws.specs.RuleSystem.{Rule, part_at, governing_among, formula_among}
 use Rattle.rule_model.specs.BoundModel.{BoundModel}
 use Rattle.rule_model.specs.System.{system_of, cube_rules}
 
@@ -20,9 +17,8 @@ has_part model cell rule = is_some (part_at (system_of model) cell rule)
 
 -- the first statement, by its place among those of the cell's cube from this place on, that has a part for the cell
 unfoldable pub governing_from : BoundModel → ℕ → ℕ → Option ℕ
-governing_from model cell place =
-    option_map (λ k. place + k) (position (has_part model cell) (drop place (rules_for model cell)))
+governing_from model cell place = governing_among (system_of model) (rules_for model cell) cell place
 
 -- the formula that the statement at a place of the cell's cube has for the cell
 abbrev pub formula_at : BoundModel → ℕ → ℕ → Option Formula
-formula_at model cell place = option_and_then (part_at (system_of model) cell) (slice_get (rules_for model cell) place)
+formula_at model cell place = formula_among (system_of model) (rules_for model cell) cell place
