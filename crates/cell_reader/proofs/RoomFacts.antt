@@ -6,7 +6,8 @@ use Rattle.std.proofs.lemmas.Bool.{and_parts, eqb-true}
 use Rattle.std.proofs.lemmas.List.{length-append}
 use Rattle.std.proofs.lemmas.List.FromFn.{length-range_with_len}
 use Rattle.cell_store.specs.declared.entry.Entry.{Entry}
-use Rattle.cell_store.specs.Entries.{above, after_writes, below, kept_of, most_cells, with_write}
+use Rattle.cell_store.specs.Entries.{above, after_writes, below, kept_of, with_write}
+use Rattle.cell_store.specs.StoreLimit.{most_cells}
 use Rattle.cell_versions.proofs.Cells.{stored_is, untouched}
 use Rattle.cube_space.specs.Cells.{IsSpace, cube_of, is_leaf_cell, size_of}
 use Rattle.fed_laws.proofs.Reached.{fed_list, list_fed, list_rises}
@@ -16,7 +17,7 @@ use Rattle.model_laws.proofs.Formed.{well_formed}
 use Rattle.lists.proofs.Members.{same_members}
 use Rattle.lists.proofs.Rising.{among}
 use Rattle.rule_laws.specs.Feeding.{Feeds, FeedsBy, IsFed, Leads}
-use Rattle.rule_laws.specs.Order.{IsWellFormed}
+use Rattle.rule_laws.specs.Ordered.{IsWellFormed}
 use Rattle.rule_laws.specs.RuleSystem.{Feed, RuleSystem, Stored}
 use Rattle.rule_model.specs.BoundModel.{BoundModel, rules_of}
 use Rattle.rule_model.specs.Conditions.{AreRules}

@@ -7,7 +7,8 @@ use Rattle.std.proofs.lemmas.List.{drop-append-le, length-append, take_rest}
 use Rattle.std.proofs.lemmas.List.Elements.{All-append, All-cons, All-nil}
 use Rattle.std.proofs.lemmas.List.Sums.{fold-append}
 use Rattle.cell_store.specs.declared.entry.Entry.{Entry}
-use Rattle.cell_store.specs.Entries.{after_writes, most_cells, with_write}
+use Rattle.cell_store.specs.Entries.{after_writes, with_write}
+use Rattle.cell_store.specs.StoreLimit.{most_cells}
 use Rattle.cell_values.specs.Reading.{value_on}
 use Rattle.cell_versions.specs.Versions.{NumberedVersion}
 use Rattle.cube_space.specs.Cells.{IsCell, is_leaf_cell}

@@ -1,7 +1,7 @@
 ghost use Rattle.std.specs.Prelude.{◌≡◌, suc, ◌<◌, ◌≤◌, ◌⊎◌, true, [], ◌∷◌, ◌++◌, length, Err};
 ghost use Rattle.std.specs.Prelude.{OnOk, OnErr, IsOkUnless};
 ghost use Rattle.std.specs.Arc.{arc_value};
-ghost use Rattle.cell_store.specs.Entries.{most_cells};
+ghost use Rattle.cell_store.specs.StoreLimit.{most_cells};
 ghost use Rattle.cube_space.specs.Cells.{IsCell, is_leaf_cell};
 ghost use Rattle.feed_map.specs.FedCells.{most_fed};
 ghost use Rattle.cell_reader.specs.Limits.{fed_count};

@@ -14,10 +14,6 @@ pub record IsStore (entries : List Entry) : Type 0 where
   pub rising : IsStrictlyIncreasing (cells_of entries)
   pub no_zeros : All (λ entry. entry.number ≢ pos 0) entries
 
--- the most entries of a store
-abbrev pub most_cells : ℕ
-most_cells = 1000000
-
 -- the number of a cell, which is 0 where no entry has the cell
 abbrev pub number_at : List Entry → ℕ → ℤ
 number_at [] cell = pos 0

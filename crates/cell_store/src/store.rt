@@ -1,5 +1,6 @@
 ghost use Rattle.std.specs.Prelude.{◌≡◌, ℕ, ◌<◌, ◌≤◌, ◌⊎◌, [], Err, length, map, IfOk, IsOkUnless};
-ghost use Rattle.cell_store.specs.Entries.{IsStore, most_cells, number_at, entry_from, after_writes};
+ghost use Rattle.cell_store.specs.Entries.{IsStore, number_at, entry_from, after_writes};
+ghost use Rattle.cell_store.specs.StoreLimit.{most_cells};
 ghost use Rattle.cell_store.specs.Inside.Entries.{cell_of, entry_of};
 ghost use Rattle.cell_store.specs.Inside.Trees.{all_entries, IsTree};
 

@@ -24,7 +24,7 @@ use Rattle.rule_evaluate.specs.Course.{MayRead, passes}
 use Rattle.rule_evaluate.proofs.AskedFacts.{all-pass}
 use Rattle.rule_laws.specs.declared.formula.Formula.{Formula}
 use Rattle.rule_laws.specs.Meaning.{Precedent, Named, Components, precedents}
-use Rattle.rule_laws.specs.Order.{IsCellOf, HasPrecedent, Throughout, IsOrderedRule}
+use Rattle.rule_laws.specs.Ordered.{IsCellOf, HasPrecedent, Throughout, IsOrderedRule}
 use Rattle.rule_laws.specs.RuleSystem.{Rule, part_at, depth}
 use Rattle.rule_laws.proofs.SystemFacts.{part_at-given}
 use Rattle.rule_model.specs.Conditions.{AreRules}

@@ -12,7 +12,7 @@ use Rattle.model_laws.proofs.Formed.{well_formed}
 use Rattle.model_laws.proofs.Ranks.{ranked}
 use Rattle.rule_dense.proofs.Rights.{right-ungoverned, right-governed}
 use Rattle.rule_evaluate.specs.Readings.{readings_of, statements_value}
-use Rattle.rule_laws.specs.Order.{IsWellFormed, IsOrdered}
+use Rattle.rule_laws.specs.Ordered.{IsWellFormed, IsOrdered}
 use Rattle.rule_laws.specs.RuleSystem.{right_side}
 use Rattle.rule_laws.proofs.PlaceFacts.{ordered-by_place}
 use Rattle.rule_laws.proofs.SystemFacts.{dense_value-solves}

@@ -1,6 +1,7 @@
 ghost use Rattle.std.specs.Prelude.{◌≡◌, suc, ◌<◌, ◌≤◌, ◌⊎◌, [], length, Err, IfOk, IsOkUnless};
 ghost use Rattle.std.specs.Arc.{arc_value};
-ghost use Rattle.cell_store.specs.Entries.{after_writes, most_cells};
+ghost use Rattle.cell_store.specs.Entries.{after_writes};
+ghost use Rattle.cell_store.specs.StoreLimit.{most_cells};
 ghost use Rattle.feed_map.specs.FedCells.{AreFedCells, HasFewFed, HasManyFed, most_fed};
 ghost use Rattle.accepted.specs.Checks.{IsAccepted};
 ghost use Rattle.cell_versions.specs.Versions.{AreLeafWrites, IsVersion, number_after};

@@ -7,7 +7,7 @@ use Rattle.rule_model.specs.declared.rules.Form.{Form}
 use Rattle.rule_model.specs.declared.rules.Statement.{Statement}
 use Rattle.rule_model.specs.BoundModel.{BoundModel}
 use Rattle.rule_model.specs.Conditions.{read_count}
-use Rattle.order_laws.specs.Decision.{is_earlier}
+use Rattle.order_laws.specs.Earlier.{is_earlier}
 use Rattle.rule_laws.specs.declared.formula.Formula.{Formula}
 use Rattle.rule_laws.specs.Meaning.{precedents}
 use Rattle.std.proofs.lemmas.List.{length-map}

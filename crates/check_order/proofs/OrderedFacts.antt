@@ -13,7 +13,7 @@ use Rattle.rule_model.specs.declared.rules.Statement.{Statement}
 use Rattle.rule_model.specs.BoundModel.{BoundModel, rules_of}
 use Rattle.rule_model.specs.Conditions.{AreRules}
 use Rattle.rule_model.specs.System.{system_of, positions_of}
-use Rattle.order_laws.specs.Decision.{is_earlier, IsEarlierStatement, IsOrderedByDimension}
+use Rattle.order_laws.specs.Earlier.{is_earlier, IsEarlierStatement, IsOrderedByDimension}
 use Rattle.order_laws.proofs.Ordered.{dimension-place, place-dimension}
 use Rattle.check_order.specs.References.{marks_by, marks_of, part_marks, first_late, late_in, late_of, late_references}
 use Rattle.check_order.specs.Inside.Walk.{earliest}

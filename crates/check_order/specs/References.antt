@@ -11,7 +11,7 @@ use Rattle.rule_model.specs.declared.rules.Form.{Form}
 use Rattle.rule_model.specs.declared.rules.Form.TheVariants.{Both, LeafFirst, ConsFirst}
 use Rattle.rule_model.specs.BoundModel.{BoundModel, rules_of}
 use Rattle.rule_model.specs.System.{cubes_of}
-use Rattle.order_laws.specs.Decision.{is_earlier}
+use Rattle.order_laws.specs.Earlier.{is_earlier}
 use Rattle.check_order.specs.declared.fault.OrderFault.{OrderFault}
 use Rattle.check_order.specs.declared.fault.OrderFault.TheVariants.{NotEarlier}
 

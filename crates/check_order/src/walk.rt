@@ -1,7 +1,7 @@
 ghost use Rattle.std.specs.Prelude.{◌≡◌, suc, ◌+◌, ◌<◌, ◌^◌, length, map, IfSome};
 ghost use Rattle.rule_laws.specs.Meaning.{precedents, truth_precedents};
 ghost use Rattle.rule_model.specs.Conditions.{IsArea, IsPrecedent, IsConsolidatedPart, read_count};
-ghost use Rattle.order_laws.specs.Decision.{is_earlier};
+ghost use Rattle.order_laws.specs.Earlier.{is_earlier};
 ghost use Rattle.ref_order.specs.Reads.{precedent_of};
 ghost use Rattle.check_order.specs.References.{part_marks};
 ghost use Rattle.check_order.specs.Inside.Walk.{AreReads, seen_next, seen_after, earliest};

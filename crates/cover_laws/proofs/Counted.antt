@@ -19,7 +19,7 @@ use Rattle.rule_model.specs.System.{system_of}
 use Rattle.rule_laws.specs.Feeding.{leaves_of as cells_of}
 use Rattle.model_laws.proofs.Levels.{axis-is, element-of}
 use Rattle.order_laws.proofs.CellFacts.{cell-digits, digits-long}
-use Rattle.cover_laws.specs.Decision.{counts_in}
+use Rattle.cover_laws.specs.Covered.{counts_in}
 use Rattle.cover_laws.proofs.Pairs.{there-low, arg-there}
 use Rattle.cover_laws.proofs.Reached.{IsLeafBelow}
 pub use Rattle.dim_weights.proofs.ByLevel.{range-contains}

@@ -12,7 +12,7 @@ use Rattle.rule_model.specs.declared.rules.Feeder.{Feeder}
 use Rattle.rule_model.specs.BoundModel.{BoundModel, rules_of}
 use Rattle.rule_model.specs.System.{system_of, rule_of, feed_of, cube_feeds, cubes_of}
 use Rattle.rule_model.specs.Conditions.{IsArea, IsReference, IsFeeder, AreRules}
-use Rattle.cover_laws.specs.Decision.{covers, has_cover, is_covered}
+use Rattle.cover_laws.specs.Covered.{covers, has_cover, is_covered}
 use Rattle.cover_laws.proofs.Fed.{covers-by, by-covers}
 use Rattle.cover_laws.proofs.Totals.{governed-totals, totals-governed}
 

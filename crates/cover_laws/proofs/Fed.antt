@@ -15,7 +15,7 @@ use Rattle.cube_space.specs.Cells.{IsSpace, cube_of, elements_of, is_leaf, are_l
 use Rattle.rule_laws.specs.declared.reference.Reference.{Reference}
 use Rattle.rule_laws.specs.declared.reference.Arg.{Arg}
 use Rattle.rule_laws.specs.declared.reference.Arg.TheVariants.{Moved}
-use Rattle.rule_laws.specs.Order.{IsCellOf}
+use Rattle.rule_laws.specs.Ordered.{IsCellOf}
 use Rattle.rule_laws.specs.Feeding.{leaves_of as cells_of, FeedsBy}
 use Rattle.rule_laws.specs.Cover.{CoversBy}
 use Rattle.rule_model.specs.declared.rules.Statement.{Statement}
@@ -30,7 +30,7 @@ use Rattle.order_laws.proofs.SetFacts.{follow-all, named-digits, zip-long}
 use Rattle.order_laws.proofs.CellFacts.{IsAt, axes-sizes, cell-there, cell-digits, digits-long}
 use Rattle.order_laws.proofs.Decided as decided
 use Rattle.cover_laws.specs.Looking.{Look, is_possible}
-use Rattle.cover_laws.specs.Decision.{has_leaves, counts_in, are_sources, reaches, all_reach, look_below, feeds_all, covers}
+use Rattle.cover_laws.specs.Covered.{has_leaves, counts_in, are_sources, reaches, all_reach, look_below, feeds_all, covers}
 use Rattle.cover_laws.proofs.Pairs as pairs
 use Rattle.cover_laws.proofs.Pairs.{there-low, arg-there, named-at, named-all, follows-at}
 use Rattle.cover_laws.proofs.Named as naming

@@ -18,7 +18,7 @@ use Rattle.rule_model.specs.Targets.{element_by}
 use Rattle.rule_model.specs.Conditions.{IsArea, IsReference, AreRules}
 use Rattle.order_laws.proofs.ReferenceFacts.{moved-element}
 use Rattle.cover_laws.specs.Looking.{Look, sent, is_possible, each_narrow, each_named}
-use Rattle.cover_laws.specs.Decision.{leaves_at, has_leaves, counts_in, stands_over, each_sent, reaches_from, reaches, look_below}
+use Rattle.cover_laws.specs.Covered.{leaves_at, has_leaves, counts_in, stands_over, each_sent, reaches_from, reaches, look_below}
 use Rattle.cover_laws.proofs.Looks.{IsNarrow, each_narrow-elim, each_narrow-intro, counted as some-passes, counted-from as passes-some}
 use Rattle.cover_laws.proofs.Named.{sent-passes, passes-sent}
 use Rattle.cover_laws.proofs.Pairs as pairs

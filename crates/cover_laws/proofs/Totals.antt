@@ -10,7 +10,7 @@ use Rattle.cube_space.specs.Cells.{IsSpace, IsCell, cube_of, elements_of, is_lea
 use Rattle.rule_laws.specs.declared.reference.Reference.{Reference}
 use Rattle.rule_laws.specs.declared.formula.Formula.{Formula}
 use Rattle.rule_laws.specs.RuleSystem.{Rule, part_at, governing}
-use Rattle.rule_laws.specs.Order.{IsCellOf}
+use Rattle.rule_laws.specs.Ordered.{IsCellOf}
 use Rattle.rule_laws.specs.Cover.{NamesNoGovernedTotal}
 use Rattle.rule_model.specs.declared.area.Area.{Area}
 use Rattle.rule_model.specs.declared.rules.Statement.{Statement}
@@ -23,13 +23,13 @@ use Rattle.rule_model.specs.Governing.{rules_for, has_part}
 use Rattle.rule_model.specs.Governing as model
 use Rattle.model_laws.proofs.Statements.{governing-all, split}
 use Rattle.model_laws.specs.Statements.{statements_before}
-use Rattle.order_laws.specs.Decision.{is_total, is_leaf_element}
+use Rattle.order_laws.specs.Earlier.{is_total, is_leaf_element}
 use Rattle.order_laws.proofs.SumFacts.{all_from, zip-each}
 use Rattle.order_laws.proofs.SetFacts.{zip-long}
 use Rattle.order_laws.proofs.CellFacts.{IsAt, axes-sizes, leaf-is}
 use Rattle.order_laws.proofs.Decided as decided
 use Rattle.cover_laws.specs.Looking.{Look, is_possible}
-use Rattle.cover_laws.specs.Decision.{look_within, names_no_total, names_no_governed}
+use Rattle.cover_laws.specs.Covered.{look_within, names_no_total, names_no_governed}
 use Rattle.cover_laws.proofs.Pairs as pairs
 use Rattle.cover_laws.proofs.Pairs.{named-long, all-at, all-of, any-not}
 use Rattle.cover_laws.proofs.Named as naming

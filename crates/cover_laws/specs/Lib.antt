@@ -1,2 +1,2 @@
 pub mod Looking
-pub mod Decision
+pub mod Covered

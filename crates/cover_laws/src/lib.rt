@@ -1,7 +1,7 @@
 //! The law of the feeder check: that feeders cover a reference is decided dimension by dimension.
 //!
 //! `specs/Looking.antt` has what arguments name from the leaf cells of an area, narrowed to the elements from which
-//! they do; `specs/Decision.antt` has the decision over the tables of a model. That it is the cover of `rule_laws`,
+//! they do; `specs/Covered.antt` has the decision over the tables of a model. That it is the cover of `rule_laws`,
 //! which speaks of every cell, is the contract of [`cover_is_decided_by_dimension`].
 #![tactic(auto)]
 
@@ -13,7 +13,7 @@ ghost use Rattle.rule_model.specs.declared.rules.Statement.{Statement};
 ghost use Rattle.rule_model.specs.BoundModel.{BoundModel};
 ghost use Rattle.rule_model.specs.System.{system_of, rule_of};
 ghost use Rattle.rule_model.specs.Conditions.{IsArea, IsReference, AreRules};
-ghost use Rattle.cover_laws.specs.Decision.{is_covered};
+ghost use Rattle.cover_laws.specs.Covered.{is_covered};
 
 /// Of a statement of a cube and a reference of its formula: the decision by dimension is the one over every cell.
 pub fn cover_is_decided_by_dimension()

@@ -8,7 +8,8 @@ use Rattle.cube_fixed.specs.declared.value.Value.{Value}
 use Rattle.cube_fixed.specs.declared.value.Value.TheVariants.{Num, Over}
 use Rattle.cube_fixed.specs.Range.{IsInRange, most_millionths, unit}
 use Rattle.cube_fixed.specs.Rounding.{nearest, nearest_ratio}
-use Rattle.cube_fixed.specs.Arithmetic.{zero_value, is_zero, fit, sum_of, difference_of, opposite_of, product_of, quotient_of, safe_quotient_of, greater_of, lesser_of, rounded, floor_of, size_of, sign_of}
+use Rattle.cube_fixed.specs.Arithmetic.{zero_value, is_zero, fit, sum_of, difference_of, opposite_of, product_of, greater_of, lesser_of, rounded, floor_of, size_of, sign_of}
+use Rattle.cube_fixed.specs.Division.{quotient_of, safe_quotient_of}
 
 -- ---- 0 times anything, and anything times 0
 

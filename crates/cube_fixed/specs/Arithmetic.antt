@@ -44,18 +44,6 @@ product_of (Num a) (Num b) = fit (nearest_ratio (a *ℤ b) (pos unit))
 product_of (Num a) Over = if is_zero (Num a) then zero_value else Over
 product_of Over b = if is_zero b then zero_value else Over
 
--- a / b, to the nearest millionth; by 0 it is Over
-unfoldable pub quotient_of : Value → Value → Value
-quotient_of (Num a) (Num b) =
-    if is_zero (Num b) then Over else fit (nearest_ratio (a *ℤ pos unit) b)
-quotient_of (Num _) Over = Over
-quotient_of Over _ = Over
-
--- a \ b: 0 where a or b is 0, whatever the other one is, and else a / b
-unfoldable pub safe_quotient_of : Value → Value → Value
-safe_quotient_of a b =
-    if is_zero a then zero_value else if is_zero b then zero_value else quotient_of a b
-
 -- MAX(a, b) and MIN(a, b)
 unfoldable pub greater_of : Value → Value → Value
 greater_of (Num a) (Num b) = Num (int_max a b)

@@ -1,5 +1,5 @@
 ghost use Rattle.std.specs.Prelude.{◌≡◌};
-ghost use Rattle.cube_fixed.specs.Arithmetic.{quotient_of, safe_quotient_of};
+ghost use Rattle.cube_fixed.specs.Division.{quotient_of, safe_quotient_of};
 
 use crate::rounding::{MILLIONTHS_PER_UNIT, fitted, nearest_signed};
 use crate::value::Value;

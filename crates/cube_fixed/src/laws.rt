@@ -2,7 +2,8 @@ ghost use Rattle.std.specs.Prelude.{◌≡◌, ◌≢◌, ℤ, pos, neg_ℤ};
 ghost use Rattle.cube_fixed.specs.declared.value.Value.{Value};
 ghost use Rattle.cube_fixed.specs.declared.value.Value.TheVariants.{Num};
 ghost use Rattle.cube_fixed.specs.Range.{IsInRange};
-ghost use Rattle.cube_fixed.specs.Arithmetic.{zero_value, opposite_of, product_of, quotient_of, safe_quotient_of};
+ghost use Rattle.cube_fixed.specs.Arithmetic.{zero_value, opposite_of, product_of};
+ghost use Rattle.cube_fixed.specs.Division.{quotient_of, safe_quotient_of};
 ghost use Rattle.cube_fixed.specs.Laws.{PairOfZerosGivesZero, ZeroGivesZero};
 
 /// What 0 gives in each operation: what sparse evaluation stands on, since it leaves out what is 0.

@@ -9,7 +9,7 @@ mod quoted;
 mod reading;
 mod signs;
 mod token;
-mod writing;
+mod written;
 
 pub use fault::LexFault;
 pub use lexed::Tokens;
@@ -17,7 +17,7 @@ pub use pieces::{Piece, write_line, write_pieces};
 pub use quoted::unquoted;
 pub use reading::{tokens, tokens_until};
 pub use token::{Kind, Token};
-pub use writing::{
+pub use written::{
     what_is_written_has_a_reading, what_is_written_is_read, write_line_end, write_number,
     write_quoted, write_sign, write_whole, write_word,
 };

@@ -3,7 +3,7 @@ ghost use Rattle.std.specs.List.{AllByRecursion};
 ghost use Rattle.cube_lex.specs.Piece.{token_of, CanBeWritten};
 ghost use Rattle.cube_lex.specs.Written.{Spaces, Writes};
 
-use crate::writing::{
+use crate::written::{
     write_line_end, write_number, write_quoted, write_sign, write_whole, write_word,
 };
 use std::alloc::{AllocError, Global};

@@ -7,7 +7,7 @@ use Rattle.cube_server.specs.declared.status.Status.TheVariants.{Done, Usage, Re
 use Rattle.file_passes.specs.Course.{IsCourse}
 use Rattle.file_passes.specs.Outside.{Outside}
 use Rattle.file_passes.specs.Pass.{Readings, NotWords, Reads, Refuses}
-use Rattle.run_passes.specs.Run.{run_of}
+use Rattle.run_passes.specs.RefusalOrder.{run_of}
 use Rattle.cube_server.specs.Status.{IsOneOf}
 use Rattle.cube_words.specs.Words.{Plan, IsPlan}
 use Rattle.cube_server.specs.Inside.Ending.{Ends}

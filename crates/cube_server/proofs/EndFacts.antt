@@ -12,7 +12,7 @@ use Rattle.cube_server.specs.Answer.{Allows, IsOutput, WritesPart}
 use Rattle.file_passes.specs.Course.{IsCourse}
 use Rattle.file_passes.specs.Outside.{Outside}
 use Rattle.file_passes.specs.Pass.{Readings, NotWords, Reads}
-use Rattle.run_passes.specs.Run.{plan_pass, run_of}
+use Rattle.run_passes.specs.RefusalOrder.{plan_pass, run_of}
 use Rattle.cube_words.specs.Words.{Plan, IsPlan}
 use Rattle.cube_server.specs.Inside.Ending.{Answers, Ends, joined}
 use Rattle.file_passes.specs.Halting.{Comes}

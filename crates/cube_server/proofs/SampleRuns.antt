@@ -9,7 +9,7 @@ use Rattle.file_passes.specs.Outside.{Outside}
 use Rattle.file_passes.specs.Pass.{Readings}
 use Rattle.file_passes.proofs.Going.{course-of}
 use Rattle.rule_model.specs.BoundModel.{BoundModel}
-use Rattle.run_passes.specs.Run.{run_of}
+use Rattle.run_passes.specs.RefusalOrder.{run_of}
 use Rattle.run_passes.specs.declared.run_job.RunJob.{RunJob}
 use Rattle.run_passes.specs.declared.run_job.RunJob.TheVariants.{Serve}
 use Rattle.user_session.specs.declared.command.PlanCommand.{PlanCommand}

@@ -5,7 +5,7 @@ use Rattle.cube_outside.specs.Bytes.{AppendsPart}
 use Rattle.cube_outside.specs.Counts.{Rose}
 use Rattle.history.specs.declared.entry.Entry.{Entry}
 use Rattle.history.specs.declared.told.Told.{Told}
-use Rattle.history.specs.History.{IsHistoryOf}
+use Rattle.history.specs.LegalHistory.{IsHistoryOf}
 use Rattle.user_session.specs.Content.{opening, after}
 use Rattle.user_session.specs.Planning.{effect}
 use Rattle.run_passes.specs.declared.run_job.RunJob.{RunJob}
@@ -17,7 +17,7 @@ use Rattle.file_passes.specs.Course.{IsCourse, names_of}
 use Rattle.file_passes.specs.Outside.{Outside}
 use Rattle.cube_server.specs.Output.{output, refused_text, unread_text, usage_text}
 use Rattle.file_passes.specs.Pass.{Readings, Reads, Refuses}
-use Rattle.run_passes.specs.Run.{run_of}
+use Rattle.run_passes.specs.RefusalOrder.{run_of}
 use Rattle.model_counts.specs.Counts.{accepted_text}
 use Rattle.rule_model.specs.BoundModel.{BoundModel}
 use Rattle.user_session.specs.declared.command.PlanCommand.{PlanCommand}

@@ -9,10 +9,10 @@ use Rattle.file_passes.specs.Course.{IsCourse}
 use Rattle.file_passes.specs.Pass.{Readings}
 use Rattle.history.specs.declared.entry.Entry.{Entry}
 use Rattle.history.specs.declared.told.Told.{Told}
-use Rattle.history.specs.History.{IsHistoryOf}
+use Rattle.history.specs.LegalHistory.{IsHistoryOf}
 use Rattle.history.specs.Version.{content_after}
 use Rattle.rule_model.specs.BoundModel.{BoundModel}
-use Rattle.run_passes.specs.Run.{run_of}
+use Rattle.run_passes.specs.RefusalOrder.{run_of}
 use Rattle.run_passes.specs.declared.run_job.RunJob.TheVariants.{Serve}
 use Rattle.sample_summary.specs.Reading.{summary_on}
 use Rattle.user_session.specs.Content.{after, opening}

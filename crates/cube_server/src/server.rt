@@ -6,7 +6,7 @@ ghost use Rattle.file_passes.specs.Course.{IsCourse};
 ghost use Rattle.file_passes.specs.Outside.{outside};
 ghost use Rattle.file_passes.specs.Pass.{Readings};
 ghost use Rattle.file_passes.specs.Pass.{Refuses};
-ghost use Rattle.run_passes.specs.Run.{run_of};
+ghost use Rattle.run_passes.specs.RefusalOrder.{run_of};
 ghost use Rattle.cube_server.specs.Status.{IsOneOf};
 ghost use Rattle.cube_words.specs.Words.{Plan, IsPlan, texts_of};
 ghost use Rattle.run_passes.specs.declared.run_job.RunJob.{RunJob};

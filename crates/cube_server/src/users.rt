@@ -1,5 +1,5 @@
 ghost use Rattle.std.specs.Prelude.{◌≡◌, IfOk};
-ghost use Rattle.history.specs.History.{IsHistoryOf};
+ghost use Rattle.history.specs.LegalHistory.{IsHistoryOf};
 ghost use Rattle.history.specs.Version.{content_after};
 ghost use Rattle.user_session.specs.Content.{after, content_of, opening};
 ghost use Rattle.user_session.specs.Planning.{effect};

@@ -11,7 +11,7 @@ use Rattle.std.proofs.lemmas.List.FromFn.{length-range_with_len, get_or-range_wi
 use Rattle.std.proofs.lemmas.List.Elements.{filter_passes}
 use Rattle.lists.proofs.Members.{contains_from_among, among_from_contains, kept_member, kept_increases}
 use Rattle.rule_laws.specs.RuleSystem.{RuleSystem, Feed, Stored, IsCell, IsLeafCell}
-use Rattle.rule_laws.specs.Order.{IsWellFormed}
+use Rattle.rule_laws.specs.Ordered.{IsWellFormed}
 use Rattle.rule_laws.specs.Feeding.{leaves_of, is_dense, IsDenseCell, Feeds, IsStart, Leads, IsFed}
 use Rattle.fed_laws.specs.FedCells.{cells, is_leaf_cell, is_under, feeds_by, feeds, is_dense_cell, is_start, is_reached, fed_cells}
 use Rattle.fed_laws.proofs.Rounds.{settled}

@@ -1,7 +1,7 @@
 ghost use Rattle.std.specs.Prelude.{◌≡◌, ℕ, List, Contains, ◌↔◌};
 ghost use Rattle.std.specs.List.Sorted.{IsStrictlyIncreasing};
 ghost use Rattle.rule_laws.specs.RuleSystem.{RuleSystem, Stored};
-ghost use Rattle.rule_laws.specs.Order.{IsWellFormed};
+ghost use Rattle.rule_laws.specs.Ordered.{IsWellFormed};
 ghost use Rattle.rule_laws.specs.Feeding.{IsFed};
 ghost use Rattle.fed_laws.specs.FedCells.{fed_cells};
 

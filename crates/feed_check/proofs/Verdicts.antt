@@ -20,7 +20,7 @@ use Rattle.rule_model.specs.BoundModel.{BoundModel, rules_of}
 use Rattle.rule_model.specs.System.{system_of, rule_of, cube_rules}
 use Rattle.rule_model.specs.Conditions.{IsStatement, IsLeafPart, IsPrecedent, IsReference, AreRules}
 use Rattle.order_laws.proofs.Ordered.{flat-parts, parts-flat}
-use Rattle.cover_laws.specs.Decision.{is_covered}
+use Rattle.cover_laws.specs.Covered.{is_covered}
 use Rattle.cover_laws.proofs.Covered.{decided-covered, covered-decided}
 use Rattle.feed_check.specs.declared.fault.FeedCheckFault.{FeedCheckFault}
 use Rattle.feed_check.specs.declared.fault.FeedCheckFault.TheVariants.{NotFed, DenseTooLarge}

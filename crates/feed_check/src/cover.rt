@@ -1,6 +1,6 @@
 ghost use Rattle.std.specs.Prelude.{◌≡◌, ◌<◌, length};
 ghost use Rattle.rule_model.specs.Conditions.{IsArea};
-ghost use Rattle.cover_laws.specs.Decision.{is_covered};
+ghost use Rattle.cover_laws.specs.Covered.{is_covered};
 ghost use Rattle.feed_check.specs.Inside.References.{is_reference};
 
 use feed_cover::is_covered;

@@ -15,7 +15,7 @@ use Rattle.feed_cover.specs.declared.reference_view.ReferenceView.{ReferenceView
 use Rattle.feed_cover.specs.declared.reference_view.Counted.TheVariants.{Leaves}
 use Rattle.feed_cover.specs.Views.{counts_of, look_of}
 use Rattle.cover_laws.specs.Looking.{some_below, is_possible}
-use Rattle.cover_laws.specs.Decision.{look_below, feeds_all, covers, has_cover}
+use Rattle.cover_laws.specs.Covered.{look_below, feeds_all, covers, has_cover}
 use Rattle.cover_laws.proofs.Looks.{some-elim, some-intro}
 use Rattle.cover_laws.proofs.Covered.{range-at}
 use Rattle.lists.proofs.Found.{same_truth as true-both}

@@ -16,12 +16,12 @@ use Rattle.rule_laws.specs.declared.reference.Arg.{Arg}
 use Rattle.rule_laws.specs.declared.reference.Arg.TheVariants.{Fixed, Moved}
 use Rattle.rule_model.specs.Conditions.{IsArea}
 use Rattle.model_laws.proofs.Levels.{axis-is}
-use Rattle.order_laws.specs.Decision.{is_leaf_element}
+use Rattle.order_laws.specs.Earlier.{is_leaf_element}
 use Rattle.order_laws.proofs.SetFacts.{place-of}
 use Rattle.ref_order.proofs.Axes.{size-of-axis}
 use Rattle.ref_order.proofs.Sums.{element-below}
 use Rattle.cover_laws.specs.Looking.{Look, sent, is_narrow, each_narrow, each_named}
-use Rattle.cover_laws.specs.Decision.{counts_in, each_sent}
+use Rattle.cover_laws.specs.Covered.{counts_in, each_sent}
 use Rattle.cover_laws.proofs.Looks.{IsNarrow, each_narrow-intro}
 use Rattle.cover_laws.proofs.Counted.{own-counts, only-own, in-among}
 

@@ -9,7 +9,7 @@ use Rattle.dim_core.specs.Outline.{Outline}
 use Rattle.dim_weights.specs.Coefficients.{coef}
 use Rattle.dim_weights.specs.Table.{is_nonzero, leaves_of}
 use Rattle.rule_model.specs.Areas.{in_source_set}
-use Rattle.cover_laws.specs.Decision.{leaves_at, counts_in, are_sources}
+use Rattle.cover_laws.specs.Covered.{leaves_at, counts_in, are_sources}
 
 -- a leaf counts in one of the listed elements
 abbrev pub is_listed_source : List Outline → ℕ → List ℕ → ℕ × ℤ → Bool

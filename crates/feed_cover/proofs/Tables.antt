@@ -14,7 +14,7 @@ use Rattle.cube_space.specs.Layout.{Layout, axes, sizes}
 use Rattle.cube_space.specs.Cells.{IsSpace}
 use Rattle.rule_model.specs.Weights.{AreWeightsOf}
 use Rattle.ref_order.proofs.Axes.{axis-low, axis-is, size-of-axis}
-use Rattle.cover_laws.specs.Decision.{leaves_at, counts_in}
+use Rattle.cover_laws.specs.Covered.{leaves_at, counts_in}
 use Rattle.cover_laws.proofs.Pairs.{arg-there}
 
 zip-at : (ds : List Outline) (ts : List (List (List (ℕ × ℤ)))) (k : ℕ) (t : List (List (ℕ × ℤ))) → AllZip IsWeightsOf ds ts → k < length ds → (k < length ts) × ((d : Outline) × (slice_get ds k ≡ Some d) × IsWeightsOf d (get_or ts k t))

@@ -7,7 +7,7 @@ use Rattle.rule_model.specs.Areas.{in_set}
 use Rattle.rule_model.specs.Conditions.{IsArea, IsReference}
 use Rattle.std.specs.Prelude.{length}
 use Rattle.cover_laws.specs.Looking.{Look}
-use Rattle.cover_laws.specs.Decision.{has_leaves}
+use Rattle.cover_laws.specs.Covered.{has_leaves}
 use Rattle.feed_cover.specs.declared.reference_view.Counted.{Counted}
 use Rattle.feed_cover.specs.declared.reference_view.Counted.TheVariants.{Leaves, Within}
 use Rattle.feed_cover.specs.declared.reference_view.ReferenceView.{ReferenceView}

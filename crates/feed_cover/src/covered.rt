@@ -3,7 +3,7 @@ ghost use Rattle.std.specs.List.{list_any};
 ghost use Rattle.rule_model.specs.BoundModel.{rules_of};
 ghost use Rattle.rule_model.specs.Conditions.{IsArea, IsReference, IsFeeder};
 ghost use Rattle.cover_laws.specs.Looking.{some_below};
-ghost use Rattle.cover_laws.specs.Decision.{names_no_total, names_no_governed, feeds_all, has_cover, is_covered};
+ghost use Rattle.cover_laws.specs.Covered.{names_no_total, names_no_governed, feeds_all, has_cover, is_covered};
 ghost use Rattle.feed_cover.specs.declared.reference_view.Counted.TheVariants.{Leaves};
 ghost use Rattle.feed_cover.specs.Views.{IsView};
 

@@ -2,7 +2,7 @@ ghost use Rattle.std.specs.Prelude.{◌≡◌, ℕ, ◌<◌, length, slice_index
 ghost use Rattle.std.specs.Option.{option_map_or};
 ghost use Rattle.cube_space.specs.Layout.{axes, sizes};
 ghost use Rattle.cover_laws.specs.Looking.{is_narrow, some_in, each_narrow, sent};
-ghost use Rattle.cover_laws.specs.Decision.{each_sent};
+ghost use Rattle.cover_laws.specs.Covered.{each_sent};
 ghost use Rattle.feed_cover.specs.Views.{look_of, IsView};
 
 use crate::narrow::is_narrow;

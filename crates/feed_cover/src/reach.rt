@@ -4,7 +4,7 @@ ghost use Rattle.cube_space.specs.Layout.{axes, sizes};
 ghost use Rattle.rule_laws.specs.declared.reference.Arg.TheVariants.{Fixed};
 ghost use Rattle.rule_model.specs.Conditions.{IsReference};
 ghost use Rattle.cover_laws.specs.Looking.{sent, each_narrow};
-ghost use Rattle.cover_laws.specs.Decision.{counts_in, each_sent, reaches_from, reaches, all_reach};
+ghost use Rattle.cover_laws.specs.Covered.{counts_in, each_sent, reaches_from, reaches, all_reach};
 ghost use Rattle.feed_cover.specs.Views.{look_of, IsView};
 ghost use Rattle.feed_cover.specs.Tests.{IsWay};
 

@@ -4,7 +4,7 @@ ghost use Rattle.dim_core.specs.Outline.{Outline};
 ghost use Rattle.cube_space.specs.Layout.{axes, sizes};
 ghost use Rattle.rule_model.specs.Areas.{in_source_set};
 ghost use Rattle.rule_model.specs.Conditions.{IsArea};
-ghost use Rattle.cover_laws.specs.Decision.{counts_in, are_sources};
+ghost use Rattle.cover_laws.specs.Covered.{counts_in, are_sources};
 ghost use Rattle.feed_cover.specs.Tests.{IsAxis, IsElementOf};
 
 use crate::table::{counts_in, leaves};

@@ -2,7 +2,7 @@ ghost use Rattle.std.specs.Prelude.{◌≡◌, ◌<◌, length, slice_get, slice
 ghost use Rattle.dim_core.specs.Outline.{Outline};
 ghost use Rattle.dim_weights.specs.Table.{IsWeightsOf};
 ghost use Rattle.cube_space.specs.Layout.{axes, sizes};
-ghost use Rattle.cover_laws.specs.Decision.{leaves_at, counts_in};
+ghost use Rattle.cover_laws.specs.Covered.{leaves_at, counts_in};
 
 use dim_weights::Weights;
 use ref_order::axis;

@@ -8,7 +8,7 @@ use Rattle.history.specs.declared.effect.Effect.TheVariants.{Commit, Rejected, R
 use Rattle.history.specs.Version.{version}
 use Rattle.history.specs.UserRun.{least_after, Stands, ToldFrom, RunSoFar}
 use Rattle.history.specs.ByPlace.{IsToldEntry}
-use Rattle.history.specs.History.{IsLegal, EachRunSoFar, EachRun, IsHistoryOf, HasUsers}
+use Rattle.history.specs.LegalHistory.{IsLegal, EachRunSoFar, EachRun, IsHistoryOf, HasUsers}
 use Rattle.std.proofs.lemmas.Bool.{cases_lt}
 use Rattle.lists.proofs.Found.{there}
 

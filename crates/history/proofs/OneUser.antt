@@ -9,7 +9,7 @@ use Rattle.history.specs.declared.effect.Effect.{Effect}
 use Rattle.history.specs.declared.effect.Effect.TheVariants.{Commit, Rejected, Read}
 use Rattle.history.specs.Version.{content_after, version, NoneFrom, NoneWithin}
 use Rattle.history.specs.UserRun.{reply_of, least_after, Stands, ToldFrom}
-use Rattle.history.specs.History.{IsLegal, HasUsers, IsHistoryOf}
+use Rattle.history.specs.LegalHistory.{IsLegal, HasUsers, IsHistoryOf}
 use Rattle.std.proofs.lemmas.Option.{slice_get_within}
 use Rattle.lists.proofs.Found.{none_some, some_same, there}
 use Rattle.history.proofs.Runs.{least_after_le, place_le}

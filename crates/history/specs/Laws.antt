@@ -7,7 +7,7 @@ use Rattle.history.specs.declared.effect.Effect.{Effect}
 use Rattle.history.specs.Version.{content_after, NoneFrom}
 use Rattle.history.specs.UserRun.{reply_of, least_after, Stands, RunSoFar, UserRun}
 use Rattle.history.specs.ByPlace.{IsRunByPlace}
-use Rattle.history.specs.History.{HasUsers, EachRun, EachRunSoFar, IsLegal, IsHistoryOf}
+use Rattle.history.specs.LegalHistory.{HasUsers, EachRun, EachRunSoFar, IsLegal, IsHistoryOf}
 
 -- where each user has a run so far, and each entry is of one of the users, the history is legal
 abbrev pub RunsMakeLegal : {C K T R : Type 0} → (C → K → Effect T R) → (C → T → C) → Type 0

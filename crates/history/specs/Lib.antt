@@ -1,5 +1,5 @@
 pub mod Version
 pub mod UserRun
 pub mod ByPlace
-pub mod History
+pub mod LegalHistory
 pub mod Laws

@@ -1,7 +1,7 @@
 //! The words for histories: what a world of commands is, which histories of its commits are legal, and what a run of
 //! one user's commands against such a history is. Contracts of the crates above cite the definitions of `specs/`.
 //!
-//! Read `World` first, then `specs/Version.antt`, `specs/UserRun.antt`, `specs/History.antt` and `specs/Laws.antt`.
+//! Read `World` first, then in `specs` Version, UserRun, LegalHistory and Laws.
 #![tactic(auto)]
 
 mod effect;

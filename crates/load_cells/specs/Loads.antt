@@ -3,14 +3,15 @@ use Rattle.std.specs.Prelude.{ℕ, suc, nat_lt, ◌&&◌, not, List, length, Opt
 use Rattle.std.specs.List.{list_all}
 use Rattle.cell_reader.specs.Limits.{fed_count}
 use Rattle.cell_store.specs.declared.entry.Entry.{Entry}
-use Rattle.cell_store.specs.Entries.{after_writes, most_cells}
+use Rattle.cell_store.specs.Entries.{after_writes}
+use Rattle.cell_store.specs.StoreLimit.{most_cells}
 use Rattle.cube_space.specs.Cells.{is_leaf_cell}
 use Rattle.cube_space.specs.Layout.{Layout}
 use Rattle.dim_name.specs.Name.{is_name}
 use Rattle.feed_map.specs.FedCells.{most_fed}
 use Rattle.rule_laws.specs.RuleSystem.{dense_value}
 use Rattle.rule_model.specs.BoundModel.{BoundModel}
-use Rattle.rule_model.specs.Governing.{is_input}
+use Rattle.rule_model.specs.Input.{is_input}
 use Rattle.rule_model.specs.Named.{cell_named}
 use Rattle.rule_model.specs.System.{system_of}
 use Rattle.script_values.specs.Cells.{Store}

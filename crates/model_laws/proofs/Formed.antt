@@ -11,7 +11,7 @@ use Rattle.cube_space.specs.Layout.{Layout, axes}
 use Rattle.cube_space.specs.Cells.{IsSpace, IsCell, Cell, cube_of, elements_of, cell_at, cell_number, is_place}
 use Rattle.cube_space.proofs.Places.{cell-place, place_number, is_place-parts, place-within, cell_at-place}
 use Rattle.rule_laws.specs.declared.reference.Reference.{Reference}
-use Rattle.rule_laws.specs.Order.{IsWellFormed}
+use Rattle.rule_laws.specs.Ordered.{IsWellFormed}
 use Rattle.rule_model.specs.BoundModel.{BoundModel}
 use Rattle.rule_model.specs.Conditions.{AreRules}
 use Rattle.rule_model.specs.Targets.{elements_by, target, element_at, with_element_at, with_components, parts_at, component_cells}

@@ -4,7 +4,7 @@ ghost use Rattle.cube_space.specs.Cells.{IsSpace};
 ghost use Rattle.rule_laws.specs.declared.formula.Formula.{Formula};
 ghost use Rattle.rule_laws.specs.RuleSystem.{Stored, IsCell, SolvesRules, dense_value, base, value_at, value_from};
 ghost use Rattle.rule_laws.specs.RuleSystem.{right_side, formula_at, governing, governing_from};
-ghost use Rattle.rule_laws.specs.Order.{IsWellFormed, IsOrdered};
+ghost use Rattle.rule_laws.specs.Ordered.{IsWellFormed, IsOrdered};
 ghost use Rattle.rule_laws.specs.OrderByPlace.{IsOrderedByPlace, IsRankedBy};
 ghost use Rattle.rule_model.specs.BoundModel.{BoundModel};
 ghost use Rattle.rule_model.specs.Conditions.{AreRules};

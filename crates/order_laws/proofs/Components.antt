@@ -7,14 +7,14 @@ use Rattle.dim_weights.specs.Table.{is_nonzero}
 use Rattle.cube_space.specs.Layout.{axes, sizes}
 use Rattle.cube_space.specs.Cells.{IsSpace, elements_of, cell_number}
 use Rattle.rule_laws.specs.Meaning.{Components}
-use Rattle.rule_laws.specs.Order.{Throughout}
+use Rattle.rule_laws.specs.Ordered.{Throughout}
 use Rattle.rule_model.specs.declared.rules.Statement.{Statement}
 use Rattle.rule_model.specs.BoundModel.{BoundModel}
 use Rattle.rule_model.specs.Targets.{with_element_at, with_components, parts_at}
 use Rattle.rule_model.specs.System.{system_of, rule_of}
 use Rattle.rule_model.specs.Conditions.{IsArea, AreRules}
 use Rattle.order_laws.specs.Greatest.{IsAtMost, sum_from, only}
-use Rattle.order_laws.specs.Decision.{scale_of, component_excess, components_excess, parts_in, most_excess}
+use Rattle.order_laws.specs.Earlier.{scale_of, component_excess, components_excess, parts_in, most_excess}
 use Rattle.order_laws.proofs.GreatestFacts.{greatest-top}
 use Rattle.order_laws.proofs.SumFacts.{sum-dim, zero-plus, at_dim}
 use Rattle.order_laws.proofs.ReferenceFacts.{added, reading}

@@ -10,7 +10,7 @@ use Rattle.cube_space.specs.Layout.{axes, sizes}
 use Rattle.cube_space.specs.Cells.{cube_of, elements_of, cell_number}
 use Rattle.rule_laws.specs.declared.reference.Reference.{Reference}
 use Rattle.rule_laws.specs.Meaning.{Precedent, Named}
-use Rattle.rule_laws.specs.Order.{IsCellOf, Throughout}
+use Rattle.rule_laws.specs.Ordered.{IsCellOf, Throughout}
 use Rattle.rule_model.specs.declared.rules.Statement.{Statement}
 use Rattle.rule_model.specs.BoundModel.{BoundModel}
 use Rattle.rule_model.specs.Areas.{in_area, in_sets}
@@ -18,7 +18,7 @@ use Rattle.rule_model.specs.Targets.{elements_by, target}
 use Rattle.rule_model.specs.System.{system_of, rule_of}
 use Rattle.rule_model.specs.Conditions.{IsArea, IsReference, AreRules}
 use Rattle.order_laws.specs.Greatest.{plus, IsAtMost, sum_from, any_from, only}
-use Rattle.order_laws.specs.Decision.{Scale, scale_of, fixed_sum, moved_sum, excess, start, greatest_by, each, is_total, is_leaf_element, excess_sum, most_excess}
+use Rattle.order_laws.specs.Earlier.{Scale, scale_of, fixed_sum, moved_sum, excess, start, greatest_by, each, is_total, is_leaf_element, excess_sum, most_excess}
 use Rattle.order_laws.proofs.GreatestFacts.{IsTop, Among, passing-top, failing-top}
 use Rattle.order_laws.proofs.SumFacts.{sum-plus, sum-only, all_from}
 use Rattle.order_laws.proofs.ReferenceFacts.{added, reading, taken-sum, named-sum}

@@ -4,7 +4,7 @@ use Rattle.std.proofs.lemmas.Int.{ints}
 use Rattle.std.proofs.lemmas.Bool.{cases_lt, lt-ltb}
 use Rattle.cube_space.specs.Cells.{IsSpace}
 use Rattle.rule_laws.specs.Meaning.{Precedent, Named, Components}
-use Rattle.rule_laws.specs.Order.{Throughout}
+use Rattle.rule_laws.specs.Ordered.{Throughout}
 use Rattle.rule_laws.specs.OrderByPlace.{IsDecidedByPosition, IsDecidedByLevel}
 use Rattle.rule_model.specs.declared.rules.Statement.{Statement}
 use Rattle.rule_model.specs.BoundModel.{BoundModel}
@@ -12,7 +12,7 @@ use Rattle.rule_model.specs.Order.{most_positions, number_at, cell_level}
 use Rattle.rule_model.specs.System.{system_of, positions_of, rule_of}
 use Rattle.rule_model.specs.Conditions.{IsArea, IsPrecedent, AreRules}
 use Rattle.order_laws.specs.Greatest.{IsAtMost}
-use Rattle.order_laws.specs.Decision.{most_excess, is_below, is_within, earlier_from, is_earlier}
+use Rattle.order_laws.specs.Earlier.{most_excess, is_below, is_within, earlier_from, is_earlier}
 use Rattle.order_laws.proofs.CellFacts.{measure, axes-sizes}
 use Rattle.order_laws.proofs.Decided.{IsMore, reference-over, reference-least}
 use Rattle.order_laws.proofs.Components.{children-over, children-least}

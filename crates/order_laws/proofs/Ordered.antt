@@ -13,7 +13,7 @@ use Rattle.rule_model.specs.declared.rules.Statement.{Statement}
 use Rattle.rule_model.specs.BoundModel.{BoundModel, rules_of, no_rules}
 use Rattle.rule_model.specs.System.{system_of, positions_of, rule_of, cube_rules}
 use Rattle.rule_model.specs.Conditions.{IsPrecedent, IsStatement, AreRules}
-use Rattle.order_laws.specs.Decision.{is_earlier, IsEarlierStatement, IsOrderedByDimension}
+use Rattle.order_laws.specs.Earlier.{is_earlier, IsEarlierStatement, IsOrderedByDimension}
 use Rattle.order_laws.proofs.Earlier.{earlier-decided, decided-earlier}
 
 module _ {X : Type 0} (P : X → Type 0) where

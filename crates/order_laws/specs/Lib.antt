@@ -1,2 +1,2 @@
 pub mod Greatest
-pub mod Decision
+pub mod Earlier

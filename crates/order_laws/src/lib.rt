@@ -1,6 +1,6 @@
 //! The law of the order check: that what a formula reads stands before its cell is decided dimension by dimension.
 //!
-//! `specs/Greatest.antt` has the greatest of sums with one number a dimension, `specs/Decision.antt` the decision over
+//! `specs/Greatest.antt` has the greatest of sums with one number a dimension, `specs/Earlier.antt` the decision over
 //! the tables of a model. The laws are the contracts of [`order_is_decided_by_dimension`] and
 //! [`models_are_ordered_by_dimension`]; the order itself is that of `rule_laws`, which speaks of every cell.
 #![tactic(auto)]
@@ -13,7 +13,7 @@ ghost use Rattle.rule_model.specs.declared.rules.Statement.{Statement};
 ghost use Rattle.rule_model.specs.BoundModel.{BoundModel};
 ghost use Rattle.rule_model.specs.System.{system_of, positions_of, rule_of};
 ghost use Rattle.rule_model.specs.Conditions.{IsArea, IsPrecedent, AreRules};
-ghost use Rattle.order_laws.specs.Decision.{is_earlier, IsOrderedByDimension};
+ghost use Rattle.order_laws.specs.Earlier.{is_earlier, IsOrderedByDimension};
 
 /// Of a statement of a cube, a kind of cell and what a formula reads: the decision by dimension is the one over every
 /// cell.

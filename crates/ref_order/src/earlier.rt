@@ -1,7 +1,7 @@
 ghost use Rattle.std.specs.Prelude.{◌≡◌, ◌-◌, ◌<◌, ◌≤◌, length};
 ghost use Rattle.rule_model.specs.Conditions.{IsArea, IsPrecedent};
 ghost use Rattle.rule_model.specs.Order.{most_positions};
-ghost use Rattle.order_laws.specs.Decision.{most_excess, earlier_from, is_earlier};
+ghost use Rattle.order_laws.specs.Earlier.{most_excess, earlier_from, is_earlier};
 ghost use Rattle.ref_order.specs.Reads.{precedent_of};
 
 use crate::most::most_excess;

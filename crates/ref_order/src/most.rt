@@ -2,7 +2,7 @@ ghost use Rattle.std.specs.Prelude.{◌≡◌, ℕ, ◌+◌, ◌*◌, ◌-◌, �
 ghost use Rattle.cube_space.specs.Layout.{axes, sizes, most_dimensions};
 ghost use Rattle.rule_model.specs.Conditions.{IsArea, IsPrecedent};
 ghost use Rattle.order_laws.specs.Greatest.{greatest_sum, greatest_passing_sum, only};
-ghost use Rattle.order_laws.specs.Decision.{excess, greatest_by, excess_sum, most_excess, set_count, set_element};
+ghost use Rattle.order_laws.specs.Earlier.{excess, greatest_by, excess_sum, most_excess, set_count, set_element};
 ghost use Rattle.ref_order.specs.Reads.{precedent_of, test_of};
 ghost use Rattle.ref_order.specs.declared.most.Which.TheVariants.{All, Leaves, Totals};
 

@@ -1,6 +1,6 @@
 ghost use Rattle.std.specs.Prelude.{◌≡◌, ℕ, ◌+◌, ◌≤◌, ◌<◌, ◌^◌, unsigned_abs, IfSome};
 ghost use Rattle.order_laws.specs.Greatest.{plus, larger};
-ghost use Rattle.order_laws.specs.Decision.{is_below, is_within};
+ghost use Rattle.order_laws.specs.Earlier.{is_below, is_within};
 
 /// The sum of two numbers, where both are there.
 pub fn plus(left: Option<i64>, right: Option<i64>) -> Option<i64>

@@ -2,7 +2,7 @@ ghost use Rattle.std.specs.Prelude.{◌≡◌, ◌<◌, ◌≤◌, length, Some,
 ghost use Rattle.cube_space.specs.Layout.{axes, sizes, most_dimensions};
 ghost use Rattle.cube_space.specs.Cells.{IsSpace};
 ghost use Rattle.rule_model.specs.declared.order.Position.TheVariants.{Constant};
-ghost use Rattle.order_laws.specs.Decision.{scale_of, position_scale, rank_at, level_in};
+ghost use Rattle.order_laws.specs.Earlier.{scale_of, position_scale, rank_at, level_in};
 
 use dim_core::Dimension;
 use rule_model::{Model, Position};

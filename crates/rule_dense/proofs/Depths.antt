@@ -9,7 +9,7 @@ use Rattle.std.proofs.lemmas.List.{get_or-set_same, get_or-set_other, get_or_def
 use Rattle.std.proofs.lemmas.Bool.{cases_lt, eqb-true, eq-eqb}
 use Rattle.cube_space.specs.Cells.{IsSpace, IsCell, size_of}
 use Rattle.rule_laws.specs.RuleSystem.{Stored, depth, dense_value, right_side}
-use Rattle.rule_laws.specs.Order.{IsWellFormed, IsOrdered}
+use Rattle.rule_laws.specs.Ordered.{IsWellFormed, IsOrdered}
 use Rattle.rule_laws.specs.OrderByPlace.{IsOrderedByPlace}
 use Rattle.rule_laws.proofs.PlaceFacts.{ordered-by_place}
 use Rattle.rule_laws.proofs.SystemFacts.{right_side-grounded, dense_value-solves}

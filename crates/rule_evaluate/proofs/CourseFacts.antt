@@ -16,7 +16,7 @@ use Rattle.rule_laws.specs.Operation.{function_of}
 use Rattle.rule_laws.specs.Meaning.{value_step, truth_step}
 use Rattle.rule_laws.specs.RuleSystem.{RuleSystem, named}
 use Rattle.rule_laws.proofs.Folds.{Layers, TruthLayers, by_layers, by_layers_truth}
-use Rattle.rule_model.specs.Governing.{has_continue, continue_step, either_step}
+use Rattle.rule_model.specs.Input.{has_continue, continue_step, either_step}
 use Rattle.rule_model.specs.Inside.Parts.{truth_has_continue}
 use Rattle.rule_evaluate.specs.declared.ask.Ask.TheVariants.{Value as of_value, Base as of_base, Children as of_children}
 use Rattle.rule_evaluate.specs.Readings.{Readings, others_by, children_by, formula_by}

@@ -5,7 +5,7 @@ use Rattle.cube_fixed.specs.declared.value.Value.{Value}
 use Rattle.rule_laws.specs.declared.formula.Formula.{Formula}
 use Rattle.rule_laws.specs.declared.formula.Formula.TheVariants.{If}
 use Rattle.rule_laws.specs.declared.formula.Truth.{Truth}
-use Rattle.rule_model.specs.Governing.{has_continue}
+use Rattle.rule_model.specs.Input.{has_continue}
 use Rattle.rule_model.specs.Inside.Parts.{truth_has_continue}
 use Rattle.rule_model.specs.System.{system_of}
 use Rattle.rule_evaluate.specs.declared.ask.Ask.{Ask}

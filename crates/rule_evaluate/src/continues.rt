@@ -1,5 +1,5 @@
 ghost use Rattle.std.specs.Prelude.{◌≡◌};
-ghost use Rattle.rule_model.specs.Governing.{has_continue};
+ghost use Rattle.rule_model.specs.Input.{has_continue};
 ghost use Rattle.rule_model.specs.Inside.Parts.{truth_has_continue};
 
 use rule_laws::{Formula, Truth};

@@ -1,5 +1,5 @@
 ghost use Rattle.std.specs.Prelude.{◌≡◌, true, false, IfOk, IfErr};
-ghost use Rattle.rule_model.specs.Governing.{has_continue};
+ghost use Rattle.rule_model.specs.Input.{has_continue};
 ghost use Rattle.rule_evaluate.specs.Inside.Scene.{sources_at, course_at, trial_at};
 
 use crate::here::Here;

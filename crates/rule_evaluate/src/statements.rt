@@ -1,5 +1,6 @@
 ghost use Rattle.std.specs.Prelude.{◌≡◌, ◌+◌, ◌≤◌, ◌<◌, true, false, IfOk, IfErr, IsSome};
-ghost use Rattle.rule_model.specs.Governing.{governing_from, has_continue};
+ghost use Rattle.rule_model.specs.Governing.{governing_from};
+ghost use Rattle.rule_model.specs.Input.{has_continue};
 ghost use Rattle.rule_evaluate.specs.Inside.Scene.{value_from, passes_from, entered_from};
 ghost use Rattle.rule_evaluate.specs.Inside.Scene.{course_from, entered_after, IsReady, IsEnd};
 

@@ -5,7 +5,7 @@ use Rattle.std.proofs.lemmas.List.Elements.{All-weaker}
 use Rattle.rule_laws.specs.declared.formula.Formula.{Formula}
 use Rattle.rule_laws.specs.Meaning.{Precedent, Named, Components, precedents}
 use Rattle.rule_laws.specs.RuleSystem.{RuleSystem, Rule, IsCell, part_of, depth}
-use Rattle.rule_laws.specs.Order.{IsWellFormed, IsCellOf, HasPrecedent, Throughout, IsOrderedRule, IsOrdered}
+use Rattle.rule_laws.specs.Ordered.{IsWellFormed, IsCellOf, HasPrecedent, Throughout, IsOrderedRule, IsOrdered}
 use Rattle.rule_laws.specs.OrderByPlace.{Positions, IsDecidedByPosition, IsDecidedByLevel, IsOrderedByPlace, IsRankedBy}
 use Rattle.std.proofs.lemmas.List.Elements.{All-contains}
 

@@ -15,7 +15,7 @@ use Rattle.rule_laws.specs.declared.reference.Reference.{Reference}
 use Rattle.rule_laws.specs.declared.formula.Formula.{Formula}
 use Rattle.rule_laws.specs.Meaning.{Named, precedents}
 use Rattle.rule_laws.specs.RuleSystem.{RuleSystem, Rule, Stored, IsCell, IsLeafCell, applies, part_of, part_at, governing, weighted_sum, base, named, others, value_at, value_by, depth, dense_value}
-use Rattle.rule_laws.specs.Order.{IsWellFormed, IsCellOf, Throughout, IsOrderedRule, IsOrdered}
+use Rattle.rule_laws.specs.Ordered.{IsWellFormed, IsCellOf, Throughout, IsOrderedRule, IsOrdered}
 use Rattle.rule_laws.specs.Feeding.{leaves_of, IsDenseCell, Feeds, IsStart, IsFed}
 use Rattle.rule_laws.specs.ZeroTest.{zero_test}
 use Rattle.rule_laws.specs.Cover.{IsCoveredReference, IsCoveredRule, IsCovered}

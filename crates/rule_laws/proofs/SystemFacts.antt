@@ -16,7 +16,7 @@ use Rattle.rule_laws.specs.declared.reference.Reference.{Reference}
 use Rattle.rule_laws.specs.declared.formula.Formula.{Formula}
 use Rattle.rule_laws.specs.Meaning.{Others, formula_value, Precedent, Named, Components, precedents}
 use Rattle.rule_laws.specs.RuleSystem.{RuleSystem, Rule, Stored, IsCell, IsLeafCell, part_of, applies, part_at, weighted_sum, base, children_value, named, others, value_at, value_by, right_side, SolvesRules, depth, dense_value}
-use Rattle.rule_laws.specs.Order.{IsWellFormed, IsCellOf, HasPrecedent, Throughout, IsOrderedRule, IsOrdered}
+use Rattle.rule_laws.specs.Ordered.{IsWellFormed, IsCellOf, HasPrecedent, Throughout, IsOrderedRule, IsOrdered}
 use Rattle.rule_laws.proofs.FormulaFacts.{Alike, formula_value-agree}
 pub use Rattle.std.proofs.lemmas.Bool.{and_parts as both}
 

@@ -4,7 +4,7 @@ use Rattle.rule_laws.specs.declared.reference.Reference.{Reference}
 use Rattle.rule_laws.specs.declared.formula.Formula.{Formula}
 use Rattle.rule_laws.specs.Meaning.{Named, precedents}
 use Rattle.rule_laws.specs.RuleSystem.{RuleSystem, Rule, Feed, governing}
-use Rattle.rule_laws.specs.Order.{IsCellOf}
+use Rattle.rule_laws.specs.Ordered.{IsCellOf}
 use Rattle.rule_laws.specs.Feeding.{leaves_of, FeedsBy}
 use Rattle.rule_laws.specs.ZeroTest.{zero_test}
 

@@ -2,7 +2,7 @@ pub mod Maps
 pub mod Operation
 pub mod Meaning
 pub mod RuleSystem
-pub mod Order
+pub mod Ordered
 pub mod OrderByPlace
 pub mod Feeding
 pub mod ZeroTest

@@ -2,7 +2,8 @@
 use Rattle.std.specs.Prelude.{Bool, not}
 use Rattle.std.specs.Ordering.{is_lt, is_eq, is_gt}
 use Rattle.cube_fixed.specs.declared.value.Value.{Value}
-use Rattle.cube_fixed.specs.Arithmetic.{sum_of, difference_of, product_of, quotient_of, safe_quotient_of, greater_of}
+use Rattle.cube_fixed.specs.Arithmetic.{sum_of, difference_of, product_of, greater_of}
+use Rattle.cube_fixed.specs.Division.{quotient_of, safe_quotient_of}
 use Rattle.cube_fixed.specs.Arithmetic.{lesser_of, opposite_of, size_of, sign_of, floor_of, rounded, order_of}
 use Rattle.rule_laws.specs.declared.operation.Op.{Op}
 use Rattle.rule_laws.specs.declared.operation.Op.TheVariants.{Add, Sub, Mul, DivSafe, Div, Max, Min}

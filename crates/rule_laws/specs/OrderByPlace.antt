@@ -4,7 +4,7 @@ use Rattle.std.specs.Prelude.{◌≡◌, ℕ, ◌<◌, ◌≤◌, Bool, Some, Al
 use Rattle.rule_laws.specs.declared.formula.Formula.{Formula}
 use Rattle.rule_laws.specs.Meaning.{Precedent, precedents}
 use Rattle.rule_laws.specs.RuleSystem.{RuleSystem, Rule, IsCell, part_of}
-use Rattle.rule_laws.specs.Order.{Throughout}
+use Rattle.rule_laws.specs.Ordered.{Throughout}
 
 -- how many positions there are, and the number of a cell at each
 pub record Positions : Type 0 where

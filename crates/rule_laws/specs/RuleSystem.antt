@@ -122,9 +122,13 @@ depth w c = w.levels * w.rank c + w.level c
 abbrev pub dense_value : RuleSystem → Stored → ℕ → Value
 dense_value w stored = table_by_rounds zero_value (right_side w stored) (λ c. depth w c + 1)
 
--- the place of the first statement from place n on that has a part for the cell
+-- among statements, the place of the first one from place n on that has a part for the cell
+abbrev pub governing_among : RuleSystem → List Rule → ℕ → ℕ → Option ℕ
+governing_among w rules c n = option_map (λ k. n + k) (position (λ rule. is_some (part_at w c rule)) (drop n rules))
+
+-- the same among all statements
 abbrev pub governing_from : RuleSystem → ℕ → ℕ → Option ℕ
-governing_from w c n = option_map (λ k. n + k) (position (λ rule. is_some (part_at w c rule)) (drop n w.rules))
+governing_from w c n = governing_among w w.rules c n
 
 -- the place of the statement that governs a cell, and of the next one after place n
 abbrev pub governing : RuleSystem → ℕ → Option ℕ
@@ -137,6 +141,10 @@ governing_after w c n = governing_from w c (suc n)
 abbrev pub value_from : RuleSystem → Stored → (ℕ → Value) → ℕ → ℕ → Value
 value_from w stored table c n = value_by w stored table c (drop n w.rules)
 
--- the formula that the statement at place n has for a cell
+-- among statements, the formula that the one at place n has for a cell
+abbrev pub formula_among : RuleSystem → List Rule → ℕ → ℕ → Option Formula
+formula_among w rules c n = option_and_then (part_at w c) (slice_get rules n)
+
+-- the same among all statements
 abbrev pub formula_at : RuleSystem → ℕ → ℕ → Option Formula
-formula_at w c n = option_and_then (part_at w c) (slice_get w.rules n)
+formula_at w c n = formula_among w w.rules c n

@@ -7,7 +7,7 @@ ghost use Rattle.rule_laws.specs.declared.reference.Reference.{Reference};
 ghost use Rattle.rule_laws.specs.Meaning.{Named, precedents, truth_precedents, each_reference};
 ghost use Rattle.rule_laws.specs.RuleSystem.{RuleSystem, Stored, IsCell, IsLeafCell, SolvesRules, dense_value};
 ghost use Rattle.rule_laws.specs.RuleSystem.{base, value_at, value_from, governing_from, formula_at, right_side};
-ghost use Rattle.rule_laws.specs.Order.{IsWellFormed, IsOrdered};
+ghost use Rattle.rule_laws.specs.Ordered.{IsWellFormed, IsOrdered};
 ghost use Rattle.rule_laws.specs.OrderByPlace.{Positions, IsOrderedByPlace, IsRankedBy};
 ghost use Rattle.rule_laws.specs.Feeding.{IsFed};
 ghost use Rattle.rule_laws.specs.Cover.{IsCovered};

@@ -5,7 +5,7 @@
 //! - `specs/RuleSystem.antt` has the equations. The statements of a cell's cube give it a value, the first that has a
 //!   part for it before the others: `STET` is what the cell would have if no statement governed it, `CONTINUE` what the
 //!   statements after this one give. Beside them stand the dense values, those of plain rounds of evaluation.
-//! - `specs/Order.antt` says when rules are ordered, `specs/OrderByPlace.antt` what the order check promises,
+//! - `specs/Ordered.antt` says when rules are ordered, `specs/OrderByPlace.antt` what the order check promises,
 //!   `specs/Feeding.antt` which cells are fed, `specs/Cover.antt` when feeders cover the rules, by the test of
 //!   `specs/ZeroTest.antt`, which also has the operand that a failing formula is blamed on.
 //! - The laws are the contracts of [`dense_values_solve`], [`only_dense_values_solve`] and [`unfed_cells_are_zero`];

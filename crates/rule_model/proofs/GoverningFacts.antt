@@ -22,7 +22,8 @@ use Rattle.rule_model.specs.BoundModel.{BoundModel, rules_of}
 use Rattle.rule_model.specs.Areas.{in_sets}
 use Rattle.rule_model.specs.Conditions.{IsSet, AreCubeRules}
 use Rattle.rule_model.specs.System.{system_of, rule_of}
-use Rattle.rule_model.specs.Governing.{governing_from, has_part, formula_at, is_open, is_input, has_stet, has_continue}
+use Rattle.rule_model.specs.Governing.{governing_from, has_part, formula_at}
+use Rattle.rule_model.specs.Input.{is_open, is_input, has_stet, has_continue}
 use Rattle.rule_model.specs.Inside.Parts.{HaveSets, part_of_kind, part_for, first_part, is_open_by}
 use Rattle.rule_model.proofs.Statements.{own_system}
 

@@ -1,14 +1,8 @@
--- Which statement governs a cell, and which leaf cells are open for input.
-use Rattle.std.specs.Prelude.{ℕ, ◌+◌, Bool, true, false, ◌&&◌, ◌||◌, Option}
-use Rattle.std.specs.Prelude.{option_map, option_and_then, is_some, List, [], ◌∷◌}
-use Rattle.std.specs.Prelude.{drop, slice_get}
-use Rattle.std.specs.List.{position}
-use Rattle.std.specs.Option.{option_map_or}
-use Rattle.cube_space.specs.Cells.{cube_of, is_leaf_cell}
+-- Which statement governs a cell.
+use Rattle.std.specs.Prelude.{ℕ, Bool, List, Option, is_some}
+use Rattle.cube_space.specs.Cells.{cube_of}
 use Rattle.rule_laws.specs.declared.formula.Formula.{Formula}
-use Rattle.rule_laws.specs.declared.formula.Formula.TheFolds.{fold-Formula}
-use Rattle.rule_laws.specs.declared.formula.Formula.TheOpen.{Formula-F, Truth-F}
-use Rattle.rule_laws.specs.RuleSystem.{Rule, part_at}
+use Rattle.rule_laws.specs.RuleSystem.{Rule, part_at, governing_among, formula_among}
 use Rattle.rule_model.specs.BoundModel.{BoundModel}
 use Rattle.rule_model.specs.System.{system_of, cube_rules}
 
@@ -23,54 +17,8 @@ has_part model cell rule = is_some (part_at (system_of model) cell rule)
 
 -- the first statement, by its place among those of the cell's cube from this place on, that has a part for the cell
 unfoldable pub governing_from : BoundModel → ℕ → ℕ → Option ℕ
-governing_from model cell place =
-    option_map (λ k. place + k) (position (has_part model cell) (drop place (rules_for model cell)))
+governing_from model cell place = governing_among (system_of model) (rules_for model cell) cell place
 
 -- the formula that the statement at a place of the cell's cube has for the cell
 abbrev pub formula_at : BoundModel → ℕ → ℕ → Option Formula
-formula_at model cell place = option_and_then (part_at (system_of model) cell) (slice_get (rules_for model cell) place)
-
--- whether STET stands in a formula, and whether CONTINUE does
-abbrev pub stet_step : Formula-F Bool Bool → Bool
-stet_step (Formula-F.Number k) = false
-stet_step Formula-F.Stet = true
-stet_step Formula-F.Continue = false
-stet_step (Formula-F.Children dim) = false
-stet_step (Formula-F.Ref r) = false
-stet_step (Formula-F.Binary op a b) = a || b
-stet_step (Formula-F.Unary function a) = a
-stet_step (Formula-F.If truth a b) = (truth || a) || b
-
-abbrev pub continue_step : Formula-F Bool Bool → Bool
-continue_step (Formula-F.Number k) = false
-continue_step Formula-F.Stet = false
-continue_step Formula-F.Continue = true
-continue_step (Formula-F.Children dim) = false
-continue_step (Formula-F.Ref r) = false
-continue_step (Formula-F.Binary op a b) = a || b
-continue_step (Formula-F.Unary function a) = a
-continue_step (Formula-F.If truth a b) = (truth || a) || b
-
-abbrev pub either_step : Truth-F Bool Bool → Bool
-either_step (Truth-F.Compare rel a b) = a || b
-either_step (Truth-F.And a b) = a || b
-either_step (Truth-F.Or a b) = a || b
-either_step (Truth-F.Not a) = a
-
-abbrev pub has_stet : Formula → Bool
-has_stet = fold-Formula Bool Bool stet_step either_step
-
-abbrev pub has_continue : Formula → Bool
-has_continue = fold-Formula Bool Bool continue_step either_step
-
--- whether a leaf cell is open for input from these statements on: none has a part for it; or the first that has one
--- contains STET, or contains CONTINUE and the cell is open from the statements after it on
-abbrev pub is_open : BoundModel → ℕ → List Rule → Bool
-is_open model cell [] = true
-is_open model cell (rule ∷ rules) =
-    option_map_or (λ f. has_stet f || (has_continue f && is_open model cell rules))
-    (part_at (system_of model) cell rule) (is_open model cell rules)
-
--- whether a number can be stored in a cell: it is a leaf cell, and open for input
-unfoldable pub is_input : BoundModel → ℕ → Bool
-is_input model cell = is_leaf_cell model.space cell && is_open model cell (rules_for model cell)
+formula_at model cell place = formula_among (system_of model) (rules_for model cell) cell place

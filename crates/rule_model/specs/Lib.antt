@@ -7,4 +7,5 @@ pub mod Order
 pub mod Conditions
 pub mod System
 pub mod Governing
+pub mod Input
 pub mod Inside

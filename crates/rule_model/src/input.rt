@@ -1,6 +1,6 @@
 ghost use Rattle.std.specs.Prelude.{◌≡◌, length};
 ghost use Rattle.cube_space.specs.Cells.{IsCell};
-ghost use Rattle.rule_model.specs.Governing.{is_input};
+ghost use Rattle.rule_model.specs.Input.{is_input};
 ghost use Rattle.rule_model.specs.Inside.Parts.{HaveSets, is_open_by};
 
 use crate::model::Model;

@@ -4,8 +4,8 @@
 //! `specs/Spelled.antt` which tokens are written.
 #![tactic(auto)]
 
+mod parts;
 mod printing;
 mod tree_printing;
-mod writing;
 
 pub use printing::print;

@@ -10,8 +10,8 @@ ghost use Rattle.rule_printer.specs.Inside.Writable.{is_quotable, is_writable, i
 ghost use Rattle.rule_printer.specs.Inside.Writable.{is_writable_body, is_writable_statement, is_writable_target};
 ghost use Rattle.rule_printer.specs.Inside.Writable.{is_writable_feeder, are_writable};
 
+use crate::parts::{write_bracket, write_dimension, write_names, write_separator, write_text};
 use crate::tree_printing::{write_tree, write_trees};
-use crate::writing::{write_bracket, write_dimension, write_names, write_separator, write_text};
 use cube_lex::{write_line_end, write_sign, write_word};
 use dim_name::Name;
 use rule_tree::{BodyText, EntryText, FeederText, RuleText, StatementText, TargetText, Tree};

@@ -7,7 +7,7 @@ ghost use Rattle.rule_printer.specs.Inside.Spine.{Spine};
 ghost use Rattle.rule_printer.specs.Spelled.{written, written_at, tree_spelled, listed_spelled};
 ghost use Rattle.rule_printer.specs.Inside.Writable.{is_writable, is_short_word};
 
-use crate::writing::{
+use crate::parts::{
     write_bracket, write_current, write_money, write_separator, write_short_word, write_text,
 };
 use cube_lex::{write_sign, write_word};

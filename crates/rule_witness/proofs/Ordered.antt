@@ -8,7 +8,7 @@ use Rattle.rule_laws.specs.declared.formula.Formula.{Formula}
 use Rattle.rule_laws.specs.declared.formula.Formula.TheVariants.{Continue, Children}
 use Rattle.rule_laws.specs.Meaning.{Precedent, Named, Components, precedents_step, truth_precedents_step, precedents}
 use Rattle.rule_laws.specs.RuleSystem.{Rule, depth}
-use Rattle.rule_laws.specs.Order.{IsCellOf, Throughout, IsOrderedRule, IsOrdered}
+use Rattle.rule_laws.specs.Ordered.{IsCellOf, Throughout, IsOrderedRule, IsOrdered}
 use Rattle.rule_laws.proofs.SystemFacts.{both}
 use Rattle.rule_laws.proofs.PrecedentFacts.{continue_reads, children_reads}
 use Rattle.rule_witness.specs.Replenishment.{replenishment, closing, opening, available, purchase, available_cells, named_cell, cube_of_cell, stock_cube, purchase_cube, to, opening_formula, purchase_formula, opening_rule, passing_rule, summing_rule, purchase_rule}

@@ -8,7 +8,7 @@ use Rattle.rule_laws.specs.declared.reference.Reference.{Reference}
 use Rattle.rule_laws.specs.declared.reference.Arg.{Arg}
 use Rattle.rule_laws.specs.declared.reference.Arg.TheVariants.{Fixed, Moved}
 use Rattle.rule_laws.specs.RuleSystem.{IsCell, IsLeafCell}
-use Rattle.rule_laws.specs.Order.{IsWellFormed}
+use Rattle.rule_laws.specs.Ordered.{IsWellFormed}
 use Rattle.rule_laws.proofs.SystemFacts.{both}
 use Rattle.rule_witness.specs.Replenishment.{replenishment, opening, reserved, available, available_cells, named_cell, cube_of_cell}
 

@@ -5,7 +5,7 @@ ghost use Rattle.std.specs.Prelude.{◌≡◌, pos, ◌*◌};
 ghost use Rattle.cube_fixed.specs.declared.value.Value.TheVariants.{Num};
 ghost use Rattle.cube_fixed.specs.Range.{unit};
 ghost use Rattle.rule_laws.specs.RuleSystem.{Stored, dense_value};
-ghost use Rattle.rule_laws.specs.Order.{IsWellFormed, IsOrdered};
+ghost use Rattle.rule_laws.specs.Ordered.{IsWellFormed, IsOrdered};
 ghost use Rattle.rule_laws.specs.Feeding.{IsFed};
 ghost use Rattle.rule_laws.specs.Cover.{IsCovered};
 ghost use Rattle.rule_witness.specs.Replenishment.{replenishment, opening, available, purchase};

@@ -22,7 +22,7 @@ use Rattle.rule_model.specs.BoundModel.{BoundModel}
 use Rattle.user_text.specs.declared.command.UserCommand.{UserCommand}
 use Rattle.run_passes.specs.declared.run_job.RunJob.{RunJob}
 use Rattle.run_passes.specs.declared.run_job.RunJob.TheVariants as jobs
-use Rattle.run_passes.specs.Run.{text_pass, deploy_pass, scripts_pass, model_pass, users_pass, records_pass, plan_pass, run_of}
+use Rattle.run_passes.specs.RefusalOrder.{text_pass, deploy_pass, scripts_pass, model_pass, users_pass, records_pass, plan_pass, run_of}
 use Rattle.run_passes.specs.Inside.Plans.{checked_of, behind_scripts, behind_rules, behind_text, served, behind_users, behind_model}
 use Rattle.run_passes.proofs.PlanWords.{one_plan}
 

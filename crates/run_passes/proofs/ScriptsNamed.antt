@@ -5,7 +5,7 @@ use Rattle.judged_files.specs.Scripts.{AreNamed}
 use Rattle.judged_files.proofs.ReadyFacts.{as-many-files, as-many-scripts}
 use Rattle.model_text.specs.Contents.{most_scripts}
 use Rattle.script_tree.specs.declared.script.Script.{Script}
-use Rattle.run_passes.specs.Run.{scripts_pass}
+use Rattle.run_passes.specs.RefusalOrder.{scripts_pass}
 
 pub scripts-named : (readings : Readings) (files names : List (List ℕ)) (trees : List Script) → (scripts_pass files).finds readings trees
     → length files ≡ length names → length names ≤ most_scripts → AreNamed names trees

@@ -4,7 +4,7 @@ ghost use Rattle.file_passes.specs.Halting.{Comes};
 ghost use Rattle.file_passes.specs.Outside.{outside};
 ghost use Rattle.model_text.specs.Contents.{most_scripts};
 ghost use Rattle.run_passes.specs.Inside.Plans.{behind_text, behind_rules};
-ghost use Rattle.run_passes.specs.Run.{text_pass, deploy_pass, scripts_pass, model_pass};
+ghost use Rattle.run_passes.specs.RefusalOrder.{text_pass, deploy_pass, scripts_pass, model_pass};
 
 use accepted::Accepted;
 use cube_outside::Files;

@@ -4,7 +4,7 @@ ghost use Rattle.file_passes.specs.Halting.{Comes};
 ghost use Rattle.file_passes.specs.Outside.{outside};
 ghost use Rattle.judged_files.specs.Users.{AreKnown};
 ghost use Rattle.run_passes.specs.Inside.Plans.{behind_model, behind_users};
-ghost use Rattle.run_passes.specs.Run.{users_pass, records_pass, plan_pass, run_of};
+ghost use Rattle.run_passes.specs.RefusalOrder.{users_pass, records_pass, plan_pass, run_of};
 
 use crate::model_passes::{Checked, model_pass};
 use crate::run_job::RunJob;

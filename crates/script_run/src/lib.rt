@@ -5,6 +5,7 @@
 //! statements do, and `script_values` what its expressions give.
 #![tactic(auto)]
 
+mod change;
 mod ending;
 mod execution_place;
 mod here;
@@ -13,7 +14,6 @@ mod ran;
 mod running;
 mod sections;
 mod statements;
-mod writing;
 
 pub use ran::Ran;
 pub use running::run;

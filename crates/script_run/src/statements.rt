@@ -4,10 +4,10 @@ ghost use Rattle.script_values.specs.declared.load_reason.LoadReason.TheVariants
 ghost use Rattle.script_run.specs.Meaning.{Ended, Begins, stopped, turns, block, choose, deed_of, case_deed};
 ghost use Rattle.script_run.specs.Inside.Executions.{begun};
 
+use crate::change::{Change, assign, change_cell, holds};
 use crate::ending::Ending;
 use crate::here::Here;
 use crate::progress::Run;
-use crate::writing::{Change, assign, change_cell, holds};
 use script_bound::{Case, Statement, Term};
 use script_values::{LoadReason, WorkCells};
 use std::alloc::{AllocError, Global};

@@ -5,7 +5,7 @@ use Rattle.std.proofs.lemmas.List.{length-map}
 use Rattle.history.specs.declared.entry.Entry.{Entry}
 use Rattle.history.specs.declared.told.Told.{Told}
 use Rattle.history.specs.declared.effect.Effect.{Effect}
-use Rattle.history.specs.History.{EachRun, IsHistoryOf}
+use Rattle.history.specs.LegalHistory.{EachRun, IsHistoryOf}
 use Rattle.history.specs.UserRun.{RunSoFar, UserRun}
 use Rattle.history.specs.Version.{NoneFrom}
 use Rattle.std.proofs.lemmas.Option.{slice_get_within}

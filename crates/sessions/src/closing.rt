@@ -1,5 +1,5 @@
 ghost use Rattle.std.specs.Prelude.{◌≡◌, ◌+◌, ◌≤◌, [], length, vec_len, vec_capacity, IfOk, IsTrue, All};
-ghost use Rattle.history.specs.History.{IsHistoryOf};
+ghost use Rattle.history.specs.LegalHistory.{IsHistoryOf};
 ghost use Rattle.history.specs.Version.{content_after};
 ghost use Rattle.version_book.specs.Passes.{IsOf, next_of, numbers_of, opening_of, seen};
 ghost use Rattle.sessions.specs.Inside.AllSessions.{AreRunning, HasAnsweredAll, commands_of};

@@ -4,7 +4,8 @@ use Rattle.std.specs.Prelude.{nat_lt}
 use Rattle.std.proofs.lemmas.List.Elements.{All-nil, All-cons}
 use Rattle.cell_reader.specs.Limits.{fed_count}
 use Rattle.cell_store.specs.declared.entry.Entry.{Entry}
-use Rattle.cell_store.specs.Entries.{after_writes, most_cells}
+use Rattle.cell_store.specs.Entries.{after_writes}
+use Rattle.cell_store.specs.StoreLimit.{most_cells}
 use Rattle.cell_writes.specs.Writes.{last_writes}
 use Rattle.cube_space.specs.Cells.{IsCell, is_leaf_cell}
 use Rattle.feed_map.specs.FedCells.{most_fed}
@@ -12,7 +13,7 @@ use Rattle.load_cells.specs.Loads.{store_of}
 use Rattle.user_text.specs.declared.load_job.LoadJob.{LoadJob}
 use Rattle.history.specs.declared.effect.Effect.TheVariants.{Commit}
 use Rattle.rule_model.specs.BoundModel.{BoundModel}
-use Rattle.rule_model.specs.Governing.{is_input}
+use Rattle.rule_model.specs.Input.{is_input}
 use Rattle.script_bind.specs.Binding.{bound_of}
 use Rattle.script_laws.proofs.Kept.{load_keeps}
 use Rattle.script_run.specs.Load.{load, ran_of, writes_of}

@@ -5,7 +5,8 @@ use Rattle.std.specs.List.{list_all}
 use Rattle.std.proofs.lemmas.List.Elements.{All-push}
 use Rattle.cell_reader.specs.Limits.{fed_count}
 use Rattle.cell_store.specs.declared.entry.Entry.{Entry}
-use Rattle.cell_store.specs.Entries.{after_writes, most_cells}
+use Rattle.cell_store.specs.Entries.{after_writes}
+use Rattle.cell_store.specs.StoreLimit.{most_cells}
 use Rattle.cube_fixed.specs.declared.value.Value.{Value}
 use Rattle.cube_fixed.specs.declared.value.Value.TheVariants.{Num, Over}
 use Rattle.cube_space.specs.Cells.{IsCell, is_leaf_cell}
@@ -14,7 +15,7 @@ use Rattle.dim_name.specs.Name.{is_name}
 use Rattle.feed_map.specs.FedCells.{most_fed}
 use Rattle.load_cells.specs.Loads.{cell_by_texts, closed, passed, store_of}
 use Rattle.rule_model.specs.BoundModel.{BoundModel}
-use Rattle.rule_model.specs.Governing.{is_input}
+use Rattle.rule_model.specs.Input.{is_input}
 use Rattle.rule_model.specs.Named.{cell_named}
 use Rattle.script_values.specs.Cells.{unless, with_cell, with_number, with_value, writing}
 use Rattle.script_values.specs.declared.load_reason.LoadReason.{LoadReason}

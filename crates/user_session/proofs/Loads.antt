@@ -13,7 +13,7 @@ use Rattle.script_tree.specs.declared.script.Section.{Section}
 use Rattle.script_values.specs.declared.load_reason.LoadReason as scripts
 use Rattle.user_text.specs.declared.command.ParamText.{ParamText}
 use Rattle.user_session.specs.Planning.{committed, ended_effect, PlanEffect}
-use Rattle.user_session.specs.Replies.{stopped_text}
+use Rattle.user_session.specs.RejectedLoad.{stopped_text}
 
 pub done-effect : (run outcome : Outcome) (ran : Ran) → run ≡ outcome → ran ≡ ran_of run → ran ≡ Done
     → ended_effect (ran_of outcome) (writes_of outcome) ≡ committed (last_writes (writes_of run))

@@ -4,7 +4,7 @@ use Rattle.std.specs.Prelude.{IsOkUnless}
 use Rattle.std.proofs.lemmas.Bool.{cases_lt, lt-ltb, le-ltb}
 use Rattle.cell_reader.specs.Limits.{fed_count}
 use Rattle.cell_store.specs.declared.entry.Entry.{Entry}
-use Rattle.cell_store.specs.Entries.{most_cells}
+use Rattle.cell_store.specs.StoreLimit.{most_cells}
 use Rattle.cell_versions.specs.declared.fault.NextFault.{NextFault}
 use Rattle.cell_versions.specs.declared.fault.NextFault.TheVariants as faults
 use Rattle.feed_map.specs.FedCells.{most_fed}

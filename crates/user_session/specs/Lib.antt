@@ -1,3 +1,4 @@
 pub mod Content
 pub mod Replies
+pub mod RejectedLoad
 pub mod Planning

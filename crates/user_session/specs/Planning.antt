@@ -7,7 +7,8 @@ use Rattle.cube_fixed.specs.declared.value.Value.{Value}
 use Rattle.cube_fixed.specs.Arithmetic.{zero_value}
 use Rattle.cell_reader.specs.Limits.{fed_count}
 use Rattle.cell_store.specs.declared.entry.Entry.{Entry}
-use Rattle.cell_store.specs.Entries.{after_writes, most_cells}
+use Rattle.cell_store.specs.Entries.{after_writes}
+use Rattle.cell_store.specs.StoreLimit.{most_cells}
 use Rattle.cell_writes.specs.Writes.{last_writes}
 use Rattle.cube_space.specs.Cells.{is_leaf_cell, size_of}
 use Rattle.feed_map.specs.FedCells.{most_fed}
@@ -17,7 +18,7 @@ use Rattle.load_cells.specs.Loads.{store_of}
 use Rattle.user_text.specs.declared.load_job.LoadJob.{LoadJob}
 use Rattle.rule_laws.specs.RuleSystem.{dense_value}
 use Rattle.rule_model.specs.BoundModel.{BoundModel}
-use Rattle.rule_model.specs.Governing.{is_input}
+use Rattle.rule_model.specs.Input.{is_input}
 use Rattle.rule_model.specs.Named.{cell_named}
 use Rattle.rule_model.specs.System.{system_of}
 use Rattle.script_bind.specs.Binding.{bound_of}
@@ -27,7 +28,8 @@ use Rattle.script_run.specs.declared.ran.Ran.TheVariants.{Done, Rejected as Stop
 use Rattle.script_tree.specs.declared.script.Script.{Script}
 use Rattle.stored_laws.specs.Stored.{stored_in}
 use Rattle.user_session.specs.declared.content.Content.{Content}
-use Rattle.user_session.specs.Replies.{fault_text, reply_text, stopped_text}
+use Rattle.user_session.specs.Replies.{fault_text, reply_text}
+use Rattle.user_session.specs.RejectedLoad.{stopped_text}
 use Rattle.user_session.specs.declared.command.PlanCommand.{PlanCommand}
 use Rattle.user_session.specs.declared.command.PlanCommand.TheVariants.{Put, Get, Load, View}
 use Rattle.user_session.specs.declared.reply.CommandReason.{CommandReason}

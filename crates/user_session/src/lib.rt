@@ -8,11 +8,11 @@
 
 mod command;
 mod content;
-mod getting;
-mod loading;
-mod putting;
+mod get_command;
+mod load_command;
+mod put_command;
 mod reply;
-mod viewing;
+mod view_command;
 mod world;
 
 pub use command::PlanCommand;

@@ -2,11 +2,11 @@ ghost use Rattle.std.specs.Prelude.{◌≡◌, IfOk, IsOkUnless, Ok};
 
 use crate::command::PlanCommand;
 use crate::content::Content;
-use crate::getting::get;
-use crate::loading::load;
-use crate::putting::put;
+use crate::get_command::get;
+use crate::load_command::load;
+use crate::put_command::put;
 use crate::reply::ReplyText;
-use crate::viewing::view;
+use crate::view_command::view;
 use cell_reader::{NextFault, Snapshot};
 use cube_fixed::{Money, Value};
 use history::{Effect, World};

@@ -8,7 +8,7 @@ use Rattle.std.proofs.lemmas.Bool.Decides.{nat_tests}
 use Rattle.history.specs.declared.entry.Entry.{Entry}
 use Rattle.history.specs.declared.effect.Effect.{Effect}
 use Rattle.history.specs.Version.{version}
-use Rattle.history.specs.History.{HasUsers, EachRunSoFar}
+use Rattle.history.specs.LegalHistory.{HasUsers, EachRunSoFar}
 use Rattle.std.proofs.lemmas.Option.{slice_get_within}
 use Rattle.history.proofs.Runs.{none_in_nothing, version-append}
 use Rattle.history.proofs.Histories.{runs_legal}

@@ -3,7 +3,7 @@ use Rattle.std.specs.Prelude.{ℕ, ◌≡◌, ◌≤◌, List, Some, slice_get, 
 use Rattle.history.specs.declared.entry.Entry.{Entry}
 use Rattle.history.specs.declared.effect.Effect.{Effect}
 use Rattle.history.specs.Version.{version}
-use Rattle.history.specs.History.{IsLegal, EachRunSoFar}
+use Rattle.history.specs.LegalHistory.{IsLegal, EachRunSoFar}
 use Rattle.version_core.specs.CoreState.{CoreState, KeptValue, commands_of, told_of}
 
 -- the value is the cell's on its version

@@ -3,7 +3,8 @@ use Rattle.std.specs.Prelude.{◌≡◌, ◌≤◌, ◌+◌, ℕ, ℤ, List, len
 use Rattle.std.specs.Arc.{arc_value}
 use Rattle.std.specs.declared.alloc.Global.{Global}
 use Rattle.std.specs.declared.sync.Arc.{Arc}
-use Rattle.cell_store.specs.Entries.{after_writes, most_cells}
+use Rattle.cell_store.specs.Entries.{after_writes}
+use Rattle.cell_store.specs.StoreLimit.{most_cells}
 use Rattle.cell_store.specs.declared.entry.Entry.{Entry}
 use Rattle.cell_values.specs.Reading.{AreValuesOn}
 use Rattle.cell_versions.specs.Versions.{AreLeafWrites, NumberedVersion}

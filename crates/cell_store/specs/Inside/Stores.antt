@@ -1,7 +1,8 @@
 -- The tree of a store.
 use Rattle.std.specs.Prelude.{◌≡◌, ℕ, ◌≤◌, length}
 use Rattle.cell_store.specs.declared.entry.Entry.{Entry}
-use Rattle.cell_store.specs.Entries.{IsStore, most_cells}
+use Rattle.cell_store.specs.Entries.{IsStore}
+use Rattle.cell_store.specs.StoreLimit.{most_cells}
 use Rattle.cell_store.specs.Inside.Entries.{cell_of}
 use Rattle.cell_store.specs.Inside.Trees.{Tree, all_entries, IsTree}
 

@@ -1,7 +1,7 @@
 -- What a version of an accepted model says of itself.
 use Rattle.std.specs.Prelude.{◌≤◌, length}
 use Rattle.accepted.specs.Checks.{IsAccepted}
-use Rattle.cell_store.specs.Entries.{most_cells}
+use Rattle.cell_store.specs.StoreLimit.{most_cells}
 use Rattle.cell_versions.specs.Versions.{NumberedVersion}
 use Rattle.cube_space.specs.Cells.{IsSpace}
 use Rattle.feed_map.specs.FedCells.{AreFedCells, most_fed}

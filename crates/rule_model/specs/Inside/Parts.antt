@@ -10,7 +10,7 @@ use Rattle.rule_laws.specs.declared.formula.Formula.TheFolds.{fold-Truth}
 use Rattle.rule_laws.specs.declared.formula.Truth.{Truth}
 use Rattle.rule_model.specs.declared.rules.Statement.{Statement}
 use Rattle.rule_model.specs.Areas.{in_sets}
-use Rattle.rule_model.specs.Governing.{has_stet, has_continue, stet_step, continue_step, either_step}
+use Rattle.rule_model.specs.Input.{has_stet, has_continue, stet_step, continue_step, either_step}
 
 -- there is a set for each of so many dimensions, and those that list elements rise
 pub record AreSets (dimensions : ℕ) (sets : List (Option (List ℕ))) : Type 0 where

@@ -8,7 +8,7 @@ use Rattle.user_session.specs.declared.command.PlanCommand.{PlanCommand}
 use Rattle.user_text.specs.declared.command.UserCommand.{UserCommand}
 use Rattle.run_passes.specs.declared.run_job.RunJob.{RunJob}
 use Rattle.run_passes.specs.declared.run_job.RunJob.TheVariants as jobs
-use Rattle.run_passes.specs.Run.{deploy_pass, scripts_pass, users_pass, records_pass}
+use Rattle.run_passes.specs.RefusalOrder.{deploy_pass, scripts_pass, users_pass, records_pass}
 use Rattle.judged_files.specs.Scripts.{Checked, script_files}
 
 -- ---- of a model

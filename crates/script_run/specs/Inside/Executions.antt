@@ -4,8 +4,8 @@ use Rattle.script_bound.specs.declared.term.Term.{Term}
 use Rattle.script_bound.specs.declared.statement.Case.{Case}
 use Rattle.script_bound.specs.declared.statement.Case.TheOpen.{Statement-F}
 use Rattle.script_bound.specs.declared.statement.Statement.{Statement, out-Statement}
-use Rattle.script_run.specs.declared.writing.Change.{Change}
-use Rattle.script_run.specs.declared.writing.Change.TheVariants.{Put, Add}
+use Rattle.script_run.specs.declared.change.Change.{Change}
+use Rattle.script_run.specs.declared.change.Change.TheVariants.{Put, Add}
 use Rattle.script_run.specs.Setting.{Setting, Progress}
 use Rattle.script_run.specs.Meaning.{Deed, Begun, Begins, begin, place_of, put, increment}
 

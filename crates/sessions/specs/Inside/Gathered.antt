@@ -4,7 +4,7 @@ use Rattle.std.specs.declared.snapshot.Snapshot.{Snapshot}
 use Rattle.history.specs.declared.entry.Entry.{Entry}
 use Rattle.history.specs.declared.told.Told.{Told}
 use Rattle.history.specs.declared.effect.Effect.{Effect}
-use Rattle.history.specs.History.{EachRun}
+use Rattle.history.specs.LegalHistory.{EachRun}
 use Rattle.history.specs.Version.{NoneFrom}
 use Rattle.version_book.specs.declared.pass_view.PassView.{PassView}
 use Rattle.version_book.specs.declared.book.BookOf.{BookOf}

@@ -6,7 +6,7 @@ use Rattle.history.specs.declared.effect.Effect.{Effect}
 use Rattle.history.specs.declared.effect.Effect.TheVariants.{Commit}
 use Rattle.history.specs.Version.{version, NoneFrom}
 use Rattle.history.specs.UserRun.{RunSoFar}
-use Rattle.history.specs.History.{HasUsers}
+use Rattle.history.specs.LegalHistory.{HasUsers}
 use Rattle.version_core.specs.declared.user.Tried.{Tried}
 use Rattle.version_core.specs.CoreState.{CoreState, UserState, KeptValue, next_command}
 use Rattle.version_core.specs.OneHistory.{IsKeptSound}

@@ -1,5 +1,5 @@
 use Rattle.std.proofs.Common.{◌≤◌, ℕ, List, length, subst, sym, arith}
-use Rattle.cell_store.specs.Entries.{most_cells}
+use Rattle.cell_store.specs.StoreLimit.{most_cells}
 use Rattle.cell_store.specs.declared.entry.Entry.{Entry}
 use Rattle.cube_space.specs.Cells.{IsSpace}
 use Rattle.feed_map.specs.FedCells.{most_fed}

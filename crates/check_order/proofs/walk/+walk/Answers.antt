@@ -1,7 +1,7 @@
 use Rattle.std.proofs.Common.{rules, ◌≡◌, refl, ◌++◌, sym, ap, ◌∙◌}
 use Rattle.rule_laws.specs.declared.formula.Formula.TheViews.{the_lemmas}
 use Rattle.rule_laws.specs.Meaning.{precedents, truth_precedents}
-use Rattle.order_laws.specs.Decision.{is_earlier}
+use Rattle.order_laws.specs.Earlier.{is_earlier}
 use Rattle.rule_laws.proofs.PrecedentFacts.{binary_reads, if_reads, compare_reads, and_reads, or_reads}
 use Rattle.check_order.proofs.Walks.{first, second, both}
 use Rattle.check_order.proofs.walk.+walk.Goals as goal

@@ -1,5 +1,5 @@
 use Rattle.std.proofs.Common.{rules, ◌≡◌, ◌++◌, ◌∷◌, []}
-use Rattle.history.specs.History.{IsHistoryOf}
+use Rattle.history.specs.LegalHistory.{IsHistoryOf}
 use Rattle.user_session.specs.Content.{after, opening}
 use Rattle.user_session.specs.Planning.{effect}
 use Rattle.cube_server.specs.Inside.Ending.{joined}

@@ -2,7 +2,7 @@ use Rattle.std.proofs.Common.{rules, ◌≡◌, ◌∙◌, sym, ap, true, false,
 use Rattle.std.proofs.lemmas.Bool.{eq-eqb}
 use Rattle.cube_space.specs.Layout.{axes}
 use Rattle.cover_laws.specs.Looking.{all_named}
-use Rattle.cover_laws.specs.Decision.{look_below, are_sources, all_reach, feeds_all}
+use Rattle.cover_laws.specs.Covered.{look_below, are_sources, all_reach, feeds_all}
 use Rattle.feed_cover.proofs.Covers.{look-leaves, all-hold, none-holds}
 use Rattle.feed_cover.proofs.covered.feeds_all.Goals as goal
 

@@ -1,6 +1,6 @@
 use Rattle.std.proofs.Common.{◌≡◌, false, take}
 use Rattle.std.specs.List.{list_any}
-use Rattle.cover_laws.specs.Decision.{feeds_all}
+use Rattle.cover_laws.specs.Covered.{feeds_all}
 use Rattle.feed_cover.proofs.covered.feeds_from.Given as goal
 
 abbrev pub invariant-each : goal.invariant-each

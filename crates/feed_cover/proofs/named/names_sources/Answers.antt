@@ -4,7 +4,7 @@ use Rattle.cube_space.specs.Layout.{axes, sizes}
 use Rattle.rule_laws.specs.declared.reference.Arg.TheVariants.{Fixed}
 use Rattle.ref_order.proofs.Args.{args-long}
 use Rattle.ref_order.proofs.Sums.{sets-long, set-found}
-use Rattle.cover_laws.specs.Decision.{are_sources}
+use Rattle.cover_laws.specs.Covered.{are_sources}
 use Rattle.feed_cover.specs.Views.{look_of}
 use Rattle.feed_cover.proofs.Sources.{all-sources, no-list}
 use Rattle.feed_cover.proofs.Kept.{all-named}

@@ -5,7 +5,7 @@ use Rattle.cube_space.specs.Layout.{axes, sizes}
 use Rattle.rule_laws.specs.declared.reference.Arg.TheVariants.{Fixed, Moved}
 use Rattle.ref_order.proofs.Args.{args-long}
 use Rattle.cover_laws.specs.Looking.{sent}
-use Rattle.cover_laws.specs.Decision.{reaches_from, reaches}
+use Rattle.cover_laws.specs.Covered.{reaches_from, reaches}
 use Rattle.feed_cover.specs.Views.{look_of}
 use Rattle.feed_cover.proofs.Ways.{move-at, fixed-at, some-arg}
 use Rattle.feed_cover.proofs.reach.reaches.Goals as goal

@@ -5,7 +5,7 @@ use Rattle.cube_space.specs.Layout.{axes}
 use Rattle.rule_laws.specs.Maps.{identity}
 use Rattle.ref_order.proofs.Axes.{size-of-axis}
 use Rattle.cover_laws.specs.Looking.{sent, each_narrow}
-use Rattle.cover_laws.specs.Decision.{counts_in, each_sent}
+use Rattle.cover_laws.specs.Covered.{counts_in, each_sent}
 use Rattle.feed_cover.specs.Views.{look_of}
 use Rattle.feed_cover.proofs.Kept.{kept-reaches}
 use Rattle.feed_cover.proofs.reach.reaches_back.Goals as goal

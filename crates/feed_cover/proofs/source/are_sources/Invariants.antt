@@ -1,7 +1,7 @@
 use Rattle.std.proofs.Common.{◌≡◌, true, take}
 use Rattle.std.specs.List.{list_any, list_all}
 use Rattle.cube_space.specs.Layout.{axes}
-use Rattle.cover_laws.specs.Decision.{counts_in}
+use Rattle.cover_laws.specs.Covered.{counts_in}
 use Rattle.feed_cover.proofs.source.are_sources.Given as goal
 
 abbrev pub invariant-each : goal.invariant-each

@@ -1,7 +1,7 @@
 use Rattle.std.proofs.Common.{◌≡◌, false, take}
 use Rattle.std.specs.List.{list_any}
 use Rattle.cube_space.specs.Layout.{axes}
-use Rattle.cover_laws.specs.Decision.{counts_in}
+use Rattle.cover_laws.specs.Covered.{counts_in}
 use Rattle.feed_cover.proofs.source.is_source.Given as goal
 
 abbrev pub invariant-each : goal.invariant-each

@@ -3,7 +3,7 @@ use Rattle.std.specs.Prelude.{slice_index_or}
 use Rattle.std.proofs.Common.{ℕ, ◌≤◌}
 use Rattle.cube_space.specs.Layout.{sizes, axes}
 use Rattle.order_laws.specs.Greatest.{greatest}
-use Rattle.order_laws.specs.Decision.{excess, set_count, greatest_in}
+use Rattle.order_laws.specs.Earlier.{excess, set_count, greatest_in}
 use Rattle.ref_order.specs.Reads.{precedent_of, test_of}
 use Rattle.ref_order.proofs.Sums.{sets-long, set-found, element-below}
 use Rattle.ref_order.proofs.most.greatest_by.Goals as goal

@@ -2,7 +2,7 @@ use Rattle.std.proofs.Common.{rules, arith, ◌≡◌, inr, true, false, ◌+◌
 use Rattle.std.specs.Prelude.{if◌then◌else◌}
 use Rattle.cube_fixed.specs.Arithmetic.{zero_value}
 use Rattle.rule_laws.specs.declared.formula.Formula.TheVariants.{If}
-use Rattle.rule_model.specs.Governing.{has_continue}
+use Rattle.rule_model.specs.Input.{has_continue}
 use Rattle.rule_evaluate.specs.Inside.Scene.{sources_at, course_from, value_from, entered_from, entered_after, IsReady, IsEnd}
 use Rattle.rule_evaluate.proofs.FormulaWeights.{weight, weight_if}
 use Rattle.rule_evaluate.proofs.SceneFacts.{cost_from, cost-some, value-none, value-some, entered-none, entered-some, passes-none, passes-some}

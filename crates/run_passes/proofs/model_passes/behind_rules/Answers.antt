@@ -7,7 +7,7 @@ use Rattle.file_passes.specs.Outside.{outside}
 use Rattle.file_passes.proofs.Coming.{comes-stopped, comes-mapped}
 use Rattle.file_passes.proofs.Going.{on-later}
 use Rattle.judged_files.specs.Scripts.{Checked}
-use Rattle.run_passes.specs.Run.{scripts_pass}
+use Rattle.run_passes.specs.RefusalOrder.{scripts_pass}
 use Rattle.run_passes.specs.Inside.Plans.{checked_of, behind_scripts, behind_rules}
 use Rattle.run_passes.proofs.ScriptsNamed.{scripts-named}
 use Rattle.run_passes.proofs.model_passes.behind_rules.Goals as goal

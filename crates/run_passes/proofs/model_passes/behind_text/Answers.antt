@@ -8,7 +8,7 @@ use Rattle.file_passes.proofs.Coming.{comes-stopped, comes-behind}
 use Rattle.file_passes.proofs.Going.{on-refl}
 use Rattle.judged_files.specs.Scripts.{script_files}
 use Rattle.model_text.specs.Contents.{script_names, most_scripts}
-use Rattle.run_passes.specs.Run.{deploy_pass}
+use Rattle.run_passes.specs.RefusalOrder.{deploy_pass}
 use Rattle.run_passes.specs.Inside.Plans.{behind_text, behind_rules}
 use Rattle.run_passes.proofs.PlanFacts.{steady-deploy}
 use Rattle.run_passes.proofs.model_passes.behind_text.Goals as goal

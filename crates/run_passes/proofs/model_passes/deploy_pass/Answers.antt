@@ -2,7 +2,7 @@ use Rattle.std.proofs.Common.{◌≡◌, ◌∙◌, ap, subst, Err}
 use Rattle.judged_files.specs.Rules.{rule_names, deployment_judgement}
 use Rattle.file_passes.specs.Outside.{outside}
 use Rattle.file_passes.specs.Pass.{files, judged}
-use Rattle.run_passes.specs.Run.{deploy_pass}
+use Rattle.run_passes.specs.RefusalOrder.{deploy_pass}
 use Rattle.cube_words.specs.Words.{texts_of}
 use Rattle.file_passes.specs.Halting.{ComesThrough, Judges}
 use Rattle.file_passes.specs.Reading.{Goes}

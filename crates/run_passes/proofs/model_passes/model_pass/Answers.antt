@@ -1,6 +1,6 @@
 use Rattle.file_passes.specs.Outside.{outside}
 use Rattle.file_passes.proofs.Coming.{comes-stopped, comes-behind}
-use Rattle.run_passes.specs.Run.{text_pass}
+use Rattle.run_passes.specs.RefusalOrder.{text_pass}
 use Rattle.run_passes.specs.Inside.Plans.{behind_text}
 use Rattle.run_passes.proofs.PlanFacts.{steady-text}
 use Rattle.run_passes.proofs.model_passes.model_pass.Goals as goal

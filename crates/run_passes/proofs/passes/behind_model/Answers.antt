@@ -4,7 +4,7 @@ use Rattle.file_passes.specs.Halting.{Comes}
 use Rattle.file_passes.specs.Outside.{outside}
 use Rattle.file_passes.proofs.Coming.{comes-stopped, comes-behind}
 use Rattle.judged_files.proofs.ReadyFacts.{known-users}
-use Rattle.run_passes.specs.Run.{users_pass}
+use Rattle.run_passes.specs.RefusalOrder.{users_pass}
 use Rattle.run_passes.specs.Inside.Plans.{behind_users}
 use Rattle.run_passes.proofs.PlanFacts.{steady-users}
 use Rattle.run_passes.proofs.passes.behind_model.Goals as goal

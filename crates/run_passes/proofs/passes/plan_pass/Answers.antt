@@ -1,7 +1,7 @@
 use Rattle.std.proofs.Common.{refl}
 use Rattle.file_passes.proofs.Going.{on-refl}
 use Rattle.cube_words.specs.Words.{Sample}
-use Rattle.run_passes.specs.Run.{plan_pass}
+use Rattle.run_passes.specs.RefusalOrder.{plan_pass}
 use Rattle.run_passes.proofs.passes.plan_pass.Goals as goal
 
 pub returns-in-Run : goal.returns-in-Run

@@ -8,7 +8,7 @@ use Rattle.file_passes.proofs.Coming.{comes-stopped, comes-judged}
 use Rattle.file_passes.proofs.Going.{on-refl, on-later}
 use Rattle.judged_files.specs.Loads.{AreReady, record_files, commands_judgement}
 use Rattle.judged_files.proofs.ReadyFacts.{all-ready}
-use Rattle.run_passes.specs.Run.{records_pass}
+use Rattle.run_passes.specs.RefusalOrder.{records_pass}
 use Rattle.run_passes.proofs.passes.records_pass.Goals as goal
 
 pub commands_of-requires : goal.commands_of-requires

@@ -1,7 +1,7 @@
 use Rattle.cube_words.specs.Words.{texts_of}
 use Rattle.file_passes.specs.Outside.{outside}
 use Rattle.file_passes.proofs.Coming.{comes-stopped, comes-behind}
-use Rattle.run_passes.specs.Run.{model_pass}
+use Rattle.run_passes.specs.RefusalOrder.{model_pass}
 use Rattle.run_passes.specs.Inside.Plans.{behind_model}
 use Rattle.run_passes.proofs.PlanFacts.{kept-model}
 use Rattle.run_passes.proofs.passes.run_pass.Goals as goal

@@ -1,7 +1,7 @@
 use Rattle.std.proofs.Common.{refl, inl}
 use Rattle.cube_words.specs.Words.{asked, texts_of}
 use Rattle.file_passes.proofs.Going.{on-refl}
-use Rattle.run_passes.specs.Run.{run_of}
+use Rattle.run_passes.specs.RefusalOrder.{run_of}
 use Rattle.run_passes.proofs.PlanFacts.{run-planned}
 use Rattle.run_passes.proofs.passes.run_passes.Goals as goal
 

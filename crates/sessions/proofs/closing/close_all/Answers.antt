@@ -1,5 +1,5 @@
 use Rattle.std.proofs.Common.{sym, subst}
-use Rattle.history.specs.History.{IsHistoryOf}
+use Rattle.history.specs.LegalHistory.{IsHistoryOf}
 use Rattle.version_book.specs.Passes.{numbers_of, opening_of, seen}
 use Rattle.sessions.specs.Inside.AllSessions.{commands_of}
 use Rattle.sessions.proofs.Gathered.{gathered_all}

@@ -2,7 +2,8 @@ use Rattle.std.proofs.Common.{rules, ◌≡◌, ◌∙◌, ap, arith, ◌-◌, �
 use Rattle.std.specs.Prelude.{IsOkUnless}
 use Rattle.std.specs.Arc.{arc_value}
 use Rattle.std.proofs.lemmas.List.{take_rest}
-use Rattle.cell_store.specs.Entries.{after_writes, most_cells}
+use Rattle.cell_store.specs.Entries.{after_writes}
+use Rattle.cell_store.specs.StoreLimit.{most_cells}
 use Rattle.cell_versions.specs.declared.fault.NextFault.TheVariants.{Memory}
 use Rattle.cell_reader.proofs.RoomFacts.{each_one_more}
 use Rattle.cell_reader.proofs.work.Work.settle.Goals as goal

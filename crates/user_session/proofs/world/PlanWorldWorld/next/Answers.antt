@@ -2,7 +2,8 @@ use Rattle.std.proofs.Common.{[], subst, sym, ◌≤◌, List, ℕ, ℤ, length}
 use Rattle.cell_reader.specs.Limits.{fed_count}
 use Rattle.cell_reader.specs.Snapshots.{version_of}
 use Rattle.cell_store.specs.declared.entry.Entry.{Entry}
-use Rattle.cell_store.specs.Entries.{after_writes, most_cells}
+use Rattle.cell_store.specs.Entries.{after_writes}
+use Rattle.cell_store.specs.StoreLimit.{most_cells}
 use Rattle.cube_space.specs.Cells.{IsSpace}
 use Rattle.feed_map.specs.FedCells.{most_fed}
 use Rattle.rule_model.specs.BoundModel.{BoundModel}

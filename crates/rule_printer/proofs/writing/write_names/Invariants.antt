@@ -1,7 +1,0 @@
-use Rattle.std.proofs.Common.{take}
-use Rattle.cube_lex.specs.Written.{Spaces}
-use Rattle.rule_printer.specs.Spelled.{listed_spelled, name_spelled}
-use Rattle.rule_printer.proofs.writing.write_names.Given as goal
-
-abbrev pub invariant-loop-index : goal.invariant-loop-index
-invariant-loop-index l = Spaces l.fn.out.items l.out.items (listed_spelled name_spelled (take l.index l.names))

@@ -1,0 +1,70 @@
+-- The passes of a run, in order: the first that refuses gives the refusal.
+use Rattle.std.specs.Prelude.{ℕ, List}
+use Rattle.cube_words.specs.Words.{Plan, Run, Check, Sample, IsPlan}
+use Rattle.file_passes.specs.Pass.{Pass, NotWords, found, the, file, files, judged, ◌>>=◌}
+use Rattle.model_text.specs.Contents.{Contents, script_names}
+use Rattle.rule_model.specs.BoundModel.{BoundModel}
+use Rattle.script_tree.specs.declared.script.Script.{Script}
+use Rattle.user_session.specs.declared.command.PlanCommand.{PlanCommand}
+use Rattle.user_text.specs.declared.command.UserCommand.{UserCommand}
+use Rattle.run_passes.specs.declared.run_job.RunJob.{RunJob}
+use Rattle.run_passes.specs.declared.run_job.RunJob.TheVariants as jobs
+use Rattle.judged_files.specs.Models.{text_judgement}
+use Rattle.judged_files.specs.Rules.{rule_names, deployment_judgement}
+use Rattle.judged_files.specs.Scripts.{Scripts, Checked, script_files, scripts_judgement}
+use Rattle.judged_files.specs.Users.{users_judgement}
+use Rattle.judged_files.specs.Loads.{record_files, commands_judgement}
+
+-- the model file is read, and is a model text
+abbrev pub text_pass : List ℕ → Pass Contents
+text_pass name = do
+  source ← file name
+  judged (text_judgement source)
+
+-- the files of the cubes' rules are read, and with them the model is deployed
+abbrev pub deploy_pass : List ℕ → Contents → Pass BoundModel
+deploy_pass name contents = do
+  sources ← files (rule_names contents.cubes)
+  judged (deployment_judgement name contents sources)
+
+-- all script files are read, and are scripts
+abbrev pub scripts_pass : List (List ℕ) → Pass (List Script)
+scripts_pass names = do
+  sources ← files names
+  judged (scripts_judgement sources)
+
+-- the model with all that belongs to it
+abbrev pub model_pass : List ℕ → Pass Checked
+model_pass name = do
+  contents ← text_pass name
+  bound ← deploy_pass name contents
+  trees ← scripts_pass (script_files contents.scripts)
+  found (record { model = bound; scripts = record { names = script_names contents.scripts; trees = trees } })
+
+-- all user files are read, and are users' texts, in which each load is one of a script of these names
+abbrev pub users_pass : List (List ℕ) → List (List ℕ) → Pass (List (List UserCommand))
+users_pass scripts names = do
+  sources ← files names
+  judged (users_judgement scripts sources)
+
+-- the files of all records are read, and with them the commands are run
+abbrev pub records_pass : Scripts → List (List UserCommand) → Pass (List (List PlanCommand))
+records_pass scripts users = do
+  sources ← files (record_files users)
+  judged (commands_judgement scripts sources users)
+
+-- the passes of each plan
+abbrev pub plan_pass : Plan → Pass RunJob
+plan_pass (Run model users) = do
+  checked ← model_pass model
+  texts ← users_pass checked.scripts.names users
+  commands ← records_pass checked.scripts texts
+  found (jobs.Serve checked.model commands)
+plan_pass (Check model) = do
+  checked ← model_pass model
+  found (jobs.Check checked.model)
+plan_pass (Sample size) = found (jobs.Sample size)
+
+-- the words are in the grammar, and then their plan is carried out
+abbrev pub run_of : List (List ℕ) → Pass RunJob
+run_of words = the (IsPlan words) NotWords >>= plan_pass
