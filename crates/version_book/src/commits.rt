@@ -1,16 +1,22 @@
-ghost use Rattle.std.specs.Prelude.{◌≡◌, ℕ, ◌+◌, [], ◌∷◌, None, length, IfOk, OnErr};
+ghost use Rattle.std.specs.Prelude.{◌≡◌, ◌+◌, [], length, IfOk, OnErr};
 ghost use Rattle.history.specs.Version.{content_after};
 ghost use Rattle.version_book.specs.Lists.{GoesOn};
 ghost use Rattle.version_book.specs.Passes.{IsAt, IsOf, IsSame, looks, number_of, numbers_of, opening_of, seen};
 ghost use Rattle.version_book.specs.Commits.{IsTryOf, Settles, SettlesAt};
 ghost use Rattle.version_book.specs.Inside.Plays.{Stays};
-ghost use Rattle.version_book.specs.declared.pass_view.Stage.TheVariants.{Looked, Away};
+ghost use Rattle.version_book.specs.declared.pass_view.Stage.TheVariants.{Looked};
 
 use crate::book::{Book, Pass, PassSeat, Settled, Tried, TriedOf};
-use crate::ledger::Ledger;
 use history::{Effect, Entry, World};
 use std::alloc::{AllocError, Global};
 use std::sync::Wait;
+
+// Who commits: the number of the pass, and that of its command.
+#[derive(Clone, Copy)]
+struct Committer {
+    user: u32,
+    number: u32,
+}
 
 impl<W: World> Book<W> {
     /// Commits the command of this number, which was tried and accepted. Where no other commit came after the try, the
@@ -36,7 +42,10 @@ impl<W: World> Book<W> {
     {
         self.take_turn(rt, &mut pass.place);
         let count = self.look(&mut pass.place);
-        let by = (pass.number, number);
+        let by = Committer {
+            user: pass.number,
+            number,
+        };
         let settled = self.settle(alloc, &mut pass.place, count, by, command, tried);
         self.free_turn(&mut pass.place);
         settled
@@ -48,7 +57,7 @@ impl<W: World> Book<W> {
         alloc: Global,
         place: &mut PassSeat<W>,
         count: u64,
-        by: (u32, u32),
+        by: Committer,
         command: &W::Command,
         tried: Tried<W>,
     ) -> Result<Settled<W::Reply>, AllocError>
@@ -56,7 +65,7 @@ impl<W: World> Book<W> {
         requires looked { place.old.me.0.stage ≡ Looked }
         requires hand { place.old.me.1 ≡ [] }
         requires count { count ≡ length place.old.me.0.seen }
-        requires user { by.0 ≡ place.old.me.0.number }
+        requires user { by.user ≡ place.old.me.0.number }
         requires tried { count ≡ tried.place → tried.effect
             ≡ W.effect (content_after W.after (W.content (opening_of self.now)) place.old.me.0.seen) command.now }
         ensures at { IsAt self.now place.new }
@@ -64,52 +73,15 @@ impl<W: World> Book<W> {
         ensures hand { place.new.me.1 ≡ [] }
         ensures stays { Stays place.old.me.0 place.new.me.0 }
         ensures settled { IfOk result (λ settled. SettlesAt W.effect W.after (W.content (opening_of self.now))
-            place.old.me.0.seen place.new.me.0.seen by.0 by.1 command.now settled) }
+            place.old.me.0.seen place.new.me.0.seen by.user by.number command.now settled) }
         ensures err { OnErr result (place.new.me.0.seen ≡ place.old.me.0.seen) }
     {
         let mut ledger = self.take_ledger(place);
-        let found = if count == tried.place {
-            let TriedOf { place: _, effect } = tried;
-            Ok(effect)
-        } else {
-            W::attempt(alloc, &mut ledger.state, command)
-        };
-        let Ok(effect) = found else {
+        let Ok(effect) = effect_now::<W>(alloc, &mut ledger.state, count, command, tried) else {
             self.put_ledger(place, ledger);
             return Err(AllocError);
         };
-        self.enter(alloc, place, ledger, (count, by.0, by.1), command, effect)
-    }
-
-    // Puts the ledger back, with an entry of the accepted command. All memory is taken before the entry is counted.
-    fn enter(
-        &self,
-        alloc: Global,
-        place: &mut PassSeat<W>,
-        mut ledger: Ledger<W>,
-        by: (u64, u32, u32),
-        command: &W::Command,
-        effect: Effect<W::Writes, W::Reply>,
-    ) -> Result<Settled<W::Reply>, AllocError>
-        requires at { IsAt self.now place.old }
-        requires away { place.old.me.0.stage ≡ Away }
-        requires hand { place.old.me.1 ≡ (0, None) ∷ [] }
-        requires history { ledger.history.items ≡ place.old.me.0.seen }
-        requires opening { ledger.opening.value ≡ opening_of self.now }
-        requires count { by.0 ≡ length place.old.me.0.seen }
-        requires user { by.1 ≡ place.old.me.0.number }
-        requires effect { effect
-            ≡ W.effect (content_after W.after (W.content (opening_of self.now)) place.old.me.0.seen) command.now }
-        ensures at { IsAt self.now place.new }
-        ensures looked { place.new.me.0.stage ≡ Looked }
-        ensures hand { place.new.me.1 ≡ [] }
-        ensures stays { Stays place.old.me.0 place.new.me.0 }
-        ensures settled { IfOk result (λ settled. SettlesAt W.effect W.after (W.content (opening_of self.now))
-            place.old.me.0.seen place.new.me.0.seen by.1 by.2 command.now settled) }
-        ensures err { OnErr result (place.new.me.0.seen ≡ place.old.me.0.seen) }
-    {
-        let _ = command;
-        let (count, user, number) = by;
+        // All memory is taken before the entry is counted.
         match effect {
             Effect::Commit(writes, reply) => {
                 let Ok(state) = ledger.prepare(alloc, &writes) else {
@@ -117,8 +89,8 @@ impl<W: World> Book<W> {
                     return Err(AllocError);
                 };
                 let entry = Entry {
-                    user,
-                    command: number,
+                    user: by.user,
+                    command: by.number,
                     writes,
                 };
                 self.put_grown(place, ledger, entry, state);
@@ -130,6 +102,26 @@ impl<W: World> Book<W> {
             }
         }
     }
+}
+
+// What the command does on the newest state, whose version has the number `count`. Where that is the version of the
+// try, no command runs.
+fn effect_now<W: World>(
+    alloc: Global,
+    state: &mut W::State,
+    count: u64,
+    command: &W::Command,
+    tried: Tried<W>,
+) -> Result<Effect<W::Writes, W::Reply>, AllocError>
+    requires tried { count ≡ tried.place → tried.effect ≡ W.effect (W.content state.old) command.now }
+    ensures effect { IfOk result (λ effect. effect ≡ W.effect (W.content state.old) command.now) }
+    ensures content { W.content state.new ≡ W.content state.old }
+{
+    if count == tried.place {
+        let TriedOf { place: _, effect } = tried;
+        return Ok(effect);
+    }
+    W::attempt(alloc, state, command)
 }
 
 fn settled_at<R>(place: u64, accepted: bool, reply: R) -> Settled<R>
