@@ -12,10 +12,14 @@ use Rattle.cube_words.specs.declared.plan.Plan.TheVariants as plans
 abbrev pub texts_of : List (String Global) → List (List ℕ)
 texts_of words = map string_bytes words
 
+-- the byte of `-`
+abbrev pub minus : ℕ
+minus = 45
+
 -- a word that names a file isn't empty and doesn't begin with `-`
 abbrev pub names_a_file : List ℕ → Bool
 names_a_file [] = false
-names_a_file (c ∷ _) = not (c == 45)
+names_a_file (c ∷ _) = not (c == minus)
 
 -- the most users of one run, the most records of a sample, and the most digits of their number
 abbrev pub most_users : ℕ

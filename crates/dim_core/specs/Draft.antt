@@ -8,7 +8,7 @@ use Rattle.dim_name.specs.Name.{has_name, is_same_name, place_of}
 use Rattle.dim_core.specs.declared.attribute.Attribute.{Attribute}
 use Rattle.dim_core.specs.declared.attribute.NamedAttribute.{NamedAttribute}
 use Rattle.dim_core.specs.Outline.{Element, Outline, names_of, component_lists, component_count}
-use Rattle.dim_core.specs.Outline.{most_elements, most_components, greatest_weight}
+use Rattle.dim_core.specs.Outline.{most_elements, most_components, most_weight}
 
 -- the dimension's name, its elements in the order of their definitions, whose components are named as they were
 -- written, and the attributes in the order of their calls
@@ -37,7 +37,7 @@ is_defined draft name = has_name (names_of draft.elements) name
 
 -- whether each weight is at most a million in size
 abbrev pub has_weights : List (List ℕ × ℤ) → Bool
-has_weights components = list_all (λ part. nat_le (unsigned_abs part.1) greatest_weight) components
+has_weights components = list_all (λ part. nat_le (unsigned_abs part.1) most_weight) components
 
 -- whether one more element with this many components would be one too many, or its components too many
 abbrev pub is_too_many : List (Element (List ℕ)) → ℕ → Bool

@@ -15,8 +15,8 @@ most_elements = 100000
 abbrev pub most_components : ℕ
 most_components = 1000000
 
-abbrev pub greatest_weight : ℕ
-greatest_weight = 1000000
+abbrev pub most_weight : ℕ
+most_weight = 1000000
 
 -- an element: its name as it was written, and its components, each with its weight
 pub record Element (Component : Type 0) : Type 0 where
@@ -87,7 +87,7 @@ is_same_attribute a b = is_attribute a.element a.name b
 
 -- a weight is at most a million in size
 abbrev pub IsWeight : ℤ → Type 0
-IsWeight weight = unsigned_abs weight ≤ greatest_weight
+IsWeight weight = unsigned_abs weight ≤ most_weight
 
 -- what holds of every dimension: it is within the limits, no two elements have the same name, each component is an
 -- element of it, with a weight in range, and there is an order of the elements in which components come first; each

@@ -3,7 +3,7 @@ ghost use Rattle.std.specs.List.Sorted.{IsPermutation};
 ghost use Rattle.dim_core.specs.Outline.{IsWeight};
 ghost use Rattle.dim_weights.specs.Coefficients.{weighted_sum};
 ghost use Rattle.dim_weights.specs.Inside.Rows.{most_merged_weight};
-ghost use Rattle.dim_core.specs.Outline.{most_components, greatest_weight};
+ghost use Rattle.dim_core.specs.Outline.{most_components, most_weight};
 
 use std::alloc::{AllocError, Global};
 
@@ -43,7 +43,7 @@ fn add_part(made: &mut Vec<(u32, i64)>, part: u32, weight: i64) -> Result<(), Al
     ensures within { OnOk result ((n : ℕ) → All (λ p. p.0 < n) made.old.items → part < n
         → All (λ p. p.0 < n) made.new.items) }
     ensures small { OnOk result ((m : ℕ) → All (λ p. unsigned_abs p.1 ≤ m) made.old.items
-        → All (λ p. unsigned_abs p.1 ≤ m + greatest_weight) made.new.items) }
+        → All (λ p. unsigned_abs p.1 ≤ m + most_weight) made.new.items) }
     ensures few { OnOk result (length made.new.items ≤ length made.old.items + 1) }
 {
     let count = made.len();

@@ -4,11 +4,11 @@ use Rattle.std.specs.List.{list_all}
 use Rattle.clap.specs.Simple.{on_top}
 use Rattle.clap.specs.Words.{App, Rule, new_app, new_rule, with_rule}
 use Rattle.clap.specs.declared.builder.action.ArgAction.TheVariants.{SetTrue}
-use Rattle.cube_words.specs.Words.{most_users, names_a_file}
+use Rattle.cube_words.specs.Words.{minus, most_users, names_a_file}
 
 -- the word begins with `--` and goes on
 abbrev pub goes_on : List ℕ → Bool
-goes_on (a ∷ b ∷ _ ∷ _) = (a == 45) && (b == 45)
+goes_on (a ∷ b ∷ _ ∷ _) = (a == minus) && (b == minus)
 goes_on _ = false
 
 abbrev pub is_spelled : List ℕ → Bool
