@@ -5,7 +5,7 @@ use crate::rounding::{MILLIONTHS_PER_UNIT, fitted, nearest_signed};
 use crate::value::Value;
 
 /// `a / b`, to the nearest millionth, halves away from zero. `a / 0` is `Over` for every `a`, 0 included.
-#[tactic(auto, unfolding(crate::specs::Arithmetic::quotient_of))]
+#[tactic(auto, unfolding(crate::specs::Division::quotient_of))]
 pub fn div(a: Value, b: Value) -> Value
     ensures { result ≡ quotient_of a b }
 {
@@ -21,7 +21,7 @@ pub fn div(a: Value, b: Value) -> Value
 }
 
 /// `a \ b`: as [`div`], but 0 where `a` or `b` is 0, whatever the other one is.
-#[tactic(auto, unfolding(crate::specs::Arithmetic::safe_quotient_of))]
+#[tactic(auto, unfolding(crate::specs::Division::safe_quotient_of))]
 pub fn div_safe(a: Value, b: Value) -> Value
     ensures { result ≡ safe_quotient_of a b }
 {

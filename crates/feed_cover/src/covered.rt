@@ -15,7 +15,7 @@ use rule_laws::Reference;
 use rule_model::{Area, Feeder, Model};
 
 // Whether from no leaf cell of the area the reference names a consolidated cell of an area of its cube.
-#[tactic(auto, unfolding(cover_laws::specs::Decision::names_no_total))]
+#[tactic(auto, unfolding(cover_laws::specs::Covered::names_no_total))]
 fn names_no_total<'a>(
     model: &'a Model,
     cube: u32,
@@ -40,7 +40,7 @@ fn names_no_total<'a>(
 }
 
 // Whether the reference names no consolidated cell that a statement governs.
-#[tactic(auto, unfolding(cover_laws::specs::Decision::names_no_governed))]
+#[tactic(auto, unfolding(cover_laws::specs::Covered::names_no_governed))]
 fn names_no_governed<'a>(
     model: &'a Model,
     cube: u32,
@@ -67,7 +67,7 @@ fn names_no_governed<'a>(
 
 // Whether a feeder of a cube feeds the leaf cells of the area from each leaf cell at or below what the reference names,
 // where there is such a cell.
-#[tactic(auto, unfolding(cover_laws::specs::Decision::feeds_all))]
+#[tactic(auto, unfolding(cover_laws::specs::Covered::feeds_all))]
 fn feeds_all<'a>(model: &'a Model, view: ReferenceView<'a>, own: u32, feeder: &'a Feeder) -> bool
     requires view { IsView model.now view }
     requires counted { view.counted ≡ Leaves }
@@ -99,7 +99,7 @@ fn feeds_from<'a>(model: &'a Model, view: ReferenceView<'a>, own: u32) -> bool
 }
 
 // Whether some feeder of the model covers the reference.
-#[tactic(auto, unfolding(cover_laws::specs::Decision::has_cover))]
+#[tactic(auto, unfolding(cover_laws::specs::Covered::has_cover))]
 fn has_cover<'a>(model: &'a Model, cube: u32, area: &'a Area, reference: &'a Reference) -> bool
     requires cube { cube < length model.now.space.cubes }
     requires area { IsArea model.now.space cube area.now }
@@ -136,7 +136,7 @@ fn has_feeder(model: &Model) -> bool
 /// Whether feeders cover a reference of a statement of a cube with this area: it names no consolidated cell that a
 /// statement governs, and one feeder feeds each leaf cell of the area from each leaf cell at or below the one that it
 /// names from there. Where there is no such cell, any feeder of the model does.
-#[tactic(auto, unfolding(cover_laws::specs::Decision::is_covered))]
+#[tactic(auto, unfolding(cover_laws::specs::Covered::is_covered))]
 pub fn is_covered<'a>(model: &'a Model, cube: u32, area: &'a Area, reference: &'a Reference) -> bool
     requires cube { cube < length model.now.space.cubes }
     requires area { IsArea model.now.space cube area.now }

@@ -11,7 +11,7 @@ use crate::scale::MAX_POSITIONS;
 use rule_model::{Area, Model};
 
 /// Whether what is read stands before each cell of this kind in an area of a cube, `true` for leaf cells.
-#[tactic(auto, unfolding(order_laws::specs::Decision::is_earlier))]
+#[tactic(auto, unfolding(order_laws::specs::Earlier::is_earlier))]
 pub fn is_earlier(model: &Model, cube: u32, area: &Area, kind: bool, read: Read) -> bool
     requires cube { cube < length model.now.space.cubes }
     requires area { IsArea model.now.space cube area.now }

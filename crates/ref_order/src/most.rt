@@ -190,7 +190,7 @@ fn total_sum(
 }
 
 /// The most that a cell that is read has more than its cell, over the cells of an area of this kind.
-#[tactic(auto, unfolding(order_laws::specs::Decision::most_excess))]
+#[tactic(auto, unfolding(order_laws::specs::Earlier::most_excess))]
 pub fn most_excess(
     model: &Model,
     cube: u32,

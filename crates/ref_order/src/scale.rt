@@ -32,7 +32,7 @@ pub fn axis_count(model: &Model, cube: u32) -> usize
 }
 
 /// What a cell has at a position, or as its level, whatever its elements are.
-#[tactic(auto, unfolding(order_laws::specs::Decision::scale_of))]
+#[tactic(auto, unfolding(order_laws::specs::Earlier::scale_of))]
 pub fn base(model: &Model, cube: u32, place: u32) -> u32
     requires { cube < length model.now.space.cubes }
     ensures { result ≡ (scale_of model.now cube place).base }
@@ -45,7 +45,7 @@ pub fn base(model: &Model, cube: u32, place: u32) -> u32
 }
 
 /// What an element adds to it.
-#[tactic(auto, unfolding(order_laws::specs::Decision::scale_of))]
+#[tactic(auto, unfolding(order_laws::specs::Earlier::scale_of))]
 pub fn worth(model: &Model, cube: u32, place: u32, dim: usize, element: u32) -> u32
     requires cube { cube < length model.now.space.cubes }
     requires dim { dim < length (axes model.now.space cube) }
