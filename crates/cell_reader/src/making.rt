@@ -76,7 +76,7 @@ impl Snapshot {
     fn of(alloc: Global, version: Version) -> Result<Snapshot, AllocError>
         ensures { IfOk result (λ snapshot. version_of snapshot ≡ version) }
     {
-        let memo = memory_for(alloc, &version)?;
+        let memo = memory_for(alloc, &version, SLOTS)?;
         let version = Arc::new(alloc, version)?;
         Ok(Snapshot { version, memo })
     }
@@ -120,8 +120,13 @@ impl Snapshot {
     }
 }
 
-/// A memory for the values on a version. None is kept yet.
-pub(crate) fn memory_for(alloc: Global, version: &Version) -> Result<SharedMemo, AllocError>
+/// A memory of so many slots for the values on a version. None is kept yet.
+pub(crate) fn memory_for(
+    alloc: Global,
+    version: &Version,
+    slots: u32,
+) -> Result<SharedMemo, AllocError>
+    requires { 0 < slots }
     ensures { IfOk result (λ memo. AreValuesOn version.now (cell_value (version_kept memo))) }
 {
     let memo = SharedMemo::new(
@@ -129,7 +134,7 @@ pub(crate) fn memory_for(alloc: Global, version: &Version) -> Result<SharedMemo,
         version.model(),
         version.store(),
         version.number(),
-        SLOTS,
+        slots,
     )?;
     Ok(memo)
 }

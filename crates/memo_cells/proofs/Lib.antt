@@ -2,3 +2,4 @@ mod Words
 mod Keeps
 mod Growth
 mod Tells
+mod Held

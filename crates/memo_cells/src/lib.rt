@@ -17,6 +17,7 @@
 pub use answers::{Kept, Look};
 pub use memo::Memo;
 pub use memory::Memory;
+pub use own::MAX_OWN;
 pub use seat::MemoSeat;
 pub use shared::SharedMemo;
 pub use version::Version;
@@ -26,6 +27,7 @@ mod coding;
 mod looks;
 mod memo;
 mod memory;
+mod own;
 mod plays;
 mod seat;
 mod seats;
