@@ -6,7 +6,7 @@ use Rattle.std.proofs.lemmas.Bool.{ne_eqb, cases_lt}
 use Rattle.dim_core.specs.Outline.{Outline, index_of}
 use Rattle.dim_core.proofs.Naming.{called_within}
 use Rattle.bind_areas.specs.Areas.{elements_called}
-use Rattle.rising_lists.proofs.Rising.{among, rises, kept_rises, rising_same, among_kept, past_kept, among_dedup, among_moved}
+use Rattle.lists.proofs.Rising.{among, rises, kept_rises, rising_same, among_kept, past_kept, among_dedup, among_moved}
 
 -- no number past the elements is called
 none_called : (d : Outline) (names : List (List ℕ)) (n : ℕ) → length d.elements ≤ n → among n (filter_map (index_of d) names) ≡ false

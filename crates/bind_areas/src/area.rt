@@ -7,8 +7,7 @@ ghost use Rattle.bind_areas.specs.Areas.{elements_called, set_at, sets_at, area_
 
 use crate::cause::BindCause;
 use crate::entry::{entry_for, entry_places};
-use cube_axes::{axis, axis_count};
-use cube_space::Space;
+use cube_space::{Space, axis, axis_count};
 use dim_core::Dimension;
 use dim_name::Name;
 use lists::ListOf;

@@ -6,8 +6,7 @@ ghost use Rattle.bind_areas.specs.Areas.{element_put, arg_at, args_at, bracket_o
 
 use crate::cause::BindCause;
 use crate::entry::{entry_for, simple_places};
-use cube_axes::{axis, axis_count};
-use cube_space::Space;
+use cube_space::{Space, axis, axis_count};
 use dim_core::Dimension;
 use lists::ListOf;
 use rule_laws::{Arg, ElementMap, Reference};

@@ -6,8 +6,7 @@ ghost use Rattle.bind_areas.specs.Meaning.{Answers};
 ghost use Rattle.bind_areas.specs.Areas.{is_called, has_all, owns, places_where, place_of, free_place, placed, alone};
 
 use crate::cause::BindCause;
-use cube_axes::{axis, axis_count};
-use cube_space::Space;
+use cube_space::{Space, axis, axis_count};
 use dim_core::Dimension;
 use dim_name::Name;
 use lists::ListOf;

@@ -11,7 +11,7 @@ use Rattle.dim_core.proofs.Naming.{called_within}
 use Rattle.dim_core.proofs.Naming.{place_at}
 use Rattle.cube_space.specs.Cells.{IsSpace}
 use Rattle.cube_space.specs.Layout.{Layout, axes_of, dims_of, sizes, sizes_of}
-use Rattle.cube_space.proofs.Axes.{sizes-by_counts, length-axes_of, element-count}
+use Rattle.cube_space.proofs.AxisSizes.{sizes-by_counts, length-axes_of, element-count}
 use Rattle.dim_core.specs.Outline.{Outline, IsDimension, index_of, names_of}
 use Rattle.rule_laws.specs.Maps.{identity, nowhere}
 use Rattle.rule_laws.specs.declared.reference.Arg.{Arg}

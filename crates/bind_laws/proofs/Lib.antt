@@ -4,3 +4,4 @@ mod CubeFacts
 mod ReferenceFacts
 mod FormulaFacts
 mod RuleFacts
+pub mod Lengths

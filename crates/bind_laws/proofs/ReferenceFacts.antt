@@ -9,7 +9,7 @@ use Rattle.dim_name.specs.Name.{is_same_name, place_of}
 use Rattle.dim_core.specs.Outline.{Outline}
 use Rattle.cube_space.specs.Layout.{Layout, axes, axes_of, dims_of, sizes, sizes_of, cube_names}
 use Rattle.cube_space.specs.Cells.{IsSpace}
-use Rattle.cube_space.proofs.Axes.{axes_of-cons, All-rest}
+use Rattle.cube_space.proofs.AxisSizes.{axes_of-cons, All-rest}
 use Rattle.rule_laws.specs.declared.reference.Arg.{Arg}
 use Rattle.rule_laws.specs.declared.reference.Reference.{Reference}
 use Rattle.rule_model.specs.Conditions.{IsArg, IsReference}

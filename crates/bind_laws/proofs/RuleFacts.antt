@@ -26,7 +26,7 @@ use Rattle.rule_bind.specs.declared.fault.BindAt.{BindAt}
 use Rattle.rule_bind.specs.declared.fault.BindAt.TheVariants as places
 use Rattle.rule_bind.specs.declared.standing.Standing.TheVariants as standings
 use Rattle.rule_bind.specs.Rules.{part_of, consolidated_of, Parts, parts_of, form_of, statement_of, target_of, feeders_to, feeders_of, standing_at, statements_of, all_feeders_of, rules_of}
-use Rattle.rule_sizes.specs.Countable.{IsCountable, AreCountable}
+use Rattle.bind_laws.specs.Countable.{IsCountable, AreCountable}
 use Rattle.bind_laws.proofs.Got.{got, answer}
 use Rattle.bind_laws.proofs.AreaFacts.{area_valid, bracket_valid}
 use Rattle.bind_laws.proofs.ReferenceFacts.{db_valid}

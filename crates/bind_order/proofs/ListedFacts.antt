@@ -9,7 +9,7 @@ use Rattle.dim_core.specs.Outline.{Outline, IsDimension, index_of}
 use Rattle.cube_space.specs.Cells.{is_leaf}
 use Rattle.rule_model.specs.Conditions.{greatest_rank}
 use Rattle.dim_core.proofs.Naming.{called_within}
-use Rattle.bind_order.specs.Orders.{greatest_written, is_named, listed_rank, listed_ranks, index_rank, index_ranks, may_list, entry_element, are_listed, are_writable}
+use Rattle.bind_order.specs.Orders.{most_written, is_named, listed_rank, listed_ranks, index_rank, index_ranks, may_list, entry_element, are_listed, are_writable}
 use Rattle.bind_order.specs.Inside.Given.{AreWithin}
 
 -- the rank that a list gives an element, by the list of all
@@ -135,10 +135,10 @@ index_within d dim k x low =
 small_found : (list : List (List ℕ × ℕ)) (test : List ℕ × ℕ → Bool) → are_writable list ≡ true → IfSome (option_map (λ entry. entry.1) (find test list)) (λ r. r ≤ greatest_rank)
 small_found [] test all = tt
 small_found (entry ∷ list) test all =
-    let both = and_parts (nat_le entry.1 greatest_written) (are_writable list) all in
-    by (leb-true entry.1 greatest_written both.0) (test entry) (small_found list test both.1)
+    let both = and_parts (nat_le entry.1 most_written) (are_writable list) all in
+    by (leb-true entry.1 most_written both.0) (test entry) (small_found list test both.1)
   where
-    by : entry.1 ≤ greatest_written → (b : Bool) → IfSome (option_map (λ entry. entry.1) (find test list)) (λ r. r ≤ greatest_rank)
+    by : entry.1 ≤ most_written → (b : Bool) → IfSome (option_map (λ entry. entry.1) (find test list)) (λ r. r ≤ greatest_rank)
         → IfSome (option_map (λ (e : List ℕ × ℕ). e.1) (cond b (Some entry) (find test list))) (λ r. r ≤ greatest_rank)
     by low true later = omega (arith, low)
     by low false later = later

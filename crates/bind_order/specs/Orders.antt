@@ -8,7 +8,7 @@ use Rattle.dim_core.specs.Outline.{Outline, index_of}
 use Rattle.dim_weights.specs.Table.{leaves_of}
 use Rattle.cube_space.specs.Layout.{Layout, axes}
 use Rattle.cube_space.specs.Cells.{is_leaf}
-use Rattle.cube_axes.specs.Axes.{axis_called}
+use Rattle.cube_space.specs.Axes.{axis_called}
 use Rattle.model_text.specs.declared.order.OrderLine.{OrderLine}
 use Rattle.model_text.specs.declared.order.OrderWord.{OrderWord}
 use Rattle.model_text.specs.declared.order.OrderWord.TheVariants as words
@@ -20,8 +20,8 @@ use Rattle.bind_order.specs.declared.fault.BindOrderFault.{BindOrderFault}
 use Rattle.bind_order.specs.declared.fault.BindOrderFault.TheVariants.{BadOrder, Memory}
 
 -- the greatest number that an order line may write, as a constant or as the rank of an element
-abbrev pub greatest_written : ℕ
-greatest_written = 65535
+abbrev pub most_written : ℕ
+most_written = 65535
 
 -- all of these, or None where one isn't there
 abbrev pub all_of : {A : Type 0} → List (Option A) → Option (List A)
@@ -94,7 +94,7 @@ are_listed dimension version before (entry ∷ entries) =
 
 -- whether no entry has a rank that is too great to be written
 abbrev pub are_writable : List (List ℕ × ℕ) → Bool
-are_writable list = list_all (λ entry. nat_le entry.1 greatest_written) list
+are_writable list = list_all (λ entry. nat_le entry.1 most_written) list
 
 -- the ranks of a dimension by a list
 unfoldable pub list_ranks : ℕ → List (List ℕ × ℕ) → Outline → Option (List ℕ)
@@ -118,7 +118,7 @@ list_position dimensions version list place = option_and_then (position_by dimen
 -- the position that a word of an order line stands for; None where it is bad
 abbrev pub position_of : Layout → ℕ → ℕ → OrderWord → Option Position
 position_of space cube version (words.Constant number) =
-    if nat_le number greatest_written then Some (positions.Constant number) else None
+    if nat_le number most_written then Some (positions.Constant number) else None
 position_of space cube version (words.Index name) =
     index_position (axes space cube) (axis_called (axes space cube) name)
 position_of space cube version (words.Ranks name list) =

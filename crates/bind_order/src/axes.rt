@@ -4,8 +4,7 @@ ghost use Rattle.dim_weights.specs.Table.{IsWeightsOf};
 ghost use Rattle.rule_model.specs.Weights.{AreWeightsOf};
 ghost use Rattle.cube_space.specs.Layout.{axes};
 
-use cube_axes::axis_number;
-use cube_space::Space;
+use cube_space::{Space, axis_number};
 use dim_weights::Weights;
 
 /// The coefficients of the dimension of a cube at a place.

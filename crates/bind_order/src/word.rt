@@ -4,14 +4,13 @@ ghost use Rattle.cube_space.specs.Layout.{axes};
 ghost use Rattle.rule_model.specs.Conditions.{AreRanks, IsPosition};
 ghost use Rattle.rule_model.specs.Weights.{AreWeightsOf};
 ghost use Rattle.rule_model.specs.declared.order.Position.TheVariants.{Ranks};
-ghost use Rattle.cube_axes.specs.Axes.{axis_called};
+ghost use Rattle.cube_space.specs.Axes.{axis_called};
 ghost use Rattle.bind_order.specs.Orders.{position_of, index_position, list_position, list_ranks};
 
 use crate::axes::axis_weights;
 use crate::listed::{MAX_WRITTEN, are_writable, index_ranks, listed_ranks};
 use crate::ranks::ranks_of;
-use cube_axes::{axis, axis_called};
-use cube_space::Space;
+use cube_space::{Space, axis, axis_called};
 use dim_core::Dimension;
 use dim_name::Name;
 use dim_weights::Weights;

@@ -7,11 +7,11 @@ use Rattle.fed_laws.specs.FedCells.{fed_cells}
 use Rattle.fed_laws.proofs.Reached.{fed_list, list_fed, list_rises}
 use Rattle.feed_map.specs.FedCells.{AreFedCells, HasFewFed, HasManyFed, most_fed}
 use Rattle.model_laws.proofs.Formed.{well_formed}
-use Rattle.rising_lists.proofs.Members.{same_members}
+use Rattle.lists.proofs.Members.{same_members}
 use Rattle.rule_model.specs.BoundModel.{BoundModel}
 use Rattle.rule_model.specs.Conditions.{AreRules}
 use Rattle.rule_model.specs.System.{system_of}
-use Rattle.stored_values.specs.Stored.{stored_in}
+use Rattle.stored_laws.specs.Stored.{stored_in}
 use Rattle.cell_reader.specs.Limits.{fed_count}
 
 pub few_fed : (m : BoundModel) (es : List Entry) → IsSpace m.space → AreRules m.space m.rules → fed_count m es ≤ most_fed → HasFewFed m es

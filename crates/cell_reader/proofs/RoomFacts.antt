@@ -13,15 +13,15 @@ use Rattle.fed_laws.proofs.Reached.{fed_list, list_fed, list_rises}
 use Rattle.fed_laws.specs.FedCells.{cells, fed_cells, is_reached}
 use Rattle.feed_map.proofs.Members.{list-of-some, some-unmapped}
 use Rattle.model_laws.proofs.Formed.{well_formed}
-use Rattle.rising_lists.proofs.Members.{same_members}
-use Rattle.rising_lists.proofs.Rising.{among}
+use Rattle.lists.proofs.Members.{same_members}
+use Rattle.lists.proofs.Rising.{among}
 use Rattle.rule_laws.specs.Feeding.{Feeds, FeedsBy, IsFed, Leads}
 use Rattle.rule_laws.specs.Order.{IsWellFormed}
 use Rattle.rule_laws.specs.RuleSystem.{Feed, RuleSystem, Stored}
 use Rattle.rule_model.specs.BoundModel.{BoundModel, rules_of}
 use Rattle.rule_model.specs.Conditions.{AreRules}
 use Rattle.rule_model.specs.System.{cube_feeds, cubes_of, feed_of, system_of}
-use Rattle.stored_values.specs.Stored.{stored_in}
+use Rattle.stored_laws.specs.Stored.{stored_in}
 use Rattle.cell_reader.specs.Limits.{fed_count}
 
 -- ---- the stored cells

@@ -5,8 +5,8 @@ ghost use Rattle.memo_cells.specs.Knowledge.{Grew, Knows};
 ghost use Rattle.cell_reader.specs.Snapshots.{held_in, known_in, version_of};
 
 use crate::snapshot::Snapshot;
+use cell_source::Cells;
 use cell_values::value_of;
-use cells::Cells;
 use cube_fixed::{Steps, Value};
 use std::alloc::{AllocError, Global};
 use std::marker::Brand;

@@ -3,7 +3,7 @@ ghost use Rattle.cell_versions.specs.Versions.{AreLeafWrites};
 ghost use Rattle.cube_space.specs.Cells.{IsCell};
 ghost use Rattle.rule_laws.specs.RuleSystem.{dense_value};
 ghost use Rattle.rule_model.specs.System.{system_of};
-ghost use Rattle.stored_values.specs.Stored.{stored_in};
+ghost use Rattle.stored_laws.specs.Stored.{stored_in};
 ghost use Rattle.cell_reader.specs.Snapshots.{known_in, memory_of, version_of};
 ghost use Rattle.cell_reader.specs.Works.{opening_of, stored_after, writes_of};
 ghost use Rattle.cell_writes.specs.Writes.{last_writes};

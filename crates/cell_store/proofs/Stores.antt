@@ -41,6 +41,6 @@ IsStore-after_writes es ws store = record {
 }
 
 -- the last writes give the same entries as all
-pub after-last_writes : (es last : List Entry) (ws : List (ℕ × ℤ)) → IsStore es → ((k : ℕ) → last_at cell_of last k ≡ last_at cell_of (map entry_of ws) k) → after_entries cell_of is_zero es last ≡ after_writes es ws
-after-last_writes es last ws store same =
+pub after-last_entries : (es last : List Entry) (ws : List (ℕ × ℤ)) → IsStore es → ((k : ℕ) → last_at cell_of last k ≡ last_at cell_of (map entry_of ws) k) → after_entries cell_of is_zero es last ≡ after_writes es ws
+after-last_entries es last ws store same =
     after-last cell_of is_zero es last (map entry_of ws) (Rises-from_increasing (cells_of es) store.rising) same ∙ sym (after_writes-entries es ws)

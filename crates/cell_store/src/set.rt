@@ -5,7 +5,7 @@ ghost use Rattle.cell_store.specs.Cells.{IsUnion};
 use crate::cells::CellSet;
 use crate::part::Part;
 use crate::tree::{Tree, changed};
-use crate::writes::last_writes;
+use crate::writes::last_entries;
 use std::alloc::{AllocError, Global};
 use std::marker::Model;
 
@@ -50,7 +50,7 @@ impl PageSet {
     pub fn with(&self, alloc: Global, cells: &[u64]) -> Result<PageSet, AllocError>
         ensures { IfOk result (λ union. IsUnion self.now cells.now union) }
     {
-        let cells = last_writes(alloc, cells)?;
+        let cells = last_entries(alloc, cells)?;
         let tree = changed(alloc, &self.tree, &cells)?;
         let len = tree.count()?;
         Ok(PageSet { tree, len })

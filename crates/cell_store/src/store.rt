@@ -8,7 +8,7 @@ use crate::entry::Entry;
 use crate::fault::StoreFault;
 use crate::part::Part;
 use crate::tree::{Tree, changed};
-use crate::writes::last_writes;
+use crate::writes::last_entries;
 use cube_fixed::Money;
 use std::alloc::{AllocError, Global};
 use std::marker::Model;
@@ -100,7 +100,7 @@ impl Store {
         ensures sized { IfOk result (λ tree. IsTree cell_of tree) }
     {
         let entries = entries_of_writes(alloc, writes)?;
-        let last = last_writes(alloc, &entries)?;
+        let last = last_entries(alloc, &entries)?;
         let tree = changed(alloc, &self.tree, &last)?;
         Ok(tree)
     }

@@ -11,7 +11,7 @@ use std::alloc::{AllocError, Global};
 pub type Tree<E> = Level<Level<Level<Level<Level<Page<E>>>>>>;
 
 /// The most writes that are made at once. More would make parts that are long to split.
-const MOST_AT_ONCE: usize = 256;
+const MAX_AT_ONCE: usize = 256;
 
 /// A part with these writes, which come in the order of their cells. What has no write is shared.
 pub fn changed<E: Stored, T: Part<E>>(
@@ -26,10 +26,10 @@ pub fn changed<E: Stored, T: Part<E>>(
         after_entries E.cell E.is_gone (T.entries part.now) writes.now) }
     ensures sized { IfOk result (λ after. T.is_sized after) }
 {
-    let (first, mut rest) = writes.split_at(writes.len().min(MOST_AT_ONCE));
+    let (first, mut rest) = writes.split_at(writes.len().min(MAX_AT_ONCE));
     let mut after = changed_once(alloc, part, first)?;
     while !rest.is_empty() {
-        let (next, later) = rest.split_at(rest.len().min(MOST_AT_ONCE));
+        let (next, later) = rest.split_at(rest.len().min(MAX_AT_ONCE));
         after = changed_once(alloc, &after, next)?;
         rest = later;
     }

@@ -7,7 +7,7 @@ use crate::places::count_below;
 use std::alloc::{AllocError, Global};
 
 /// The last write of each cell, in the order of the cells.
-pub fn last_writes<E: Stored>(alloc: Global, writes: &[E]) -> Result<Vec<E>, AllocError>
+pub fn last_entries<E: Stored>(alloc: Global, writes: &[E]) -> Result<Vec<E>, AllocError>
     ensures rising { IfOk result (λ last. IsRising E.cell last.items) }
     ensures last { IfOk result (λ last. HaveSameLast E.cell last.items writes.now) }
 {

@@ -31,7 +31,7 @@ use Rattle.rule_model.specs.Conditions.{AreRules}
 use Rattle.rule_model.specs.Governing.{rules_for}
 use Rattle.rule_model.specs.System.{system_of}
 use Rattle.rule_model.specs.Targets.{parts_at, with_components, component_cells}
-use Rattle.stored_values.specs.Stored.{stored_in}
+use Rattle.stored_laws.specs.Stored.{stored_in}
 use Rattle.cell_values.specs.Reading.{value_on}
 use Rattle.cell_values.specs.Inside.Questions.{answer_on, base_on, children_on, asks_on, depth_on, components_on, is_grounded}
 use Rattle.cell_values.specs.Inside.Frames.{AreRight}

@@ -20,12 +20,12 @@ use Rattle.memo_cells.specs.Knowledge.{IsNumber}
 use Rattle.rule_evaluate.specs.declared.ask.Ask.TheVariants.{Value as of_value, Base as of_base, Children as of_children}
 use Rattle.rule_model.specs.Governing.{governing_from}
 use Rattle.rule_model.specs.Targets.{parts_at, with_components, with_element_at}
-use Rattle.rule_model.specs.Weights.{max_weight_product}
+use Rattle.rule_model.specs.Weights.{most_weight_product}
 use Rattle.sparse_sum.specs.Live.{live_below}
 use Rattle.sparse_sum.specs.Walking.{Progress, begun, left}
 use Rattle.sparse_sum.proofs.Placed.{word-is}
-use Rattle.stored_values.specs.Stored.{stored_in}
-use Rattle.stored_values.proofs.Stored.{stored-number}
+use Rattle.stored_laws.specs.Stored.{stored_in}
+use Rattle.stored_laws.proofs.Stored.{stored-number}
 use Rattle.cell_values.specs.declared.frames.LeafSum.{LeafSum}
 use Rattle.cell_values.specs.declared.frames.ComponentSum.{ComponentSum}
 use Rattle.cell_values.specs.Reading.{value_on}
@@ -210,6 +210,6 @@ module _ (v : NumberedVersion) (begun s : ComponentSum) (space : Layout) (parts 
       pub stop-some : IsCell space x → Stops v begun.sum (components_left v begun) s.sum (to_z w64 word) rest x
       stop-some is_cell = record {
         is_cell = subst (λ (l : Layout). IsCell l x) on is_cell;
-        size = subst (λ (z : ℤ). unsigned_abs z ≤ max_weight_product) (sym weight) (omega (arith, small));
+        size = subst (λ (z : ℤ). unsigned_abs z ≤ most_weight_product) (sym weight) (omega (arith, small));
         advances = advances-same v begun.sum (components_left v begun) s.sum s.sum (components_left v s) ((x, to_z w64 word) ∷ rest) so_far next refl;
       }

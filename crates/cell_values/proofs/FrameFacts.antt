@@ -11,7 +11,7 @@ use Rattle.rule_evaluate.specs.declared.ask.Ask.{Ask}
 use Rattle.rule_evaluate.specs.declared.ask.Ask.TheVariants.{Value as of_value}
 use Rattle.rule_evaluate.specs.Known.{Known}
 use Rattle.rule_model.specs.Governing.{governing_from}
-use Rattle.rule_model.specs.Weights.{max_weight_product}
+use Rattle.rule_model.specs.Weights.{most_weight_product}
 use Rattle.sparse_sum.specs.Live.{live_from}
 use Rattle.cell_values.specs.declared.frames.Evaluation.{Evaluation}
 use Rattle.cell_values.specs.declared.frames.LeafSum.{LeafSum}
@@ -160,10 +160,10 @@ module _ (v : NumberedVersion) where
       )
 
   -- how large the weights are that frames wait with
-  pub leaves-size : (s : LeafSum) (q next : Ask) → IsWaiting v (frame.Leaves s) q next → unsigned_abs s.weight ≤ max_weight_product
+  pub leaves-size : (s : LeafSum) (q next : Ask) → IsWaiting v (frame.Leaves s) q next → unsigned_abs s.weight ≤ most_weight_product
   leaves-size s q next (is_cell, (size, rest)) = size
 
-  pub components-size : (s : ComponentSum) (q next : Ask) → IsWaiting v (frame.Components s) q next → unsigned_abs s.weight ≤ max_weight_product
+  pub components-size : (s : ComponentSum) (q next : Ask) → IsWaiting v (frame.Components s) q next → unsigned_abs s.weight ≤ most_weight_product
   components-size s q next (is_cell, (size, rest)) = size
 
   -- the first turn of a sum, and the answer to its question

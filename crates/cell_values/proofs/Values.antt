@@ -22,8 +22,8 @@ use Rattle.rule_model.specs.Governing.{rules_for, governing_from}
 use Rattle.rule_model.specs.System.{system_of, positions_of}
 use Rattle.sparse_sum.specs.Live.{is_live}
 use Rattle.sparse_sum.proofs.Nexts.{stored-none}
-use Rattle.stored_values.specs.Stored.{stored_in}
-use Rattle.stored_values.proofs.Stored.{base-leaf}
+use Rattle.stored_laws.specs.Stored.{stored_in}
+use Rattle.stored_laws.proofs.Stored.{base-leaf}
 use Rattle.cell_values.specs.Reading.{value_on}
 use Rattle.cell_values.specs.Inside.Questions.{base_on}
 use Rattle.cell_values.proofs.Members.{among-there, neither}

@@ -9,7 +9,7 @@ use Rattle.rule_laws.specs.RuleSystem.{dense_value}
 use Rattle.rule_model.specs.Governing.{governing_from}
 use Rattle.rule_model.specs.System.{system_of}
 use Rattle.sparse_sum.specs.Live.{live_below}
-use Rattle.stored_values.specs.Stored.{stored_in}
+use Rattle.stored_laws.specs.Stored.{stored_in}
 
 -- the value of a cell on a version: what plain rounds of evaluation over all cells give it there
 unfoldable pub value_on : NumberedVersion → ℕ → Value

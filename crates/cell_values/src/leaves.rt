@@ -7,7 +7,7 @@ ghost use Rattle.cube_fixed.specs.Total.{value_of};
 ghost use Rattle.cube_space.specs.Cells.{IsCell, is_leaf_cell};
 ghost use Rattle.memo_cells.specs.Knowledge.{Grew};
 ghost use Rattle.rule_evaluate.specs.declared.ask.Ask.TheVariants.{Base as of_base};
-ghost use Rattle.stored_values.specs.Stored.{stored_in};
+ghost use Rattle.stored_laws.specs.Stored.{stored_in};
 
 use crate::frames::LeafSum;
 use crate::keeping::remembered;

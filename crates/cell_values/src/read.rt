@@ -6,7 +6,7 @@ ghost use Rattle.memo_cells.specs.Knowledge.{Grew, Knows};
 ghost use Rattle.rule_laws.specs.RuleSystem.{dense_value};
 ghost use Rattle.rule_model.specs.Governing.{governing_from};
 ghost use Rattle.rule_model.specs.System.{system_of};
-ghost use Rattle.stored_values.specs.Stored.{stored_in};
+ghost use Rattle.stored_laws.specs.Stored.{stored_in};
 
 use crate::begins::evaluation;
 use crate::frames::{Frame, LeafSum};

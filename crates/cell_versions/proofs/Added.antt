@@ -9,8 +9,8 @@ use Rattle.cell_store.specs.declared.entry.Entry.{Entry}
 use Rattle.cell_store.specs.Entries.{cells_of, after_writes}
 use Rattle.feed_map.specs.FedCells.{AreFedCells, without}
 use Rattle.rule_model.specs.BoundModel.{BoundModel}
-use Rattle.rising_lists.proofs.Rising.{among}
-use Rattle.rising_lists.proofs.Members.{contains_from_among, among_from_contains}
+use Rattle.lists.proofs.Rising.{among}
+use Rattle.lists.proofs.Members.{contains_from_among, among_from_contains}
 use Rattle.cell_versions.specs.Inside.Changes.{IsAddedBy}
 use Rattle.cell_versions.proofs.Cells.{has, filtered, untouched}
 use Rattle.cell_versions.proofs.Fed.{AreFedCells-alike}

@@ -7,8 +7,8 @@ use Rattle.std.proofs.lemmas.Bool.Decides.{eqb_tells}
 use Rattle.std.proofs.lemmas.List.Folds.{list_any-append}
 use Rattle.cell_store.specs.declared.entry.Entry.{Entry}
 use Rattle.cell_store.specs.Entries.{cells_of, below, above, kept_of, with_write, after_writes}
-use Rattle.rising_lists.proofs.Rising.{among}
-use Rattle.stored_values.specs.Stored.{stored_in}
+use Rattle.lists.proofs.Rising.{among}
+use Rattle.stored_laws.specs.Stored.{stored_in}
 
 -- whether a cell is stored
 abbrev pub has : ℕ → List Entry → Bool

@@ -7,7 +7,7 @@ use Rattle.rule_laws.specs.Feeding.{IsStart, IsFed}
 use Rattle.rule_laws.specs.RuleSystem.{RuleSystem, Stored}
 use Rattle.rule_model.specs.BoundModel.{BoundModel}
 use Rattle.rule_model.specs.System.{system_of}
-use Rattle.stored_values.specs.Stored.{stored_in}
+use Rattle.stored_laws.specs.Stored.{stored_in}
 use Rattle.feed_map.specs.FedCells.{AreFedCells}
 use Rattle.feed_map.proofs.FedFacts.{entry-stored, stored-entry}
 

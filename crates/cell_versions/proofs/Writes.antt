@@ -8,7 +8,7 @@ use Rattle.cell_store.specs.declared.entry.Entry.{Entry}
 use Rattle.cell_store.specs.Entries.{below, above, kept_of, with_write, after_writes}
 use Rattle.cube_space.specs.Cells.{IsCell, is_leaf_cell}
 use Rattle.cube_space.specs.Layout.{Layout}
-use Rattle.stored_values.specs.Stored.{AreLeafEntries}
+use Rattle.stored_laws.specs.Stored.{AreLeafEntries}
 use Rattle.cell_versions.specs.Versions.{AreLeafWrites}
 
 module _ (space : Layout) where

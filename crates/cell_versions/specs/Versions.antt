@@ -5,7 +5,7 @@ use Rattle.cube_space.specs.Cells.{IsCell, is_leaf_cell}
 use Rattle.cube_space.specs.Layout.{Layout}
 use Rattle.feed_map.specs.FedCells.{AreFedCells}
 use Rattle.rule_model.specs.BoundModel.{BoundModel}
-use Rattle.stored_values.specs.Stored.{AreLeafEntries}
+use Rattle.stored_laws.specs.Stored.{AreLeafEntries}
 
 -- a version: its number, its model, the stored cells, and the cells that these feed
 pub record NumberedVersion : Type 0 where

@@ -8,7 +8,7 @@ use Rattle.std.proofs.lemmas.List.Elements.{All-map, All-tail}
 use Rattle.std.proofs.lemmas.List.FromFn.{get_or-map-range_with_len}
 use Rattle.cube_space.specs.Radix.{product}
 use Rattle.rule_model.specs.BoundModel.{BoundModel}
-use Rattle.rule_model.specs.Order.{greatest_height, most_positions, position_size, position_sizes}
+use Rattle.rule_model.specs.Order.{most_height, most_positions, position_size, position_sizes}
 use Rattle.check_order.specs.Heights.{first_too_high}
 use Rattle.check_order.specs.Inside.Heights.{high_from}
 
@@ -26,18 +26,18 @@ module _ (sizes : List ℕ) where
   abbrev test : Bool → ℕ → Option ℕ → Option ℕ
   test t height rest = if t then Some height else rest
 
-  pub high-here : (n k j : ℕ) → k ≡ suc j → greatest_height < height_to n → Some (height_to n) ≡ high_from sizes n k
+  pub high-here : (n k j : ℕ) → k ≡ suc j → most_height < height_to n → Some (height_to n) ≡ high_from sizes n k
   high-here n k j e high =
-      sym (ap (high_from sizes n) e ∙ ap (λ t. test t (height_to n) (high_from sizes (n + 1) j)) (lt-ltb greatest_height (height_to n) high))
+      sym (ap (high_from sizes n) e ∙ ap (λ t. test t (height_to n) (high_from sizes (n + 1) j)) (lt-ltb most_height (height_to n) high))
 
-  pub high-past : (n k j : ℕ) → k ≡ suc j → height_to n ≤ greatest_height → high_from sizes (n + 1) j ≡ high_from sizes n k
+  pub high-past : (n k j : ℕ) → k ≡ suc j → height_to n ≤ most_height → high_from sizes (n + 1) j ≡ high_from sizes n k
   high-past n k j e low =
-      sym (ap (high_from sizes n) e ∙ ap (λ t. test t (height_to n) (high_from sizes (n + 1) j)) (le-ltb greatest_height (height_to n) low))
+      sym (ap (high_from sizes n) e ∙ ap (λ t. test t (height_to n) (high_from sizes (n + 1) j)) (le-ltb most_height (height_to n) low))
 
   -- where none is too high, each is low
-  pub none-high : (a k n : ℕ) → high_from sizes a k ≡ None → a ≤ n → n < a + k → height_to n ≤ greatest_height
+  pub none-high : (a k n : ℕ) → high_from sizes a k ≡ None → a ≤ n → n < a + k → height_to n ≤ most_height
   none-high a zero n none from low = absurd (omega (arith, from, low))
-  none-high a (suc k) n none from low = elim (cases_lt greatest_height (height_to a)) [
+  none-high a (suc k) n none from low = elim (cases_lt most_height (height_to a)) [
     | inl high ↦ absurd (let some : Some (height_to a) ≡ high_from sizes a (suc k) = high-here a (suc k) k refl high in let wrong : Some (height_to a) ≡ None = some ∙ none in cc)
     | inr fits ↦ elim (cases_lt a n) [
       | inl after ↦ none-high (a + 1) k n (high-past a (suc k) k refl fits ∙ none) (omega (arith, after)) (omega (arith, low))
@@ -54,7 +54,7 @@ module _ (m : BoundModel) where
   height-next n height size low so_far here =
       ap (λ h. h * size) so_far ∙ ap (λ s. product (take n (position_sizes m)) * s) (here ∙ sym (size-at_place m n low)) ∙ sym (product-next (position_sizes m) n (omega (arith, low)))
 
-  pub none-low : first_too_high m ≡ None → product (position_sizes m) ≤ greatest_height
+  pub none-low : first_too_high m ≡ None → product (position_sizes m) ≤ most_height
   unfolding first_too_high
   none-low none = none-high (position_sizes m) 0 most_positions 7 none (omega arith) (omega arith)
 
@@ -77,7 +77,7 @@ product-part (s ∷ ss) (suc n) some =
       some = mul-pos (some 0 0 (omega arith)) rest.some;
     }
 
-none-from : (sizes : List ℕ) (a k : ℕ) → ((n : ℕ) → product (take (n + 1) sizes) ≤ greatest_height) → high_from sizes a k ≡ None
+none-from : (sizes : List ℕ) (a k : ℕ) → ((n : ℕ) → product (take (n + 1) sizes) ≤ most_height) → high_from sizes a k ≡ None
 none-from sizes a zero low = refl
 none-from sizes a (suc k) low = sym (high-past sizes a (suc k) k refl (low a)) ∙ none-from sizes (a + 1) k low
 
@@ -85,6 +85,6 @@ sizes-some : (m : BoundModel) → All (λ size. 0 < size) (position_sizes m)
 unfolding position_size
 sizes-some m = All-map (λ size. 0 < size) (position_size m) (range_with_len 0 most_positions) (λ k d low. omega arith)
 
-pub low-none : (m : BoundModel) → product (position_sizes m) ≤ greatest_height → first_too_high m ≡ None
+pub low-none : (m : BoundModel) → product (position_sizes m) ≤ most_height → first_too_high m ≡ None
 unfolding first_too_high
 low-none m low = none-from (position_sizes m) 0 most_positions (λ n. let part = product-part (position_sizes m) (n + 1) (sizes-some m) in omega (arith, part.within, low))

@@ -3,7 +3,7 @@ use Rattle.std.specs.Prelude.{ℕ, ◌+◌, nat_lt, Option, List, map, take}
 use Rattle.std.specs.List.{range_with_len, find}
 use Rattle.cube_space.specs.Radix.{product}
 use Rattle.rule_model.specs.BoundModel.{BoundModel}
-use Rattle.rule_model.specs.Order.{greatest_height, most_positions, position_sizes}
+use Rattle.rule_model.specs.Order.{most_height, most_positions, position_sizes}
 
 -- the height up to each position: the product of the sizes of the positions up to it
 abbrev pub heights : List ℕ → List ℕ
@@ -11,4 +11,4 @@ heights sizes = map (λ n. product (take (n + 1) sizes)) (range_with_len 0 most_
 
 -- the height up to the first position at which it is too great
 unfoldable pub first_too_high : BoundModel → Option ℕ
-first_too_high model = find (nat_lt greatest_height) (heights (position_sizes model))
+first_too_high model = find (nat_lt most_height) (heights (position_sizes model))

@@ -2,7 +2,7 @@ ghost use Rattle.std.specs.Prelude.{◌≡◌, ◌≤◌, Some, None, IfErr, OnE
 ghost use Rattle.cube_space.specs.Radix.{product};
 ghost use Rattle.rule_laws.specs.OrderByPlace.{IsOrderedByPlace};
 ghost use Rattle.rule_model.specs.System.{system_of, positions_of};
-ghost use Rattle.rule_model.specs.Order.{greatest_height, position_sizes};
+ghost use Rattle.rule_model.specs.Order.{most_height, position_sizes};
 ghost use Rattle.check_order.specs.Verdict.{order_fault};
 
 use crate::fault::OrderFault;
@@ -15,9 +15,9 @@ use rule_model::Model;
 /// a cell from there. Which statement governs a cell doesn't count.
 pub fn check_order(model: &Model) -> Result<(), OrderFault>
     ensures ordered { OnOk result (IsOrderedByPlace (system_of model.now) (positions_of model.now)) }
-    ensures low { OnOk result (product (position_sizes model.now) ≤ greatest_height) }
+    ensures low { OnOk result (product (position_sizes model.now) ≤ most_height) }
     ensures refused { OnErr result (IsOrderedByPlace (system_of model.now) (positions_of model.now)
-        → product (position_sizes model.now) ≤ greatest_height → ⊥) }
+        → product (position_sizes model.now) ≤ most_height → ⊥) }
     ensures accepted { OnOk result (order_fault model.now ≡ None) }
     ensures fault { IfErr result (λ fault. order_fault model.now ≡ Some fault) }
 {

@@ -1,11 +1,11 @@
 ghost use Rattle.std.specs.Prelude.{◌≡◌, suc, ◌<◌, ◌≤◌, ◌^◌, length, slice_index_or};
 ghost use Rattle.rule_model.specs.declared.order.Position.TheVariants.{Constant};
 ghost use Rattle.rule_model.specs.Conditions.{greatest_rank, AreRules};
-ghost use Rattle.rule_model.specs.Order.{greatest, greatest_height, most_positions, position_size};
+ghost use Rattle.rule_model.specs.Order.{greatest, most_height, most_positions, position_size};
 ghost use Rattle.check_order.specs.Heights.{first_too_high};
 ghost use Rattle.check_order.specs.Inside.Tops.{position_top, cube_top, top};
 
-use ref_order::MOST_POSITIONS;
+use ref_order::MAX_POSITIONS;
 use rule_model::{Model, Position};
 
 /// The greatest height that a declared order may have.
@@ -69,7 +69,7 @@ pub fn too_high(model: &Model) -> Option<u64>
     ensures { result ≡ first_too_high model.now }
 {
     let mut height = 1u64;
-    'each: for place in 0..MOST_POSITIONS {
+    'each: for place in 0..MAX_POSITIONS {
         height *= position_size(model, place);
         if height > MAX_HEIGHT {
             return Some(height);

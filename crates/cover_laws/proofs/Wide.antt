@@ -4,7 +4,7 @@ use Rattle.std.proofs.lemmas.List.{get_or-map, length-map}
 use Rattle.cube_space.specs.declared.shape.CubeShape.{CubeShape}
 use Rattle.cube_space.specs.Layout.{Layout, axes, dims_of}
 use Rattle.cube_space.specs.Cells.{IsSpace}
-use Rattle.cube_space.proofs.Axes.{length-axes_of}
+use Rattle.cube_space.proofs.AxisSizes.{length-axes_of}
 
 pub some-dimension : (space : Layout) (cube : ℕ) → IsSpace space → cube < length space.cubes → 0 < length (axes space cube)
 some-dimension space cube valid h =

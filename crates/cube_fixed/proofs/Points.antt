@@ -7,7 +7,7 @@ use Rattle.std.proofs.lemmas.Bool.Decides.{nat_tests}
 use Rattle.std.proofs.lemmas.List.{take_all, drop_all}
 use Rattle.std.proofs.lemmas.Bool.{cases_lt}
 use Rattle.cube_fixed.specs.declared.reading.NumberFault.TheVariants.{TooLarge}
-use Rattle.cube_fixed.specs.Range.{IsInRange, limit, unit}
+use Rattle.cube_fixed.specs.Range.{IsInRange, most_millionths, unit}
 use Rattle.cube_fixed.specs.Text.{is_point, is_digits, is_decimal, signed, decimals_value, decimal_value, number_after_sign, reading_of}
 
 -- a test passes somewhere just where the first place that passes is within the list
@@ -94,31 +94,31 @@ unsigned_abs-signed true zero = refl
 unsigned_abs-signed true (suc n) = refl
 unsigned_abs-signed false n = refl
 
-too_large : (negative : Bool) (n : ℕ) → limit < n → reading_of (Some (signed negative n)) ≡ Err TooLarge
+too_large : (negative : Bool) (n : ℕ) → most_millionths < n → reading_of (Some (signed negative n)) ≡ Err TooLarge
 too_large negative n above =
     let size = unsigned_abs-signed negative n in
-    let no : nat_le (unsigned_abs (signed negative n)) limit ≡ false = ap (λ m. nat_le m limit) size ∙ grind (arith, nat_tests) in
+    let no : nat_le (unsigned_abs (signed negative n)) most_millionths ≡ false = ap (λ m. nat_le m most_millionths) size ∙ grind (arith, nat_tests) in
     ap (λ b. if b then Ok (signed negative n) else Err TooLarge) no
 
 -- what is read up to the limit answers as the whole does
-pub capped_reading : (negative : Bool) (size : ℕ) → reading_of (Some (signed negative (min size (limit + 1)))) ≡ reading_of (Some (signed negative size))
+pub capped_reading : (negative : Bool) (size : ℕ) → reading_of (Some (signed negative (min size (most_millionths + 1)))) ≡ reading_of (Some (signed negative size))
 capped_reading negative size =
-    elim (cases_lt limit size) [
+    elim (cases_lt most_millionths size) [
       | inl above ↦
-          let capped : limit < min size (limit + 1) = omega arith in
-          too_large negative (min size (limit + 1)) capped ∙ sym (too_large negative size above)
+          let capped : most_millionths < min size (most_millionths + 1) = omega arith in
+          too_large negative (min size (most_millionths + 1)) capped ∙ sym (too_large negative size above)
       | inr within ↦
-          let same : min size (limit + 1) ≡ size = omega arith in
+          let same : min size (most_millionths + 1) ≡ size = omega arith in
           ap (λ n. reading_of (Some (signed negative n))) same
     ]
 
 -- `Money::of`, with the fault
 pub reading_of_money : (z : ℤ) (r : Option ℤ) → SomeIff r (IsInRange z) z → ok_or r TooLarge ≡ reading_of (Some z)
 reading_of_money z (Some x) h =
-    let yes : nat_le (unsigned_abs z) limit ≡ true = grind (arith, nat_tests) in
+    let yes : nat_le (unsigned_abs z) most_millionths ≡ true = grind (arith, nat_tests) in
     ap (λ y. Ok y) h.1 ∙ sym (ap (λ b. if b then Ok z else Err TooLarge) yes)
 reading_of_money z None h =
-    let no : nat_le (unsigned_abs z) limit ≡ false = grind (arith, nat_tests) in
+    let no : nat_le (unsigned_abs z) most_millionths ≡ false = grind (arith, nat_tests) in
     sym (ap (λ b. if b then Ok z else Err TooLarge) no)
 
 pub number_after_sign-decimal : (negative : Bool) (text : List ℕ) → is_decimal text ≡ true → number_after_sign negative text ≡ Some (signed negative (decimal_value text))

@@ -14,7 +14,7 @@ use Rattle.std.proofs.Math.Seq.{take-append_seam}
 use Rattle.cube_fixed.specs.declared.value.Value.TheVariants.{Num}
 use Rattle.cube_fixed.specs.declared.reading.NumberFault.{NumberFault}
 use Rattle.cube_fixed.specs.declared.reading.NumberFault.TheVariants.{TooLarge}
-use Rattle.cube_fixed.specs.Range.{IsInRange, limit, unit}
+use Rattle.cube_fixed.specs.Range.{IsInRange, most_millionths, unit}
 use Rattle.cube_fixed.specs.Rounding.{nearest}
 use Rattle.cube_fixed.specs.Text.{is_point, is_digits, is_decimal, decimals_value, decimal_value, signed, number_after_sign, number_of, reading_of, fraction_text, printed}
 use Rattle.cube_fixed.proofs.Digits.{Starts, starts, decimals, decimals-zero, decimals-step, below_place, fraction_text-pos}
@@ -212,7 +212,7 @@ says-at w (suc n) below small = says-parts w (suc n) below (omega arith) small
 unsigned_text : ℕ → List ℕ
 unsigned_text size = decimal (size / unit) ++ fraction_text (size % unit)
 
-says : (size : ℕ) → size ≤ limit → Says (unsigned_text size) size
+says : (size : ℕ) → size ≤ most_millionths → Says (unsigned_text size) size
 unfolding unsigned_text
 says size h =
     let parts : size / unit * unit + size % unit ≡ size = omega arith in
@@ -251,6 +251,6 @@ number_of-printed (negsuc n) h =
 
 pub round_trip : (text : List ℕ) (r : Result ℤ NumberFault) → r ≡ reading_of (number_of text) → (m : ℤ) → IsInRange m → text ≡ printed (Num m) → r ≡ Ok m
 round_trip text r is m range e =
-    let yes : nat_le (unsigned_abs m) limit ≡ true = grind (arith, nat_tests) in
+    let yes : nat_le (unsigned_abs m) most_millionths ≡ true = grind (arith, nat_tests) in
     is ∙ ap (λ t. reading_of (number_of t)) e ∙ ap reading_of (number_of-printed m range) ∙
     ap (λ b. if b then Ok m else Err TooLarge) yes

@@ -6,7 +6,7 @@ use Rattle.std.proofs.lemmas.Int.{ints}
 use Rattle.std.proofs.Math.Nat.{div-eq_of_lt}
 use Rattle.cube_fixed.specs.declared.value.Value.{Value}
 use Rattle.cube_fixed.specs.declared.value.Value.TheVariants.{Num, Over}
-use Rattle.cube_fixed.specs.Range.{IsInRange, limit, unit}
+use Rattle.cube_fixed.specs.Range.{IsInRange, most_millionths, unit}
 use Rattle.cube_fixed.specs.Rounding.{nearest, nearest_ratio}
 use Rattle.cube_fixed.specs.Arithmetic.{zero_value, is_zero, fit, sum_of, difference_of, opposite_of, product_of, quotient_of, safe_quotient_of, greater_of, lesser_of, rounded, floor_of, size_of, sign_of}
 
@@ -103,5 +103,5 @@ unfolding difference_of
 opposite_of-number k h =
     let same : pos 0 -ℤ k ≡ neg_ℤ k = omega (arith, ints) in
     let size : unsigned_abs (neg_ℤ k) ≡ unsigned_abs k = unsigned_abs-neg k in
-    let yes : nat_le (unsigned_abs (neg_ℤ k)) limit ≡ true = ap (λ n. nat_le n limit) size ∙ grind (arith, nat_tests) in
+    let yes : nat_le (unsigned_abs (neg_ℤ k)) most_millionths ≡ true = ap (λ n. nat_le n most_millionths) size ∙ grind (arith, nat_tests) in
     ap fit same ∙ ap (λ b. if b then Num (neg_ℤ k) else Over) yes

@@ -6,8 +6,8 @@ use Rattle.cube_fixed.specs.declared.value.Value.TheVariants.{Num, Over}
 use Rattle.cube_fixed.specs.Arithmetic.{fit}
 
 -- how far the coefficient of a term may be from 0
-abbrev pub coef_limit : ℕ
-coef_limit = 10 ^ 9
+abbrev pub most_term_coefficient : ℕ
+most_term_coefficient = 10 ^ 9
 
 -- the terms added so far: their exact sum in millionths, whether Over is among them, and how many they are
 pub record Total : Type 0 where

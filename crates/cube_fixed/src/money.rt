@@ -8,7 +8,7 @@ use std::marker::Model;
 pub const UNIT: u64 = 1_000_000;
 
 /// The largest count of millionths on either side of 0.
-pub const LIMIT: u64 = 9_000_000_000_000_000_000;
+pub const MAX_MILLIONTHS: u64 = 9_000_000_000_000_000_000;
 
 /// A number: a whole count of millionths, from -9,000,000,000,000 units to 9,000,000,000,000 units.
 #[derive(Clone, Copy, Debug, PartialEq, Eq)]
@@ -37,7 +37,7 @@ impl Money {
     pub fn of(millionths: i64) -> Option<Money>
         ensures { SomeIff result (IsInRange millionths) millionths }
     {
-        if millionths.unsigned_abs() <= LIMIT {
+        if millionths.unsigned_abs() <= MAX_MILLIONTHS {
             Some(Money { millionths })
         } else {
             None

@@ -4,11 +4,11 @@ ghost use Rattle.std.specs.Option.{SomeIff};
 ghost use Rattle.std.specs.Char.{is_ascii_digit};
 ghost use Rattle.std.specs.Str.Parse.{digits_value};
 ghost use Rattle.cube_fixed.specs.declared.value.Value.TheVariants.{Num};
-ghost use Rattle.cube_fixed.specs.Range.{unit, limit, IsInRange};
+ghost use Rattle.cube_fixed.specs.Range.{unit, most_millionths, IsInRange};
 ghost use Rattle.cube_fixed.specs.Text.{is_digits, is_point, is_decimal, decimals_value, decimal_value};
 ghost use Rattle.cube_fixed.specs.Text.{number_after_sign, number_of, printed, reading_of};
 
-use crate::money::{LIMIT, Money, UNIT};
+use crate::money::{MAX_MILLIONTHS, Money, UNIT};
 
 /// Why a text gives no number.
 #[derive(Clone, Copy, Debug, PartialEq, Eq)]
@@ -47,10 +47,11 @@ fn read_after_sign(negative: bool, text: &[u8]) -> Result<Money, NumberFault>
     Money::of(if negative { -size } else { size }).ok_or(NumberFault::TooLarge)
 }
 
-/// The millionths that an unsigned text says, or `LIMIT + 1` where they are more than any number has.
+/// The millionths that an unsigned text says, or `MAX_MILLIONTHS + 1` where they are more than any number has.
 fn decimal_size(text: &[u8]) -> Option<i64>
-    ensures value { SomeIff result (IsTrue (is_decimal text.now)) (pos (min (decimal_value text.now) (limit + 1))) }
-    ensures bound { IfSome result (λ size. size ≤ℤ pos (limit + 1)) }
+    ensures value { SomeIff result (IsTrue (is_decimal text.now))
+        (pos (min (decimal_value text.now) (most_millionths + 1))) }
+    ensures bound { IfSome result (λ size. size ≤ℤ pos (most_millionths + 1)) }
 {
     match point_of(text) {
         Some(at) => {
@@ -67,11 +68,11 @@ fn decimal_size(text: &[u8]) -> Option<i64>
     }
 }
 
-/// This count of millionths, or `LIMIT + 1` where it is more.
+/// This count of millionths, or `MAX_MILLIONTHS + 1` where it is more.
 fn capped(millionths: u64) -> i64
-    ensures { result ≡ pos (min millionths (limit + 1)) }
+    ensures { result ≡ pos (min millionths (most_millionths + 1)) }
 {
-    millionths.min(LIMIT + 1) as i64
+    millionths.min(MAX_MILLIONTHS + 1) as i64
 }
 
 /// Where the point is.

@@ -1,6 +1,6 @@
 ghost use Rattle.std.specs.Prelude.{◌≡◌, ◌*◌, ◌^◌, ◌<◌, ◌≤◌, unsigned_abs};
-ghost use Rattle.cube_fixed.specs.Total.{coef_limit, no_terms, term_of, over_enters, with_term, value_of};
-ghost use Rattle.cube_fixed.specs.Range.{limit};
+ghost use Rattle.cube_fixed.specs.Total.{most_term_coefficient, no_terms, term_of, over_enters, with_term, value_of};
+ghost use Rattle.cube_fixed.specs.Range.{most_millionths};
 
 use crate::rounding::{exact_product, fitted};
 use crate::value::Value;
@@ -16,14 +16,15 @@ pub struct Sum {
 
 impl Model for Sum {
     ghost use Rattle.std.specs.Prelude.{◌*◌, ◌^◌, ◌≤◌, unsigned_abs};
-    ghost use Rattle.cube_fixed.specs.Range.{limit};
-    ghost use Rattle.cube_fixed.specs.Total.{Total, coef_limit};
+    ghost use Rattle.cube_fixed.specs.Range.{most_millionths};
+    ghost use Rattle.cube_fixed.specs.Total.{Total, most_term_coefficient};
 
     ghost Value = { Total };
 
     ghost view = { λ s. record { exact = s.exact; over = s.over; terms = s.terms } };
 
-    ghost invariant = { λ s. (unsigned_abs s.exact ≤ s.terms * (coef_limit * limit)) × (s.terms ≤ 2 ^ 32) };
+    ghost invariant = { λ s. (unsigned_abs s.exact ≤ s.terms * (most_term_coefficient * most_millionths))
+        × (s.terms ≤ 2 ^ 32) };
 }
 
 impl Sum {
@@ -41,7 +42,7 @@ impl Sum {
     /// Adds `coef * v`. With the coefficient 0 it adds nothing, also for `Over`; with another one an `Over` makes
     /// the sum `Over`.
     pub fn add(&mut self, coef: i64, v: Value)
-        requires size { unsigned_abs coef ≤ coef_limit }
+        requires size { unsigned_abs coef ≤ most_term_coefficient }
         requires room { self.old.terms < 2 ^ 32 }
         ensures { self.new ≡ with_term self.old coef v }
     {
@@ -64,9 +65,9 @@ impl Sum {
 
 /// What a term adds to the exact sum.
 fn exact_term(coef: i64, v: Value) -> i128
-    requires { unsigned_abs coef ≤ coef_limit }
+    requires { unsigned_abs coef ≤ most_term_coefficient }
     ensures value { result ≡ term_of coef v }
-    ensures size { unsigned_abs result ≤ coef_limit * limit }
+    ensures size { unsigned_abs result ≤ most_term_coefficient * most_millionths }
 {
     match v {
         Value::Num(number) => exact_product(coef, number.millionths()),

@@ -13,7 +13,7 @@ use Rattle.cube_lex.specs.Lexed.{lexed_of, IsWellFormed}
 use Rattle.cube_lex.specs.Lexeme.{Lexeme, lexeme_of}
 use Rattle.cube_lex.specs.Parts.{Part, Divides, IsPart}
 use Rattle.cube_lex.specs.Quoted.{doubled}
-use Rattle.cube_lex.specs.Reading.{mark_len, lexeme_at, lexemes_among, IsReading, text_limit}
+use Rattle.cube_lex.specs.Reading.{mark_len, lexeme_at, lexemes_among, IsReading, most_text_bytes}
 use Rattle.cube_lex.specs.declared.fault.LexFault.{LexFault}
 use Rattle.cube_lex.specs.declared.fault.LexFault.TheVariants.{BadByte, OpenQuote, TooLong, Memory}
 use Rattle.cube_lex.specs.declared.token.Kind.{Kind}
@@ -173,7 +173,7 @@ fault-line text at rest Memory text-is within stops = absurd stops
 -- at the end of the text
 pub reading-done : (text : List ℕ) (tokens : List Token) (at line : ℕ) (rest : List ℕ) → Going text tokens at line rest → length rest ≡ 0 → length text ≤ 2 ^ 30
     → IsReading text (lexed_of tokens line) None
-unfolding text_limit
+unfolding most_text_bytes
 reading-done text tokens at line rest going empty small = record {
   oversize = λ large. absurd (omega (arith, large, small));
   within = λ fits. (going.parts, rest, going.divided, going.tokens_are, nothing rest empty);
@@ -183,7 +183,7 @@ reading-done text tokens at line rest going empty small = record {
 -- at the first fault
 pub reading-stopped : (text : List ℕ) (tokens : List Token) (at line : ℕ) (rest : List ℕ) (fault : LexFault) → Going text tokens at line rest → Stops at rest (Some fault)
     → length text ≤ 2 ^ 30 → IsReading text (lexed_of tokens line) (Some fault)
-unfolding text_limit
+unfolding most_text_bytes
 reading-stopped text tokens at line rest fault going stops small = record {
   oversize = λ large. absurd (omega (arith, large, small));
   within = λ fits. (going.parts, rest, going.divided, going.tokens_are, subst (λ n. Stops n rest (Some fault)) place stops);
@@ -195,7 +195,7 @@ reading-stopped text tokens at line rest fault going stops small = record {
 -- a text of too many bytes
 pub reading-oversize : (text : List ℕ) (line : ℕ) → 2 ^ 30 < length text → line ≡ 1 + count_by is_line_end (take (2 ^ 30) text)
     → IsReading text (lexed_of [] line) (Some (TooLong (2 ^ 30)))
-unfolding text_limit
+unfolding most_text_bytes
 reading-oversize text line large line-is = record {
   oversize = λ _. (refl, refl);
   within = λ small. absurd (omega (arith, large, small));

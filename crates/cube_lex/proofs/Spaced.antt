@@ -5,7 +5,7 @@ use Rattle.std.proofs.lemmas.Grind.{flat_map-append}
 use Rattle.std.proofs.lemmas.List.{take_more}
 use Rattle.std.proofs.lemmas.List.Concat.{flat_map_single}
 use Rattle.std.specs.List.{flat_map}
-use Rattle.cube_lex.specs.Parts.{IsToken, token_limit}
+use Rattle.cube_lex.specs.Parts.{IsToken, most_token_bytes}
 use Rattle.cube_lex.specs.Piece.{token_of}
 use Rattle.cube_lex.specs.Written.{Spelling, IsWritten, Adds, AddsWithin, Spaces, Writes, spaced_size, most_size}
 use Rattle.cube_lex.specs.declared.pieces.Piece.{Piece}
@@ -68,7 +68,7 @@ spaces-line old between new xs some (bytes, is, written, small) new-is = (
 )
 
 -- a call that writes a piece and a space
-pub spaced : {T E : Type 0} (answer : Result T E) (old new : List ℕ) (kind : Kind) (piece : List ℕ) → IsToken kind piece → length piece ≤ token_limit
+pub spaced : {T E : Type 0} (answer : Result T E) (old new : List ℕ) (kind : Kind) (piece : List ℕ) → IsToken kind piece → length piece ≤ most_token_bytes
     → OnOk answer (new ≡ (old ++ piece) ++ 32 ∷ []) → OnOk answer (Spaces old new (record { kind = kind; piece = piece } ∷ []))
 spaced (Ok x) old new kind piece is short is-new = (
   piece ++ 32 ∷ [],

@@ -8,7 +8,7 @@ use Rattle.cube_lex.specs.Lexed.{Lexed}
 use Rattle.cube_lex.specs.Lexeme.{Lexeme}
 use Rattle.cube_lex.specs.Parts.{Part, Divides, IsPart, IsLongest, IsToken, Stands}
 use Rattle.cube_lex.specs.Quoted.{doubled, quoted}
-use Rattle.cube_lex.specs.Reading.{mark_len, lexemes_among, IsRead, IsReading, text_limit}
+use Rattle.cube_lex.specs.Reading.{mark_len, lexemes_among, IsRead, IsReading, most_text_bytes}
 use Rattle.cube_lex.specs.declared.fault.LexFault.{LexFault}
 use Rattle.cube_lex.specs.declared.fault.LexFault.TheVariants.{BadByte, OpenQuote, TooLong, Memory}
 use Rattle.cube_lex.specs.declared.token.Kind.{Kind}
@@ -265,12 +265,12 @@ read-only text xs ys f g (ps, rest, x-divides, x-is, x-stops) (qs, tail, y-divid
 -- A text is read as one thing.
 pub reading-only : (text : List ℕ) (a b : Lexed) (f g : Option LexFault) → IsReading text a f → IsReading text b g → (a ≡ b) × (f ≡ g)
 reading-only text a b f g x y =
-    elim (leb (length text) text_limit) as (λ small. leb (length text) text_limit ≡ small → (a ≡ b) × (f ≡ g)) [
+    elim (leb (length text) most_text_bytes) as (λ small. leb (length text) most_text_bytes ≡ small → (a ≡ b) × (f ≡ g)) [
       | true ↦ λ e.
-          let fits : length text ≤ text_limit = leb-true (length text) text_limit e in
+          let fits : length text ≤ most_text_bytes = leb-true (length text) most_text_bytes e in
           both-are (read-only text a.lexemes b.lexemes f g (x.within fits) (y.within fits))
       | false ↦ λ e.
-          let large : text_limit < length text = leb-false (length text) text_limit e in
+          let large : most_text_bytes < length text = leb-false (length text) most_text_bytes e in
           both-are ((x.oversize large).0 ∙ sym (y.oversize large).0, (x.oversize large).1 ∙ sym (y.oversize large).1)
     ] refl where
       both-are : (a.lexemes ≡ b.lexemes) × (f ≡ g) → (a ≡ b) × (f ≡ g)

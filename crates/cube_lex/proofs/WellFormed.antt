@@ -6,7 +6,7 @@ use Rattle.std.specs.List.{cons_option}
 use Rattle.cube_lex.specs.Lexed.{Lexed, IsWellFormed}
 use Rattle.cube_lex.specs.Lexeme.{Lexeme}
 use Rattle.cube_lex.specs.Parts.{Part, Divides, IsPart, IsToken, Stands}
-use Rattle.cube_lex.specs.Reading.{mark_len, lexeme_at, lexemes_among, IsRead, IsReading, text_limit}
+use Rattle.cube_lex.specs.Reading.{mark_len, lexeme_at, lexemes_among, IsRead, IsReading, most_text_bytes}
 use Rattle.cube_lex.specs.declared.fault.LexFault.{LexFault}
 use Rattle.cube_lex.specs.declared.token.Kind.{Kind}
 use Rattle.cube_lex.specs.declared.token.Kind.TheVariants.{Word, Number, Text, Sign}
@@ -31,9 +31,9 @@ read_formed text tokens fault (parts, rest, divided, is, stops) = subst (All IsW
 
 -- what is read can be written
 pub well_formed : (text : List ℕ) (lexed : Lexed) (fault : Option LexFault) → IsReading text lexed fault → All IsWellFormed lexed.lexemes
-well_formed text lexed fault is = elim (leb (length text) text_limit) as (λ small. leb (length text) text_limit ≡ small → All IsWellFormed lexed.lexemes) [
-  | true ↦ λ e. read_formed text lexed.lexemes fault (is.within (leb-true (length text) text_limit e))
-  | false ↦ λ e. subst (All IsWellFormed) (sym (is.oversize (leb-false (length text) text_limit e)).0) (All-nil IsWellFormed)
+well_formed text lexed fault is = elim (leb (length text) most_text_bytes) as (λ small. leb (length text) most_text_bytes ≡ small → All IsWellFormed lexed.lexemes) [
+  | true ↦ λ e. read_formed text lexed.lexemes fault (is.within (leb-true (length text) most_text_bytes e))
+  | false ↦ λ e. subst (All IsWellFormed) (sym (is.oversize (leb-false (length text) most_text_bytes e)).0) (All-nil IsWellFormed)
 ] refl
 
 -- so what was read, where it was read, can be written

@@ -9,8 +9,8 @@ use Rattle.std.specs.List.{list_all, list_any, Contains, cons_option, starts_wit
 use Rattle.std.specs.Option.{option_map}
 use Rattle.cube_lex.specs.Bytes.{line_at, Begins, is_white, is_quote, starts_word, is_word_byte}
 use Rattle.cube_lex.specs.Lexed.{Lexed}
-use Rattle.cube_lex.specs.Parts.{Part, Divides, IsLongest, IsToken, IsWord, IsNumber, IsDigits, IsQuoted, Stands, signs, is_sign, token_limit}
-use Rattle.cube_lex.specs.Reading.{mark_len, lexeme_at, lexemes_among, IsRead, IsReading, text_limit}
+use Rattle.cube_lex.specs.Parts.{Part, Divides, IsLongest, IsToken, IsWord, IsNumber, IsDigits, IsQuoted, Stands, signs, is_sign, most_token_bytes}
+use Rattle.cube_lex.specs.Reading.{mark_len, lexeme_at, lexemes_among, IsRead, IsReading, most_text_bytes}
 use Rattle.cube_lex.specs.Written.{Spelling, spelling_of, IsWritten, Adds, HasReading}
 use Rattle.cube_lex.specs.Fault.{place_of}
 use Rattle.cube_lex.specs.declared.fault.LexFault.{LexFault}
@@ -192,7 +192,7 @@ written-no_mark words bytes written =
           (sym e ∙ bytes-is)
 
 -- A text that is written token by token is read as just these tokens.
-pub written-reads : (words : List Spelling) (text : List ℕ) → IsWritten words text → length text ≤ text_limit → (lexed : Lexed) (fault : Option LexFault) → IsReading text lexed fault
+pub written-reads : (words : List Spelling) (text : List ℕ) → IsWritten words text → length text ≤ most_text_bytes → (lexed : Lexed) (fault : Option LexFault) → IsReading text lexed fault
     → (map spelling_of lexed.lexemes ≡ words) × (fault ≡ None)
 written-reads words text written small lexed fault is =
     let parts = written-parts words text [] written refl in
@@ -203,7 +203,7 @@ written-reads words text written small lexed fault is =
     (ap (map spelling_of) same.0 ∙ spelled-lexemes text (mark_len text) parts.0 ∙ parts.2, same.1)
 
 -- and there is such a reading
-pub written-reading : (words : List Spelling) (text : List ℕ) → IsWritten words text → length text ≤ text_limit → HasReading words text
+pub written-reading : (words : List Spelling) (text : List ℕ) → IsWritten words text → length text ≤ most_text_bytes → HasReading words text
 written-reading words text written small =
     let parts = written-parts words text [] written refl in
     let no_mark_is : mark_len text ≡ 0 = written-no_mark words text written in (
@@ -254,14 +254,14 @@ pub adds-both : (old between new : List ℕ) (xs ys : List Spelling) → Adds ol
 adds-both old between new xs ys (a, between-is, first) (b, new-is, second) =
     (a ++ b, new-is ∙ ap (λ bs. bs ++ b) between-is ∙ append_assoc old a b, written-append xs ys a b first second)
 
-pub adds-token : (old : List ℕ) (kind : Kind) (piece : List ℕ) → IsToken kind piece → length piece ≤ token_limit → Adds old ((old ++ piece) ++ 32 ∷ []) (record { kind = kind; piece = piece } ∷ [])
+pub adds-token : (old : List ℕ) (kind : Kind) (piece : List ℕ) → IsToken kind piece → length piece ≤ most_token_bytes → Adds old ((old ++ piece) ++ 32 ∷ []) (record { kind = kind; piece = piece } ∷ [])
 adds-token old kind piece is short = (piece ++ 32 ∷ [], append_assoc old piece (32 ∷ []), ([], [], 32, refl, refl, refl, is, short, refl))
 
 pub adds-line : (old : List ℕ) → Adds old (old ++ 10 ∷ []) []
 adds-line old = (10 ∷ [], refl, refl)
 
 -- a call that writes a piece and a space adds the token
-pub added : {T E : Type 0} (answer : Result T E) (old new : List ℕ) (kind : Kind) (piece : List ℕ) → IsToken kind piece → length piece ≤ token_limit
+pub added : {T E : Type 0} (answer : Result T E) (old new : List ℕ) (kind : Kind) (piece : List ℕ) → IsToken kind piece → length piece ≤ most_token_bytes
     → OnOk answer (new ≡ (old ++ piece) ++ 32 ∷ []) → OnOk answer (Adds old new (record { kind = kind; piece = piece } ∷ []))
 added (Ok x) old new kind piece is short is-new = subst (λ bs. Adds old bs (record { kind = kind; piece = piece } ∷ [])) (sym is-new) (adds-token old kind piece is short)
 added (Err e) old new kind piece is short is-new = tt
@@ -275,7 +275,7 @@ any-contains bytes (x ∷ xs) =
     ] refl
 
 -- what the table's test finds is a sign
-pub sign-tested : (bytes : List ℕ) → IsTrue (is_sign bytes) → Contains signs bytes × (length bytes ≤ token_limit)
+pub sign-tested : (bytes : List ℕ) → IsTrue (is_sign bytes) → Contains signs bytes × (length bytes ≤ most_token_bytes)
 sign-tested bytes found =
     let there : Contains signs bytes = any-contains bytes signs found in
-    (there, leb-true (length bytes) token_limit (contains-passes (λ s. nat_le (length s) token_limit) signs bytes refl there))
+    (there, leb-true (length bytes) most_token_bytes (contains-passes (λ s. nat_le (length s) most_token_bytes) signs bytes refl there))

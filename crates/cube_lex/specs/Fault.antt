@@ -3,7 +3,7 @@ use Rattle.std.specs.Prelude.{◌≡◌, ℕ, ◌+◌, ◌<◌, ◌⊎◌, IsTru
 use Rattle.std.specs.List.{list_all}
 use Rattle.cube_lex.specs.Bytes.{Begins, is_quote, is_plain}
 use Rattle.cube_lex.specs.Quoted.{doubled}
-use Rattle.cube_lex.specs.Parts.{IsSpace, IsComment, IsToken, Stands, token_limit}
+use Rattle.cube_lex.specs.Parts.{IsSpace, IsComment, IsToken, Stands, most_token_bytes}
 use Rattle.cube_lex.specs.declared.token.Kind.{Kind}
 use Rattle.cube_lex.specs.declared.fault.LexFault.{LexFault}
 use Rattle.cube_lex.specs.declared.fault.LexFault.TheVariants.{BadByte, OpenQuote, TooLong, Memory}
@@ -46,7 +46,7 @@ pub record BeginsLongToken (rest : List ℕ) : Type 0 where
   pub after : List ℕ
   pub split : rest ≡ piece ++ after
   pub stands : Stands kind piece after
-  pub long : token_limit < length piece
+  pub long : most_token_bytes < length piece
 
 -- The rest of a text, which begins at the offset `at`, begins with no part, for this cause; with none, the text is at
 -- its end.

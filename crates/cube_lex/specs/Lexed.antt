@@ -1,7 +1,7 @@
 -- What a text is read as.
 use Rattle.std.specs.Prelude.{◌≤◌, ℕ, List, length, map}
 use Rattle.cube_lex.specs.Lexeme.{Lexeme, lexeme_of}
-use Rattle.cube_lex.specs.Parts.{IsToken, token_limit}
+use Rattle.cube_lex.specs.Parts.{IsToken, most_token_bytes}
 use Rattle.cube_lex.specs.declared.token.Token.{Token}
 
 -- the tokens of a text up to its first fault, and the line of that fault or of the text's end
@@ -14,4 +14,4 @@ lexed_of tokens end_line = record { lexemes = map lexeme_of tokens; end_line = e
 
 -- a token of its kind, which isn't too long; so it can be written as it is
 abbrev pub IsWellFormed : Lexeme → Type 0
-IsWellFormed lexeme = IsToken lexeme.kind lexeme.piece × (length lexeme.piece ≤ token_limit)
+IsWellFormed lexeme = IsToken lexeme.kind lexeme.piece × (length lexeme.piece ≤ most_token_bytes)

@@ -71,13 +71,13 @@ pub record Part : Type 0 where
   pub bytes : List ℕ
 
 -- how many bytes a token may have
-abbrev pub token_limit : ℕ
-token_limit = 1024
+abbrev pub most_token_bytes : ℕ
+most_token_bytes = 1024
 
 -- white space, a comment, or a token of the kind that isn't too long stands before the rest
 abbrev pub IsPart : Option Kind → List ℕ → List ℕ → Type 0
 IsPart None bytes rest = IsLongest IsSpace bytes rest ⊎ IsLongest IsComment bytes rest
-IsPart (Some kind) bytes rest = Stands kind bytes rest × (length bytes ≤ token_limit)
+IsPart (Some kind) bytes rest = Stands kind bytes rest × (length bytes ≤ most_token_bytes)
 
 -- the text is these parts, one after another, and then the rest
 abbrev pub Divides : List ℕ → List Part → List ℕ → Type 0

@@ -11,8 +11,8 @@ use Rattle.cube_lex.specs.declared.fault.LexFault.{LexFault}
 use Rattle.cube_lex.specs.declared.fault.LexFault.TheVariants.{TooLong}
 
 -- how many bytes a text may have
-unfoldable pub text_limit : ℕ
-text_limit = 2 ^ 30
+unfoldable pub most_text_bytes : ℕ
+most_text_bytes = 2 ^ 30
 
 -- how many bytes of a byte order mark, EF BB BF, the text begins with
 abbrev pub mark_len : List ℕ → ℕ
@@ -40,6 +40,6 @@ IsRead text tokens fault = (parts : List Part) × (rest : List ℕ)
 -- Reading the text gives this, and meets this first fault or none. A text that is too long is faulty at the limit, and
 -- nothing of it is read.
 pub record IsReading (text : List ℕ) (lexed : Lexed) (fault : Option LexFault) : Type 0 where
-  pub oversize : text_limit < length text → (lexed.lexemes ≡ []) × (fault ≡ Some (TooLong text_limit))
-  pub within : length text ≤ text_limit → IsRead text lexed.lexemes fault
+  pub oversize : most_text_bytes < length text → (lexed.lexemes ≡ []) × (fault ≡ Some (TooLong most_text_bytes))
+  pub within : length text ≤ most_text_bytes → IsRead text lexed.lexemes fault
   pub end : lexed.end_line ≡ line_at text (place_of text fault)

@@ -4,7 +4,7 @@ use Rattle.std.specs.List.{list_all}
 use Rattle.cube_lex.specs.Bytes.{is_white, is_plain}
 use Rattle.cube_lex.specs.Lexed.{Lexed}
 use Rattle.cube_lex.specs.Lexeme.{Lexeme}
-use Rattle.cube_lex.specs.Parts.{IsToken, token_limit}
+use Rattle.cube_lex.specs.Parts.{IsToken, most_token_bytes}
 use Rattle.cube_lex.specs.Quoted.{quoted}
 use Rattle.cube_lex.specs.Reading.{IsReading}
 use Rattle.cube_lex.specs.declared.token.Kind.{Kind}
@@ -23,7 +23,7 @@ abbrev pub IsWritten : List Spelling → List ℕ → Type 0
 IsWritten [] bytes = IsTrue (list_all is_white bytes)
 IsWritten (token ∷ tokens) bytes = (before after : List ℕ) × (white : ℕ)
     × (bytes ≡ before ++ (token.piece ++ white ∷ after)) × IsTrue (list_all is_white before) × IsTrue (is_white white)
-    × IsToken token.kind token.piece × (length token.piece ≤ token_limit)
+    × IsToken token.kind token.piece × (length token.piece ≤ most_token_bytes)
     × IsWritten tokens after
 
 -- the tokens that are written
@@ -43,7 +43,7 @@ text_token bytes = record { kind = Text; piece = quoted bytes }
 
 -- the bytes may stand in a quoted text, which isn't too long for a token
 abbrev pub IsQuotable : List ℕ → Type 0
-IsQuotable bytes = IsTrue (list_all is_plain bytes) × (length (quoted bytes) ≤ token_limit)
+IsQuotable bytes = IsTrue (list_all is_plain bytes) × (length (quoted bytes) ≤ most_token_bytes)
 
 -- how many bytes the tokens take, each with a space behind it
 abbrev pub spaced_size : List Spelling → ℕ

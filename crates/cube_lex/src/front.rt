@@ -12,7 +12,7 @@ use crate::signs::sign_len;
 use crate::token::Kind;
 
 /// How many bytes a token may have.
-const TOKEN_LIMIT: usize = 1024;
+const MAX_TOKEN_BYTES: usize = 1024;
 
 /// What a text begins with: a token of a kind, or white space or a comment, which have none; and what follows.
 #[derive(Clone, Copy)]
@@ -112,7 +112,7 @@ fn token(kind: Kind, rest: &[u8], len: usize, at: usize) -> Result<Front<'_>, Le
     ensures { IsFront rest.now at result }
 {
     let (bytes, after) = rest.split_at(len);
-    if len > TOKEN_LIMIT {
+    if len > MAX_TOKEN_BYTES {
         return Err(LexFault::TooLong(at));
     }
     Ok(Front {

@@ -13,7 +13,7 @@ use crate::token::Token;
 use std::alloc::{AllocError, Global};
 
 /// How many bytes a text may have.
-const TEXT_LIMIT: usize = 1 << 30;
+const MAX_TEXT_BYTES: usize = 1 << 30;
 
 const MARK: [u8; 3] = [0xEF, 0xBB, 0xBF];
 
@@ -69,10 +69,10 @@ pub fn tokens_until(
     ensures only { (lexed : Lexed) (fault : Option LexFault) → IsReading text.now lexed fault
         → IfOk result (λ read. (read.0 ≡ lexed) × (read.1 ≡ fault)) }
 {
-    if text.len() > TEXT_LIMIT {
-        let (within, _) = text.split_at(TEXT_LIMIT);
+    if text.len() > MAX_TEXT_BYTES {
+        let (within, _) = text.split_at(MAX_TEXT_BYTES);
         let end_line = 1 + line_ends(within) as u32;
-        let fault = LexFault::TooLong(TEXT_LIMIT);
+        let fault = LexFault::TooLong(MAX_TEXT_BYTES);
         return Ok((Tokens::new(Vec::new(alloc), end_line), Some(fault)));
     }
     read(alloc, text)

@@ -1,11 +1,12 @@
 ghost use Rattle.std.specs.Prelude.{◌≡◌, ◌≤◌, ℕ, List, [], ◌∷◌, ◌++◌, length, map, take, IsTrue, OnOk, OnErr, Option};
 ghost use Rattle.std.specs.Prelude.{None, decimal};
 ghost use Rattle.std.specs.List.{list_all};
+ghost use Rattle.dim_name.specs.Bytes.{newline, space};
 ghost use Rattle.cube_lex.specs.Bytes.{is_plain};
-ghost use Rattle.cube_lex.specs.Parts.{IsWord, IsNumber, is_sign, token_limit};
+ghost use Rattle.cube_lex.specs.Parts.{IsWord, IsNumber, is_sign, most_token_bytes};
 ghost use Rattle.cube_lex.specs.Quoted.{quoted};
 ghost use Rattle.cube_lex.specs.Lexed.{Lexed};
-ghost use Rattle.cube_lex.specs.Reading.{IsReading, text_limit};
+ghost use Rattle.cube_lex.specs.Reading.{IsReading, most_text_bytes};
 ghost use Rattle.cube_lex.specs.Written.{Spelling, spelling_of, IsWritten, Adds, Spaces, HasReading};
 ghost use Rattle.cube_lex.specs.Written.{word_token, number_token, sign_token, text_token};
 ghost use Rattle.cube_lex.specs.declared.fault.LexFault.{LexFault};
@@ -16,7 +17,7 @@ use std::fmt::Display;
 
 /// Writes a piece and a space. A refusal changes nothing.
 fn write_spaced(out: &mut Vec<u8>, piece: &[u8]) -> Result<(), AllocError>
-    ensures ok { OnOk result (out.new.items ≡ (out.old.items ++ piece.now) ++ 32 ∷ []) }
+    ensures ok { OnOk result (out.new.items ≡ (out.old.items ++ piece.now) ++ space ∷ []) }
     ensures err { OnErr result (out.new.items ≡ out.old.items) }
 {
     let len = out.len();
@@ -31,7 +32,7 @@ fn write_spaced(out: &mut Vec<u8>, piece: &[u8]) -> Result<(), AllocError>
 /// Writes a word, as `DIM`, and a space.
 pub fn write_word(out: &mut Vec<u8>, word: &[u8]) -> Result<(), AllocError>
     requires word { IsWord word.now }
-    requires short { length word.now ≤ token_limit }
+    requires short { length word.now ≤ most_token_bytes }
     ensures ok { OnOk result (Adds out.old.items out.new.items (word_token word.now ∷ [])) }
     ensures spaced { OnOk result (Spaces out.old.items out.new.items (word_token word.now ∷ [])) }
     ensures err { OnErr result (out.new.items ≡ out.old.items) }
@@ -42,7 +43,7 @@ pub fn write_word(out: &mut Vec<u8>, word: &[u8]) -> Result<(), AllocError>
 /// Writes a number, as `12.5`, and a space.
 pub fn write_number(out: &mut Vec<u8>, number: &[u8]) -> Result<(), AllocError>
     requires number { IsNumber number.now }
-    requires short { length number.now ≤ token_limit }
+    requires short { length number.now ≤ most_token_bytes }
     ensures ok { OnOk result (Adds out.old.items out.new.items (number_token number.now ∷ [])) }
     ensures spaced { OnOk result (Spaces out.old.items out.new.items (number_token number.now ∷ [])) }
     ensures err { OnErr result (out.new.items ≡ out.old.items) }
@@ -73,7 +74,7 @@ pub fn write_sign(out: &mut Vec<u8>, sign: &[u8]) -> Result<(), AllocError>
 /// Writes the quoted text that stands for the bytes, each quote among them doubled, and a space.
 pub fn write_quoted(out: &mut Vec<u8>, bytes: &[u8]) -> Result<(), AllocError>
     requires plain { IsTrue (list_all is_plain bytes.now) }
-    requires short { length (quoted bytes.now) ≤ token_limit }
+    requires short { length (quoted bytes.now) ≤ most_token_bytes }
     ensures ok { OnOk result (Adds out.old.items out.new.items (text_token bytes.now ∷ [])) }
     ensures spaced { OnOk result (Spaces out.old.items out.new.items (text_token bytes.now ∷ [])) }
     ensures err { OnErr result (out.new.items ≡ out.old.items) }
@@ -88,7 +89,7 @@ pub fn write_quoted(out: &mut Vec<u8>, bytes: &[u8]) -> Result<(), AllocError>
 
 /// Writes a line end, LF, which is no token.
 pub fn write_line_end(out: &mut Vec<u8>) -> Result<(), AllocError>
-    ensures byte { OnOk result (out.new.items ≡ out.old.items ++ 10 ∷ []) }
+    ensures byte { OnOk result (out.new.items ≡ out.old.items ++ newline ∷ []) }
     ensures ok { OnOk result (Adds out.old.items out.new.items []) }
     ensures err { OnErr result (out.new.items ≡ out.old.items) }
 {
@@ -98,7 +99,7 @@ pub fn write_line_end(out: &mut Vec<u8>) -> Result<(), AllocError>
 
 /// Writes the quoted text and a space. What a refusal leaves begins as before.
 fn push_quoted(out: &mut Vec<u8>, bytes: &[u8]) -> Result<(), AllocError>
-    ensures ok { OnOk result (out.new.items ≡ (out.old.items ++ quoted bytes.now) ++ 32 ∷ []) }
+    ensures ok { OnOk result (out.new.items ≡ (out.old.items ++ quoted bytes.now) ++ space ∷ []) }
     ensures begins { take (length out.old.items) out.new.items ≡ out.old.items }
 {
     out.push(QUOTE)?;
@@ -116,12 +117,12 @@ fn push_quoted(out: &mut Vec<u8>, bytes: &[u8]) -> Result<(), AllocError>
 /// What the calls above have written, of at most 2^30 bytes, is read as just these tokens, and has no fault.
 pub fn what_is_written_is_read()
     ensures { (tokens : List Spelling) (text : List ℕ) (lexed : Lexed) (fault : Option LexFault)
-        → IsWritten tokens text → length text ≤ text_limit → IsReading text lexed fault
+        → IsWritten tokens text → length text ≤ most_text_bytes → IsReading text lexed fault
         → (map spelling_of lexed.lexemes ≡ tokens) × (fault ≡ None) }
 {}
 
 /// And there is such a reading.
 pub fn what_is_written_has_a_reading()
     ensures { (tokens : List Spelling) (text : List ℕ)
-        → IsWritten tokens text → length text ≤ text_limit → HasReading tokens text }
+        → IsWritten tokens text → length text ≤ most_text_bytes → HasReading tokens text }
 {}

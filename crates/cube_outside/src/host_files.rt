@@ -11,7 +11,7 @@ pub const CHUNK: usize = 8192;
 
 /// How many times a file is asked for bytes at most. Each time but the last gives at least one byte; a file that has
 /// more to give after these is a fault.
-pub const MOST_TURNS: u64 = 1 << 32;
+pub const MAX_TURNS: u64 = 1 << 32;
 
 /// The files of the system. Nothing is known of what they hold.
 #[derive(Drop)]
@@ -38,13 +38,13 @@ impl<'a, R: std::rt::Files> HostFiles<'a, R> {
 
     // The bytes of a file, or a failure, which nothing has counted yet.
     fn read_whole(&self, alloc: Global, name: &str) -> Result<Vec<u8>, FileFault>
-        ensures { IfOk result (λ bytes. vec_len bytes < MOST_TURNS * CHUNK) }
+        ensures { IfOk result (λ bytes. vec_len bytes < MAX_TURNS * CHUNK) }
     {
         let Ok(mut file) = fs::open(self.rt, name) else {
             return Err(FileFault::Failed);
         };
         let mut bytes = Vec::new(alloc);
-        for turns in 0..MOST_TURNS {
+        for turns in 0..MAX_TURNS {
             // Each turn so far took at least one byte.
             prove!(turns <= bytes.len() as u64);
             if !read_more(&mut file, &mut bytes)? {

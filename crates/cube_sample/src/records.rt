@@ -5,22 +5,22 @@ use crate::generator::Generator;
 use std::alloc::{AllocError, Global};
 
 /// The most products of a sample.
-const MOST_PRODUCTS: u32 = 1_000;
+const MAX_PRODUCTS: u32 = 1_000;
 
 /// How many months there are.
 pub(crate) const MONTHS: u32 = 12;
 
 /// The most units of a record.
-const MOST_UNITS: u32 = 100;
+const MAX_UNITS: u32 = 100;
 
 /// The highest price of a record.
-const MOST_PRICE: u32 = 50;
+const MAX_PRICE: u32 = 50;
 
 /// How many products a sample of a size has.
 pub(crate) fn products_of(size: u32) -> u32
     ensures { result ≡ products_of size }
 {
-    size.min(MOST_PRODUCTS)
+    size.min(MAX_PRODUCTS)
 }
 
 /// Appends a line of a file of records.
@@ -52,8 +52,8 @@ pub(crate) fn record_files(alloc: Global, size: u32) -> Result<(Vec<u8>, Vec<u8>
     for _index in 0..size {
         let product = generator.up_to(products);
         let month = generator.up_to(MONTHS);
-        let units = generator.up_to(MOST_UNITS);
-        let price = generator.up_to(MOST_PRICE);
+        let units = generator.up_to(MAX_UNITS);
+        let price = generator.up_to(MAX_PRICE);
         write_record(alloc, &mut units_file, product, month, "Units", units)?;
         write_record(alloc, &mut price_file, product, month, "Price", price)?;
     }

@@ -1,6 +1,6 @@
 -- Each cause has its status.
 use Rattle.std.proofs.Common.{◌≡◌, ℕ, List, [], ◌∷◌, Option, Some, inl, inr, refl, sym, ap, subst, ◌∙◌}
-use Rattle.run_passes.specs.declared.job.Job.{Job}
+use Rattle.run_passes.specs.declared.run_job.RunJob.{RunJob}
 use Rattle.file_passes.specs.declared.refusal.Refusal.{Refusal}
 use Rattle.cube_server.specs.declared.status.Status.{Status}
 use Rattle.cube_server.specs.declared.status.Status.TheVariants.{Done, Usage, Refused, ReadFault, WriteFault, NoMemory}
@@ -16,7 +16,7 @@ use Rattle.run_passes.proofs.PlanFacts.{one_run}
 
 -- ---- ends of a course
 
-found_ends : (words : List (List ℕ)) (readings : Readings) (j : Job) → (run_of words).finds readings j → (name : List ℕ) → ¬ (run_of words).stops readings (Reads name)
+found_ends : (words : List (List ℕ)) (readings : Readings) (j : RunJob) → (run_of words).finds readings j → (name : List ℕ) → ¬ (run_of words).stops readings (Reads name)
 found_ends words readings j finds name stops = (one_run words).not_both readings j (Reads name) finds stops
 
 refused_ends : (words : List (List ℕ)) (readings : Readings) (refusal : Refusal)
@@ -24,7 +24,7 @@ refused_ends : (words : List (List ℕ)) (readings : Readings) (refusal : Refusa
 refused_ends words readings refusal refuses name reads = (one_run words).one_stop readings (Refuses refusal) (Reads name) refuses reads
 
 -- a run that refuses a file finds no job
-not_both_ends : (words : List (List ℕ)) (map : List ℕ → Option (List ℕ)) (r s : Readings) (j : Job) (refusal : Refusal)
+not_both_ends : (words : List (List ℕ)) (map : List ℕ → Option (List ℕ)) (r s : Readings) (j : RunJob) (refusal : Refusal)
     → IsCourse (run_of words) (Some map) r → (run_of words).finds r j → IsCourse (run_of words) (Some map) s → (run_of words).stops s (Refuses refusal) → ⊥
 not_both_ends words map r s j refusal p finds q refuses =
     let same = same_course (run_of words) (one_run words) map r s p q (found_ends words r j finds) (refused_ends words s refusal refuses) in
@@ -56,7 +56,7 @@ refuses-status words o old new before after NoMemory ends map readings refusal t
 
 pub accepts-status : (words : List (List ℕ)) (o : Outside) (old new : Option (List ℕ)) (before after : ℕ) (status : Status)
     → Ends words o old new before after status
-    → (map : List ℕ → Option (List ℕ)) (readings : Readings) (j : Job)
+    → (map : List ℕ → Option (List ℕ)) (readings : Readings) (j : RunJob)
     → o.known ≡ Some map → IsCourse (run_of words) (Some map) readings → (run_of words).finds readings j
     → IsOneOf (Done ∷ ReadFault ∷ WriteFault ∷ NoMemory ∷ []) status
 accepts-status words o old new before after Done ends map readings j told course finds = inl refl

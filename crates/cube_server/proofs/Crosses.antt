@@ -49,7 +49,7 @@ use Rattle.script_tree.specs.contracts.script.Script as Script
 use Rattle.user_text.proofs.command.CellText.TheSendSync as cell_text
 use Rattle.user_text.proofs.command.ViewText.TheSendSync as view_text
 use Rattle.user_text.proofs.command.ParamText.TheSendSync as param_text
-use Rattle.load_job.specs.contracts.job.Job as Job
+use Rattle.user_text.specs.contracts.load_job.LoadJob as LoadJob
 use Rattle.user_session.specs.contracts.command.PlanCommand as PlanCommand
 
 -- each step is a lemma, since a `search` that goes down through all of them runs out of steps
@@ -169,14 +169,14 @@ Script-send = search (parts, Block-send) depth 20
 Script-sync : IsSync Script.the_row
 Script-sync = search (parts, Block-sync) depth 20
 
-Job-send : IsSend Job.the_field.row
-Job-send = search (parts, param_text.the_send) depth 20
+LoadJob-send : IsSend LoadJob.the_field.row
+LoadJob-send = search (parts, param_text.the_send) depth 20
 
-Job-sync : IsSync Job.the_field.row
-Job-sync = search (parts, param_text.the_sync) depth 20
+LoadJob-sync : IsSync LoadJob.the_field.row
+LoadJob-sync = search (parts, param_text.the_sync) depth 20
 
 pub PlanCommand-send : IsSend PlanCommand.the_row
-PlanCommand-send = search (parts, cell_text.the_field_send, view_text.the_field_send, money.the_send, Job-send, Script-send, Script-sync) depth 20
+PlanCommand-send = search (parts, cell_text.the_field_send, view_text.the_field_send, money.the_send, LoadJob-send, Script-send, Script-sync) depth 20
 
 pub PlanCommand-sync : IsSync PlanCommand.the_row
-PlanCommand-sync = search (parts, cell_text.the_field_sync, view_text.the_field_sync, money.the_sync, Job-sync, Script-send, Script-sync) depth 20
+PlanCommand-sync = search (parts, cell_text.the_field_sync, view_text.the_field_sync, money.the_sync, LoadJob-sync, Script-send, Script-sync) depth 20

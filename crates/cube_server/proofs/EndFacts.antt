@@ -5,7 +5,7 @@ use Rattle.cube_outside.specs.Bytes.{AppendsPart}
 use Rattle.cube_server.specs.declared.answer.Answer.{Answer}
 use Rattle.file_passes.specs.declared.halt.Halt.{Halt}
 use Rattle.file_passes.specs.declared.halt.Halt.TheVariants as halts
-use Rattle.run_passes.specs.declared.job.Job.{Job}
+use Rattle.run_passes.specs.declared.run_job.RunJob.{RunJob}
 use Rattle.cube_server.specs.declared.status.Status.{Status}
 use Rattle.cube_server.specs.declared.status.Status.TheVariants.{Done, Usage, Refused, ReadFault, WriteFault, NoMemory}
 use Rattle.cube_server.specs.Answer.{Allows, IsOutput, WritesPart}
@@ -81,7 +81,7 @@ Allows-result (Ok answer) words o first readings halt missed none came same is =
 Allows-result (Err e) words o first readings halt missed none came same is = tt
 
 -- a run that was served ends as it is to
-pub Allows-done : {E : Type 0} (result : Result Answer E) (words : List (List ℕ)) (o : Outside) (first readings : Readings) (job : Job)
+pub Allows-done : {E : Type 0} (result : Result Answer E) (words : List (List ℕ)) (o : Outside) (first readings : Readings) (job : RunJob)
     → first ≡ [] → Comes (run_of words) o first readings (Ok job)
     → IfOk result (λ answer. answer.status ≡ Done) → IfOk result (λ answer. IsOutput job (joined answer.pieces.items))
     → IfOk result (λ answer. Allows words o answer.status (joined answer.pieces.items))

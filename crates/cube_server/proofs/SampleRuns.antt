@@ -10,12 +10,12 @@ use Rattle.file_passes.specs.Pass.{Readings}
 use Rattle.file_passes.proofs.Going.{course-of}
 use Rattle.rule_model.specs.BoundModel.{BoundModel}
 use Rattle.run_passes.specs.Run.{run_of}
-use Rattle.run_passes.specs.declared.job.Job.{Job}
-use Rattle.run_passes.specs.declared.job.Job.TheVariants.{Serve}
+use Rattle.run_passes.specs.declared.run_job.RunJob.{RunJob}
+use Rattle.run_passes.specs.declared.run_job.RunJob.TheVariants.{Serve}
 use Rattle.user_session.specs.declared.command.PlanCommand.{PlanCommand}
 use Rattle.cube_server.specs.Sample.{IsSampleRun, sample_words}
 
-pub sample-run : (size : ℕ) (files : MemoryFiles) (o : Outside) (words : List (List ℕ)) (first readings : Readings) (job : Job) (model : BoundModel) (users : List (List PlanCommand))
+pub sample-run : (size : ℕ) (files : MemoryFiles) (o : Outside) (words : List (List ℕ)) (first readings : Readings) (job : RunJob) (model : BoundModel) (users : List (List PlanCommand))
     → map (λ pair. (pair.0.items, pair.1.items)) files.pairs.items ≡ files_of size → o.known ≡ Some (bytes_named files.pairs.items)
     → words ≡ sample_words → first ≡ [] → job ≡ Serve model users → Comes (run_of words) o first readings (Ok job) → IsSampleRun size model users
 sample-run size files o words first readings job model users are known same none is began =
@@ -26,5 +26,5 @@ sample-run size files o words first readings job model users are known same none
       are = are;
       readings = readings;
       course = subst (λ k. IsCourse (run_of sample_words) k readings) known (course-of (run_of sample_words) o.known readings came.0.0);
-      accepted = subst (λ (j : Job). (run_of sample_words).finds readings j) is came.1;
+      accepted = subst (λ (j : RunJob). (run_of sample_words).finds readings j) is came.1;
     }

@@ -8,8 +8,8 @@ use Rattle.history.specs.declared.told.Told.{Told}
 use Rattle.history.specs.History.{IsHistoryOf}
 use Rattle.user_session.specs.Content.{opening, after}
 use Rattle.user_session.specs.Planning.{effect}
-use Rattle.run_passes.specs.declared.job.Job.{Job}
-use Rattle.run_passes.specs.declared.job.Job.TheVariants.{Serve, Check, Sample}
+use Rattle.run_passes.specs.declared.run_job.RunJob.{RunJob}
+use Rattle.run_passes.specs.declared.run_job.RunJob.TheVariants.{Serve, Check, Sample}
 use Rattle.file_passes.specs.declared.refusal.Refusal.{Refusal}
 use Rattle.cube_server.specs.declared.status.Status.{Status}
 use Rattle.cube_server.specs.declared.status.Status.TheVariants.{Done, Usage, Refused, ReadFault, WriteFault, NoMemory}
@@ -33,7 +33,7 @@ pub record IsServed (model : BoundModel) (users : List (List PlanCommand)) (text
   pub is_text : text ≡ output told log
 
 -- the text of each job: of users, that the model is accepted, or the sample's summary
-abbrev pub IsOutput : Job → List ℕ → Type 0
+abbrev pub IsOutput : RunJob → List ℕ → Type 0
 IsOutput (Serve model users) text = IsServed model users text
 IsOutput (Check model) text = text ≡ accepted_text model
 IsOutput (Sample size) text = IsSummary size text
@@ -45,7 +45,7 @@ AsksJust o readings more = o.asked_after ≡ more ++ (names_of readings ++ o.ask
 -- every pass went through, and the text is the output of the job that they found
 pub record IsDone (words : List (List ℕ)) (o : Outside) (text : List ℕ) : Type 0 where
   pub readings : Readings
-  pub job : Job
+  pub job : RunJob
   pub course : IsCourse (run_of words) o.known readings
   pub accepted : (run_of words).finds readings job
   pub no_read_failed : o.after ≡ o.before

@@ -2,7 +2,7 @@
 use Rattle.std.specs.Prelude.{◌≡◌, ℕ, List, [], ◌∷◌}
 use Rattle.cube_server.specs.Answer.{IsOutput}
 use Rattle.rule_model.specs.BoundModel.{BoundModel}
-use Rattle.run_passes.specs.declared.job.Job.TheVariants.{Serve}
+use Rattle.run_passes.specs.declared.run_job.RunJob.TheVariants.{Serve}
 use Rattle.user_session.specs.declared.command.PlanCommand.{PlanCommand}
 
 -- where one user runs, there is one text

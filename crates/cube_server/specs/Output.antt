@@ -2,15 +2,16 @@
 use Rattle.std.specs.Prelude.{ℕ, ℤ, ◌+◌, List, [], ◌∷◌, ◌++◌, length, codes, decimal}
 use Rattle.history.specs.declared.entry.Entry.{Entry}
 use Rattle.history.specs.declared.told.Told.{Told}
+use Rattle.dim_name.specs.Bytes.{newline}
 use Rattle.file_passes.specs.declared.refusal.Cause.{Cause}
 use Rattle.file_passes.specs.declared.refusal.Cause.TheVariants as causes
-use Rattle.file_passes.specs.declared.refusal.Place.{Place}
-use Rattle.file_passes.specs.declared.refusal.Place.TheVariants.{Line, Statement, Feeder}
+use Rattle.file_passes.specs.declared.refusal.FilePlace.{FilePlace}
+use Rattle.file_passes.specs.declared.refusal.FilePlace.TheVariants.{Line, Statement, Feeder}
 use Rattle.file_passes.specs.declared.refusal.Refusal.{Refusal}
 
 -- the end of a line
-abbrev pub newline : List ℕ
-newline = 10 ∷ []
+abbrev pub line_end : List ℕ
+line_end = newline ∷ []
 
 -- the texts of these, one after another, of which the first has this number
 abbrev pub numbered : {A : Type 0} → (ℕ → A → List ℕ) → ℕ → List A → List ℕ
@@ -20,7 +21,7 @@ numbered text_of number (x ∷ more) = text_of number x ++ numbered text_of (num
 -- `K @P REPLY`, for command K at place P
 abbrev pub told_line : ℕ → Told (List ℕ) → List ℕ
 told_line number told =
-    decimal number ++ codes " @" ++ decimal told.place ++ codes " " ++ told.reply ++ newline
+    decimal number ++ codes " @" ++ decimal told.place ++ codes " " ++ told.reply ++ line_end
 
 -- the lines of the commands, which count from 1
 abbrev pub told_lines : List (Told (List ℕ)) → List ℕ
@@ -28,7 +29,7 @@ told_lines told = numbered told_line 1 told
 
 -- `user U`, and the user's lines
 abbrev pub user_text : ℕ → List (Told (List ℕ)) → List ℕ
-user_text user told = codes "user " ++ decimal user ++ newline ++ told_lines told
+user_text user told = codes "user " ++ decimal user ++ line_end ++ told_lines told
 
 -- the texts of the users, who count from 1
 abbrev pub users_text : List (List (Told (List ℕ))) → List ℕ
@@ -38,7 +39,7 @@ users_text told = numbered user_text 1 told
 abbrev pub entry_line : ℕ → Entry (List (ℕ × ℤ)) → List ℕ
 entry_line place entry =
     decimal place ++ codes " user " ++ decimal entry.user ++ codes " command " ++ decimal entry.command ++
-    codes " cells " ++ decimal (length entry.writes) ++ newline
+    codes " cells " ++ decimal (length entry.writes) ++ line_end
 
 -- the lines of the entries, whose places count from 0
 abbrev pub entry_lines : List (Entry (List (ℕ × ℤ))) → List ℕ
@@ -46,7 +47,7 @@ entry_lines log = numbered entry_line 0 log
 
 -- `history`, and a line for each entry
 abbrev pub history_text : List (Entry (List (ℕ × ℤ))) → List ℕ
-history_text log = codes "history" ++ newline ++ entry_lines log
+history_text log = codes "history" ++ line_end ++ entry_lines log
 
 -- what is written when all users are done
 abbrev pub output : List (List (Told (List ℕ))) → List (Entry (List (ℕ × ℤ))) → List ℕ
@@ -84,7 +85,7 @@ cause_text (causes.FedLimit count) = codes "FedLimit " ++ decimal count
 cause_text causes.UnknownScript = codes "UnknownScript"
 
 -- `line L`, `statement S` or `feeder S`
-abbrev pub place_text : Place → List ℕ
+abbrev pub place_text : FilePlace → List ℕ
 place_text (Line line) = codes "line " ++ decimal line
 place_text (Statement statement) = codes "statement " ++ decimal statement
 place_text (Feeder feeder) = codes "feeder " ++ decimal feeder
@@ -93,15 +94,15 @@ place_text (Feeder feeder) = codes "feeder " ++ decimal feeder
 abbrev pub refused_text : Refusal → List ℕ
 refused_text refusal =
     codes "refused " ++ refusal.file ++ codes ": " ++ place_text refusal.at ++ codes ": " ++ cause_text refusal.cause
-    ++ newline
+    ++ line_end
 
 -- `cannot read FILE`
 abbrev pub unread_text : List ℕ → List ℕ
-unread_text file = codes "cannot read " ++ file ++ newline
+unread_text file = codes "cannot read " ++ file ++ line_end
 
 -- how the program is called
 abbrev pub usage_text : List ℕ
 usage_text =
-    codes "usage: cube_program MODEL USER..." ++ newline ++
-    codes "       cube_program --check MODEL" ++ newline ++
-    codes "       cube_program --sample N" ++ newline
+    codes "usage: cube_program MODEL USER..." ++ line_end ++
+    codes "       cube_program --check MODEL" ++ line_end ++
+    codes "       cube_program --sample N" ++ line_end

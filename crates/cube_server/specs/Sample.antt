@@ -13,7 +13,7 @@ use Rattle.history.specs.History.{IsHistoryOf}
 use Rattle.history.specs.Version.{content_after}
 use Rattle.rule_model.specs.BoundModel.{BoundModel}
 use Rattle.run_passes.specs.Run.{run_of}
-use Rattle.run_passes.specs.declared.job.Job.TheVariants.{Serve}
+use Rattle.run_passes.specs.declared.run_job.RunJob.TheVariants.{Serve}
 use Rattle.sample_summary.specs.Reading.{summary_on}
 use Rattle.user_session.specs.Content.{after, opening}
 use Rattle.user_session.specs.Planning.{effect}

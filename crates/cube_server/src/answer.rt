@@ -15,7 +15,7 @@ use file_passes::{Halt, Readings};
 use history::Told;
 use lists::ListOf;
 use model_counts::accepted_text;
-use run_passes::{Job, run_passes};
+use run_passes::{RunJob, run_passes};
 use std::alloc::{AllocError, Global};
 use std::sync::Wait;
 use std::thread::Threads;
@@ -51,15 +51,19 @@ fn done<R: Threads + Wait + Sync, G: Gate + Sync>(
     rt: &R,
     alloc: Global,
     gate: &G,
-    job: Job,
+    job: RunJob,
 ) -> Result<Answer, AllocError>
     ensures status { IfOk result (λ answer. answer.status ≡ Status.Done) }
     ensures text { IfOk result (λ answer. IsOutput job (joined answer.pieces.items)) }
 {
     match job {
-        Job::Serve(model, users) => served(rt, alloc, gate, model, users),
-        Job::Check(model) => one_piece(alloc, Status::Done, accepted_text(alloc, model.model())?),
-        Job::Sample(size) => one_piece(alloc, Status::Done, sample(rt, alloc, gate, size)?),
+        RunJob::Serve(model, users) => served(rt, alloc, gate, model, users),
+        RunJob::Check(model) => one_piece(
+            alloc,
+            Status::Done,
+            accepted_text(alloc, model.model())?,
+        ),
+        RunJob::Sample(size) => one_piece(alloc, Status::Done, sample(rt, alloc, gate, size)?),
     }
 }
 

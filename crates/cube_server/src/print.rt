@@ -2,7 +2,7 @@ ghost use Rattle.std.specs.Prelude.{◌≡◌, ◌++◌, IfOk, OnOk, length, str
 ghost use Rattle.cube_server.specs.Output.{told_line, user_text, entry_line, history_text, cause_text, place_text};
 ghost use Rattle.cube_server.specs.Output.{refused_text, unread_text, usage_text};
 
-use file_passes::{Cause, Place, Refusal};
+use file_passes::{Cause, FilePlace, Refusal};
 use history::{Entry, Told};
 use std::alloc::{AllocError, Global};
 use user_session::{CellWrites, ReplyText};
@@ -86,13 +86,13 @@ pub(crate) fn print_refusal(alloc: Global, refusal: &Refusal) -> Result<Vec<u8>,
     Ok(text)
 }
 
-fn place_name(alloc: Global, at: Place) -> Result<String, AllocError>
+fn place_name(alloc: Global, at: FilePlace) -> Result<String, AllocError>
     ensures { IfOk result (λ text. string_bytes text ≡ place_text at) }
 {
     match at {
-        Place::Line(line) => format!(in alloc; "line {line}"),
-        Place::Statement(statement) => format!(in alloc; "statement {statement}"),
-        Place::Feeder(feeder) => format!(in alloc; "feeder {feeder}"),
+        FilePlace::Line(line) => format!(in alloc; "line {line}"),
+        FilePlace::Statement(statement) => format!(in alloc; "statement {statement}"),
+        FilePlace::Feeder(feeder) => format!(in alloc; "feeder {feeder}"),
     }
 }
 

@@ -8,7 +8,7 @@ use cube_outside::Gate;
 use cube_sample::sample_files;
 use file_passes::Readings;
 use lists::ListOf;
-use run_passes::{Job, run_passes};
+use run_passes::{RunJob, run_passes};
 use sample_summary::sample_text;
 use std::alloc::{AllocError, Global};
 use std::sync::Wait;
@@ -50,9 +50,9 @@ fn sample_run(
     let words = sample_words(alloc)?;
     let mut readings = Readings::new(alloc);
     match run_passes(alloc, &words, &mut files, &mut readings) {
-        Ok(Job::Serve(model, users)) => Ok((model, users)),
+        Ok(RunJob::Serve(model, users)) => Ok((model, users)),
         // a sample is accepted, which cases show
-        Ok(Job::Check(_)) | Ok(Job::Sample(_)) | Err(_) => Err(AllocError),
+        Ok(RunJob::Check(_)) | Ok(RunJob::Sample(_)) | Err(_) => Err(AllocError),
     }
 }
 

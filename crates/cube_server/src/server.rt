@@ -9,7 +9,7 @@ ghost use Rattle.file_passes.specs.Pass.{Refuses};
 ghost use Rattle.run_passes.specs.Run.{run_of};
 ghost use Rattle.cube_server.specs.Status.{IsOneOf};
 ghost use Rattle.cube_words.specs.Words.{Plan, IsPlan, texts_of};
-ghost use Rattle.run_passes.specs.declared.job.Job.{Job};
+ghost use Rattle.run_passes.specs.declared.run_job.RunJob.{RunJob};
 ghost use Rattle.file_passes.specs.declared.refusal.Refusal.{Refusal};
 ghost use Rattle.cube_server.specs.declared.status.Status.TheVariants.{Done, Usage, Refused, ReadFault, WriteFault};
 ghost use Rattle.cube_server.specs.declared.status.Status.TheVariants.{NoMemory};
@@ -66,7 +66,7 @@ pub fn run_cubes<R: Threads + Wait + AllocGlobal + Sync, F: Files, S: Sink, G: G
         F.known files.old ≡ Some content → IsCourse (run_of (texts_of words.now)) (Some content) readings →
         (run_of (texts_of words.now)).stops readings (Refuses refusal) →
         IsOneOf (Refused ∷ ReadFault ∷ WriteFault ∷ NoMemory ∷ []) result }
-    ensures nothing_refused { (content : _) (readings : Readings) (job : Job) →
+    ensures nothing_refused { (content : _) (readings : Readings) (job : RunJob) →
         F.known files.old ≡ Some content → IsCourse (run_of (texts_of words.now)) (Some content) readings →
         (run_of (texts_of words.now)).finds readings job →
         IsOneOf (Done ∷ ReadFault ∷ WriteFault ∷ NoMemory ∷ []) result }

@@ -7,7 +7,7 @@ use Rattle.cube_space.specs.declared.shape.CubeShape.{CubeShape}
 use Rattle.cube_space.specs.Radix.{are_digits}
 use Rattle.cube_space.specs.Layout.{Layout, dims_of, axes, axes_of, sizes_of}
 use Rattle.cube_space.specs.Cells.{IsSpace, IsCell, cube_of, elements_of, are_leaves, is_leaf_cell}
-use Rattle.cube_space.proofs.Axes.{length-axes_of}
+use Rattle.cube_space.proofs.AxisSizes.{length-axes_of}
 use Rattle.cube_space.proofs.Radix.{digits-length}
 use Rattle.cube_space.proofs.Places.{cell-place}
 

@@ -6,7 +6,7 @@ use Rattle.dim_core.specs.Outline.{Outline, components_of}
 use Rattle.cube_space.specs.Radix.{are_digits}
 use Rattle.cube_space.specs.Layout.{axes_of, sizes_of}
 use Rattle.cube_space.specs.Cells.{is_leaf, are_leaves}
-use Rattle.cube_space.proofs.Axes.{axes_of-cons}
+use Rattle.cube_space.proofs.AxisSizes.{axes_of-cons}
 
 -- a test that is true exactly of elements without components
 pub is_leaf-test : (dimension : Outline) (element : ℕ) (b : Bool) → (b ≡ true) ↔ (components_of dimension element ≡ []) → b ≡ is_leaf dimension element

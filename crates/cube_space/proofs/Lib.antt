@@ -1,4 +1,5 @@
-pub mod Axes
+pub mod AxisSizes
+pub mod AxisFacts
 pub mod CubeDims
 pub mod Distinct
 pub mod LeafCells

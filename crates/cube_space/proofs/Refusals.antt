@@ -11,7 +11,7 @@ use Rattle.cube_space.specs.Radix.{product}
 use Rattle.cube_space.specs.Layout.{Layout, IsLayout, dims_of, sizes_of, sizes}
 use Rattle.cube_space.specs.Cells.{IsSpace, first_cell, cell_count, size_of}
 use Rattle.cube_space.specs.Refusal.{fault_of, cube_fault, refusal_of, IsAnsweredBy}
-use Rattle.cube_space.proofs.Axes.{sizes-by_counts}
+use Rattle.cube_space.proofs.AxisSizes.{sizes-by_counts}
 
 -- the first of the numbers from a on that has a value
 first_some : {A : Type 0} (f : ℕ → Option A) (a n i : ℕ) (v : A) → i < n → ((k : ℕ) → k < i → f (a + k) ≡ None) → f (a + i) ≡ Some v → slice_get (filter_map f (range_with_len a n)) 0 ≡ Some v

@@ -11,7 +11,7 @@ use Rattle.cube_space.specs.Radix.{product, are_digits, number_of}
 use Rattle.cube_space.specs.Layout.{Layout, sizes, dims_of}
 use Rattle.cube_space.specs.Cells.{IsSpace, IsCell, size_of, first_cell, cell_count, cell_at}
 use Rattle.cube_space.specs.Inside.Kept.{IsRunOf, IsNumbered}
-use Rattle.cube_space.proofs.Axes.{length-axes_of}
+use Rattle.cube_space.proofs.AxisSizes.{length-axes_of}
 use Rattle.cube_space.proofs.Places.{IsPlace, place_number, cell_at-place, first_cell-none, first_cell-least, run_within}
 
 -- the run that stands at a cube's place is the cube's

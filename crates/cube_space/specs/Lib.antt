@@ -1,3 +1,4 @@
+pub mod Axes
 pub mod Cells
 pub mod Layout
 pub mod Inside

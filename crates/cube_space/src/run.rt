@@ -5,7 +5,7 @@ ghost use Rattle.cube_space.specs.Inside.Kept.{IsNumbered, IsRunFrom};
 ghost use Rattle.cube_space.specs.Refusal.{fault_of, refusal_of, IsAnsweredBy};
 
 use crate::numbering::{element_counts, product, sizes};
-use crate::{CubeShape, MAX_CELLS, MAX_DIMENSIONS, MIN_DIMENSIONS, SpaceFault};
+use crate::{CubeShape, MAX_DIMENSIONS, MAX_MODEL_CELLS, MIN_DIMENSIONS, SpaceFault};
 use dim_core::Dimension;
 use lists::ListOf;
 use std::alloc::Global;
@@ -61,10 +61,10 @@ fn run_from(
     }
     let sizes = sizes(alloc, counts, dims)?;
     let cells = product(sizes.as_slice());
-    if cells > MAX_CELLS {
+    if cells > MAX_MODEL_CELLS {
         return Err(SpaceFault::CubeTooLarge(cube));
     }
-    if first + cells > MAX_CELLS {
+    if first + cells > MAX_MODEL_CELLS {
         return Err(SpaceFault::ModelTooLarge(cube));
     }
     let end = first + cells;

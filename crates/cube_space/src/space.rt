@@ -22,7 +22,7 @@ pub const MIN_DIMENSIONS: usize = 2;
 pub const MAX_DIMENSIONS: usize = 16;
 
 /// The most cells of all cubes together.
-pub const MAX_CELLS: u64 = 1 << 62;
+pub const MAX_MODEL_CELLS: u64 = 1 << 62;
 
 /// The dimensions and the cubes of a model, with a number for each cell. The numbers are one run per cube, in the order
 /// of the cubes; within a cube the last dimension runs fastest.

@@ -1,2 +1,5 @@
-pub mod Plans
+pub mod Classes
+pub mod OfClap
+pub mod OfMatches
+pub mod Outcomes
 pub mod Sizes

@@ -3,11 +3,13 @@
 //! Read `specs/Words.antt` first: which words ask for what.
 #![tactic(auto)]
 
-mod flags;
+mod command;
 mod plan;
 mod reading;
 mod size;
+mod spelling;
 
+pub use command::MOST_USERS;
 pub use plan::{Plan, WordsFault};
-pub use reading::{MOST_USERS, words};
+pub use reading::words;
 pub use size::MOST_RECORDS;

@@ -14,4 +14,6 @@ pub enum Plan<'a> {
 pub enum WordsFault {
     /// They aren't in the grammar of words.
     Usage,
+    /// Memory ran out while they were read.
+    OutOfMemory,
 }

@@ -1,53 +1,75 @@
-ghost use Rattle.std.specs.Prelude.{◌≡◌, ℕ, List, MatchOption, MatchResult};
-ghost use Rattle.std.specs.List.{list_all};
-ghost use Rattle.cube_words.specs.Words.{IsPlan, IsRun, Plan as PlanOf, asked, names_a_file, texts_of};
+ghost use Rattle.std.specs.Prelude.{◌≡◌, [], MatchOption, MatchResult, true};
+ghost use Rattle.clap.specs.Words.{fault_of, found_of, matches_of, rows_of};
+ghost use Rattle.cube_words.specs.Command.{are_spelled, cube};
+ghost use Rattle.cube_words.specs.Words.{IsPlan, Plan as PlanOf, asked, texts_of};
 
-use crate::flags::{checked, names_a_file, sampled};
+use crate::command::command;
 use crate::plan::{Plan, WordsFault};
+use crate::size::size_of;
+use crate::spelling::are_spelled;
+use clap::ArgMatches;
+use clap::error::ErrorKind;
+use std::alloc::Global;
 
-/// The most users of one run.
-pub const MOST_USERS: usize = 16;
-
-fn name_files(words: &[String]) -> bool
-    ensures { result ≡ list_all names_a_file (texts_of words.now) }
+/// What `clap` makes of the words.
+fn matches_of<'a>(alloc: Global, words: &'a [String]) -> Result<ArgMatches<'a>, WordsFault>
+    ensures { MatchResult result
+        (λ m. (fault_of cube (texts_of words.entry.now) ≡ [])
+        × (rows_of (found_of m) ≡ matches_of cube (texts_of words.entry.now)))
+        (λ fault. fault ≡ WordsFault.Usage → ¬ (fault_of cube (texts_of words.entry.now) ≡ [])) }
 {
-    for word in words {
-        if !names_a_file(word.as_str()) {
-            return false;
-        }
-    }
-    true
-}
-
-/// The files of the model and of the users, where the words are those of a run.
-fn run_of(words: &[String]) -> Option<(&str, &[String])>
-    ensures { MatchOption result
-        ((model : List ℕ) (users : List (List ℕ)) → ¬ IsRun (texts_of words.now) model users)
-        (λ run. IsRun (texts_of words.now) run.0.now (texts_of run.1.now)) }
-{
-    let [model, users @ ..] = words else {
-        return None;
+    let Ok(command) = command(alloc) else {
+        return Err(WordsFault::OutOfMemory);
     };
-    if users.is_empty() || users.len() > MOST_USERS || !name_files(words) {
-        return None;
+    match command.try_get_matches_from(words) {
+        Ok(matches) => Ok(matches),
+        Err(error) => match error.kind() {
+            ErrorKind::OutOfMemory => Err(WordsFault::OutOfMemory),
+            _ => Err(WordsFault::Usage),
+        },
     }
-    Some((model.as_str(), users))
 }
 
-#[tactic(auto, using(crate::proofs::Plans::no_plan))]
-/// What the words, without the program's own name, ask for.
-pub fn words(words: &[String]) -> Result<Plan<'_>, WordsFault>
-    ensures { MatchResult result (λ plan. IsPlan (texts_of words.now) (asked plan))
-        (λ _. (plan : PlanOf) → ¬ IsPlan (texts_of words.now) plan) }
+/// The plan of words that `clap` took.
+fn plan_of<'a>(words: &'a [String], matches: &ArgMatches<'a>) -> Option<Plan<'a>>
+    requires spelled { are_spelled (texts_of words.now) ≡ true }
+    requires taken { fault_of cube (texts_of words.now) ≡ [] }
+    requires rows { rows_of (found_of matches.now) ≡ matches_of cube (texts_of words.now) }
+    ensures { MatchOption result ((plan : PlanOf) → ¬ IsPlan (texts_of words.entry.now) plan)
+        (λ plan. IsPlan (texts_of words.entry.now) (asked plan)) }
 {
-    if let Some((model, users)) = run_of(words) {
-        return Ok(Plan::Run { model, users });
+    let check = matches.get_flag("check");
+    let size = matches.get_str("sample");
+    let model = matches.get_str("model");
+    let user = matches.get_str("users");
+    match (check, size, model, user) {
+        (false, None, Some(model), Some(_)) => {
+            let [_, users @ ..] = words else {
+                return None;
+            };
+            Some(Plan::Run { model, users })
+        }
+        (true, None, Some(model), None) => Some(Plan::Check { model }),
+        (false, Some(size), None, None) => match size_of(size) {
+            Some(size) => Some(Plan::Sample { size }),
+            None => None,
+        },
+        _ => None,
     }
-    if let Some(model) = checked(words) {
-        return Ok(Plan::Check { model });
+}
+
+/// What the words, without the program's own name, ask for.
+///
+/// Memory may run out at any words, so the clause speaks of `Usage` alone: then the words ask for nothing.
+pub fn words<'a>(alloc: Global, words: &'a [String]) -> Result<Plan<'a>, WordsFault>
+    ensures { MatchResult result (λ plan. IsPlan (texts_of words.entry.now) (asked plan))
+        (λ fault. fault ≡ WordsFault.Usage → (plan : PlanOf) → ¬ IsPlan (texts_of words.entry.now) plan) }
+{
+    if !are_spelled(words) {
+        return Err(WordsFault::Usage);
     }
-    match sampled(words) {
-        Some(size) => Ok(Plan::Sample { size }),
-        None => Err(WordsFault::Usage),
+    match matches_of(alloc, words) {
+        Ok(matches) => plan_of(words, &matches).ok_or(WordsFault::Usage),
+        Err(fault) => Err(fault),
     }
 }

@@ -20,7 +20,7 @@ use Rattle.feed_check.specs.Verdict.{IsBlamed, IsFirstBlamed, IsSound, IsFaultOf
 use Rattle.feed_check.proofs.Verdicts.{fault-refused}
 use Rattle.feed_map.specs.FedCells.{HasFewFed, HasManyFed}
 use Rattle.feed_map.proofs.Counts.{within-counts}
-use Rattle.stored_values.specs.Stored.{stored_in}
+use Rattle.stored_laws.specs.Stored.{stored_in}
 use Rattle.model_deploy.specs.declared.file.RuleFile.{RuleFile}
 use Rattle.model_deploy.specs.Deployment.{feeders_refusal, feeders_stage, fed_stage}
 use Rattle.deploy_laws.specs.OneAnswer.{HasOneAnswer}

@@ -13,12 +13,12 @@ pub answered_err : (A B : Type 0) (cause : Option DimFault) (fault : DimFault) �
 answered_err A B None fault h = h
 answered_err A B (Some cause) fault h = h
 
--- without a cause only memory can be wanting
+-- without a cause the only fault is out of memory
 pub unless_memory : {A : Type 0} (r : Result A DimFault) → IsAnsweredBy None r → IsOkUnless r Memory
 unless_memory (Ok x) h = search rules
 unless_memory (Err fault) h = h
 
--- want of memory needs no cause
+-- out of memory needs no cause
 pub answered_memory : (A : Type 0) (cause : Option DimFault) (fault : DimFault) → fault ≡ Memory → IsAnsweredBy {T = A} cause (Err fault)
 answered_memory A None fault h = h
 answered_memory A (Some cause) fault h = inr h

@@ -11,8 +11,8 @@ use Rattle.std.proofs.lemmas.List.FromFn.{length-range_with_len, get_or-range_wi
 use Rattle.std.proofs.lemmas.List.Folds.{list_any_at}
 use Rattle.std.proofs.lemmas.List.Quantifiers.{position-Some}
 use Rattle.std.proofs.lemmas.Map.Keys.{IsDistinct-push}
-use Rattle.numbered.proofs.Places.{position-none, position-first}
-use Rattle.dim_name.specs.Name.{is_same_name, has_name}
+use Rattle.lists.proofs.Places.{position-none, position-first}
+use Rattle.dim_name.specs.Name.{is_same_name, has_name, place_of}
 use Rattle.dim_core.specs.declared.attribute.Attribute.{Attribute}
 use Rattle.dim_core.specs.declared.attribute.NamedAttribute.{NamedAttribute}
 use Rattle.dim_core.specs.Draft.{is_repeated, is_bad_attribute, call_at, first_bad_among, IsResolvedAttribute}
@@ -105,6 +105,13 @@ pub once-push : (list more : List Attribute) (a : Attribute) (added : Bool) → 
 once-push list more a added new h last once =
     let D : List Attribute → Type 0 = IsDistinct is_same_attribute in
     subst D (sym last) (IsDistinct-push same_attributes list a once (is_good (list_any (is_same_attribute a) list) added new h))
+
+-- an attribute with the element's index, and a call's name and text, is the call's
+pub of_call : (names : List (List ℕ)) (call : NamedAttribute) (a : Attribute) (index : ℕ) → place_of names call.element ≡ Some index → a ≡ record { element = index; name = call.name; text = call.text }
+    → IsResolvedAttribute names call a
+of_call names call a index at is =
+    let P : Attribute → Type 0 = IsResolvedAttribute names call in
+    subst P (sym is) (at, refl, refl)
 
 -- two facts of one value
 pub two_ways : {X E : Type 0} (r : Result X E) (P Q R : X → Type 0) → ((x : X) → P x → Q x → R x) → IfOk r P → IfOk r Q → IfOk r R

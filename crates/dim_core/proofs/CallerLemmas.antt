@@ -6,7 +6,7 @@ use Rattle.std.proofs.lemmas.List.{map-append, take-append-le, get_or_append_lef
 use Rattle.dim_name.specs.Name.{has_name, is_same_name}
 use Rattle.dim_core.specs.Draft.{Draft, empty_draft, with_element, are_known, first_unknown, HasEarlierComponents}
 use Rattle.dim_core.specs.Outline.{Element, names_of, component_lists}
-use Rattle.numbered.proofs.Places.{position-none}
+use Rattle.lists.proofs.Places.{position-none}
 use Rattle.dim_core.proofs.Elements.{get_or_within}
 
 first_or_rest : (b : Bool) {few all : Bool} → (b || few) ≡ true → (few ≡ true → all ≡ true) → (b || all) ≡ true

@@ -4,7 +4,7 @@ use Rattle.std.specs.List.{IsDistinct}
 use Rattle.std.proofs.lemmas.Bool.Decides.{nat_tests}
 use Rattle.std.proofs.lemmas.List.Elements.{All-push}
 use Rattle.std.proofs.lemmas.List.Sums.{sum_by-append, sum_by-cons}
-use Rattle.numbered.specs.Keys.{insert_key}
+use Rattle.indexmap.specs.IndexSet.{insert_key}
 use Rattle.dim_core.specs.declared.fault.DimFault.TheVariants.{Duplicate, WeightRange, TooMany}
 use Rattle.dim_core.specs.declared.attribute.NamedAttribute.{NamedAttribute}
 use Rattle.dim_name.specs.Name.{has_name, is_same_name}

@@ -10,7 +10,7 @@ use Rattle.std.proofs.lemmas.List.Quantifiers.{position-Some}
 use Rattle.std.proofs.lemmas.Option.{slice_get-get_or, slice_get_past}
 use Rattle.std.proofs.lemmas.Slice.Zip.{AllZip-long}
 use Rattle.std.proofs.Math.Seq.{get_or-append_seam}
-use Rattle.numbered.proofs.Places.{none_passes, position-none, position-first}
+use Rattle.lists.proofs.Places.{none_passes, position-none, position-first}
 use Rattle.dim_name.specs.Name.{is_same_name, has_name, place_of}
 use Rattle.dim_core.specs.declared.attribute.Attribute.{Attribute}
 use Rattle.dim_core.specs.Inside.Kept.{IsKeyOf}

@@ -9,7 +9,7 @@ use Rattle.std.proofs.lemmas.List.Sums.{sum_by_more_le, sum_by-cons}
 use Rattle.std.proofs.lemmas.Map.Keys.{apart_from_distinct}
 use Rattle.dim_order.specs.Loops.{first_on_loop}
 use Rattle.dim_order.proofs.LoopLemmas.{first_on_loop-ordered}
-use Rattle.numbered.proofs.Places.{position-none, get_or_within}
+use Rattle.lists.proofs.Places.{position-none, get_or_within}
 use Rattle.dim_name.specs.Name.{has_name, is_same_name, place_of}
 use Rattle.dim_core.specs.declared.attribute.Attribute.{Attribute}
 use Rattle.dim_core.specs.declared.attribute.NamedAttribute.{NamedAttribute}
@@ -19,7 +19,7 @@ use Rattle.dim_core.specs.Outline.{Element, Outline, names_of, name_of, componen
 use Rattle.dim_core.specs.Refusal.{refusal_of, first_cause, finish_refusal_of}
 use Rattle.dim_core.specs.Written.{by_name, written_element, written_attribute, written}
 use Rattle.dim_core.proofs.BadAttributes.{first_bad-none}
-use Rattle.dim_core.proofs.Naming.{same_names, same_attributes, same_number, place_at, repeated-resolved}
+use Rattle.dim_core.proofs.Naming.{new_name, same_names, same_attributes, same_number, place_at, repeated-resolved}
 use Rattle.dim_core.proofs.Resolving.{resolved_is}
 
 -- the elements of the draft
@@ -69,16 +69,6 @@ none_of false true false d w m = refl
 
 not_many : (n m : ℕ) → n ≤ 100000 → m ≤ 1000000 → (nat_lt 100000 n || nat_lt 1000000 m) ≡ false
 not_many n m few parts = grind (arith, nat_tests)
-
-new_name : (names : List (List ℕ)) (e : ℕ) → IsDistinct is_same_name names → e < length names → has_name (take e names) (get_or names e []) ≡ false
-new_name names e distinct within =
-    list_any_none (is_same_name (get_or names e [])) (take e names)
-    (λ k d inside.
-    let before : k < e = omega (arith, length-take e names) in
-    let there : k < length names = omega arith in
-    let at = get_or-take e names k d before ∙ get_or_within names k d [] there in
-    let P : List ℕ → Type 0 = λ n. is_same_name (get_or names e []) n ≡ false in
-    subst P (sym at) (same_names.symm (get_or names e []) (get_or names k []) ∙ apart_from_distinct is_same_name names k e [] distinct before within))
 
 pub element_accepted : (d : Outline) (draft : Draft) (e : ℕ) → IsDimension d → e < length d.elements → draft.elements ≡ take e (written d).elements
     → refusal_of draft (name_of d e) (by_name (names_of d.elements) (components_of d e)) ≡ None

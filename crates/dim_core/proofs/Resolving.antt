@@ -14,7 +14,7 @@ use Rattle.dim_core.specs.Inside.Kept.{IsKept, IsStored, AreNamed, AreAttributed
 use Rattle.dim_order.specs.Levels.{AreLevels}
 use Rattle.dim_order.specs.Loops.{IsOrder, ArePartsWithin, first_on_loop}
 use Rattle.dim_core.specs.Outline.{Element, elements_of, IsWeight, is_same_attribute, IsDimension, names_of, component_lists}
-use Rattle.numbered.proofs.Places.{none_passes}
+use Rattle.lists.proofs.Places.{none_passes}
 use Rattle.dim_core.proofs.Elements.{names_of-elements_of, component_lists-elements_of, length-elements_of, get_or_within}
 
 -- the test of a builder over its fields

@@ -26,7 +26,7 @@ first_cause None None None = None
 abbrev pub finish_refusal_of : Draft → Option DimFault
 finish_refusal_of draft = first_cause (first_unknown draft) (first_bad_attribute draft) (first_loop draft)
 
--- an answer has this cause: it is Ok where there is none, and else the cause; want of memory may always come
+-- an answer has this cause: it is Ok where there is none, and else the cause; an answer may always be out of memory
 abbrev pub IsAnsweredBy : {T : Type 0} → Option DimFault → Result T DimFault → Type 0
 IsAnsweredBy None (Ok value) = ⊤
 IsAnsweredBy (Some cause) (Ok value) = ⊥

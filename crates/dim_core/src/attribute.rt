@@ -1,3 +1,5 @@
+ghost use Rattle.std.specs.Prelude.{◌≡◌};
+
 use crate::Name;
 use lists::ListOf;
 
@@ -15,4 +17,22 @@ pub struct NamedAttribute {
     pub element: Name,
     pub name: Name,
     pub text: ListOf<u8>,
+}
+
+impl NamedAttribute {
+    /// The attribute of the element with this index.
+    pub fn of_element(self, index: u32) -> Attribute
+        ensures { result ≡ record { element = index; name = self.name; text = self.text } }
+    {
+        let NamedAttribute {
+            element: _,
+            name,
+            text,
+        } = self;
+        Attribute {
+            element: index,
+            name,
+            text,
+        }
+    }
 }

@@ -6,7 +6,7 @@ ghost use Rattle.dim_core.specs.Outline.{is_attribute, is_same_attribute, text_a
 use crate::Name;
 use crate::attribute::Attribute;
 use dim_name::NameFault;
-use numbered::Numbered;
+use lists::Numbered;
 use std::alloc::{AllocError, Global};
 use std::marker::Model;
 

@@ -4,16 +4,17 @@ ghost use Rattle.dim_core.specs.Draft.{empty_draft, with_element, with_attribute
 ghost use Rattle.dim_core.specs.Draft.{first_unknown, first_bad_attribute, first_loop, HasEarlierComponents};
 ghost use Rattle.dim_core.specs.Draft.{IsFinished};
 ghost use Rattle.dim_core.specs.Refusal.{refusal_of, first_cause, finish_refusal_of, IsAnsweredBy};
+ghost use Rattle.dim_order.specs.Levels.{AreLevels};
 ghost use Rattle.dim_order.specs.Loops.{IsOrder, ArePartsWithin, first_on_loop};
 
 use crate::attribute::NamedAttribute;
-use crate::attributes::copy_of;
 use crate::components::NamedComponents;
+use crate::kept_names::kept_names;
 use crate::resolve::{first_unknown, resolve_all, resolve_attributes};
 use crate::{DimFault, Dimension, Name};
 use dim_order::{Components, first_on_loop, levels_of, order_of};
+use indexmap::IndexSet;
 use lists::ListOf;
-use numbered::Numbered;
 use std::alloc::{AllocError, Global};
 use std::marker::Model;
 
@@ -31,7 +32,7 @@ pub const MAX_WEIGHT: u64 = 1_000_000;
 pub struct Builder {
     alloc: Global,
     name: Name,
-    names: Numbered<Name>,
+    names: IndexSet<Name>,
     components: Vec<NamedComponents>,
     component_count: usize,
     attributes: Vec<NamedAttribute>,
@@ -46,12 +47,12 @@ impl Model for Builder {
 
     ghost view = { λ b. record {
       name = b.name;
-      elements = elements_of b.names b.components.items;
+      elements = elements_of b.names.keys b.components.items;
       attributes = b.attributes.items;
     } };
 
-    ghost invariant = { λ b. IsKept b.names b.components.items b.component_count
-        × AreNamed b.name b.names b.attributes.items };
+    ghost invariant = { λ b. IsKept b.names.keys b.components.items b.component_count
+        × AreNamed b.name b.names.keys b.attributes.items };
 }
 
 impl Builder {
@@ -63,7 +64,7 @@ impl Builder {
         Ok(Builder {
             alloc,
             name,
-            names: Numbered::new(alloc),
+            names: IndexSet::new(alloc),
             components: Vec::new(alloc),
             component_count: 0,
             attributes: Vec::new(alloc),
@@ -93,9 +94,8 @@ impl Builder {
         }
         let _is_name = name.shown();
         let count = self.component_count + components.len();
-        let copy = copy_of(self.alloc, &name)?;
         self.components.reserve(1)?;
-        self.names.insert(name, copy)?;
+        self.names.insert(name)?;
         self.components
             .push_reserved(NamedComponents::new(components));
         self.component_count = count;
@@ -193,25 +193,27 @@ impl Builder {
             Err(fault) => return Err(fault),
         };
         let resolved = resolve_all(alloc, &names, &components)?;
-        match order_or_loop(alloc, &resolved) {
-            Ok(order) => {
-                let levels = levels_of(alloc, &resolved, &order)?;
-                Ok(Dimension::new(name, names, resolved, order, levels, described))
-            }
+        let kept = kept_names(alloc, names)?;
+        match order_and_levels(alloc, &resolved) {
+            Ok((order, levels)) => Ok(Dimension::new(
+                name, kept, resolved, order, levels, described,
+            )),
             Err(fault) => Err(fault),
         }
     }
 }
 
-// An order of the elements, or the first that lies on a loop.
-fn order_or_loop(alloc: Global, lists: &[Components]) -> Result<Vec<u32>, DimFault>
+// An order of the elements with their levels, or the first that lies on a loop.
+fn order_and_levels(alloc: Global, lists: &[Components]) -> Result<(Vec<u32>, Vec<u32>), DimFault>
     requires few { length lists.now < 2 ^ 32 }
     requires within { ArePartsWithin lists.now }
-    ensures order { IfOk result (λ order. IsOrder lists.now order.items) }
+    ensures order { IfOk result (λ found. IsOrder lists.now found.0.items) }
+    ensures levels { IfOk result (λ found. AreLevels lists.now found.1.items) }
     ensures answered { IsAnsweredBy (option_map DimFault.Loop (first_on_loop lists.now)) result }
 {
     if let Some(order) = order_of(alloc, lists)? {
-        return Ok(order);
+        let levels = levels_of(alloc, lists, &order)?;
+        return Ok((order, levels));
     }
     match first_on_loop(alloc, lists)? {
         Some(element) => Err(DimFault::Loop(element)),

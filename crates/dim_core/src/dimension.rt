@@ -9,7 +9,7 @@ use crate::Name;
 use crate::attribute::Attribute;
 use crate::attributes::Attributes;
 use dim_order::Components;
-use numbered::Numbered;
+use lists::Numbered;
 use std::marker::Model;
 
 /// A finished dimension. Its elements are named by their index, from 0 in the order of definition.

@@ -15,7 +15,7 @@ pub enum DimFault {
     TooMany,
     /// The first attribute call whose element isn't defined, or that repeats an element and attribute.
     BadAttribute(u64),
-    /// Want of memory.
+    /// Out of memory.
     Memory,
 }
 

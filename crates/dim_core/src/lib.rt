@@ -11,6 +11,7 @@ mod builder;
 mod components;
 mod dimension;
 mod fault;
+mod kept_names;
 mod laws;
 mod resolve;
 

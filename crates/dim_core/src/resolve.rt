@@ -7,17 +7,17 @@ ghost use Rattle.dim_core.specs.Draft.{are_known, is_bad_attribute, first_bad_am
 ghost use Rattle.dim_core.specs.Outline.{is_same_attribute, most_elements};
 ghost use Rattle.dim_core.specs.Refusal.{IsAnsweredBy};
 
-use crate::attribute::{Attribute, NamedAttribute};
+use crate::attribute::NamedAttribute;
 use crate::attributes::Attributes;
 use crate::components::NamedComponents;
 use crate::{DimFault, Name};
 use dim_order::Components;
-use numbered::Numbered;
+use indexmap::IndexSet;
 use std::alloc::{AllocError, Global};
 
 /// The first of these lists that has a name which isn't among the names.
-pub fn first_unknown(names: &Numbered<Name>, lists: &[NamedComponents]) -> Option<usize>
-    ensures value { result ≡ position (λ parts. not (are_known names.now parts)) lists.now }
+pub fn first_unknown(names: &IndexSet<Name>, lists: &[NamedComponents]) -> Option<usize>
+    ensures value { result ≡ position (λ parts. not (are_known names.now.keys parts)) lists.now }
     ensures within { IfSome result (λ place. place < length lists.now) }
 {
     lists
@@ -25,8 +25,8 @@ pub fn first_unknown(names: &Numbered<Name>, lists: &[NamedComponents]) -> Optio
         .position(|list| !are_known(names, list.as_slice()))
 }
 
-fn are_known(names: &Numbered<Name>, parts: &[(Name, i64)]) -> bool
-    ensures { result ≡ are_known names.now parts.now }
+fn are_known(names: &IndexSet<Name>, parts: &[(Name, i64)]) -> bool
+    ensures { result ≡ are_known names.now.keys parts.now }
 {
     parts.iter().all(|part| names.contains(&part.0))
 }
@@ -34,12 +34,12 @@ fn are_known(names: &Numbered<Name>, parts: &[(Name, i64)]) -> bool
 /// The components of all elements by index, in the order of the elements.
 pub fn resolve_all(
     alloc: Global,
-    names: &Numbered<Name>,
+    names: &IndexSet<Name>,
     lists: &[NamedComponents],
 ) -> Result<Vec<Components>, AllocError>
-    requires few { length names.now ≤ most_elements }
-    requires known { All (λ parts. IsTrue (are_known names.now parts)) lists.now }
-    ensures { IfOk result (λ resolved. AllZip (IsResolved names.now) lists.now resolved.items) }
+    requires few { length names.now.keys ≤ most_elements }
+    requires known { All (λ parts. IsTrue (are_known names.now.keys parts)) lists.now }
+    ensures { IfOk result (λ resolved. AllZip (IsResolved names.now.keys) lists.now resolved.items) }
 {
     let mut resolved = Vec::with_capacity(alloc, lists.len())?;
     for list in lists {
@@ -50,12 +50,12 @@ pub fn resolve_all(
 
 fn resolve(
     alloc: Global,
-    names: &Numbered<Name>,
+    names: &IndexSet<Name>,
     parts: &[(Name, i64)],
 ) -> Result<Components, AllocError>
-    requires few { length names.now ≤ most_elements }
-    requires known { IsTrue (are_known names.now parts.now) }
-    ensures { IfOk result (λ resolved. IsResolved names.now parts.now resolved) }
+    requires few { length names.now.keys ≤ most_elements }
+    requires known { IsTrue (are_known names.now.keys parts.now) }
+    ensures { IfOk result (λ resolved. IsResolved names.now.keys parts.now resolved) }
 {
     let mut resolved = Vec::with_capacity(alloc, parts.len())?;
     for (name, weight) in parts {
@@ -69,13 +69,13 @@ fn resolve(
 /// a call before it.
 pub fn resolve_attributes(
     alloc: Global,
-    names: &Numbered<Name>,
+    names: &IndexSet<Name>,
     calls: Vec<NamedAttribute>,
 ) -> Result<Attributes, DimFault>
-    requires few { length names.now ≤ most_elements }
-    ensures resolved { IfOk result (λ resolved. AllZip (IsResolvedAttribute names.now) calls.items resolved) }
+    requires few { length names.now.keys ≤ most_elements }
+    ensures resolved { IfOk result (λ resolved. AllZip (IsResolvedAttribute names.now.keys) calls.items resolved) }
     ensures once { IfOk result (λ resolved. IsDistinct is_same_attribute resolved) }
-    ensures answered { IsAnsweredBy (option_map BadAttribute (first_bad_among names.now calls.items)) result }
+    ensures answered { IsAnsweredBy (option_map BadAttribute (first_bad_among names.now.keys calls.items)) result }
 {
     let mut resolved = Attributes::new(alloc);
     for call in calls {
@@ -90,34 +90,22 @@ pub fn resolve_attributes(
 // Adds the attribute of a call, unless the call is bad after those that came before it.
 fn add_call(
     alloc: Global,
-    names: &Numbered<Name>,
+    names: &IndexSet<Name>,
     call: NamedAttribute,
     resolved: &mut Attributes,
 ) -> Result<bool, AllocError>
-    requires few { length names.now ≤ most_elements }
+    requires few { length names.now.keys ≤ most_elements }
     ensures bad { IfOk result (λ added. (before : List NamedAttribute)
-        → AllZip (IsResolvedAttribute names.now) before resolved.old
-        → added ≡ not (is_bad_attribute names.now before call)) }
+        → AllZip (IsResolvedAttribute names.now.keys) before resolved.old
+        → added ≡ not (is_bad_attribute names.now.keys before call)) }
     ensures added { IfOk result (λ added. added ≡ true → (before : List NamedAttribute)
-        → AllZip (IsResolvedAttribute names.now) before resolved.old
-        → AllZip (IsResolvedAttribute names.now) (before ++ call ∷ []) resolved.new) }
+        → AllZip (IsResolvedAttribute names.now.keys) before resolved.old
+        → AllZip (IsResolvedAttribute names.now.keys) (before ++ call ∷ []) resolved.new) }
     ensures once { IfOk result (λ added. added ≡ true → IsDistinct is_same_attribute resolved.old
         → IsDistinct is_same_attribute resolved.new) }
 {
-    let NamedAttribute {
-        element,
-        name,
-        text,
-    } = call;
-    match names.get_index_of(&element) {
-        Some(index) => resolved.add(
-            alloc,
-            Attribute {
-                element: index as u32,
-                name,
-                text,
-            },
-        ),
+    match names.get_index_of(&call.element) {
+        Some(index) => resolved.add(alloc, call.of_element(index as u32)),
         None => Ok(false),
     }
 }

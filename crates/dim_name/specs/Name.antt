@@ -3,10 +3,11 @@ use Rattle.std.specs.Prelude.{ℕ, Bool, not, ◌&&◌, ◌==◌, List, map, fil
 use Rattle.std.specs.Char.{is_ascii_control, to_ascii_lowercase}
 use Rattle.std.specs.Cmp.Lexicographic.{pointwise}
 use Rattle.std.specs.List.{list_all, list_any}
+use Rattle.dim_name.specs.Bytes.{space}
 
 -- any byte but a space
 abbrev pub is_not_space : ℕ → Bool
-is_not_space byte = not (byte == 32)
+is_not_space byte = not (byte == space)
 
 -- a name has no control byte, which is one below 0x20 or 0x7F, and at least one byte that isn't a space
 abbrev pub is_name : List ℕ → Bool

@@ -11,7 +11,7 @@ use Rattle.dim_order.specs.Members.{is_among}
 use Rattle.dim_order.specs.Inside.Growth.{IsGrown, IsSettled, AreSettled}
 use Rattle.dim_order.specs.Loops.{parts_of, is_reached, lies_on_loop, first_on_loop, IsOrder, ArePartsWithin}
 use Rattle.dim_order.proofs.GrowthLemmas.{length-grown, is_among-push}
-use Rattle.numbered.proofs.Places.{position-none, position-first}
+use Rattle.lists.proofs.Places.{position-none, position-first}
 use Rattle.dim_order.proofs.Tests.{either, neither, first_holds, second_holds, list_any-implied, some_of_all, list_any-none_implied, place_in_front, place_among, is_among-take}
 
 -- the components of one element, also past the end

@@ -13,7 +13,7 @@ use Rattle.dim_order.specs.Inside.Growth.{IsGrown, IsSettled, AreSettled}
 use Rattle.dim_order.specs.Loops.{parts_of, is_reached, lies_on_loop, first_on_loop, ArePartsWithin}
 use Rattle.dim_order.proofs.GrowthLemmas.{length-grown, is_among-push}
 use Rattle.dim_order.proofs.LoopLemmas.{parts_within, is_reached-more}
-use Rattle.numbered.proofs.Places.{none_passes}
+use Rattle.lists.proofs.Places.{none_passes}
 use Rattle.dim_order.proofs.Tests.{either, first_holds, second_holds, list_any-implied}
 
 -- the first component that is not in the list

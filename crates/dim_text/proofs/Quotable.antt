@@ -4,7 +4,7 @@ use Rattle.std.proofs.lemmas.List.Elements.{All-nil, All-cons, All-head, All-tai
 use Rattle.std.specs.List.{All, AllZip}
 use Rattle.cube_lex.specs.Lexed.{IsWellFormed}
 use Rattle.cube_lex.specs.Lexeme.{Lexeme}
-use Rattle.cube_lex.specs.Parts.{IsToken, IsQuoted, token_limit}
+use Rattle.cube_lex.specs.Parts.{IsToken, IsQuoted, most_token_bytes}
 use Rattle.cube_lex.specs.Quoted.{unquoted}
 use Rattle.cube_lex.specs.declared.token.Kind.{Kind}
 use Rattle.cube_lex.specs.declared.token.Kind.TheVariants as kinds
@@ -36,12 +36,12 @@ use Rattle.dim_text.specs.Writable.{IsWritable}
 
 -- Texts and names.
 
-quoted_quotable : (piece : List ℕ) → IsQuoted piece → length piece ≤ token_limit → IsQuotable (unquoted piece)
+quoted_quotable : (piece : List ℕ) → IsQuoted piece → length piece ≤ most_token_bytes → IsQuotable (unquoted piece)
 quoted_quotable piece (bytes, plain, is) short =
     let same : unquoted piece ≡ bytes = ap unquoted is ∙ unquoted-quoted bytes in
-    subst IsQuotable (sym same) (plain, subst (λ x. length x ≤ token_limit) is short)
+    subst IsQuotable (sym same) (plain, subst (λ x. length x ≤ most_token_bytes) is short)
 
-kind_quotable : (kind : Kind) (piece : List ℕ) → is_text_kind kind ≡ true → IsToken kind piece × (length piece ≤ token_limit) → IsQuotable (unquoted piece)
+kind_quotable : (kind : Kind) (piece : List ℕ) → is_text_kind kind ≡ true → IsToken kind piece × (length piece ≤ most_token_bytes) → IsQuotable (unquoted piece)
 kind_quotable kinds.Word piece e h = cc
 kind_quotable kinds.Number piece e h = cc
 kind_quotable kinds.Text piece e h = quoted_quotable piece h.0 h.1

@@ -1,7 +1,7 @@
 -- What is printed of a dimension.
 use Rattle.std.specs.Prelude.{◌≡◌, ℕ, ◌≤◌, List, ◌++◌, length, Result, Ok, Err, None}
 use Rattle.cube_lex.specs.Lexed.{Lexed}
-use Rattle.cube_lex.specs.Reading.{IsReading, text_limit}
+use Rattle.cube_lex.specs.Reading.{IsReading, most_text_bytes}
 use Rattle.cube_lex.specs.Written.{Writes}
 use Rattle.dim_core.specs.Outline.{Outline}
 use Rattle.dim_core.specs.Written.{written}
@@ -24,7 +24,7 @@ ReadsAs d lexed =
 
 -- where the bytes aren't too many for a text, they have a reading without a fault, and it reads as the dimension
 abbrev pub IsTextOf : Outline → List ℕ → Type 0
-IsTextOf d bytes = length bytes ≤ text_limit → (lexed : Lexed) × IsReading bytes lexed None × ReadsAs d lexed
+IsTextOf d bytes = length bytes ≤ most_text_bytes → (lexed : Lexed) × IsReading bytes lexed None × ReadsAs d lexed
 
 -- new is old with the block of the dimension written at its end: just the tokens that define it, in no more bytes than
 -- they need, which read back

@@ -8,7 +8,7 @@ use Rattle.std.proofs.lemmas.List.Sums.{sum_by_more, get_or-le-sum_by, list_all-
 use Rattle.dim_core.specs.Outline.{Outline, IsDimension, components_of, component_lists}
 use Rattle.dim_order.specs.Members.{is_among}
 use Rattle.dim_order.proofs.Depths.{among-front}
-use Rattle.numbered.proofs.Places.{get_or_within}
+use Rattle.lists.proofs.Places.{get_or_within}
 use Rattle.dim_core.proofs.LevelLaws.{length-component_lists, component-lower}
 use Rattle.dim_weights.specs.declared.fault.WeightFault.{WeightFault}
 use Rattle.dim_weights.specs.declared.fault.WeightFault.TheVariants.{Memory}

@@ -19,6 +19,6 @@ mod sort;
 pub use expression::expression_at;
 pub use language::{Inner, Language};
 pub use level::Level;
-pub use limits::{Limits, MOST_INSIDE};
+pub use limits::{Limits, MAX_INSIDE};
 pub use nested::Nested;
 pub use sort::{Sort, Want};

@@ -8,14 +8,14 @@ use cube_lex::{Kind, Token};
 use grammar::is_sign;
 
 /// How many parentheses may be open at once.
-const MOST_OPEN: u32 = 32;
+const MAX_OPEN: u32 = 32;
 
 /// How many primaries one whole expression may have, those inside others counted.
-const MOST_PRIMARIES: u32 = 1_000;
+const MAX_PRIMARIES: u32 = 1_000;
 
 /// How many expressions may be one inside the other, or how many blocks of a script. Each is opened by itself, and the
 /// 33rd that is open is refused, so no text comes to the last of them.
-pub const MOST_INSIDE: u32 = 64;
+pub const MAX_INSIDE: u32 = 64;
 
 /// How deep and how long a whole expression is so far.
 #[derive(Clone, Copy)]
@@ -64,7 +64,7 @@ impl Limits {
     {
         if !(self.due && may_begin_primary(token)) {
             Some(self.primaries)
-        } else if self.primaries < MOST_PRIMARIES {
+        } else if self.primaries < MAX_PRIMARIES {
             Some(self.primaries + 1)
         } else {
             None
@@ -101,7 +101,7 @@ impl Limits {
     fn opened(&self, primaries: u32) -> Option<Limits>
         ensures { result ≡ limits.opened self.now primaries }
     {
-        if self.depth < MOST_OPEN {
+        if self.depth < MAX_OPEN {
             Some(Limits {
                 depth: self.depth + 1,
                 primaries,

@@ -9,7 +9,7 @@ use Rattle.std.proofs.lemmas.List.Elements.{All-contains, All-map, All-cons, All
 use Rattle.std.proofs.lemmas.List.Folds.{Any-from_list_any, list_any_at}
 use Rattle.std.proofs.lemmas.List.FromFn.{length-range_with_len, get_or-range_with_len}
 use Rattle.std.proofs.lemmas.List.Elements.{filter_passes}
-use Rattle.rising_lists.proofs.Members.{contains_from_among, among_from_contains, kept_member, kept_increases}
+use Rattle.lists.proofs.Members.{contains_from_among, among_from_contains, kept_member, kept_increases}
 use Rattle.rule_laws.specs.RuleSystem.{RuleSystem, Feed, Stored, IsCell, IsLeafCell}
 use Rattle.rule_laws.specs.Order.{IsWellFormed}
 use Rattle.rule_laws.specs.Feeding.{leaves_of, is_dense, IsDenseCell, Feeds, IsStart, Leads, IsFed}

@@ -11,8 +11,8 @@ use Rattle.rule_model.specs.declared.rules.Feeder.{Feeder}
 use Rattle.rule_model.specs.BoundModel.{BoundModel, rules_of}
 use Rattle.rule_model.specs.System.{cubes_of}
 use Rattle.rule_model.specs.Conditions.{IsFeeder, AreRules}
-use Rattle.feed_cover.specs.declared.view.View.{View}
-use Rattle.feed_cover.specs.declared.view.Counted.TheVariants.{Leaves}
+use Rattle.feed_cover.specs.declared.reference_view.ReferenceView.{ReferenceView}
+use Rattle.feed_cover.specs.declared.reference_view.Counted.TheVariants.{Leaves}
 use Rattle.feed_cover.specs.Views.{counts_of, look_of}
 use Rattle.cover_laws.specs.Looking.{some_below, is_possible}
 use Rattle.cover_laws.specs.Decision.{look_below, feeds_all, covers, has_cover}
@@ -90,7 +90,7 @@ feeder-at m own k fs f ruled there same low is =
     let at : get_or (rules_of m own).feeders k f ≡ f = ap (λ (fs : List Feeder). get_or fs k f) (sym same) ∙ sym is in
     subst (IsFeeder m.space own) at ((ruled.cube own there).feeders k f long)
 
-pub look-leaves : (m : BoundModel) (view : View) → view.counted ≡ Leaves → look_of m view ≡ look_below m view.cube view.area.now view.reference.now
+pub look-leaves : (m : BoundModel) (view : ReferenceView) → view.counted ≡ Leaves → look_of m view ≡ look_below m view.cube view.area.now view.reference.now
 look-leaves m view is = ap (λ k. record { space = m.space; cube = view.cube; area = view.area.now; args = view.reference.now.args; counts = counts_of k m view.reference.now.cube }) is
 
 pub all-hold : (a b c d : Bool) → a ≡ true → b ≡ true → c ≡ true → d ≡ (a && b) && (c && d)

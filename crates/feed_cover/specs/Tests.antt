@@ -3,7 +3,7 @@ use Rattle.std.specs.Prelude.{◌≡◌, ℕ, ◌<◌, Some, length, List, Optio
 use Rattle.cube_space.specs.Layout.{axes, sizes}
 use Rattle.rule_model.specs.BoundModel.{BoundModel}
 use Rattle.cover_laws.specs.Looking.{sent}
-use Rattle.feed_cover.specs.declared.view.View.{View}
+use Rattle.feed_cover.specs.declared.reference_view.ReferenceView.{ReferenceView}
 use Rattle.feed_cover.specs.Views.{IsView}
 
 -- a dimension of a cube of the model
@@ -17,7 +17,7 @@ pub record IsElementOf (model : BoundModel) (cube dim element : ℕ) : Type 0 wh
   pub within : element < slice_index_or (sizes model.space cube) dim 0
 
 -- a dimension of the cube that is looked from, and a dimension of the reference's cube with a map to the former
-pub record IsWay (model : BoundModel) (view : View) (dim place : ℕ) (to : List (Option ℕ)) : Type 0 where
+pub record IsWay (model : BoundModel) (view : ReferenceView) (dim place : ℕ) (to : List (Option ℕ)) : Type 0 where
   pub is_view : IsView model view
   pub own : dim < length (axes model.space view.cube)
   pub its : place < length (axes model.space view.reference.now.cube)

@@ -8,16 +8,16 @@ use Rattle.rule_model.specs.Conditions.{IsArea, IsReference}
 use Rattle.std.specs.Prelude.{length}
 use Rattle.cover_laws.specs.Looking.{Look}
 use Rattle.cover_laws.specs.Decision.{has_leaves}
-use Rattle.feed_cover.specs.declared.view.Counted.{Counted}
-use Rattle.feed_cover.specs.declared.view.Counted.TheVariants.{Leaves, Within}
-use Rattle.feed_cover.specs.declared.view.View.{View}
+use Rattle.feed_cover.specs.declared.reference_view.Counted.{Counted}
+use Rattle.feed_cover.specs.declared.reference_view.Counted.TheVariants.{Leaves, Within}
+use Rattle.feed_cover.specs.declared.reference_view.ReferenceView.{ReferenceView}
 
 -- which elements count of a cube's dimensions
 abbrev pub counts_of : Counted → BoundModel → ℕ → ℕ → ℕ → Bool
 counts_of Leaves model cube j = has_leaves (axes model.space cube) j
 counts_of (Within area) model cube j = in_set (slice_index_or area.now.sets j None)
 
-abbrev pub look_of : BoundModel → View → Look
+abbrev pub look_of : BoundModel → ReferenceView → Look
 look_of model view = record {
   space = model.space;
   cube = view.cube;
@@ -32,7 +32,7 @@ IsCounted model cube Leaves = ⊤
 IsCounted model cube (Within area) = IsArea model.space cube area.now
 
 -- a cube of the model, an area of it, and a reference from it
-pub record IsView (model : BoundModel) (view : View) : Type 0 where
+pub record IsView (model : BoundModel) (view : ReferenceView) : Type 0 where
   pub valid : IsSpace model.space
   pub cube : view.cube < length model.space.cubes
   pub area : IsArea model.space view.cube view.area.now

@@ -4,13 +4,13 @@ ghost use Rattle.rule_model.specs.BoundModel.{rules_of};
 ghost use Rattle.rule_model.specs.Conditions.{IsArea, IsReference, IsFeeder};
 ghost use Rattle.cover_laws.specs.Looking.{some_below};
 ghost use Rattle.cover_laws.specs.Decision.{names_no_total, names_no_governed, feeds_all, has_cover, is_covered};
-ghost use Rattle.feed_cover.specs.declared.view.Counted.TheVariants.{Leaves};
+ghost use Rattle.feed_cover.specs.declared.reference_view.Counted.TheVariants.{Leaves};
 ghost use Rattle.feed_cover.specs.Views.{IsView};
 
 use crate::named::{name_leaves, name_sources};
 use crate::possible::is_possible;
 use crate::reach::all_reach;
-use crate::view::{Counted, View};
+use crate::reference_view::{Counted, ReferenceView};
 use rule_laws::Reference;
 use rule_model::{Area, Feeder, Model};
 
@@ -30,7 +30,7 @@ fn names_no_total<'a>(
     ensures { result ≡ names_no_total model.now cube area.now reference.now governed.now }
 {
     let _space = model.space();
-    let view = View {
+    let view = ReferenceView {
         cube,
         area,
         reference,
@@ -68,7 +68,7 @@ fn names_no_governed<'a>(
 // Whether a feeder of a cube feeds the leaf cells of the area from each leaf cell at or below what the reference names,
 // where there is such a cell.
 #[tactic(auto, unfolding(cover_laws::specs::Decision::feeds_all))]
-fn feeds_all<'a>(model: &'a Model, view: View<'a>, own: u32, feeder: &'a Feeder) -> bool
+fn feeds_all<'a>(model: &'a Model, view: ReferenceView<'a>, own: u32, feeder: &'a Feeder) -> bool
     requires view { IsView model.now view }
     requires counted { view.counted ≡ Leaves }
     requires feeder { IsFeeder model.now.space own feeder.now }
@@ -81,7 +81,7 @@ fn feeds_all<'a>(model: &'a Model, view: View<'a>, own: u32, feeder: &'a Feeder)
 }
 
 // Whether some feeder of a cube does.
-fn feeds_from<'a>(model: &'a Model, view: View<'a>, own: u32) -> bool
+fn feeds_from<'a>(model: &'a Model, view: ReferenceView<'a>, own: u32) -> bool
     requires view { IsView model.now view }
     requires counted { view.counted ≡ Leaves }
     requires own { own < length model.now.space.cubes }
@@ -107,7 +107,7 @@ fn has_cover<'a>(model: &'a Model, cube: u32, area: &'a Area, reference: &'a Ref
     ensures { result ≡ has_cover model.now cube area.now reference.now }
 {
     let _space = model.space();
-    let view = View {
+    let view = ReferenceView {
         cube,
         area,
         reference,

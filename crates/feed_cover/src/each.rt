@@ -6,15 +6,15 @@ ghost use Rattle.cover_laws.specs.Decision.{each_sent};
 ghost use Rattle.feed_cover.specs.Views.{look_of, IsView};
 
 use crate::narrow::is_narrow;
+use crate::reference_view::ReferenceView;
 use crate::set::{count_in, element_in};
 use crate::table::leaves;
 use crate::test::ElementTest;
-use crate::view::View;
 use rule_laws::ElementMap;
 use rule_model::Model;
 
 /// Whether the area has a narrow element in a dimension.
-pub fn some_narrow(model: &Model, view: View, dim: usize) -> bool
+pub fn some_narrow(model: &Model, view: ReferenceView, dim: usize) -> bool
     requires view { IsView model.now view }
     requires dim { dim < length (axes model.now.space view.cube) }
     ensures { result ≡ some_in (look_of model.now view.entry) dim (is_narrow (look_of model.now view.entry) dim) }
@@ -28,7 +28,7 @@ pub fn some_narrow(model: &Model, view: View, dim: usize) -> bool
 }
 
 /// Whether each narrow element that the area has in a dimension passes.
-pub fn each_narrow<T: ElementTest>(model: &Model, view: View, dim: usize, test: &T) -> bool
+pub fn each_narrow<T: ElementTest>(model: &Model, view: ReferenceView, dim: usize, test: &T) -> bool
     requires view { IsView model.now view }
     requires dim { dim < length (axes model.now.space view.cube) }
     requires test { (element : ℕ) → element < slice_index_or (sizes model.now.space view.cube) dim 0

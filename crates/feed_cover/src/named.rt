@@ -8,17 +8,17 @@ ghost use Rattle.cover_laws.specs.Decision.{are_sources};
 ghost use Rattle.feed_cover.specs.Views.{look_of, IsView};
 
 use crate::each::each_narrow;
+use crate::reference_view::ReferenceView;
 use crate::table::is_shared;
 use crate::test::ElementTest;
 use crate::tests::{AreSources, IsLeaf, Sent};
-use crate::view::View;
 use rule_laws::Arg;
 use rule_model::{Area, Model};
 
 /// Whether each element that the argument at this place names from narrow elements passes.
 pub fn each_named<'a, T: ElementTest>(
     model: &'a Model,
-    view: View<'a>,
+    view: ReferenceView<'a>,
     place: usize,
     test: &'a T,
 ) -> bool
@@ -39,7 +39,7 @@ pub fn each_named<'a, T: ElementTest>(
 }
 
 // Whether each element that the argument at this place names is a leaf. From a leaf, one that keeps the element does.
-fn names_leaves<'a>(model: &'a Model, view: View<'a>, place: usize) -> bool
+fn names_leaves<'a>(model: &'a Model, view: ReferenceView<'a>, place: usize) -> bool
     requires view { IsView model.now view }
     requires place { place < length view.reference.now.args }
     ensures { result ≡ each_named (look_of model.now view.entry)
@@ -58,7 +58,7 @@ fn names_leaves<'a>(model: &'a Model, view: View<'a>, place: usize) -> bool
 
 /// Whether each element that an argument from this place on names is a leaf.
 #[cycle(name_leaves)]
-pub fn name_leaves<'a>(model: &'a Model, view: View<'a>, place: usize) -> bool
+pub fn name_leaves<'a>(model: &'a Model, view: ReferenceView<'a>, place: usize) -> bool
     requires view { IsView model.now view }
     requires place { place ≤ length view.reference.now.args }
     ensures { result ≡ all_named (look_of model.now view.entry)
@@ -73,7 +73,12 @@ pub fn name_leaves<'a>(model: &'a Model, view: View<'a>, place: usize) -> bool
 
 // Whether each leaf that counts in an element which the argument at this place names is among the sources of a feeder
 // of this area. Where it has all elements of the dimension, none needs to be looked at.
-fn names_sources<'a>(model: &'a Model, view: View<'a>, area: &'a Area, place: usize) -> bool
+fn names_sources<'a>(
+    model: &'a Model,
+    view: ReferenceView<'a>,
+    area: &'a Area,
+    place: usize,
+) -> bool
     requires view { IsView model.now view }
     requires area { IsArea model.now.space view.reference.now.cube area.now }
     requires place { place < length view.reference.now.args }
@@ -96,7 +101,12 @@ fn names_sources<'a>(model: &'a Model, view: View<'a>, area: &'a Area, place: us
 /// Whether each leaf that counts in an element which an argument from this place on names is among the sources of a
 /// feeder of this area.
 #[cycle(name_sources)]
-pub fn name_sources<'a>(model: &'a Model, view: View<'a>, area: &'a Area, place: usize) -> bool
+pub fn name_sources<'a>(
+    model: &'a Model,
+    view: ReferenceView<'a>,
+    area: &'a Area,
+    place: usize,
+) -> bool
     requires view { IsView model.now view }
     requires area { IsArea model.now.space view.reference.now.cube area.now }
     requires place { place ≤ length view.reference.now.args }

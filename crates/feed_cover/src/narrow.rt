@@ -4,15 +4,15 @@ ghost use Rattle.rule_laws.specs.declared.reference.Arg.TheVariants.{Fixed};
 ghost use Rattle.cover_laws.specs.Looking.{names_one, name_each, is_narrow};
 ghost use Rattle.feed_cover.specs.Views.{counts_of, look_of, IsView};
 
+use crate::reference_view::{Counted, ReferenceView};
 use crate::set::is_listed;
 use crate::table::leaves;
-use crate::view::{Counted, View};
 use ref_order::axis;
 use rule_laws::Arg;
 use rule_model::Model;
 
 /// Whether an element counts that the argument at this place names.
-pub fn counts(model: &Model, view: View, place: usize, element: u32) -> bool
+pub fn counts(model: &Model, view: ReferenceView, place: usize, element: u32) -> bool
     requires view { IsView model.now view }
     requires place { place < length (axes model.now.space view.reference.now.cube) }
     requires element { element < slice_index_or (sizes model.now.space view.reference.now.cube) place 0 }
@@ -28,7 +28,7 @@ pub fn counts(model: &Model, view: View, place: usize, element: u32) -> bool
 }
 
 // Whether the argument at this place, if it follows the dimension, names an element that counts.
-fn names_one(model: &Model, view: View, place: usize, dim: usize, element: u32) -> bool
+fn names_one(model: &Model, view: ReferenceView, place: usize, dim: usize, element: u32) -> bool
     requires view { IsView model.now view }
     requires place { place < length view.reference.now.args }
     requires dim { dim < length (axes model.now.space view.cube) }
@@ -48,7 +48,7 @@ fn names_one(model: &Model, view: View, place: usize, dim: usize, element: u32) 
 
 // Whether each argument from this place on does.
 #[cycle(name_each)]
-fn name_each(model: &Model, view: View, place: usize, dim: usize, element: u32) -> bool
+fn name_each(model: &Model, view: ReferenceView, place: usize, dim: usize, element: u32) -> bool
     requires view { IsView model.now view }
     requires place { place ≤ length view.reference.now.args }
     requires dim { dim < length (axes model.now.space view.cube) }
@@ -64,7 +64,7 @@ fn name_each(model: &Model, view: View, place: usize, dim: usize, element: u32) 
 /// Whether an element of a dimension is a leaf from which each argument that follows the dimension names an element
 /// that counts.
 #[tactic(auto, unfolding(cover_laws::specs::Looking::is_narrow))]
-pub fn is_narrow(model: &Model, view: View, dim: usize, element: u32) -> bool
+pub fn is_narrow(model: &Model, view: ReferenceView, dim: usize, element: u32) -> bool
     requires view { IsView model.now view }
     requires dim { dim < length (axes model.now.space view.cube) }
     requires element { element < slice_index_or (sizes model.now.space view.cube) dim 0 }

@@ -5,14 +5,14 @@ ghost use Rattle.feed_cover.specs.Views.{counts_of, look_of, IsView};
 
 use crate::each::some_narrow;
 use crate::narrow::counts;
-use crate::view::View;
+use crate::reference_view::ReferenceView;
 use ref_order::axis_count;
 use rule_laws::Arg;
 use rule_model::Model;
 
 // Whether each argument from this place on that names the same element from each cell names one that counts.
 #[cycle(fixed_count)]
-fn fixed_count(model: &Model, view: View, place: usize) -> bool
+fn fixed_count(model: &Model, view: ReferenceView, place: usize) -> bool
     requires view { IsView model.now view }
     requires place { place ≤ length view.reference.now.args }
     ensures { result ≡ fixed_count (counts_of view.entry.counted model.now view.entry.reference.now.cube) place
@@ -31,7 +31,7 @@ fn fixed_count(model: &Model, view: View, place: usize) -> bool
 
 /// Whether from some leaf cell of the area every argument names an element that counts.
 #[tactic(auto, unfolding(cover_laws::specs::Looking::is_possible))]
-pub fn is_possible(model: &Model, view: View) -> bool
+pub fn is_possible(model: &Model, view: ReferenceView) -> bool
     requires view { IsView model.now view }
     ensures { result ≡ is_possible (look_of model.now view.entry) }
 {
@@ -39,7 +39,7 @@ pub fn is_possible(model: &Model, view: View) -> bool
 }
 
 // Whether the area has a narrow element in each dimension.
-fn has_narrow(model: &Model, view: View) -> bool
+fn has_narrow(model: &Model, view: ReferenceView) -> bool
     requires view { IsView model.now view }
     ensures { result ≡ each_below (λ i. some_in (look_of model.now view.entry) i
         (is_narrow (look_of model.now view.entry) i)) (length (axes model.now.space view.entry.cube)) }

@@ -10,10 +10,10 @@ ghost use Rattle.feed_cover.specs.Tests.{IsWay};
 
 use crate::each::each_narrow;
 use crate::named::each_named;
+use crate::reference_view::ReferenceView;
 use crate::table::is_shared;
 use crate::test::ElementTest;
 use crate::tests::{SendsBack, SendsOver, StandsOver};
-use crate::view::View;
 use rule_laws::{Arg, ElementMap, Reference};
 use rule_model::Model;
 
@@ -21,7 +21,7 @@ use rule_model::Model;
 // maps keep the elements of one dimension, that is the element itself.
 fn reaches_back<'a>(
     model: &'a Model,
-    view: View<'a>,
+    view: ReferenceView<'a>,
     dim: usize,
     to: &'a ElementMap,
     place: usize,
@@ -54,7 +54,7 @@ fn reaches_back<'a>(
 // names elements of, names one over each narrow element from which the leaf is named.
 fn reaches_from<'a>(
     model: &'a Model,
-    view: View<'a>,
+    view: ReferenceView<'a>,
     dim: usize,
     to: &'a ElementMap,
     place: usize,
@@ -81,7 +81,7 @@ fn reaches_from<'a>(
 }
 
 // Whether a feeder's argument for a dimension names an element over each narrow element of it.
-fn reaches<'a>(model: &'a Model, view: View<'a>, target: &'a Reference, dim: usize) -> bool
+fn reaches<'a>(model: &'a Model, view: ReferenceView<'a>, target: &'a Reference, dim: usize) -> bool
     requires view { IsView model.now view }
     requires target { IsReference model.now.space view.reference.now.cube target.now }
     requires cube { target.now.cube ≡ view.cube }
@@ -97,7 +97,12 @@ fn reaches<'a>(model: &'a Model, view: View<'a>, target: &'a Reference, dim: usi
 
 /// Whether each argument of a feeder from this dimension on does.
 #[cycle(all_reach)]
-pub fn all_reach<'a>(model: &'a Model, view: View<'a>, target: &'a Reference, dim: usize) -> bool
+pub fn all_reach<'a>(
+    model: &'a Model,
+    view: ReferenceView<'a>,
+    target: &'a Reference,
+    dim: usize,
+) -> bool
     requires view { IsView model.now view }
     requires target { IsReference model.now.space view.reference.now.cube target.now }
     requires cube { target.now.cube ≡ view.cube }

@@ -5,13 +5,13 @@ ghost use Rattle.rule_model.specs.Conditions.{IsSet};
 ghost use Rattle.order_laws.specs.Decision.{set_count, set_element};
 ghost use Rattle.feed_cover.specs.Views.{IsView};
 
-use crate::view::View;
+use crate::reference_view::ReferenceView;
 use lists::ListOf;
 use ref_order::{axis, count, element_at};
 use rule_model::Model;
 
 // The elements that the area has in a dimension.
-fn set<'a>(model: &Model, view: View<'a>, dim: usize) -> &'a Option<ListOf<u32>>
+fn set<'a>(model: &Model, view: ReferenceView<'a>, dim: usize) -> &'a Option<ListOf<u32>>
     requires view { IsView model.now view }
     requires dim { dim < length (axes model.now.space view.cube) }
     ensures { result.now ≡ slice_index_or view.entry.area.now.sets dim None }
@@ -21,7 +21,7 @@ fn set<'a>(model: &Model, view: View<'a>, dim: usize) -> &'a Option<ListOf<u32>>
 }
 
 /// How many elements the area has in a dimension.
-pub fn count_in(model: &Model, view: View, dim: usize) -> usize
+pub fn count_in(model: &Model, view: ReferenceView, dim: usize) -> usize
     requires view { IsView model.now view }
     requires dim { dim < length (axes model.now.space view.cube) }
     ensures { result ≡ set_count (slice_index_or (sizes model.now.space view.entry.cube) dim 0)
@@ -31,7 +31,7 @@ pub fn count_in(model: &Model, view: View, dim: usize) -> usize
 }
 
 /// The element at a place among them.
-pub fn element_in(model: &Model, view: View, dim: usize, k: usize) -> u32
+pub fn element_in(model: &Model, view: ReferenceView, dim: usize, k: usize) -> u32
     requires view { IsView model.now view }
     requires dim { dim < length (axes model.now.space view.cube) }
     requires there { k < set_count (slice_index_or (sizes model.now.space view.cube) dim 0)

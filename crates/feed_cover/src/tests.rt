@@ -9,10 +9,10 @@ ghost use Rattle.feed_cover.specs.Views.{look_of, IsView};
 ghost use Rattle.feed_cover.specs.Tests.{IsElementOf, IsWay};
 
 use crate::each::{each_narrow, each_sent};
+use crate::reference_view::ReferenceView;
 use crate::source::are_sources;
 use crate::table::counts_in;
 use crate::test::ElementTest;
-use crate::view::View;
 use ref_order::axis;
 use rule_laws::ElementMap;
 use rule_model::{Area, Model};
@@ -61,7 +61,7 @@ impl ElementTest for Over<'_> {
 #[derive(Clone, Copy)]
 pub struct StandsOver<'a> {
     pub model: &'a Model,
-    pub view: View<'a>,
+    pub view: ReferenceView<'a>,
     pub dim: usize,
 }
 
@@ -85,7 +85,7 @@ impl ElementTest for StandsOver<'_> {
 #[derive(Clone, Copy)]
 pub struct SendsOver<'a> {
     pub model: &'a Model,
-    pub view: View<'a>,
+    pub view: ReferenceView<'a>,
     pub dim: usize,
     pub place: usize,
     pub to: &'a ElementMap,
@@ -119,7 +119,7 @@ impl ElementTest for SendsOver<'_> {
 #[derive(Clone, Copy)]
 pub struct SendsBack<'a> {
     pub model: &'a Model,
-    pub view: View<'a>,
+    pub view: ReferenceView<'a>,
     pub dim: usize,
     pub place: usize,
     pub to: &'a ElementMap,

@@ -13,7 +13,7 @@ use Rattle.cell_store.specs.Cells.{IsUnion}
 use Rattle.rule_laws.specs.Feeding.{IsDenseCell, Feeds, IsFed}
 use Rattle.rule_model.specs.BoundModel.{BoundModel}
 use Rattle.rule_model.specs.System.{system_of}
-use Rattle.stored_values.specs.Stored.{stored_in}
+use Rattle.stored_laws.specs.Stored.{stored_in}
 use Rattle.feed_map.specs.declared.fault.FedFault.{FedFault}
 use Rattle.feed_map.specs.declared.fault.FedFault.TheVariants.{FedLimit, Memory}
 use Rattle.feed_map.specs.declared.growth.Growth.{Growth}

@@ -6,7 +6,7 @@ use Rattle.cell_store.specs.declared.entry.Entry.{Entry}
 use Rattle.rule_laws.specs.Feeding.{IsFed}
 use Rattle.rule_model.specs.BoundModel.{BoundModel}
 use Rattle.rule_model.specs.System.{system_of}
-use Rattle.stored_values.specs.Stored.{stored_in}
+use Rattle.stored_laws.specs.Stored.{stored_in}
 
 -- these are the fed cells, each once and rising: the leaf cells of dense cubes, and the ends of the chains of feeds
 -- that begin at a stored cell or at a leaf cell of a dense cube

@@ -8,7 +8,7 @@ ghost use Rattle.rule_laws.specs.Cover.{IsCovered};
 ghost use Rattle.rule_model.specs.BoundModel.{BoundModel};
 ghost use Rattle.rule_model.specs.Conditions.{AreRules};
 ghost use Rattle.rule_model.specs.System.{system_of, positions_of};
-ghost use Rattle.stored_values.specs.Stored.{stored_in};
+ghost use Rattle.stored_laws.specs.Stored.{stored_in};
 ghost use Rattle.feed_map.specs.FedCells.{AreFedCells};
 
 /// Fed cells are leaf cells of the model.

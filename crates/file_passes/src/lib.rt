@@ -16,4 +16,4 @@ pub use halt::Halt;
 pub use name::file_name;
 pub use obtaining::{obtain, obtain_all};
 pub use readings::{Readings, Source, source_of};
-pub use refusal::{Cause, Place, Refusal};
+pub use refusal::{Cause, FilePlace, Refusal};

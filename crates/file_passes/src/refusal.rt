@@ -5,13 +5,13 @@ use lists::ListOf;
 pub struct Refusal {
     /// The bytes of the file's name.
     pub file: ListOf<u8>,
-    pub at: Place,
+    pub at: FilePlace,
     pub cause: Cause,
 }
 
 /// A place in a file. All count from 1.
 #[derive(Clone, Copy, Debug, PartialEq, Eq)]
-pub enum Place {
+pub enum FilePlace {
     Line(u32),
     /// A statement of a rule file.
     Statement(u32),

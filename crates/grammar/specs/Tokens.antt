@@ -73,12 +73,12 @@ abbrev pub name : Lexeme → Option (List ℕ)
 name = when (λ t. is_text_kind t.kind && is_name (unquoted t.piece)) (λ t. unquoted t.piece)
 
 -- whole numbers are below this
-abbrev pub whole_limit : ℕ
-whole_limit = 2 ^ 31
+abbrev pub whole_end : ℕ
+whole_end = 2 ^ 31
 
 -- digits alone, which write a number below the limit
 abbrev pub is_whole : List ℕ → Bool
-is_whole piece = list_all is_ascii_digit piece && nat_lt (digits_value 10 piece) whole_limit
+is_whole piece = list_all is_ascii_digit piece && nat_lt (digits_value 10 piece) whole_end
 
 -- a whole number, which gives its value
 abbrev pub whole : Lexeme → Option ℕ

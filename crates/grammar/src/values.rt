@@ -15,7 +15,7 @@ use dim_name::{Name, NameFault};
 use std::alloc::Global;
 
 /// Whole numbers are below this.
-const WHOLE_LIMIT: u64 = 2_147_483_648;
+const WHOLE_END: u64 = 2_147_483_648;
 
 /// Takes a quoted text, and gives its bytes.
 pub fn text<C, S: Scan<C>>(alloc: Global, cursor: &mut Cursor<'_, S>) -> Result<Vec<u8>, Stop<C>>
@@ -62,11 +62,11 @@ pub fn name<C, S: Scan<C>>(alloc: Global, cursor: &mut Cursor<'_, S>) -> Result<
 // The number that digits write, or the limit where it isn't below that.
 fn value_of(digits: &[u8]) -> u64
     requires { IsTrue (list_all is_ascii_digit digits.now) }
-    ensures { result ≡ min (digits_value 10 digits.now) tokens.whole_limit }
+    ensures { result ≡ min (digits_value 10 digits.now) tokens.whole_end }
 {
     let mut value = 0;
     for digit in digits {
-        value = (value * 10 + u64::from(digit - b'0')).min(WHOLE_LIMIT);
+        value = (value * 10 + u64::from(digit - b'0')).min(WHOLE_END);
     }
     value
 }
@@ -87,7 +87,7 @@ fn whole_of(piece: &[u8]) -> Option<u32>
         return None;
     }
     let value = value_of(piece);
-    if value < WHOLE_LIMIT {
+    if value < WHOLE_END {
         Some(value as u32)
     } else {
         None

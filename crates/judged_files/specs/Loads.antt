@@ -7,8 +7,8 @@ use Rattle.std.specs.declared.alloc.Global.{Global}
 use Rattle.std.specs.declared.sync.Arc.{Arc}
 use Rattle.dim_name.specs.Name.{has_name, place_of}
 use Rattle.file_passes.specs.Pass.{Source, source_of, Judgement}
-use Rattle.load_job.specs.Rows.{rows_of}
-use Rattle.load_job.specs.declared.job.Job.{Job}
+use Rattle.user_text.specs.Rows.{rows_of}
+use Rattle.user_text.specs.declared.load_job.LoadJob.{LoadJob}
 use Rattle.script_tree.specs.declared.script.Script.{Script}
 use Rattle.user_session.specs.declared.command.PlanCommand.{PlanCommand}
 use Rattle.user_session.specs.declared.command.PlanCommand.TheVariants as plans
@@ -54,7 +54,7 @@ abbrev pub AreReady : Scripts → List Source → List UserCommand → Type 0
 AreReady scripts sources commands = All (λ command. IsReady scripts sources command.body) commands
 
 -- a load as it is run: by the place of its script in the model, with its records and what is set
-pub record IsLoad (scripts : Scripts) (sources : List Source) (load : LoadText) (job : Job) (tree : Script)
+pub record IsLoad (scripts : Scripts) (sources : List Source) (load : LoadText) (job : LoadJob) (tree : Script)
     : Type 0 where
   pub place : place_of scripts.names load.script ≡ Some job.script
   pub script : slice_get scripts.trees job.script ≡ Some tree
@@ -62,7 +62,7 @@ pub record IsLoad (scripts : Scripts) (sources : List Source) (load : LoadText) 
   pub params : job.params ≡ load.params
 
 abbrev pub IsLoadCommand : Scripts → List Source → LoadText → PlanCommand → Type 0
-IsLoadCommand scripts sources load command = (job : Job) × (script : Arc Script Global)
+IsLoadCommand scripts sources load command = (job : LoadJob) × (script : Arc Script Global)
     × (command ≡ plans.Load job script) × IsLoad scripts sources load job (arc_value script)
 
 -- a command as it is run

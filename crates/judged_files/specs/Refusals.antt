@@ -16,8 +16,8 @@ use Rattle.user_text.specs.declared.fault.UserFault.{UserFault}
 use Rattle.user_text.specs.declared.fault.UserFault.TheVariants as users
 use Rattle.file_passes.specs.declared.refusal.Cause.{Cause}
 use Rattle.file_passes.specs.declared.refusal.Cause.TheVariants as causes
-use Rattle.file_passes.specs.declared.refusal.Place.{Place}
-use Rattle.file_passes.specs.declared.refusal.Place.TheVariants.{Line, Statement, Feeder}
+use Rattle.file_passes.specs.declared.refusal.FilePlace.{FilePlace}
+use Rattle.file_passes.specs.declared.refusal.FilePlace.TheVariants.{Line, Statement, Feeder}
 use Rattle.file_passes.specs.declared.refusal.Refusal.{Refusal}
 
 -- this file is refused on this line
@@ -69,7 +69,7 @@ deploy_cause deploys.Memory = None
 abbrev pub text_refusal : List ℕ → ModelTextFault → Option Refusal
 text_refusal file fault = option_map (refused_on file fault.line) (model_cause fault.cause)
 
-abbrev pub place_of : At → Place
+abbrev pub place_of : At → FilePlace
 place_of (places.Line line) = Line line
 place_of (places.Statement statement) = Statement statement
 place_of (places.Feeder feeder) = Feeder feeder

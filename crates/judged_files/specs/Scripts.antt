@@ -1,6 +1,6 @@
 -- The scripts of a model, and what the bytes of all script files are judged to be, in the order of the model.
 use Rattle.std.specs.Prelude.{◌≡◌, ℕ, ◌≤◌, List, [], ◌∷◌, length, map, Some, Ok, Err, ◌⊎◌}
-use Rattle.model_text.specs.Contents.{scripts_limit}
+use Rattle.model_text.specs.Contents.{most_scripts}
 use Rattle.model_text.specs.declared.parts.ScriptText.{ScriptText}
 use Rattle.rule_model.specs.BoundModel.{BoundModel}
 use Rattle.script_reader.specs.Answers.{Answers}
@@ -18,7 +18,7 @@ pub record Scripts : Type 0 where
 -- each name has its script, and there are no more than a model may have
 pub record AreNamed (names : List (List ℕ)) (trees : List Script) : Type 0 where
   pub each : length trees ≡ length names
-  pub few : length names ≤ scripts_limit
+  pub few : length names ≤ most_scripts
 
 -- a model that was accepted, with its scripts
 pub record Checked : Type 0 where

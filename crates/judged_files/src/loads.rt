@@ -8,11 +8,10 @@ ghost use Rattle.judged_files.specs.Loads.{AreCommands, IsReady, IsReadyLoad, Ar
 use crate::scripts::Scripts;
 use file_passes::{Source, file_name, source_of};
 use lists::ListOf;
-use load_job::{Job, rows};
 use std::alloc::{AllocError, Global};
 use std::sync::Arc;
 use user_session::PlanCommand;
-use user_text::{LoadText, UserBody, UserCommand};
+use user_text::{LoadJob, LoadText, UserBody, UserCommand, rows};
 
 /// The names of the files of all records, in the order of users and commands.
 pub fn record_files(alloc: Global, users: &[ListOf<UserCommand>]) -> Result<Vec<String>, AllocError>
@@ -113,7 +112,7 @@ fn load_command(
 {
     let (script, tree) = scripts.named(&load.script);
     let rows = records_of(alloc, sources, &load.file, load.skip)?;
-    let job = Job {
+    let job = LoadJob {
         script,
         rows: ListOf::new(rows),
         params: load.params,

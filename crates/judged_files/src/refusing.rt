@@ -3,7 +3,7 @@ ghost use Rattle.judged_files.specs.Inside.Judging.{IsHaltFor};
 ghost use Rattle.judged_files.specs.Refusals.{refused_on, dim_cause, model_cause, deploy_cause};
 
 use dim_core::DimFault;
-use file_passes::{Cause, Halt, Place, Refusal};
+use file_passes::{Cause, FilePlace, Halt, Refusal};
 use lists::ListOf;
 use model_deploy::DeployCause;
 use model_text::ModelTextCause;
@@ -20,7 +20,7 @@ pub(crate) fn refused_on(
 {
     Ok(Refusal {
         file: ListOf::new(Vec::from_slice(alloc, file.as_bytes())?),
-        at: Place::Line(line),
+        at: FilePlace::Line(line),
         cause,
     })
 }

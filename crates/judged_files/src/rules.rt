@@ -8,7 +8,7 @@ ghost use Rattle.cube_words.specs.Words.{texts_of};
 
 use crate::refusing::deploy_cause;
 use accepted::Accepted;
-use file_passes::{Halt, Place, Refusal, Source, file_name, source_of};
+use file_passes::{FilePlace, Halt, Refusal, Source, file_name, source_of};
 use lists::ListOf;
 use model_deploy::{At, DeployFault, RuleFile, deploy};
 use model_text::{CubeText, ModelText};
@@ -109,12 +109,12 @@ fn file_or(alloc: Global, model: &str, file: Option<ListOf<u8>>) -> Result<ListO
     }
 }
 
-fn place_of(at: At) -> Place
+fn place_of(at: At) -> FilePlace
     ensures { result ≡ place_of at }
 {
     match at {
-        At::Line(line) => Place::Line(line),
-        At::Statement(statement) => Place::Statement(statement),
-        At::Feeder(feeder) => Place::Feeder(feeder),
+        At::Line(line) => FilePlace::Line(line),
+        At::Statement(statement) => FilePlace::Statement(statement),
+        At::Feeder(feeder) => FilePlace::Feeder(feeder),
     }
 }

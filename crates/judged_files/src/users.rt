@@ -12,7 +12,7 @@ use dim_name::Name;
 use file_passes::{Cause, Halt, Refusal, Source};
 use lists::ListOf;
 use std::alloc::{AllocError, Global};
-use user_text::{MOST_COMMANDS, UserBody, UserCommand, UserFault, parse};
+use user_text::{MAX_COMMANDS, UserBody, UserCommand, UserFault, parse};
 
 /// The commands of each user that the bytes of all user files stand for, where each load is one of a script of these
 /// names.
@@ -71,7 +71,7 @@ fn counted(before: u32, more: usize) -> Result<u32, AllocError>
     ensures few { IfOk result (λ count. count ≤ most_commands) }
 {
     match u32::try_from(more) {
-        Ok(more) if more <= MOST_COMMANDS - before => Ok(before + more),
+        Ok(more) if more <= MAX_COMMANDS - before => Ok(before + more),
         _ => Err(AllocError),
     }
 }

@@ -1,2 +1,6 @@
 pub mod Found
+pub mod Members
+pub mod NumberedFacts
+pub mod Places
+pub mod Rising
 pub mod Stable

@@ -14,9 +14,9 @@ use Rattle.rule_model.specs.Governing.{is_input}
 use Rattle.rule_model.specs.Named.{cell_named}
 use Rattle.rule_model.specs.System.{system_of}
 use Rattle.script_values.specs.Cells.{Store}
-use Rattle.script_values.specs.declared.reason.Reason.{Reason}
-use Rattle.script_values.specs.declared.reason.Reason.TheVariants.{NotALeaf, RuleDerived, StoreLimit, FedLimit}
-use Rattle.stored_values.specs.Stored.{stored_in}
+use Rattle.script_values.specs.declared.load_reason.LoadReason.{LoadReason}
+use Rattle.script_values.specs.declared.load_reason.LoadReason.TheVariants.{NotALeaf, RuleDerived, StoreLimit, FedLimit}
+use Rattle.stored_laws.specs.Stored.{stored_in}
 
 -- the cell that these texts name; a text that is no name names nothing
 abbrev pub cell_by_texts : Layout → List ℕ → List (List ℕ) → Option ℕ
@@ -24,14 +24,14 @@ cell_by_texts space cube elements =
     if is_name cube && list_all is_name elements then cell_named space cube elements else None
 
 -- why nothing can be written into a cell, whatever is stored
-abbrev pub closed : BoundModel → ℕ → Option Reason
+abbrev pub closed : BoundModel → ℕ → Option LoadReason
 closed model cell =
     if not (is_leaf_cell model.space cell) then Some NotALeaf
     else if not (is_input model cell) then Some RuleDerived
     else None
 
 -- which limit is passed where this is stored
-abbrev pub passed : BoundModel → List Entry → Option Reason
+abbrev pub passed : BoundModel → List Entry → Option LoadReason
 passed model stored =
     if nat_lt most_cells (length stored) then Some (StoreLimit (length stored))
     else if nat_lt most_fed (fed_count model stored) then Some (FedLimit (suc most_fed))

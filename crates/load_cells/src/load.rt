@@ -5,7 +5,7 @@ use crate::names::cell_by_texts;
 use cell_reader::{NextFault, Work};
 use cube_fixed::Value;
 use rule_model::is_input;
-use script_values::{Reason, Text, WorkCells};
+use script_values::{LoadReason, Text, WorkCells};
 use std::alloc::{AllocError, Global};
 
 /// The work of a load, whose cells are told by names.
@@ -43,13 +43,13 @@ impl WorkCells for LoadCells {
         alloc: Global,
         cube: &[u8],
         elements: &[Text<'_>],
-    ) -> Result<Result<Value, Reason>, AllocError> {
+    ) -> Result<Result<Value, LoadReason>, AllocError> {
         match cell_by_texts(alloc, self.work.model(), cube, elements)? {
             Some(cell) => {
                 let value = self.work.value_at(alloc, cell)?;
                 Ok(Ok(value))
             }
-            None => Ok(Err(Reason::UnknownName)),
+            None => Ok(Err(LoadReason::UnknownName)),
         }
     }
 
@@ -59,24 +59,24 @@ impl WorkCells for LoadCells {
         cube: &[u8],
         elements: &[Text<'_>],
         value: Value,
-    ) -> Result<Option<Reason>, AllocError> {
+    ) -> Result<Option<LoadReason>, AllocError> {
         let model = self.work.model();
         let Some(cell) = cell_by_texts(alloc, model, cube, elements)? else {
-            return Ok(Some(Reason::UnknownName));
+            return Ok(Some(LoadReason::UnknownName));
         };
         if !model.space().is_leaf(cell) {
-            return Ok(Some(Reason::NotALeaf));
+            return Ok(Some(LoadReason::NotALeaf));
         }
         if !is_input(model, cell) {
-            return Ok(Some(Reason::RuleDerived));
+            return Ok(Some(LoadReason::RuleDerived));
         }
         let Value::Num(number) = value else {
-            return Ok(Some(Reason::OverWrite));
+            return Ok(Some(LoadReason::OverWrite));
         };
         match self.work.put(alloc, cell, number) {
             Ok(()) => Ok(None),
-            Err(NextFault::StoreLimit(count)) => Ok(Some(Reason::StoreLimit(count))),
-            Err(NextFault::FedLimit(count)) => Ok(Some(Reason::FedLimit(count))),
+            Err(NextFault::StoreLimit(count)) => Ok(Some(LoadReason::StoreLimit(count))),
+            Err(NextFault::FedLimit(count)) => Ok(Some(LoadReason::FedLimit(count))),
             Err(NextFault::Memory) => Err(AllocError),
         }
     }

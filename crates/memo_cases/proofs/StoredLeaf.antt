@@ -11,7 +11,7 @@ use Rattle.equations.specs.Equations.{round}
 use Rattle.rule_laws.specs.RuleSystem.{RuleSystem, Stored, IsCell, dense_value, right_side, depth}
 use Rattle.rule_model.specs.BoundModel.{BoundModel}
 use Rattle.rule_model.specs.System.{system_of}
-use Rattle.stored_values.specs.Stored.{stored_in}
+use Rattle.stored_laws.specs.Stored.{stored_in}
 use Rattle.memo_cells.specs.declared.version.Version.{Version}
 use Rattle.memo_cells.specs.Values.{cell_value}
 

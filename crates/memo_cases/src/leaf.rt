@@ -6,7 +6,7 @@ use cell_store::Store;
 use cube_fixed::Value;
 use model_laws::{statements_of_the_cube_decide, statements_of_the_cube_give_in_turn};
 use rule_model::{Model, governing};
-use stored_values::sums_over_entries_are_sums_below;
+use stored_laws::sums_over_entries_are_sums_below;
 
 /// The value of a leaf cell that no statement governs, which is what is stored there. None for other cells.
 pub fn leaf_value(model: &Model, store: &Store, cell: u64) -> Option<Value>

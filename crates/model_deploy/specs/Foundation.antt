@@ -12,7 +12,7 @@ use Rattle.cube_space.specs.declared.fault.SpaceFault.{SpaceFault}
 use Rattle.cube_space.specs.declared.fault.SpaceFault.TheVariants as spaces
 use Rattle.cube_space.specs.Layout.{Layout}
 use Rattle.cube_space.specs.Refusal.{refusal_of as space_refused}
-use Rattle.rule_model.specs.Weights.{weight_product, max_weight_product}
+use Rattle.rule_model.specs.Weights.{weight_product, most_weight_product}
 use Rattle.model_text.specs.Contents.{Contents}
 use Rattle.model_text.specs.declared.parts.CubeText.{CubeText}
 use Rattle.model_text.specs.declared.order.OrderLine.{OrderLine}
@@ -72,7 +72,7 @@ space_refusal lines layout = option_map (on_cube lines) (space_refused layout)
 -- the weight product of a cube is above the greatest: on the line of its `CUBE`
 abbrev pub product_refusal : List ℕ → Layout → ℕ → Option DeployFault
 product_refusal lines layout cube =
-    if nat_lt max_weight_product (weight_product layout cube)
+    if nat_lt most_weight_product (weight_product layout cube)
     then Some (refused_on (slice_index lines cube) causes.WeightProduct)
     else None
 

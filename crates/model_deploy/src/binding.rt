@@ -7,12 +7,11 @@ ghost use Rattle.model_deploy.specs.Stages.{each, Comes};
 
 use crate::fault::{At, DeployCause, DeployFault};
 use crate::file::{RuleFile, fault_in};
-use bind_laws::bound_rules_meet_the_conditions;
+use bind_laws::{are_countable, bound_rules_meet_the_conditions};
 use cube_space::Space;
 use lists::ListOf;
 use rule_bind::{BindAt, BindCause, BindFault, CubeRules, bind};
-use rule_sizes::are_countable;
-use rule_tree::{MOST_STATEMENTS, RuleText};
+use rule_tree::{MAX_STATEMENTS, RuleText};
 use std::alloc::Global;
 
 /// The rules that the texts of all cubes mean, or the first fault of the first that has one.
@@ -46,7 +45,7 @@ fn meaning_of(
     ensures rules { IfOk result (AreCubeRules space.now cube) }
 {
     // a text that was read has no more statements and no more feeders
-    let most = MOST_STATEMENTS as usize;
+    let most = MAX_STATEMENTS as usize;
     if text.statements.as_slice().len() > most || text.feeders.as_slice().len() > most {
         return Err(DeployFault::memory());
     }

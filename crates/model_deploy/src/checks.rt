@@ -4,7 +4,7 @@ ghost use Rattle.check_order.specs.Verdict.{order_fault};
 ghost use Rattle.feed_map.specs.FedCells.{HasFewFed};
 ghost use Rattle.rule_laws.specs.Cover.{IsCovered};
 ghost use Rattle.rule_laws.specs.OrderByPlace.{IsOrderedByPlace};
-ghost use Rattle.rule_model.specs.Order.{greatest_height, position_sizes};
+ghost use Rattle.rule_model.specs.Order.{most_height, position_sizes};
 ghost use Rattle.rule_model.specs.System.{system_of, positions_of};
 ghost use Rattle.model_deploy.specs.Foundation.{memory};
 ghost use Rattle.model_deploy.specs.Stages.{unless, Comes};
@@ -28,7 +28,7 @@ pub fn check_ordered(
 ) -> Result<(), DeployFault>
     ensures comes { Comes (unless (option_map (order_refusal files.now) (order_fault model.now))) result }
     ensures ordered { OnOk result (IsOrderedByPlace (system_of model.now) (positions_of model.now)) }
-    ensures low { OnOk result (product (position_sizes model.now) ≤ greatest_height) }
+    ensures low { OnOk result (product (position_sizes model.now) ≤ most_height) }
 {
     match check_order(model) {
         Ok(()) => Ok(()),

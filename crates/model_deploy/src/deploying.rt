@@ -1,7 +1,7 @@
 ghost use Rattle.std.specs.Prelude.{◌≡◌, ◌≤◌, length, IfOk};
 ghost use Rattle.cube_space.specs.Radix.{product};
 ghost use Rattle.rule_model.specs.Conditions.{AreRules};
-ghost use Rattle.rule_model.specs.Order.{greatest_height, position_sizes};
+ghost use Rattle.rule_model.specs.Order.{most_height, position_sizes};
 ghost use Rattle.rule_model.specs.Weights.{AreWeightsOf};
 ghost use Rattle.model_deploy.specs.Stages.{Comes};
 ghost use Rattle.model_deploy.specs.Deployment.{deployment};
@@ -34,7 +34,7 @@ pub fn deploy(
 ) -> Result<Accepted, DeployFault>
     requires one_each { length rules.items ≡ length text.cubes }
     ensures comes { Comes (deployment text rules.items) result }
-    ensures low { IfOk result (λ model. product (position_sizes model) ≤ greatest_height) }
+    ensures low { IfOk result (λ model. product (position_sizes model) ≤ most_height) }
 {
     let found = foundation_of(alloc, text)?;
     let bound = rules_of(alloc, &found, &rules)?;

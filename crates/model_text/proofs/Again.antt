@@ -26,7 +26,7 @@ use Rattle.dim_text.specs.Spelled.{head_spelled, body_spelled}
 use Rattle.dim_text.proofs.PrintedBack.{body_of}
 use Rattle.dim_text.specs.Statement.{body}
 use Rattle.model_text.specs.Readers.Views.{IsValid}
-use Rattle.model_text.specs.Contents.{dimensions_limit, cubes_limit, scripts_limit, AreDimensions, IsOrderedIn, cube_names, script_names}
+use Rattle.model_text.specs.Contents.{most_model_dimensions, most_cubes, most_scripts, AreDimensions, IsOrderedIn, cube_names, script_names}
 use Rattle.model_text.specs.Gathering.{Current, Nothing, DimensionDue, DimensionOpen, DimensionBody, CubeDue, CubeOpen, ScriptDue, ScriptOpen, ScriptWhole, Parts, at, unless, order_of, cube_of, with_cube, with_script, with_dimension, gathered, dimensions_are_full, cubes_are_full, scripts_are_full, has_dimension, has_cube, has_script}
 use Rattle.model_text.specs.Printed.{IsSameCube, IsSameScript}
 use Rattle.model_text.specs.Spelled.{dim_spelled, cube_head_spelled, dimension_spelled, cube_dimensions_spelled, cube_end_spelled, next_dimension_spelled, cube_spelled, script_spelled}
@@ -139,8 +139,8 @@ pub record AreDims (front : List Text) (dims : Dims) : Type 0 where
   pub built : AllZip IsBuilt dims.texts dims.blocks
   pub same : map (λ text. text.dimension) dims.texts ≡ map (λ text. text.dimension) front
 
-dims_full : (names : List (List ℕ)) (all front rest : List Text) (x : Text) → all ≡ front ++ x ∷ rest → length all ≤ dimensions_limit → names ≡ map block_name front → nat_le dimensions_limit (length names) ≡ false
-dims_full names all front rest x parts few is = ap (nat_le dimensions_limit) (ap length is ∙ length-map front block_name) ∙ room all front rest x dimensions_limit parts few
+dims_full : (names : List (List ℕ)) (all front rest : List Text) (x : Text) → all ≡ front ++ x ∷ rest → length all ≤ most_model_dimensions → names ≡ map block_name front → nat_le most_model_dimensions (length names) ≡ false
+dims_full names all front rest x parts few is = ap (nat_le most_model_dimensions) (ap length is ∙ length-map front block_name) ∙ room all front rest x most_model_dimensions parts few
 
 one_more_dim : (front : List Text) (x : Text) (dims : Dims) (built : Progress) → IsFinished built.draft x.dimension → AreDims front dims
     → AreDims (front ++ x ∷ []) (record { blocks = dims.blocks ++ built ∷ []; names = dims.names ++ block_name x ∷ []; texts = dims.texts ++ record { head = built.head; dimension = x.dimension; lines = built.lines } ∷ [] })
@@ -152,7 +152,7 @@ one_more_dim front x dims built finished are =
       same = map-append (λ (t : Text). t.dimension) dims.texts (text ∷ []) ∙ ap (λ ds. ds ++ x.dimension ∷ []) are.same ∙ sym (map-append (λ (t : Text). t.dimension) front (x ∷ []));
     }
 
-pub dims_go : (version : ℕ) (all : List Text) → All IsValid all → length all ≤ dimensions_limit → IsDistinct is_same_name (map block_name all)
+pub dims_go : (version : ℕ) (all : List Text) → All IsValid all → length all ≤ most_model_dimensions → IsDistinct is_same_name (map block_name all)
     → Goes {E = Dims} (many dimension) (flat_map dim_spelled all) (dims_seen version (record { blocks = []; names = []; texts = [] })) (dims_seen version) (AreDims all)
 dims_go version all good few distinct = goes_many dimension dim_spelled (dims_seen version) AreDims all
     (λ front rest x parts dims are.
@@ -240,14 +240,14 @@ module _ (blocks : List Progress) (version : ℕ) (names : List (List ℕ)) wher
   abbrev pub cubes_seen : List CubeText → Seen
   cubes_seen cubes = outside_of blocks (record { version = version; names = names; cubes = cubes; scripts = [] }) Nothing
 
-  pub cubes_go : (all : List CubeText) → All (λ name. IsTrue (is_name name)) names → IsDistinct is_same_name names → All (λ (c : CubeText). AreDimensions (length names) c.dims) all → All (IsOrderedIn version) all → All IsWritableCube all → length all ≤ cubes_limit → IsDistinct is_same_name (cube_names all)
+  pub cubes_go : (all : List CubeText) → All (λ name. IsTrue (is_name name)) names → IsDistinct is_same_name names → All (λ (c : CubeText). AreDimensions (length names) c.dims) all → All (IsOrderedIn version) all → All IsWritableCube all → length all ≤ most_cubes → IsDistinct is_same_name (cube_names all)
       → Goes {E = List CubeText} (many cube) (flat_map (cube_spelled names) all) (cubes_seen []) cubes_seen (AllZip IsSameCube all)
   cubes_go all named distinct dims ordered good few apart = goes_many cube (cube_spelled names) cubes_seen (AllZip IsSameCube) all
       (λ front rest x split so_far zip.
       let now : Parts = record { version = version; names = names; cubes = so_far; scripts = [] } in
       let is : IsWritableCube x = among IsWritableCube all front rest x split good in
       let are : AreDimensions (length names) x.dims = among (λ (c : CubeText). AreDimensions (length names) c.dims) all front rest x split dims in
-      let full : cubes_are_full now ≡ false = ap (nat_le cubes_limit) (sym (length_all_zip IsSameCube front so_far zip)) ∙ room all front rest x cubes_limit split few in
+      let full : cubes_are_full now ≡ false = ap (nat_le most_cubes) (sym (length_all_zip IsSameCube front so_far zip)) ∙ room all front rest x most_cubes split few in
       let new : has_cube now x.name ≡ false = sym (any-map (is_same_name x.name) (λ (c : CubeText). c.name) so_far) ∙ ap (λ ns. has_name ns x.name) (same_names_of front so_far zip) ∙ fresh_name (λ (c : CubeText). c.name) all front rest x split apart in
       goes_as (λ again has. (so_far ++ again ∷ [], refl, zip_last IsSameCube front so_far x again zip (record { name = has.name; dims = has.dims; rules = has.rules; order = has.order })))
       (cube_goes blocks now x.name x.dims x.rules x.order named distinct are is.dims is.name.0 is.rules is.order (among (IsOrderedIn version) all front rest x split ordered) full new))
@@ -280,13 +280,13 @@ module _ (blocks : List Progress) (version : ℕ) (names : List (List ℕ)) (cub
   abbrev pub scripts_seen : List ScriptText → Seen
   scripts_seen scripts = outside_of blocks (record { version = version; names = names; cubes = cubes; scripts = scripts }) Nothing
 
-  pub scripts_go : (all : List ScriptText) → All IsWritableScript all → length all ≤ scripts_limit → IsDistinct is_same_name (script_names all)
+  pub scripts_go : (all : List ScriptText) → All IsWritableScript all → length all ≤ most_scripts → IsDistinct is_same_name (script_names all)
       → Goes {E = List ScriptText} (many script) (flat_map script_spelled all) (scripts_seen []) scripts_seen (AllZip IsSameScript all)
   scripts_go all good few apart = goes_many script script_spelled scripts_seen (AllZip IsSameScript) all
       (λ front rest x split so_far zip.
       let now : Parts = record { version = version; names = names; cubes = cubes; scripts = so_far } in
       let is : IsWritableScript x = among IsWritableScript all front rest x split good in
-      let full : scripts_are_full now ≡ false = ap (nat_le scripts_limit) (sym (length_all_zip IsSameScript front so_far zip)) ∙ room all front rest x scripts_limit split few in
+      let full : scripts_are_full now ≡ false = ap (nat_le most_scripts) (sym (length_all_zip IsSameScript front so_far zip)) ∙ room all front rest x most_scripts split few in
       let new : has_script now x.name ≡ false = sym (any-map (is_same_name x.name) (λ (c : ScriptText). c.name) so_far) ∙ ap (λ ns. has_name ns x.name) (same_scripts_of front so_far zip) ∙ fresh_name (λ (c : ScriptText). c.name) all front rest x split apart in
       goes_as (λ again same. (so_far ++ again ∷ [], refl, zip_last IsSameScript front so_far x again zip same))
       (script_goes blocks now x is.name.0 is.file.0 full new))

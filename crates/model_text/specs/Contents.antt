@@ -12,14 +12,14 @@ abbrev pub is_version : ℕ → Bool
 is_version number = (number == 1) || (number == 2)
 
 -- how many dimensions, cubes and scripts a model may have
-abbrev pub dimensions_limit : ℕ
-dimensions_limit = 256
+abbrev pub most_model_dimensions : ℕ
+most_model_dimensions = 256
 
-abbrev pub cubes_limit : ℕ
-cubes_limit = 64
+abbrev pub most_cubes : ℕ
+most_cubes = 64
 
-abbrev pub scripts_limit : ℕ
-scripts_limit = 256
+abbrev pub most_scripts : ℕ
+most_scripts = 256
 
 -- its version, and its dimensions, cubes and scripts in their order
 pub record Contents : Type 0 where
@@ -53,9 +53,9 @@ IsOrderedIn version cube = IfSome cube.order (λ order. order.1.version ≡ vers
 -- what holds of every model text that is read
 pub record IsContents (contents : Contents) : Type 0 where
   pub known_version : IsTrue (is_version contents.version)
-  pub few_dims : length contents.dims ≤ dimensions_limit
-  pub few_cubes : length contents.cubes ≤ cubes_limit
-  pub few_scripts : length contents.scripts ≤ scripts_limit
+  pub few_dims : length contents.dims ≤ most_model_dimensions
+  pub few_cubes : length contents.cubes ≤ most_cubes
+  pub few_scripts : length contents.scripts ≤ most_scripts
   pub dims : IsDistinct is_same_name (dimension_names contents.dims)
   pub cubes : IsDistinct is_same_name (cube_names contents.cubes)
   pub scripts : IsDistinct is_same_name (script_names contents.scripts)

@@ -3,7 +3,7 @@ use Rattle.std.specs.Prelude.{ℕ, Bool, nat_le, nat_eq, List, [], ◌∷◌, �
 use Rattle.std.specs.Prelude.{Option, Some, None, Result, Ok, Err}
 use Rattle.std.specs.List.{list_any}
 use Rattle.dim_name.specs.Name.{has_name, is_same_name, place_of}
-use Rattle.model_text.specs.Contents.{is_version, dimensions_limit, cubes_limit, scripts_limit}
+use Rattle.model_text.specs.Contents.{is_version, most_model_dimensions, most_cubes, most_scripts}
 use Rattle.model_text.specs.Statement.{Piece, Version, Closing, DimensionWord, CubeWord, ScriptWord}
 use Rattle.model_text.specs.Statement.{QuotedText, CubeDimension, CubeEnd}
 use Rattle.model_text.specs.declared.order.OrderLine.{OrderLine}
@@ -50,13 +50,13 @@ refused line cause = Err (record { line = line; cause = cause })
 
 -- the limits
 abbrev pub dimensions_are_full : Parts → Bool
-dimensions_are_full parts = nat_le dimensions_limit (length parts.names)
+dimensions_are_full parts = nat_le most_model_dimensions (length parts.names)
 
 abbrev pub cubes_are_full : Parts → Bool
-cubes_are_full parts = nat_le cubes_limit (length parts.cubes)
+cubes_are_full parts = nat_le most_cubes (length parts.cubes)
 
 abbrev pub scripts_are_full : Parts → Bool
-scripts_are_full parts = nat_le scripts_limit (length parts.scripts)
+scripts_are_full parts = nat_le most_scripts (length parts.scripts)
 
 -- whether the name is there already
 abbrev pub has_dimension : Parts → List ℕ → Bool

@@ -1,7 +1,7 @@
 -- What is printed of a model text.
 use Rattle.std.specs.Prelude.{◌≡◌, ℕ, ◌≤◌, List, ◌++◌, length, map, option_map}
 use Rattle.std.specs.List.{AllZip}
-use Rattle.cube_lex.specs.Reading.{text_limit}
+use Rattle.cube_lex.specs.Reading.{most_text_bytes}
 use Rattle.cube_lex.specs.Written.{Writes}
 use Rattle.model_text.specs.Answers.{IsModelText}
 use Rattle.model_text.specs.Contents.{Contents}
@@ -30,7 +30,7 @@ pub record AreSameContents (x y : Contents) : Type 0 where
 -- where the bytes aren't too many for a text, they are read as a model text with equal contents, but for lines
 abbrev pub IsTextOf : Contents → List ℕ → Type 0
 IsTextOf contents bytes =
-    length bytes ≤ text_limit → (again : Contents) × IsModelText bytes again × AreSameContents contents again
+    length bytes ≤ most_text_bytes → (again : Contents) × IsModelText bytes again × AreSameContents contents again
 
 -- new is old with the text written at its end: just the tokens that say these contents, in no more bytes than they
 -- need, which read back

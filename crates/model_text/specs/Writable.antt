@@ -2,7 +2,7 @@
 use Rattle.std.specs.Prelude.{ℕ, ◌<◌, List, length, IfSome, IsTrue, All}
 use Rattle.dim_name.specs.Name.{is_name}
 use Rattle.cube_lex.specs.Written.{IsQuotable}
-use Rattle.grammar.specs.Tokens.{is_file, whole_limit}
+use Rattle.grammar.specs.Tokens.{is_file, whole_end}
 use Rattle.model_text.specs.declared.order.OrderWord.{OrderWord}
 use Rattle.model_text.specs.declared.order.OrderWord.TheVariants as words
 use Rattle.model_text.specs.declared.parts.CubeText.{CubeText}
@@ -17,10 +17,10 @@ abbrev pub IsFileText : List ℕ → Type 0
 IsFileText bytes = IsTrue (is_file bytes) × IsQuotable bytes
 
 abbrev pub IsWritableRank : List ℕ × ℕ → Type 0
-IsWritableRank rank = IsNameText rank.0 × (rank.1 < whole_limit)
+IsWritableRank rank = IsNameText rank.0 × (rank.1 < whole_end)
 
 abbrev pub IsWritableWord : OrderWord → Type 0
-IsWritableWord (words.Constant n) = n < whole_limit
+IsWritableWord (words.Constant n) = n < whole_end
 IsWritableWord (words.Index shown) = IsNameText shown
 IsWritableWord (words.Ranks shown list) = IsNameText shown × (0 < length list) × All IsWritableRank list
 

@@ -2,7 +2,7 @@ ghost use Rattle.std.specs.Prelude.{◌≡◌, ◌<◌, [], length, OnOk, IfOk, 
 ghost use Rattle.cube_lex.specs.Lexed.{IsWellFormed};
 ghost use Rattle.cube_lex.specs.Written.{IsQuotable};
 ghost use Rattle.dim_text.specs.Readers.Views.{ahead};
-ghost use Rattle.model_text.specs.Contents.{dimension_names, dimensions_limit};
+ghost use Rattle.model_text.specs.Contents.{dimension_names, most_model_dimensions};
 ghost use Rattle.model_text.specs.Readers.Reading as reading;
 ghost use Rattle.model_text.specs.Gathering.{Nothing, DimensionBody, with_name};
 ghost use Rattle.model_text.specs.Readers.Views.{LeadsTo, ReadsBlock, GivesBlocks, stop_of, seen};
@@ -25,7 +25,7 @@ fn head_at(
 ) -> Result<(u32, Name), Stop<ModelTextFault>>
     ensures read { LeadsTo partial.now Nothing reading.read_dimension_head (λ head. DimensionBody head.0 head.1)
         cursor.old result cursor.new }
-    ensures room { OnOk result (length partial.now.names < dimensions_limit) }
+    ensures room { OnOk result (length partial.now.names < most_model_dimensions) }
     ensures quotable { All IsWellFormed (ahead cursor.old) → IfOk result (λ head. IsQuotable head.1) }
 {
     let line = line_at(cursor, partial, Section::Dimension)?;

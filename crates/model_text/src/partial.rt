@@ -1,6 +1,6 @@
 ghost use Rattle.std.specs.Prelude.{◌≡◌, ◌<◌, [], length, OnOk, OnErr, IfSome, All};
 ghost use Rattle.dim_name.specs.Name.{place_of};
-ghost use Rattle.model_text.specs.Contents.{dimensions_limit, IsOrderedIn};
+ghost use Rattle.model_text.specs.Contents.{most_model_dimensions, IsOrderedIn};
 ghost use Rattle.model_text.specs.Gathering as gathering;
 ghost use Rattle.model_text.specs.Gathering.{with_name, with_cube, with_script};
 ghost use Rattle.model_text.specs.Readers.Sections as sections;
@@ -13,7 +13,7 @@ use std::alloc::{AllocError, Global};
 use std::marker::Model;
 
 /// The most dimensions of a model.
-const MAX_DIMENSIONS: usize = 256;
+const MAX_MODEL_DIMENSIONS: usize = 256;
 
 /// The most cubes of a model.
 const MAX_CUBES: usize = 64;
@@ -33,7 +33,7 @@ pub struct PartialModel {
 
 impl Model for PartialModel {
     ghost use Rattle.std.specs.Prelude.{◌≤◌, length, All};
-    ghost use Rattle.model_text.specs.Contents.{dimensions_limit, IsOrderedIn};
+    ghost use Rattle.model_text.specs.Contents.{most_model_dimensions, IsOrderedIn};
     ghost use Rattle.model_text.specs.Gathering.{Parts};
     ghost use Rattle.model_text.specs.Writable.{IsWritableCube, IsWritableScript};
 
@@ -46,7 +46,7 @@ impl Model for PartialModel {
       scripts = p.scripts.items;
     } };
 
-    ghost invariant = { λ p. (length p.names.items ≤ dimensions_limit)
+    ghost invariant = { λ p. (length p.names.items ≤ most_model_dimensions)
         × All (IsOrderedIn p.version) p.cubes.items
         × All IsWritableCube p.cubes.items × All IsWritableScript p.scripts.items };
 }
@@ -86,7 +86,7 @@ impl PartialModel {
         ensures { result ≡ sections.is_full section self.now }
     {
         match section {
-            Section::Dimension => self.names.len() >= MAX_DIMENSIONS,
+            Section::Dimension => self.names.len() >= MAX_MODEL_DIMENSIONS,
             Section::Cube => self.cubes.len() >= MAX_CUBES,
             Section::Script => self.scripts.len() >= MAX_SCRIPTS,
         }
@@ -133,7 +133,7 @@ impl PartialModel {
 
     /// Takes the name of a further dimension.
     pub fn add_dimension(&mut self, name: Name) -> Result<(), AllocError>
-        requires { length self.now.names < dimensions_limit }
+        requires { length self.now.names < most_model_dimensions }
         ensures ok { OnOk result (self.new ≡ with_name self.old name) }
         ensures err { OnErr result (self.new ≡ self.old) }
     {

@@ -8,7 +8,7 @@ ghost use Rattle.rule_dense.specs.Limits.{HasSmallCubes, IsLow};
 use cell_reader::Snapshot;
 use check_order::check_order;
 use cube_fixed::{Steps, Value};
-use rule_dense::{MOST_CUBE_CELLS, dense};
+use rule_dense::{MAX_CUBE_CELLS, dense};
 use rule_model::{Model, governing};
 use std::alloc::{AllocError, Global};
 use std::marker::Brand;
@@ -36,7 +36,7 @@ fn has_small_cubes(model: &Model) -> bool
     ensures { IsTrue result → HasSmallCubes model.now.space }
 {
     for cube in 0..model.space().cubes() {
-        if model.space().cells(cube) > MOST_CUBE_CELLS {
+        if model.space().cells(cube) > MAX_CUBE_CELLS {
             return false;
         }
     }

@@ -7,7 +7,7 @@ ghost use Rattle.ref_order.specs.Reads.{precedent_of};
 use crate::most::most_excess;
 use crate::number::{is_below, is_within};
 use crate::reads::Read;
-use crate::scale::MOST_POSITIONS;
+use crate::scale::MAX_POSITIONS;
 use rule_model::{Area, Model};
 
 /// Whether what is read stands before each cell of this kind in an area of a cube, `true` for leaf cells.
@@ -33,7 +33,7 @@ fn earlier_from(model: &Model, cube: u32, area: &Area, kind: bool, read: Read, p
         (most_positions - place) }
 {
     let most = most_excess(model, cube, area, kind, read, place);
-    if place == MOST_POSITIONS {
+    if place == MAX_POSITIONS {
         return is_below(most);
     }
     is_below(most) || (is_within(most) && earlier_from(model, cube, area, kind, read, place + 1))

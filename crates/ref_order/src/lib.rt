@@ -8,7 +8,7 @@
 pub use earlier::is_earlier;
 pub use most::{count, element_at};
 pub use reads::Read;
-pub use scale::{MOST_POSITIONS, axis, axis_count};
+pub use scale::{MAX_POSITIONS, axis, axis_count};
 
 mod earlier;
 mod excess;

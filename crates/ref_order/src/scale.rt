@@ -8,7 +8,7 @@ use dim_core::Dimension;
 use rule_model::{Model, Position};
 
 /// How many positions the order of a cube has at most. At the place after the last one stands the level.
-pub const MOST_POSITIONS: u32 = 8;
+pub const MAX_POSITIONS: u32 = 8;
 
 /// A dimension of a cube, by its place.
 pub fn axis(model: &Model, cube: u32, dim: usize) -> &Dimension
@@ -37,7 +37,7 @@ pub fn base(model: &Model, cube: u32, place: u32) -> u32
     requires { cube < length model.now.space.cubes }
     ensures { result ≡ (scale_of model.now cube place).base }
 {
-    if place < MOST_POSITIONS {
+    if place < MAX_POSITIONS {
         constant(model.rules(cube).order.positions.as_slice(), place as usize)
     } else {
         0
@@ -52,7 +52,7 @@ pub fn worth(model: &Model, cube: u32, place: u32, dim: usize, element: u32) -> 
     requires element { element < slice_index_or (sizes model.now.space cube) dim 0 }
     ensures { result ≡ (scale_of model.now cube place).worth dim element }
 {
-    if place < MOST_POSITIONS {
+    if place < MAX_POSITIONS {
         rank(
             model.rules(cube).order.positions.as_slice(),
             place as usize,

@@ -11,8 +11,8 @@ use crate::refusal::Refusal;
 use crate::values::value_text;
 use cell_store::{Store, StoreFault};
 use cube_fixed::Money;
-use rule_core::{Model, cell_of, dense, is_input};
-use rule_dense::MOST_CUBE_CELLS;
+use rule_dense::{MAX_CUBE_CELLS, dense};
+use rule_model::{Model, cell_of, is_input};
 use std::alloc::Global;
 use user_text::UserBody;
 
@@ -50,7 +50,7 @@ fn has_small_cubes(model: &Model) -> bool
     ensures { IsTrue result → HasSmallCubes model.now.space }
 {
     for cube in 0..model.space().cubes() {
-        if model.space().cells(cube) > MOST_CUBE_CELLS {
+        if model.space().cells(cube) > MAX_CUBE_CELLS {
             return false;
         }
     }

@@ -11,15 +11,15 @@ use crate::values::value_text;
 use cell_store::Store;
 use cube_fixed::{Steps, Value};
 use cube_space::MAX_DIMENSIONS;
-use rule_core::{Ask, Formula, Given, Model, dense, evaluate, governing, governing_after, target};
-use rule_evaluate::only_what_formulas_read_is_asked;
-use rule_model::{part_of, place_of};
+use rule_dense::dense;
+use rule_evaluate::{Ask, Given, evaluate, only_what_formulas_read_is_asked};
+use rule_model::{Formula, Model, governing, governing_after, part_of, place_of, target};
 use std::alloc::Global;
 use std::marker::Brand;
 use std::sync::ledger::{Blank, Ledger};
 
 /// The most statements and the most questions that are told.
-const MOST: u32 = 1_000;
+const MAX_TOLD: u32 = 1_000;
 
 /// Adds how a cell is evaluated: the statements that have a part for it, one after the other; the cell that the first
 /// names, where its formula is one reference; and the questions of an evaluation that begins again with each answer,
@@ -59,7 +59,7 @@ fn add_statements(
 {
     told.push_str(", statements")?;
     let mut next = Some(first);
-    for _ in 0..MOST {
+    for _ in 0..MAX_TOLD {
         let Some(place) = next else {
             return Ok(());
         };
@@ -126,7 +126,7 @@ fn add_questions<L: Ledger>(
 {
     let mut steps = Steps::<L>::begin(blank);
     let mut known = Vec::new(alloc);
-    for _ in 0..MOST {
+    for _ in 0..MAX_TOLD {
         match by_answers(model, statement, cell, &known, &mut steps) {
             Ok(value) => {
                 let text = value_text(alloc, value)?;

@@ -4,15 +4,15 @@ use crate::refusal::Refusal;
 use cell_store::{CellSet, Store};
 use cube_space::MAX_DIMENSIONS;
 use feed_map::{Fed, FedFault};
-use rule_core::Model;
+use rule_model::Model;
 use sparse_sum::Walk;
 use std::alloc::{AllocError, Global};
 
 /// The most fed cells that are told one by one.
-const MOST: u64 = 40;
+const MAX_TOLD: u64 = 40;
 
 /// The most cells of a walk that are counted.
-const MOST_WALKED: u64 = 1_000_000;
+const MAX_WALKED: u64 = 1_000_000;
 
 /// Adds how many cells are fed over what is stored: `, fed 7`.
 pub fn add_count(
@@ -58,7 +58,7 @@ pub fn add_cells(
         let Some(cell) = fed.next_from(from) else {
             return Ok(told.push_str("\nfewer than counted")?);
         };
-        if count <= MOST || place == 0 || place + 1 == count {
+        if count <= MAX_TOLD || place == 0 || place + 1 == count {
             told.push_str("\nfed ")?;
             add_name(alloc, model, cell, told)?;
         }
@@ -94,7 +94,7 @@ fn walked(model: &Model, store: &Store, fed: &Fed, cell: u64) -> u64
     requires { IsCell model.now.space cell }
 {
     let mut walk = Walk::at(cell);
-    'each: for count in 0..MOST_WALKED {
+    'each: for count in 0..MAX_WALKED {
         if walk
             .next(model.space(), model.weights(), store, fed)
             .is_none()
@@ -102,7 +102,7 @@ fn walked(model: &Model, store: &Store, fed: &Fed, cell: u64) -> u64
             return count;
         }
     }
-    MOST_WALKED
+    MAX_WALKED
 }
 
 // How a cell is written: `'Plan' ('Actual', 'Jan', 'Sales')`.

@@ -8,7 +8,7 @@ use crate::refusal::Refusal;
 use check_order::check_order;
 use lists::ListOf;
 use model_deploy::{At, DeployCause, DeployFault, Foundation, RuleFile, foundation_of, rules_of};
-use rule_core::Model;
+use rule_model::Model;
 use std::alloc::{AllocError, Global};
 
 /// The model of these files, whose order was checked. Feeders weren't, so that plain evaluation and what is fed are

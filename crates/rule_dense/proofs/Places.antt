@@ -10,7 +10,7 @@ use Rattle.rule_model.specs.Targets.{parts_at}
 use Rattle.cube_space.specs.Radix.{are_digits}
 use Rattle.cube_space.specs.Layout.{Layout, axes, axes_of, sizes_of}
 use Rattle.cube_space.specs.Cells.{cube_of, elements_of}
-use Rattle.cube_space.proofs.Axes.{length-axes_of}
+use Rattle.cube_space.proofs.AxisSizes.{length-axes_of}
 
 -- ---- the dimension at a place
 

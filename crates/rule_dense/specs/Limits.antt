@@ -4,11 +4,11 @@ use Rattle.cube_space.specs.Layout.{Layout}
 use Rattle.cube_space.specs.Cells.{cell_count}
 use Rattle.cube_space.specs.Radix.{product}
 use Rattle.rule_model.specs.BoundModel.{BoundModel}
-use Rattle.rule_model.specs.Order.{greatest_height, position_sizes}
+use Rattle.rule_model.specs.Order.{most_height, position_sizes}
 
 -- the declared order is no higher than it may be
 abbrev pub IsLow : BoundModel → Type 0
-IsLow model = product (position_sizes model) ≤ greatest_height
+IsLow model = product (position_sizes model) ≤ most_height
 
 -- the most cells of a cube
 abbrev pub most_cube_cells : ℕ

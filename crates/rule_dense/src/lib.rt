@@ -9,7 +9,7 @@
 
 pub use plain::parts_at;
 pub use sums::with_element_at;
-pub use table::{MOST_CUBE_CELLS, dense};
+pub use table::{MAX_CUBE_CELLS, dense};
 
 mod depth;
 mod level;

@@ -5,7 +5,7 @@ ghost use Rattle.rule_laws.specs.OrderByPlace.{IsOrderedByPlace};
 ghost use Rattle.rule_model.specs.System.{system_of, positions_of};
 ghost use Rattle.rule_model.specs.Governing.{rules_for, formula_at};
 ghost use Rattle.rule_evaluate.specs.Readings.{statements_value};
-ghost use Rattle.stored_values.specs.Stored.{stored_in};
+ghost use Rattle.stored_laws.specs.Stored.{stored_in};
 ghost use Rattle.rule_dense.specs.Limits.{IsLow, HasSmallCubes};
 ghost use Rattle.rule_dense.specs.Inside.Plain.{table_of, plain_readings};
 ghost use Rattle.rule_dense.specs.Inside.Depths.{AreDense};
@@ -22,11 +22,11 @@ use std::marker::Brand;
 use std::sync::ledger::{Blank, Ledger};
 
 /// The most cells of a cube for plain evaluation.
-pub const MOST_CUBE_CELLS: u64 = 1_000_000;
+pub const MAX_CUBE_CELLS: u64 = 1_000_000;
 
 /// The value of a cell, over what is stored: a table is filled with the values of all cells of the model, each when
 /// those that it reads are known. The rules are ordered, the height of the order is within its limit, and no cube has
-/// more than [`MOST_CUBE_CELLS`] cells. It fails for want of memory alone.
+/// more than [`MAX_CUBE_CELLS`] cells. It fails for want of memory alone.
 ///
 /// The time grows with the square of a cube's cells, since a total looks at each cell of its cube.
 pub fn dense(alloc: Global, model: &Model, store: &Store, cell: u64) -> Result<Value, AllocError>

@@ -7,7 +7,7 @@ use Rattle.cube_space.specs.Layout.{Layout, axes, axes_of, sizes_of}
 use Rattle.cube_space.specs.Cells.{IsSpace, is_place, cube_of, elements_of}
 use Rattle.cube_space.specs.Radix.{are_digits}
 use Rattle.cube_space.proofs.Places.{is_place-parts}
-use Rattle.cube_space.proofs.Axes.{All-rest}
+use Rattle.cube_space.proofs.AxisSizes.{All-rest}
 use Rattle.rule_model.specs.Targets.{component_cells, element_at}
 use Rattle.rule_model.proofs.Named.{axes_cons}
 use Rattle.rule_model.proofs.Coefs.{dimension_at, digit_at}

@@ -11,7 +11,7 @@ use Rattle.cube_space.specs.declared.shape.CubeShape.{CubeShape}
 use Rattle.cube_space.specs.Layout.{Layout, axes, axes_of, sizes, sizes_of}
 use Rattle.cube_space.specs.Cells.{IsSpace, IsCell, cube_of, elements_of, is_place, cell_number}
 use Rattle.cube_space.proofs.Places.{cell-place, is_place-parts, is_place-from, cell_number-none}
-use Rattle.cube_space.proofs.Axes.{length-axes_of}
+use Rattle.cube_space.proofs.AxisSizes.{length-axes_of}
 use Rattle.dim_core.specs.Outline.{Outline}
 pub use Rattle.lists.proofs.Found.{found_holds}
 

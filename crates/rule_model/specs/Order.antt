@@ -44,8 +44,8 @@ abbrev pub numbers_of : BoundModel → ℕ → List ℕ
 numbers_of model cell = map (λ place. number_at model place cell) (range_with_len 0 most_positions)
 
 -- the greatest height of a declared order: how many ranks there are, the sizes of the positions multiplied
-abbrev pub greatest_height : ℕ
-greatest_height = 65536
+abbrev pub most_height : ℕ
+most_height = 65536
 
 -- the rank of a cell: its numbers at the positions, the first counting most, read as one number
 unfoldable pub rank : BoundModel → ℕ → ℕ

@@ -21,13 +21,13 @@ abbrev pub AreWeightsOf : List Outline → List (List (List (ℕ × ℤ))) → T
 AreWeightsOf dimensions weights = AllZip IsWeightsOf dimensions weights
 
 -- the greatest weight product that a cube may have
-abbrev pub max_weight_product : ℕ
-max_weight_product = 1000000000
+abbrev pub most_weight_product : ℕ
+most_weight_product = 1000000000
 
 -- no weight product is above the greatest
 abbrev pub HasSmallProducts : Layout → Type 0
 HasSmallProducts space =
-    (cube : ℕ) → cube < length space.cubes → weight_product space cube ≤ max_weight_product
+    (cube : ℕ) → cube < length space.cubes → weight_product space cube ≤ most_weight_product
 
 -- how often the elements of a leaf cell count in those of a cell: the product over the dimensions
 abbrev pub coef_product : List Outline → List ℕ → List ℕ → ℤ

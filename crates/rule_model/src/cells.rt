@@ -5,7 +5,7 @@ ghost use Rattle.cube_space.specs.Cells.{IsCell};
 ghost use Rattle.cube_space.specs.Radix.{product, are_digits};
 ghost use Rattle.rule_model.specs.Weights.{weight, coef_product, greatest_coef};
 ghost use Rattle.rule_model.specs.Named.{cell_named, elements_named};
-ghost use Rattle.rule_model.specs.Weights.{max_weight_product};
+ghost use Rattle.rule_model.specs.Weights.{most_weight_product};
 
 use crate::model::Model;
 use cube_space::{MAX_DIMENSIONS, Space};
@@ -62,7 +62,7 @@ pub fn weight(model: &Model, cell: u64, leaf: u64) -> i64
     requires cell { IsCell model.now.space cell }
     requires leaf { IsCell model.now.space leaf }
     ensures value { result ≡ weight model.now.space cell leaf }
-    ensures size { unsigned_abs result ≤ max_weight_product }
+    ensures size { unsigned_abs result ≤ most_weight_product }
 {
     let space = model.space();
     let mut at = [0u32; MAX_DIMENSIONS];
@@ -82,7 +82,7 @@ fn coefficients(model: &Model, dims: &[u32], at: &[u32], below: &[u32], from: us
     requires at { are_digits (sizes_of (axes_of model.now.space.dimensions dims.now)) at.now ≡ true }
     requires below { are_digits (sizes_of (axes_of model.now.space.dimensions dims.now)) below.now ≡ true }
     requires small { product (map greatest_coef (axes_of model.now.space.dimensions (drop from dims.now)))
-        ≤ max_weight_product }
+        ≤ most_weight_product }
     requires from { from ≤ length dims.now }
     ensures value { result ≡ coef_product (axes_of model.now.space.dimensions (drop from dims.now))
         (drop from at.now) (drop from below.now) }

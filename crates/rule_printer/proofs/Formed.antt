@@ -10,7 +10,7 @@ use Rattle.cube_fixed.specs.Text.{number_of, number_after_sign, signed, is_decim
 use Rattle.cube_lex.specs.Bytes.{is_quote, is_plain, starts_word, is_word_byte}
 use Rattle.cube_lex.specs.Lexed.{IsWellFormed}
 use Rattle.cube_lex.specs.Lexeme.{Lexeme}
-use Rattle.cube_lex.specs.Parts.{IsToken, IsWord, IsDigits, IsNumber, IsQuoted, token_limit}
+use Rattle.cube_lex.specs.Parts.{IsToken, IsWord, IsDigits, IsNumber, IsQuoted, most_token_bytes}
 use Rattle.cube_lex.specs.Quoted.{doubled, quoted, unquoted}
 use Rattle.cube_lex.specs.declared.token.Kind.{Kind}
 use Rattle.cube_lex.specs.declared.token.Kind.TheVariants as kinds
@@ -43,14 +43,14 @@ longer (b ∷ bytes) = by (is_quote b) (longer bytes) where
 shorter : (bytes : List ℕ) → length bytes ≤ length (quoted bytes)
 shorter bytes = omega (arith, longer bytes, length-append (doubled bytes) (39 ∷ []))
 
-quoted_quotable : (piece : List ℕ) → IsQuoted piece → length piece ≤ token_limit → is_quotable (unquoted piece) ≡ true
+quoted_quotable : (piece : List ℕ) → IsQuoted piece → length piece ≤ most_token_bytes → is_quotable (unquoted piece) ≡ true
 unfolding is_quotable
 quoted_quotable piece (bytes, plain, is) short =
     let same : unquoted piece ≡ bytes = ap unquoted is ∙ unquoted-quoted bytes in
-    let fits : length (quoted bytes) ≤ token_limit = subst (λ x. length x ≤ token_limit) is short in
-    subst (λ b. (list_all is_plain b && nat_le (length (quoted b)) token_limit) ≡ true) (sym same) (and_from _ _ plain (le-leb (length (quoted bytes)) token_limit fits))
+    let fits : length (quoted bytes) ≤ most_token_bytes = subst (λ x. length x ≤ most_token_bytes) is short in
+    subst (λ b. (list_all is_plain b && nat_le (length (quoted b)) most_token_bytes) ≡ true) (sym same) (and_from _ _ plain (le-leb (length (quoted bytes)) most_token_bytes fits))
 
-text_quotable : (kind : Kind) (piece : List ℕ) → is_text_kind kind ≡ true → IsToken kind piece × (length piece ≤ token_limit) → is_quotable (unquoted piece) ≡ true
+text_quotable : (kind : Kind) (piece : List ℕ) → is_text_kind kind ≡ true → IsToken kind piece × (length piece ≤ most_token_bytes) → is_quotable (unquoted piece) ≡ true
 text_quotable kinds.Word piece e h = cc
 text_quotable kinds.Number piece e h = cc
 text_quotable kinds.Text piece e h = quoted_quotable piece h.0 h.1
@@ -66,27 +66,27 @@ word_text : (bytes : List ℕ) → IsWord bytes → is_word_text bytes ≡ true
 word_text [] is = absurd is
 word_text (b ∷ bytes) is = and_from (starts_word b) (list_all is_word_byte bytes) is.0 is.1
 
-word_short : (kind : Kind) (piece : List ℕ) → is_word_kind kind ≡ true → IsToken kind piece × (length piece ≤ token_limit) → (is_word_text piece ≡ true) × (length piece ≤ token_limit)
+word_short : (kind : Kind) (piece : List ℕ) → is_word_kind kind ≡ true → IsToken kind piece × (length piece ≤ most_token_bytes) → (is_word_text piece ≡ true) × (length piece ≤ most_token_bytes)
 word_short kinds.Word piece e h = (word_text piece h.0, h.1)
 word_short kinds.Number piece e h = cc
 word_short kinds.Text piece e h = cc
 word_short kinds.Sign piece e h = cc
 
-short_from : (bytes : List ℕ) → is_word_text bytes ≡ true → length bytes ≤ token_limit → is_short_word bytes ≡ true
+short_from : (bytes : List ℕ) → is_word_text bytes ≡ true → length bytes ≤ most_token_bytes → is_short_word bytes ≡ true
 unfolding is_short_word
-short_from bytes is short = and_from (is_word_text bytes) _ is (le-leb (length bytes) token_limit short)
+short_from bytes is short = and_from (is_word_text bytes) _ is (le-leb (length bytes) most_token_bytes short)
 
 -- the name of a dimension behind a `!`, from a word and from a quoted text
 pub formed_word_name : (t : Lexeme) (dim : List ℕ) → IsWellFormed t → is_word_kind t.kind ≡ true → t.piece ≡ dim → is_marked dim ≡ true
 formed_word_name t dim formed kind same =
     let (is, short) = word_short t.kind t.piece kind formed in
     let word : is_word_text dim ≡ true = ap is_word_text (sym same) ∙ is in
-    let fits : is_short_word dim ≡ true = short_from dim word (subst (λ b. length b ≤ token_limit) same short) in
+    let fits : is_short_word dim ≡ true = short_from dim word (subst (λ b. length b ≤ most_token_bytes) same short) in
     rw word fits
 
-quotable_length : (bytes : List ℕ) → is_quotable bytes ≡ true → length bytes ≤ token_limit
+quotable_length : (bytes : List ℕ) → is_quotable bytes ≡ true → length bytes ≤ most_token_bytes
 unfolding is_quotable
-quotable_length bytes is = omega (arith, shorter bytes, leb-true _ _ (and_parts (list_all is_plain bytes) (nat_le (length (quoted bytes)) token_limit) is).1)
+quotable_length bytes is = omega (arith, shorter bytes, leb-true _ _ (and_parts (list_all is_plain bytes) (nat_le (length (quoted bytes)) most_token_bytes) is).1)
 
 marked_either : (dim : List ℕ) (b : Bool) → is_word_text dim ≡ b → is_quotable dim ≡ true → (if b then is_short_word dim else is_quotable dim) ≡ true
 marked_either dim true word is = short_from dim word (quotable_length dim is)
@@ -183,7 +183,7 @@ plain_number piece z is e =
     let says : number_after_sign false piece ≡ Some z = sym (ap (λ b. if b then number_after_sign true (drop 1 piece) else number_after_sign false piece) (no_minus piece is)) ∙ e in
     after_plain piece z (is_decimal piece) refl says
 
-number_kind : (kind : Kind) (piece : List ℕ) → is_number_kind kind ≡ true → IsToken kind piece × (length piece ≤ token_limit) → IsNumber piece
+number_kind : (kind : Kind) (piece : List ℕ) → is_number_kind kind ≡ true → IsToken kind piece × (length piece ≤ most_token_bytes) → IsNumber piece
 number_kind kinds.Word piece e h = cc
 number_kind kinds.Number piece e h = h.0
 number_kind kinds.Text piece e h = cc

@@ -16,7 +16,7 @@ use Rattle.grammar.specs.Lists.{listed, perhaps_listed}
 use Rattle.rule_tree.specs.Formula.{rules_language, primary, formula, number, quoted, current, reference, stet, continue, first_argument, is_if, call}
 use Rattle.rule_printer.specs.Spelled.{written, next_spelled, listed_spelled, tree_spelled}
 use Rattle.rule_tree.specs.declared.counted.Counted.{Counted}
-use Rattle.rule_tree.specs.declared.counted.Place.{Place}
+use Rattle.rule_tree.specs.declared.counted.RuleTextPlace.{RuleTextPlace}
 use Rattle.rule_tree.specs.declared.tree.Tree.{Tree}
 use Rattle.rule_tree.specs.declared.tree.Tree.TheVariants as trees
 use Rattle.rule_printer.proofs.PrintedCounting.{IsPlace, formula_counting}
@@ -87,7 +87,7 @@ call_spelled : (e : Tree) (function : List ℕ) (arguments : List Tree) → e �
 unfolding call_tokens
 call_spelled e function arguments is = ap tree_spelled is ∙ ap (λ w. w.tokens) (written_call function arguments) ∙ ap (λ l. word_token function ∷ sign_token (codes "(") ∷ (l ++ sign_token (codes ")") ∷ [])) (arguments_written arguments)
 
-module _ (place : Limits → Place) (base : ℕ) (is : IsPlace place base) (c : Counted) where
+module _ (place : Limits → RuleTextPlace) (base : ℕ) (is : IsPlace place base) (c : Counted) where
   first_again : (V T : Grammar Lexeme Tree) → IsWrittenAgain (formula_counting place base is c) rules_writing V → IsWrittenAgain (formula_counting place base is c) rules_writing T → (b : Bool) → IsWrittenAgain (formula_counting place base is c) rules_writing (first_argument b V T)
   first_again V T v t true = t
   first_again V T v t false = v

@@ -15,8 +15,8 @@ use Rattle.expression_grammar.proofs.TokenKinds.{sign_is}
 use Rattle.expression_grammar.proofs.PrintedLimits.{opened, Counting}
 use Rattle.rule_tree.specs.Counting.{with_token, in_place, moved, count}
 use Rattle.rule_tree.specs.declared.counted.Counted.{Counted}
-use Rattle.rule_tree.specs.declared.counted.Place.{Place}
-use Rattle.rule_tree.specs.declared.counted.Place.TheVariants as places
+use Rattle.rule_tree.specs.declared.counted.RuleTextPlace.{RuleTextPlace}
+use Rattle.rule_tree.specs.declared.counted.RuleTextPlace.TheVariants as places
 
 -- one token, where it isn't refused
 abbrev pub step : Counted → Lexeme → Option Counted
@@ -56,7 +56,7 @@ quiet_scanned t d p false q = simp (q.kind, q.opening, q.closing, q.bracket, q.m
 abbrev pub IsWithin : ℕ → Limits → Lexeme → Type 0
 IsWithin base l t = (l.bracketed ≡ true) ⊎ ((is_sign (codes ":") t ≡ false) × ((base + 1 ≤ l.depth) ⊎ ((is_sign (codes ",") t ≡ false) × (is_sign (codes ")") t ≡ false))))
 
-pub record IsPlace (place : Limits → Place) (base : ℕ) : Type 0 where
+pub record IsPlace (place : Limits → RuleTextPlace) (base : ℕ) : Type 0 where
   pub within : (c : Counted) (l : Limits) (t : Lexeme) → is_sign (codes ";") t ≡ false → IsWithin base l t → count (record c { place = place l }) t ≡ moved c (in_place place (with_token l t))
 
 third_of : {A Q : Type 0} (a b c : Bool) (x y z : A) → a ≡ false → (b ≡ true) ⊎ ((c ≡ false) × Q) → (if a then x else (if not b && c then y else z)) ≡ z
@@ -92,12 +92,12 @@ argument_place = record { within = at } where
 
 -- In such a place.
 
-told_so : (place : Limits → Place) (c : Counted) (l : Limits) (t : Lexeme) (o : Option Limits) → scanned l t ≡ o → result_ok (moved c (in_place place (with_token l t))) ≡ option_map (λ m. record c { place = place m }) o
+told_so : (place : Limits → RuleTextPlace) (c : Counted) (l : Limits) (t : Lexeme) (o : Option Limits) → scanned l t ≡ o → result_ok (moved c (in_place place (with_token l t))) ≡ option_map (λ m. record c { place = place m }) o
 told_so place c l t None e = rw e refl
 told_so place c l t (Some m) e = rw e refl
 
 -- within the formula, the limits move on
-pub steps_within : (place : Limits → Place) (base : ℕ) → IsPlace place base → (c : Counted) (l : Limits) (t : Lexeme) → is_sign (codes ";") t ≡ false → IsWithin base l t → (o : Option Limits) → scanned l t ≡ o
+pub steps_within : (place : Limits → RuleTextPlace) (base : ℕ) → IsPlace place base → (c : Counted) (l : Limits) (t : Lexeme) → is_sign (codes ";") t ≡ false → IsWithin base l t → (o : Option Limits) → scanned l t ≡ o
     → step (record c { place = place l }) t ≡ option_map (λ m. record c { place = place m }) o
 steps_within place base is c l t semicolon within o e = ap result_ok (is.within c l t semicolon within) ∙ told_so place c l t o e
 
@@ -135,16 +135,16 @@ named_scanned t d p kind = simp kind refl
 
 -- In a place where a whole formula stands: the states before an operand, behind one, and in brackets.
 
-abbrev pub due_in : (Limits → Place) → Counted → ℕ → ℕ → Counted
+abbrev pub due_in : (Limits → RuleTextPlace) → Counted → ℕ → ℕ → Counted
 due_in place c d p = record c { place = place (limits d p true false) }
 
-abbrev pub behind_in : (Limits → Place) → Counted → ℕ → ℕ → Counted
+abbrev pub behind_in : (Limits → RuleTextPlace) → Counted → ℕ → ℕ → Counted
 behind_in place c d p = record c { place = place (limits d p false false) }
 
-abbrev pub bracketed_in : (Limits → Place) → Counted → ℕ → ℕ → Counted
+abbrev pub bracketed_in : (Limits → RuleTextPlace) → Counted → ℕ → ℕ → Counted
 bracketed_in place c d p = record c { place = place (limits d p false true) }
 
-module _ (place : Limits → Place) (base : ℕ) (is : IsPlace place base) (c : Counted) where
+module _ (place : Limits → RuleTextPlace) (base : ℕ) (is : IsPlace place base) (c : Counted) where
   pub quiet_steps : (t : Lexeme) (d p : ℕ) (due : Bool) → IsQuiet t → step (record c { place = place (limits d p due false) }) t ≡ Some (due_in place c d p)
   quiet_steps t d p due q = steps_within place base is c (limits d p due false) t (quiet_not t (codes ";") q.kind q.semicolon)
       (inr (quiet_not t (codes ":") q.kind q.colon, inr (quiet_not t (codes ",") q.kind q.comma, quiet_not t (codes ")") q.kind q.closing)))

@@ -15,7 +15,7 @@ use Rattle.expression_grammar.proofs.PrintedTokens.{Spells, Picks, spells_one, s
 use Rattle.rule_tree.specs.Formula.{number, quoted, word_name, current, reference}
 use Rattle.rule_printer.specs.Spelled.{Written, written, is_word_text, next_spelled, listed_spelled, tree_spelled}
 use Rattle.rule_tree.specs.declared.counted.Counted.{Counted}
-use Rattle.rule_tree.specs.declared.counted.Place.{Place}
+use Rattle.rule_tree.specs.declared.counted.RuleTextPlace.{RuleTextPlace}
 use Rattle.rule_tree.specs.declared.tree.Tree.{Tree}
 use Rattle.rule_tree.specs.declared.tree.Tree.TheVariants as trees
 use Rattle.rule_printer.proofs.PrintedBrackets.{bracket_again, bracket_is}
@@ -35,7 +35,7 @@ arguments_written (first ∷ rest) = ap (λ l. (written first).tokens ++ l) (fur
 
 -- Primaries with nothing counted inside them.
 
-module _ (place : Limits → Place) (base : ℕ) (is : IsPlace place base) (c : Counted) where
+module _ (place : Limits → RuleTextPlace) (base : ℕ) (is : IsPlace place base) (c : Counted) where
   pub record IsSimple (G : Grammar Lexeme Tree) : Type 0 where
     pub rank : (u : List Lexeme) (e : Tree) → G u e → (written e).rank ≡ 3
     pub text : (u : List Lexeme) (e : Tree) → G u e → Spells G (tree_spelled e) e

@@ -15,7 +15,7 @@ use Rattle.expression_grammar.proofs.PrintedTokens.{Picks, is_written_sign}
 use Rattle.rule_tree.specs.Formula.{ors, ands, relations, sums, products, rules_language}
 use Rattle.rule_printer.specs.Spelled.{Written, written, written_at, rank_of, left_level, right_level, sign_of}
 use Rattle.rule_tree.specs.declared.counted.Counted.{Counted}
-use Rattle.rule_tree.specs.declared.counted.Place.{Place}
+use Rattle.rule_tree.specs.declared.counted.RuleTextPlace.{RuleTextPlace}
 use Rattle.rule_tree.specs.declared.tree.Tree.{Tree}
 use Rattle.rule_tree.specs.declared.tree.Tree.TheVariants as trees
 use Rattle.rule_tree.specs.declared.tree.TreeOp.{TreeOp}
@@ -142,7 +142,7 @@ written_in table rank left right all t o takes = let (s, is, entry) = in_table (
 pub anywhere : (w : Written) → written_at 0 w ≡ w.tokens
 anywhere w = ap (λ b. if b then in_parentheses w.tokens else w.tokens) (le-ltb w.rank 0 (omega arith))
 
-module _ (place : Limits → Place) (base : ℕ) (is : IsPlace place base) (c : Counted) where
+module _ (place : Limits → RuleTextPlace) (base : ℕ) (is : IsPlace place base) (c : Counted) where
   joins : (table : Table TreeOp) (level : ℕ) → Entries table level level (level + 1) → IsJoined (formula_counting place base is c) rules_writing (λ o left right. trees.Binary o left right) table level
   joins table level all = record {
     rank = ranks_in table level level (level + 1) all;

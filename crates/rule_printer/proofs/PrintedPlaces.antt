@@ -15,8 +15,8 @@ use Rattle.rule_tree.specs.Formula.{formula, bracket}
 use Rattle.rule_tree.specs.RuleText.{area}
 use Rattle.rule_printer.specs.Spelled.{tree_spelled, bracket_spelled, area_spelled}
 use Rattle.rule_tree.specs.declared.counted.Counted.{Counted}
-use Rattle.rule_tree.specs.declared.counted.Place.{Place}
-use Rattle.rule_tree.specs.declared.counted.Place.TheVariants as places
+use Rattle.rule_tree.specs.declared.counted.RuleTextPlace.{RuleTextPlace}
+use Rattle.rule_tree.specs.declared.counted.RuleTextPlace.TheVariants as places
 use Rattle.rule_tree.specs.declared.excess.Excess.{Excess}
 use Rattle.rule_tree.specs.declared.excess.Excess.TheVariants as excesses
 use Rattle.rule_tree.specs.declared.rule.EntryText.{EntryText}
@@ -28,13 +28,13 @@ use Rattle.rule_printer.proofs.PrintedCounting.{step, literal, sign_literal, IsP
 use Rattle.rule_printer.proofs.PrintedWords.{is_written_word}
 
 -- from the one place the tokens lead wherever u leads, and that is to the other place
-pub record Follows (p q : Place) (tokens : List Spelling) (u : List Lexeme) : Type 0 where
+pub record Follows (p q : RuleTextPlace) (tokens : List Spelling) (u : List Lexeme) : Type 0 where
   pub at : (ts : List Lexeme) → map spelling_of ts ≡ tokens → (c r : Counted) → c.place ≡ p → Goes step c u r → Goes step c ts r × (r.place ≡ q)
 
-pub follows_none : {p : Place} → Follows p p [] []
+pub follows_none : {p : RuleTextPlace} → Follows p p [] []
 follows_none = record { at = λ ts same c r is goes. (subst (λ l. Goes step c l r) (sym (none_spelled ts same)) goes, ap (λ x. x.place) goes ∙ is) }
 
-pub follows_both : {p m q : Place} {xs ys : List Spelling} {u v : List Lexeme} → Follows p m xs u → Follows m q ys v → Follows p q (xs ++ ys) (u ++ v)
+pub follows_both : {p m q : RuleTextPlace} {xs ys : List Spelling} {u v : List Lexeme} → Follows p m xs u → Follows m q ys v → Follows p q (xs ++ ys) (u ++ v)
 follows_both {xs = xs} {ys = ys} {u = u} {v = v} f g = record {
   at = λ ts same c r is goes. (
       let (a, b, parts, front, back) = split_at ts xs ys same in
@@ -45,7 +45,7 @@ follows_both {xs = xs} {ys = ys} {u = u} {v = v} f g = record {
 }
 
 -- one token, which leads where it leads wherever it stands
-pub follows_one : (p q : Place) (x : Spelling) (t : Lexeme) → ((c r : Counted) → step (record c { place = p }) t ≡ Some r → (r.place ≡ q) × ((s : Lexeme) → spelling_of s ≡ x → step (record c { place = p }) s ≡ Some r)) → Follows p q (x ∷ []) (t ∷ [])
+pub follows_one : (p q : RuleTextPlace) (x : Spelling) (t : Lexeme) → ((c r : Counted) → step (record c { place = p }) t ≡ Some r → (r.place ≡ q) × ((s : Lexeme) → spelling_of s ≡ x → step (record c { place = p }) s ≡ Some r)) → Follows p q (x ∷ []) (t ∷ [])
 follows_one p q x t leads = record {
   at = λ ts same c r is (m, taken, r-is). (
       let (s, none, ts-is, s-is, nothing) = split_next ts x [] same in
@@ -56,13 +56,13 @@ follows_one p q x t leads = record {
 }
 
 -- a sign that leads to the other place
-pub follows_sign : (s : List ℕ) (p q : Place) (t : Lexeme) → is_sign s t ≡ true → ((c : Counted) (x : Lexeme) → step (record c { place = p }) (literal kinds.Sign s x) ≡ Some (record c { place = q })) → Follows p q (sign_token s ∷ []) (t ∷ [])
+pub follows_sign : (s : List ℕ) (p q : RuleTextPlace) (t : Lexeme) → is_sign s t ≡ true → ((c : Counted) (x : Lexeme) → step (record c { place = p }) (literal kinds.Sign s x) ≡ Some (record c { place = q })) → Follows p q (sign_token s ∷ []) (t ∷ [])
 follows_sign s p q t is moves = follows_one p q (sign_token s) t (λ c r taken. (
     let m-is : r ≡ record c { place = q } = some_is r (record c { place = q }) (sym taken ∙ ap (step (record c { place = p })) (sign_literal s t is) ∙ moves c t) in
     (ap (λ x. x.place) m-is, λ x x-is. ap (step (record c { place = p })) (sign_literal s x (is_written_sign s x x-is)) ∙ moves c x ∙ ap Some (sym m-is))))
 
 -- a word that leads to the other place
-pub follows_word : (w : List ℕ) (p q : Place) (t : Lexeme) → is_word w t ≡ true → (f : Counted → Counted) → ((c : Counted) → (f c).place ≡ q) → ((c : Counted) (x : Lexeme) → is_word w x ≡ true → step (record c { place = p }) x ≡ Some (f c)) → Follows p q (word_token w ∷ []) (t ∷ [])
+pub follows_word : (w : List ℕ) (p q : RuleTextPlace) (t : Lexeme) → is_word w t ≡ true → (f : Counted → Counted) → ((c : Counted) → (f c).place ≡ q) → ((c : Counted) (x : Lexeme) → is_word w x ≡ true → step (record c { place = p }) x ≡ Some (f c)) → Follows p q (word_token w ∷ []) (t ∷ [])
 follows_word w p q t is f leads moves = follows_one p q (word_token w) t (λ c r taken. (
     let m-is : r ≡ f c = some_is r (f c) (sym taken ∙ moves c t is) in
     (ap (λ x. x.place) m-is ∙ leads c, λ x x-is. moves c x (is_written_word w x x-is) ∙ ap Some (sym m-is))))
@@ -70,7 +70,7 @@ follows_word w p q t is f leads moves = follows_one p q (word_token w) t (λ c r
 -- Areas and brackets.
 
 -- the places in which brackets stand: what a `[` does, and that nothing is counted up to its `]`
-record Stays (p : Place) : Type 0 where
+record Stays (p : RuleTextPlace) : Type 0 where
   content : (c : Counted) (t : Lexeme) → is_sign (codes ";") t ≡ false → is_sign (codes "=") t ≡ false → is_sign (codes "=>") t ≡ false → is_sign (codes "(") t ≡ false → step (record c { place = p }) t ≡ Some (record c { place = p })
   closes : (c : Counted) (x : Lexeme) → step (record c { place = p }) (literal kinds.Sign (codes "]") x) ≡ Some (record c { place = p })
 
@@ -82,30 +82,30 @@ targets_stay : Stays places.Targets
 unfolding count
 targets_stay = record { content = λ c t semicolon equal arrow opening. rw (semicolon, opening) refl; closes = λ c x. refl }
 
-content_into : (p : Place) → Stays p → (ts : List Lexeme) (c r : Counted) → AreContent ts → Goes step (record c { place = p }) ts r → r ≡ record c { place = p }
+content_into : (p : RuleTextPlace) → Stays p → (ts : List Lexeme) (c r : Counted) → AreContent ts → Goes step (record c { place = p }) ts r → r ≡ record c { place = p }
 content_into p stays [] c r content goes = goes
 content_into p stays (t ∷ ts) c r content (m, taken, goes) =
     let m-is : m ≡ record c { place = p } = some_is m (record c { place = p }) (sym taken ∙ stays.content c t content.0.semicolon content.0.equal content.0.arrow content.0.opening) in
     content_into p stays ts c r content.1 (subst (λ x. Goes step x ts r) m-is goes)
 
-content_from : (p : Place) → Stays p → (ts : List Lexeme) (c : Counted) → AreContent ts → Goes step (record c { place = p }) ts (record c { place = p })
+content_from : (p : RuleTextPlace) → Stays p → (ts : List Lexeme) (c : Counted) → AreContent ts → Goes step (record c { place = p }) ts (record c { place = p })
 content_from p stays [] c content = refl
 content_from p stays (t ∷ ts) c content = (record c { place = p }, stays.content c t content.0.semicolon content.0.equal content.0.arrow content.0.opening, content_from p stays ts c content.1)
 
 -- behind the first token, brackets lead nowhere else
-closed_into : (p : Place) → Stays p → (ts : List Lexeme) (t : Lexeme) (c r : Counted) → AreContent ts → is_sign (codes "]") t ≡ true → Goes step (record c { place = p }) (ts ++ t ∷ []) r → r ≡ record c { place = p }
+closed_into : (p : RuleTextPlace) → Stays p → (ts : List Lexeme) (t : Lexeme) (c r : Counted) → AreContent ts → is_sign (codes "]") t ≡ true → Goes step (record c { place = p }) (ts ++ t ∷ []) r → r ≡ record c { place = p }
 closed_into p stays ts t c r content closing goes =
     let (m, within, (n, last, r-is)) = goes_through step ts (t ∷ []) (record c { place = p }) r goes in
     let m-is : m ≡ record c { place = p } = content_into p stays ts c m content within in
     r-is ∙ some_is n (record c { place = p }) (sym last ∙ ap (λ x. step x t) m-is ∙ ap (step (record c { place = p })) (sign_literal (codes "]") t closing) ∙ stays.closes c t)
 
-closed_from : (p : Place) → Stays p → (ts : List Lexeme) (t : Lexeme) (c : Counted) → AreContent ts → is_sign (codes "]") t ≡ true → Goes step (record c { place = p }) (ts ++ t ∷ []) (record c { place = p })
+closed_from : (p : RuleTextPlace) → Stays p → (ts : List Lexeme) (t : Lexeme) (c : Counted) → AreContent ts → is_sign (codes "]") t ≡ true → Goes step (record c { place = p }) (ts ++ t ∷ []) (record c { place = p })
 closed_from p stays ts t c content closing =
     goes_on step ts (t ∷ []) (record c { place = p }) (record c { place = p }) (record c { place = p }) (content_from p stays ts c content)
     (record c { place = p }, ap (step (record c { place = p })) (sign_literal (codes "]") t closing) ∙ stays.closes c t, refl)
 
 -- what a `[` does is the same wherever it stands
-abbrev OpensAlike : Place → Place → Type 0
+abbrev OpensAlike : RuleTextPlace → RuleTextPlace → Type 0
 OpensAlike p q = (c r : Counted) (s t : Lexeme) → is_sign (codes "[") s ≡ true → is_sign (codes "[") t ≡ true → step (record c { place = p }) t ≡ Some r → (step (record c { place = p }) s ≡ Some r) × (r.place ≡ q)
 
 targets_open : OpensAlike places.Targets places.Targets
@@ -133,7 +133,7 @@ areas_open c r s t s-is t-is taken =
     (sym (ap (step here) (sign_literal (codes "[") t t-is)) ∙ taken) in
     (ap (step here) (sign_literal (codes "[") s s-is) ∙ there, place)
 
-bracketed_leads : (p q : Place) → OpensAlike p q → Stays q → (ts u : List Lexeme) → IsBracketed ts → IsBracketed u → (c r : Counted) → c.place ≡ p → Goes step c u r → Goes step c ts r × (r.place ≡ q)
+bracketed_leads : (p q : RuleTextPlace) → OpensAlike p q → Stays q → (ts u : List Lexeme) → IsBracketed ts → IsBracketed u → (c r : Counted) → c.place ≡ p → Goes step c u r → Goes step c ts r × (r.place ≡ q)
 bracketed_leads p q alike stays ts u a b c r is goes =
     let here : c ≡ record c { place = p } = ap (λ y. record c { place = y }) is in
     let (m, taken, further) = subst (λ l. Goes step c l r) b.parts goes in
@@ -155,7 +155,7 @@ follows_bracket u simples h = record {
 
 -- Whole formulas, each with the sign that ends it.
 
-pub follows_formula : (place : Limits → Place) (base : ℕ) → IsPlace place base → (q : Place) (s : List ℕ) → ((c : Counted) (n : ℕ) (x : Lexeme) → step (behind_in place c base n) (literal kinds.Sign s x) ≡ Some (record c { place = q }))
+pub follows_formula : (place : Limits → RuleTextPlace) (base : ℕ) → IsPlace place base → (q : RuleTextPlace) (s : List ℕ) → ((c : Counted) (n : ℕ) (x : Lexeme) → step (behind_in place c base n) (literal kinds.Sign s x) ≡ Some (record c { place = q }))
     → (u : List Lexeme) (e : Tree) (t : Lexeme) → formula u e → is_sign s t ≡ true → Follows (place (begun_within base)) q (tree_spelled e ++ sign_token s ∷ []) (u ++ t ∷ [])
 follows_formula place base is q s ends u e t h is-t = record {
   at = λ ts same c r here goes. (

@@ -8,7 +8,7 @@ use Rattle.grammar.specs.Tokens.{is_sign_kind, is_word_kind, is_text_kind, is_nu
 use Rattle.expression_grammar.specs.Limits.{most_open, most_primaries}
 use Rattle.expression_grammar.proofs.PrintedLimits.{Counting, Goes, Fits, goes_on, goes_through, some_is}
 use Rattle.rule_tree.specs.declared.counted.Counted.{Counted}
-use Rattle.rule_tree.specs.declared.counted.Place.{Place}
+use Rattle.rule_tree.specs.declared.counted.RuleTextPlace.{RuleTextPlace}
 use Rattle.expression_grammar.specs.declared.limits.Limits.{Limits}
 use Rattle.rule_printer.proofs.PrintedBrackets.{AreContent, IsBracketed}
 use Rattle.rule_printer.proofs.PrintedCounting.{step, IsPlace, IsQuiet, if_room, if_shallow, due_in, behind_in, bracketed_in, formula_counting, word_step, named_step, mark_step, bracket_step, inner_step, unbracket_step, call_step, comma_step, closes_step, quiet_steps, opens_step}
@@ -47,7 +47,7 @@ shallow_was d s m false shallow e = cc
 shallow_is : {S : Type 0} (d : ℕ) (s : S) → d < most_open → if_shallow d s ≡ Some s
 shallow_is d s shallow = rw (lt-ltb d most_open shallow) refl
 
-module _ (place : Limits → Place) (base : ℕ) (is : IsPlace place base) (c : Counted) where
+module _ (place : Limits → RuleTextPlace) (base : ℕ) (is : IsPlace place base) (c : Counted) where
   -- these tokens are one primary, with nothing counted inside it
   pub record Once (ts : List Lexeme) : Type 0 where
     pub into : (d q : ℕ) (r : Counted) → Goes step (due_in place c d q) ts r → (q < most_primaries) × (r ≡ behind_in place c d (q + 1))

@@ -17,8 +17,8 @@ use Rattle.rule_tree.specs.Formula.{formula}
 use Rattle.rule_tree.specs.RuleText.{ended, part, body, statement, target, feeder, skipcheck, feeders, rules}
 use Rattle.rule_printer.specs.Spelled.{next_spelled, listed_spelled, tree_spelled, ended_spelled, part_spelled, body_spelled, statement_spelled, target_spelled, feeder_spelled, skipcheck_spelled, feeders_spelled, rules_spelled}
 use Rattle.rule_tree.specs.declared.counted.Counted.{Counted}
-use Rattle.rule_tree.specs.declared.counted.Place.{Place}
-use Rattle.rule_tree.specs.declared.counted.Place.TheVariants as places
+use Rattle.rule_tree.specs.declared.counted.RuleTextPlace.{RuleTextPlace}
+use Rattle.rule_tree.specs.declared.counted.RuleTextPlace.TheVariants as places
 use Rattle.rule_tree.specs.declared.rule.BodyText.{BodyText}
 use Rattle.rule_tree.specs.declared.rule.FeederText.{FeederText}
 use Rattle.rule_tree.specs.declared.rule.RuleText.{RuleText}
@@ -98,17 +98,17 @@ argument_closing c n x = refl
 
 -- One token of a text.
 
-the_sign : (s : List ℕ) (p q : Place) → ((c : Counted) (x : Lexeme) → step (record c { place = p }) (literal kinds.Sign s x) ≡ Some (record c { place = q })) → (u : List Lexeme) (a : Unit {0}) → one (sign s) u a → Follows p q (sign_token s ∷ []) u
+the_sign : (s : List ℕ) (p q : RuleTextPlace) → ((c : Counted) (x : Lexeme) → step (record c { place = p }) (literal kinds.Sign s x) ≡ Some (record c { place = q })) → (u : List Lexeme) (a : Unit {0}) → one (sign s) u a → Follows p q (sign_token s ∷ []) u
 the_sign s p q moves u a (t, is, takes) = let (sign_is, _) = when_picks (is_sign s) (λ _. tt) t a takes in subst (Follows p q (sign_token s ∷ [])) (sym is) (follows_sign s p q t sign_is moves)
 
-the_word : (w : List ℕ) (p q : Place) (f : Counted → Counted) → ((c : Counted) → (f c).place ≡ q) → ((c : Counted) (x : Lexeme) → is_word w x ≡ true → step (record c { place = p }) x ≡ Some (f c)) → (u : List Lexeme) (a : ℕ) → one (word w) u a → Follows p q (word_token w ∷ []) u
+the_word : (w : List ℕ) (p q : RuleTextPlace) (f : Counted → Counted) → ((c : Counted) → (f c).place ≡ q) → ((c : Counted) (x : Lexeme) → is_word w x ≡ true → step (record c { place = p }) x ≡ Some (f c)) → (u : List Lexeme) (a : ℕ) → one (word w) u a → Follows p q (word_token w ∷ []) u
 the_word w p q f leads moves u a (t, is, takes) = let (word_so, _) = when_picks (is_word w) (λ t. t.line) t a takes in subst (Follows p q (word_token w ∷ [])) (sym is) (follows_word w p q t word_so f leads moves)
 
 -- the same, where the text is told by its parts
-told : {p q : Place} {xs : List Spelling} {u v : List Lexeme} → u ≡ v → Follows p q xs v → Follows p q xs u
+told : {p q : RuleTextPlace} {xs : List Spelling} {u v : List Lexeme} → u ≡ v → Follows p q xs v → Follows p q xs u
 told {p = p} {q = q} {xs = xs} is f = subst (Follows p q xs) (sym is) f
 
-follows_many : {A : Type 0} (p : Place) (G : Grammar Lexeme A) (f : A → List Spelling) → ((u : List Lexeme) (a : A) → G u a → Follows p p (f a) u) → (list : List A) (u : List Lexeme) → many G u list → Follows p p (flat_map f list) u
+follows_many : {A : Type 0} (p : RuleTextPlace) (G : Grammar Lexeme A) (f : A → List Spelling) → ((u : List Lexeme) (a : A) → G u a → Follows p p (f a) u) → (list : List A) (u : List Lexeme) → many G u list → Follows p p (flat_map f list) u
 follows_many p G f each [] u h = told h follows_none
 follows_many p G f each (a ∷ list) u (v, w, parts, h, more) = told parts (follows_both (each v a h) (follows_many p G f each list w more))
 
@@ -211,7 +211,7 @@ follows_skipcheck u b (inr (nothing, is)) = subst (λ b. Follows places.Between 
 pub record Ends (tokens : List Spelling) (u : List Lexeme) : Type 0 where
   pub at : (ts : List Lexeme) → map spelling_of ts ≡ tokens → (c r : Counted) → c.place ≡ places.Between → Goes step c u r → (end : Counted) × Goes step c ts end
 
-ends_of : {p : Place} {tokens : List Spelling} {u : List Lexeme} → Follows places.Between p tokens u → Ends tokens u
+ends_of : {p : RuleTextPlace} {tokens : List Spelling} {u : List Lexeme} → Follows places.Between p tokens u → Ends tokens u
 ends_of f = record { at = λ ts same c r is goes. (r, (f.at ts same c r is goes).0) }
 
 ends_nothing : (u : List Lexeme) → Ends [] u

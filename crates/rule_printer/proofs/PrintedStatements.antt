@@ -6,7 +6,7 @@ use Rattle.rule_tree.specs.Counting.{start}
 use Rattle.rule_tree.specs.Formula.{formula}
 use Rattle.rule_tree.specs.RuleText.{ended, part, leaf_first, cons_first, body, statement, target, feeder, skipcheck, feeders, rules}
 use Rattle.rule_printer.specs.Spelled.{tree_spelled, ended_spelled, part_spelled, body_spelled, statement_spelled, target_spelled, feeder_spelled, skipcheck_spelled, feeders_spelled, rules_spelled}
-use Rattle.rule_tree.specs.declared.counted.Place.TheVariants as places
+use Rattle.rule_tree.specs.declared.counted.RuleTextPlace.TheVariants as places
 use Rattle.rule_tree.specs.declared.rule.BodyText.{BodyText}
 use Rattle.rule_tree.specs.declared.rule.BodyText.TheVariants as bodies
 use Rattle.rule_tree.specs.declared.rule.FeederText.{FeederText}

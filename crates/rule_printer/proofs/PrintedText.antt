@@ -5,7 +5,7 @@ use Rattle.cube_lex.proofs.WellFormed.{well_formed}
 use Rattle.cube_lex.proofs.WrittenTexts.{written-reading}
 use Rattle.cube_lex.specs.Lexeme.{Lexeme}
 use Rattle.cube_lex.specs.Written.{spelling_of, IsWritten, Writes}
-use Rattle.cube_lex.specs.Reading.{text_limit}
+use Rattle.cube_lex.specs.Reading.{most_text_bytes}
 use Rattle.grammar.specs.Fault.{IsText}
 use Rattle.grammar.specs.Watch.{AllPass, joined, Passes}
 use Rattle.grammar.proofs.Exact.{passes_nothing, passes-append, passes_one}
@@ -51,7 +51,7 @@ tokens_again text u c is ts same =
 pub writable_rules : (text : RuleText) → IsRuleText text → are_writable text ≡ true
 writable_rules text (bytes, c, whole) = keeps_rules.at whole.lexed.lexemes text (well_formed bytes whole.lexed None whole.reading) whole.text.text
 
-text_of : (text : RuleText) → IsRuleText text → (bytes : List ℕ) → IsWritten (rules_spelled text) bytes → length bytes ≤ text_limit → IsTextOf text bytes
+text_of : (text : RuleText) → IsRuleText text → (bytes : List ℕ) → IsWritten (rules_spelled text) bytes → length bytes ≤ most_text_bytes → IsTextOf text bytes
 text_of text (source, c, whole) bytes written_so small =
     let (lexed, reading, same) = written-reading (rules_spelled text) bytes written_so small in
     let (e, again) = tokens_again text whole.lexed.lexemes c whole.text lexed.lexemes same in

@@ -11,13 +11,13 @@ use Rattle.std.specs.Char.{is_ascii_digit}
 use Rattle.std.specs.Int.{is_negative}
 use Rattle.std.specs.List.{flat_map, list_all}
 use Rattle.cube_fixed.proofs.Digits.{decimals, decimals-zero, decimals-step, below_place, starts, Starts, fraction_text-pos}
-use Rattle.cube_fixed.specs.Range.{IsInRange, unit, limit}
+use Rattle.cube_fixed.specs.Range.{IsInRange, unit, most_millionths}
 use Rattle.cube_fixed.specs.Text.{printed, fraction_text}
 use Rattle.cube_fixed.specs.declared.value.Value.TheVariants.{Num}
 use Rattle.cube_lex.proofs.Wholes.{decimal-is_digits, digit-passes as digit_passes}
 use Rattle.cube_lex.proofs.Spaced.{spaces-both, writes-more}
 use Rattle.cube_lex.specs.Bytes.{is_plain, starts_word, is_word_byte}
-use Rattle.cube_lex.specs.Parts.{IsWord, IsDigits, IsNumber, token_limit}
+use Rattle.cube_lex.specs.Parts.{IsWord, IsDigits, IsNumber, most_token_bytes}
 use Rattle.cube_lex.specs.Quoted.{quoted}
 use Rattle.cube_lex.specs.Written.{Spelling, Spaces, Writes, sign_token, word_token}
 use Rattle.rule_printer.specs.Inside.Separated.{separator}
@@ -30,11 +30,11 @@ pub use Rattle.cube_lex.proofs.Adding.{then_spaces as then_adds, then_writes, wr
 
 pub quotable_plain : (bytes : List ℕ) → is_quotable bytes ≡ true → list_all is_plain bytes ≡ true
 unfolding is_quotable
-quotable_plain bytes is = (and_parts (list_all is_plain bytes) (nat_le (length (quoted bytes)) token_limit) is).0
+quotable_plain bytes is = (and_parts (list_all is_plain bytes) (nat_le (length (quoted bytes)) most_token_bytes) is).0
 
-pub quotable_short : (bytes : List ℕ) → is_quotable bytes ≡ true → length (quoted bytes) ≤ token_limit
+pub quotable_short : (bytes : List ℕ) → is_quotable bytes ≡ true → length (quoted bytes) ≤ most_token_bytes
 unfolding is_quotable
-quotable_short bytes is = leb-true _ _ (and_parts (list_all is_plain bytes) (nat_le (length (quoted bytes)) token_limit) is).1
+quotable_short bytes is = leb-true _ _ (and_parts (list_all is_plain bytes) (nat_le (length (quoted bytes)) most_token_bytes) is).1
 
 word_of : (bytes : List ℕ) → is_word_text bytes ≡ true → IsWord bytes
 word_of [] is = cc
@@ -42,11 +42,11 @@ word_of (b ∷ bytes) is = and_parts (starts_word b) (list_all is_word_byte byte
 
 pub short_word : (bytes : List ℕ) → is_short_word bytes ≡ true → IsWord bytes
 unfolding is_short_word
-short_word bytes is = word_of bytes (and_parts (is_word_text bytes) (nat_le (length bytes) token_limit) is).0
+short_word bytes is = word_of bytes (and_parts (is_word_text bytes) (nat_le (length bytes) most_token_bytes) is).0
 
-pub short_length : (bytes : List ℕ) → is_short_word bytes ≡ true → length bytes ≤ token_limit
+pub short_length : (bytes : List ℕ) → is_short_word bytes ≡ true → length bytes ≤ most_token_bytes
 unfolding is_short_word
-short_length bytes is = leb-true _ _ (and_parts (is_word_text bytes) (nat_le (length bytes) token_limit) is).1
+short_length bytes is = leb-true _ _ (and_parts (is_word_text bytes) (nat_le (length bytes) most_token_bytes) is).1
 
 -- one of a list
 pub one_passes : {X : Type 0} (p : X → Bool) (xs : List X) (i : ℕ) (x : X) → i < length xs → x ≡ get_or xs i x → list_all p xs ≡ true → p x ≡ true
@@ -87,7 +87,7 @@ number_text w (suc n) below small =
       omega (arith, length-append (decimal w) (fraction_text (suc n)), ap length text, short),
     )
 
-printed_number : (n : ℕ) → n ≤ limit → IsNumber (printed (Num (pos n))) × (length (printed (Num (pos n))) ≤ token_limit)
+printed_number : (n : ℕ) → n ≤ most_millionths → IsNumber (printed (Num (pos n))) × (length (printed (Num (pos n))) ≤ most_token_bytes)
 unfolding printed
 printed_number n small =
     let plain : is_negative (pos n) ≡ false = grind (arith, nat_tests) in
@@ -97,7 +97,7 @@ printed_number n small =
     let whole : length (decimal (n / unit)) ≤ 19 = length-decimal-le 19 (n / unit) (omega arith) (omega arith) wide in
     (subst IsNumber (sym text) number, omega (arith, ap length text, size, whole))
 
-pub printed_is : (z : ℤ) → is_negative z ≡ false → IsInRange z → IsNumber (printed (Num z)) × (length (printed (Num z)) ≤ token_limit)
+pub printed_is : (z : ℤ) → is_negative z ≡ false → IsInRange z → IsNumber (printed (Num z)) × (length (printed (Num z)) ≤ most_token_bytes)
 printed_is (pos n) plain within = printed_number n within
 printed_is (negsuc n) plain within = cc
 

@@ -1,6 +1,6 @@
 -- What is printed of rules.
 use Rattle.std.specs.Prelude.{◌≡◌, ℕ, ◌≤◌, List, ◌++◌}
-use Rattle.cube_lex.specs.Reading.{text_limit}
+use Rattle.cube_lex.specs.Reading.{most_text_bytes}
 use Rattle.cube_lex.specs.Written.{Writes, most_size}
 use Rattle.grammar.specs.Whole.{IsWholeText}
 use Rattle.rule_tree.specs.Counting.{counting, start}
@@ -21,4 +21,5 @@ IsRuleText text = (bytes : List ℕ) × (c : Counted) × IsWholeText rules count
 -- behind each; where those are not too many for a text, the bytes are a rule text of the rules, within the limits
 pub record IsPrinted (text : RuleText) (old new : List ℕ) : Type 0 where
   pub writes : Writes old new (rules_spelled text)
-  pub reads : most_size (rules_spelled text) ≤ text_limit → (bytes : List ℕ) → new ≡ old ++ bytes → IsTextOf text bytes
+  pub reads : most_size (rules_spelled text) ≤ most_text_bytes
+      → (bytes : List ℕ) → new ≡ old ++ bytes → IsTextOf text bytes

@@ -3,7 +3,7 @@ ghost use Rattle.grammar.specs.Cursor.{Reads};
 ghost use Rattle.rule_reader.specs.Readers.Reading as reading;
 
 use crate::language::Formulas;
-use expression_grammar::{MOST_INSIDE, Nested, Sort, Want, expression_at};
+use expression_grammar::{MAX_INSIDE, Nested, Sort, Want, expression_at};
 use grammar::{Cursor, Item, Stop};
 use rule_tree::{Counted, Excess, Tree};
 use std::alloc::Global;
@@ -36,7 +36,7 @@ fn formula_inside(
 pub fn formula_at(alloc: Global, cursor: &mut Cursor<'_, Counted>) -> Result<Tree, Stop<Excess>>
     ensures { Reads (λ tree. tree) reading.read_formula cursor.old result cursor.new }
 {
-    let (tree, _) = formula_inside(alloc, cursor, MOST_INSIDE, Want::Value)?;
+    let (tree, _) = formula_inside(alloc, cursor, MAX_INSIDE, Want::Value)?;
     Ok(tree)
 }
 

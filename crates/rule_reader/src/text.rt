@@ -9,7 +9,7 @@ use crate::statement::StatementItem;
 use cube_lex::tokens_until;
 use grammar::{Cursor, Stop, TextFault, answer_of_text, repeated, sign, word, word_comes};
 use lists::ListOf;
-use rule_tree::{Counted, Excess, FeederText, Place, RuleText};
+use rule_tree::{Counted, Excess, FeederText, RuleText, RuleTextPlace};
 use std::alloc::Global;
 
 /// Reads an optional `SKIPCHECK ;`.
@@ -67,7 +67,7 @@ pub fn parse(alloc: Global, text: &[u8]) -> Result<RuleText, RuleFault>
         statements: 0,
         feeders: 0,
         feeding: false,
-        place: Place::Between,
+        place: RuleTextPlace::Between,
     };
     let mut cursor = Cursor::new(tokens.as_slice(), start);
     let read = rules_at(alloc, &mut cursor);

@@ -7,8 +7,8 @@ use Rattle.grammar.specs.Watch.{Watch, each_token}
 use Rattle.expression_grammar.specs.Limits.{begun_within, scanned}
 use Rattle.expression_grammar.specs.declared.limits.Limits.{Limits}
 use Rattle.rule_tree.specs.declared.counted.Counted.{Counted}
-use Rattle.rule_tree.specs.declared.counted.Place.{Place}
-use Rattle.rule_tree.specs.declared.counted.Place.TheVariants as places
+use Rattle.rule_tree.specs.declared.counted.RuleTextPlace.{RuleTextPlace}
+use Rattle.rule_tree.specs.declared.counted.RuleTextPlace.TheVariants as places
 use Rattle.rule_tree.specs.declared.excess.Excess.{Excess}
 use Rattle.rule_tree.specs.declared.excess.Excess.TheVariants as excesses
 
@@ -27,32 +27,32 @@ with_token l t = told (scanned l t) where
   told (Some more) = Ok more
   told None = Err (excesses.TooDeep t.line)
 
-abbrev pub in_place : (Limits → Place) → Result Limits Excess → Result Place Excess
+abbrev pub in_place : (Limits → RuleTextPlace) → Result Limits Excess → Result RuleTextPlace Excess
 in_place place (Ok l) = Ok (place l)
 in_place place (Err excess) = Err excess
 
-abbrev pub behind_area : Lexeme → Place
+abbrev pub behind_area : Lexeme → RuleTextPlace
 behind_area t =
     if is_sign (codes "=") t then places.Formula (begun_within 0)
     else if is_sign (codes "=>") t then places.Targets
     else places.Area
 
 -- In a statement a whole formula begins behind `=`, and again behind the `:` of each mark.
-abbrev pub behind_formula : Limits → Lexeme → Result Place Excess
+abbrev pub behind_formula : Limits → Lexeme → Result RuleTextPlace Excess
 behind_formula l t =
     if is_sign (codes ";") t then Ok places.Between
     else if not l.bracketed && is_sign (codes ":") t then Ok (places.Formula (begun_within 0))
     else in_place places.Formula (with_token l t)
 
 -- In a feeder a whole formula begins behind the `(` of a `DB`, which is open inside it,
-abbrev pub behind_targets : Lexeme → Place
+abbrev pub behind_targets : Lexeme → RuleTextPlace
 behind_targets t =
     if is_sign (codes ";") t then places.Between
     else if is_sign (codes "(") t then places.Argument (begun_within 1)
     else places.Targets
 
 -- and behind each `,` that stands directly in those parentheses.
-abbrev pub behind_argument : Limits → Lexeme → Result Place Excess
+abbrev pub behind_argument : Limits → Lexeme → Result RuleTextPlace Excess
 behind_argument l t =
     if (l.depth == 1 && not l.bracketed) && is_sign (codes ",") t then Ok (places.Argument (begun_within 1))
     else if (l.depth == 1 && not l.bracketed) && is_sign (codes ")") t then Ok places.Targets
@@ -73,11 +73,11 @@ behind_all c t =
     else if is_sign (codes ":") t then Ok (record c { place = places.Formula (begun_within 0) })
     else Ok (record c { feeding = c.feeding || is_word (codes "FEEDERS") t })
 
-abbrev pub moved : Counted → Result Place Excess → Result Counted Excess
+abbrev pub moved : Counted → Result RuleTextPlace Excess → Result Counted Excess
 moved c (Ok place) = Ok (record c { place = place })
 moved c (Err excess) = Err excess
 
-abbrev pub count_at : Counted → Place → Lexeme → Result Counted Excess
+abbrev pub count_at : Counted → RuleTextPlace → Lexeme → Result Counted Excess
 count_at c places.Between t = behind_all c t
 count_at c places.Area t = moved c (Ok (behind_area t))
 count_at c (places.Formula l) t = moved c (behind_formula l t)

@@ -8,11 +8,11 @@ use expression_grammar::Limits;
 use grammar::{Scan, is_sign, is_word};
 
 /// How many statements there may be, and how many feeders.
-pub const MOST_STATEMENTS: u32 = 1_000;
+pub const MAX_STATEMENTS: u32 = 1_000;
 
 /// Where in a rule text a token stands.
 #[derive(Clone, Copy)]
-pub enum Place {
+pub enum RuleTextPlace {
     /// Outside of statements and feeders, or behind the `;` of a part.
     Between,
     /// In an area, up to its `=` or `=>`.
@@ -32,7 +32,7 @@ pub struct Counted {
     pub feeders: u32,
     /// Whether `FEEDERS` stood, so that a `[` begins a feeder.
     pub feeding: bool,
-    pub place: Place,
+    pub place: RuleTextPlace,
 }
 
 /// A whole formula with one more token.
@@ -46,57 +46,57 @@ fn with(limits: &Limits, token: &Token<'_>) -> Result<Limits, Excess>
 }
 
 /// Where one is behind a token in an area.
-fn behind_area(token: &Token<'_>) -> Place
+fn behind_area(token: &Token<'_>) -> RuleTextPlace
     ensures { result ≡ counting.behind_area (lexeme_of token.now) }
 {
     if is_sign(token, b"=") {
-        Place::Formula(Limits::within(0))
+        RuleTextPlace::Formula(Limits::within(0))
     } else if is_sign(token, b"=>") {
-        Place::Targets
+        RuleTextPlace::Targets
     } else {
-        Place::Area
+        RuleTextPlace::Area
     }
 }
 
 /// Where one is behind a token in a whole formula of a statement.
-fn behind_formula(limits: &Limits, token: &Token<'_>) -> Result<Place, Excess>
+fn behind_formula(limits: &Limits, token: &Token<'_>) -> Result<RuleTextPlace, Excess>
     ensures { result ≡ counting.behind_formula limits.now (lexeme_of token.now) }
 {
     if is_sign(token, b";") {
-        Ok(Place::Between)
+        Ok(RuleTextPlace::Between)
     } else if !limits.bracketed && is_sign(token, b":") {
-        Ok(Place::Formula(Limits::within(0)))
+        Ok(RuleTextPlace::Formula(Limits::within(0)))
     } else {
         let more = with(limits, token)?;
-        Ok(Place::Formula(more))
+        Ok(RuleTextPlace::Formula(more))
     }
 }
 
 /// Where one is behind a token among the targets of a feeder.
-fn behind_targets(token: &Token<'_>) -> Place
+fn behind_targets(token: &Token<'_>) -> RuleTextPlace
     ensures { result ≡ counting.behind_targets (lexeme_of token.now) }
 {
     if is_sign(token, b";") {
-        Place::Between
+        RuleTextPlace::Between
     } else if is_sign(token, b"(") {
-        Place::Argument(Limits::within(1))
+        RuleTextPlace::Argument(Limits::within(1))
     } else {
-        Place::Targets
+        RuleTextPlace::Targets
     }
 }
 
 /// Where one is behind a token in an argument of a feeder's `DB`.
-fn behind_argument(limits: &Limits, token: &Token<'_>) -> Result<Place, Excess>
+fn behind_argument(limits: &Limits, token: &Token<'_>) -> Result<RuleTextPlace, Excess>
     ensures { result ≡ counting.behind_argument limits.now (lexeme_of token.now) }
 {
     let outermost = limits.depth == 1 && !limits.bracketed;
     if outermost && is_sign(token, b",") {
-        Ok(Place::Argument(Limits::within(1)))
+        Ok(RuleTextPlace::Argument(Limits::within(1)))
     } else if outermost && is_sign(token, b")") {
-        Ok(Place::Targets)
+        Ok(RuleTextPlace::Targets)
     } else {
         let more = with(limits, token)?;
-        Ok(Place::Argument(more))
+        Ok(RuleTextPlace::Argument(more))
     }
 }
 
@@ -105,15 +105,15 @@ impl Counted {
     fn one_more(&self, token: &Token<'_>) -> Result<Counted, Excess>
         ensures { result ≡ counting.one_more self.now (lexeme_of token.now) }
     {
-        let place = Place::Area;
-        if self.feeding && self.feeders < MOST_STATEMENTS {
+        let place = RuleTextPlace::Area;
+        if self.feeding && self.feeders < MAX_STATEMENTS {
             let feeders = self.feeders + 1;
             Ok(Counted {
                 feeders,
                 place,
                 ..*self
             })
-        } else if !self.feeding && self.statements < MOST_STATEMENTS {
+        } else if !self.feeding && self.statements < MAX_STATEMENTS {
             let statements = self.statements + 1;
             Ok(Counted {
                 statements,
@@ -132,7 +132,7 @@ impl Counted {
         if is_sign(token, b"[") {
             self.one_more(token)
         } else if is_sign(token, b":") {
-            let place = Place::Formula(Limits::within(0));
+            let place = RuleTextPlace::Formula(Limits::within(0));
             Ok(Counted { place, ..*self })
         } else {
             let feeding = self.feeding || is_word(token, b"FEEDERS");
@@ -141,7 +141,7 @@ impl Counted {
     }
 
     /// At that place, if it is within the limits.
-    fn moved(&self, place: Result<Place, Excess>) -> Result<Counted, Excess>
+    fn moved(&self, place: Result<RuleTextPlace, Excess>) -> Result<Counted, Excess>
         ensures { result ≡ counting.moved self.now place }
     {
         match place {
@@ -156,11 +156,11 @@ impl Counted {
         ensures { result ≡ counting.count self.now (lexeme_of token.now) }
     {
         match &self.place {
-            Place::Between => self.behind_all(token),
-            Place::Area => self.moved(Ok(behind_area(token))),
-            Place::Formula(limits) => self.moved(behind_formula(limits, token)),
-            Place::Targets => self.moved(Ok(behind_targets(token))),
-            Place::Argument(limits) => self.moved(behind_argument(limits, token)),
+            RuleTextPlace::Between => self.behind_all(token),
+            RuleTextPlace::Area => self.moved(Ok(behind_area(token))),
+            RuleTextPlace::Formula(limits) => self.moved(behind_formula(limits, token)),
+            RuleTextPlace::Targets => self.moved(Ok(behind_targets(token))),
+            RuleTextPlace::Argument(limits) => self.moved(behind_argument(limits, token)),
         }
     }
 }

@@ -11,7 +11,7 @@ mod excess;
 mod rule;
 mod tree;
 
-pub use counted::{Counted, MOST_STATEMENTS, Place};
+pub use counted::{Counted, MAX_STATEMENTS, RuleTextPlace};
 pub use excess::Excess;
 pub use rule::{BodyText, EntryText, FeederText, RuleText, StatementText, TargetText};
 pub use tree::{SimpleText, Tree, TreeOp};

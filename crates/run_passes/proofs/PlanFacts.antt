@@ -20,8 +20,8 @@ use Rattle.judged_files.proofs.Judgements.{one_text_judgement, one_deployment_ju
 use Rattle.model_text.specs.Contents.{script_names, Contents as Text}
 use Rattle.rule_model.specs.BoundModel.{BoundModel}
 use Rattle.user_text.specs.declared.command.UserCommand.{UserCommand}
-use Rattle.run_passes.specs.declared.job.Job.{Job}
-use Rattle.run_passes.specs.declared.job.Job.TheVariants as jobs
+use Rattle.run_passes.specs.declared.run_job.RunJob.{RunJob}
+use Rattle.run_passes.specs.declared.run_job.RunJob.TheVariants as jobs
 use Rattle.run_passes.specs.Run.{text_pass, deploy_pass, scripts_pass, model_pass, users_pass, records_pass, plan_pass, run_of}
 use Rattle.run_passes.specs.Inside.Plans.{checked_of, behind_scripts, behind_rules, behind_text, served, behind_users, behind_model}
 use Rattle.run_passes.proofs.PlanWords.{one_plan}
@@ -132,7 +132,7 @@ worded-behind_model users checked =
 
 -- ---- of each plan
 
-abbrev pub accept : Checked → Pass Job
+abbrev pub accept : Checked → Pass RunJob
 accept checked = found (jobs.Check checked.model)
 
 pub settled-plan : (plan : Plan) → IsSettled (plan_pass plan)
@@ -161,7 +161,7 @@ module _ {F : Type 0} (known : F → Contents) (faults : F → ℕ) (missed : F 
   abbrev from : F → F → Outside
   from a b = outside known faults missed asked a b
 
-  pub run-planned : (words : List (List ℕ)) (a c : F) (old new : Readings) (plan : Plan) (r : Result Job Halt)
+  pub run-planned : (words : List (List ℕ)) (a c : F) (old new : Readings) (plan : Plan) (r : Result RunJob Halt)
       → IsPlan words plan → Comes (plan_pass plan) (from a c) old new r → Comes (run_of words) (from a c) old new r
   run-planned words a c old new plan r is came =
       comes-next known faults missed asked (the (IsPlan words) NotWords) plan_pass (kept-the (IsPlan words) NotWords) a a c old old new plan refl

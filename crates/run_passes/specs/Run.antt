@@ -7,8 +7,8 @@ use Rattle.rule_model.specs.BoundModel.{BoundModel}
 use Rattle.script_tree.specs.declared.script.Script.{Script}
 use Rattle.user_session.specs.declared.command.PlanCommand.{PlanCommand}
 use Rattle.user_text.specs.declared.command.UserCommand.{UserCommand}
-use Rattle.run_passes.specs.declared.job.Job.{Job}
-use Rattle.run_passes.specs.declared.job.Job.TheVariants as jobs
+use Rattle.run_passes.specs.declared.run_job.RunJob.{RunJob}
+use Rattle.run_passes.specs.declared.run_job.RunJob.TheVariants as jobs
 use Rattle.judged_files.specs.Models.{text_judgement}
 use Rattle.judged_files.specs.Rules.{rule_names, deployment_judgement}
 use Rattle.judged_files.specs.Scripts.{Scripts, Checked, script_files, scripts_judgement}
@@ -54,7 +54,7 @@ records_pass scripts users = do
   judged (commands_judgement scripts sources users)
 
 -- the passes of each plan
-abbrev pub plan_pass : Plan → Pass Job
+abbrev pub plan_pass : Plan → Pass RunJob
 plan_pass (Run model users) = do
   checked ← model_pass model
   texts ← users_pass checked.scripts.names users
@@ -66,5 +66,5 @@ plan_pass (Check model) = do
 plan_pass (Sample size) = found (jobs.Sample size)
 
 -- the words are in the grammar, and then their plan is carried out
-abbrev pub run_of : List (List ℕ) → Pass Job
+abbrev pub run_of : List (List ℕ) → Pass RunJob
 run_of words = the (IsPlan words) NotWords >>= plan_pass

@@ -5,9 +5,9 @@
 //! there is `model_passes`, of the model with all that belongs to it.
 #![tactic(auto)]
 
-mod job;
 mod model_passes;
 mod passes;
+mod run_job;
 
-pub use job::Job;
 pub use passes::run_passes;
+pub use run_job::RunJob;

@@ -2,7 +2,7 @@ ghost use Rattle.std.specs.Prelude.{◌≡◌, ◌≤◌, length};
 ghost use Rattle.cube_words.specs.Words.{texts_of};
 ghost use Rattle.file_passes.specs.Halting.{Comes};
 ghost use Rattle.file_passes.specs.Outside.{outside};
-ghost use Rattle.model_text.specs.Contents.{scripts_limit};
+ghost use Rattle.model_text.specs.Contents.{most_scripts};
 ghost use Rattle.run_passes.specs.Inside.Plans.{behind_text, behind_rules};
 ghost use Rattle.run_passes.specs.Run.{text_pass, deploy_pass, scripts_pass, model_pass};
 
@@ -15,7 +15,7 @@ use judged_files::{
 };
 use lists::ListOf;
 use model_text::ModelText;
-use script_parse::Script;
+use script_tree::Script;
 use std::alloc::Global;
 use std::marker::Model;
 
@@ -152,7 +152,7 @@ fn behind_rules<F: Files>(
     model: Accepted,
 ) -> Result<Checked, Halt>
     requires each { length scripts.now ≡ length names }
-    requires few { length names ≤ scripts_limit }
+    requires few { length names ≤ most_scripts }
     ensures known { F.known files.new ≡ F.known files.old }
     ensures comes { Comes (behind_rules (texts_of scripts.now) names model)
         (outside F.known F.faults F.missed F.asked files.old files.new) readings.old readings.new result }

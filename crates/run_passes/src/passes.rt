@@ -6,10 +6,10 @@ ghost use Rattle.judged_files.specs.Users.{AreKnown};
 ghost use Rattle.run_passes.specs.Inside.Plans.{behind_model, behind_users};
 ghost use Rattle.run_passes.specs.Run.{users_pass, records_pass, plan_pass, run_of};
 
-use crate::job::Job;
 use crate::model_passes::{Checked, model_pass};
+use crate::run_job::RunJob;
 use cube_outside::Files;
-use cube_words::{Plan, words as plan_of};
+use cube_words::{Plan, WordsFault, words as plan_of};
 use dim_name::Name;
 use file_passes::{Halt, Readings, obtain_all};
 use judged_files::{Scripts, commands_of, record_files, users_of};
@@ -75,14 +75,14 @@ fn plan_pass<F: Files>(
     files: &mut F,
     readings: &mut Readings,
     plan: &Plan<'_>,
-) -> Result<Job, Halt>
+) -> Result<RunJob, Halt>
     ensures { Comes (plan_pass (asked plan.now)) (outside F.known F.faults F.missed F.asked files.old files.new)
         readings.old readings.new result }
 {
     match plan {
         Plan::Run { model, users } => run_pass(alloc, files, readings, model, users),
         Plan::Check { model } => check_pass(alloc, files, readings, model),
-        Plan::Sample { size } => Ok(Job::Sample(*size)),
+        Plan::Sample { size } => Ok(RunJob::Sample(*size)),
     }
 }
 
@@ -92,12 +92,12 @@ fn check_pass<F: Files>(
     files: &mut F,
     readings: &mut Readings,
     model: &str,
-) -> Result<Job, Halt>
+) -> Result<RunJob, Halt>
     ensures { Comes (plan_pass (Check model.now)) (outside F.known F.faults F.missed F.asked files.old files.new)
         readings.old readings.new result }
 {
     match model_pass(alloc, files, readings, model) {
-        Ok(checked) => Ok(Job::Check(checked.model)),
+        Ok(checked) => Ok(RunJob::Check(checked.model)),
         Err(halt) => Err(halt),
     }
 }
@@ -109,7 +109,7 @@ fn run_pass<F: Files>(
     readings: &mut Readings,
     model: &str,
     users: &[String],
-) -> Result<Job, Halt>
+) -> Result<RunJob, Halt>
     ensures { Comes (plan_pass (Run model.now (texts_of users.now)))
         (outside F.known F.faults F.missed F.asked files.old files.new) readings.old readings.new result }
 {
@@ -126,7 +126,7 @@ fn behind_model<F: Files>(
     readings: &mut Readings,
     users: &[String],
     checked: Checked,
-) -> Result<Job, Halt>
+) -> Result<RunJob, Halt>
     ensures { Comes (behind_model (texts_of users.now) checked)
         (outside F.known F.faults F.missed F.asked files.old files.new) readings.old readings.new result }
 {
@@ -145,13 +145,13 @@ fn behind_users<F: Files>(
     readings: &mut Readings,
     checked: Checked,
     texts: ListOf<ListOf<UserCommand>>,
-) -> Result<Job, Halt>
+) -> Result<RunJob, Halt>
     requires { AreKnown checked.scripts.names texts }
     ensures { Comes (behind_users checked texts) (outside F.known F.faults F.missed F.asked files.old files.new)
         readings.old readings.new result }
 {
     match records_pass(alloc, files, readings, &checked.scripts, texts) {
-        Ok(commands) => Ok(Job::Serve(checked.model, commands)),
+        Ok(commands) => Ok(RunJob::Serve(checked.model, commands)),
         Err(halt) => Err(halt),
     }
 }
@@ -162,12 +162,13 @@ pub fn run_passes<F: Files>(
     words: &[String],
     files: &mut F,
     readings: &mut Readings,
-) -> Result<Job, Halt>
+) -> Result<RunJob, Halt>
     ensures { Comes (run_of (texts_of words.now)) (outside F.known F.faults F.missed F.asked files.old files.new)
         readings.old readings.new result }
 {
-    match plan_of(words) {
+    match plan_of(alloc, words) {
         Ok(plan) => plan_pass(alloc, files, readings, &plan),
-        Err(_) => Err(Halt::NotWords),
+        Err(WordsFault::OutOfMemory) => Err(Halt::Memory),
+        Err(WordsFault::Usage) => Err(Halt::NotWords),
     }
 }

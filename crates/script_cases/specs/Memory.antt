@@ -4,8 +4,8 @@ use Rattle.std.specs.Prelude.{Option, Some, None, Result}
 use Rattle.std.specs.Prelude.{slice_get, bytes_eq, if◌then◌else◌}
 use Rattle.cube_fixed.specs.declared.value.Value.{Value}
 use Rattle.cube_fixed.specs.declared.value.Value.TheVariants.{Num, Over}
-use Rattle.script_values.specs.declared.reason.Reason.{Reason}
-use Rattle.script_values.specs.declared.reason.Reason.TheVariants.{NotALeaf, RuleDerived, StoreLimit, FedLimit}
+use Rattle.script_values.specs.declared.load_reason.LoadReason.{LoadReason}
+use Rattle.script_values.specs.declared.load_reason.LoadReason.TheVariants.{NotALeaf, RuleDerived, StoreLimit, FedLimit}
 use Rattle.script_values.specs.Cells.{Store, Write, unless}
 use Rattle.script_cases.specs.declared.listed.Kind.{Kind}
 use Rattle.script_cases.specs.declared.listed.Kind.TheVariants.{Leaf, Total, Ruled}
@@ -28,17 +28,17 @@ abbrev pub value_of : Option Listed → Value
 value_of (Some cell) = cell.value
 value_of None = Over
 
-abbrev pub closed_kind : Kind → Option Reason
+abbrev pub closed_kind : Kind → Option LoadReason
 closed_kind Leaf = None
 closed_kind Total = Some NotALeaf
 closed_kind Ruled = Some RuleDerived
 
-abbrev pub closed_at : Option Listed → Option Reason
+abbrev pub closed_at : Option Listed → Option LoadReason
 closed_at (Some cell) = closed_kind cell.kind
 closed_at None = None
 
 -- whether so many writes are too many to be stored, or else to be fed
-abbrev pub full_with : ℕ → ℕ → ℕ → Option Reason
+abbrev pub full_with : ℕ → ℕ → ℕ → Option LoadReason
 full_with stored fed count =
     if nat_lt stored count then Some (StoreLimit count)
     else if nat_lt fed count then Some (FedLimit count) else None
@@ -52,6 +52,6 @@ store_of cells stored fed = record {
 }
 
 -- the writes with one more, or why it is one too many
-abbrev pub with_write : ℕ → ℕ → List Write → Write → Result (List Write) Reason
+abbrev pub with_write : ℕ → ℕ → List Write → Write → Result (List Write) LoadReason
 with_write stored fed writes write =
     unless (full_with stored fed (length (writes ++ write ∷ []))) (writes ++ write ∷ [])

@@ -3,7 +3,7 @@ use crate::scene::Scene;
 use case_lines::write_answer;
 use cube_fixed::{Value, print};
 use lists::ListOf;
-use script_parse::parse;
+use script_reader::parse;
 use script_run::{Ran, Script, run};
 use std::alloc::{AllocError, Global};
 

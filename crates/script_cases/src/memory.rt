@@ -5,7 +5,7 @@ ghost use Rattle.script_cases.specs.Memory as memory;
 use crate::listed::{Kind, Listed};
 use cube_fixed::{Money, Value};
 use lists::ListOf;
-use script_run::{Reason, Text, WorkCells};
+use script_run::{LoadReason, Text, WorkCells};
 use sqlite_items::at;
 use std::alloc::{AllocError, Global};
 
@@ -54,18 +54,18 @@ fn value_of(cells: &[Listed], place: usize) -> Value
     }
 }
 
-fn closed_kind(kind: Kind) -> Option<Reason>
+fn closed_kind(kind: Kind) -> Option<LoadReason>
     ensures { result ≡ memory.closed_kind kind }
 {
     match kind {
         Kind::Leaf => None,
-        Kind::Total => Some(Reason::NotALeaf),
-        Kind::Ruled => Some(Reason::RuleDerived),
+        Kind::Total => Some(LoadReason::NotALeaf),
+        Kind::Ruled => Some(LoadReason::RuleDerived),
     }
 }
 
 /// Why nothing may be written into a cell.
-fn closed_at(cells: &[Listed], place: usize) -> Option<Reason>
+fn closed_at(cells: &[Listed], place: usize) -> Option<LoadReason>
     ensures { result ≡ memory.closed_at (slice_get cells.now place) }
 {
     match at(cells, place) {
@@ -75,13 +75,13 @@ fn closed_at(cells: &[Listed], place: usize) -> Option<Reason>
 }
 
 /// Why so many writes are too many.
-fn full_with(stored: u64, fed: u64, count: u64) -> Option<Reason>
+fn full_with(stored: u64, fed: u64, count: u64) -> Option<LoadReason>
     ensures { result ≡ memory.full_with stored fed count }
 {
     if stored < count {
-        Some(Reason::StoreLimit(count))
+        Some(LoadReason::StoreLimit(count))
     } else if fed < count {
-        Some(Reason::FedLimit(count))
+        Some(LoadReason::FedLimit(count))
     } else {
         None
     }
@@ -108,7 +108,7 @@ fn cell_in(
 
 impl MemoryCells {
     /// Writes a number into a cell that is open, or says why it is one write too many.
-    fn write(&mut self, cell: u64, number: Money) -> Result<Option<Reason>, AllocError>
+    fn write(&mut self, cell: u64, number: Money) -> Result<Option<LoadReason>, AllocError>
         ensures refused { IfOk result (λ reason. reason ≡ refusal
             (memory.with_write self.old.stored self.old.fed self.old.writes.items (cell, number))) }
         ensures written { OnOk result (self.new.writes.items ≡ writes_after self.old.writes.items
@@ -139,13 +139,13 @@ impl WorkCells for MemoryCells {
         alloc: Global,
         cube: &[u8],
         elements: &[Text<'_>],
-    ) -> Result<Result<Value, Reason>, AllocError> {
+    ) -> Result<Result<Value, LoadReason>, AllocError> {
         match cell_in(alloc, self.cells.as_slice(), cube, elements)? {
             Some(place) => {
                 let value = value_of(self.cells.as_slice(), place);
                 Ok(Ok(last_value(place as u64, value, &self.writes)))
             }
-            None => Ok(Err(Reason::UnknownName)),
+            None => Ok(Err(LoadReason::UnknownName)),
         }
     }
 
@@ -155,16 +155,16 @@ impl WorkCells for MemoryCells {
         cube: &[u8],
         elements: &[Text<'_>],
         value: Value,
-    ) -> Result<Option<Reason>, AllocError> {
+    ) -> Result<Option<LoadReason>, AllocError> {
         let Some(place) = cell_in(alloc, self.cells.as_slice(), cube, elements)? else {
-            return Ok(Some(Reason::UnknownName));
+            return Ok(Some(LoadReason::UnknownName));
         };
         if let Some(reason) = closed_at(self.cells.as_slice(), place) {
             return Ok(Some(reason));
         }
         match value {
             Value::Num(number) => self.write(place as u64, number),
-            Value::Over => Ok(Some(Reason::OverWrite)),
+            Value::Over => Ok(Some(LoadReason::OverWrite)),
         }
     }
 }

@@ -10,14 +10,14 @@ use Rattle.script_bound.specs.declared.statement.Case.TheOpen.{Case-F, Statement
 use Rattle.script_bound.specs.declared.statement.Case.TheViews.{roll-Case, roll-Statement}
 use Rattle.script_bound.specs.declared.statement.Statement.{Statement}
 use Rattle.script_values.specs.declared.kept.Kept.{Kept}
-use Rattle.script_values.specs.declared.reason.Reason.{Reason}
-use Rattle.script_values.specs.declared.reason.Reason.TheVariants.{ProcessError}
+use Rattle.script_values.specs.declared.load_reason.LoadReason.{LoadReason}
+use Rattle.script_values.specs.declared.load_reason.LoadReason.TheVariants.{ProcessError}
 use Rattle.script_values.specs.Cells.{Store, Write, writing}
 use Rattle.script_values.specs.Values.{truth, taken, cell_value}
 use Rattle.script_tree.specs.declared.script.Section.TheVariants.{Prolog, Body, Epilog}
 use Rattle.script_run.specs.declared.ending.Ending.{Ending}
 use Rattle.script_run.specs.declared.ending.Ending.TheVariants.{Next, Skipped, Broken, Stopped}
-use Rattle.script_run.specs.declared.place.Place.{Place}
+use Rattle.script_run.specs.declared.execution_place.ExecutionPlace.{ExecutionPlace}
 use Rattle.script_run.specs.Setting.{Setting, Progress}
 use Rattle.script_run.specs.Meaning.{Outcome, Ended, Doing, Deed, CaseDeed, Begun, Begins, then_do, begun_with, begin, once, place_of, executed, scene_of, kept_in, assign, given, as_kept, arguments, with_write, put_arguments, increment_arguments, wrote, put, increment, end_with, block, where_holds, choose, turns, case_step, statement_step, deed_of, case_deed, block_of}
 use Rattle.script_run.specs.Load.{setting, next_record, records, in_the_end, sections, load, start}
@@ -27,7 +27,7 @@ use Rattle.script_run.specs.Load.{setting, next_record, records, in_the_end, sec
 pub record IsChain (store : Store) (R : Progress → List Write → Progress → List Write → Type 0) : Type 0 where
   pub same : (p : Progress) (w : List Write) → R p w p w
   pub on : (p q r : Progress) (w v u : List Write) → R p w q v → R q v r u → R p w r u
-  pub begins : (p : Progress) (w : List Write) (place : Place) (left : ℕ) → p.left ≡ suc left
+  pub begins : (p : Progress) (w : List Write) (place : ExecutionPlace) (left : ℕ) → p.left ≡ suc left
       → R p w (record { variables = p.variables; left = left; last = place }) w
   pub sets : (p : Progress) (w : List Write) (place : ℕ) (value : Kept)
       → R p w (record { variables = slice_set p.variables place (Some value); left = p.left; last = p.last }) w
@@ -68,20 +68,20 @@ module _ (store : Store) (R : Progress → List Write → Progress → List Writ
   end_steady p w (Ended Broken q v) go first next = reach_on p q w v (go q v) first (next q v)
   end_steady p w (Ended (Stopped reason) q v) go first next = first
 
-  begun_steady : (left : ℕ) (place : Place) (p : Progress) (w : List Write) (go : Doing) → p.left ≡ left → IsSteadyDoing go → Reaches p w (once (begun_with left place p) w go)
+  begun_steady : (left : ℕ) (place : ExecutionPlace) (p : Progress) (w : List Write) (go : Doing) → p.left ≡ left → IsSteadyDoing go → Reaches p w (once (begun_with left place p) w go)
   begun_steady zero place p w go is next = chain.same p w
   begun_steady (suc left) place p w go is next =
       let q : Progress = record { variables = p.variables; left = left; last = place } in
       reach_on p q w w (go q w) (chain.begins p w place left is) (next q w)
 
-  once_steady : (place : Place) (p : Progress) (w : List Write) (go : Doing) → IsSteadyDoing go → Reaches p w (once (begin place p) w go)
+  once_steady : (place : ExecutionPlace) (p : Progress) (w : List Write) (go : Doing) → IsSteadyDoing go → Reaches p w (once (begin place p) w go)
   once_steady place p w go next = begun_steady p.left place p w go refl next
 
   executed_steady : (number : ℕ) (deed : Deed) → IsSteady deed → IsSteady (executed number deed)
   unfolding executed
   executed_steady number deed next here p w = once_steady (place_of here number) p w (deed store here) (next here)
 
-  kept_steady : (place : ℕ) (value : Result Kept Reason) → IsSteadyDoing (kept_in place value)
+  kept_steady : (place : ℕ) (value : Result Kept LoadReason) → IsSteadyDoing (kept_in place value)
   kept_steady place (Ok value) p w = chain.sets p w place value
   kept_steady place (Err reason) p w = chain.same p w
 
@@ -93,20 +93,20 @@ module _ (store : Store) (R : Progress → List Write → Progress → List Writ
   allowed p w u [] value is = absurd (cc is)
   allowed p w u (cube ∷ elements) value is = chain.writes p w u cube elements value is
 
-  wrote_steady : (written : Result (List Write) Reason) (p : Progress) (w : List Write) → ((u : List Write) → written ≡ Ok u → R p w p u) → Reaches p w (wrote written p w)
+  wrote_steady : (written : Result (List Write) LoadReason) (p : Progress) (w : List Write) → ((u : List Write) → written ≡ Ok u → R p w p u) → Reaches p w (wrote written p w)
   wrote_steady (Ok u) p w each = each u refl
   wrote_steady (Err reason) p w each = chain.same p w
 
-  put_allowed : (p : Progress) (w u : List Write) (a : Result (Value × List (List ℕ)) Reason) → taken (put_arguments store w) a ≡ Ok u → R p w p u
+  put_allowed : (p : Progress) (w u : List Write) (a : Result (Value × List (List ℕ)) LoadReason) → taken (put_arguments store w) a ≡ Ok u → R p w p u
   put_allowed p w u (Ok a) is = allowed p w u a.1 a.0 is
   put_allowed p w u (Err reason) is = absurd (cc is)
 
-  more_allowed : (p : Progress) (w u : List Write) (names : List (List ℕ)) (more : Value) (before : Result Value Reason)
+  more_allowed : (p : Progress) (w u : List Write) (names : List (List ℕ)) (more : Value) (before : Result Value LoadReason)
       → taken (λ value. with_write store w names (sum_of value more)) before ≡ Ok u → R p w p u
   more_allowed p w u names more (Ok value) is = allowed p w u names (sum_of value more) is
   more_allowed p w u names more (Err reason) is = absurd (cc is)
 
-  increment_allowed : (p : Progress) (w u : List Write) (a : Result (Value × List (List ℕ)) Reason) → taken (increment_arguments store w) a ≡ Ok u → R p w p u
+  increment_allowed : (p : Progress) (w u : List Write) (a : Result (Value × List (List ℕ)) LoadReason) → taken (increment_arguments store w) a ≡ Ok u → R p w p u
   increment_allowed p w u (Ok a) is = more_allowed p w u a.1 a.0 (cell_value store w a.1) is
   increment_allowed p w u (Err reason) is = absurd (cc is)
 
@@ -125,7 +125,7 @@ module _ (store : Store) (R : Progress → List Write → Progress → List Writ
   end_with_steady : (ending : Ending) → IsSteady (end_with ending)
   end_with_steady ending here p w = chain.same p w
 
-  where_steady : (holds : Result Bool Reason) (first other : Doing) → IsSteadyDoing first → IsSteadyDoing other → IsSteadyDoing (where_holds holds first other)
+  where_steady : (holds : Result Bool LoadReason) (first other : Doing) → IsSteadyDoing first → IsSteadyDoing other → IsSteadyDoing (where_holds holds first other)
   where_steady (Ok true) first other a b p w = a p w
   where_steady (Ok false) first other a b p w = b p w
   where_steady (Err reason) first other a b p w = chain.same p w

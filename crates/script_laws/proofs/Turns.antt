@@ -5,12 +5,12 @@ use Rattle.script_bound.specs.declared.statement.Case.TheFolds.{fold-roll-Statem
 use Rattle.script_bound.specs.declared.statement.Case.TheOpen.{Statement-F}
 use Rattle.script_bound.specs.declared.statement.Statement.{Statement}
 use Rattle.script_bound.specs.declared.statement.Statement.TheVariants.{While, rolls-While}
-use Rattle.script_values.specs.declared.reason.Reason.{Reason}
-use Rattle.script_values.specs.declared.reason.Reason.TheVariants.{StepLimit}
+use Rattle.script_values.specs.declared.load_reason.LoadReason.{LoadReason}
+use Rattle.script_values.specs.declared.load_reason.LoadReason.TheVariants.{StepLimit}
 use Rattle.script_values.specs.Cells.{Store, Write}
 use Rattle.script_values.specs.Values.{truth}
 use Rattle.script_run.specs.declared.ending.Ending.TheVariants.{Next, Skipped, Broken, Stopped}
-use Rattle.script_run.specs.declared.place.Place.{Place}
+use Rattle.script_run.specs.declared.execution_place.ExecutionPlace.{ExecutionPlace}
 use Rattle.script_run.specs.Setting.{Setting, Progress}
 use Rattle.script_run.specs.Meaning.{Outcome, Ended, Doing, Deed, CaseDeed, begun_with, once, place_of, given, where_holds, then_do, end_with, turns, block_of, executed, case_step, statement_step, deed_of}
 use Rattle.script_laws.specs.Laws.{test_and_again}
@@ -44,7 +44,7 @@ module _ (number : ℕ) (test : Term) (statements : List Statement) (store : Sto
   after go q v =
       where_holds (truth (given test store here q v)) (λ r u. then_do (block_of statements store here r u) go) (end_with Next store here) q v
 
-  holds_like : (t : Result Bool Reason) (q : Progress) (w : List Write) (go other : Doing)
+  holds_like : (t : Result Bool LoadReason) (q : Progress) (w : List Write) (go other : Doing)
       → ((r : Progress) (u : List Write) → r.left ≤ q.left → go r u ≡ other r u)
       → where_holds t (λ r u. then_do (block_of statements store here r u) go) (end_with Next store here) q w
       ≡ where_holds t (λ r u. then_do (block_of statements store here r u) other) (end_with Next store here) q w

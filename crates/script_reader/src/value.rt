@@ -3,7 +3,7 @@ ghost use Rattle.grammar.specs.Cursor.{Reads};
 ghost use Rattle.script_reader.specs.Readers.Reading as reading;
 
 use crate::language::Expressions;
-use expression_grammar::{MOST_INSIDE, Nested, Sort, Want, expression_at};
+use expression_grammar::{MAX_INSIDE, Nested, Sort, Want, expression_at};
 use grammar::{Cursor, Item, Stop};
 use script_tree::{Counted, Excess, Expr};
 use std::alloc::Global;
@@ -36,7 +36,7 @@ fn expression_inside(
 pub fn value_at(alloc: Global, cursor: &mut Cursor<'_, Counted>) -> Result<Expr, Stop<Excess>>
     ensures { Reads (λ tree. tree) reading.read_value cursor.old result cursor.new }
 {
-    let (tree, _) = expression_inside(alloc, cursor, MOST_INSIDE, Want::Value)?;
+    let (tree, _) = expression_inside(alloc, cursor, MAX_INSIDE, Want::Value)?;
     Ok(tree)
 }
 
@@ -45,7 +45,7 @@ pub fn value_at(alloc: Global, cursor: &mut Cursor<'_, Counted>) -> Result<Expr,
 pub fn truth_at(alloc: Global, cursor: &mut Cursor<'_, Counted>) -> Result<Expr, Stop<Excess>>
     ensures { Reads (λ tree. tree) reading.read_truth cursor.old result cursor.new }
 {
-    let (tree, _) = expression_inside(alloc, cursor, MOST_INSIDE, Want::Truth)?;
+    let (tree, _) = expression_inside(alloc, cursor, MAX_INSIDE, Want::Truth)?;
     Ok(tree)
 }
 

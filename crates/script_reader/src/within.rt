@@ -4,7 +4,7 @@ ghost use Rattle.expression_grammar.specs.Limits.{most_inside};
 ghost use Rattle.script_reader.specs.Readers.StatementReading as reading;
 
 use crate::statement::statement_at;
-use expression_grammar::MOST_INSIDE;
+use expression_grammar::MAX_INSIDE;
 use grammar::{Cursor, RepeatedItem, Stop, any_word_comes, word_comes};
 use script_tree::{Counted, Excess, Line, Section};
 use std::alloc::Global;
@@ -76,5 +76,5 @@ pub fn whole_statement(
 ) -> Result<Line, Stop<Excess>>
     ensures { Reads (λ line. line) (reading.read_within section most_inside) cursor.old result cursor.new }
 {
-    statement_within(alloc, cursor, section, MOST_INSIDE)
+    statement_within(alloc, cursor, section, MAX_INSIDE)
 }

@@ -1,6 +1,6 @@
 -- No execution begins where none is left.
 use Rattle.std.proofs.Common.{◌≡◌, Bool, false, List, sym, ap, ◌∙◌}
-use Rattle.script_values.specs.declared.reason.Reason.TheVariants.{StepLimit}
+use Rattle.script_values.specs.declared.load_reason.LoadReason.TheVariants.{StepLimit}
 use Rattle.script_values.specs.Cells.{Write}
 use Rattle.script_run.specs.Setting.{Progress}
 use Rattle.script_run.specs.Meaning.{Begun, Begins, Doing, once, stopped}

@@ -1,13 +1,13 @@
 -- One more turn of a WHILE.
 use Rattle.std.proofs.Common.{◌≡◌, ◌<◌, ◌-◌, ℕ, zero, suc, true, false, List, Ok, Err, sym, ap, ◌∙◌, arith}
 use Rattle.script_bound.specs.declared.term.Term.{Term}
-use Rattle.script_values.specs.declared.reason.Reason.{Reason}
-use Rattle.script_values.specs.declared.reason.Reason.TheVariants.{StepLimit}
+use Rattle.script_values.specs.declared.load_reason.LoadReason.{LoadReason}
+use Rattle.script_values.specs.declared.load_reason.LoadReason.TheVariants.{StepLimit}
 use Rattle.script_values.specs.Cells.{Store, Write}
 use Rattle.script_values.specs.Values.{truth}
 use Rattle.script_run.specs.declared.ending.Ending.{Ending}
 use Rattle.script_run.specs.declared.ending.Ending.TheVariants.{Next, Stopped}
-use Rattle.script_run.specs.declared.place.Place.{Place}
+use Rattle.script_run.specs.declared.execution_place.ExecutionPlace.{ExecutionPlace}
 use Rattle.script_run.specs.Setting.{Setting, Progress}
 use Rattle.script_run.specs.Meaning.{Ended, Begins, Doing, Deed, begin, begun_with, once, place_of, given, where_holds, then_do, end_with, turns}
 
@@ -27,7 +27,7 @@ module _ (number : ℕ) (test : Term) (deed : Deed) (store : Store) (here : Sett
       ap (λ b. once b w (after_begin most)) (sym e) ∙ ap (λ n. after_begin n q w) (sym less)
 
 -- where none is left nothing has changed
-still : (left : ℕ) (place : Place) (p q : Progress) → Begins false q ≡ begun_with left place p → p ≡ q
+still : (left : ℕ) (place : ExecutionPlace) (p q : Progress) → Begins false q ≡ begun_with left place p → p ≡ q
 still zero place p q e = cc
 still (suc left) place p q e = absurd (cc e)
 
@@ -42,7 +42,7 @@ turn_stops (suc most) number test deed store here p q w e =
     ap (λ b. once b w (after_begin number test deed store here most)) (sym e)
 
 -- the test gives a reason
-pub turn_fails : (most number : ℕ) (test : Term) (deed : Deed) (store : Store) (here : Setting) (p q : Progress) (w : List Write) (reason : Reason)
+pub turn_fails : (most number : ℕ) (test : Term) (deed : Deed) (store : Store) (here : Setting) (p q : Progress) (w : List Write) (reason : LoadReason)
     → 0 < most → Begins true q ≡ begin (place_of here number) p → Err reason ≡ truth (given test store here q w)
     → turns most number test deed store here p w ≡ Ended (Stopped reason) q w
 unfolding after_begin

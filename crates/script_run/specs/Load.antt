@@ -11,15 +11,15 @@ use Rattle.script_values.specs.declared.kept.Kept.TheVariants as kept
 use Rattle.script_values.specs.Cells.{Store, Write}
 use Rattle.script_run.specs.declared.ending.Ending.{Ending}
 use Rattle.script_run.specs.declared.ending.Ending.TheVariants.{Next, Skipped, Broken, Stopped}
-use Rattle.script_run.specs.declared.place.Place.{Place}
+use Rattle.script_run.specs.declared.execution_place.ExecutionPlace.{ExecutionPlace}
 use Rattle.script_run.specs.declared.ran.Ran.{Ran}
 use Rattle.script_run.specs.declared.ran.Ran.TheVariants.{Done, Rejected}
 use Rattle.script_run.specs.Setting.{Setting, Progress}
 use Rattle.script_run.specs.Meaning.{Outcome, Ended, Doing, Deed, then_do, block_of}
 
 -- the most statements that a load executes
-abbrev pub step_limit : ℕ
-step_limit = 1000000
+abbrev pub most_steps : ℕ
+most_steps = 1000000
 
 abbrev pub setting : Section → ℕ → List (List ℕ) → Setting
 setting section row columns = record { section = section; row = row; columns = columns }
@@ -64,7 +64,7 @@ param_of (param ∷ params) word = if bytes_eq param.0 word then Some (param_val
 abbrev pub start : BoundScript → List (List ℕ × ParamText) → Progress
 start script params = record {
   variables = map (param_of params) script.variables;
-  left = step_limit;
+  left = most_steps;
   last = record { section = Prolog; row = 0; statement = 0 };
 }
 
@@ -73,7 +73,7 @@ abbrev pub load : BoundScript → List (List ℕ × ParamText) → List (List (L
 load script params rows store writes = sections script store rows (start script params) writes
 
 -- how a load ended whose last execution stands there: it is told there why
-abbrev pub ran_at : Ending → Place → Ran
+abbrev pub ran_at : Ending → ExecutionPlace → Ran
 ran_at Next last = Done
 ran_at Skipped last = Done
 ran_at Broken last = Done

@@ -14,14 +14,15 @@ use Rattle.script_values.specs.declared.datum.Datum.{Datum}
 use Rattle.script_values.specs.declared.datum.Datum.TheVariants as data_of
 use Rattle.script_values.specs.declared.kept.Kept.{Kept}
 use Rattle.script_values.specs.declared.kept.Kept.TheVariants as kept
-use Rattle.script_values.specs.declared.reason.Reason.{Reason}
-use Rattle.script_values.specs.declared.reason.Reason.TheVariants.{UnknownName, ProcessError, StepLimit, TypeMismatch}
+use Rattle.script_values.specs.declared.load_reason.LoadReason.{LoadReason}
+use Rattle.script_values.specs.declared.load_reason.LoadReason.TheVariants.{UnknownName, ProcessError, StepLimit}
+use Rattle.script_values.specs.declared.load_reason.LoadReason.TheVariants.{TypeMismatch}
 use Rattle.script_values.specs.Cells.{Store, Write, writing, refusal, writes_after}
 use Rattle.script_values.specs.Scene.{Scene}
 use Rattle.script_values.specs.Values.{amount, truth, taken, one_and_other, cell_value, each_text, value_of}
 use Rattle.script_run.specs.declared.ending.Ending.{Ending}
 use Rattle.script_run.specs.declared.ending.Ending.TheVariants.{Next, Skipped, Broken, Stopped}
-use Rattle.script_run.specs.declared.place.Place.{Place}
+use Rattle.script_run.specs.declared.execution_place.ExecutionPlace.{ExecutionPlace}
 use Rattle.script_run.specs.Setting.{Setting, Progress}
 
 -- how a part of a load ended, how far the load has come by then, and its writes so far
@@ -36,7 +37,7 @@ Doing = Progress → List Write → Outcome
 abbrev pub Deed : Type 0
 Deed = Store → Setting → Doing
 
-abbrev pub stopped : Reason → Doing
+abbrev pub stopped : LoadReason → Doing
 stopped reason p w = Ended (Stopped reason) p w
 
 -- and then
@@ -51,19 +52,19 @@ then_do (Ended (Stopped reason) p w) go = Ended (Stopped reason) p w
 pub data Begun : Type 0 where
   Begins : Bool → Progress → Begun
 
-abbrev pub begun_with : ℕ → Place → Progress → Begun
+abbrev pub begun_with : ℕ → ExecutionPlace → Progress → Begun
 begun_with zero place p = Begins false p
 begun_with (suc left) place p = Begins true (record { variables = p.variables; left = left; last = place })
 
 -- one execution more, if one is left
-abbrev pub begin : Place → Progress → Begun
+abbrev pub begin : ExecutionPlace → Progress → Begun
 begin place p = begun_with p.left place p
 
 abbrev pub once : Begun → List Write → Doing → Outcome
 once (Begins true p) w go = go p w
 once (Begins false p) w go = Ended (Stopped StepLimit) p w
 
-abbrev pub place_of : Setting → ℕ → Place
+abbrev pub place_of : Setting → ℕ → ExecutionPlace
 place_of here number = record { section = here.section; row = here.row; statement = number }
 
 -- as one execution of the statement of this number
@@ -82,16 +83,16 @@ abbrev pub scene_of : Setting → Progress → Scene
 scene_of here p = record { variables = p.variables; columns = columns_in here.section here.columns }
 
 -- what a variable holds after this is assigned to it
-abbrev pub as_kept : Datum → Result Kept Reason
+abbrev pub as_kept : Datum → Result Kept LoadReason
 as_kept (data_of.Number value) = Ok (kept.Number value)
 as_kept (data_of.Text bytes) = Ok (kept.Text bytes)
 as_kept (data_of.Truth truth) = Err TypeMismatch
 
 -- what an expression gives here
-abbrev pub given : Term → Store → Setting → Progress → List Write → Result Datum Reason
+abbrev pub given : Term → Store → Setting → Progress → List Write → Result Datum LoadReason
 given term store here p w = value_of term (scene_of here p) store w
 
-abbrev pub kept_in : ℕ → Result Kept Reason → Doing
+abbrev pub kept_in : ℕ → Result Kept LoadReason → Doing
 kept_in place (Ok value) p w =
     Ended Next (record { variables = slice_set p.variables place (Some value); left = p.left; last = p.last }) w
 kept_in place (Err reason) p w = Ended (Stopped reason) p w
@@ -100,30 +101,30 @@ unfoldable pub assign : ℕ → Term → Deed
 assign place term store here p w = kept_in place (taken as_kept (given term store here p w)) p w
 
 -- a number and the names of a cell, from left to right
-abbrev pub arguments : Term → List Term → Scene → Store → List Write → Result (Value × List (List ℕ)) Reason
+abbrev pub arguments : Term → List Term → Scene → Store → List Write → Result (Value × List (List ℕ)) LoadReason
 arguments value names scene store w =
     one_and_other (λ number texts. (number, texts)) (amount (value_of value scene store w))
     (each_text (map value_of names) scene store w)
 
 -- the writes with one more
-abbrev pub with_write : Store → List Write → List (List ℕ) → Value → Result (List Write) Reason
+abbrev pub with_write : Store → List Write → List (List ℕ) → Value → Result (List Write) LoadReason
 with_write store w [] value = Err UnknownName
 with_write store w (cube ∷ elements) value = writing store w cube elements value
 
-abbrev pub put_arguments : Store → List Write → Value × List (List ℕ) → Result (List Write) Reason
+abbrev pub put_arguments : Store → List Write → Value × List (List ℕ) → Result (List Write) LoadReason
 put_arguments store w given = with_write store w given.1 given.0
 
 -- the cell's value plus the number
-abbrev pub increment_arguments : Store → List Write → Value × List (List ℕ) → Result (List Write) Reason
+abbrev pub increment_arguments : Store → List Write → Value × List (List ℕ) → Result (List Write) LoadReason
 increment_arguments store w given =
     taken (λ before. with_write store w given.1 (sum_of before given.0)) (cell_value store w given.1)
 
-abbrev pub ending_of : Option Reason → Ending
+abbrev pub ending_of : Option LoadReason → Ending
 ending_of None = Next
 ending_of (Some reason) = Stopped reason
 
 -- a write is made or refused
-abbrev pub wrote : Result (List Write) Reason → Doing
+abbrev pub wrote : Result (List Write) LoadReason → Doing
 wrote written p w = Ended (ending_of (refusal written)) p (writes_after w written)
 
 unfoldable pub put : Term → List Term → Deed
@@ -146,10 +147,10 @@ block (deed ∷ deeds) store here p w = then_do (deed store here p w) (block dee
 
 -- a block of an IF: whether it is the one, and what it does
 pub record CaseDeed : Type 0 where
-  pub holds : Store → Setting → Progress → List Write → Result Bool Reason
+  pub holds : Store → Setting → Progress → List Write → Result Bool LoadReason
   pub deed : Deed
 
-abbrev pub where_holds : Result Bool Reason → Doing → Doing → Doing
+abbrev pub where_holds : Result Bool LoadReason → Doing → Doing → Doing
 where_holds (Ok true) holding otherwise p w = holding p w
 where_holds (Ok false) holding otherwise p w = otherwise p w
 where_holds (Err reason) holding otherwise p w = Ended (Stopped reason) p w

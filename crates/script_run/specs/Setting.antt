@@ -2,7 +2,7 @@
 use Rattle.std.specs.Prelude.{ℕ, List, Option}
 use Rattle.script_tree.specs.declared.script.Section.{Section}
 use Rattle.script_values.specs.declared.kept.Kept.{Kept}
-use Rattle.script_run.specs.declared.place.Place.{Place}
+use Rattle.script_run.specs.declared.execution_place.ExecutionPlace.{ExecutionPlace}
 
 -- the section, the row of the record from 1, or 0 outside of Data, and the columns of the record
 pub record Setting : Type 0 where
@@ -14,4 +14,4 @@ pub record Setting : Type 0 where
 pub record Progress : Type 0 where
   pub variables : List (Option Kept)
   pub left : ℕ
-  pub last : Place
+  pub last : ExecutionPlace

@@ -1,4 +1,4 @@
-use script_values::Reason;
+use script_values::LoadReason;
 
 /// How a statement, a block or a section ended.
 #[derive(Clone, Copy, PartialEq, Eq)]
@@ -10,5 +10,5 @@ pub enum Ending {
     /// By `ProcessBreak`: the Epilog is next.
     Broken,
     /// The load is over.
-    Stopped(Reason),
+    Stopped(LoadReason),
 }

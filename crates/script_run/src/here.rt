@@ -2,7 +2,7 @@ ghost use Rattle.std.specs.Prelude.{◌≡◌};
 ghost use Rattle.std.specs.Option.{option_map};
 ghost use Rattle.script_run.specs.Meaning.{columns_in, place_of};
 
-use crate::place::Place;
+use crate::execution_place::ExecutionPlace;
 use lists::ListOf;
 use script_tree::Section;
 use std::marker::Model;
@@ -36,10 +36,10 @@ impl<'a> Here<'a> {
         }
     }
 
-    pub(crate) fn place_of(&self, statement: u32) -> Place
+    pub(crate) fn place_of(&self, statement: u32) -> ExecutionPlace
         ensures { result ≡ place_of self.now statement }
     {
-        Place {
+        ExecutionPlace {
             section: self.section,
             row: self.row,
             statement,

@@ -1,13 +1,13 @@
 //! The run of a load script.
 //!
 //! Read in this order: [`run`], which runs a script over records; [`WorkCells`], the cells that it reads and writes;
-//! [`Ran`] and [`Reason`], how it ends. `specs/Load.antt` says what a load is, `specs/Meaning.antt` what its statements
-//! do, and `script_values` what its expressions give.
+//! [`Ran`] and [`LoadReason`], how it ends. `specs/Load.antt` says what a load is, `specs/Meaning.antt` what its
+//! statements do, and `script_values` what its expressions give.
 #![tactic(auto)]
 
 mod ending;
+mod execution_place;
 mod here;
-mod place;
 mod progress;
 mod ran;
 mod running;
@@ -18,5 +18,5 @@ mod writing;
 pub use ran::Ran;
 pub use running::run;
 pub use script_tree::{Script, Section};
-pub use script_values::{Reason, Text, WorkCells};
+pub use script_values::{LoadReason, Text, WorkCells};
 pub use user_text::ParamText as Param;

@@ -1,8 +1,8 @@
 ghost use Rattle.std.specs.Prelude.{◌≡◌, ◌+◌, ◌≤◌, Some, IsTrue, slice_set};
 ghost use Rattle.script_run.specs.Meaning.{Begins, begin};
 
+use crate::execution_place::ExecutionPlace;
 use crate::here::Here;
-use crate::place::Place;
 use script_values::{Kept, Sight};
 use std::marker::Model;
 
@@ -11,7 +11,7 @@ use std::marker::Model;
 pub(crate) struct Run {
     variables: Vec<Option<Kept>>,
     left: u32,
-    last: Place,
+    last: ExecutionPlace,
 }
 
 impl Model for Run {
@@ -25,7 +25,7 @@ impl Model for Run {
 impl Run {
     ghost use Rattle.script_run.specs.Meaning.{scene_of};
 
-    pub(crate) fn new(variables: Vec<Option<Kept>>, left: u32, last: Place) -> Run
+    pub(crate) fn new(variables: Vec<Option<Kept>>, left: u32, last: ExecutionPlace) -> Run
         ensures { result ≡ record { variables = variables.items; left = left; last = last } }
     {
         Run {
@@ -43,14 +43,14 @@ impl Run {
     }
 
     /// Where the last execution stands.
-    pub(crate) fn last(&self) -> Place
+    pub(crate) fn last(&self) -> ExecutionPlace
         ensures { result ≡ self.now.last }
     {
         self.last
     }
 
     /// Begins one execution more, if one is left.
-    pub(crate) fn begin(&mut self, place: Place) -> bool
+    pub(crate) fn begin(&mut self, place: ExecutionPlace) -> bool
         ensures begun { Begins result self.new ≡ begin place self.old }
         ensures counted { IsTrue result → self.new.left + 1 ≡ self.old.left }
         ensures left { self.new.left ≤ self.old.left }

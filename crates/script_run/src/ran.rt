@@ -1,5 +1,5 @@
 use script_tree::Section;
-use script_values::Reason;
+use script_values::LoadReason;
 
 /// How a load ended.
 #[derive(Clone, Copy, PartialEq, Eq)]
@@ -15,6 +15,6 @@ pub enum Ran {
         /// The statement in its section, from 1 in the order of the text, with those that stand in others.
         statement: u32,
         /// The first reason.
-        reason: Reason,
+        reason: LoadReason,
     },
 }

@@ -5,7 +5,7 @@ ghost use Rattle.script_run.specs.Load.{load, ran_of, writes_of, start};
 ghost use Rattle.script_run.specs.Meaning.{Ended};
 
 use crate::ending::Ending;
-use crate::place::Place;
+use crate::execution_place::ExecutionPlace;
 use crate::progress::Run;
 use crate::ran::Ran;
 use crate::sections::run_sections;
@@ -19,7 +19,7 @@ use std::alloc::{AllocError, Global};
 use user_text::ParamText;
 
 /// The most statements that a load executes.
-const STEP_LIMIT: u32 = 1_000_000;
+const MAX_STEPS: u32 = 1_000_000;
 
 fn param_value(alloc: Global, param: &ParamText) -> Result<Kept, AllocError>
     ensures { IfOk result (λ kept. kept ≡ loads.param_value param.now) }
@@ -75,16 +75,16 @@ fn start(
     ensures { IfOk result (λ run. run ≡ start script.now params.now) }
 {
     let variables = variables(alloc, script.variables.as_slice(), params)?;
-    let last = Place {
+    let last = ExecutionPlace {
         section: Section::Prolog,
         row: 0,
         statement: 0,
     };
-    Ok(Run::new(variables, STEP_LIMIT, last))
+    Ok(Run::new(variables, MAX_STEPS, last))
 }
 
 /// How a load ended whose last execution stands there.
-fn ran_at(ending: Ending, last: Place) -> Ran
+fn ran_at(ending: Ending, last: ExecutionPlace) -> Ran
     ensures { result ≡ loads.ran_at ending last }
 {
     match ending {

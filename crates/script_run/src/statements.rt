@@ -1,6 +1,6 @@
 ghost use Rattle.std.specs.Prelude.{◌≡◌, ◌≤◌, List, map, IfOk, IsFalse};
 ghost use Rattle.script_values.specs.Cells.{Store, Write};
-ghost use Rattle.script_values.specs.declared.reason.Reason.TheVariants as reason_of;
+ghost use Rattle.script_values.specs.declared.load_reason.LoadReason.TheVariants as reason_of;
 ghost use Rattle.script_run.specs.Meaning.{Ended, Begins, stopped, turns, block, choose, deed_of, case_deed};
 ghost use Rattle.script_run.specs.Inside.Executions.{begun};
 
@@ -9,7 +9,7 @@ use crate::here::Here;
 use crate::progress::Run;
 use crate::writing::{Change, assign, change_cell, holds};
 use script_bound::{Case, Statement, Term};
-use script_values::{Reason, WorkCells};
+use script_values::{LoadReason, WorkCells};
 use std::alloc::{AllocError, Global};
 
 /// Begins a statement as one execution, if one is left. A `WHILE` begins with each of its tests.
@@ -73,7 +73,7 @@ fn run_statement<C: WorkCells>(
     ensures store { C.store cells.new ≡ C.store cells.old }
 {
     if !begin(statement, here, run) {
-        return Ok(Ending::Stopped(Reason::StepLimit));
+        return Ok(Ending::Stopped(LoadReason::StepLimit));
     }
     match statement {
         Statement::Assign(_, place, term) => assign(alloc, *place, term, here, run, cells),
@@ -85,7 +85,7 @@ fn run_statement<C: WorkCells>(
         }
         Statement::Skip(_) => Ok(Ending::Skipped),
         Statement::Break(_) => Ok(Ending::Broken),
-        Statement::Error(_) => Ok(Ending::Stopped(Reason::ProcessError)),
+        Statement::Error(_) => Ok(Ending::Stopped(LoadReason::ProcessError)),
         Statement::If(_, cases) => run_choice(alloc, cases.as_slice(), here, run, cells),
         Statement::While(number, test, block) => {
             run_while(alloc, *number, block.as_slice(), test, here, run, cells)
@@ -143,7 +143,7 @@ fn run_while<C: WorkCells>(
     let mut most = run.left();
     'turn: loop {
         if !run.begin(here.place_of(number)) {
-            return Ok(Ending::Stopped(Reason::StepLimit));
+            return Ok(Ending::Stopped(LoadReason::StepLimit));
         }
         match holds(alloc, test, here, run, cells)? {
             Ok(true) => {}

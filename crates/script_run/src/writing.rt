@@ -12,7 +12,7 @@ use cube_fixed::{Value, add};
 use lists::ListOf;
 use script_bound::Term;
 use script_values::{
-    Datum, Kept, Reason, Sight, Text, WorkCells, as_amount, as_truth, cell_value, texts_of,
+    Datum, Kept, LoadReason, Sight, Text, WorkCells, as_amount, as_truth, cell_value, texts_of,
     value_of,
 };
 use std::alloc::{AllocError, Global};
@@ -27,13 +27,16 @@ pub(crate) enum Change {
 }
 
 /// What a variable holds after this is assigned to it.
-fn kept(alloc: Global, datum: Result<Datum<'_>, Reason>) -> Result<Result<Kept, Reason>, AllocError>
+fn kept(
+    alloc: Global,
+    datum: Result<Datum<'_>, LoadReason>,
+) -> Result<Result<Kept, LoadReason>, AllocError>
     ensures { IfOk result (λ answer. answer ≡ values.taken meaning.as_kept datum.entry) }
 {
     match datum {
         Ok(Datum::Number(value)) => Ok(Ok(Kept::Number(value))),
         Ok(Datum::Text(text)) => Ok(Ok(Kept::Text(text.into_list(alloc)?))),
-        Ok(Datum::Truth(_)) => Ok(Err(Reason::TypeMismatch)),
+        Ok(Datum::Truth(_)) => Ok(Err(LoadReason::TypeMismatch)),
         Err(reason) => Ok(Err(reason)),
     }
 }
@@ -45,7 +48,7 @@ fn kept_of<C: WorkCells>(
     here: &Here<'_>,
     run: &Run,
     cells: &mut C,
-) -> Result<Result<Kept, Reason>, AllocError>
+) -> Result<Result<Kept, LoadReason>, AllocError>
     ensures value { IfOk result (λ answer. answer
         ≡ values.taken meaning.as_kept (given term.now (C.store cells.old) here.now run.now (C.writes cells.old))) }
     ensures store { C.store cells.new ≡ C.store cells.old }
@@ -63,7 +66,7 @@ pub(crate) fn holds<C: WorkCells>(
     here: &Here<'_>,
     run: &Run,
     cells: &mut C,
-) -> Result<Result<bool, Reason>, AllocError>
+) -> Result<Result<bool, LoadReason>, AllocError>
     ensures value { IfOk result (λ answer. answer
         ≡ values.truth (given test.now (C.store cells.old) here.now run.now (C.writes cells.old))) }
     ensures store { C.store cells.new ≡ C.store cells.old }
@@ -100,9 +103,9 @@ pub(crate) fn assign<C: WorkCells>(
 
 /// Two that are given, or the first reason why one isn't.
 fn both<'a>(
-    value: Result<Value, Reason>,
-    names: Result<ListOf<Text<'a>>, Reason>,
-) -> Result<(Value, ListOf<Text<'a>>), Reason>
+    value: Result<Value, LoadReason>,
+    names: Result<ListOf<Text<'a>>, LoadReason>,
+) -> Result<(Value, ListOf<Text<'a>>), LoadReason>
     ensures { result ≡ values.one_and_other (λ number texts. (number, texts)) value names.entry }
 {
     Ok((value?, names?))
@@ -115,7 +118,7 @@ fn arguments<'a, C: WorkCells>(
     names: &'a [Term],
     sight: &Sight<'a>,
     cells: &mut C,
-) -> Result<Result<(Value, ListOf<Text<'a>>), Reason>, AllocError>
+) -> Result<Result<(Value, ListOf<Text<'a>>), LoadReason>, AllocError>
     ensures value { IfOk result (λ answer. answer ≡ meaning.arguments value.now names.now sight.now
         (C.store cells.old) (C.writes cells.old)) }
     ensures store { C.store cells.new ≡ C.store cells.old }
@@ -132,7 +135,7 @@ fn write<C: WorkCells>(
     names: &[Text<'_>],
     value: Value,
     cells: &mut C,
-) -> Result<Option<Reason>, AllocError>
+) -> Result<Option<LoadReason>, AllocError>
     ensures refused { IfOk result (λ reason. reason
         ≡ refusal (meaning.with_write (C.store cells.old) (C.writes cells.old) names.now value)) }
     ensures written { IfOk result (λ _. C.writes cells.new ≡ writes_after (C.writes cells.old)
@@ -141,11 +144,11 @@ fn write<C: WorkCells>(
 {
     match names {
         [cube, elements @ ..] => cells.put(alloc, cube.as_slice(), elements, value),
-        [] => Ok(Some(Reason::UnknownName)),
+        [] => Ok(Some(LoadReason::UnknownName)),
     }
 }
 
-fn ending_of(refused: Option<Reason>) -> Ending
+fn ending_of(refused: Option<LoadReason>) -> Ending
     ensures { result ≡ meaning.ending_of refused }
 {
     match refused {
@@ -160,7 +163,7 @@ fn add_to_cell<C: WorkCells>(
     names: &[Text<'_>],
     more: Value,
     cells: &mut C,
-) -> Result<Option<Reason>, AllocError>
+) -> Result<Option<LoadReason>, AllocError>
     ensures refused { IfOk result (λ reason. reason ≡ refusal
         (meaning.increment_arguments (C.store cells.old) (C.writes cells.old) (more, names.now))) }
     ensures written { IfOk result (λ _. C.writes cells.new ≡ writes_after (C.writes cells.old)

@@ -10,8 +10,8 @@ use Rattle.grammar.specs.Watch.{Watch, each_token}
 use Rattle.expression_grammar.specs.Limits.{most_open, begun_within, scanned}
 use Rattle.expression_grammar.specs.declared.limits.Limits.{Limits}
 use Rattle.script_tree.specs.declared.counted.Counted.{Counted}
-use Rattle.script_tree.specs.declared.counted.Place.{Place}
-use Rattle.script_tree.specs.declared.counted.Place.TheVariants as places
+use Rattle.script_tree.specs.declared.counted.ScriptTextPlace.{ScriptTextPlace}
+use Rattle.script_tree.specs.declared.counted.ScriptTextPlace.TheVariants as places
 use Rattle.script_tree.specs.declared.counted.Stage.{Stage}
 use Rattle.script_tree.specs.declared.excess.Excess.{Excess}
 use Rattle.script_tree.specs.declared.excess.Excess.TheVariants as excesses
@@ -45,7 +45,7 @@ with_token calls l t =
       told (Some more) = Ok more
       told None = Err (excesses.TooDeep t.line)
 
-abbrev pub at_place : Stage → (Limits → Place) → Result Limits Excess → Result Stage Excess
+abbrev pub at_place : Stage → (Limits → ScriptTextPlace) → Result Limits Excess → Result Stage Excess
 at_place s place (Ok l) = Ok (record s { place = place l })
 at_place s place (Err excess) = Err excess
 
@@ -90,7 +90,7 @@ behind_argument calls s l t =
     else if is_outermost s l && is_sign (codes ")") t then Ok (record s { place = places.Head })
     else at_place s (λ more. places.Argument more) (with_token calls l t)
 
-abbrev pub behind_place : Bool → Stage → Place → Lexeme → Result Stage Excess
+abbrev pub behind_place : Bool → Stage → ScriptTextPlace → Lexeme → Result Stage Excess
 behind_place calls s places.Between t = behind_word s t
 behind_place calls s places.Head t = behind_head s t
 behind_place calls s (places.Formula l) t = behind_formula calls s l t

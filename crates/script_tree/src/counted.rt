@@ -15,11 +15,11 @@ use lists::ListOf;
 use std::alloc::{AllocError, Global};
 
 /// How many parentheses and blocks may be open at once.
-const MOST_OPEN: u32 = 32;
+const MAX_OPEN: u32 = 32;
 
 /// Where in a script a token stands.
 #[derive(Clone, Copy)]
-pub enum Place {
+pub enum ScriptTextPlace {
     /// Before a statement or a part of one, or before a section.
     Between,
     /// In a statement, behind its first word or its parentheses.
@@ -37,7 +37,7 @@ pub struct Stage {
     pub blocks: u32,
     /// Blocks that are open behind the statement's or part's `;`.
     pub next: u32,
-    pub place: Place,
+    pub place: ScriptTextPlace,
 }
 
 /// What was counted so far.
@@ -84,7 +84,7 @@ pub fn begun(alloc: Global, tokens: &[Token<'_>]) -> Result<Counted, AllocError>
         stage: Stage {
             blocks: 0,
             next: 0,
-            place: Place::Between,
+            place: ScriptTextPlace::Between,
         },
     })
 }
@@ -93,7 +93,7 @@ pub fn begun(alloc: Global, tokens: &[Token<'_>]) -> Result<Counted, AllocError>
 fn one_more(opened: u32, token: &Token<'_>) -> Result<u32, Excess>
     ensures { result ≡ counting.one_more opened (lexeme_of token.now) }
 {
-    if opened < MOST_OPEN {
+    if opened < MAX_OPEN {
         Ok(opened + 1)
     } else {
         Err(Excess::TooDeep(token.line))
@@ -152,7 +152,7 @@ impl Stage {
     fn behind_word(&self, token: &Token<'_>) -> Result<Stage, Excess>
         ensures { result ≡ counting.behind_word self.now (lexeme_of token.now) }
     {
-        let place = Place::Head;
+        let place = ScriptTextPlace::Head;
         let blocks = self.blocks;
         if is_word(token, b"IF") || is_word(token, b"WHILE") {
             let next = one_more(blocks, token)?;
@@ -182,17 +182,17 @@ impl Stage {
         ensures { result ≡ counting.behind_head self.now (lexeme_of token.now) }
     {
         if is_sign(token, b"=") {
-            let place = Place::Formula(Limits::within(self.blocks));
+            let place = ScriptTextPlace::Formula(Limits::within(self.blocks));
             Ok(Stage { place, ..*self })
         } else if is_sign(token, b"(") {
             let depth = one_more(self.blocks, token)?;
-            let place = Place::Argument(Limits::within(depth));
+            let place = ScriptTextPlace::Argument(Limits::within(depth));
             Ok(Stage { place, ..*self })
         } else {
             Ok(Stage {
                 blocks: self.next,
                 next: self.next,
-                place: Place::Between,
+                place: ScriptTextPlace::Between,
             })
         }
     }
@@ -207,11 +207,11 @@ impl Stage {
         ensures { result ≡ counting.behind_formula calls self.now limits.now (lexeme_of token.now) }
     {
         if is_sign(token, b";") {
-            let place = Place::Between;
+            let place = ScriptTextPlace::Between;
             return Ok(Stage { place, ..*self });
         }
         let more = with(limits, token, calls)?;
-        let place = Place::Formula(more);
+        let place = ScriptTextPlace::Formula(more);
         Ok(Stage { place, ..*self })
     }
 
@@ -226,15 +226,15 @@ impl Stage {
     {
         let outermost = limits.depth.saturating_sub(self.blocks) == 1;
         if outermost && is_sign(token, b",") {
-            let place = Place::Argument(Limits::within(limits.depth));
+            let place = ScriptTextPlace::Argument(Limits::within(limits.depth));
             return Ok(Stage { place, ..*self });
         }
         if outermost && is_sign(token, b")") {
-            let place = Place::Head;
+            let place = ScriptTextPlace::Head;
             return Ok(Stage { place, ..*self });
         }
         let more = with(limits, token, calls)?;
-        let place = Place::Argument(more);
+        let place = ScriptTextPlace::Argument(more);
         Ok(Stage { place, ..*self })
     }
 
@@ -243,10 +243,10 @@ impl Stage {
         ensures { result ≡ counting.behind_place calls self.now self.now.place (lexeme_of token.now) }
     {
         match &self.place {
-            Place::Between => self.behind_word(token),
-            Place::Head => self.behind_head(token),
-            Place::Formula(limits) => self.behind_formula(limits, token, calls),
-            Place::Argument(limits) => self.behind_argument(limits, token, calls),
+            ScriptTextPlace::Between => self.behind_word(token),
+            ScriptTextPlace::Head => self.behind_head(token),
+            ScriptTextPlace::Formula(limits) => self.behind_formula(limits, token, calls),
+            ScriptTextPlace::Argument(limits) => self.behind_argument(limits, token, calls),
         }
     }
 }

@@ -12,7 +12,7 @@ mod expr;
 mod line;
 mod script;
 
-pub use counted::{Counted, Place, Stage, begun};
+pub use counted::{Counted, ScriptTextPlace, Stage, begun};
 pub use excess::Excess;
 pub use expr::{Expr, ScriptFun, ScriptOp};
 pub use line::{Arm, Line};

@@ -2,8 +2,8 @@
 use Rattle.std.specs.Prelude.{ℕ, ℤ, List, [], ◌∷◌, ◌++◌, Option, Some, None, Result, Ok, Err}
 use Rattle.cube_fixed.specs.declared.value.Value.{Value}
 use Rattle.cube_fixed.specs.declared.value.Value.TheVariants.{Num, Over}
-use Rattle.script_values.specs.declared.reason.Reason.{Reason}
-use Rattle.script_values.specs.declared.reason.Reason.TheVariants.{UnknownName, OverWrite}
+use Rattle.script_values.specs.declared.load_reason.LoadReason.{LoadReason}
+use Rattle.script_values.specs.declared.load_reason.LoadReason.TheVariants.{UnknownName, OverWrite}
 
 -- a cell and the millionths that are written into it
 abbrev pub Write : Type 0
@@ -17,46 +17,46 @@ pub record Store : Type 0 where
   -- the value of a cell after these writes
   pub value : List Write → ℕ → Value
   -- NotALeaf for a consolidated cell, RuleDerived for a leaf cell that isn't open for input
-  pub closed : ℕ → Option Reason
+  pub closed : ℕ → Option LoadReason
   -- StoreLimit where the store with these writes holds too many cells, else FedLimit where its fed cells are too many
-  pub full : List Write → Option Reason
+  pub full : List Write → Option LoadReason
 
-abbrev pub value_in : Store → List Write → Option ℕ → Result Value Reason
+abbrev pub value_in : Store → List Write → Option ℕ → Result Value LoadReason
 value_in store writes (Some cell) = Ok (store.value writes cell)
 value_in store writes None = Err UnknownName
 
 -- what reading a cell gives
-abbrev pub reading : Store → List Write → List ℕ → List (List ℕ) → Result Value Reason
+abbrev pub reading : Store → List Write → List ℕ → List (List ℕ) → Result Value LoadReason
 reading store writes cube elements = value_in store writes (store.cell cube elements)
 
-abbrev pub unless : Option Reason → List Write → Result (List Write) Reason
+abbrev pub unless : Option LoadReason → List Write → Result (List Write) LoadReason
 unless None writes = Ok writes
 unless (Some reason) writes = Err reason
 
-abbrev pub with_number : Store → List Write → ℕ → Value → Result (List Write) Reason
+abbrev pub with_number : Store → List Write → ℕ → Value → Result (List Write) LoadReason
 with_number store writes cell Over = Err OverWrite
 with_number store writes cell (Num millionths) =
     unless (store.full (writes ++ (cell, millionths) ∷ [])) (writes ++ (cell, millionths) ∷ [])
 
-abbrev pub with_value : Store → List Write → ℕ → Value → Option Reason → Result (List Write) Reason
+abbrev pub with_value : Store → List Write → ℕ → Value → Option LoadReason → Result (List Write) LoadReason
 with_value store writes cell value None = with_number store writes cell value
 with_value store writes cell value (Some reason) = Err reason
 
-abbrev pub with_cell : Store → List Write → Value → Option ℕ → Result (List Write) Reason
+abbrev pub with_cell : Store → List Write → Value → Option ℕ → Result (List Write) LoadReason
 with_cell store writes value (Some cell) = with_value store writes cell value (store.closed cell)
 with_cell store writes value None = Err UnknownName
 
 -- the writes with one more, or the first reason that refuses it: UnknownName, NotALeaf, RuleDerived, OverWrite,
 -- StoreLimit, FedLimit, in this order
-abbrev pub writing : Store → List Write → List ℕ → List (List ℕ) → Value → Result (List Write) Reason
+abbrev pub writing : Store → List Write → List ℕ → List (List ℕ) → Value → Result (List Write) LoadReason
 writing store writes cube elements value = with_cell store writes value (store.cell cube elements)
 
 -- why a write is refused, if it is
-abbrev pub refusal : Result (List Write) Reason → Option Reason
+abbrev pub refusal : Result (List Write) LoadReason → Option LoadReason
 refusal (Ok writes) = None
 refusal (Err reason) = Some reason
 
 -- the writes after one that is refused are those before it
-abbrev pub writes_after : List Write → Result (List Write) Reason → List Write
+abbrev pub writes_after : List Write → Result (List Write) LoadReason → List Write
 writes_after before (Ok writes) = writes
 writes_after before (Err reason) = before

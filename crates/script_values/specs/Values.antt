@@ -6,6 +6,7 @@ use Rattle.cube_fixed.specs.declared.value.Value.TheVariants.{Num}
 use Rattle.cube_fixed.specs.declared.reading.NumberFault.{NumberFault}
 use Rattle.cube_fixed.specs.Arithmetic.{zero_value}
 use Rattle.cube_fixed.specs.Text.{number_of, reading_of, printed}
+use Rattle.dim_name.specs.Bytes.{space, tab}
 use Rattle.dim_name.specs.Name.{is_same_name}
 use Rattle.rule_laws.specs.declared.operation.Op.{Op}
 use Rattle.rule_laws.specs.declared.operation.Rel.{Rel}
@@ -17,15 +18,16 @@ use Rattle.script_values.specs.declared.datum.Datum.{Datum}
 use Rattle.script_values.specs.declared.datum.Datum.TheVariants as data_of
 use Rattle.script_values.specs.declared.kept.Kept.{Kept}
 use Rattle.script_values.specs.declared.kept.Kept.TheVariants as kept
-use Rattle.script_values.specs.declared.reason.Reason.{Reason}
-use Rattle.script_values.specs.declared.reason.Reason.TheVariants.{UnknownName, NotANumber, UnsetVariable, TypeMismatch}
+use Rattle.script_values.specs.declared.load_reason.LoadReason.{LoadReason}
+use Rattle.script_values.specs.declared.load_reason.LoadReason.TheVariants.{UnknownName, NotANumber, UnsetVariable}
+use Rattle.script_values.specs.declared.load_reason.LoadReason.TheVariants.{TypeMismatch}
 use Rattle.script_values.specs.Cells.{Store, Write, reading}
 use Rattle.script_values.specs.Scene.{Scene}
 
 -- ---- a datum as what is wanted
 
 abbrev pub is_blank : ℕ → Bool
-is_blank byte = byte == 32 || byte == 9
+is_blank byte = byte == space || byte == tab
 
 abbrev pub without_blanks : List ℕ → List ℕ
 without_blanks [] = []
@@ -38,80 +40,83 @@ without_blanks_behind text = reverse (without_blanks (reverse text))
 abbrev pub trimmed : List ℕ → List ℕ
 trimmed text = without_blanks_behind (without_blanks text)
 
-abbrev pub amount_read : Result ℤ NumberFault → Result Value Reason
+abbrev pub amount_read : Result ℤ NumberFault → Result Value LoadReason
 amount_read (Ok millionths) = Ok (Num millionths)
 amount_read (Err fault) = Err NotANumber
 
-abbrev pub amount_said : List ℕ → Result Value Reason
+abbrev pub amount_said : List ℕ → Result Value LoadReason
 amount_said [] = Ok zero_value
 amount_said (byte ∷ bytes) = amount_read (reading_of (number_of (byte ∷ bytes)))
 
 -- what a text says as a number, without the spaces and tabs at its ends; an empty one is 0
-abbrev pub amount_in : List ℕ → Result Value Reason
+abbrev pub amount_in : List ℕ → Result Value LoadReason
 amount_in text = amount_said (trimmed text)
 
 -- a datum where a number is wanted
-abbrev pub as_amount : Datum → Result Value Reason
+abbrev pub as_amount : Datum → Result Value LoadReason
 as_amount (data_of.Number value) = Ok value
 as_amount (data_of.Text text) = amount_in text
 as_amount (data_of.Truth truth) = Err TypeMismatch
 
 -- where a text is wanted
-abbrev pub as_text : Datum → Result (List ℕ) Reason
+abbrev pub as_text : Datum → Result (List ℕ) LoadReason
 as_text (data_of.Text text) = Ok text
 as_text (data_of.Number value) = Err TypeMismatch
 as_text (data_of.Truth truth) = Err TypeMismatch
 
 -- where a truth is wanted
-abbrev pub as_truth : Datum → Result Bool Reason
+abbrev pub as_truth : Datum → Result Bool LoadReason
 as_truth (data_of.Truth truth) = Ok truth
 as_truth (data_of.Number value) = Err TypeMismatch
 as_truth (data_of.Text text) = Err TypeMismatch
 
 -- what is given, taken as what is wanted: a reason why nothing is given goes first
-abbrev pub taken : {A B : Type 0} → (A → Result B Reason) → Result A Reason → Result B Reason
+abbrev pub taken : {A B : Type 0} → (A → Result B LoadReason) → Result A LoadReason → Result B LoadReason
 taken wanted (Ok given) = wanted given
 taken wanted (Err reason) = Err reason
 
-abbrev pub amount : Result Datum Reason → Result Value Reason
+abbrev pub amount : Result Datum LoadReason → Result Value LoadReason
 amount = taken as_amount
 
-abbrev pub text : Result Datum Reason → Result (List ℕ) Reason
+abbrev pub text : Result Datum LoadReason → Result (List ℕ) LoadReason
 text = taken as_text
 
-abbrev pub truth : Result Datum Reason → Result Bool Reason
+abbrev pub truth : Result Datum LoadReason → Result Bool LoadReason
 truth = taken as_truth
 
 -- ---- expressions
 
 -- an operand, and then another: the first reason goes first
-abbrev pub one_and_other : {A B C : Type 0} → (A → B → C) → Result A Reason → Result B Reason → Result C Reason
+abbrev pub one_and_other : {A B C : Type 0} → (A → B → C) → Result A LoadReason → Result B LoadReason
+    → Result C LoadReason
 one_and_other join (Ok a) (Ok b) = Ok (join a b)
 one_and_other join (Ok a) (Err reason) = Err reason
 one_and_other join (Err reason) other = Err reason
 
-abbrev pub done : {A B : Type 0} → (A → B) → Result A Reason → Result B Reason
+abbrev pub done : {A B : Type 0} → (A → B) → Result A LoadReason → Result B LoadReason
 done make (Ok a) = Ok (make a)
 done make (Err reason) = Err reason
 
-abbrev pub amounts : (Value → Value → Datum) → Result Datum Reason → Result Datum Reason → Result Datum Reason
+abbrev pub amounts : (Value → Value → Datum) → Result Datum LoadReason → Result Datum LoadReason
+    → Result Datum LoadReason
 amounts make left right = one_and_other make (amount left) (amount right)
 
 -- an operation on two numbers
-unfoldable pub operated : Op → Result Datum Reason → Result Datum Reason → Result Datum Reason
+unfoldable pub operated : Op → Result Datum LoadReason → Result Datum LoadReason → Result Datum LoadReason
 operated op = amounts (λ left right. data_of.Number (operation_of op left right))
 
 -- a comparison of two numbers
-unfoldable pub compared : Rel → Result Datum Reason → Result Datum Reason → Result Datum Reason
+unfoldable pub compared : Rel → Result Datum LoadReason → Result Datum LoadReason → Result Datum LoadReason
 compared rel = amounts (λ left right. data_of.Truth (comparison_of rel left right))
 
-abbrev pub two_texts : (List ℕ → List ℕ → Datum) → Result Datum Reason → Result Datum Reason → Result Datum Reason
+abbrev pub two_texts : (List ℕ → List ℕ → Datum) → Result Datum LoadReason → Result Datum LoadReason
+    → Result Datum LoadReason
 two_texts make left right = one_and_other make (text left) (text right)
 
-abbrev pub truths : (Bool → Bool → Bool) → Result Datum Reason → Result Datum Reason → Result Datum Reason
+abbrev pub truths : (Bool → Bool → Bool) → Result Datum LoadReason → Result Datum LoadReason → Result Datum LoadReason
 truths make left right = one_and_other (λ a b. data_of.Truth (make a b)) (truth left) (truth right)
 
-abbrev pub held : Option (Option Kept) → Result Datum Reason
+abbrev pub held : Option (Option Kept) → Result Datum LoadReason
 held (Some (Some (kept.Number value))) = Ok (data_of.Number value)
 held (Some (Some (kept.Text bytes))) = Ok (data_of.Text bytes)
 held (Some None) = Err UnsetVariable
@@ -123,23 +128,23 @@ filled (Some bytes) = bytes
 filled None = []
 
 -- outside of the Data section there is no column
-abbrev pub column : ℕ → Option (List (List ℕ)) → Result Datum Reason
+abbrev pub column : ℕ → Option (List (List ℕ)) → Result Datum LoadReason
 column place (Some columns) = Ok (data_of.Text (filled (slice_get columns place)))
 column place None = Err UnsetVariable
 
 -- what an expression gives: by what is seen, and by the cells after the writes so far
 abbrev pub Reading : Type 0
-Reading = Scene → Store → List Write → Result Datum Reason
+Reading = Scene → Store → List Write → Result Datum LoadReason
 
 -- texts, from left to right
-abbrev pub each_text : List Reading → Scene → Store → List Write → Result (List (List ℕ)) Reason
+abbrev pub each_text : List Reading → Scene → Store → List Write → Result (List (List ℕ)) LoadReason
 each_text [] scene store writes = Ok []
 each_text (reading ∷ readings) scene store writes =
     one_and_other (λ first rest. first ∷ rest) (text (reading scene store writes))
     (each_text readings scene store writes)
 
 -- the value of the cell of a cube and elements
-abbrev pub cell_value : Store → List Write → List (List ℕ) → Result Value Reason
+abbrev pub cell_value : Store → List Write → List (List ℕ) → Result Value LoadReason
 cell_value store writes [] = Err UnknownName
 cell_value store writes (cube ∷ elements) = reading store writes cube elements
 

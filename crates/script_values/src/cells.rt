@@ -1,7 +1,7 @@
 ghost use Rattle.std.specs.Prelude.{◌≡◌, List, IfOk};
 ghost use Rattle.script_values.specs.Cells.{Store, Write, reading, writing, refusal, writes_after};
 
-use crate::reason::Reason;
+use crate::load_reason::LoadReason;
 use crate::text::Text;
 use cube_fixed::Value;
 use std::alloc::{AllocError, Global};
@@ -21,7 +21,7 @@ pub trait WorkCells {
         alloc: Global,
         cube: &[u8],
         elements: &[Text<'_>],
-    ) -> Result<Result<Value, Reason>, AllocError>
+    ) -> Result<Result<Value, LoadReason>, AllocError>
         ensures value { IfOk result (λ answer. answer
             ≡ reading (store self.old) (writes self.old) cube.now elements.now) }
         ensures store { store self.new ≡ store self.old }
@@ -34,7 +34,7 @@ pub trait WorkCells {
         cube: &[u8],
         elements: &[Text<'_>],
         value: Value,
-    ) -> Result<Option<Reason>, AllocError>
+    ) -> Result<Option<LoadReason>, AllocError>
         ensures refused { IfOk result (λ reason. reason
             ≡ refusal (writing (store self.old) (writes self.old) cube.now elements.now value)) }
         ensures written { IfOk result (λ _. writes self.new ≡ writes_after (writes self.old)

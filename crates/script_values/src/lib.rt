@@ -1,14 +1,14 @@
 //! What the expressions of a load script give, over the cells that a load reads and writes.
 //!
-//! Read in this order: [`WorkCells`], the cells; [`Reason`], why a load ends; [`Datum`], what an expression gives;
+//! Read in this order: [`WorkCells`], the cells; [`LoadReason`], why a load ends; [`Datum`], what an expression gives;
 //! [`value_of`], which evaluates one. `specs/Values.antt` says what each expression gives.
 #![tactic(auto)]
 
 mod cells;
 mod datum;
 mod kept;
+mod load_reason;
 mod operands;
-mod reason;
 mod same_name;
 mod sight;
 mod text;
@@ -18,7 +18,7 @@ mod wanted;
 pub use cells::WorkCells;
 pub use datum::Datum;
 pub use kept::Kept;
-pub use reason::Reason;
+pub use load_reason::LoadReason;
 pub use sight::Sight;
 pub use text::Text;
 pub use value::{cell_value, texts_of, value_of};

@@ -6,7 +6,7 @@ ghost use Rattle.script_values.specs.declared.datum.Datum.TheVariants as data_of
 ghost use Rattle.script_values.specs.Values as values;
 
 use crate::datum::Datum;
-use crate::reason::Reason;
+use crate::load_reason::LoadReason;
 use crate::same_name::is_same_name;
 use crate::text::Text;
 use crate::wanted::{amount_in, as_amount, as_text, as_truth};
@@ -16,8 +16,8 @@ use std::alloc::{AllocError, Global};
 
 pub(crate) fn function<'a>(
     function: Fun,
-    given: Result<Datum<'a>, Reason>,
-) -> Result<Datum<'a>, Reason>
+    given: Result<Datum<'a>, LoadReason>,
+) -> Result<Datum<'a>, LoadReason>
     ensures { result ≡ values.done (λ value. data_of.Number (function_of function value)) (values.amount given.entry) }
 {
     let value = as_amount(given)?;
@@ -27,9 +27,9 @@ pub(crate) fn function<'a>(
 #[tactic(auto, unfolding(crate::specs::Values::operated))]
 pub(crate) fn operation<'a>(
     op: Op,
-    left: Result<Datum<'a>, Reason>,
-    right: Result<Datum<'a>, Reason>,
-) -> Result<Datum<'a>, Reason>
+    left: Result<Datum<'a>, LoadReason>,
+    right: Result<Datum<'a>, LoadReason>,
+) -> Result<Datum<'a>, LoadReason>
     ensures { result ≡ values.operated op left.entry right.entry }
 {
     let left = as_amount(left)?;
@@ -40,9 +40,9 @@ pub(crate) fn operation<'a>(
 #[tactic(auto, unfolding(crate::specs::Values::compared))]
 pub(crate) fn comparison<'a>(
     rel: Rel,
-    left: Result<Datum<'a>, Reason>,
-    right: Result<Datum<'a>, Reason>,
-) -> Result<Datum<'a>, Reason>
+    left: Result<Datum<'a>, LoadReason>,
+    right: Result<Datum<'a>, LoadReason>,
+) -> Result<Datum<'a>, LoadReason>
     ensures { result ≡ values.compared rel left.entry right.entry }
 {
     let left = as_amount(left)?;
@@ -50,7 +50,7 @@ pub(crate) fn comparison<'a>(
     Ok(Datum::Truth(rel.holds(left, right)))
 }
 
-pub(crate) fn number_in<'a>(given: Result<Datum<'a>, Reason>) -> Result<Datum<'a>, Reason>
+pub(crate) fn number_in<'a>(given: Result<Datum<'a>, LoadReason>) -> Result<Datum<'a>, LoadReason>
     ensures { result ≡ values.done (λ value. data_of.Number value)
         (values.taken values.amount_in (values.text given.entry)) }
 {
@@ -61,8 +61,8 @@ pub(crate) fn number_in<'a>(given: Result<Datum<'a>, Reason>) -> Result<Datum<'a
 
 pub(crate) fn text_of<'a>(
     alloc: Global,
-    given: Result<Datum<'a>, Reason>,
-) -> Result<Result<Datum<'a>, Reason>, AllocError>
+    given: Result<Datum<'a>, LoadReason>,
+) -> Result<Result<Datum<'a>, LoadReason>, AllocError>
     ensures { IfOk result (λ answer. answer
         ≡ values.done (λ value. data_of.Text (printed value)) (values.amount given.entry)) }
 {
@@ -87,9 +87,9 @@ fn both<'a>(alloc: Global, left: &[u8], right: &[u8]) -> Result<Text<'a>, AllocE
 
 /// What two operands give as texts.
 fn two_texts<'a>(
-    left: Result<Datum<'a>, Reason>,
-    right: Result<Datum<'a>, Reason>,
-) -> Result<(Text<'a>, Text<'a>), Reason>
+    left: Result<Datum<'a>, LoadReason>,
+    right: Result<Datum<'a>, LoadReason>,
+) -> Result<(Text<'a>, Text<'a>), LoadReason>
     ensures { result ≡ values.one_and_other (λ a b. (a, b)) (values.text left.entry) (values.text right.entry) }
 {
     let left = as_text(left)?;
@@ -99,9 +99,9 @@ fn two_texts<'a>(
 
 pub(crate) fn joined<'a>(
     alloc: Global,
-    left: Result<Datum<'a>, Reason>,
-    right: Result<Datum<'a>, Reason>,
-) -> Result<Result<Datum<'a>, Reason>, AllocError>
+    left: Result<Datum<'a>, LoadReason>,
+    right: Result<Datum<'a>, LoadReason>,
+) -> Result<Result<Datum<'a>, LoadReason>, AllocError>
     ensures { IfOk result (λ answer. answer
         ≡ values.two_texts (λ a b. data_of.Text (a ++ b)) left.entry right.entry) }
 {
@@ -115,9 +115,9 @@ pub(crate) fn joined<'a>(
 }
 
 pub(crate) fn same<'a>(
-    left: Result<Datum<'a>, Reason>,
-    right: Result<Datum<'a>, Reason>,
-) -> Result<Datum<'a>, Reason>
+    left: Result<Datum<'a>, LoadReason>,
+    right: Result<Datum<'a>, LoadReason>,
+) -> Result<Datum<'a>, LoadReason>
     ensures { result ≡ values.two_texts (λ a b. data_of.Truth (is_same_name a b)) left.entry right.entry }
 {
     let (left, right) = two_texts(left, right)?;
@@ -125,9 +125,9 @@ pub(crate) fn same<'a>(
 }
 
 pub(crate) fn other<'a>(
-    left: Result<Datum<'a>, Reason>,
-    right: Result<Datum<'a>, Reason>,
-) -> Result<Datum<'a>, Reason>
+    left: Result<Datum<'a>, LoadReason>,
+    right: Result<Datum<'a>, LoadReason>,
+) -> Result<Datum<'a>, LoadReason>
     ensures { result ≡ values.two_texts (λ a b. data_of.Truth (not (is_same_name a b))) left.entry right.entry }
 {
     let (left, right) = two_texts(left, right)?;
@@ -135,9 +135,9 @@ pub(crate) fn other<'a>(
 }
 
 pub(crate) fn both_hold<'a>(
-    left: Result<Datum<'a>, Reason>,
-    right: Result<Datum<'a>, Reason>,
-) -> Result<Datum<'a>, Reason>
+    left: Result<Datum<'a>, LoadReason>,
+    right: Result<Datum<'a>, LoadReason>,
+) -> Result<Datum<'a>, LoadReason>
     ensures { result ≡ values.truths ◌&&◌ left.entry right.entry }
 {
     let left = as_truth(left)?;
@@ -146,9 +146,9 @@ pub(crate) fn both_hold<'a>(
 }
 
 pub(crate) fn one_holds<'a>(
-    left: Result<Datum<'a>, Reason>,
-    right: Result<Datum<'a>, Reason>,
-) -> Result<Datum<'a>, Reason>
+    left: Result<Datum<'a>, LoadReason>,
+    right: Result<Datum<'a>, LoadReason>,
+) -> Result<Datum<'a>, LoadReason>
     ensures { result ≡ values.truths ◌||◌ left.entry right.entry }
 {
     let left = as_truth(left)?;
@@ -156,7 +156,7 @@ pub(crate) fn one_holds<'a>(
     Ok(Datum::Truth(left || right))
 }
 
-pub(crate) fn opposite<'a>(given: Result<Datum<'a>, Reason>) -> Result<Datum<'a>, Reason>
+pub(crate) fn opposite<'a>(given: Result<Datum<'a>, LoadReason>) -> Result<Datum<'a>, LoadReason>
     ensures { result ≡ values.done (λ holds. data_of.Truth (not holds)) (values.truth given.entry) }
 {
     let holds = as_truth(given)?;

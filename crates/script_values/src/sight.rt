@@ -4,7 +4,7 @@ ghost use Rattle.script_values.specs.Values.{held, column, filled};
 
 use crate::datum::Datum;
 use crate::kept::Kept;
-use crate::reason::Reason;
+use crate::load_reason::LoadReason;
 use crate::text::Text;
 use lists::ListOf;
 use sqlite_items::at;
@@ -31,13 +31,13 @@ impl<'a> Model for Sight<'a> {
 }
 
 /// What a variable gives.
-fn held<'a>(variables: &'a [Option<Kept>], place: usize) -> Result<Datum<'a>, Reason>
+fn held<'a>(variables: &'a [Option<Kept>], place: usize) -> Result<Datum<'a>, LoadReason>
     ensures { result ≡ held (slice_get variables.now place) }
 {
     match at(variables, place) {
         Some(Some(Kept::Number(value))) => Ok(Datum::Number(*value)),
         Some(Some(Kept::Text(bytes))) => Ok(Datum::Text(Text::borrowed(bytes.as_slice()))),
-        _ => Err(Reason::UnsetVariable),
+        _ => Err(LoadReason::UnsetVariable),
     }
 }
 
@@ -60,19 +60,19 @@ impl<'a> Sight<'a> {
     }
 
     /// What a variable gives.
-    pub(crate) fn variable(&self, place: usize) -> Result<Datum<'a>, Reason>
+    pub(crate) fn variable(&self, place: usize) -> Result<Datum<'a>, LoadReason>
         ensures { result ≡ held (slice_get self.now.variables place) }
     {
         held(self.variables, place)
     }
 
     /// What a column gives.
-    pub(crate) fn column(&self, place: usize) -> Result<Datum<'a>, Reason>
+    pub(crate) fn column(&self, place: usize) -> Result<Datum<'a>, LoadReason>
         ensures { result ≡ column place self.now.columns }
     {
         match self.columns {
             Some(columns) => Ok(Datum::Text(filled(columns, place))),
-            None => Err(Reason::UnsetVariable),
+            None => Err(LoadReason::UnsetVariable),
         }
     }
 }

@@ -5,11 +5,11 @@ ghost use Rattle.script_values.specs.declared.datum.Datum.TheVariants as data_of
 
 use crate::cells::WorkCells;
 use crate::datum::Datum;
+use crate::load_reason::LoadReason;
 use crate::operands::{
     both_hold, comparison, function, joined, number_in, one_holds, operation, opposite, other,
     same, text_of,
 };
-use crate::reason::Reason;
 use crate::sight::Sight;
 use crate::text::Text;
 use crate::wanted::as_text;
@@ -23,7 +23,7 @@ pub fn cell_value<C: WorkCells>(
     alloc: Global,
     names: &[Text<'_>],
     cells: &mut C,
-) -> Result<Result<Value, Reason>, AllocError>
+) -> Result<Result<Value, LoadReason>, AllocError>
     ensures value { IfOk result (λ answer. answer
         ≡ cell_value (C.store cells.old) (C.writes cells.old) names.now) }
     ensures store { C.store cells.new ≡ C.store cells.old }
@@ -31,7 +31,7 @@ pub fn cell_value<C: WorkCells>(
 {
     match names {
         [cube, elements @ ..] => cells.get(alloc, cube.as_slice(), elements),
-        [] => Ok(Err(Reason::UnknownName)),
+        [] => Ok(Err(LoadReason::UnknownName)),
     }
 }
 
@@ -45,7 +45,7 @@ pub fn value_of<'a, C: WorkCells>(
     term: &'a Term,
     sight: &Sight<'a>,
     cells: &mut C,
-) -> Result<Result<Datum<'a>, Reason>, AllocError>
+) -> Result<Result<Datum<'a>, LoadReason>, AllocError>
     ensures value { IfOk result (λ answer. answer
         ≡ value_of term.now sight.now (C.store cells.old) (C.writes cells.old)) }
     ensures store { C.store cells.new ≡ C.store cells.old }
@@ -100,7 +100,7 @@ fn two_values<'a, C: WorkCells>(
     right: &'a Term,
     sight: &Sight<'a>,
     cells: &mut C,
-) -> Result<(Result<Datum<'a>, Reason>, Result<Datum<'a>, Reason>), AllocError>
+) -> Result<(Result<Datum<'a>, LoadReason>, Result<Datum<'a>, LoadReason>), AllocError>
     ensures left { IfOk result (λ both. both.0
         ≡ value_of left.now sight.now (C.store cells.old) (C.writes cells.old)) }
     ensures right { IfOk result (λ both. both.1
@@ -120,7 +120,7 @@ fn value_in_cell<'a, C: WorkCells>(
     names: &'a [Term],
     sight: &Sight<'a>,
     cells: &mut C,
-) -> Result<Result<Datum<'a>, Reason>, AllocError>
+) -> Result<Result<Datum<'a>, LoadReason>, AllocError>
     ensures value { IfOk result (λ answer. answer ≡ done (λ value. data_of.Number value)
         (taken (cell_value (C.store cells.old) (C.writes cells.old))
         (each_text (map value_of names.now) sight.now (C.store cells.old) (C.writes cells.old)))) }
@@ -143,7 +143,7 @@ pub fn texts_of<'a, C: WorkCells>(
     terms: &'a [Term],
     sight: &Sight<'a>,
     cells: &mut C,
-) -> Result<Result<ListOf<Text<'a>>, Reason>, AllocError>
+) -> Result<Result<ListOf<Text<'a>>, LoadReason>, AllocError>
     ensures value { IfOk result (λ answer. answer
         ≡ each_text (map value_of terms.now) sight.now (C.store cells.old) (C.writes cells.old)) }
     ensures store { C.store cells.new ≡ C.store cells.old }

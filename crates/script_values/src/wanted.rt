@@ -2,7 +2,7 @@ ghost use Rattle.std.specs.Prelude.{◌≡◌};
 ghost use Rattle.script_values.specs.Values as values;
 
 use crate::datum::Datum;
-use crate::reason::Reason;
+use crate::load_reason::LoadReason;
 use crate::text::Text;
 use cube_fixed::{Value, read};
 
@@ -41,47 +41,47 @@ fn without_blanks_behind(text: &[u8]) -> &[u8]
 }
 
 /// The number that a text says. Spaces and tabs at its ends are passed over, and an empty text is 0.
-pub(crate) fn amount_in(text: &[u8]) -> Result<Value, Reason>
+pub(crate) fn amount_in(text: &[u8]) -> Result<Value, LoadReason>
     ensures { result ≡ values.amount_in text.now }
 {
     match without_blanks_behind(without_blanks(text)) {
         [] => Ok(Value::ZERO),
         trimmed => match read(trimmed) {
             Ok(millionths) => Ok(Value::Num(millionths)),
-            Err(_) => Err(Reason::NotANumber),
+            Err(_) => Err(LoadReason::NotANumber),
         },
     }
 }
 
 /// What is given, as a number.
-pub fn as_amount(given: Result<Datum<'_>, Reason>) -> Result<Value, Reason>
+pub fn as_amount(given: Result<Datum<'_>, LoadReason>) -> Result<Value, LoadReason>
     ensures { result ≡ values.amount given.entry }
 {
     match given? {
         Datum::Number(value) => Ok(value),
         Datum::Text(text) => amount_in(text.as_slice()),
-        Datum::Truth(_) => Err(Reason::TypeMismatch),
+        Datum::Truth(_) => Err(LoadReason::TypeMismatch),
     }
 }
 
 /// What is given, as a text.
-pub fn as_text<'a>(given: Result<Datum<'a>, Reason>) -> Result<Text<'a>, Reason>
+pub fn as_text<'a>(given: Result<Datum<'a>, LoadReason>) -> Result<Text<'a>, LoadReason>
     ensures { result ≡ values.text given.entry }
 {
     match given? {
         Datum::Text(text) => Ok(text),
-        Datum::Number(_) => Err(Reason::TypeMismatch),
-        Datum::Truth(_) => Err(Reason::TypeMismatch),
+        Datum::Number(_) => Err(LoadReason::TypeMismatch),
+        Datum::Truth(_) => Err(LoadReason::TypeMismatch),
     }
 }
 
 /// What is given, as a truth.
-pub fn as_truth(given: Result<Datum<'_>, Reason>) -> Result<bool, Reason>
+pub fn as_truth(given: Result<Datum<'_>, LoadReason>) -> Result<bool, LoadReason>
     ensures { result ≡ values.truth given.entry }
 {
     match given? {
         Datum::Truth(holds) => Ok(holds),
-        Datum::Number(_) => Err(Reason::TypeMismatch),
-        Datum::Text(_) => Err(Reason::TypeMismatch),
+        Datum::Number(_) => Err(LoadReason::TypeMismatch),
+        Datum::Text(_) => Err(LoadReason::TypeMismatch),
     }
 }

@@ -2,7 +2,7 @@ use history::{Effect, World};
 use std::alloc::{AllocError, Global};
 
 /// The greatest number that may be added at once.
-pub const MOST: u64 = 100;
+pub const MAX_ADDED: u64 = 100;
 
 /// Nothing is added to a total above this one.
 pub const FULL: u64 = 1_000_000;
@@ -13,7 +13,7 @@ pub struct Adding;
 /// What a user does.
 #[derive(Clone, Copy, Debug)]
 pub enum Order {
-    /// Adds a number, which is at most [`MOST`].
+    /// Adds a number, which is at most [`MAX_ADDED`].
     Add(u64),
     /// Asks for the total.
     Ask,
@@ -70,7 +70,7 @@ impl World for Adding {
         command: &Order,
     ) -> Result<Effect<u64, Answer>, AllocError> {
         Ok(match command {
-            Order::Add(number) if *number <= MOST && *state <= FULL => {
+            Order::Add(number) if *number <= MAX_ADDED && *state <= FULL => {
                 Effect::Commit(*state + *number, Answer::Added(*state + *number))
             }
             Order::Add(number) => Effect::Rejected(Answer::Refused(*number)),

@@ -11,7 +11,7 @@ use Rattle.history.specs.UserRun.{RunSoFar}
 use Rattle.history.proofs.Lists.{get_split}
 use Rattle.std.proofs.lemmas.Option.{slice_get_within}
 use Rattle.history.proofs.Runs.{none_in_nothing, run_starts}
-use Rattle.version_book.specs.declared.view.View.{View}
+use Rattle.version_book.specs.declared.pass_view.PassView.{PassView}
 use Rattle.version_book.specs.declared.book.BookOf.{BookOf}
 use Rattle.version_book.specs.declared.book.PassOf.{PassOf}
 use Rattle.version_book.specs.Passes.{IsOf, numbers_of, opening_of, seen}
@@ -25,7 +25,7 @@ pub one_there : {A : Type 0} (x y : A) (place : ℕ) → slice_get (x ∷ []) pl
 one_there x y zero is = (refl, cc)
 one_there x y (suc place) is = cc
 
-module _ {L S C T K R Q : Type 0} (effect : C → K → Effect T R) (after : C → T → C) (content : S → C) (book : BookOf L (View S T) (Snapshot S) Q) where
+module _ {L S C T K R Q : Type 0} (effect : C → K → Effect T R) (after : C → T → C) (content : S → C) (book : BookOf L (PassView S T) (Snapshot S) Q) where
   -- a session that nothing was told of yet
   pub running_first : (session : SessionOf L S T K R) → IsOf book session.pass → numbers_of session.pass ≡ session.user ∷ [] → seen session.pass ≡ [] → session.told.items ≡ []
       → IsRunning effect after content book session

@@ -4,7 +4,7 @@ use Rattle.std.specs.Prelude.{◌≡◌, [], ◌∷◌}
 use Rattle.std.specs.declared.snapshot.Snapshot.{Snapshot}
 use Rattle.history.specs.declared.effect.Effect.{Effect}
 use Rattle.history.specs.UserRun.{RunSoFar}
-use Rattle.version_book.specs.declared.view.View.{View}
+use Rattle.version_book.specs.declared.pass_view.PassView.{PassView}
 use Rattle.version_book.specs.declared.book.BookOf.{BookOf}
 use Rattle.version_book.specs.Passes.{IsOf, numbers_of, opening_of, seen}
 use Rattle.sessions.specs.declared.session.SessionOf.{SessionOf}
@@ -12,7 +12,7 @@ use Rattle.sessions.specs.declared.session.SessionOf.{SessionOf}
 -- The session is of this book and acts under its user's number alone. What was told so far is the user's run of the
 -- history that its pass has seen.
 pub record IsRunning {L S C T K R Q : Type 0} (effect : C → K → Effect T R) (after : C → T → C) (content : S → C)
-    (book : BookOf L (View S T) (Snapshot S) Q) (session : SessionOf L S T K R) : Type 0 where
+    (book : BookOf L (PassView S T) (Snapshot S) Q) (session : SessionOf L S T K R) : Type 0 where
   pub of : IsOf book session.pass
   pub number : numbers_of session.pass ≡ session.user ∷ []
   pub run : RunSoFar effect after (content (opening_of book)) (seen session.pass) session.user session.told.items

@@ -7,7 +7,7 @@ use Rattle.cell_store.specs.declared.entry.Entry.{Entry}
 use Rattle.cube_fixed.specs.declared.money.Money.{Money}
 use Rattle.cell_store.specs.Entries.{cells_of}
 use Rattle.cell_store.proofs.Rising.{AllAbove, Rises}
-use Rattle.stored_values.specs.Stored.{stored_in}
+use Rattle.stored_laws.specs.Stored.{stored_in}
 use Rattle.dim_order.specs.Members.{is_among}
 use Rattle.sparse_sum.specs.Live.{is_live}
 use Rattle.sparse_sum.specs.Inside.First.{IsNext}

@@ -6,7 +6,7 @@ ghost use Rattle.cube_space.specs.Layout.{axes_of, sizes_of};
 ghost use Rattle.cube_space.specs.Cells.{IsCell, cube_of, size_of};
 ghost use Rattle.cube_space.specs.Radix.{product, are_digits};
 ghost use Rattle.dim_weights.specs.Table.{IsRising};
-ghost use Rattle.rule_model.specs.Weights.{AreWeightsOf, weight, greatest_coef, weight_product, max_weight_product};
+ghost use Rattle.rule_model.specs.Weights.{AreWeightsOf, weight, greatest_coef, weight_product, most_weight_product};
 ghost use Rattle.sparse_sum.specs.Inside.First.{IsClear, IsFirst};
 ghost use Rattle.sparse_sum.specs.Inside.Numbers.{weight_at};
 
@@ -17,10 +17,10 @@ use dim_weights::Weights;
 pub fn leaf_from(space: &Space, weights: &[Weights], cell: u64, from: u64) -> Option<(u64, i64)>
     requires weights { AreWeightsOf space.now.dimensions weights.now }
     requires cell { IsCell space.now cell }
-    requires product { weight_product space.now (cube_of space.now cell) ≤ max_weight_product }
+    requires product { weight_product space.now (cube_of space.now cell) ≤ most_weight_product }
     ensures first { MatchOption result (IsClear (weight space.now cell) from (size_of space.now))
         (λ found. IsFirst (weight space.now cell) (size_of space.now) from found) }
-    ensures size { IfSome result (λ found. unsigned_abs found.1 ≤ max_weight_product) }
+    ensures size { IfSome result (λ found. unsigned_abs found.1 ≤ most_weight_product) }
 {
     let _cells = space.size();
     let mut at = [0u32; MAX_DIMENSIONS];
@@ -41,10 +41,10 @@ pub fn leaf_from(space: &Space, weights: &[Weights], cell: u64, from: u64) -> Op
 pub fn weight_of(space: &Space, weights: &[Weights], cell: u64, leaf: u64) -> i64
     requires weights { AreWeightsOf space.now.dimensions weights.now }
     requires cell { IsCell space.now cell }
-    requires product { weight_product space.now (cube_of space.now cell) ≤ max_weight_product }
+    requires product { weight_product space.now (cube_of space.now cell) ≤ most_weight_product }
     requires leaf { IsCell space.now leaf }
     ensures value { result ≡ weight space.now cell leaf }
-    ensures size { unsigned_abs result ≤ max_weight_product }
+    ensures size { unsigned_abs result ≤ most_weight_product }
 {
     match leaf_from(space, weights, cell, leaf) {
         Some((found, weight)) if found == leaf => weight,
@@ -66,7 +66,7 @@ fn first_leaf(
     requires weights { AreWeightsOf space.now.dimensions weights.now }
     requires dims { All (λ dim. dim < length space.now.dimensions) dims.now }
     requires at { are_digits (sizes_of (axes_of space.now.dimensions dims.now)) at.now ≡ true }
-    requires small { product (map greatest_coef (axes_of space.now.dimensions dims.now)) ≤ max_weight_product }
+    requires small { product (map greatest_coef (axes_of space.now.dimensions dims.now)) ≤ most_weight_product }
     requires cells { cells ≡ product (sizes_of (axes_of space.now.dimensions dims.now)) }
     requires from { from < cells }
     ensures first { MatchOption result
@@ -154,7 +154,7 @@ fn first_row(leaves: &[(u32, i64)], from: u64) -> Option<(u32, i64)>
 // A number behind a leaf's place in its dimension, and how much both count together.
 fn joined(row: (u32, i64), worth: u64, found: Option<(u64, i64)>) -> Option<(u64, i64)>
     requires room { IfSome found (λ found. row.0 * worth + found.0 < 2 ^ 64) }
-    requires size { IfSome found (λ found. unsigned_abs (row.1 *ℤ found.1) ≤ max_weight_product) }
+    requires size { IfSome found (λ found. unsigned_abs (row.1 *ℤ found.1) ≤ most_weight_product) }
     ensures { result ≡ option_map (λ found. (row.0 * worth + found.0, row.1 *ℤ found.1)) found }
 {
     match found {

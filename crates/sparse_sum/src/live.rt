@@ -1,6 +1,6 @@
 ghost use Rattle.std.specs.Prelude.{◌≡◌, ◌≢◌, ℕ, ◌<◌, ◌≤◌, true, None, Some, IfSome, MatchOption};
 ghost use Rattle.cell_store.specs.Entries.{cells_of};
-ghost use Rattle.stored_values.specs.Stored.{stored_in};
+ghost use Rattle.stored_laws.specs.Stored.{stored_in};
 ghost use Rattle.sparse_sum.specs.Live.{is_live};
 ghost use Rattle.sparse_sum.specs.Inside.First.{IsNext};
 

@@ -1,7 +1,7 @@
 ghost use Rattle.std.specs.Prelude.{◌≡◌, ◌+◌, ◌≤◌, ◌^◌, length, IfOk, IfErr};
 ghost use Rattle.cell_store.specs.Entries.{cells_of};
 ghost use Rattle.cube_space.specs.Cells.{IsCell, cube_of};
-ghost use Rattle.rule_model.specs.Weights.{AreWeightsOf, weight_product, max_weight_product};
+ghost use Rattle.rule_model.specs.Weights.{AreWeightsOf, weight_product, most_weight_product};
 ghost use Rattle.sparse_sum.specs.Live.{live_below};
 ghost use Rattle.sparse_sum.specs.Totals.{IsTotal, IsStopped};
 
@@ -25,7 +25,7 @@ pub fn sum_under<W: CellSet, L: Leaves>(
 ) -> Result<Value, L::Fault>
     requires weights { AreWeightsOf space.now.dimensions weights.now }
     requires cell { IsCell space.now cell }
-    requires product { weight_product space.now (cube_of space.now cell) ≤ max_weight_product }
+    requires product { weight_product space.now (cube_of space.now cell) ≤ most_weight_product }
     requires few { length stored.now + length (W.cells fed.now) ≤ 2 ^ 32 }
     ensures total { IfOk result (λ value. IsTotal L.after_call
         (live_below space.now (cells_of stored.now) (W.cells fed.now) cell)

@@ -3,8 +3,8 @@ ghost use Rattle.cell_store.specs.Entries.{cells_of};
 ghost use Rattle.cube_fixed.specs.Total.{with_term, value_of};
 ghost use Rattle.cube_space.specs.Cells.{IsCell, cube_of};
 ghost use Rattle.cube_space.specs.Layout.{most_model_cells};
-ghost use Rattle.rule_model.specs.Weights.{AreWeightsOf, weight, weight_product, max_weight_product};
-ghost use Rattle.stored_values.specs.Stored.{stored_in};
+ghost use Rattle.rule_model.specs.Weights.{AreWeightsOf, weight, weight_product, most_weight_product};
+ghost use Rattle.stored_laws.specs.Stored.{stored_in};
 ghost use Rattle.sparse_sum.specs.Live.{live_from};
 ghost use Rattle.sparse_sum.specs.Walking.{begun, left};
 
@@ -65,14 +65,14 @@ impl Walk {
     ) -> Option<Leaf>
         requires weights { AreWeightsOf space.now.dimensions weights.now }
         requires cell { IsCell space.now self.old.cell }
-        requires product { weight_product space.now (cube_of space.now self.old.cell) ≤ max_weight_product }
+        requires product { weight_product space.now (cube_of space.now self.old.cell) ≤ most_weight_product }
         ensures left { MatchOption result (left space.now (cells_of stored.now) (W.cells fed.now) self.old ≡ [])
             (λ leaf. left space.now (cells_of stored.now) (W.cells fed.now) self.old
             ≡ (leaf.cell, leaf.weight) ∷ left space.now (cells_of stored.now) (W.cells fed.now) self.new) }
         ensures weight { IfSome result (λ leaf. leaf.weight ≡ weight space.now self.old.cell leaf.cell) }
         ensures stored { IfSome result (λ leaf. leaf.stored ≡ stored_in stored.now leaf.cell) }
         ensures leaf { IfSome result (λ leaf. IsCell space.now leaf.cell) }
-        ensures size { IfSome result (λ leaf. unsigned_abs leaf.weight ≤ max_weight_product) }
+        ensures size { IfSome result (λ leaf. unsigned_abs leaf.weight ≤ most_weight_product) }
         ensures ended { IfNone result (self.new ≡ self.old) }
         ensures cell { self.new.cell ≡ self.old.cell }
         ensures total { self.new.total ≡ self.old.total }
@@ -88,7 +88,7 @@ impl Walk {
 
     /// Adds the value of a leaf cell of this weight.
     pub fn add(&mut self, weight: i64, value: Value)
-        requires size { unsigned_abs weight ≤ max_weight_product }
+        requires size { unsigned_abs weight ≤ most_weight_product }
         requires room { self.old.total.terms < 2 ^ 32 }
         ensures total { self.new.total ≡ with_term self.old.total weight value }
         ensures cell { self.new.cell ≡ self.old.cell }
@@ -107,7 +107,7 @@ impl Walk {
     ) -> Option<u64>
         requires weights { AreWeightsOf space.now.dimensions weights.now }
         requires cell { IsCell space.now self.old.cell }
-        requires product { weight_product space.now (cube_of space.now self.old.cell) ≤ max_weight_product }
+        requires product { weight_product space.now (cube_of space.now self.old.cell) ≤ most_weight_product }
         ensures left { MatchOption result (left space.now (cells_of stored.now) (W.cells fed.now) self.old ≡ [])
             (λ cell. left space.now (cells_of stored.now) (W.cells fed.now) self.old
             ≡ (cell, weight space.now self.old.cell cell)
@@ -127,7 +127,7 @@ impl Walk {
     pub fn give(&mut self, cell: u64, value: Value, space: &Space, weights: &[Weights])
         requires weights { AreWeightsOf space.now.dimensions weights.now }
         requires cell { IsCell space.now self.old.cell }
-        requires product { weight_product space.now (cube_of space.now self.old.cell) ≤ max_weight_product }
+        requires product { weight_product space.now (cube_of space.now self.old.cell) ≤ most_weight_product }
         requires given { IsCell space.now cell }
         requires room { self.old.total.terms < 2 ^ 32 }
         ensures total { self.new.total ≡ with_term self.old.total (weight space.now self.old.cell cell) value }
@@ -158,7 +158,7 @@ fn next_leaf<W: CellSet>(
 ) -> Option<Leaf>
     requires weights { AreWeightsOf space.now.dimensions weights.now }
     requires cell { IsCell space.now cell }
-    requires product { weight_product space.now (cube_of space.now cell) ≤ max_weight_product }
+    requires product { weight_product space.now (cube_of space.now cell) ≤ most_weight_product }
     ensures left { MatchOption result (live_from space.now (cells_of stored.now) (W.cells fed.now) cell from ≡ [])
         (λ leaf. live_from space.now (cells_of stored.now) (W.cells fed.now) cell from
         ≡ (leaf.cell, leaf.weight)
@@ -167,7 +167,7 @@ fn next_leaf<W: CellSet>(
     ensures stored { IfSome result (λ leaf. leaf.stored ≡ stored_in stored.now leaf.cell) }
     ensures leaf { IfSome result (λ leaf. IsCell space.now leaf.cell) }
     ensures few { IfSome result (λ leaf. leaf.cell < most_model_cells) }
-    ensures size { IfSome result (λ leaf. unsigned_abs leaf.weight ≤ max_weight_product) }
+    ensures size { IfSome result (λ leaf. unsigned_abs leaf.weight ≤ most_weight_product) }
 {
     let _cells = space.size();
     let mut from = from;

@@ -103,7 +103,7 @@ pub fn answer_to(alloc: Global, kind: &str, text: &[u8]) -> Result<Answer, Alloc
                 before
                     .parse::<u32>()
                     .unwrap_or(0)
-                    .min(user_text::MOST_COMMANDS),
+                    .min(user_text::MAX_COMMANDS),
             ),
             None => refused(alloc, &"no kind of text"),
         },

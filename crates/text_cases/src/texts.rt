@@ -1,6 +1,6 @@
 use crate::answers::{Answer, Lines, refused};
 use model_text::ModelText;
-use rule_parse::RuleText;
+use rule_tree::RuleText;
 use std::alloc::{AllocError, Global};
 
 /// A model, printed.
@@ -19,10 +19,10 @@ fn printed(alloc: Global, model: &ModelText) -> Result<Answer, AllocError> {
 
 /// Rules, printed.
 pub fn rules(alloc: Global, text: &[u8]) -> Result<Answer, AllocError> {
-    match rule_parse::parse(alloc, text) {
+    match rule_reader::parse(alloc, text) {
         Ok(rules) => {
             let mut out = Vec::new(alloc);
-            rule_parse::print(alloc, &rules, &mut out)?;
+            rule_printer::print(alloc, &rules, &mut out)?;
             Ok(Answer::Printed(out))
         }
         Err(fault) => refused(alloc, &fault),
@@ -31,7 +31,7 @@ pub fn rules(alloc: Global, text: &[u8]) -> Result<Answer, AllocError> {
 
 /// The formulas of rules as they are kept, a statement a line.
 pub fn trees(alloc: Global, text: &[u8]) -> Result<Answer, AllocError> {
-    match rule_parse::parse(alloc, text) {
+    match rule_reader::parse(alloc, text) {
         Ok(rules) => trees_of(alloc, &rules),
         Err(fault) => refused(alloc, &fault),
     }

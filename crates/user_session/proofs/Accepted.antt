@@ -9,7 +9,7 @@ use Rattle.cell_writes.specs.Writes.{last_writes}
 use Rattle.cube_space.specs.Cells.{IsCell, is_leaf_cell}
 use Rattle.feed_map.specs.FedCells.{most_fed}
 use Rattle.load_cells.specs.Loads.{store_of}
-use Rattle.load_job.specs.declared.job.Job.{Job}
+use Rattle.user_text.specs.declared.load_job.LoadJob.{LoadJob}
 use Rattle.history.specs.declared.effect.Effect.TheVariants.{Commit}
 use Rattle.rule_model.specs.BoundModel.{BoundModel}
 use Rattle.rule_model.specs.Governing.{is_input}
@@ -29,7 +29,7 @@ use Rattle.view_query.specs.declared.fault.ViewFault.{ViewFault}
 use Rattle.view_query.specs.declared.shape.View as views
 use Rattle.user_session.proofs.Kept.{write-kept}
 use Rattle.user_session.proofs.Within.{AreWithin, last-within, named-cell}
-use Rattle.user_session.specs.declared.reply.Reason.TheVariants.{NotALeaf, RuleDerived, StoreLimit, FedLimit}
+use Rattle.user_session.specs.declared.reply.CommandReason.TheVariants.{NotALeaf, RuleDerived, StoreLimit, FedLimit}
 use Rattle.std.proofs.lemmas.Bool.{ltb-false as at_most}
 
 -- ---- an accepted PUT
@@ -72,7 +72,7 @@ ended-within content Done written writes reply within is =
     subst (AreWithin content) same (last-within content written within)
 ended-within content (Stopped section row statement reason) written writes reply within is = absurd (cc)
 
-load-within : (content : Content) → AreWithin content [] → (job : Job) (script : Script) (writes : List (ℕ × ℤ)) (reply : List ℕ) → load_effect content job script ≡ Commit writes reply
+load-within : (content : Content) → AreWithin content [] → (job : LoadJob) (script : Script) (writes : List (ℕ × ℤ)) (reply : List ℕ) → load_effect content job script ≡ Commit writes reply
     → AreWithin content writes
 load-within content begins job script writes reply is =
     let store = store_of content.model content.stored in

@@ -17,8 +17,8 @@ use Rattle.rule_model.specs.BoundModel.{BoundModel}
 use Rattle.rule_model.specs.Governing.{is_input}
 use Rattle.rule_model.specs.Named.{cell_named}
 use Rattle.script_values.specs.Cells.{unless, with_cell, with_number, with_value, writing}
-use Rattle.script_values.specs.declared.reason.Reason.{Reason}
-use Rattle.script_values.specs.declared.reason.Reason.TheVariants.{NotALeaf, RuleDerived, StoreLimit, FedLimit}
+use Rattle.script_values.specs.declared.load_reason.LoadReason.{LoadReason}
+use Rattle.script_values.specs.declared.load_reason.LoadReason.TheVariants.{NotALeaf, RuleDerived, StoreLimit, FedLimit}
 use Rattle.user_session.specs.declared.content.Content.{Content}
 use Rattle.user_session.proofs.Within.{AreWithin, named-cell}
 use Rattle.std.proofs.lemmas.Bool.{ltb-false as at_most}
@@ -52,10 +52,10 @@ none-passed model stored is = by (nat_lt most_cells (length stored)) refl (nat_l
     by false few false fed is = (at_most most_cells (length stored) few, at_most most_fed (fed_count model stored) fed)
 
 module _ (content : Content) (before after : List (ℕ × ℤ)) (within : AreWithin content before) where
-  abbrev Leads : Result (List (ℕ × ℤ)) Reason → Type 0
+  abbrev Leads : Result (List (ℕ × ℤ)) LoadReason → Type 0
   Leads written = written ≡ Ok after → AreWithin content after
 
-  with_limits : (c : ℕ) (n : ℤ) → IsCell content.model.space c → is_leaf_cell content.model.space c ≡ true → (limit : Option Reason)
+  with_limits : (c : ℕ) (n : ℤ) → IsCell content.model.space c → is_leaf_cell content.model.space c ≡ true → (limit : Option LoadReason)
       → passed content.model (after_writes content.stored (before ++ (c, n) ∷ [])) ≡ limit → Leads (unless limit (before ++ (c, n) ∷ []))
   with_limits c n cell leaf None is leads =
       let few = none-passed content.model (after_writes content.stored (before ++ (c, n) ∷ [])) is in
@@ -71,7 +71,7 @@ module _ (content : Content) (before after : List (ℕ × ℤ)) (within : AreWit
   number_kept c (Num n) cell leaf leads = with_limits c n cell leaf (passed content.model (after_writes content.stored (before ++ (c, n) ∷ []))) refl leads
   number_kept c Over cell leaf leads = absurd (cc)
 
-  value_kept : (c : ℕ) (value : Value) → IsCell content.model.space c → (reason : Option Reason) → closed content.model c ≡ reason
+  value_kept : (c : ℕ) (value : Value) → IsCell content.model.space c → (reason : Option LoadReason) → closed content.model c ≡ reason
       → Leads (with_value (store_of content.model content.stored) before c value reason)
   value_kept c value cell None is leads = number_kept c value cell (open-leaf content.model c is) leads
   value_kept c value cell (Some reason) is leads = absurd (cc)

@@ -10,7 +10,7 @@ use Rattle.script_run.specs.Meaning.{Outcome}
 use Rattle.script_run.specs.declared.ran.Ran.{Ran}
 use Rattle.script_run.specs.declared.ran.Ran.TheVariants.{Done, Rejected}
 use Rattle.script_tree.specs.declared.script.Section.{Section}
-use Rattle.script_values.specs.declared.reason.Reason as scripts
+use Rattle.script_values.specs.declared.load_reason.LoadReason as scripts
 use Rattle.user_text.specs.declared.command.ParamText.{ParamText}
 use Rattle.user_session.specs.Planning.{committed, ended_effect, PlanEffect}
 use Rattle.user_session.specs.Replies.{stopped_text}
@@ -21,7 +21,7 @@ done-effect run outcome ran same is done =
     let ended : ran_of run ≡ Done = sym is ∙ done in
     subst (λ (o : Outcome). ended_effect (ran_of o) (writes_of o) ≡ committed (last_writes (writes_of run))) same (rw ended refl)
 
-pub stopped-effect : (run outcome : Outcome) (ran : Ran) (section : Section) (row statement : ℕ) (reason : scripts.Reason) → run ≡ outcome → ran ≡ ran_of run → ran ≡ Rejected section row statement reason
+pub stopped-effect : (run outcome : Outcome) (ran : Ran) (section : Section) (row statement : ℕ) (reason : scripts.LoadReason) → run ≡ outcome → ran ≡ ran_of run → ran ≡ Rejected section row statement reason
     → ended_effect (ran_of outcome) (writes_of outcome) ≡ effects.Rejected (stopped_text section row statement reason)
 stopped-effect run outcome ran section row statement reason same is stopped =
     let ended : ran_of run ≡ Rejected section row statement reason = sym is ∙ stopped in

@@ -10,7 +10,7 @@ use Rattle.cell_versions.specs.declared.fault.NextFault.TheVariants as faults
 use Rattle.feed_map.specs.FedCells.{most_fed}
 use Rattle.rule_model.specs.BoundModel.{BoundModel}
 use Rattle.user_session.specs.Planning.{committed, rejected, within_limits}
-use Rattle.user_session.specs.declared.reply.Reason.TheVariants.{StoreLimit, FedLimit}
+use Rattle.user_session.specs.declared.reply.CommandReason.TheVariants.{StoreLimit, FedLimit}
 
 no_fault : {T : Type 0} (answer : Result T NextFault) (ok : T) (fault : NextFault) → answer ≡ Ok ok → answer ≡ Err fault → ⊥
 no_fault answer ok fault is was = absurd (let clash = sym is ∙ was in cc)

@@ -14,7 +14,7 @@ use Rattle.feed_map.specs.FedCells.{most_fed}
 use Rattle.history.specs.declared.effect.Effect.{Effect}
 use Rattle.history.specs.declared.effect.Effect.TheVariants as effects
 use Rattle.load_cells.specs.Loads.{store_of}
-use Rattle.load_job.specs.declared.job.Job.{Job}
+use Rattle.user_text.specs.declared.load_job.LoadJob.{LoadJob}
 use Rattle.rule_laws.specs.RuleSystem.{dense_value}
 use Rattle.rule_model.specs.BoundModel.{BoundModel}
 use Rattle.rule_model.specs.Governing.{is_input}
@@ -25,14 +25,14 @@ use Rattle.script_run.specs.Load.{load, ran_of, writes_of}
 use Rattle.script_run.specs.declared.ran.Ran.{Ran}
 use Rattle.script_run.specs.declared.ran.Ran.TheVariants.{Done, Rejected as Stopped}
 use Rattle.script_tree.specs.declared.script.Script.{Script}
-use Rattle.stored_values.specs.Stored.{stored_in}
+use Rattle.stored_laws.specs.Stored.{stored_in}
 use Rattle.user_session.specs.declared.content.Content.{Content}
 use Rattle.user_session.specs.Replies.{fault_text, reply_text, stopped_text}
 use Rattle.user_session.specs.declared.command.PlanCommand.{PlanCommand}
 use Rattle.user_session.specs.declared.command.PlanCommand.TheVariants.{Put, Get, Load, View}
-use Rattle.user_session.specs.declared.reply.Reason.{Reason}
-use Rattle.user_session.specs.declared.reply.Reason.TheVariants.{UnknownName, NotALeaf, RuleDerived}
-use Rattle.user_session.specs.declared.reply.Reason.TheVariants.{StoreLimit, FedLimit}
+use Rattle.user_session.specs.declared.reply.CommandReason.{CommandReason}
+use Rattle.user_session.specs.declared.reply.CommandReason.TheVariants.{UnknownName, NotALeaf, RuleDerived}
+use Rattle.user_session.specs.declared.reply.CommandReason.TheVariants.{StoreLimit, FedLimit}
 use Rattle.user_session.specs.declared.reply.Reply.TheVariants.{Committed, Rejected, Found, Refused}
 use Rattle.user_text.specs.declared.command.CellText.{CellText}
 use Rattle.user_text.specs.declared.command.ViewText.{ViewText}
@@ -57,7 +57,7 @@ cell_value content cell = if nat_lt cell (size_of content.model.space) then valu
 abbrev pub PlanEffect : Type 0
 PlanEffect = Effect (List (ℕ × ℤ)) (List ℕ)
 
-abbrev pub rejected : Reason → PlanEffect
+abbrev pub rejected : CommandReason → PlanEffect
 rejected reason = effects.Rejected (reply_text (Rejected reason))
 
 abbrev pub committed : List (ℕ × ℤ) → PlanEffect
@@ -95,7 +95,7 @@ ended_effect (Stopped section row statement reason) writes =
     effects.Rejected (stopped_text section row statement reason)
 
 -- a load of a script over records, from no writes
-abbrev pub load_effect : Content → Job → Script → PlanEffect
+abbrev pub load_effect : Content → LoadJob → Script → PlanEffect
 load_effect content job script =
     let outcome = load (bound_of script) job.params job.rows (store_of content.model content.stored) [] in
     ended_effect (ran_of outcome) (writes_of outcome)

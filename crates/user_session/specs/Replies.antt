@@ -3,18 +3,18 @@ use Rattle.std.specs.Prelude.{ℕ, List, [], ◌++◌, codes, decimal}
 use Rattle.cube_fixed.specs.Text.{printed}
 use Rattle.script_tree.specs.declared.script.Section.{Section}
 use Rattle.script_tree.specs.declared.script.Section.TheVariants as sections
-use Rattle.script_values.specs.declared.reason.Reason as scripts
-use Rattle.script_values.specs.declared.reason.Reason.TheVariants as stops
-use Rattle.user_session.specs.declared.reply.Reason.{Reason}
-use Rattle.user_session.specs.declared.reply.Reason.TheVariants.{UnknownName, NotALeaf, RuleDerived}
-use Rattle.user_session.specs.declared.reply.Reason.TheVariants.{StoreLimit, FedLimit}
+use Rattle.script_values.specs.declared.load_reason.LoadReason as scripts
+use Rattle.script_values.specs.declared.load_reason.LoadReason.TheVariants as stops
+use Rattle.user_session.specs.declared.reply.CommandReason.{CommandReason}
+use Rattle.user_session.specs.declared.reply.CommandReason.TheVariants.{UnknownName, NotALeaf, RuleDerived}
+use Rattle.user_session.specs.declared.reply.CommandReason.TheVariants.{StoreLimit, FedLimit}
 use Rattle.user_session.specs.declared.reply.Reply.{Reply}
 use Rattle.user_session.specs.declared.reply.Reply.TheVariants.{Committed, Rejected, Found, Refused}
 use Rattle.view_query.specs.declared.fault.ViewFault.{ViewFault}
 use Rattle.view_query.specs.declared.fault.ViewFault.TheVariants as faults
 
 -- the name of a reason
-abbrev pub reason_text : Reason → List ℕ
+abbrev pub reason_text : CommandReason → List ℕ
 reason_text UnknownName = codes "UnknownName"
 reason_text NotALeaf = codes "NotALeaf"
 reason_text RuleDerived = codes "RuleDerived"
@@ -42,7 +42,7 @@ section_text sections.Body = codes "Data"
 section_text sections.Epilog = codes "Epilog"
 
 -- the name of why a load is stopped
-abbrev pub cause_text : scripts.Reason → List ℕ
+abbrev pub cause_text : scripts.LoadReason → List ℕ
 cause_text stops.UnknownName = codes "UnknownName"
 cause_text stops.NotALeaf = codes "NotALeaf"
 cause_text stops.RuleDerived = codes "RuleDerived"
@@ -56,7 +56,7 @@ cause_text stops.UnsetVariable = codes "UnsetVariable"
 cause_text stops.TypeMismatch = codes "TypeMismatch"
 
 -- `rejected SECTION record R statement S REASON`
-abbrev pub stopped_text : Section → ℕ → ℕ → scripts.Reason → List ℕ
+abbrev pub stopped_text : Section → ℕ → ℕ → scripts.LoadReason → List ℕ
 stopped_text section row statement reason =
     codes "rejected " ++ section_text section ++ codes " record " ++ decimal row
     ++ codes " statement " ++ decimal statement ++ codes " " ++ cause_text reason

@@ -1,9 +1,8 @@
 use cube_fixed::Money;
-use load_job::Job;
 use script_tree::Script;
 use std::alloc::Global;
 use std::sync::Arc;
-use user_text::{CellText, ViewText};
+use user_text::{CellText, LoadJob, ViewText};
 
 /// A command that is run on a version of the numbers.
 #[derive(Drop)]
@@ -13,7 +12,7 @@ pub enum PlanCommand {
     /// Asks for the value of a cell.
     Get(CellText),
     /// Runs a script over records, and stores what it writes: all of it or nothing.
-    Load(Job, Arc<Script, Global>),
+    Load(LoadJob, Arc<Script, Global>),
     /// Asks for a table of cells.
     View(ViewText),
 }

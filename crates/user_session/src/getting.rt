@@ -4,7 +4,7 @@ ghost use Rattle.user_session.specs.Planning.{get_effect, named_cell};
 ghost use Rattle.user_session.specs.Replies.{reply_text};
 ghost use Rattle.history.specs.declared.effect.Effect.TheVariants.{Read};
 
-use crate::reply::{Reason, Reply};
+use crate::reply::{CommandReason, Reply};
 use crate::world::PlanEffect;
 use cell_reader::Snapshot;
 use history::Effect;
@@ -27,7 +27,7 @@ pub(crate) fn get(
             let value = state.value_at(alloc, cell)?;
             read(alloc, Reply::Found(value))
         }
-        None => read(alloc, Reply::Refused(Reason::UnknownName)),
+        None => read(alloc, Reply::Refused(CommandReason::UnknownName)),
     }
 }
 

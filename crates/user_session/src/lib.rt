@@ -17,5 +17,5 @@ mod world;
 
 pub use command::PlanCommand;
 pub use content::Content;
-pub use reply::{Reason, Reply, ReplyText};
+pub use reply::{CommandReason, Reply, ReplyText};
 pub use world::{CellWrites, PlanWorld};

@@ -9,17 +9,17 @@ use cell_reader::{Snapshot, Work};
 use history::Effect;
 use lists::ListOf;
 use load_cells::LoadCells;
-use load_job::Job;
 use script_run::{Ran, run};
 use script_tree::{Script, Section};
-use script_values::Reason;
+use script_values::LoadReason;
 use std::alloc::{AllocError, Global};
+use user_text::LoadJob;
 
 /// The effect of a LOAD: for each cell that it writes the last number, or why none of its writes is kept.
 pub(crate) fn load(
     alloc: Global,
     state: &mut Snapshot,
-    job: &Job,
+    job: &LoadJob,
     script: &Script,
 ) -> Result<PlanEffect, AllocError>
     ensures effect { IfOk result (λ found. found ≡ load_effect (content_of state.old) job.now script.now) }
@@ -56,7 +56,7 @@ fn stopped_text(
     section: Section,
     row: u32,
     statement: u32,
-    reason: Reason,
+    reason: LoadReason,
 ) -> Result<Vec<u8>, AllocError>
     ensures { IfOk result (λ text. text.items ≡ stopped_text section row statement reason) }
 {
@@ -76,20 +76,20 @@ fn section_name(section: Section) -> &'static str
     }
 }
 
-fn cause_name(reason: Reason) -> &'static str
+fn cause_name(reason: LoadReason) -> &'static str
     ensures { result.now ≡ cause_text reason }
 {
     match reason {
-        Reason::UnknownName => "UnknownName",
-        Reason::NotALeaf => "NotALeaf",
-        Reason::RuleDerived => "RuleDerived",
-        Reason::NotANumber => "NotANumber",
-        Reason::OverWrite => "OverWrite",
-        Reason::ProcessError => "ProcessError",
-        Reason::StepLimit => "StepLimit",
-        Reason::StoreLimit(_) => "StoreLimit",
-        Reason::FedLimit(_) => "FedLimit",
-        Reason::UnsetVariable => "UnsetVariable",
-        Reason::TypeMismatch => "TypeMismatch",
+        LoadReason::UnknownName => "UnknownName",
+        LoadReason::NotALeaf => "NotALeaf",
+        LoadReason::RuleDerived => "RuleDerived",
+        LoadReason::NotANumber => "NotANumber",
+        LoadReason::OverWrite => "OverWrite",
+        LoadReason::ProcessError => "ProcessError",
+        LoadReason::StepLimit => "StepLimit",
+        LoadReason::StoreLimit(_) => "StoreLimit",
+        LoadReason::FedLimit(_) => "FedLimit",
+        LoadReason::UnsetVariable => "UnsetVariable",
+        LoadReason::TypeMismatch => "TypeMismatch",
     }
 }

@@ -3,7 +3,7 @@ ghost use Rattle.cube_space.specs.Cells.{IsCell, is_leaf_cell};
 ghost use Rattle.user_session.specs.Content.{content_of};
 ghost use Rattle.user_session.specs.Planning.{committed, named_cell, put_effect, rejected, write_effect};
 
-use crate::reply::{Reason, Reply};
+use crate::reply::{CommandReason, Reply};
 use crate::world::PlanEffect;
 use cell_reader::{NextFault, Snapshot, Work};
 use cube_fixed::Money;
@@ -26,13 +26,13 @@ pub(crate) fn put(
 {
     let model = state.model();
     let Some(cell) = cell_of(model, &text.cube, text.elements.as_slice()) else {
-        return rejected(alloc, Reason::UnknownName);
+        return rejected(alloc, CommandReason::UnknownName);
     };
     if !model.space().is_leaf(cell) {
-        return rejected(alloc, Reason::NotALeaf);
+        return rejected(alloc, CommandReason::NotALeaf);
     }
     if !is_input(model, cell) {
-        return rejected(alloc, Reason::RuleDerived);
+        return rejected(alloc, CommandReason::RuleDerived);
     }
     write(alloc, state, cell, number)
 }
@@ -55,13 +55,13 @@ fn write(
             let writes = vec![in alloc; (cell, number)]?;
             committed(alloc, writes)
         }
-        Err(NextFault::StoreLimit(_)) => rejected(alloc, Reason::StoreLimit),
-        Err(NextFault::FedLimit(_)) => rejected(alloc, Reason::FedLimit),
+        Err(NextFault::StoreLimit(_)) => rejected(alloc, CommandReason::StoreLimit),
+        Err(NextFault::FedLimit(_)) => rejected(alloc, CommandReason::FedLimit),
         Err(NextFault::Memory) => Err(AllocError),
     }
 }
 
-fn rejected(alloc: Global, reason: Reason) -> Result<PlanEffect, AllocError>
+fn rejected(alloc: Global, reason: CommandReason) -> Result<PlanEffect, AllocError>
     ensures { IfOk result (λ found. found ≡ rejected reason) }
 {
     let reply = Reply::Rejected(reason).text(alloc)?;

@@ -10,7 +10,7 @@ pub type ReplyText = ListOf<u8>;
 
 /// Why a command has no effect. Where several reasons hold, the first is told.
 #[derive(Clone, Copy, Debug, PartialEq, Eq)]
-pub enum Reason {
+pub enum CommandReason {
     /// The cube or an element isn't there, or there are too many elements or too few.
     UnknownName,
     /// The cell is consolidated, so nothing is stored in it.
@@ -29,11 +29,11 @@ pub enum Reply {
     /// The command is accepted: so many cells were written.
     Committed(u64),
     /// A writing command isn't accepted. It wrote nothing.
-    Rejected(Reason),
+    Rejected(CommandReason),
     /// The value of a cell.
     Found(Value),
     /// A reading command has no answer.
-    Refused(Reason),
+    Refused(CommandReason),
 }
 
 impl Reply {
@@ -51,7 +51,7 @@ impl Reply {
     }
 }
 
-fn reason_text(alloc: Global, word: &[u8], reason: Reason) -> Result<Vec<u8>, AllocError>
+fn reason_text(alloc: Global, word: &[u8], reason: CommandReason) -> Result<Vec<u8>, AllocError>
     ensures { IfOk result (λ text. text.items ≡ word.now ++ reason_text reason) }
 {
     let mut text = Vec::from_slice(alloc, word)?;
@@ -59,15 +59,15 @@ fn reason_text(alloc: Global, word: &[u8], reason: Reason) -> Result<Vec<u8>, Al
     Ok(text)
 }
 
-fn reason_name(reason: Reason) -> &'static str
+fn reason_name(reason: CommandReason) -> &'static str
     ensures { result.now ≡ reason_text reason }
 {
     match reason {
-        Reason::UnknownName => "UnknownName",
-        Reason::NotALeaf => "NotALeaf",
-        Reason::RuleDerived => "RuleDerived",
-        Reason::StoreLimit => "StoreLimit",
-        Reason::FedLimit => "FedLimit",
+        CommandReason::UnknownName => "UnknownName",
+        CommandReason::NotALeaf => "NotALeaf",
+        CommandReason::RuleDerived => "RuleDerived",
+        CommandReason::StoreLimit => "StoreLimit",
+        CommandReason::FedLimit => "FedLimit",
     }
 }
 

@@ -4,3 +4,5 @@ pub mod LoadExact
 pub mod ViewExact
 pub mod UserExact
 pub mod Settled
+pub mod Columns
+pub mod RecordTurns

@@ -2,3 +2,4 @@ pub mod UserText
 pub mod Counting
 pub mod Answers
 pub mod Readers
+pub mod Rows

@@ -3,7 +3,7 @@ use cube_lex::Token;
 use grammar::{Scan, is_sign};
 
 /// How many commands all users together may have.
-pub const MOST_COMMANDS: u32 = 65_536;
+pub const MAX_COMMANDS: u32 = 65_536;
 
 /// How many commands have begun, and whether one still goes on to its `;`.
 #[derive(Clone, Copy)]
@@ -20,7 +20,7 @@ impl Scan<TooMany> for Counted {
     fn scan(&mut self, token: &Token<'_>) -> Result<(), TooMany> {
         if self.inside {
             self.inside = !is_sign(token, b";");
-        } else if self.commands < MOST_COMMANDS {
+        } else if self.commands < MAX_COMMANDS {
             self.commands += 1;
             self.inside = true;
         } else {

@@ -1,7 +1,7 @@
 //! A user's commands, read from their text: `PUT`, `GET`, `LOAD` and `VIEW`.
 //!
 //! Read in this order: [`parse`], which reads a whole text; [`UserCommand`], what it gives; [`UserFault`], why it
-//! refuses.
+//! refuses. [`rows`] reads the records of a load's file (`specs/Rows.antt`), and [`LoadJob`] is a load that is to run.
 #![tactic(auto)]
 
 mod cell;
@@ -9,11 +9,15 @@ mod command;
 mod counted;
 mod fault;
 mod load;
+mod load_job;
 mod params;
+mod records;
 mod text;
 mod view;
 
 pub use command::{CellText, LoadText, ParamText, SetText, UserBody, UserCommand, ViewText};
-pub use counted::MOST_COMMANDS;
+pub use counted::MAX_COMMANDS;
 pub use fault::UserFault;
+pub use load_job::LoadJob;
+pub use records::rows;
 pub use text::parse;

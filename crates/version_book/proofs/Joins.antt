@@ -7,9 +7,9 @@ use Rattle.std.proofs.lemmas.Bool.{cases_Bool, ltb-true, ltb-false}
 use Rattle.atomic_table.specs.Table.{State, Joins}
 use Rattle.atomic_table.proofs.Lists.{at_set, set_else}
 use Rattle.history.specs.declared.entry.Entry.{Entry}
-use Rattle.version_book.specs.declared.view.View.{View}
-use Rattle.version_book.specs.declared.view.Older.{Older}
-use Rattle.version_book.specs.declared.view.Stage.TheVariants.{Idle}
+use Rattle.version_book.specs.declared.pass_view.PassView.{PassView}
+use Rattle.version_book.specs.declared.pass_view.Older.{Older}
+use Rattle.version_book.specs.declared.pass_view.Stage.TheVariants.{Idle}
 use Rattle.version_book.specs.Lists.{GoesOn}
 use Rattle.version_book.specs.Inside.Rule.{has_turn, has_looked, LiveAt, Among, Fits, IsBook, nobody}
 use Rattle.version_book.specs.Inside.Plays.{together}
@@ -22,7 +22,7 @@ next_of_one (Some m) other n is = inl is
 
 module _ {L C T : Type 0} (log_of : L → List (Entry T)) (opens : L → C) (key : C) where
   abbrev St : Type 0
-  St = State (Option L) (View C T)
+  St = State (Option L) (PassView C T)
 
   abbrev Ok : St → Type 0
   Ok = IsBook log_of opens key
@@ -38,7 +38,7 @@ module _ {L C T : Type 0} (log_of : L → List (Entry T)) (opens : L → C) (key
       (λ a. ⊎_elim (λ c. absurd (c.0 a.0)) (λ c. sym a.1 ∙ c.1) to_k)
       to_j
 
-  fits_both : (log : List (Entry T)) (v w : View C T) → Fits log v → Fits log w → v.stage ≡ Idle → Fits log (together v w)
+  fits_both : (log : List (Entry T)) (v w : PassView C T) → Fits log v → Fits log w → v.stage ≡ Idle → Fits log (together v w)
   fits_both log v w one two idle =
       record {
         seen = ⊎_elim
@@ -68,7 +68,7 @@ module _ {L C T : Type 0} (log_of : L → List (Entry T)) (opens : L → C) (key
       among (suc zero) o is = let same : record { seen = w.seen; numbers = numbers w } ≡ o = cc in subst (λ (x : Older T). Among x.numbers (numbers v ++ numbers w)) same (has-right (numbers v) (numbers w))
       among (suc (suc k)) o is = cc
 
-  pub join_allowed : (id : ℕ) (v : View C T) (other : ℕ) (w : View C T) → v.opening ≡ Some key → w.opening ≡ Some key → v.stage ≡ Idle → w.stage ≡ Idle
+  pub join_allowed : (id : ℕ) (v : PassView C T) (other : ℕ) (w : PassView C T) → v.opening ≡ Some key → w.opening ≡ Some key → v.stage ≡ Idle → w.stage ≡ Idle
       → Joins Ok id v other w (together v w) nobody
   join_allowed id v other w opening_v opening_w idle_v idle_w s b at_v apart_ids at =
       record {
@@ -82,7 +82,7 @@ module _ {L C T : Type 0} (log_of : L → List (Entry T)) (opens : L → C) (key
         there = there;
         alone = λ i u is turn.
             ⊎_elim
-            (λ here. let never : false ≡ true = sym (ap has_turn idle_v) ∙ (ap (λ (x : View C T). has_turn x.stage) here.1 ∙ turn) in cc)
+            (λ here. let never : false ≡ true = sym (ap has_turn idle_v) ∙ (ap (λ (x : PassView C T). has_turn x.stage) here.1 ∙ turn) in cc)
             (λ else. b.alone i u else.2 turn)
             (was i u is);
         fits = λ i u is.
@@ -106,7 +106,7 @@ module _ {L C T : Type 0} (log_of : L → List (Entry T)) (opens : L → C) (key
             record { entries = old.entries; passes = λ j y m at_j has_y. let c = of_number j y m at_j has_y in old.passes c.0 c.1 m c.2 c.3 };
       }
     where
-      views : List (View C T)
+      views : List (PassView C T)
       views = set (set s.views id (together v w)) other nobody
 
       live_v : LiveAt key s.views id v
@@ -115,10 +115,10 @@ module _ {L C T : Type 0} (log_of : L → List (Entry T)) (opens : L → C) (key
       live_w : LiveAt key s.views other w
       live_w = ⊎_elim (λ same. absurd (apart_ids same.0)) (λ old. (old.1, opening_w)) (at_set s.views id other (together v w) w at)
 
-      was : (i : ℕ) (u : View C T) → LiveAt key views i u → ((i ≡ id) × (together v w ≡ u)) ⊎ ((i ≢ id) × (i ≢ other) × LiveAt key s.views i u)
+      was : (i : ℕ) (u : PassView C T) → LiveAt key views i u → ((i ≡ id) × (together v w ≡ u)) ⊎ ((i ≢ id) × (i ≢ other) × LiveAt key s.views i u)
       was i u is =
           ⊎_elim
-          (λ spent. let never : None ≡ Some key = ap (λ (x : View C T). x.opening) spent.1 ∙ is.1 in cc)
+          (λ spent. let never : None ≡ Some key = ap (λ (x : PassView C T). x.opening) spent.1 ∙ is.1 in cc)
           (λ left. ⊎_elim (λ here. inl here) (λ else. inr (else.0, left.0, (else.1, is.1))) (at_set s.views id i (together v w) u left.1))
           (at_set (set s.views id (together v w)) other i nobody u is.0)
 
@@ -126,37 +126,37 @@ module _ {L C T : Type 0} (log_of : L → List (Entry T)) (opens : L → C) (key
       away same = apart_ids (sym same)
 
       -- who had the number before
-      of_number : (i : ℕ) (u : View C T) (m : ℕ) → LiveAt key views i u → has (numbers u) m ≡ true
-          → (j : ℕ) × (x : View C T) × LiveAt key s.views j x × (has (numbers x) m ≡ true) × MovesTo id other j i
+      of_number : (i : ℕ) (u : PassView C T) (m : ℕ) → LiveAt key views i u → has (numbers u) m ≡ true
+          → (j : ℕ) × (x : PassView C T) × LiveAt key s.views j x × (has (numbers x) m ≡ true) × MovesTo id other j i
       of_number i u m is has_m =
           ⊎_elim
           (λ here. ⊎_elim
           (λ of_v. (id, v, live_v, of_v, inl (away, sym here.0)))
           (λ of_w. (other, w, live_w, of_w, inr (refl, sym here.0)))
-          (has-append (numbers v) (numbers w) m (subst (λ (x : View C T). has (numbers x) m ≡ true) (sym here.1) has_m)))
+          (has-append (numbers v) (numbers w) m (subst (λ (x : PassView C T). has (numbers x) m ≡ true) (sym here.1) has_m)))
           (λ else. (i, u, else.2, has_m, inl (else.1, refl)))
           (was i u is)
 
-      of_next : (i : ℕ) (u : View C T) (n : ℕ) → LiveAt key views i u → u.next ≡ Some n
-          → (j : ℕ) × (x : View C T) × LiveAt key s.views j x × (x.next ≡ Some n) × MovesTo id other j i
+      of_next : (i : ℕ) (u : PassView C T) (n : ℕ) → LiveAt key views i u → u.next ≡ Some n
+          → (j : ℕ) × (x : PassView C T) × LiveAt key s.views j x × (x.next ≡ Some n) × MovesTo id other j i
       of_next i u n is next_u =
           ⊎_elim
           (λ here. ⊎_elim
           (λ of_v. (id, v, live_v, of_v, inl (away, sym here.0)))
           (λ of_w. (other, w, live_w, of_w, inr (refl, sym here.0)))
-          (next_of_one v.next w.next n (ap (λ (x : View C T). x.next) here.1 ∙ next_u)))
+          (next_of_one v.next w.next n (ap (λ (x : PassView C T). x.next) here.1 ∙ next_u)))
           (λ else. (i, u, else.2, next_u, inl (else.1, refl)))
           (was i u is)
 
       -- neither of the two has the turn
-      not_idle : (k : ℕ) (x : View C T) → get_elem? s.views k ≡ maybe.some x → x.stage ≡ Idle → has_turn b.stage ≡ true → b.holder ≢ k
+      not_idle : (k : ℕ) (x : PassView C T) → get_elem? s.views k ≡ maybe.some x → x.stage ≡ Idle → has_turn b.stage ≡ true → b.holder ≢ k
       not_idle k x is idle turn same =
           let held = b.there turn in
           let this : held.0 ≡ x = maybe.some-injective held.0 x (sym held.1.0 ∙ (ap (get_elem? s.views) same ∙ is)) in
-          let never : true ≡ false = sym turn ∙ (ap has_turn (sym held.2) ∙ (ap (λ (y : View C T). has_turn y.stage) this ∙ ap has_turn idle)) in
+          let never : true ≡ false = sym turn ∙ (ap has_turn (sym held.2) ∙ (ap (λ (y : PassView C T). has_turn y.stage) this ∙ ap has_turn idle)) in
           cc
 
-      there : has_turn b.stage ≡ true → (u : View C T) × LiveAt key views b.holder u × (u.stage ≡ b.stage)
+      there : has_turn b.stage ≡ true → (u : PassView C T) × LiveAt key views b.holder u × (u.stage ≡ b.stage)
       there turn =
           let held = b.there turn in
           let first = not_idle id v at_v idle_v turn in

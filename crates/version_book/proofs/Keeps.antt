@@ -10,13 +10,13 @@ use Rattle.atomic_table.specs.Table.{State, keeps, takes, gives, put_back, stepp
 use Rattle.atomic_table.proofs.Lists.{at_set, set_again, exchanged}
 use Rattle.history.specs.declared.entry.Entry.{Entry}
 use Rattle.history.proofs.Lists.{get_split}
-use Rattle.version_book.specs.declared.view.View.{View}
-use Rattle.version_book.specs.declared.view.Older.{Older}
-use Rattle.version_book.specs.declared.view.Stage.{Stage}
-use Rattle.version_book.specs.declared.view.Stage.TheVariants.{Idle, Turn, Looked, Away}
+use Rattle.version_book.specs.declared.pass_view.PassView.{PassView}
+use Rattle.version_book.specs.declared.pass_view.Older.{Older}
+use Rattle.version_book.specs.declared.pass_view.Stage.{Stage}
+use Rattle.version_book.specs.declared.pass_view.Stage.TheVariants.{Idle, Turn, Looked, Away}
 use Rattle.version_book.specs.Lists.{GoesOn}
 use Rattle.version_book.specs.Inside.Rule.{has_turn, has_looked, turn_word, home, LiveAt, Among, Fits, IsNext, Keeps, IsBook}
-use Rattle.version_book.specs.Inside.Plays.{Place, staged, saw, grown, turns, looks, takes_ledger, log_held, counts, puts, frees}
+use Rattle.version_book.specs.Inside.Plays.{PassSeat, staged, saw, grown, turns, looks, takes_ledger, log_held, counts, puts, frees}
 use Rattle.version_book.proofs.Lists.{has-first, same-goes, goes-more}
 use Rattle.version_book.specs.Numbers.{has, numbers}
 
@@ -49,43 +49,43 @@ set_at (x ∷ xs) (suc i) a b is = set_at xs i a b is
 
 module _ {C T : Type 0} where
   -- the same pass: its numbers, its opening and its next number stay
-  pub record Same (v w : View C T) : Type 0 where
+  pub record Same (v w : PassView C T) : Type 0 where
     pub number : w.number ≡ v.number
     pub joined : w.joined ≡ v.joined
     pub opening : w.opening ≡ v.opening
     pub next : w.next ≡ v.next
 
-  same_numbers : (v w : View C T) → Same v w → numbers w ≡ numbers v
+  same_numbers : (v w : PassView C T) → Same v w → numbers w ≡ numbers v
   same_numbers v w same = ap (λ n. n ∷ w.joined) same.number ∙ ap (λ ns. v.number ∷ ns) same.joined
 
   -- what the rule says of numbers it says of the pass before the step
-  pub record WasAt (key : C) (views : List (View C T)) (id : ℕ) (w : View C T) : Type 0 where
-    pub before : View C T
+  pub record WasAt (key : C) (views : List (PassView C T)) (id : ℕ) (w : PassView C T) : Type 0 where
+    pub before : PassView C T
     pub live : LiveAt key views id before
     pub numbers_same : numbers w ≡ numbers before
     pub next_same : w.next ≡ before.next
 
-  pub live_set : (key : C) (views : List (View C T)) (id other : ℕ) (w u : View C T) → LiveAt key (set views id w) other u
+  pub live_set : (key : C) (views : List (PassView C T)) (id other : ℕ) (w u : PassView C T) → LiveAt key (set views id w) other u
       → ((other ≡ id) × (w ≡ u)) ⊎ ((other ≢ id) × LiveAt key views other u)
   live_set key views id other w u live =
       ⊎_elim (λ here. inl here) (λ there. inr (there.0, (there.1, live.1))) (at_set views id other w u live.0)
 
-  was_at : (key : C) (views : List (View C T)) (id : ℕ) (v w : View C T) → LiveAt key views id v → Same v w
-      → (other : ℕ) (u : View C T) → LiveAt key (set views id w) other u → WasAt key views other u
+  was_at : (key : C) (views : List (PassView C T)) (id : ℕ) (v w : PassView C T) → LiveAt key views id v → Same v w
+      → (other : ℕ) (u : PassView C T) → LiveAt key (set views id w) other u → WasAt key views other u
   was_at key views id v w live same other u at =
       ⊎_elim
       (λ here. record {
         before = v;
         live = subst (λ (k : ℕ). LiveAt key views k v) (sym here.0) live;
         numbers_same = ap numbers (sym here.1) ∙ same_numbers v w same;
-        next_same = ap (λ (x : View C T). x.next) (sym here.1) ∙ same.next;
+        next_same = ap (λ (x : PassView C T). x.next) (sym here.1) ∙ same.next;
       })
       (λ there. record { before = u; live = there.1; numbers_same = refl; next_same = refl })
       (live_set key views id other w u at)
 
 module _ {C T : Type 0} where
   -- a pass that has no turn fits the history after an entry of another one
-  fits_more : (log added : List (Entry T)) (u : View C T) (number : ℕ) → Fits log u → has_turn u.stage ≡ false
+  fits_more : (log added : List (Entry T)) (u : PassView C T) (number : ℕ) → Fits log u → has_turn u.stage ≡ false
       → ((p : ℕ) (entry : Entry T) → slice_get added p ≡ Some entry → entry.user ≡ number)
       → (has (numbers u) number ≡ true → has (numbers u) number ≡ false) → Fits (log ++ added) u
   fits_more log added u number fits idle own other =
@@ -104,21 +104,21 @@ module _ {C T : Type 0} where
 
 module _ {L C T : Type 0} (log_of : L → List (Entry T)) (opens : L → C) (key : C) where
   abbrev St : Type 0
-  St = State (Option L) (View C T)
+  St = State (Option L) (PassView C T)
 
   abbrev Ok : St → Type 0
   Ok = IsBook log_of opens key
 
   -- no other pass has the turn, once this one has it, or nobody
   abbrev OthersIdle : (s : St) → Ok s → ℕ → Type 0
-  OthersIdle s b id = (other : ℕ) (u : View C T) → LiveAt key s.views other u → other ≢ id → has_turn u.stage ≡ false
+  OthersIdle s b id = (other : ℕ) (u : PassView C T) → LiveAt key s.views other u → other ≢ id → has_turn u.stage ≡ false
 
-  mine_idle : (s : St) (b : Ok s) (id : ℕ) (v : View C T) → LiveAt key s.views id v → has_turn v.stage ≡ true → OthersIdle s b id
+  mine_idle : (s : St) (b : Ok s) (id : ℕ) (v : PassView C T) → LiveAt key s.views id v → has_turn v.stage ≡ true → OthersIdle s b id
   mine_idle s b id v live turn other u at apart =
       no_turn u.stage (λ theirs. absurd (apart ((b.alone other u at theirs).0 ∙ sym (b.alone id v live turn).0)))
 
   -- The rule after a step of one pass, by which it has this view, and the history the entries of its own number
-  record Moves (s : St) (b : Ok s) (id : ℕ) (v w : View C T) (log : List (Entry T)) (ledger : L) : Type 0 where
+  record Moves (s : St) (b : Ok s) (id : ℕ) (v w : PassView C T) (log : List (Entry T)) (ledger : L) : Type 0 where
     live : LiveAt key s.views id v
     same : Same v w
     others : OthersIdle s b id
@@ -128,7 +128,7 @@ module _ {L C T : Type 0} (log_of : L → List (Entry T)) (opens : L → C) (key
     fits : Fits log w
     held : Keeps log_of opens key w.stage ledger log
 
-  moved : (s : St) (b : Ok s) (id : ℕ) (v w : View C T) (log : List (Entry T)) (ledger : L) (words : List ℕ) (homes : List (maybe.Option (Option L)))
+  moved : (s : St) (b : Ok s) (id : ℕ) (v w : PassView C T) (log : List (Entry T)) (ledger : L) (words : List ℕ) (homes : List (maybe.Option (Option L)))
       → Moves s b id v w log ledger → words ≡ turn_word w.stage ∷ length log ∷ [] → homes ≡ home w.stage ledger ∷ []
       → Ok (record { words = words; homes = homes; views = set s.views id w })
   moved s b id v w log ledger words homes m words_are homes_are =
@@ -143,7 +143,7 @@ module _ {L C T : Type 0} (log_of : L → List (Entry T)) (opens : L → C) (key
         there = λ turn. (w, (set_at s.views id v w m.live.0, m.same.opening ∙ m.live.1), refl);
         alone = λ other u at turn.
             ⊎_elim
-            (λ here. (here.0, ap (λ (x : View C T). x.stage) (sym here.1)))
+            (λ here. (here.0, ap (λ (x : PassView C T). x.stage) (sym here.1)))
             (λ there. let never : true ≡ false = sym turn ∙ m.others other u there.1 there.0 in cc)
             (live_set key s.views id other w u at);
         fits = λ other u at.
@@ -166,10 +166,10 @@ module _ {L C T : Type 0} (log_of : L → List (Entry T)) (opens : L → C) (key
             next_kept n (b.next i a.before n a.live (sym a.next_same ∙ next_x));
       }
     where
-      was : (i : ℕ) (x : View C T) → LiveAt key (set s.views id w) i x → WasAt key s.views i x
+      was : (i : ℕ) (x : PassView C T) → LiveAt key (set s.views id w) i x → WasAt key s.views i x
       was = was_at key s.views id v w m.live m.same
 
-      fits_other : (i : ℕ) (u : View C T) → i ≢ id → LiveAt key s.views i u → Fits log u
+      fits_other : (i : ℕ) (u : PassView C T) → i ≢ id → LiveAt key s.views i u → Fits log u
       fits_other i u apart at =
           subst (λ (xs : List (Entry T)). Fits xs u) (sym m.more)
           (fits_more b.log m.added u v.number (b.fits i u at) (m.others i u at apart) m.own
@@ -189,7 +189,7 @@ module _ {L C T : Type 0} (log_of : L → List (Entry T)) (opens : L → C) (key
           }
 
   -- a step that adds no entry
-  stays : (s : St) (b : Ok s) (id : ℕ) (v w : View C T) → LiveAt key s.views id v → Same v w → OthersIdle s b id → Fits b.log w
+  stays : (s : St) (b : Ok s) (id : ℕ) (v w : PassView C T) → LiveAt key s.views id v → Same v w → OthersIdle s b id → Fits b.log w
       → Keeps log_of opens key w.stage b.ledger b.log → Moves s b id v w b.log b.ledger
   stays s b id v w live same others fits held =
       record {
@@ -204,15 +204,15 @@ module _ {L C T : Type 0} (log_of : L → List (Entry T)) (opens : L → C) (key
       }
 
   -- nothing changes
-  unmoved : (s : St) (id i : ℕ) (v : View C T) → Ok s → get_elem? s.views id ≡ maybe.some v
+  unmoved : (s : St) (id i : ℕ) (v : PassView C T) → Ok s → get_elem? s.views id ≡ maybe.some v
       → Ok (record { words = set s.words i (get_or s.words i 0); homes = s.homes; views = set s.views id v })
   unmoved s id i v b at =
       subst (λ (ws : List ℕ). Ok (record { words = ws; homes = s.homes; views = set s.views id v })) (sym (set-get_or s.words i 0))
-      (subst (λ (vs : List (View C T)). Ok (record { words = s.words; homes = s.homes; views = vs })) (sym (set_again s.views id v at)) b)
+      (subst (λ (vs : List (PassView C T)). Ok (record { words = s.words; homes = s.homes; views = vs })) (sym (set_again s.views id v at)) b)
 
   -- ---- the turn
 
-  pub turn_allowed : (slots id : ℕ) (me : Place L C T) → me.0.opening ≡ Some key → me.0.stage ≡ Idle
+  pub turn_allowed : (slots id : ℕ) (me : PassSeat L C T) → me.0.opening ≡ Some key → me.0.stage ≡ Idle
       → Allows Ok slots id me 0 (λ n. either (eqb n 0) 1 n) (turns (step slots 0 0 1 maybe.none) me)
   turn_allowed slots id me opening idle s b _ at _ = (
     w,
@@ -225,7 +225,7 @@ module _ {L C T : Type 0} (log_of : L → List (Entry T)) (opens : L → C) (key
       n : ℕ
       n = get_or s.words 0 0
 
-      w : View C T
+      w : PassView C T
       w = cond (eqb n 0) (staged me.0 Turn) me.0
 
       word : n ≡ turn_word b.stage
@@ -233,12 +233,12 @@ module _ {L C T : Type 0} (log_of : L → List (Entry T)) (opens : L → C) (key
 
       miss : n ≢ 0 → Ok (stepped s 0 n id me.1 w keeps)
       miss taken =
-          subst (λ (x : View C T). Ok (stepped s 0 n id me.1 x keeps))
+          subst (λ (x : PassView C T). Ok (stepped s 0 n id me.1 x keeps))
           (sym (ap (λ c. cond c (staged me.0 Turn) me.0) (ne_eqb n 0 taken))) (unmoved s id 0 me.0 b at)
 
       hit : n ≡ 0 → Ok (stepped s 0 1 id me.1 w keeps)
       hit free =
-          subst (λ (x : View C T). Ok (stepped s 0 1 id me.1 x keeps))
+          subst (λ (x : PassView C T). Ok (stepped s 0 1 id me.1 x keeps))
           (sym (ap (λ c. cond c (staged me.0 Turn) me.0) (eq-eqb n 0 free)))
           (moved s b id me.0 (staged me.0 Turn) b.log b.ledger _ _
           (stays s b id me.0 (staged me.0 Turn) (at, opening)
@@ -256,11 +256,11 @@ module _ {L C T : Type 0} (log_of : L → List (Entry T)) (opens : L → C) (key
           old = b.fits id me.0 (at, opening)
 
   -- where a pass has the turn, it is the table's stage
-  stage_of : (s : St) (b : Ok s) (id : ℕ) (v : View C T) (stage : Stage) → LiveAt key s.views id v → v.stage ≡ stage → has_turn stage ≡ true → b.stage ≡ stage
+  stage_of : (s : St) (b : Ok s) (id : ℕ) (v : PassView C T) (stage : Stage) → LiveAt key s.views id v → v.stage ≡ stage → has_turn stage ≡ true → b.stage ≡ stage
   stage_of s b id v stage live is turn = sym (b.alone id v live (ap has_turn is ∙ turn)).1 ∙ is
 
   -- a step of the pass that has the turn, which adds no entry
-  holds_still : (s : St) (b : Ok s) (id : ℕ) (v w : View C T) (before : Stage) → LiveAt key s.views id v → v.stage ≡ before → has_turn before ≡ true
+  holds_still : (s : St) (b : Ok s) (id : ℕ) (v w : PassView C T) (before : Stage) → LiveAt key s.views id v → v.stage ≡ before → has_turn before ≡ true
       → Same v w → Fits b.log w → Keeps log_of opens key w.stage b.ledger b.log → Moves s b id v w b.log b.ledger
   holds_still s b id v w before live is turn same fits held =
       stays s b id v w live same (mine_idle s b id v live (ap has_turn is ∙ turn)) fits held
@@ -274,7 +274,7 @@ module _ {L C T : Type 0} (log_of : L → List (Entry T)) (opens : L → C) (key
   keeps_of : (s : St) (b : Ok s) (stage : Stage) → b.stage ≡ stage → Keeps log_of opens key stage b.ledger b.log
   keeps_of s b stage is = subst (λ t. Keeps log_of opens key t b.ledger b.log) is b.keeps
 
-  pub look_allowed : (slots id : ℕ) (me : Place L C T) → me.0.opening ≡ Some key → me.0.stage ≡ Turn
+  pub look_allowed : (slots id : ℕ) (me : PassSeat L C T) → me.0.opening ≡ Some key → me.0.stage ≡ Turn
       → Allows Ok slots id me 1 (λ n. n) (looks (step slots 1 0 0 maybe.none) me)
   look_allowed slots id me opening is s b _ at _ = (
     w,
@@ -286,7 +286,7 @@ module _ {L C T : Type 0} (log_of : L → List (Entry T)) (opens : L → C) (key
     (refl, count, old.seen, old.older),
   )
     where
-      w : View C T
+      w : PassView C T
       w = saw me.0 b.log
 
       live : LiveAt key s.views id me.0
@@ -317,7 +317,7 @@ module _ {L C T : Type 0} (log_of : L → List (Entry T)) (opens : L → C) (key
 
   -- ---- the ledger
 
-  pub take_allowed : (slots id : ℕ) (me : Place L C T) → me.0.opening ≡ Some key → me.0.stage ≡ Looked
+  pub take_allowed : (slots id : ℕ) (me : PassSeat L C T) → me.0.opening ≡ Some key → me.0.stage ≡ Looked
       → Allows Ok slots id me 0 (λ n. n) (takes_ledger log_of opens (step slots 0 0 0 maybe.none) me)
   take_allowed slots id me opening is s b _ at _ = (
     w,
@@ -330,7 +330,7 @@ module _ {L C T : Type 0} (log_of : L → List (Entry T)) (opens : L → C) (key
     (b.ledger, refl, (held.0 ∙ sym (old.whole (ap has_looked is))), (λ k opened. held.1 ∙ (let same : key ≡ k = cc in same))),
   )
     where
-      w : View C T
+      w : PassView C T
       w = staged me.0 Away
 
       live : LiveAt key s.views id me.0
@@ -351,7 +351,7 @@ module _ {L C T : Type 0} (log_of : L → List (Entry T)) (opens : L → C) (key
       fits : Fits b.log w
       fits = record { seen = old.seen; older = old.older; among = old.among; whole = λ _. old.whole (ap has_looked is) }
 
-  pub put_allowed : (slots id : ℕ) (me : Place L C T) (ledger : L) → me.0.opening ≡ Some key → me.0.stage ≡ Away
+  pub put_allowed : (slots id : ℕ) (me : PassSeat L C T) (ledger : L) → me.0.opening ≡ Some key → me.0.stage ≡ Away
       → me.1 ≡ (0, Some ledger) ∷ [] → log_of ledger ≡ me.0.seen → opens ledger ≡ key
       → Allows Ok slots id me 0 (λ n. n) (puts (step slots 0 0 0 maybe.none) me)
   put_allowed slots id me ledger opening is hand same opened s b _ at _ = (
@@ -374,7 +374,7 @@ module _ {L C T : Type 0} (log_of : L → List (Entry T)) (opens : L → C) (key
     refl,
   )
     where
-      w : View C T
+      w : PassView C T
       w = staged me.0 Looked
 
       live : LiveAt key s.views id me.0
@@ -393,7 +393,7 @@ module _ {L C T : Type 0} (log_of : L → List (Entry T)) (opens : L → C) (key
 
   -- ---- an entry of the pass
 
-  pub count_allowed : (slots id : ℕ) (me : Place L C T) (ledger : L) (entry : Entry T) (count : ℕ) → me.0.opening ≡ Some key → me.0.stage ≡ Away
+  pub count_allowed : (slots id : ℕ) (me : PassSeat L C T) (ledger : L) (entry : Entry T) (count : ℕ) → me.0.opening ≡ Some key → me.0.stage ≡ Away
       → me.1 ≡ (0, Some ledger) ∷ [] → log_of ledger ≡ me.0.seen ++ entry ∷ [] → entry.user ≡ me.0.number → count ≡ length (log_of ledger)
       → Allows Ok slots id me 1 (λ _. count) (λ _. counts log_of (step slots 1 count 0 maybe.none) me count)
   count_allowed slots id me ledger entry count opening is hand same own is_count s b _ at _ = (
@@ -419,7 +419,7 @@ module _ {L C T : Type 0} (log_of : L → List (Entry T)) (opens : L → C) (key
       log : List (Entry T)
       log = log_held log_of me.1
 
-      w : View C T
+      w : PassView C T
       w = grown me.0 log
 
       held : log ≡ log_of ledger
@@ -443,7 +443,7 @@ module _ {L C T : Type 0} (log_of : L → List (Entry T)) (opens : L → C) (key
           ap (λ (ws : List ℕ). set ws 1 count) (words_of s b me.0.stage (stage ∙ sym is)) ∙
           ap (λ n. turn_word me.0.stage ∷ n ∷ []) (is_count ∙ ap length (sym held))
 
-  pub free_allowed : (slots id : ℕ) (me : Place L C T) → me.0.opening ≡ Some key → me.0.stage ≡ Looked
+  pub free_allowed : (slots id : ℕ) (me : PassSeat L C T) → me.0.opening ≡ Some key → me.0.stage ≡ Looked
       → Allows Ok slots id me 0 (λ _. 0) (λ _. frees (step slots 0 0 0 maybe.none) me 0)
   free_allowed slots id me opening is s b _ at _ = (
     w,
@@ -456,7 +456,7 @@ module _ {L C T : Type 0} (log_of : L → List (Entry T)) (opens : L → C) (key
     refl,
   )
     where
-      w : View C T
+      w : PassView C T
       w = staged me.0 Idle
 
       live : LiveAt key s.views id me.0
@@ -473,16 +473,16 @@ module _ {L C T : Type 0} (log_of : L → List (Entry T)) (opens : L → C) (key
 
   -- ---- the same, where the pass has just laid the ledger into its slot
 
-  pub put_at : (slots id : ℕ) (me : Place L C T) (v : View C T) (ledger : L) → me ≡ (v, (0, Some ledger) ∷ []) → v.opening ≡ Some key → v.stage ≡ Away
+  pub put_at : (slots id : ℕ) (me : PassSeat L C T) (v : PassView C T) (ledger : L) → me ≡ (v, (0, Some ledger) ∷ []) → v.opening ≡ Some key → v.stage ≡ Away
       → log_of ledger ≡ v.seen → opens ledger ≡ key → Allows Ok slots id me 0 (λ n. n) (puts (step slots 0 0 0 maybe.none) me)
   put_at slots id me v ledger laid opening is same opened =
-      put_allowed slots id me ledger (ap (λ (m : Place L C T). m.0.opening) laid ∙ opening) (ap (λ (m : Place L C T). m.0.stage) laid ∙ is)
-      (ap (λ (m : Place L C T). m.1) laid) (same ∙ sym (ap (λ (m : Place L C T). m.0.seen) laid)) opened
+      put_allowed slots id me ledger (ap (λ (m : PassSeat L C T). m.0.opening) laid ∙ opening) (ap (λ (m : PassSeat L C T). m.0.stage) laid ∙ is)
+      (ap (λ (m : PassSeat L C T). m.1) laid) (same ∙ sym (ap (λ (m : PassSeat L C T). m.0.seen) laid)) opened
 
-  pub count_at : (slots id : ℕ) (me : Place L C T) (v : View C T) (ledger : L) (entry : Entry T) (count : ℕ) → me ≡ (v, (0, Some ledger) ∷ []) → v.opening ≡ Some key → v.stage ≡ Away
+  pub count_at : (slots id : ℕ) (me : PassSeat L C T) (v : PassView C T) (ledger : L) (entry : Entry T) (count : ℕ) → me ≡ (v, (0, Some ledger) ∷ []) → v.opening ≡ Some key → v.stage ≡ Away
       → log_of ledger ≡ v.seen ++ entry ∷ [] → entry.user ≡ v.number → count ≡ length (log_of ledger)
       → Allows Ok slots id me 1 (λ _. count) (λ _. counts log_of (step slots 1 count 0 maybe.none) me count)
   count_at slots id me v ledger entry count laid opening is same own is_count =
-      count_allowed slots id me ledger entry count (ap (λ (m : Place L C T). m.0.opening) laid ∙ opening) (ap (λ (m : Place L C T). m.0.stage) laid ∙ is)
-      (ap (λ (m : Place L C T). m.1) laid) (same ∙ sym (ap (λ (m : Place L C T). m.0.seen ++ entry ∷ []) laid))
-      (own ∙ sym (ap (λ (m : Place L C T). m.0.number) laid)) is_count
+      count_allowed slots id me ledger entry count (ap (λ (m : PassSeat L C T). m.0.opening) laid ∙ opening) (ap (λ (m : PassSeat L C T). m.0.stage) laid ∙ is)
+      (ap (λ (m : PassSeat L C T). m.1) laid) (same ∙ sym (ap (λ (m : PassSeat L C T). m.0.seen ++ entry ∷ []) laid))
+      (own ∙ sym (ap (λ (m : PassSeat L C T). m.0.number) laid)) is_count

@@ -8,7 +8,7 @@ use Rattle.std.specs.List.{slice_get}
 use Rattle.atomic_table.specs.Table.{State, Splits}
 use Rattle.atomic_table.proofs.Lists.{set_else, at_longer}
 use Rattle.history.specs.declared.entry.Entry.{Entry}
-use Rattle.version_book.specs.declared.view.View.{View}
+use Rattle.version_book.specs.declared.pass_view.PassView.{PassView}
 use Rattle.version_book.specs.Inside.Rule.{has_turn, LiveAt, Fits, IsNext, IsBook}
 use Rattle.version_book.specs.Inside.Plays.{giving, another, number_given}
 use Rattle.version_book.proofs.Lists.{has-one, get_right}
@@ -23,20 +23,20 @@ at_end (x ∷ xs) a b (suc j) is = ⊎_elim (λ old. inl old) (λ new. inr (ap s
 
 module _ {L C T : Type 0} (log_of : L → List (Entry T)) (opens : L → C) (key : C) where
   abbrev St : Type 0
-  St = State (Option L) (View C T)
+  St = State (Option L) (PassView C T)
 
   abbrev Ok : St → Type 0
   Ok = IsBook log_of opens key
 
   -- a pass that was there before the split: all but its next number stays
-  record Before (s : St) (log : List (Entry T)) (id : ℕ) (u : View C T) : Type 0 where
-    before : View C T
+  record Before (s : St) (log : List (Entry T)) (id : ℕ) (u : PassView C T) : Type 0 where
+    before : PassView C T
     live : LiveAt key s.views id before
     numbers_same : numbers u ≡ numbers before
     stage_same : u.stage ≡ before.stage
     fits : Fits log u
 
-  pub split_allowed : (id : ℕ) (v : View C T) (n : ℕ) → v.opening ≡ Some key → v.next ≡ Some n → Splits Ok id v (giving v) (another v)
+  pub split_allowed : (id : ℕ) (v : PassView C T) (n : ℕ) → v.opening ≡ Some key → v.next ≡ Some n → Splits Ok id v (giving v) (another v)
   split_allowed id v n opening gives s b at =
       record {
         stage = b.stage;
@@ -50,7 +50,7 @@ module _ {L C T : Type 0} (log_of : L → List (Entry T)) (opens : L → C) (key
         alone = λ i u is turn.
             ⊎_elim
             (λ old. let a = b.alone i old.before old.live (ap has_turn (sym old.stage_same) ∙ turn) in (a.0, old.stage_same ∙ a.1))
-            (λ new. let never : false ≡ true = ap (λ (x : View C T). has_turn x.stage) new.1 ∙ turn in cc)
+            (λ new. let never : false ≡ true = ap (λ (x : PassView C T). has_turn x.stage) new.1 ∙ turn in cc)
             (was i u is);
         fits = λ i u is. ⊎_elim (λ old. old.fits) (λ new. subst (Fits b.log) new.1 fits_new) (was i u is);
         apart = apart;
@@ -58,7 +58,7 @@ module _ {L C T : Type 0} (log_of : L → List (Entry T)) (opens : L → C) (key
         next = λ i u k is next_u. subst (IsNext key b.log views) (sym (giver i u k is next_u).1) next_kept;
       }
     where
-      views : List (View C T)
+      views : List (PassView C T)
       views = set s.views id (giving v) ++ another v ∷ []
 
       live : LiveAt key s.views id v
@@ -73,7 +73,7 @@ module _ {L C T : Type 0} (log_of : L → List (Entry T)) (opens : L → C) (key
       number : number_given v.next ≡ n
       number = ap number_given gives
 
-      was : (i : ℕ) (u : View C T) → LiveAt key views i u → Before s b.log i u ⊎ ((i ≡ length (set s.views id (giving v))) × (another v ≡ u))
+      was : (i : ℕ) (u : PassView C T) → LiveAt key views i u → Before s b.log i u ⊎ ((i ≡ length (set s.views id (giving v))) × (another v ≡ u))
       was i u is =
           ⊎_elim
           (λ old. inl (⊎_elim
@@ -81,7 +81,7 @@ module _ {L C T : Type 0} (log_of : L → List (Entry T)) (opens : L → C) (key
             before = v;
             live = subst (λ (k : ℕ). LiveAt key s.views k v) (sym here.0) live;
             numbers_same = ap numbers (sym here.1);
-            stage_same = ap (λ (x : View C T). x.stage) (sym here.1);
+            stage_same = ap (λ (x : PassView C T). x.stage) (sym here.1);
             fits = subst (Fits b.log) here.1 (record { seen = old_fits.seen; older = old_fits.older; among = old_fits.among; whole = old_fits.whole });
           })
           (λ else. record { before = u; live = else.1; numbers_same = refl; stage_same = refl; fits = b.fits i u else.1 })
@@ -90,14 +90,14 @@ module _ {L C T : Type 0} (log_of : L → List (Entry T)) (opens : L → C) (key
           (at_end (set s.views id (giving v)) (another v) u i is.0)
 
       -- the pass that gives is still the same, and its next number is one more
-      giver : (i : ℕ) (u : View C T) (k : ℕ) → LiveAt key views i u → u.next ≡ Some k → (i ≡ id) × (k ≡ n + 1)
+      giver : (i : ℕ) (u : PassView C T) (k : ℕ) → LiveAt key views i u → u.next ≡ Some k → (i ≡ id) × (k ≡ n + 1)
       giver i u k is next_u =
           ⊎_elim
           (λ old. ⊎_elim
-          (λ here. (here.0, one_more (ap (λ (x : View C T). x.next) here.1 ∙ next_u)))
+          (λ here. (here.0, one_more (ap (λ (x : PassView C T). x.next) here.1 ∙ next_u)))
           (λ else. absurd (else.0 (b.one i id u v k n else.1 live next_u gives)))
           (live_set key s.views id i (giving v) u (old, is.1)))
-          (λ new. let never : None ≡ Some k = ap (λ (x : View C T). x.next) new.1 ∙ next_u in cc)
+          (λ new. let never : None ≡ Some k = ap (λ (x : PassView C T). x.next) new.1 ∙ next_u in cc)
           (at_end (set s.views id (giving v)) (another v) u i is.0)
         where
           one_more : (giving v).next ≡ Some k → k ≡ n + 1
@@ -118,11 +118,11 @@ module _ {L C T : Type 0} (log_of : L → List (Entry T)) (opens : L → C) (key
               let user_is = has-one (number_given v.next) user own in
               absurd (omega (arith, number, user_is, theirs, below))
 
-      numbers_old : (i : ℕ) (u : View C T) (m : ℕ) → Before s b.log i u → has (numbers u) m ≡ true → m < n
+      numbers_old : (i : ℕ) (u : PassView C T) (m : ℕ) → Before s b.log i u → has (numbers u) m ≡ true → m < n
       numbers_old i u m old has_m = old_next.passes i old.before m old.live (subst (λ ns. has ns m ≡ true) old.numbers_same has_m)
 
-      number_new : (u : View C T) (m : ℕ) → another v ≡ u → has (numbers u) m ≡ true → m ≡ n
-      number_new u m new has_m = sym (has-one (number_given v.next) m (subst (λ (x : View C T). has (numbers x) m ≡ true) (sym new) has_m)) ∙ number
+      number_new : (u : PassView C T) (m : ℕ) → another v ≡ u → has (numbers u) m ≡ true → m ≡ n
+      number_new u m new has_m = sym (has-one (number_given v.next) m (subst (λ (x : PassView C T). has (numbers x) m ≡ true) (sym new) has_m)) ∙ number
 
       next_kept : IsNext key b.log views (n + 1)
       next_kept =
@@ -135,7 +135,7 @@ module _ {L C T : Type 0} (log_of : L → List (Entry T)) (opens : L → C) (key
                 (was i u is);
           }
 
-      apart : (i j : ℕ) (x y : View C T) (m : ℕ) → LiveAt key views i x → LiveAt key views j y → has (numbers x) m ≡ true → has (numbers y) m ≡ true → i ≡ j
+      apart : (i j : ℕ) (x y : PassView C T) (m : ℕ) → LiveAt key views i x → LiveAt key views j y → has (numbers x) m ≡ true → has (numbers y) m ≡ true → i ≡ j
       apart i j x y m at_i at_j has_x has_y =
           ⊎_elim
           (λ a. ⊎_elim
@@ -148,11 +148,11 @@ module _ {L C T : Type 0} (log_of : L → List (Entry T)) (opens : L → C) (key
           (was j y at_j))
           (was i x at_i)
 
-      there : has_turn b.stage ≡ true → (u : View C T) × LiveAt key views b.holder u × (u.stage ≡ b.stage)
+      there : has_turn b.stage ≡ true → (u : PassView C T) × LiveAt key views b.holder u × (u.stage ≡ b.stage)
       there turn =
           let held = b.there turn in
           dite (ℕ_discrete b.holder id)
           (λ here.
           let same : held.0 ≡ v = maybe.some-injective held.0 v (sym held.1.0 ∙ (ap (get_elem? s.views) here ∙ at)) in
-          (giving v, (at_longer (set s.views id (giving v)) (another v ∷ []) b.holder (giving v) (ap (get_elem? (set s.views id (giving v))) here ∙ set_at s.views id v (giving v) at), opening), ap (λ (x : View C T). x.stage) (sym same) ∙ held.2))
+          (giving v, (at_longer (set s.views id (giving v)) (another v ∷ []) b.holder (giving v) (ap (get_elem? (set s.views id (giving v))) here ∙ set_at s.views id v (giving v) at), opening), ap (λ (x : PassView C T). x.stage) (sym same) ∙ held.2))
           (λ else. (held.0, (at_longer (set s.views id (giving v)) (another v ∷ []) b.holder held.0 (set_else s.views id b.holder (giving v) else ∙ held.1.0), held.1.1), held.2))

@@ -3,7 +3,7 @@ use Rattle.std.specs.Prelude.{◌≡◌, ℕ, List, [], ◌∷◌, Option, Some}
 use Rattle.std.specs.declared.snapshot.Snapshot.{Snapshot}
 use Rattle.atomic_table.specs.declared.shared.Seat.{Seat}
 use Rattle.history.specs.declared.entry.Entry.{Entry}
-use Rattle.version_book.specs.declared.view.View.{View}
+use Rattle.version_book.specs.declared.pass_view.PassView.{PassView}
 use Rattle.version_book.specs.declared.book.PassOf.{PassOf}
 use Rattle.version_book.specs.declared.book.BookOf.{BookOf}
 use Rattle.version_book.specs.Numbers.{numbers}
@@ -13,13 +13,13 @@ abbrev pub opening_of : {L D C Q : Type 0} → BookOf L D (Snapshot C) Q → C
 opening_of book = book.table.shared.key.value
 
 -- a place at this book
-pub record IsAt {L C T Q : Type 0} (book : BookOf L (View C T) (Snapshot C) Q)
-    (place : Seat (Option L) (View C T)) : Type 0 where
+pub record IsAt {L C T Q : Type 0} (book : BookOf L (PassView C T) (Snapshot C) Q)
+    (place : Seat (Option L) (PassView C T)) : Type 0 where
   pub table : place.table_id ≡ book.table.shared.table_id
   pub opening : place.me.0.opening ≡ Some (opening_of book)
 
 -- the pass is of this book
-abbrev pub IsOf : {L C T Q : Type 0} → BookOf L (View C T) (Snapshot C) Q → PassOf L C T → Type 0
+abbrev pub IsOf : {L C T Q : Type 0} → BookOf L (PassView C T) (Snapshot C) Q → PassOf L C T → Type 0
 IsOf book pass = IsAt book pass.place
 
 -- the beginning of the history that the pass has seen

@@ -1,9 +1,9 @@
 ghost use Rattle.std.specs.Prelude.{◌≡◌, []};
-ghost use Rattle.version_book.specs.declared.view.Stage.TheVariants.{Idle};
+ghost use Rattle.version_book.specs.declared.pass_view.Stage.TheVariants.{Idle};
 
 use crate::ledger::Ledger;
+use crate::pass_view::PassView;
 use crate::rule::Rule;
-use crate::view::View;
 use atomic_table::{Seat, Table, TableRule};
 use history::{Effect, Entry, World};
 use std::alloc::Global;
@@ -19,7 +19,7 @@ pub struct BookOf<L: Drop, D, K, Q: TableRule<Option<L>, D, K>> {
 /// The book of a world.
 pub type Book<W> = BookOf<
     Ledger<W>,
-    View<<W as World>::State, <W as World>::Writes>,
+    PassView<<W as World>::State, <W as World>::Writes>,
     Snapshot<<W as World>::State>,
     Rule<W>,
 >;
@@ -27,7 +27,7 @@ pub type Book<W> = BookOf<
 /// A user's right to read and commit, and what it has seen of the history. It may go to another thread.
 #[derive(Drop)]
 pub struct PassOf<L, C, T> {
-    pub(crate) place: Seat<Option<L>, View<C, T>>,
+    pub(crate) place: Seat<Option<L>, PassView<C, T>>,
     pub(crate) number: u32,
     pub(crate) next: Option<u64>,
     ghost rests: { (place.me.1 ≡ []) × (place.me.0.stage ≡ Idle) },
@@ -37,7 +37,10 @@ pub struct PassOf<L, C, T> {
 /// A pass at the book of a world.
 pub type Pass<W> = PassOf<Ledger<W>, <W as World>::State, <W as World>::Writes>;
 
-pub(crate) type Place<W> = Seat<Option<Ledger<W>>, View<<W as World>::State, <W as World>::Writes>>;
+pub(crate) type PassSeat<W> = Seat<
+    Option<Ledger<W>>,
+    PassView<<W as World>::State, <W as World>::Writes>,
+>;
 
 /// A state of the whole history as it was when the pass looked.
 #[derive(Drop)]

@@ -4,9 +4,9 @@ ghost use Rattle.version_book.specs.Lists.{GoesOn};
 ghost use Rattle.version_book.specs.Passes.{IsAt, IsOf, IsSame, looks, number_of, numbers_of, opening_of, seen};
 ghost use Rattle.version_book.specs.Commits.{IsTryOf, Settles, SettlesAt};
 ghost use Rattle.version_book.specs.Inside.Plays.{Stays};
-ghost use Rattle.version_book.specs.declared.view.Stage.TheVariants.{Looked, Away};
+ghost use Rattle.version_book.specs.declared.pass_view.Stage.TheVariants.{Looked, Away};
 
-use crate::book::{Book, Pass, Place, Settled, Tried, TriedOf};
+use crate::book::{Book, Pass, PassSeat, Settled, Tried, TriedOf};
 use crate::ledger::Ledger;
 use history::{Effect, Entry, World};
 use std::alloc::{AllocError, Global};
@@ -46,7 +46,7 @@ impl<W: World> Book<W> {
     fn settle(
         &self,
         alloc: Global,
-        place: &mut Place<W>,
+        place: &mut PassSeat<W>,
         count: u64,
         by: (u32, u32),
         command: &W::Command,
@@ -85,7 +85,7 @@ impl<W: World> Book<W> {
     fn enter(
         &self,
         alloc: Global,
-        place: &mut Place<W>,
+        place: &mut PassSeat<W>,
         mut ledger: Ledger<W>,
         by: (u64, u32, u32),
         command: &W::Command,

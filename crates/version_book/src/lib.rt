@@ -18,13 +18,13 @@
 mod book;
 mod commits;
 mod ledger;
+mod pass_view;
 mod passes;
 mod pins;
 mod rule;
 mod steps;
-mod view;
 
 pub use book::{Book, BookOf, Closed, ClosedOf, Pass, PassOf, Pin, Settled, Tried, TriedOf};
 pub use ledger::Ledger;
+pub use pass_view::{Older, PassView, Stage};
 pub use rule::Rule;
-pub use view::{Older, Stage, View};

@@ -1,6 +1,6 @@
 //! The rule of the table, and what each kind of step tells.
 use crate::ledger::Ledger;
-use crate::view::View;
+use crate::pass_view::PassView;
 use atomic_table::{Join, Play, Split, TableRule};
 use history::World;
 use std::marker::PhantomData;
@@ -9,7 +9,7 @@ use std::snapshot::Snapshot;
 /// What holds of a book and its passes between any two steps.
 pub struct Rule<W>(PhantomData<W>);
 
-impl<W: World> TableRule<Option<Ledger<W>>, View<W::State, W::Writes>, Snapshot<W::State>>
+impl<W: World> TableRule<Option<Ledger<W>>, PassView<W::State, W::Writes>, Snapshot<W::State>>
     for Rule<W> {
     ghost use Rattle.version_book.specs.Inside.Rule.{IsBook, founder};
 
@@ -20,7 +20,7 @@ impl<W: World> TableRule<Option<Ledger<W>>, View<W::State, W::Writes>, Snapshot<
 
 pub(crate) struct Turns;
 
-impl<W: World> Play<Option<Ledger<W>>, View<W::State, W::Writes>> for Turns {
+impl<W: World> Play<Option<Ledger<W>>, PassView<W::State, W::Writes>> for Turns {
     ghost use Rattle.version_book.specs.Inside.Plays.{turns};
 
     ghost then = { turns };
@@ -28,7 +28,7 @@ impl<W: World> Play<Option<Ledger<W>>, View<W::State, W::Writes>> for Turns {
 
 pub(crate) struct Looks;
 
-impl<W: World> Play<Option<Ledger<W>>, View<W::State, W::Writes>> for Looks {
+impl<W: World> Play<Option<Ledger<W>>, PassView<W::State, W::Writes>> for Looks {
     ghost use Rattle.version_book.specs.Inside.Plays.{looks};
 
     ghost then = { looks };
@@ -36,7 +36,7 @@ impl<W: World> Play<Option<Ledger<W>>, View<W::State, W::Writes>> for Looks {
 
 pub(crate) struct Takes;
 
-impl<W: World> Play<Option<Ledger<W>>, View<W::State, W::Writes>> for Takes {
+impl<W: World> Play<Option<Ledger<W>>, PassView<W::State, W::Writes>> for Takes {
     ghost use Rattle.version_book.specs.Inside.Plays.{takes_ledger};
 
     ghost then = { takes_ledger (λ ledger. ledger.history.items) (λ ledger. ledger.opening.value) };
@@ -44,7 +44,7 @@ impl<W: World> Play<Option<Ledger<W>>, View<W::State, W::Writes>> for Takes {
 
 pub(crate) struct Counts;
 
-impl<W: World> Play<Option<Ledger<W>>, View<W::State, W::Writes>> for Counts {
+impl<W: World> Play<Option<Ledger<W>>, PassView<W::State, W::Writes>> for Counts {
     ghost use Rattle.version_book.specs.Inside.Plays.{counts};
 
     ghost then = { counts (λ ledger. ledger.history.items) };
@@ -52,7 +52,7 @@ impl<W: World> Play<Option<Ledger<W>>, View<W::State, W::Writes>> for Counts {
 
 pub(crate) struct Puts;
 
-impl<W: World> Play<Option<Ledger<W>>, View<W::State, W::Writes>> for Puts {
+impl<W: World> Play<Option<Ledger<W>>, PassView<W::State, W::Writes>> for Puts {
     ghost use Rattle.version_book.specs.Inside.Plays.{puts};
 
     ghost then = { puts };
@@ -60,7 +60,7 @@ impl<W: World> Play<Option<Ledger<W>>, View<W::State, W::Writes>> for Puts {
 
 pub(crate) struct Frees;
 
-impl<W: World> Play<Option<Ledger<W>>, View<W::State, W::Writes>> for Frees {
+impl<W: World> Play<Option<Ledger<W>>, PassView<W::State, W::Writes>> for Frees {
     ghost use Rattle.version_book.specs.Inside.Plays.{frees};
 
     ghost then = { frees };
@@ -68,7 +68,7 @@ impl<W: World> Play<Option<Ledger<W>>, View<W::State, W::Writes>> for Frees {
 
 pub(crate) struct Meets;
 
-impl<C, T> Split<View<C, T>> for Meets {
+impl<C, T> Split<PassView<C, T>> for Meets {
     ghost use Rattle.version_book.specs.Inside.Plays.{giving, another};
 
     ghost left = { giving };
@@ -76,7 +76,7 @@ impl<C, T> Split<View<C, T>> for Meets {
     ghost right = { another };
 }
 
-impl<C, T> Join<View<C, T>> for Meets {
+impl<C, T> Join<PassView<C, T>> for Meets {
     ghost use Rattle.version_book.specs.Inside.Plays.{together};
     ghost use Rattle.version_book.specs.Inside.Rule.{nobody};
 

@@ -3,10 +3,10 @@ ghost use Rattle.std.specs.Prelude.{◌≡◌, ℕ, ◌<◌, ◌++◌, [], ◌�
 ghost use Rattle.version_book.specs.Lists.{GoesOn};
 ghost use Rattle.version_book.specs.Passes.{IsAt, opening_of};
 ghost use Rattle.version_book.specs.Inside.Plays.{staged, saw, grown, looks};
-ghost use Rattle.version_book.specs.declared.view.Stage.TheVariants.{Idle, Turn, Looked, Away};
+ghost use Rattle.version_book.specs.declared.pass_view.Stage.TheVariants.{Idle, Turn, Looked, Away};
 ghost use Rattle.version_book.specs.Numbers.{numbers};
 
-use crate::book::{Book, Place};
+use crate::book::{Book, PassSeat};
 use crate::ledger::Ledger;
 use crate::rule::{Counts, Frees, Looks, Puts, Takes, Turns};
 use history::{Entry, World};
@@ -15,7 +15,7 @@ use std::thread;
 
 impl<W: World> Book<W> {
     // Waits until no pass has the turn, and takes it.
-    pub(crate) fn take_turn<R: Wait>(&self, rt: &R, place: &mut Place<W>)
+    pub(crate) fn take_turn<R: Wait>(&self, rt: &R, place: &mut PassSeat<W>)
         requires at { IsAt self.now place.old }
         requires idle { place.old.me.0.stage ≡ Idle }
         ensures at { IsAt self.now place.new }
@@ -30,7 +30,7 @@ impl<W: World> Book<W> {
     }
 
     // The length of the history, all of which is then seen.
-    pub(crate) fn look(&self, place: &mut Place<W>) -> u64
+    pub(crate) fn look(&self, place: &mut PassSeat<W>) -> u64
         requires at { IsAt self.now place.old }
         requires turn { place.old.me.0.stage ≡ Turn }
         ensures at { IsAt self.now place.new }
@@ -44,7 +44,7 @@ impl<W: World> Book<W> {
     }
 
     // The ledger, which has the history that was seen under this turn.
-    pub(crate) fn take_ledger(&self, place: &mut Place<W>) -> Ledger<W>
+    pub(crate) fn take_ledger(&self, place: &mut PassSeat<W>) -> Ledger<W>
         requires at { IsAt self.now place.old }
         requires looked { place.old.me.0.stage ≡ Looked }
         requires hand { place.old.me.1 ≡ [] }
@@ -61,7 +61,7 @@ impl<W: World> Book<W> {
     }
 
     // Puts the ledger back as it was.
-    pub(crate) fn put_ledger(&self, place: &mut Place<W>, ledger: Ledger<W>)
+    pub(crate) fn put_ledger(&self, place: &mut PassSeat<W>, ledger: Ledger<W>)
         requires at { IsAt self.now place.old }
         requires away { place.old.me.0.stage ≡ Away }
         requires hand { place.old.me.1 ≡ (0, None) ∷ [] }
@@ -77,7 +77,7 @@ impl<W: World> Book<W> {
     // Counts one entry more, which is the pass's, and puts the ledger back with it.
     pub(crate) fn put_grown(
         &self,
-        place: &mut Place<W>,
+        place: &mut PassSeat<W>,
         ledger: Ledger<W>,
         entry: Entry<W::Writes>,
         state: W::State,
@@ -101,7 +101,7 @@ impl<W: World> Book<W> {
     }
 
     // Gives the turn back.
-    pub(crate) fn free_turn(&self, place: &mut Place<W>)
+    pub(crate) fn free_turn(&self, place: &mut PassSeat<W>)
         requires at { IsAt self.now place.old }
         requires looked { place.old.me.0.stage ≡ Looked }
         ensures at { IsAt self.now place.new }

@@ -15,7 +15,7 @@ use Rattle.view_query.specs.declared.fault.ViewFault.TheVariants.{ViewLimit}
 use Rattle.view_query.specs.declared.shape.Axis.{Axis}
 use Rattle.view_query.specs.declared.shape.View.{View}
 use Rattle.view_query.specs.Meaning.{Meaning, done, ◌>>=◌, known, each, Answers}
-use Rattle.view_query.specs.Views.{IsView, IsAxis, IsPoint, times_at, cell_count, most_cells}
+use Rattle.view_query.specs.Views.{IsView, IsAxis, IsPoint, times_at, cell_count, most_view_cells}
 use Rattle.view_query.specs.Binding.{place_named, is_each_once, elements_of_set, bound_set, bound_point, within_limit, with_elements, is_counted, if_counted, bound_in, bound}
 use Rattle.view_query.proofs.LineFacts.{from_each}
 use Rattle.view_query.proofs.Meanings.{goes_on, stops}
@@ -108,12 +108,12 @@ all_counted test from (suc n) all (suc k) low =
 
 record Limited (view result : View) : Type 0 where
   same : view ≡ result
-  few : cell_count view.rows view.columns ≤ most_cells
+  few : cell_count view.rows view.columns ≤ most_view_cells
 
 limited : (view result : View) → within_limit view ≡ Ok result → Limited view result
-limited view result e = by (nat_lt most_cells (cell_count view.rows view.columns)) refl e
+limited view result e = by (nat_lt most_view_cells (cell_count view.rows view.columns)) refl e
   where
-    by : (b : Bool) → nat_lt most_cells (cell_count view.rows view.columns) ≡ b
+    by : (b : Bool) → nat_lt most_view_cells (cell_count view.rows view.columns) ≡ b
         → (if b then Err (ViewLimit (min (cell_count view.rows view.columns) 18446744073709551615)) else Ok view) ≡ Ok result → Limited view result
     by true is e = absurd (cc e)
     by false is e = record { same = ok_same view result e; few = ltb-false _ _ is }

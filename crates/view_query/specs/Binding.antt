@@ -5,14 +5,14 @@ use Rattle.std.specs.List.{list_all, range_with_len}
 use Rattle.dim_name.specs.Name.{place_of}
 use Rattle.dim_core.specs.Outline.{Outline, index_of}
 use Rattle.cube_space.specs.Layout.{Layout, axes, cube_names}
-use Rattle.cube_axes.specs.Axes.{axis_called}
+use Rattle.cube_space.specs.Axes.{axis_called}
 use Rattle.user_text.specs.declared.command.SetText.{SetText}
 use Rattle.user_text.specs.declared.command.ViewText.{ViewText}
 use Rattle.view_query.specs.declared.fault.ViewFault.TheVariants.{WrongCount, ViewLimit}
 use Rattle.view_query.specs.declared.shape.Axis.{Axis}
 use Rattle.view_query.specs.declared.shape.View.{View}
 use Rattle.view_query.specs.Meaning.{Meaning, done, ◌>>=◌, known, each}
-use Rattle.view_query.specs.Views.{cell_count, most_cells, times_at}
+use Rattle.view_query.specs.Views.{cell_count, most_view_cells, times_at}
 
 -- the place, among the dimensions of a cube, of the one that has this name
 abbrev pub place_named : List Outline → List ℕ → Meaning ℕ
@@ -49,7 +49,7 @@ last_count = 2 ^ 64 - 1
 -- a view, unless it has too many cells
 abbrev pub within_limit : View → Meaning View
 within_limit view =
-    if nat_lt most_cells (cell_count view.rows view.columns)
+    if nat_lt most_view_cells (cell_count view.rows view.columns)
     then Err (ViewLimit (min (cell_count view.rows view.columns) last_count)) else done view
 
 -- the same where each dimension of the cube stands in just one of rows, columns and points

@@ -6,6 +6,7 @@ use Rattle.std.specs.Option.{option_map_or}
 use Rattle.cube_fixed.specs.declared.value.Value.{Value}
 use Rattle.cube_fixed.specs.Arithmetic.{is_zero}
 use Rattle.cube_fixed.specs.Text.{printed}
+use Rattle.dim_name.specs.Bytes.{newline, tab}
 use Rattle.dim_core.specs.Outline.{name_of}
 use Rattle.cube_space.specs.Layout.{Layout, axes}
 use Rattle.view_query.specs.declared.shape.Axis.{Axis}
@@ -23,7 +24,7 @@ shown_name space cube axis element =
 
 -- fields with a tab between each two
 abbrev pub joined : List (List ℕ) → List ℕ
-joined fields = join_with_byte 9 fields
+joined fields = join_with_byte tab fields
 
 -- the line of an axis of the columns, which is the one at this index: an empty field for each axis of the rows, and the
 -- element of each column
@@ -50,7 +51,7 @@ shown_columns view value =
 abbrev pub table_lines : Layout → View → (List ℕ → List ℕ → Value) → List (List ℕ) → List (List ℕ) → List ℕ
 table_lines space view value rows columns =
     codes "table " ++ decimal (length rows) ++ codes " " ++ decimal (length columns)
-    ++ flat_map (λ line. 10 ∷ line)
+    ++ flat_map (λ line. newline ∷ line)
     (map (head_line space view columns) (enumerate_from 0 view.columns)
     ++ map (λ row. row_line space view row (map (value row) columns)) rows)
 

@@ -21,8 +21,8 @@ abbrev pub lines : List Axis → List (List ℕ)
 lines axes = combinations (map (λ axis. axis.elements) axes)
 
 -- the most cells of a view
-abbrev pub most_cells : ℕ
-most_cells = 250000
+abbrev pub most_view_cells : ℕ
+most_view_cells = 250000
 
 abbrev pub cell_count : List Axis → List Axis → ℕ
 cell_count rows columns = length (lines rows) * length (lines columns)
@@ -83,4 +83,4 @@ pub record IsView (space : Layout) (view : View) : Type 0 where
   pub points : All (IsPoint (axes space view.cube)) view.points
   pub once : (place : ℕ) → place < length (axes space view.cube) → times_at (map (λ axis. axis.place) view.rows)
       (map (λ axis. axis.place) view.columns) (map (λ point. point.0) view.points) place ≡ 1
-  pub few : cell_count view.rows view.columns ≤ most_cells
+  pub few : cell_count view.rows view.columns ≤ most_view_cells

@@ -8,14 +8,13 @@ ghost use Rattle.view_query.specs.Views.{IsView, cell_count, lines, times_at};
 use crate::fault::ViewFault;
 use crate::sets::{bind_points, bind_sets, point_places, set_places};
 use crate::shape::{Axis, View};
-use cube_axes::axis_count;
-use cube_space::Space;
+use cube_space::{Space, axis_count};
 use rule_model::Model;
 use std::alloc::Global;
 use user_text::ViewText;
 
 /// The most cells of a view.
-const MOST_CELLS: u64 = 250_000;
+const MAX_VIEW_CELLS: u64 = 250_000;
 
 /// What a view of a text is in a model. It is refused for its first fault in this order: the cube isn't there, or a
 /// dimension isn't one of the cube's; a dimension of the cube doesn't stand in just one of rows, columns and points; an
@@ -105,7 +104,7 @@ fn within_limit(view: View) -> Result<View, ViewFault>
 {
     let rows = line_count(view.rows.as_slice());
     let cells = rows.saturating_mul(line_count(view.columns.as_slice()));
-    if cells > MOST_CELLS {
+    if cells > MAX_VIEW_CELLS {
         Err(ViewFault::ViewLimit(cells))
     } else {
         Ok(view)

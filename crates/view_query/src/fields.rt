@@ -2,6 +2,7 @@ ghost use Rattle.std.specs.Prelude.{◌≡◌, ℕ, ◌<◌, ◌++◌, ◌∷◌
 ghost use Rattle.view_query.specs.declared.shape.Axis.{Axis as AxisValue};
 ghost use Rattle.std.specs.List.{items_where_true};
 ghost use Rattle.cube_fixed.specs.Text.{printed};
+ghost use Rattle.dim_name.specs.Bytes.{tab};
 ghost use Rattle.cube_space.specs.Layout.{axes};
 ghost use Rattle.cube_space.specs.Cells.{IsSpace};
 ghost use Rattle.view_query.specs.Table.{joined, shown_name};
@@ -9,9 +10,8 @@ ghost use Rattle.view_query.specs.Inside.Lines.{IsElementOf, IsLine};
 ghost use Rattle.view_query.specs.Inside.Text.{names_across, names_along, tabbed, tabbed_if};
 
 use crate::shape::Axis;
-use cube_axes::axis;
 use cube_fixed::{Value, print};
-use cube_space::Space;
+use cube_space::{Space, axis};
 use lists::ListOf;
 use std::alloc::{AllocError, Global};
 
@@ -26,7 +26,7 @@ fn shown_name<'a>(space: &'a Space, cube: u32, shown: &Axis, element: u32) -> &'
 
 // Writes a field with a tab behind it.
 fn write_field(out: &mut Vec<u8>, text: &[u8]) -> Result<(), AllocError>
-    ensures { OnOk result (out.new.items ≡ out.old.items ++ (text.now ++ 9 ∷ [])) }
+    ensures { OnOk result (out.new.items ≡ out.old.items ++ (text.now ++ tab ∷ [])) }
 {
     out.extend_from_slice(text)?;
     out.push(b'\t')?;

@@ -6,10 +6,9 @@ ghost use Rattle.view_query.specs.Views.{IsView, cell_at, element_at, element_in
 ghost use Rattle.view_query.specs.Inside.Lines.{IsLine};
 
 use crate::shape::{Axis, View};
-use cells::Cells;
-use cube_axes::axis_count;
+use cell_source::Cells;
 use cube_fixed::Value;
-use cube_space::{MAX_DIMENSIONS, Space};
+use cube_space::{MAX_DIMENSIONS, Space, axis_count};
 use lists::ListOf;
 use std::alloc::{AllocError, Global};
 

@@ -7,8 +7,7 @@ ghost use Rattle.dim_core.specs.Outline.{index_of};
 
 use crate::fault::ViewFault;
 use crate::shape::Axis;
-use cube_axes::{axis, axis_called};
-use cube_space::Space;
+use cube_space::{Space, axis, axis_called};
 use dim_core::Dimension;
 use dim_name::Name;
 use lists::ListOf;

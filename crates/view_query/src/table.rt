@@ -10,7 +10,7 @@ use crate::reading::all_values;
 use crate::shape::View;
 use crate::written::{write_heads, write_rows, write_title};
 use crate::zeros::{shown_columns, shown_rows};
-use cells::Cells;
+use cell_source::Cells;
 use cube_space::Space;
 use rule_model::Model;
 use std::alloc::{AllocError, Global};

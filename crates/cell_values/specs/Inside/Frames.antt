@@ -10,7 +10,7 @@ use Rattle.rule_evaluate.specs.declared.ask.Ask.{Ask}
 use Rattle.rule_evaluate.specs.declared.ask.Ask.TheVariants.{Value as of_value}
 use Rattle.rule_evaluate.specs.Known.{Known, listed, is_same}
 use Rattle.rule_model.specs.Governing.{governing_from}
-use Rattle.rule_model.specs.Weights.{max_weight_product}
+use Rattle.rule_model.specs.Weights.{most_weight_product}
 use Rattle.sparse_sum.specs.Walking.{left}
 use Rattle.cell_values.specs.declared.frames.Evaluation.{Evaluation}
 use Rattle.cell_values.specs.declared.frames.LeafSum.{LeafSum}
@@ -59,7 +59,7 @@ IsWork version (frame.Components s) question =
 -- a sum waits for the value of a cell that counts so often
 abbrev pub IsSumBut : NumberedVersion → Total → ℤ → List (ℕ × ℤ) → Ask → Ask → Type 0
 IsSumBut version total weight pairs question next =
-    (unsigned_abs weight ≤ max_weight_product)
+    (unsigned_abs weight ≤ most_weight_product)
     × ((cell : ℕ) × (next ≡ of_value cell) × IsSum version total ((cell, weight) ∷ pairs) question)
 
 -- the frame is a state of the work on the first question, and waits for the answer to the second

@@ -16,7 +16,7 @@ use Rattle.rule_laws.specs.RuleSystem.{base, children_value, depth}
 use Rattle.rule_model.specs.System.{system_of}
 use Rattle.rule_model.specs.Targets.{parts_at, with_components}
 use Rattle.sparse_sum.specs.Live.{live_below}
-use Rattle.stored_values.specs.Stored.{stored_in}
+use Rattle.stored_laws.specs.Stored.{stored_in}
 use Rattle.cell_values.specs.Reading.{value_on, AreValuesOn}
 
 -- what the answers depend on: a version, and the values that are remembered

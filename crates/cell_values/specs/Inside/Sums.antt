@@ -5,7 +5,7 @@ use Rattle.cube_fixed.specs.declared.value.Value.{Value}
 use Rattle.cube_fixed.specs.Total.{Total, with_term, value_of}
 use Rattle.cube_space.specs.Cells.{IsCell}
 use Rattle.rule_evaluate.specs.declared.ask.Ask.{Ask}
-use Rattle.rule_model.specs.Weights.{max_weight_product}
+use Rattle.rule_model.specs.Weights.{most_weight_product}
 use Rattle.cell_values.specs.Reading.{value_on, IsUngoverned}
 use Rattle.cell_values.specs.Inside.Questions.{answer_on, values_of, cost_on}
 
@@ -30,5 +30,5 @@ pub record Advances (version : NumberedVersion) (before : Total) (pairs : List (
 pub record Stops (version : NumberedVersion) (before : Total) (pairs : List (ℕ × ℤ)) (after : Total) (weight : ℤ)
     (rest : List (ℕ × ℤ)) (cell : ℕ) : Type 0 where
   pub is_cell : IsCell version.model.space cell
-  pub size : unsigned_abs weight ≤ max_weight_product
+  pub size : unsigned_abs weight ≤ most_weight_product
   pub advances : Advances version before pairs after ((cell, weight) ∷ rest)

@@ -11,7 +11,7 @@ use Rattle.rule_laws.specs.RuleSystem.{base, children_value}
 use Rattle.rule_model.specs.BoundModel.{BoundModel}
 use Rattle.rule_model.specs.System.{system_of}
 use Rattle.rule_model.specs.Weights.{weight}
-use Rattle.stored_values.specs.Stored.{stored_in}
+use Rattle.stored_laws.specs.Stored.{stored_in}
 use Rattle.rule_evaluate.specs.declared.ask.Ask.{Ask}
 use Rattle.rule_evaluate.specs.declared.ask.Ask.TheVariants.{Value as of_value, Base as of_base}
 use Rattle.rule_evaluate.specs.declared.ask.Ask.TheVariants.{Children as of_children}

@@ -4,7 +4,7 @@ use Rattle.std.specs.Int.{is_negative}
 use Rattle.std.specs.List.{list_all}
 use Rattle.cube_fixed.specs.Range.{is_in_range}
 use Rattle.cube_lex.specs.Bytes.{is_plain}
-use Rattle.cube_lex.specs.Parts.{token_limit}
+use Rattle.cube_lex.specs.Parts.{most_token_bytes}
 use Rattle.cube_lex.specs.Quoted.{quoted}
 use Rattle.rule_printer.specs.Spelled.{is_word_text}
 use Rattle.rule_tree.specs.declared.rule.BodyText.{BodyText}
@@ -21,11 +21,11 @@ use Rattle.rule_tree.specs.declared.tree.Tree.TheOpen.{Tree-F}
 
 -- the bytes may stand in a quoted text, which isn't too long for a token
 unfoldable pub is_quotable : List ℕ → Bool
-is_quotable bytes = list_all is_plain bytes && nat_le (length (quoted bytes)) token_limit
+is_quotable bytes = list_all is_plain bytes && nat_le (length (quoted bytes)) most_token_bytes
 
 -- the bytes are a word that isn't too long for a token
 unfoldable pub is_short_word : List ℕ → Bool
-is_short_word bytes = is_word_text bytes && nat_le (length bytes) token_limit
+is_short_word bytes = is_word_text bytes && nat_le (length bytes) most_token_bytes
 
 -- the name of a dimension behind a `!`
 abbrev pub is_marked : List ℕ → Bool

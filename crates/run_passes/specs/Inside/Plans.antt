@@ -6,8 +6,8 @@ use Rattle.rule_model.specs.BoundModel.{BoundModel}
 use Rattle.script_tree.specs.declared.script.Script.{Script}
 use Rattle.user_session.specs.declared.command.PlanCommand.{PlanCommand}
 use Rattle.user_text.specs.declared.command.UserCommand.{UserCommand}
-use Rattle.run_passes.specs.declared.job.Job.{Job}
-use Rattle.run_passes.specs.declared.job.Job.TheVariants as jobs
+use Rattle.run_passes.specs.declared.run_job.RunJob.{RunJob}
+use Rattle.run_passes.specs.declared.run_job.RunJob.TheVariants as jobs
 use Rattle.run_passes.specs.Run.{deploy_pass, scripts_pass, users_pass, records_pass}
 use Rattle.judged_files.specs.Scripts.{Checked, script_files}
 
@@ -28,11 +28,11 @@ behind_text name contents =
 
 -- ---- of a run
 
-abbrev pub served : Checked → List (List PlanCommand) → Pass Job
+abbrev pub served : Checked → List (List PlanCommand) → Pass RunJob
 served checked commands = found (jobs.Serve checked.model commands)
 
-abbrev pub behind_users : Checked → List (List UserCommand) → Pass Job
+abbrev pub behind_users : Checked → List (List UserCommand) → Pass RunJob
 behind_users checked texts = records_pass checked.scripts texts >>= served checked
 
-abbrev pub behind_model : List (List ℕ) → Checked → Pass Job
+abbrev pub behind_model : List (List ℕ) → Checked → Pass RunJob
 behind_model users checked = users_pass checked.scripts.names users >>= behind_users checked

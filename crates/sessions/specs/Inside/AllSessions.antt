@@ -2,14 +2,14 @@
 use Rattle.std.specs.Prelude.{◌≡◌, ℕ, ◌+◌, List, Some, length, map, slice_get}
 use Rattle.std.specs.declared.snapshot.Snapshot.{Snapshot}
 use Rattle.history.specs.declared.effect.Effect.{Effect}
-use Rattle.version_book.specs.declared.view.View.{View}
+use Rattle.version_book.specs.declared.pass_view.PassView.{PassView}
 use Rattle.version_book.specs.declared.book.BookOf.{BookOf}
 use Rattle.sessions.specs.declared.session.SessionOf.{SessionOf}
 use Rattle.sessions.specs.Sessions.{IsRunning}
 
 -- each session runs at this book, that at index i for the user of number i + 1
 abbrev pub AreRunning : {L S C T K R Q : Type 0} → (C → K → Effect T R) → (C → T → C) → (S → C)
-    → BookOf L (View S T) (Snapshot S) Q → List (SessionOf L S T K R) → Type 0
+    → BookOf L (PassView S T) (Snapshot S) Q → List (SessionOf L S T K R) → Type 0
 AreRunning {L} {S} {C} {T} {K} {R} effect after content book sessions =
     (index : ℕ) (session : SessionOf L S T K R) → slice_get sessions index ≡ Some session
     → IsRunning effect after content book session × (session.user ≡ index + 1)

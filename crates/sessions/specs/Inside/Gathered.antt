@@ -6,7 +6,7 @@ use Rattle.history.specs.declared.told.Told.{Told}
 use Rattle.history.specs.declared.effect.Effect.{Effect}
 use Rattle.history.specs.History.{EachRun}
 use Rattle.history.specs.Version.{NoneFrom}
-use Rattle.version_book.specs.declared.view.View.{View}
+use Rattle.version_book.specs.declared.pass_view.PassView.{PassView}
 use Rattle.version_book.specs.declared.book.BookOf.{BookOf}
 use Rattle.version_book.specs.declared.book.PassOf.{PassOf}
 use Rattle.version_book.specs.Numbers.{has}
@@ -22,7 +22,7 @@ pub record IsGiver {L C T : Type 0} (pass : PassOf L C T) (next : ℕ) : Type 0 
 
 -- the session has run on with the same commands
 pub record IsFurther {L S C T K R Q : Type 0} (effect : C → K → Effect T R) (after : C → T → C) (content : S → C)
-    (book : BookOf L (View S T) (Snapshot S) Q) (before later : SessionOf L S T K R) : Type 0 where
+    (book : BookOf L (PassView S T) (Snapshot S) Q) (before later : SessionOf L S T K R) : Type 0 where
   pub running : IsRunning effect after content book later
   pub user : later.user ≡ before.user
   pub commands : later.commands ≡ before.commands

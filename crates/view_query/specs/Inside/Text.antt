@@ -2,6 +2,7 @@
 use Rattle.std.specs.Prelude.{ℕ, Bool, List, [], ◌∷◌, ◌++◌, map, slice_index_or, if◌then◌else◌}
 use Rattle.std.specs.List.{enumerate_from, flat_map, items_where_true, zip}
 use Rattle.cube_fixed.specs.declared.value.Value.{Value}
+use Rattle.dim_name.specs.Bytes.{newline, tab}
 use Rattle.cube_space.specs.Layout.{Layout}
 use Rattle.view_query.specs.declared.shape.Axis.{Axis}
 use Rattle.view_query.specs.declared.shape.View.{View}
@@ -9,11 +10,11 @@ use Rattle.view_query.specs.Table.{shown_name, head_line, row_line}
 
 -- fields, each with a tab behind it
 abbrev pub tabbed : List (List ℕ) → List ℕ
-tabbed fields = flat_map (λ field. field ++ 9 ∷ []) fields
+tabbed fields = flat_map (λ field. field ++ tab ∷ []) fields
 
 -- a field with its tab, if it's to be shown
 abbrev pub tabbed_if : Bool → List ℕ → List ℕ
-tabbed_if shown field = if shown then field ++ 9 ∷ [] else []
+tabbed_if shown field = if shown then field ++ tab ∷ [] else []
 
 -- the fields of the names of a line
 abbrev pub names_along : Layout → ℕ → List Axis → List ℕ → List (List ℕ)
@@ -26,7 +27,7 @@ names_across space cube axis index columns =
 
 -- lines, each behind the end of the one before
 abbrev pub led : List (List ℕ) → List ℕ
-led lines = flat_map (λ line. 10 ∷ line) lines
+led lines = flat_map (λ line. newline ∷ line) lines
 
 -- the head lines over the columns that are shown
 abbrev pub heads : Layout → View → List (List ℕ) → List Bool → List ℕ
@@ -42,4 +43,4 @@ row_lines space view rows table shown_rows shown_columns =
 -- the line of a row, if it's shown
 abbrev pub line_if : Layout → View → List Bool → List ℕ → List Value → Bool → List ℕ
 line_if space view columns row values shown =
-    if shown then 10 ∷ row_line space view row (items_where_true columns values) else []
+    if shown then newline ∷ row_line space view row (items_where_true columns values) else []

@@ -1,6 +1,6 @@
 use Rattle.std.proofs.Common.{◌≡◌, ◌<◌, ℕ, false, get_or, length, sym, ap, ◌∙◌, below_more, arith, List, Bool, All, subst, ◌≤◌}
 use Rattle.std.proofs.lemmas.List.{get_or_default}
-use Rattle.numbered.proofs.Places.{position-none, position-first}
+use Rattle.lists.proofs.Places.{position-none, position-first}
 use Rattle.dim_name.specs.Name.{is_same_name}
 use Rattle.bind_arguments.specs.Bound.{dimension_at}
 use Rattle.bind_arguments.proofs.Around.{found_dimension}

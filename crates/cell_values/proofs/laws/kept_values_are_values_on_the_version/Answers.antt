@@ -4,7 +4,7 @@ use Rattle.memo_cells.specs.Values.{cell_value}
 use Rattle.rule_laws.specs.RuleSystem.{dense_value}
 use Rattle.rule_model.specs.BoundModel.{BoundModel}
 use Rattle.rule_model.specs.System.{system_of}
-use Rattle.stored_values.specs.Stored.{stored_in}
+use Rattle.stored_laws.specs.Stored.{stored_in}
 use Rattle.cell_values.specs.Reading.{value_on}
 use Rattle.cell_values.proofs.laws.kept_values_are_values_on_the_version.Goals as goal
 

@@ -2,7 +2,7 @@ use Rattle.std.proofs.Common.{◌≡◌, ◌∙◌, ap, sym, arith, pos, ◌+◌
 use Rattle.std.proofs.lemmas.Int.{ints}
 use Rattle.std.proofs.lemmas.List.{take_rest}
 use mir.Syntax.{w64}
-use Rattle.cube_fixed.specs.Range.{limit}
+use Rattle.cube_fixed.specs.Range.{most_millionths}
 use Rattle.cube_fixed.specs.Text.{is_digits, is_decimal, decimals_value, decimal_value}
 use Rattle.cube_fixed.proofs.Points.{point_found, point_missing, is_decimal-point, decimal_value-point, is_decimal-none, decimal_value-none}
 use Rattle.cube_fixed.proofs.reading.decimal_size.Goals as goal
@@ -22,10 +22,10 @@ returns-then-are_digits-2-clause-value c =
     let decimals : is_digits (drop (at + 1) text) ≡ true = ap is_digits (sym rest) ∙ sym c.if-are_digits-2.ensures in
     let millionths : c.millionths_of.result ≡ decimals_value (drop (at + 1) text) = c.millionths_of.ensures.value ∙ ap decimals_value rest in
     let read = c.units_of.result * 1000000 + c.millionths_of.result in
-    let size : min read (limit + 1) ≡ min (decimal_value text) (limit + 1) =
+    let size : min read (most_millionths + 1) ≡ min (decimal_value text) (most_millionths + 1) =
     omega (arith, c.units_of.ensures, millionths, decimal_value-point text at point) in (
       is_decimal-point text at point ∙ ap (λ b. b && is_digits (drop (at + 1) text)) whole ∙ decimals,
-      held c.capped.result (min (decimal_value text) (limit + 1)) (c.capped.ensures ∙ ap (λ n. pos n) size) (omega arith),
+      held c.capped.result (min (decimal_value text) (most_millionths + 1)) (c.capped.ensures ∙ ap (λ n. pos n) size) (omega arith),
     )
 
 pub returns-else-are_digits-clause-value : goal.returns-else-are_digits-clause-value
@@ -51,8 +51,8 @@ returns-in-None-clause-value c =
     let text = c.args.text.now in
     let none = point_missing text (sym c.in-None.ensures) in
     let read = c.units_of-in-None.result * 1000000 in
-    let size : min read (limit + 1) ≡ min (decimal_value text) (limit + 1) =
+    let size : min read (most_millionths + 1) ≡ min (decimal_value text) (most_millionths + 1) =
     omega (arith, c.units_of-in-None.ensures, decimal_value-none text none) in (
       is_decimal-none text none ∙ sym c.if-are_digits-3.ensures,
-      held c.capped-in-None.result (min (decimal_value text) (limit + 1)) (c.capped-in-None.ensures ∙ ap (λ n. pos n) size) (omega arith),
+      held c.capped-in-None.result (min (decimal_value text) (most_millionths + 1)) (c.capped-in-None.ensures ∙ ap (λ n. pos n) size) (omega arith),
     )

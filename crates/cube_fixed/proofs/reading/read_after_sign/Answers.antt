@@ -1,7 +1,7 @@
 use Rattle.std.proofs.Common.{◌≡◌, ◌∙◌, ap, sym, arith, true, false, ◌+◌, min, Some, to_z}
 use Rattle.std.proofs.lemmas.Int.{ints}
 use mir.Syntax.{w64}
-use Rattle.cube_fixed.specs.Range.{limit}
+use Rattle.cube_fixed.specs.Range.{most_millionths}
 use Rattle.cube_fixed.specs.Text.{signed, decimal_value, reading_of}
 use Rattle.cube_fixed.proofs.Points.{capped_reading, reading_of_money, number_after_sign-decimal}
 use Rattle.cube_fixed.proofs.reading.read_after_sign.Goals as goal
@@ -10,7 +10,7 @@ use Rattle.cube_fixed.proofs.reading.read_after_sign.Goals.{then-negative, else-
 pub returns : goal.returns
 returns c =
     let text = c.args.text.now in
-    let size = min (decimal_value text) (limit + 1) in
+    let size = min (decimal_value text) (most_millionths + 1) in
     let size_is = c.in-Some.ensures.value.1 in
     let bound = c.in-Some.ensures.bound in
     let z = to_z w64 c.if-negative.of-bits in

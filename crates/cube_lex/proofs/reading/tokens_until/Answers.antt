@@ -8,11 +8,11 @@ use Rattle.cube_lex.proofs.Unique.{answer-only, reading-only}
 use Rattle.cube_lex.proofs.WellFormed.{answer_formed, well_formed}
 use Rattle.cube_lex.proofs.reading.tokens_until.Goals as goal
 
-pub returns-then-text-gt-TEXT_LIMIT : goal.returns-then-text-gt-TEXT_LIMIT
-returns-then-text-gt-TEXT_LIMIT c =
-    let found : IsReading c.args.text.now c.new-then-text-gt-TEXT_LIMIT.result (Some (TooLong 1073741824)) =
-    rw (c.new-then-text-gt-TEXT_LIMIT.ensures, c.new.ensures.items)
-    (reading-oversize c.args.text.now _ c.if-text-gt-TEXT_LIMIT.true
+pub returns-then-text-gt-MAX_TEXT_BYTES : goal.returns-then-text-gt-MAX_TEXT_BYTES
+returns-then-text-gt-MAX_TEXT_BYTES c =
+    let found : IsReading c.args.text.now c.new-then-text-gt-MAX_TEXT_BYTES.result (Some (TooLong 1073741824)) =
+    rw (c.new-then-text-gt-MAX_TEXT_BYTES.ensures, c.new.ensures.items)
+    (reading-oversize c.args.text.now _ c.if-text-gt-MAX_TEXT_BYTES.true
     (ap (λ n. 1 + n) (c.line_ends.ensures ∙ ap (count_by is_line_end) c.split_at.ensures.front))) in
     record { found = found; well_formed = well_formed c.args.text.now _ _ found; only = λ lexed fault is. reading-only c.args.text.now _ lexed _ fault found is }
 

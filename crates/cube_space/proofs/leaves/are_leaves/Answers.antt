@@ -1,7 +1,7 @@
 use Rattle.std.proofs.Common.{◌<◌, ◌+◌, ◌&&◌, ◌∙◌, length, get_or, drop, arith, sym, ap}
 use Rattle.cube_space.specs.Layout.{axes_of, sizes_of}
 use Rattle.cube_space.specs.Cells.{are_leaves}
-use Rattle.cube_space.proofs.Axes.{length-axes_of}
+use Rattle.cube_space.proofs.AxisSizes.{length-axes_of}
 use Rattle.cube_space.proofs.Radix.{digits-length}
 use Rattle.cube_space.proofs.LeafTests.{is_leaf-test, digits-turn, leaves-turn}
 use Rattle.cube_space.proofs.leaves.are_leaves.Goals as goal

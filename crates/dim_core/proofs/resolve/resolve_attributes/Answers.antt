@@ -15,13 +15,13 @@ use Rattle.dim_core.proofs.resolve.resolve_attributes.Goals as goal
 pub loop-call-init : goal.loop-call-init
 unfolding IsDistinct
 loop-call-init c =
-    let P : List Attribute → Type 0 = λ l. AllZip (IsResolvedAttribute c.args.names.now) [] l in
+    let P : List Attribute → Type 0 = λ l. AllZip (IsResolvedAttribute c.args.names.now.keys) [] l in
     let D : List Attribute → Type 0 = IsDistinct is_same_attribute in
     (tt, tt, subst P (sym c.new-resolved.ensures) tt, λ k h. absurd (omega arith), subst D (sym c.new-resolved.ensures) tt)
 
 pub returns-then-not-branch-clause-answered : goal.returns-then-not-branch-clause-answered
 returns-then-not-branch-clause-answered c =
-    let names = c.args.names.now in
+    let names = c.args.names.now.keys in
     let before = c.loop-call.yielded in
     let call = c.in-Some.call in
     let parts : c.args.calls.items ≡ before ++ call ∷ into_iter_items c.next.new.self =
@@ -34,7 +34,7 @@ returns-then-not-branch-clause-answered c =
 
 pub loop-call-preserved : goal.loop-call-preserved
 loop-call-preserved c =
-    let names = c.args.names.now in
+    let names = c.args.names.now.keys in
     let before = c.loop-call.yielded in
     let good = is_good _ c.in_ok-add_call.field-0 (c.in_ok-add_call.ensures.bad before c.loop-call.invariant.2) c.if-not-branch.false in (
       tt,
@@ -46,7 +46,7 @@ loop-call-preserved c =
 
 pub returns-clause-answered : goal.returns-clause-answered
 returns-clause-answered c =
-    let names = c.args.names.now in
+    let names = c.args.names.now.keys in
     let seen = c.loop-call.yielded in
     let parts : c.args.calls.items ≡ seen ++ into_iter_items c.loop-call.call-iterator =
     sym c.into_iter-call-iterator.ensures.into_iter_gives.0 ∙ taken_front c.into_iter-call-iterator.result seen c.loop-call.call-iterator c.loop-call.yielded_by in

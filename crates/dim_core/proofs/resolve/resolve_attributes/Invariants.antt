@@ -8,6 +8,6 @@ abbrev pub invariant-loop-call : goal.invariant-loop-call
 invariant-loop-call l =
     (goal.iterator-loop-call).can_next l.call-iterator ×
     (goal.iterator-loop-call).is_finite l.call-iterator ×
-    AllZip (IsResolvedAttribute l.names) l.yielded l.resolved ×
-    AreGood l.names l.yielded ×
+    AllZip (IsResolvedAttribute l.names.keys) l.yielded l.resolved ×
+    AreGood l.names.keys l.yielded ×
     IsDistinct is_same_attribute l.resolved

@@ -3,7 +3,7 @@ use Rattle.dim_order.specs.Members.{Joined, is_among}
 use Rattle.dim_order.specs.Inside.Growth.{IsGrown, is_ready}
 use Rattle.dim_order.specs.Loops.{parts_of}
 use Rattle.dim_order.proofs.GrowthLemmas.{push_grown}
-use Rattle.numbered.proofs.Places.{get_or_within}
+use Rattle.lists.proofs.Places.{get_or_within}
 use Rattle.dim_order.proofs.growth.visit.Goals as goal
 
 pub returns-clause-grown : goal.returns-clause-grown

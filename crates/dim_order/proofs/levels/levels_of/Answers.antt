@@ -3,7 +3,7 @@ use Rattle.std.proofs.Math.ListN.{length-set}
 use Rattle.dim_order.specs.Levels.{level_over}
 use Rattle.dim_order.specs.Loops.{parts_of}
 use Rattle.dim_order.proofs.LevelFacts.{order-within, components-within, levels-known, levels-small, levels-all}
-use Rattle.numbered.proofs.Places.{get_or_within}
+use Rattle.lists.proofs.Places.{get_or_within}
 use Rattle.dim_order.proofs.levels.levels_of.Goals as goal
 
 pub bounds-lists-element : goal.bounds-lists-element

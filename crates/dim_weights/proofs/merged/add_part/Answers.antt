@@ -1,6 +1,6 @@
 use Rattle.std.proofs.Common.{◌≡◌, ◌∙◌, ◌<◌, ◌≤◌, ◌-◌, ◌+◌, ◌+ℤ◌, ◌*ℤ◌, ap, refl, sym, subst, pos, ℕ, ℤ, All, get_or, length, set, arith, rules, w64, FitsSigned, to_z, of_z, unsigned_abs}
 use Rattle.std.proofs.lemmas.Int.{to_z-of_z}
-use Rattle.numbered.proofs.Places.{get_or_within}
+use Rattle.lists.proofs.Places.{get_or_within}
 use Rattle.dim_weights.specs.Coefficients.{weighted_sum}
 use Rattle.dim_weights.proofs.MergedSums.{weighted_sum-more, small-more, within-more, small-push}
 use Rattle.dim_weights.proofs.SumFacts.{weighted_sum-push}

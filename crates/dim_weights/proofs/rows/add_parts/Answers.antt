@@ -1,6 +1,6 @@
 use Rattle.std.proofs.Common.{◌≡◌, ◌∙◌, ◌<◌, ap, [], w64, FitsSigned, get_or, length, pos, rules, arith, unsigned_abs}
 use Rattle.std.proofs.lemmas.Int.{to_z-of_z}
-use Rattle.numbered.proofs.Places.{get_or_within}
+use Rattle.lists.proofs.Places.{get_or_within}
 use Rattle.dim_weights.specs.Table.{share, leaves_in}
 use Rattle.dim_weights.proofs.SumFacts.{parts-room, parts-step}
 use Rattle.dim_weights.proofs.rows.add_parts.Goals as goal

@@ -3,7 +3,7 @@ use Rattle.rule_laws.proofs.SparseFacts.{unfed-zero}
 use Rattle.rule_model.specs.System.{system_of, positions_of}
 use Rattle.model_laws.proofs.Formed.{well_formed}
 use Rattle.model_laws.proofs.Ranks.{ranked}
-use Rattle.stored_values.specs.Stored.{stored_in}
+use Rattle.stored_laws.specs.Stored.{stored_in}
 use Rattle.feed_map.proofs.laws.cells_off_the_map_are_zero.Goals as goal
 
 pub returns : goal.returns

@@ -1,6 +1,6 @@
 use Rattle.rule_model.specs.System.{system_of}
 use Rattle.model_laws.proofs.Formed.{well_formed}
-use Rattle.stored_values.specs.Stored.{stored_in}
+use Rattle.stored_laws.specs.Stored.{stored_in}
 use Rattle.feed_map.proofs.ChainFacts.{fed-leaf}
 use Rattle.feed_map.proofs.laws.fed_cells_are_leaf_cells.Goals as goal
 

@@ -2,7 +2,7 @@ use Rattle.std.proofs.Common.{rules, ◌≡◌, ◌<◌, None, true, sym, ap, �
 use Rattle.cube_fixed.specs.declared.value.Value.TheVariants.{Num}
 use Rattle.cube_space.specs.Cells.{size_of, is_leaf_cell}
 use Rattle.rule_model.specs.Governing.{governing_from}
-use Rattle.stored_values.specs.Stored.{stored_in}
+use Rattle.stored_laws.specs.Stored.{stored_in}
 use Rattle.memo_cases.proofs.StoredLeaf.{is-cell, leaf-value}
 use Rattle.memo_cases.proofs.leaf.leaf_value.Goals as goal
 

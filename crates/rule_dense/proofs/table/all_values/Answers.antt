@@ -2,7 +2,7 @@ use Rattle.std.proofs.Common.{sym, ◌∙◌, ap, subst, List}
 use Rattle.cube_fixed.specs.declared.value.Value.{Value}
 use Rattle.rule_laws.specs.RuleSystem.{right_side}
 use Rattle.rule_model.specs.System.{system_of}
-use Rattle.stored_values.specs.Stored.{stored_in}
+use Rattle.stored_laws.specs.Stored.{stored_in}
 use Rattle.rule_dense.specs.Inside.Plain.{table_of}
 use Rattle.rule_dense.specs.Inside.Depths.{IsByDepth}
 use Rattle.rule_dense.proofs.Depths.{dense-more, dense-all}

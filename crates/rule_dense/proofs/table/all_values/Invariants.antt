@@ -1,4 +1,4 @@
-use Rattle.stored_values.specs.Stored.{stored_in}
+use Rattle.stored_laws.specs.Stored.{stored_in}
 use Rattle.rule_dense.proofs.Depths.{AreDenseUpTo}
 use Rattle.rule_dense.proofs.table.all_values.Given as goal
 

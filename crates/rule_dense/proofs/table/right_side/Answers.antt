@@ -2,7 +2,7 @@ use Rattle.std.proofs.Common.{sym, ◌∙◌, ap, drop}
 use Rattle.rule_model.specs.System.{system_of}
 use Rattle.rule_model.specs.Governing.{rules_for}
 use Rattle.rule_evaluate.specs.Readings.{statements_value}
-use Rattle.stored_values.specs.Stored.{stored_in}
+use Rattle.stored_laws.specs.Stored.{stored_in}
 use Rattle.rule_dense.specs.Inside.Plain.{PlainTable, table_of, base_in, plain_readings}
 use Rattle.rule_dense.proofs.Rights.{right-ungoverned, right-governed, part-there}
 use Rattle.rule_dense.proofs.table.right_side.Goals as goal

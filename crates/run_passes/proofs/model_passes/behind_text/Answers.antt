@@ -7,7 +7,7 @@ use Rattle.file_passes.specs.Outside.{outside}
 use Rattle.file_passes.proofs.Coming.{comes-stopped, comes-behind}
 use Rattle.file_passes.proofs.Going.{on-refl}
 use Rattle.judged_files.specs.Scripts.{script_files}
-use Rattle.model_text.specs.Contents.{script_names, scripts_limit}
+use Rattle.model_text.specs.Contents.{script_names, most_scripts}
 use Rattle.run_passes.specs.Run.{deploy_pass}
 use Rattle.run_passes.specs.Inside.Plans.{behind_text, behind_rules}
 use Rattle.run_passes.proofs.PlanFacts.{steady-deploy}
@@ -24,7 +24,7 @@ pub behind_rules-requires-clause-few : goal.behind_rules-requires-clause-few
 behind_rules-requires-clause-few g c =
     let names : c.in-Ok-script_names.names ≡ script_names c.args.text.scripts = c.in-Ok-script_names.ensures ∙ ap script_names c.scripts-2.ensures.scripts in
     let same : length c.in-Ok-script_names.names ≡ length c.args.text.scripts = ap length names ∙ length-map c.args.text.scripts (λ script. script.name) in
-    subst (λ n. n ≤ scripts_limit) (sym same) c.scripts.ensures.valid.few_scripts
+    subst (λ n. n ≤ most_scripts) (sym same) c.scripts.ensures.valid.few_scripts
 
 pub returns-in_default-clause-comes : goal.returns-in_default-clause-comes
 returns-in_default-clause-comes g c = (

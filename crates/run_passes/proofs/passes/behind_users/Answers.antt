@@ -3,7 +3,7 @@ use Rattle.file_passes.specs.Halting.{Comes}
 use Rattle.file_passes.specs.Outside.{outside}
 use Rattle.file_passes.proofs.Coming.{comes-stopped, comes-mapped}
 use Rattle.judged_files.specs.Users.{AreKnown}
-use Rattle.run_passes.specs.declared.job.Job.TheVariants.{Serve}
+use Rattle.run_passes.specs.declared.run_job.RunJob.TheVariants.{Serve}
 use Rattle.run_passes.specs.Run.{records_pass}
 use Rattle.run_passes.specs.Inside.Plans.{checked_of, served, behind_users}
 use Rattle.run_passes.proofs.passes.behind_users.Goals as goal

@@ -3,7 +3,7 @@ use Rattle.cube_words.specs.Words as words
 use Rattle.file_passes.specs.Halting.{Comes}
 use Rattle.file_passes.specs.Outside.{outside}
 use Rattle.file_passes.proofs.Coming.{comes-stopped, comes-mapped}
-use Rattle.run_passes.specs.declared.job.Job.TheVariants.{Check}
+use Rattle.run_passes.specs.declared.run_job.RunJob.TheVariants.{Check}
 use Rattle.run_passes.specs.Run.{model_pass, plan_pass}
 use Rattle.run_passes.proofs.PlanFacts.{accept}
 use Rattle.run_passes.proofs.passes.check_pass.Goals as goal

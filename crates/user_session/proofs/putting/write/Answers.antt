@@ -2,7 +2,7 @@ use Rattle.std.proofs.Common.{rules, ◌≡◌, ℕ, ℤ, List, [], ◌∷◌, E
 use Rattle.cell_versions.specs.declared.fault.NextFault.TheVariants as faults
 use Rattle.user_session.specs.Content.{content_of}
 use Rattle.user_session.specs.Planning.{committed, rejected, write_effect}
-use Rattle.user_session.specs.declared.reply.Reason.TheVariants.{StoreLimit, FedLimit}
+use Rattle.user_session.specs.declared.reply.CommandReason.TheVariants.{StoreLimit, FedLimit}
 use Rattle.user_session.proofs.Told.{told-kept, told-store, told-fed}
 use Rattle.user_session.proofs.putting.write.Goals as goal
 

@@ -2,7 +2,7 @@ use Rattle.std.proofs.Common.{rules, ◌≡◌, sym, ◌∙◌, subst, inl, inr,
 use Rattle.std.specs.Arc.{arc_value}
 use Rattle.cell_store.specs.Entries.{after_writes}
 use Rattle.feed_map.specs.FedCells.{HasManyFed}
-use Rattle.stored_values.specs.Stored.{AreLeafEntries}
+use Rattle.stored_laws.specs.Stored.{AreLeafEntries}
 use Rattle.cell_versions.proofs.Writes.{leaves_after}
 use Rattle.cell_versions.proofs.Faults.{passed_on}
 use Rattle.cell_versions.proofs.version.Version.next.Goals as goal

@@ -1,5 +1,5 @@
 use Rattle.std.proofs.Common.{◌≡◌, ◌<◌, length, All, subst, sym, ◌∙◌, ℕ, ℤ, List, [], unsigned_abs, ◌≤◌}
-use Rattle.numbered.proofs.Places.{get_or_within}
+use Rattle.lists.proofs.Places.{get_or_within}
 use Rattle.dim_weights.specs.Table.{leaves_in, greatest_of, IsRising}
 use Rattle.dim_weights.proofs.Tables.{pair-size}
 use Rattle.dim_weights.proofs.weights.Weights.leaves.Goals as goal

@@ -4,8 +4,8 @@ use Rattle.cube_space.specs.Layout.{Layout}
 use Rattle.cube_space.specs.Cells.{is_leaf_cell}
 use Rattle.rule_laws.specs.RuleSystem.{base}
 use Rattle.rule_model.specs.System.{system_of}
-use Rattle.stored_values.specs.Stored.{stored_in}
-use Rattle.stored_values.proofs.Stored.{base-leaf}
+use Rattle.stored_laws.specs.Stored.{stored_in}
+use Rattle.stored_laws.proofs.Stored.{base-leaf}
 use Rattle.rule_dense.specs.Inside.Plain.{PlainTable, table_of}
 use Rattle.rule_dense.proofs.plain.Plain.base_of.Goals as goal
 

@@ -2,7 +2,7 @@ use Rattle.std.proofs.Common.{rules, ap, sym, subst, ◌∙◌}
 use Rattle.version_book.specs.Lists.{GoesOn}
 use Rattle.version_book.specs.Passes.{seen, numbers_of}
 use Rattle.version_book.specs.Inside.Plays.{staged}
-use Rattle.version_book.specs.declared.view.Stage.TheVariants.{Turn}
+use Rattle.version_book.specs.declared.pass_view.Stage.TheVariants.{Turn}
 use Rattle.version_book.proofs.Hands.{met_by}
 use Rattle.version_book.proofs.Joins.{join_allowed}
 use Rattle.version_book.proofs.passes.Book+W.meet.Goals as goal

@@ -1,0 +1,19 @@
+ghost use Rattle.std.specs.Prelude.{◌≡◌, IfOk};
+
+use crate::Name;
+use crate::attributes::copy_of;
+use indexmap::IndexSet;
+use lists::Numbered;
+use std::alloc::{AllocError, Global};
+
+/// The names of a finished dimension, numbered as the set numbers them.
+pub fn kept_names(alloc: Global, names: IndexSet<Name>) -> Result<Numbered<Name>, AllocError>
+    ensures { IfOk result (λ kept. kept ≡ names.keys) }
+{
+    let mut kept = Numbered::new(alloc);
+    for name in names {
+        let copy = copy_of(alloc, &name)?;
+        kept.insert(name, copy)?;
+    }
+    Ok(kept)
+}

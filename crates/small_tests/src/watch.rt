@@ -1,0 +1,75 @@
+use cube_lex::{Kind, Token};
+use grammar::{Cursor, Scan, Stop, end, line_left, sign, sign_comes, word, word_comes};
+
+/// `Dim ;` and, on the next line, the word `n`.
+const TOKENS: [Token<'static>; 3] = [
+    Token {
+        kind: Kind::Word,
+        piece: b"Dim",
+        start: 0,
+        line: 1,
+    },
+    Token {
+        kind: Kind::Sign,
+        piece: b";",
+        start: 3,
+        line: 1,
+    },
+    Token {
+        kind: Kind::Word,
+        piece: b"n",
+        start: 5,
+        line: 2,
+    },
+];
+
+#[derive(Debug, Drop, PartialEq)]
+enum Cause {
+    TooMany,
+}
+
+/// Lets so many tokens through.
+#[derive(Drop)]
+struct AtMost {
+    tokens: u8,
+}
+
+impl Scan<Cause> for AtMost {
+    ghost use Rattle.std.specs.Prelude.{nat_lt, ◌-◌, if◌then◌else◌, Ok, Err};
+    ghost use Rattle.small_tests.specs.declared.watch.Cause.TheVariants.{TooMany};
+
+    ghost scanned = { λ s _. if nat_lt 0 s.tokens then Ok (record { tokens = s.tokens - 1 }) else Err TooMany };
+
+    fn scan(&mut self, _: &Token<'_>) -> Result<(), Cause> {
+        if 0 < self.tokens {
+            self.tokens -= 1;
+            Ok(())
+        } else {
+            Err(Cause::TooMany)
+        }
+    }
+}
+
+// `DIM ; N`, with the line of the N.
+fn block(cursor: &mut Cursor<'_, AtMost>) -> Result<u32, Stop<Cause>> {
+    word(cursor, b"DIM")?;
+    sign(cursor, b";")?;
+    let line = word(cursor, b"N")?;
+    end(cursor)?;
+    Ok(line)
+}
+
+#[test]
+fn a_reader_takes_a_block_or_stops(rt: HostRuntime) {
+    let mut cursor = Cursor::new(&TOKENS, AtMost { tokens: 3 });
+    assert!(rt; word_comes(&cursor, b"DIM") && !sign_comes(&cursor, b";"));
+    assert!(rt; matches!(block(&mut cursor), Ok(2)));
+    let mut cursor = Cursor::new(&TOKENS[1..], AtMost { tokens: 3 });
+    assert!(rt; matches!(block(&mut cursor), Err(Stop::Unexpected(2))));
+    let mut cursor = Cursor::new(&TOKENS, AtMost { tokens: 2 });
+    assert!(rt; matches!(block(&mut cursor), Err(Stop::Refused(Cause::TooMany))));
+    assert_eq!(rt;
+        [line_left(&TOKENS, 7, 2), line_left(&TOKENS, 7, 0)],
+        [1, 7]
+    );
+}
