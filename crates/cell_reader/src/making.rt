@@ -58,7 +58,7 @@ impl Snapshot {
         Ok(next)
     }
 
-    /// The same for another reader, who knows what this one knows. It doesn't wait.
+    /// The same for another reader, who knows what this one knows, and holds no value for itself yet. It doesn't wait.
     pub fn share(&mut self) -> Result<Snapshot, AllocError>
         ensures version { IfOk result (λ shared. version_of shared ≡ version_of self.old) }
         ensures memory { IfOk result (λ shared. memory_of shared ≡ memory_of self.old) }

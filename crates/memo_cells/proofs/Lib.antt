@@ -2,4 +2,3 @@ mod Words
 mod Keeps
 mod Growth
 mod Tells
-mod Held

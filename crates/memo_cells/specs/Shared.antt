@@ -22,4 +22,4 @@ known_to shared = knowledge shared.seat
 
 -- of a cell, whether its reader holds the value for itself
 abbrev pub holds : SharedMemo → ℕ → Bool
-holds shared cell = is_some (get nat_cmp shared.own cell)
+holds shared cell = is_some (get nat_cmp shared.held cell)

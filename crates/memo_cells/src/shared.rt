@@ -1,7 +1,7 @@
 ghost use Rattle.std.specs.Arc.{arc_value};
 ghost use Rattle.std.specs.Coded.{codes};
 ghost use Rattle.memo_cells.specs.Seats.{IsAt, version_of};
-ghost use Rattle.memo_cells.specs.Own.{AreOwn};
+ghost use Rattle.memo_cells.specs.HeldValues.{AreRight};
 ghost use Rattle.memo_cells.specs.contracts.version.Version as version;
 
 use crate::memo::Memo;
@@ -17,8 +17,8 @@ use std::sync::Arc;
 pub struct SharedMemo {
     pub(crate) memo: Arc<Memo, Global>,
     pub(crate) seat: MemoSeat,
-    pub(crate) own: BTreeMap<u64, Value>,
+    pub(crate) held: BTreeMap<u64, Value>,
     pub(crate) alloc: Global,
     ghost at: { IsAt (arc_value memo) seat } by { Prim.hlevel (codes, version.the_row.coded) },
-    ghost right: { AreOwn (version_of (arc_value memo)) own } by { Prim.hlevel (codes, version.the_row.coded) },
+    ghost right: { AreRight (version_of (arc_value memo)) held } by { Prim.hlevel (codes, version.the_row.coded) },
 }

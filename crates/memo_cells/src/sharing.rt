@@ -3,9 +3,9 @@ ghost use Rattle.memo_cells.specs.Shared.{known_to, memo_of, version_kept};
 ghost use Rattle.memo_cells.specs.Seats.{slots_of};
 
 use crate::answers::{Kept, Look};
+use crate::held::{held_value, hold};
 use crate::memo::Memo;
 use crate::memory::Memory;
-use crate::own::{keep_own, own_value};
 use crate::shared::SharedMemo;
 use cell_store::Store;
 use cube_fixed::Value;
@@ -34,7 +34,7 @@ impl SharedMemo {
         Ok(SharedMemo {
             memo,
             seat,
-            own: BTreeMap::new(alloc),
+            held: BTreeMap::new(alloc),
             alloc,
         })
     }
@@ -52,7 +52,7 @@ impl SharedMemo {
         Ok(SharedMemo {
             memo,
             seat,
-            own: BTreeMap::new(self.alloc),
+            held: BTreeMap::new(self.alloc),
             alloc: self.alloc,
         })
     }
@@ -73,7 +73,7 @@ impl Memory for SharedMemo {
     }
 
     fn recall(&self, cell: u64) -> Option<Value> {
-        own_value(&self.own, cell)
+        held_value(&self.held, cell)
     }
 
     fn reserve(&mut self, cell: u64) {
@@ -84,7 +84,7 @@ impl Memory for SharedMemo {
         let kept = self.memo.keep(&mut self.seat, cell, value);
         if let Kept::Other(_) = kept {
             // a value that there is no memory for is worked out again
-            let _ = keep_own(&mut self.own, cell, value);
+            let _ = hold(&mut self.held, cell, value);
         }
         kept
     }

@@ -7,5 +7,5 @@ use Rattle.memo_cells.specs.Values.{cell_value}
 use Rattle.memo_cells.specs.declared.version.Version.{Version}
 
 -- each value is the cell's on this version
-abbrev pub AreOwn : Version → BTreeMap ℕ Value → Type 0
-AreOwn version own = (cell : ℕ) (value : Value) → get nat_cmp own cell ≡ Some value → value ≡ cell_value version cell
+abbrev pub AreRight : Version → BTreeMap ℕ Value → Type 0
+AreRight version held = (cell : ℕ) (value : Value) → get nat_cmp held cell ≡ Some value → value ≡ cell_value version cell
