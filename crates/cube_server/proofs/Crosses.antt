@@ -116,10 +116,10 @@ Seat-sync : (S V : RattleType) → IsSend S → IsSync (Seat.the_row S V)
 Seat-sync S V s = record { shared = λ d b o κ q. part_keyless (Seat.the_row S V) (seat.the_send S V s) q d b o }
 
 SharedMemo-send : IsSend SharedMemo.the_field.row
-SharedMemo-send = search (parts, Memo-send, Memo-sync, seat.the_send, BTreeMap-send, value.the_send, money.the_send) depth 20
+SharedMemo-send = search (parts, Memo-send, Memo-sync, seat.the_send, BTreeMap-send, value.the_send) depth 20
 
 SharedMemo-sync : IsSync SharedMemo.the_field.row
-SharedMemo-sync = search (parts, Memo-send, Memo-sync, Seat-sync, BTreeMap-sync, value.the_sync, money.the_sync) depth 20
+SharedMemo-sync = search (parts, Memo-send, Memo-sync, Seat-sync, BTreeMap-sync, value.the_sync) depth 20
 
 pub Snapshot-send : IsSend Snapshot.the_row
 Snapshot-send = search (parts, Version-send, Version-sync, SharedMemo-send) depth 20
