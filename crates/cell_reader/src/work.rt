@@ -10,6 +10,10 @@ use memo_cells::SharedMemo;
 use std::alloc::Global;
 use std::sync::Arc;
 
+/// Into how many slots the cells of a version fall that a load has made. They are few, since each write makes a new
+/// memory: what has no slot the load holds for itself.
+pub(crate) const WORK_SLOTS: u32 = 256;
+
 /// A version with the writes of a load so far. It sees its own writes.
 ///
 /// Writes wait while no limit can be passed: the version with them is made when a cell is read, or a limit is near.

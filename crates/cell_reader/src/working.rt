@@ -11,7 +11,7 @@ ghost use Rattle.cell_writes.specs.Writes.{last_writes};
 use crate::making::memory_for;
 use crate::room::passes_no_limit;
 use crate::snapshot::Snapshot;
-use crate::work::Work;
+use crate::work::{WORK_SLOTS, Work};
 use cell_values::value_of;
 use cell_writes::last_writes;
 use cube_fixed::{Money, Steps, Value};
@@ -59,7 +59,7 @@ impl Work {
         self.settle(alloc)?;
         let mut memo = match self.memo.take() {
             Some(memo) => memo,
-            None => memory_for(alloc, &self.latest)?,
+            None => memory_for(alloc, &self.latest, WORK_SLOTS)?,
         };
         let value = value_of(alloc, &self.latest, &mut memo, cell, steps);
         self.memo = Some(memo);

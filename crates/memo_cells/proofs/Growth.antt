@@ -72,6 +72,11 @@ longer-put v at value word = by (eqb word 0)
     by true = longer-learned v at value
     by false = longer-learned v at word
 
+-- through the one step of a reservation
+pub grew-reserved : (v w : View) (at key found : ℕ) → w ≡ after_claim v at key found → Grew (known_by v) (known_by w)
+grew-reserved v w at key found claim =
+    grew-longer v w (subst (Longer v) (sym claim) (longer-claim v at key found))
+
 -- through the two steps of a keep
 pub grew-kept : (v w x : View) (at key found place value there : ℕ) → w ≡ after_claim v at key found
     → x ≡ after_put w place value there → Grew (known_by v) (known_by x)
