@@ -8,7 +8,7 @@ ghost use Rattle.cell_values.specs.Reading.{AreValuesOn};
 ghost use Rattle.cell_versions.specs.Versions.{AreLeafWrites, IsVersion, number_after};
 ghost use Rattle.memo_cells.specs.Shared.{version_kept};
 ghost use Rattle.memo_cells.specs.Values.{cell_value};
-ghost use Rattle.cell_reader.specs.Limits.{fed_count};
+ghost use Rattle.cell_reader.specs.FedCount.{fed_count};
 ghost use Rattle.cell_reader.specs.Snapshots.{known_in, memory_of, version_of};
 
 use crate::snapshot::{SLOTS, Snapshot};
