@@ -43,7 +43,7 @@ impl Snapshot {
         ensures stored { IfOk result (λ next.
             (version_of next).stored ≡ after_writes (version_of self.now).stored writes.now) }
 
-        // each limit is told exactly where it is passed, want of memory aside, that of the stored cells first
+        // each limit is answered exactly where it is passed, out of memory aside, that of the stored cells first
         ensures within { length (after_writes (version_of self.now).stored writes.now) ≤ most_cells →
             fed_count (version_of self.now).model (after_writes (version_of self.now).stored writes.now) ≤ most_fed →
             IsOkUnless result NextFault.Memory }

@@ -25,7 +25,7 @@ impl Work {
         ensures written { OnOk result (writes_of self.new ≡ writes_of self.old ++ (cell, number) ∷ []) }
         ensures same { OnErr result (writes_of self.new ≡ writes_of self.old) }
 
-        // each limit is told exactly where this write passes it, want of memory aside, that of the stored cells first
+        // the answer is a limit exactly where this write passes it, out of memory aside, that of the stored cells first
         ensures within { length (stored_after self.old (writes_of self.old ++ (cell, number) ∷ [])) ≤ most_cells →
             fed_count (opening_of self.old).model (stored_after self.old (writes_of self.old ++ (cell, number) ∷ []))
             ≤ most_fed →
