@@ -25,7 +25,7 @@ use Rattle.rule_model.specs.BoundModel.{BoundModel, rules_of}
 use Rattle.rule_model.specs.Conditions.{AreRules}
 use Rattle.rule_model.specs.System.{cube_feeds, cubes_of, feed_of, system_of}
 use Rattle.stored_laws.specs.Stored.{stored_in}
-use Rattle.cell_reader.specs.Limits.{fed_count}
+use Rattle.cell_reader.specs.FedCount.{fed_count}
 
 -- ---- the stored cells
 

@@ -23,7 +23,7 @@ use solver::{Opened, answer};
 use std::alloc::{AllocError, Global};
 use std::sync::ledger::Ledger;
 
-/// The value of a cell on a version. The memory has values on that version alone. It fails for want of memory alone.
+/// The value of a cell on a version. The memory has values on that version alone. It fails only when out of memory.
 ///
 /// What the memory knows or holds is not worked out again, and what is worked out is kept there. Each evaluation of a
 /// statement is one step; a sum over cells is none.

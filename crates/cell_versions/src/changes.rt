@@ -16,8 +16,8 @@ pub(crate) fn added_by(
     after: &Store,
     writes: &[(u64, Money)],
 ) -> Result<Option<Vec<u64>>, AllocError>
-    ensures { IfOk result (λ added.
-        IsAddedIf model.now before.now after.now (map (λ write. write.0) writes.now) (option_map (λ cells. cells.items) added)) }
+    ensures { IfOk result (λ added. IsAddedIf model.now before.now after.now (map (λ write. write.0) writes.now)
+        (option_map (λ cells. cells.items) added)) }
 {
     let mut added = Vec::new(alloc);
     for write in writes {

@@ -67,7 +67,7 @@ impl Version {
         ensures model { IfOk result (λ next. next.model ≡ self.now.model) }
         ensures stored { IfOk result (λ next. next.stored ≡ after_writes self.now.stored writes.now) }
 
-        // each limit is told exactly where it is passed, want of memory aside, that of the stored cells first
+        // each limit is answered exactly where it is passed, out of memory aside, that of the stored cells first
         ensures within { length (after_writes self.now.stored writes.now) ≤ most_cells →
             HasFewFed self.now.model (after_writes self.now.stored writes.now) → IsOkUnless result NextFault.Memory }
         ensures past_store { most_cells < length (after_writes self.now.stored writes.now) →

@@ -31,7 +31,7 @@ use std::thread::Threads;
 ///
 /// Each user runs on a thread of its own and passes the gate at the parts of its commands; where a thread can't be
 /// started, users run one after another. Nothing is written before all users are done; then each user's text is one
-/// write, and the history is the last. Any other text is one write. Want of memory may take the place of any other end.
+/// write, and the history is the last. Any other text is one write. Out of memory may take the place of any other end.
 pub fn run_cubes<R: Threads + Wait + AllocGlobal + Sync, F: Files, S: Sink, G: Gate + Sync>(
     rt: &R,
     words: &[String],
@@ -55,7 +55,7 @@ pub fn run_cubes<R: Threads + Wait + AllocGlobal + Sync, F: Files, S: Sink, G: G
         ⊎ WritesPart (texts_of words.now) (outside F.known F.faults F.missed F.asked files.old files.new)
         (S.written out.old) (S.written out.new) }
 
-    // Which status each cause has, want of memory aside.
+    // Which status each cause has, out of memory aside.
     ensures a_read_failed { F.faults files.old < F.faults files.new →
         IsOneOf (ReadFault ∷ WriteFault ∷ NoMemory ∷ []) result }
     ensures a_write_failed { S.faults out.old < S.faults out.new → result ≡ WriteFault }

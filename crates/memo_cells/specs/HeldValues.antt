@@ -8,4 +8,5 @@ use Rattle.memo_cells.specs.declared.version.Version.{Version}
 
 -- each value is the cell's on this version
 abbrev pub AreRight : Version → BTreeMap ℕ Value → Type 0
-AreRight version held = (cell : ℕ) (value : Value) → get nat_cmp held cell ≡ Some value → value ≡ cell_value version cell
+AreRight version held = (cell : ℕ) (value : Value) → get nat_cmp held cell ≡ Some value
+    → value ≡ cell_value version cell

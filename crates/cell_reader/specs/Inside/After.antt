@@ -13,7 +13,7 @@ use Rattle.memo_cells.specs.declared.shared.SharedMemo.{SharedMemo}
 use Rattle.memo_cells.specs.Shared.{version_kept}
 use Rattle.memo_cells.specs.Values.{cell_value}
 use Rattle.rule_model.specs.BoundModel.{BoundModel}
-use Rattle.cell_reader.specs.Limits.{fed_count}
+use Rattle.cell_reader.specs.FedCount.{fed_count}
 
 -- what these writes have made of the version that the work began with
 pub record IsAfter (opening : NumberedVersion) (writes : List (ℕ × ℤ)) (model : BoundModel) (stored : List Entry)

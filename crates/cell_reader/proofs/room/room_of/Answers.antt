@@ -5,7 +5,7 @@ use Rattle.cube_space.specs.Cells.{IsSpace}
 use Rattle.feed_map.specs.FedCells.{most_fed}
 use Rattle.rule_model.specs.BoundModel.{BoundModel}
 use Rattle.rule_model.specs.Conditions.{AreRules}
-use Rattle.cell_reader.proofs.Limits.{count_of}
+use Rattle.cell_reader.proofs.FedCount.{count_of}
 use Rattle.cell_reader.proofs.room.room_of.Goals as goal
 
 pub returns : goal.returns

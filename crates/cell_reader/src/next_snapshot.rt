@@ -8,7 +8,7 @@ ghost use Rattle.cell_values.specs.Reading.{AreValuesOn};
 ghost use Rattle.cell_versions.specs.Versions.{AreLeafWrites, IsVersion, number_after};
 ghost use Rattle.memo_cells.specs.Shared.{version_kept};
 ghost use Rattle.memo_cells.specs.Values.{cell_value};
-ghost use Rattle.cell_reader.specs.Limits.{fed_count};
+ghost use Rattle.cell_reader.specs.FedCount.{fed_count};
 ghost use Rattle.cell_reader.specs.Snapshots.{known_in, memory_of, version_of};
 
 use crate::snapshot::{SLOTS, Snapshot};
@@ -43,7 +43,7 @@ impl Snapshot {
         ensures stored { IfOk result (λ next.
             (version_of next).stored ≡ after_writes (version_of self.now).stored writes.now) }
 
-        // each limit is told exactly where it is passed, want of memory aside, that of the stored cells first
+        // each limit is answered exactly where it is passed, out of memory aside, that of the stored cells first
         ensures within { length (after_writes (version_of self.now).stored writes.now) ≤ most_cells →
             fed_count (version_of self.now).model (after_writes (version_of self.now).stored writes.now) ≤ most_fed →
             IsOkUnless result NextFault.Memory }

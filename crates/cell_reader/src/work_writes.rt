@@ -4,11 +4,11 @@ ghost use Rattle.std.specs.Arc.{arc_value};
 ghost use Rattle.cell_store.specs.StoreLimit.{most_cells};
 ghost use Rattle.cube_space.specs.Cells.{IsCell, is_leaf_cell};
 ghost use Rattle.feed_map.specs.FedCells.{most_fed};
-ghost use Rattle.cell_reader.specs.Limits.{fed_count};
+ghost use Rattle.cell_reader.specs.FedCount.{fed_count};
 ghost use Rattle.cell_reader.specs.Works.{opening_of, stored_after, writes_of};
 ghost use Rattle.cell_reader.specs.Inside.After.{IsAfter};
 
-use crate::making::version_after;
+use crate::next_snapshot::version_after;
 use crate::room::{room_behind, room_of};
 use crate::work::Work;
 use cell_versions::{NextFault, Version};
@@ -25,7 +25,7 @@ impl Work {
         ensures written { OnOk result (writes_of self.new ≡ writes_of self.old ++ (cell, number) ∷ []) }
         ensures same { OnErr result (writes_of self.new ≡ writes_of self.old) }
 
-        // each limit is told exactly where this write passes it, want of memory aside, that of the stored cells first
+        // the answer is a limit exactly where this write passes it, out of memory aside, that of the stored cells first
         ensures within { length (stored_after self.old (writes_of self.old ++ (cell, number) ∷ [])) ≤ most_cells →
             fed_count (opening_of self.old).model (stored_after self.old (writes_of self.old ++ (cell, number) ∷ []))
             ≤ most_fed →

@@ -8,7 +8,7 @@ ghost use Rattle.cell_reader.specs.Snapshots.{known_in, memory_of, version_of};
 ghost use Rattle.cell_reader.specs.Works.{opening_of, stored_after, writes_of};
 ghost use Rattle.cell_writes.specs.Writes.{last_writes};
 
-use crate::making::memory_for;
+use crate::next_snapshot::memory_for;
 use crate::room::room_of;
 use crate::snapshot::Snapshot;
 use crate::work::{WORK_SLOTS, Work};
