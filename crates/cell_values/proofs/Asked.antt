@@ -1,6 +1,6 @@
 -- What the evaluation of a cell asks, and that it is answered rightly.
 use Rattle.std.proofs.Common.{◌≡◌, refl, sym, ◌∙◌, ap, subst, arith, ℕ, suc, ◌<◌, ltb, eqb, Bool, true, false, ◌&&◌, ◌||◌, ℤ, List, [], ◌∷◌, ◌++◌, drop, map, length, Contains, Option, Some, None}
-use Rattle.std.specs.Prelude.{is_some, slice_get, Result, Ok, Err, IfOk, IfErr, if◌then◌else◌}
+use Rattle.std.specs.Prelude.{is_some, not, slice_get, Result, Ok, Err, IfErr, if◌then◌else◌}
 use Rattle.std.specs.List.{All, range_with_len}
 use Rattle.std.proofs.Math.Path.{fun_ext}
 use Rattle.std.proofs.lemmas.Bool.{lt-ltb, ltb-true, and_parts, eq-eqb, eqb-true}
@@ -72,34 +72,42 @@ listed-right v (one ∷ known) right q a is = by (is_same one.0 q) refl (λ late
 -- ---- what is answered
 
 -- where the remembered values are those on the version, the answers are those of the table of values
-pub answered-is : (at : ListedAnswers) (values : ℕ → Value) → values ≡ value_on at.version
-    → answered (record { listed = at; values = values }) ≡ readings_of (system_of at.version.model) (stored_in at.version.stored) (value_on at.version)
+pub answered-is : (at : ListedAnswers) (values : ℕ → Value) (holds : ℕ → Bool) → values ≡ value_on at.version
+    → answered (record { listed = at; values = values; holds = holds }) ≡ readings_of (system_of at.version.model) (stored_in at.version.stored) (value_on at.version)
 unfolding answered answered_value base_on children_on
-answered-is at values are = ap (λ (table : ℕ → Value). record { value = table; base = base_on at.version; children = children_on at.version }) (fun_ext same)
+answered-is at values holds are = ap (λ (table : ℕ → Value). record { value = table; base = base_on at.version; children = children_on at.version }) (fun_ext same)
   where
-    same : (c : ℕ) → answered_value (record { listed = at; values = values }) c ≡ value_on at.version c
-    same c = by (is_told at.version c || is_some (listed at.known (of_value c))) refl
+    same : (c : ℕ) → answered_value (record { listed = at; values = values; holds = holds }) c ≡ value_on at.version c
+    same c = by (not (holds c) && (is_told at.version c || is_some (listed at.known (of_value c)))) refl
       where
-        by : (b : Bool) → (is_told at.version c || is_some (listed at.known (of_value c))) ≡ b → answered_value (record { listed = at; values = values }) c ≡ value_on at.version c
+        by : (b : Bool) → (not (holds c) && (is_told at.version c || is_some (listed at.known (of_value c)))) ≡ b → answered_value (record { listed = at; values = values; holds = holds }) c ≡ value_on at.version c
         by true is = rw is refl
         by false is = rw is (ap (λ (table : ℕ → Value). table c) are)
 
-module _ (terms : AnswerTerms) (c : ℕ) where
-  pub value-told : is_told terms.listed.version c ≡ true → (answered terms).value c ≡ value_on terms.listed.version c
-  unfolding answered answered_value
-  value-told is = rw is refl
+pub not-held : (o : Option Value) → ((a : Value) → o ≡ Some a → ⊥) → is_some o ≡ false
+not-held None none = refl
+not-held (Some a) none = absurd (none a refl)
 
-  pub value-listed : (a : Value) → listed terms.listed.known (of_value c) ≡ Some a → (answered terms).value c ≡ value_on terms.listed.version c
+module _ (terms : AnswerTerms) (c : ℕ) where
+  pub value-held : terms.holds c ≡ true → (answered terms).value c ≡ terms.values c
   unfolding answered answered_value
-  value-listed a is = by (is_told terms.listed.version c) refl
+  value-held held = rw held refl
+
+  pub value-told : terms.holds c ≡ false → is_told terms.listed.version c ≡ true → (answered terms).value c ≡ value_on terms.listed.version c
+  unfolding answered answered_value
+  value-told free is = rw (free, is) refl
+
+  pub value-listed : (a : Value) → terms.holds c ≡ false → listed terms.listed.known (of_value c) ≡ Some a → (answered terms).value c ≡ value_on terms.listed.version c
+  unfolding answered answered_value
+  value-listed a free is = by (is_told terms.listed.version c) refl
     where
       by : (b : Bool) → is_told terms.listed.version c ≡ b → answered_value terms c ≡ value_on terms.listed.version c
-      by true told = rw told refl
-      by false told = rw (told, is) refl
+      by true told = rw (free, told) refl
+      by false told = rw (free, told, is) refl
 
-  pub value-remembered : is_told terms.listed.version c ≡ false → listed terms.listed.known (of_value c) ≡ None → (answered terms).value c ≡ terms.values c
+  pub value-remembered : terms.holds c ≡ false → is_told terms.listed.version c ≡ false → listed terms.listed.known (of_value c) ≡ None → (answered terms).value c ≡ terms.values c
   unfolding answered answered_value
-  value-remembered told none = rw (told, none) refl
+  value-remembered free told none = rw (free, told, none) refl
 
 -- ---- what is asked
 
@@ -119,9 +127,9 @@ module _ (v : NumberedVersion) (valid : IsSpace v.model.space) (rules : AreRules
       All-contains (λ p. Throughout (system_of v.model) rule ((system_of v.model).is_leaf c) p (λ c t. depth (system_of v.model) t < depth (system_of v.model) c)) (precedents f) p
       (own ((system_of v.model).is_leaf c) f given.1) reads c t here precedes
 
-  module _ (known : Known) (values : ℕ → Value) where
+  module _ (known : Known) (values : ℕ → Value) (holds : ℕ → Bool) where
     abbrev terms : AnswerTerms
-    terms = record { listed = record { version = v; known = known; cell = c }; values = values }
+    terms = record { listed = record { version = v; known = known; cell = c }; values = values; holds = holds }
 
     own-base : may_ask terms (of_base c) ≡ true
     own-base = let a = lt-ltb c (size_of v.model.space) is_cell in let b : eqb c c ≡ true = eq-eqb c c refl in rw (a, b) refl
@@ -169,9 +177,9 @@ module _ (v : NumberedVersion) (valid : IsSpace v.model.space) (rules : AreRules
 
 -- ---- what is missing
 
-module _ (at : ListedAnswers) (values : ℕ → Value) where
+module _ (at : ListedAnswers) (values : ℕ → Value) (holds : ℕ → Bool) where
   abbrev own_terms : AnswerTerms
-  own_terms = record { listed = at; values = values }
+  own_terms = record { listed = at; values = values; holds = holds }
 
   pub value-within : (x : ℕ) → may_ask own_terms (of_value x) ≡ true → IsCell at.version.model.space x
   value-within x may = ltb-true x (size_of at.version.model.space) (and_parts (ltb x (size_of at.version.model.space)) _ may).0

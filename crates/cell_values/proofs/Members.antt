@@ -1,5 +1,5 @@
 -- Members of lists.
-use Rattle.std.proofs.Common.{◌≡◌, refl, sym, ◌∙◌, ap, subst, ℕ, zero, suc, eqb, ◌⊎◌, inl, inr, Bool, true, false, ◌||◌, List, [], ◌∷◌, drop, filter}
+use Rattle.std.proofs.Common.{◌≡◌, refl, sym, ◌∙◌, ap, subst, ℕ, zero, suc, eqb, ◌⊎◌, inl, inr, Bool, true, false, List, [], ◌∷◌, drop, filter}
 use Rattle.std.specs.Prelude.{IsTrue, ◌↔◌}
 use Rattle.std.specs.List.{Contains, list_all}
 use Rattle.std.proofs.lemmas.Bool.{eq-eqb, eqb-true}

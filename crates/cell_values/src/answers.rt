@@ -85,7 +85,7 @@ impl<'a, M: Memory> Refs<M> for Answers<'a> {
 
     ghost Terms = { AnswerTerms };
 
-    ghost terms = { λ answers memory. record { listed = answers; values = M.values memory } };
+    ghost terms = { λ answers memory. record { listed = answers; values = M.values memory; holds = M.holds memory } };
 
     ghost readings = { answered };
 
@@ -96,6 +96,9 @@ impl<'a, M: Memory> Refs<M> for Answers<'a> {
     ghost later = { λ before after. Grew (M.known before) (M.known after) };
 
     fn value(&self, memory: &mut M, cell: u64) -> Result<Value, Missing> {
+        if let Some(value) = memory.recall(cell) {
+            return Ok(value);
+        }
         match self.listed(Ask::Value(cell)) {
             Ok(value) => Ok(value),
             Err(missing) => {

@@ -13,6 +13,7 @@ pub(crate) fn remembered<M: Memory>(version: &Version, memory: &mut M, cell: u64
     requires { IsCell version.now.model.space cell }
     ensures value { IfSome result (λ v. v ≡ M.values memory.old cell) }
     ensures values { M.values memory.new ≡ M.values memory.old }
+    ensures holds { M.holds memory.new ≡ M.holds memory.old }
     ensures grew { Grew (M.known memory.old) (M.known memory.new) }
 {
     is_sound(version);

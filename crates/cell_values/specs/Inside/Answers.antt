@@ -23,10 +23,11 @@ pub record ListedAnswers : Type 0 where
   pub known : Known
   pub cell : ℕ
 
--- and the values that are remembered
+-- and the values that are remembered, with the cells whose values are held
 pub record AnswerTerms : Type 0 where
   pub listed : ListedAnswers
   pub values : ℕ → Value
+  pub holds : ℕ → Bool
 
 -- whether a cell's value is known without work: of a leaf cell that no statement governs, or that is neither stored nor
 -- fed
@@ -35,10 +36,11 @@ is_told version cell =
     is_leaf_cell version.model.space cell
     && (is_none (governing_from version.model cell 0) || not (is_live (cells_of version.stored) version.fed cell))
 
--- the value of a cell as it is answered: where it is neither told without work nor listed it is remembered
+-- the value of a cell as it is answered: where it is held, or neither told without work nor listed, it is remembered
 unfoldable pub answered_value : AnswerTerms → ℕ → Value
 answered_value terms cell =
-    if is_told terms.listed.version cell || is_some (listed terms.listed.known (of_value cell))
+    if not (terms.holds cell)
+    && (is_told terms.listed.version cell || is_some (listed terms.listed.known (of_value cell)))
     then value_on terms.listed.version cell else terms.values cell
 
 unfoldable pub answered : AnswerTerms → Readings

@@ -9,12 +9,14 @@ use Rattle.cell_values.proofs.answers.AnswersRefs.children.Goals as goal
 pub returns-clause-value : goal.returns-clause-value
 returns-clause-value g c =
     let values = g.M.Memory.values c.args.memory.now in
-    let same : children_on c.args.self.now.version c.args.cell c.args.dim ≡ (answered (record { listed = c.args.self.now; values = values })).children c.args.cell c.args.dim =
-    sym (ap (λ (f : ℕ → ℕ → Value). f c.args.cell c.args.dim) (answered-children (record { listed = c.args.self.now; values = values }))) in
+    let holds = g.M.Memory.holds c.args.memory.now in
+    let same : children_on c.args.self.now.version c.args.cell c.args.dim ≡ (answered (record { listed = c.args.self.now; values = values; holds = holds })).children c.args.cell c.args.dim =
+    sym (ap (λ (f : ℕ → ℕ → Value). f c.args.cell c.args.dim) (answered-children (record { listed = c.args.self.now; values = values; holds = holds }))) in
     subst (λ (x : Value). IfOk c.listed.result (λ v. v ≡ x)) same c.listed.ensures.right
 
 pub returns-clause-fault : goal.returns-clause-fault
 returns-clause-fault g c =
     let values = g.M.Memory.values c.args.memory.now in
+    let holds = g.M.Memory.holds c.args.memory.now in
     missing-or c.args.self.now (of_children c.args.cell c.args.dim) c.listed.result c.listed.ensures.fault
-    (λ none. children-missing c.args.self.now values c.args.cell c.args.dim c.requires none)
+    (λ none. children-missing c.args.self.now values holds c.args.cell c.args.dim c.requires none)

@@ -22,26 +22,28 @@ pub evaluate-requires-clause-may_ask : goal.evaluate-requires-clause-may_ask
 evaluate-requires-clause-may_ask g c =
     let sound = c.is_sound.ensures in
     let values = g.M.Memory.values c.args.memory.now in
+    let holds = g.M.Memory.holds c.args.memory.now in
     let cell = c.args.self.now.cell in
     let k = c.args.self.now.statement in
     let own : ListedAnswers = record { version = c.args.version.now; known = c.deref.result.now; cell = cell } in
-    subst (λ (m : BoundModel). passes (system_of m) (answered (record { listed = c.new-answers.result; values = values })) cell (may_ask (record { listed = c.new-answers.result; values = values })) (drop k (rules_for m cell)) ≡ true)
+    subst (λ (m : BoundModel). passes (system_of m) (answered (record { listed = c.new-answers.result; values = values; holds = holds })) cell (may_ask (record { listed = c.new-answers.result; values = values; holds = holds })) (drop k (rules_for m cell)) ≡ true)
     (sym c.model.ensures.model)
-    (subst (λ (at : ListedAnswers). passes (system_of c.args.version.now.model) (answered (record { listed = at; values = values })) cell (may_ask (record { listed = at; values = values })) (drop k (rules_for c.args.version.now.model cell)) ≡ true)
+    (subst (λ (at : ListedAnswers). passes (system_of c.args.version.now.model) (answered (record { listed = at; values = values; holds = holds })) cell (may_ask (record { listed = at; values = values; holds = holds })) (drop k (rules_for c.args.version.now.model cell)) ≡ true)
     (sym c.new-answers.ensures)
-    (evaluation-passes c.args.version.now sound.space sound.rules sound.accepted cell c.requires.own.is_cell c.deref.result.now values k))
+    (evaluation-passes c.args.version.now sound.space sound.rules sound.accepted cell c.requires.own.is_cell c.deref.result.now values holds k))
 
 pub returns-clause-value : goal.returns-clause-value
 returns-clause-value g c =
     let sound = c.is_sound.ensures in
     let v = c.args.version.now in
     let values = g.M.Memory.values c.args.memory.now in
+    let holds = g.M.Memory.holds c.args.memory.now in
     let cell = c.args.self.now.cell in
     let k = c.args.self.now.statement in
     let own : ListedAnswers = record { version = v; known = c.deref.result.now; cell = cell } in
-    let same : statements_value (system_of c.model.result.now) (answered (record { listed = c.new-answers.result; values = values })) cell (drop k (rules_for c.model.result.now cell)) ≡ value_on v cell =
-    ap (λ (m : BoundModel). statements_value (system_of m) (answered (record { listed = c.new-answers.result; values = values })) cell (drop k (rules_for m cell))) c.model.ensures.model
-    ∙ ap (λ (at : ListedAnswers). statements_value (system_of v.model) (answered (record { listed = at; values = values })) cell (drop k (rules_for v.model cell))) c.new-answers.ensures
-    ∙ ap (λ (t : Readings). statements_value (system_of v.model) t cell (drop k (rules_for v.model cell))) (answered-is own values c.requires.values)
+    let same : statements_value (system_of c.model.result.now) (answered (record { listed = c.new-answers.result; values = values; holds = holds })) cell (drop k (rules_for c.model.result.now cell)) ≡ value_on v cell =
+    ap (λ (m : BoundModel). statements_value (system_of m) (answered (record { listed = c.new-answers.result; values = values; holds = holds })) cell (drop k (rules_for m cell))) c.model.ensures.model
+    ∙ ap (λ (at : ListedAnswers). statements_value (system_of v.model) (answered (record { listed = at; values = values; holds = holds })) cell (drop k (rules_for v.model cell))) c.new-answers.ensures
+    ∙ ap (λ (t : Readings). statements_value (system_of v.model) t cell (drop k (rules_for v.model cell))) (answered-is own values holds c.requires.values)
     ∙ governed-value v sound.space sound.rules sound.accepted cell c.requires.own.is_cell k c.requires.own.governs in
     subst (λ (x : Value). IfOk c.evaluate.result (λ a. a ≡ x)) same c.evaluate.ensures.value
