@@ -3,7 +3,7 @@ use Rattle.std.specs.Prelude.{◌≡◌, Result, Ok, Err, ◌⊎◌}
 use Rattle.bind_areas.specs.declared.cause.BindCause.{BindCause}
 use Rattle.bind_areas.specs.declared.cause.BindCause.TheVariants.{Memory}
 
--- what it stands for, or the first cause in reading order why it stands for nothing
+-- what it means, or the first cause in reading order why it means nothing
 abbrev pub Meaning : Type 0 → Type 0
 Meaning A = Result A BindCause
 
@@ -16,7 +16,7 @@ abbrev pub ◌>>=◌ : {E A B : Type 0} → Result A E → (A → Result B E) �
 Ok a >>= next = next a
 Err cause >>= next = Err cause
 
--- an answer is what is meant; want of memory may come in its place
+-- an answer is what is meant; out of memory may come in its place
 abbrev pub Answers : {A : Type 0} → Meaning A → Result A BindCause → Type 0
 Answers meant (Ok a) = meant ≡ Ok a
 Answers meant (Err cause) = (cause ≡ Memory) ⊎ (meant ≡ Err cause)

@@ -15,7 +15,7 @@ pub enum BindCause {
     DynamicReference,
     /// What stands there may stand in a rule of TM1, but not there, or not here.
     Unsupported,
-    /// Want of memory. It may come in place of any answer.
+    /// Out of memory. It may come in place of any answer.
     Memory,
 }
 

@@ -56,7 +56,7 @@ argument_of space cube dim tree = argument_by_form space cube dim (argument_in t
 abbrev pub argument_fault : Layout → ℕ → ℕ → Tree → Option ArgumentFault
 argument_fault space cube dim tree = result_err (argument_of space cube dim tree)
 
--- an answer is this one; want of memory may always come
+-- an answer is this one; out of memory may always come
 abbrev pub IsAnsweredBy : {T : Type 0} → Result T ArgumentFault → Result T ArgumentFault → Type 0
 IsAnsweredBy (Ok value) (Ok given) = given ≡ value
 IsAnsweredBy (Ok value) (Err fault) = fault ≡ Memory

@@ -8,7 +8,7 @@ pub enum ArgumentFault {
     UnknownName,
     /// The formula is no element argument.
     DynamicReference,
-    /// Want of memory.
+    /// Out of memory.
     Memory,
 }
 

@@ -1,4 +1,4 @@
--- The order that an order line stands for.
+-- The order that an order line means.
 use Rattle.std.specs.Prelude.{◌≡◌, ⊤, ℕ, ◌+◌, ◌==◌, nat_le, nat_lt, Bool, true, false, not, ◌&&◌, ◌||◌, if◌then◌else◌}
 use Rattle.std.specs.Prelude.{List, [], ◌∷◌, ◌++◌, length, map, find, slice_get, slice_index_or}
 use Rattle.std.specs.Prelude.{Option, Some, None, is_some, unwrap_or, option_map, option_and_then, Result, Ok, Err}
@@ -115,7 +115,7 @@ index_position dimensions place =
 abbrev pub list_position : List Outline → ℕ → List (List ℕ × ℕ) → Option ℕ → Option Position
 list_position dimensions version list place = option_and_then (position_by dimensions (list_ranks version list)) place
 
--- the position that a word of an order line stands for; None where it is bad
+-- the position that a word of an order line means; None where it is bad
 abbrev pub position_of : Layout → ℕ → ℕ → OrderWord → Option Position
 position_of space cube version (words.Constant number) =
     if nat_le number most_written then Some (positions.Constant number) else None
@@ -124,14 +124,14 @@ position_of space cube version (words.Index name) =
 position_of space cube version (words.Ranks name list) =
     list_position (axes space cube) version list (axis_called (axes space cube) name)
 
--- the order that a line stands for; None where it has too many positions or a bad one
+-- the order that a line means; None where it has too many positions or a bad one
 abbrev pub order_of : Layout → ℕ → OrderLine → Option Order
 order_of space cube line =
     if nat_lt most_positions (length line.words) then None
     else option_map (λ list. record { positions = list })
     (all_of (map (position_of space cube line.version) line.words))
 
--- an answer for this cube is the order, and it is bad exactly where there is none; want of memory may come in its place
+-- an answer for this cube is the order, and it is bad exactly where there is none; out of memory may come in its place
 abbrev pub IsAnsweredBy : Option Order → ℕ → Result Order BindOrderFault → Type 0
 IsAnsweredBy bound cube (Ok order) = bound ≡ Some order
 IsAnsweredBy bound cube (Err (BadOrder at)) = (bound ≡ None) × (at ≡ cube)

@@ -16,7 +16,7 @@ use std::alloc::{AllocError, Global};
 /// The most positions of an order line.
 pub const MAX_POSITIONS: usize = 8;
 
-// The positions that words stand for, or None where one of them stands for none.
+// The positions that words mean, or None where one of them means none.
 fn positions(
     alloc: Global,
     space: &Space,
@@ -41,7 +41,7 @@ fn positions(
     Ok(Some(ListOf::new(positions)))
 }
 
-/// The order that the order line of a cube stands for. The weights are those of the space's dimensions, place by place.
+/// The order that the order line of a cube means. The weights are those of the space's dimensions, place by place.
 pub fn bind_order(
     alloc: Global,
     space: &Space,

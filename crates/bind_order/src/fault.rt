@@ -1,6 +1,6 @@
 use std::alloc::{AllocError, AllocFailed};
 
-/// Why an order line stands for no order of its cube.
+/// Why an order line means no order of its cube.
 #[derive(Clone, Copy, Debug, PartialEq, Eq)]
 pub enum BindOrderFault {
     /// The line of this cube has more than 8 positions, it names a dimension that isn't the cube's, it lists an element
@@ -9,7 +9,7 @@ pub enum BindOrderFault {
     /// above 65,535. Where a dimension stands alone, a leaf's rank is its index, which counts from 1; an index is never
     /// bad, whatever its size.
     BadOrder(u32),
-    /// Want of memory. It may come in place of any answer.
+    /// Out of memory. It may come in place of any answer.
     Memory,
 }
 

@@ -1,6 +1,6 @@
-//! Binding of order lines: the declared order of a cube that an `ORDER` line of a model text stands for.
+//! Binding of order lines: the declared order of a cube that an `ORDER` line of a model text means.
 //!
-//! Read in this order: [`bind_order`]; [`BindOrderFault`], why a line stands for no order. `specs/Orders.antt` says
+//! Read in this order: [`bind_order`]; [`BindOrderFault`], why a line means no order. `specs/Orders.antt` says
 //! what lines mean.
 #![tactic(auto)]
 

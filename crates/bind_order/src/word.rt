@@ -29,7 +29,7 @@ fn position_by(place: u32, ranks: Option<ListOf<u32>>) -> Option<Position>
     }
 }
 
-// The position that a dimension alone stands for.
+// The position that a dimension alone means.
 fn index_position(
     alloc: Global,
     space: &Space,
@@ -76,7 +76,7 @@ fn list_ranks(
     }
 }
 
-// The position that a dimension with a list of ranks stands for.
+// The position that a dimension with a list of ranks means.
 fn list_position(
     alloc: Global,
     space: &Space,
@@ -103,7 +103,7 @@ fn list_position(
     }
 }
 
-/// The position that a word of an order line stands for, or None where it stands for none.
+/// The position that a word of an order line means, or None where it means none.
 pub fn position_of(
     alloc: Global,
     space: &Space,

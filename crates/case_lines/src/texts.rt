@@ -20,7 +20,7 @@ impl Texts {
         Ok(())
     }
 
-    /// The text of these lines, where `+NAME` stands for a named one. None where a line is none of a text.
+    /// The text of these lines, where `+NAME` means a named one. None where a line is none of a text.
     pub fn text_of(&self, alloc: Global, lines: &str) -> Result<Option<Vec<u8>>, AllocError> {
         let mut text = Vec::new(alloc);
         for line in lines.lines() {

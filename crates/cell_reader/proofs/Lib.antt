@@ -1,3 +1,3 @@
-pub mod Limits
+pub mod FedCount
 pub mod RoomFacts
 pub mod Works

@@ -1,17 +1,19 @@
 -- How much one write more can pass a limit by.
-use Rattle.std.proofs.Common.{◌≡◌, ◌≢◌, refl, sym, ◌∙◌, ap, subst, arith, ℕ, zero, suc, ℤ, pos, Bool, true, false, cond, ◌&&◌, eqb, ltb, ltb-true, ne_eqb, ◌<◌, ◌≤◌, ◌+◌, List, [], ◌∷◌, ◌++◌, length, filter, inl, inr}
-use Rattle.std.specs.Prelude.{IsSome, is_some}
+use Rattle.std.proofs.Common.{◌≡◌, ◌≢◌, refl, sym, ◌∙◌, ap, subst, arith, ℕ, zero, suc, ℤ, pos, Bool, true, false, cond, ◌&&◌, ◌||◌, eqb, ltb, ltb-true, ne_eqb, ◌<◌, ◌≤◌, ◌+◌, ◌-◌, List, [], ◌∷◌, ◌++◌, length, filter, inl, inr, ⊎_elim}
+use Rattle.std.specs.Prelude.{IsSome, is_some, nat_lt}
 use Rattle.std.specs.Ordering.{int_eq}
-use Rattle.std.proofs.lemmas.Bool.{and_parts, eqb-true}
-use Rattle.std.proofs.lemmas.List.{length-append}
+use Rattle.std.proofs.lemmas.Bool.{and_parts, eqb-true, or_cases}
+use Rattle.std.proofs.lemmas.List.{length-append, map-append}
+use Rattle.std.proofs.lemmas.List.Folds.{list_any-append}
 use Rattle.std.proofs.lemmas.List.FromFn.{length-range_with_len}
 use Rattle.cell_store.specs.declared.entry.Entry.{Entry}
-use Rattle.cell_store.specs.Entries.{above, after_writes, below, kept_of, with_write}
+use Rattle.cell_store.specs.Entries.{above, below, cells_of, kept_of, with_write}
 use Rattle.cell_store.specs.StoreLimit.{most_cells}
-use Rattle.cell_versions.proofs.Cells.{stored_is, untouched}
+use Rattle.cell_versions.proofs.Cells.{filtered, has, stored_is, untouched}
 use Rattle.cube_space.specs.Cells.{IsSpace, cube_of, is_leaf_cell, size_of}
 use Rattle.fed_laws.proofs.Reached.{fed_list, list_fed, list_rises}
 use Rattle.fed_laws.specs.FedCells.{cells, fed_cells, is_reached}
+use Rattle.feed_map.proofs.Counts.{within-counts}
 use Rattle.feed_map.proofs.Members.{list-of-some, some-unmapped}
 use Rattle.model_laws.proofs.Formed.{well_formed}
 use Rattle.lists.proofs.Members.{same_members}
@@ -23,7 +25,7 @@ use Rattle.rule_model.specs.BoundModel.{BoundModel, rules_of}
 use Rattle.rule_model.specs.Conditions.{AreRules}
 use Rattle.rule_model.specs.System.{cube_feeds, cubes_of, feed_of, system_of}
 use Rattle.stored_laws.specs.Stored.{stored_in}
-use Rattle.cell_reader.specs.Limits.{fed_count}
+use Rattle.cell_reader.specs.FedCount.{fed_count}
 
 -- ---- the stored cells
 
@@ -50,13 +52,12 @@ one_more : (es : List Entry) (cell : ℕ) (number : ℤ) → length (with_write 
 one_more es cell number =
     omega (arith, apart es cell, kept_one cell number, length-append (below es cell) (kept_of cell number ++ above es cell), length-append (kept_of cell number) (above es cell))
 
--- each write stores one cell more at most
-pub each_one_more : (es : List Entry) (ws : List (ℕ × ℤ)) → length (after_writes es ws) ≤ length es + length ws
-each_one_more es [] = omega arith
-each_one_more es (w ∷ ws) = omega (arith, each_one_more (with_write es w.0 w.1) ws, one_more es w.0 w.1)
+pub few_more : (es : List Entry) (cell : ℕ) (number : ℤ) (room : ℕ) → 0 < room → length es + room ≤ most_cells → length (with_write es cell number) + (room - 1) ≤ most_cells
+few_more es cell number room some few = omega (arith, some, few, one_more es cell number)
 
-pub few_more : (es : List Entry) (ws : List (ℕ × ℤ)) (cell : ℕ) (number : ℤ) → length es + length ws < most_cells → length es + length (ws ++ (cell, number) ∷ []) ≤ most_cells
-few_more es ws cell number few = omega (arith, few, length-append ws ((cell, number) ∷ []))
+-- a written 0 stores no cell more
+pub none_more : (es : List Entry) (cell : ℕ) (number : ℤ) → number ≡ pos 0 → length (with_write es cell number) ≤ length es
+none_more es cell number none = rw none (omega (arith, apart es cell, length-append (below es cell) (above es cell)))
 
 -- ---- the fed cells
 
@@ -110,6 +111,36 @@ still_stored : (es : List Entry) (cell : ℕ) (number : ℤ) (x : ℕ) → cell 
 still_stored es cell number x other =
     let outside : among x (cell ∷ []) ≡ false = rw (ne_eqb cell x other) refl in
     stored_is x (with_write es cell number) ∙ (untouched x ((cell, number) ∷ []) es outside ∙ sym (stored_is x es))
+
+has-both : (c : ℕ) (es fs : List Entry) → has c (es ++ fs) ≡ (has c es || has c fs)
+has-both c es fs = ap (among c) (map-append (λ entry. entry.cell) es fs) ∙ list_any-append (λ x. eqb x c) (cells_of es) (cells_of fs)
+
+-- after a written 0 no cell is stored that wasn't
+zero_kept : (c cell : ℕ) (es : List Entry) → has c (with_write es cell (pos 0)) ≡ true → has c es ≡ true
+zero_kept c cell es is =
+    ⊎_elim (λ low. (and_parts (nat_lt c cell) (has c es) (sym (filtered (λ x. nat_lt x cell) c es) ∙ low)).1)
+    (λ high. (and_parts (nat_lt cell c) (has c es) (sym (filtered (λ x. nat_lt cell x) c es) ∙ high)).1)
+    (or_cases (has c (below es cell)) (has c (above es cell)) (sym (has-both c (below es cell) (above es cell)) ∙ is))
+
+was_stored : (es : List Entry) (cell : ℕ) (number : ℤ) (x : ℕ) → number ≡ pos 0 → IsSome (stored_in (with_write es cell number) x) → IsSome (stored_in es x)
+was_stored es cell number x none some =
+    stored_is x es ∙ zero_kept x cell es (subst (λ (n : ℤ). has x (with_write es cell n) ≡ true) none (sym (stored_is x (with_write es cell number)) ∙ some))
+
+more_stored : (w : RuleSystem) (s t : Stored) → ((x : ℕ) → IsSome (s x) → IsSome (t x)) → (c : ℕ) → IsFed w s c → IsFed w t c
+more_stored w s t more c (inl dense) = inl dense
+more_stored w s t more c (inr (n, a, inr dense, led)) = inr (n, a, inr dense, led)
+more_stored w s t more c (inr (n, a, inl own, led)) = inr (n, a, inl (own.0, more a own.1), led)
+
+-- a written 0 feeds no more cells
+pub no_more_fed : (m : BoundModel) (es : List Entry) (cell : ℕ) (number : ℤ) → IsSpace m.space → AreRules m.space m.rules → number ≡ pos 0
+    → fed_count m (with_write es cell number) ≤ fed_count m es
+unfolding fed_count
+no_more_fed m es cell number valid rules none =
+    let w = system_of m in
+    let before = stored_in es in
+    let now = stored_in (with_write es cell number) in
+    within-counts (fed_cells w before) (fed_cells w now) (list_rises w before) (list_rises w now)
+    (λ c has. fed_list w before (well_formed m valid rules) c (more_stored w now before (λ x some. was_stored es cell number x none some) c (list_fed w now c has)))
 
 -- a write of a cell that feeds nothing leaves the fed cells as they are
 pub same_fed : (m : BoundModel) (es : List Entry) (cell : ℕ) (number : ℤ) → IsSpace m.space → AreRules m.space m.rules → ((fed : ℕ) → Feeds (system_of m) cell fed → ⊥)

@@ -1,5 +1,5 @@
 -- A load's work with one write more, and memories of its values.
-use Rattle.std.proofs.Common.{◌≡◌, ◌∙◌, refl, sym, ap, subst, arith, Bool, true, false, cond, ℕ, ℤ, ◌-◌, ◌≤◌, List, [], ◌∷◌, ◌++◌, drop, length, take}
+use Rattle.std.proofs.Common.{◌≡◌, ◌∙◌, refl, sym, ap, subst, arith, Bool, true, false, cond, ℕ, ℤ, pos, ◌-◌, ◌<◌, ◌≤◌, List, [], ◌∷◌, ◌++◌, drop, length, take}
 use Rattle.std.specs.Arc.{arc_value}
 use Rattle.std.specs.declared.alloc.Global.{Global}
 use Rattle.std.specs.declared.sync.Arc.{Arc}
@@ -11,13 +11,17 @@ use Rattle.cell_store.specs.Entries.{after_writes, with_write}
 use Rattle.cell_store.specs.StoreLimit.{most_cells}
 use Rattle.cell_values.specs.Reading.{value_on}
 use Rattle.cell_versions.specs.Versions.{NumberedVersion}
-use Rattle.cube_space.specs.Cells.{IsCell, is_leaf_cell}
+use Rattle.cube_space.specs.Cells.{IsCell, IsSpace, is_leaf_cell, size_of}
+use Rattle.feed_map.specs.FedCells.{most_fed}
 use Rattle.memo_cells.specs.declared.version.Version.{Version}
 use Rattle.memo_cells.specs.Values.{cell_value}
+use Rattle.rule_laws.specs.Feeding.{Feeds}
 use Rattle.rule_model.specs.BoundModel.{BoundModel}
+use Rattle.rule_model.specs.Conditions.{AreRules}
+use Rattle.rule_model.specs.System.{system_of}
 use Rattle.cell_reader.specs.Inside.After.{IsAfter, IsAhead, MayWait}
 use Rattle.cell_reader.specs.declared.work.Work.{Work}
-use Rattle.cell_reader.proofs.RoomFacts.{each_one_more}
+use Rattle.cell_reader.proofs.RoomFacts.{fed_of_all, few_more, no_more_fed, none_more, same_fed}
 
 -- a memory that was made for a version has its values
 pub kept_values : (kept : Version) (version : NumberedVersion) → kept.model.value ≡ version.model → kept.stored.value ≡ version.stored → cell_value kept ≡ value_on version
@@ -38,14 +42,14 @@ more-after opening model stored ws cell number so_far own leaf =
       leaves = All-append IsLeaf ws ((cell, number) ∷ []) so_far.leaves (All-cons IsLeaf (cell, number) [] (own, leaf) (All-nil IsLeaf));
     }
 
-module _ (opening latest : Arc NumberedVersion Global) (ws : List (ℕ × ℤ)) (made : ℕ) (ahead : IsAhead opening latest ws made) where
+module _ (opening latest : Arc NumberedVersion Global) (ws : List (ℕ × ℤ)) (made room : ℕ) (ahead : IsAhead opening latest ws made room) where
   abbrev now : NumberedVersion
   now = arc_value latest
 
   -- one write more waits
-  pub waits-more : (cell : ℕ) (number : ℤ) → IsCell (arc_value opening).model.space cell → is_leaf_cell (arc_value opening).model.space cell ≡ true
-      → MayWait now (drop made ws ++ (cell, number) ∷ []) → IsAhead opening latest (ws ++ (cell, number) ∷ []) made
-  waits-more cell number own leaf waiting =
+  pub waits-more : (left cell : ℕ) (number : ℤ) → IsCell (arc_value opening).model.space cell → is_leaf_cell (arc_value opening).model.space cell ≡ true
+      → MayWait now (drop made ws ++ (cell, number) ∷ []) left → IsAhead opening latest (ws ++ (cell, number) ∷ []) made left
+  waits-more left cell number own leaf waiting =
       let later : drop made (ws ++ (cell, number) ∷ []) ≡ drop made ws ++ (cell, number) ∷ [] = drop-append-le made ws ((cell, number) ∷ []) ahead.made_first in
       record {
         made_first = omega (arith, ahead.made_first, length-append ws ((cell, number) ∷ []));
@@ -56,21 +60,64 @@ module _ (opening latest : Arc NumberedVersion Global) (ws : List (ℕ × ℤ)) 
 
   -- few cells are stored
   pub few_after : length (after_writes (arc_value opening).stored ws) ≤ most_cells
-  few_after = omega (arith, each_one_more now.stored (drop made ws), ahead.waiting.few_stored, ap length ahead.all.after)
+  few_after = omega (arith, ahead.waiting.few_stored, ap length ahead.all.after)
+
+  -- less room is left
+  pub less-room : (left : ℕ) → left ≤ room → IsAhead opening latest ws made left
+  less-room left less = record {
+    made_first = ahead.made_first;
+    waiting = record { few_stored = omega (arith, ahead.waiting.few_stored, less); few_fed = ahead.waiting.few_fed };
+    all = ahead.all;
+  }
 
 -- one write more waits behind the others, which end the writes
-pub waits-behind : (work : Work) (version : NumberedVersion) (ws : List (ℕ × ℤ)) (cell : ℕ) (number : ℤ) → version ≡ arc_value work.latest → ws ≡ work.written.items
+pub waits-behind : (work : Work) (version : NumberedVersion) (ws : List (ℕ × ℤ)) (left cell : ℕ) (number : ℤ) → version ≡ arc_value work.latest → ws ≡ work.written.items
     → IsCell (arc_value work.opening).model.space cell → is_leaf_cell (arc_value work.opening).model.space cell ≡ true
-    → MayWait version (take (length ws - work.made) (drop work.made ws) ++ (cell, number) ∷ []) → IsAhead work.opening work.latest (work.written.items ++ (cell, number) ∷ []) work.made
-waits-behind work version ws cell number latest are own leaf may =
+    → MayWait version (take (length ws - work.made) (drop work.made ws) ++ (cell, number) ∷ []) left
+    → IsAhead work.opening work.latest (work.written.items ++ (cell, number) ∷ []) work.made left
+waits-behind work version ws left cell number latest are own leaf may =
     let one : List (ℕ × ℤ) = (cell, number) ∷ [] in
     let end : take (length ws - work.made) (drop work.made ws) ≡ drop work.made work.written.items = take_rest ws work.made ∙ ap (drop work.made) are in
-    waits-more work.opening work.latest work.written.items work.made work.ahead cell number own leaf
-    (subst (λ (v : NumberedVersion). MayWait v (drop work.made work.written.items ++ one)) latest
-    (subst (λ (waiting : List (ℕ × ℤ)). MayWait version (waiting ++ one)) end may))
+    waits-more work.opening work.latest work.written.items work.made work.room work.ahead left cell number own leaf
+    (subst (λ (v : NumberedVersion). MayWait v (drop work.made work.written.items ++ one) left) latest
+    (subst (λ (waiting : List (ℕ × ℤ)). MayWait version (waiting ++ one) left) end may))
 
 -- the writes, or more of them
-pub ahead_either : (opening latest : Arc NumberedVersion Global) (ws more : List (ℕ × ℤ)) (made : ℕ) → IsAhead opening latest ws made → IsAhead opening latest more made
-    → (b : Bool) → IsAhead opening latest (cond b more ws) made
-ahead_either opening latest ws more made so_far later true = later
-ahead_either opening latest ws more made so_far later false = so_far
+pub ahead_either : (opening latest : Arc NumberedVersion Global) (ws more : List (ℕ × ℤ)) (made room : ℕ) → IsAhead opening latest ws made room → IsAhead opening latest more made room
+    → (b : Bool) → IsAhead opening latest (cond b more ws) made room
+ahead_either opening latest ws more made room so_far later true = later
+ahead_either opening latest ws more made room so_far later false = so_far
+
+-- ---- one write more behind those that wait
+
+module _ (version : NumberedVersion) (ws : List (ℕ × ℤ)) (room cell : ℕ) (number : ℤ) (may : MayWait version ws room) where
+  abbrev so_far : List Entry
+  so_far = after_writes version.stored ws
+
+  more-is : after_writes version.stored (ws ++ (cell, number) ∷ []) ≡ with_write so_far cell number
+  more-is = after-more version.stored ws ((cell, number) ∷ [])
+
+  module _ (valid : IsSpace version.model.space) (rules : AreRules version.model.space version.model.rules) where
+    -- a written 0 takes no room, and feeds nothing
+    pub zero_waits : number ≡ pos 0 → MayWait version (ws ++ (cell, number) ∷ []) room
+    zero_waits none =
+        let fewer = none_more so_far cell number none in
+        let fed = no_more_fed version.model so_far cell number valid rules none in
+        record {
+          few_stored = rw more-is (omega (arith, fewer, may.few_stored));
+          few_fed = rw more-is (omega (arith, fed, may.few_fed));
+        }
+
+    -- nor does a cell that feeds none feed more
+    pub other_waits : 0 < room → ((fed : ℕ) → Feeds (system_of version.model) cell fed → ⊥) → MayWait version (ws ++ (cell, number) ∷ []) (room - 1)
+    other_waits some none = record {
+      few_stored = rw more-is (few_more so_far cell number room some may.few_stored);
+      few_fed = rw more-is (subst (λ n. n ≤ most_fed) (sym (same_fed version.model so_far cell number valid rules none)) may.few_fed);
+    }
+
+  -- no more cells are fed than there are
+  pub small_waits : 0 < room → size_of version.model.space ≤ most_fed → MayWait version (ws ++ (cell, number) ∷ []) (room - 1)
+  small_waits some small = record {
+    few_stored = rw more-is (few_more so_far cell number room some may.few_stored);
+    few_fed = omega (arith, fed_of_all version.model (after_writes version.stored (ws ++ (cell, number) ∷ [])), small);
+  }

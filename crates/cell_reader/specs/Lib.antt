@@ -1,4 +1,4 @@
 pub mod Snapshots
-pub mod Limits
+pub mod FedCount
 pub mod Works
 pub mod Inside

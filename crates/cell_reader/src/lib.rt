@@ -12,10 +12,10 @@ pub use cell_versions::NextFault;
 pub use snapshot::{SLOTS, Snapshot};
 pub use work::Work;
 
-mod making;
-mod reading;
+mod next_snapshot;
 mod room;
 mod snapshot;
+mod snapshot_read;
 mod work;
-mod working;
-mod writing;
+mod work_values;
+mod work_writes;

@@ -1,4 +1,4 @@
-ghost use Rattle.std.specs.Prelude.{◌≡◌, ℕ, ℤ, [], ◌∷◌, ◌++◌, IsTrue};
+ghost use Rattle.std.specs.Prelude.{◌≡◌, ◌≤◌, ℕ, pos, [], ◌∷◌, ◌++◌, Some, IfSome, IsTrue};
 ghost use Rattle.cube_space.specs.Cells.{IsCell};
 ghost use Rattle.rule_laws.specs.Feeding.{Feeds};
 ghost use Rattle.rule_model.specs.System.{system_of};
@@ -11,18 +11,37 @@ use cube_space::MAX_DIMENSIONS;
 use feed_map::MAX_FED;
 use rule_model::{Model, place_of};
 
-/// Whether a write of this cell may wait behind those that wait, whatever it writes: few cells are stored, and there
-/// are few cells in all, or the cell feeds none.
-pub(crate) fn may_wait(version: &Version, waiting: &[(u64, Money)], cell: u64) -> bool
-    requires waiting { MayWait version.now waiting.now }
+/// How many more cells may be stored by writes that wait, once this write waits behind those that do; None where it may
+/// not wait. A written 0 always may: it takes no room, and feeds nothing. Another write may where there is room, and
+/// where there are few cells in all, or the cell feeds none.
+pub(crate) fn room_behind(
+    version: &Version,
+    waiting: &[(u64, Money)],
+    room: usize,
+    cell: u64,
+    number: Money,
+) -> Option<usize>
+    requires waiting { MayWait version.now waiting.now room }
     requires cell { IsCell version.now.model.space cell }
-    ensures { IsTrue result → (number : ℤ) → MayWait version.now (waiting.now ++ (cell, number) ∷ []) }
+    ensures waits { IfSome result (MayWait version.now (waiting.now ++ (cell, number) ∷ [])) }
+    ensures less { IfSome result (λ left. left ≤ room) }
+    ensures zero { number ≡ pos 0 → result ≡ Some room }
 {
-    if version.store().len() + waiting.len() as u64 >= MAX_CELLS as u64 {
-        return false;
-    }
     let model = version.model();
-    model.space().size() <= MAX_FED as u64 || feeds_nothing(model, cell)
+    let size = model.space().size();
+    if number.millionths() == 0 {
+        return Some(room);
+    }
+    if room == 0 {
+        return None;
+    }
+    if size <= MAX_FED as u64 {
+        return Some(room - 1);
+    }
+    if feeds_nothing(model, cell) {
+        return Some(room - 1);
+    }
+    None
 }
 
 // Whether the cube of a cell has no feeders.
@@ -35,10 +54,12 @@ fn feeds_nothing(model: &Model, cell: u64) -> bool
     model.rules(cube).feeders.as_slice().is_empty()
 }
 
-/// A version says of itself that it passes no limit, and its model that its rules are in range.
-pub(crate) fn passes_no_limit(version: &Version)
-    ensures { MayWait version.now [] }
+/// How many more cells may be stored than a version stores. It says of itself that it passes no limit, and its model
+/// that its rules are in range.
+pub(crate) fn room_of(version: &Version) -> usize
+    ensures { MayWait version.now [] result }
 {
-    let (_stored, _fed) = (version.store().len(), version.fed().count());
+    let _fed = version.fed().count();
     let _cells = version.model().space().size();
+    MAX_CELLS - version.store().len() as usize
 }

@@ -10,9 +10,14 @@ use memo_cells::SharedMemo;
 use std::alloc::Global;
 use std::sync::Arc;
 
+/// Into how many slots the cells of a version fall that a load has made. They are few, since each write makes a new
+/// memory: what has no slot the load holds for itself.
+pub(crate) const WORK_SLOTS: u32 = 256;
+
 /// A version with the writes of a load so far. It sees its own writes.
 ///
-/// Writes wait while no limit can be passed: the version with them is made when a cell is read, or a limit is near.
+/// Writes wait while no limit can be passed, and a written 0 always: the version with them is made when a cell is read,
+/// or a limit is near.
 #[derive(Drop)]
 pub struct Work {
     pub(crate) opening: Arc<Version, Global>,
@@ -22,6 +27,8 @@ pub struct Work {
     pub(crate) written: Vec<(u64, Money)>,
     /// How many of the writes the latest version has. The others wait.
     pub(crate) made: usize,
-    ghost ahead: { IsAhead opening latest written.items made } by { Prim.hlevel (codes, formula.the_row.coded) },
+    /// How many more cells may be stored before a version has to be made.
+    pub(crate) room: usize,
+    ghost ahead: { IsAhead opening latest written.items made room } by { Prim.hlevel (codes, formula.the_row.coded) },
     ghost values: { HasValues (arc_value latest) memo } by { Prim.hlevel (codes, kept.the_row.coded) },
 }

@@ -5,7 +5,7 @@ use std::alloc::AllocError;
 pub enum StoreFault {
     /// The store would hold this many cells, which is more than [`crate::MAX_CELLS`].
     StoreLimit(u64),
-    /// Want of memory.
+    /// Out of memory.
     Memory,
 }
 

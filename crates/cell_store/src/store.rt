@@ -81,7 +81,7 @@ impl Store {
         ensures written { IfOk result (λ store. store ≡ after_writes self.now writes.now) }
         ensures within { length (after_writes self.now writes.now) ≤ most_cells → IsOkUnless result StoreFault.Memory }
 
-        // past the limit the count is told, and nothing else but want of memory
+        // past the limit the count is the answer, and no other fault but out of memory
         ensures past { most_cells < length (after_writes self.now writes.now) →
             (result ≡ Err (StoreFault.StoreLimit (length (after_writes self.now writes.now))))
             ⊎ (result ≡ Err StoreFault.Memory) }

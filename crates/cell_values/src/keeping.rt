@@ -18,8 +18,18 @@ pub(crate) fn remembered<M: Memory>(version: &Version, memory: &mut M, cell: u64
     is_sound(version);
     match memory.look(cell) {
         Look::Value(value) => Some(value),
-        _ => None,
+        _ => memory.recall(cell),
     }
+}
+
+/// Takes the place of a cell's value, before those of the cells under it are kept.
+pub(crate) fn reserve<M: Memory>(version: &Version, memory: &mut M, cell: u64)
+    requires { IsCell version.now.model.space cell }
+    ensures values { M.values memory.new ≡ M.values memory.old }
+    ensures grew { Grew (M.known memory.old) (M.known memory.new) }
+{
+    is_sound(version);
+    memory.reserve(cell);
 }
 
 /// Keeps the value of a cell.

@@ -3,12 +3,13 @@ ghost use Rattle.cell_values.specs.Reading.{value_on};
 ghost use Rattle.cell_values.specs.Inside.Frames.{IsWork, work_left};
 ghost use Rattle.cell_values.specs.Inside.Questions.{work_on};
 ghost use Rattle.cube_space.specs.Cells.{IsCell};
+ghost use Rattle.memo_cells.specs.Knowledge.{Grew};
 ghost use Rattle.rule_evaluate.specs.declared.ask.Ask.TheVariants.{Value as of_value};
 ghost use Rattle.solver.specs.Turns.{MatchOpened};
 
 use crate::begins::{base_sum, component_sum, evaluation, total};
 use crate::frames::Frame;
-use crate::keeping::keep;
+use crate::keeping::{keep, reserve};
 use crate::sound::is_sound;
 use crate::turns::{give, go_on};
 use cell_versions::Version;
@@ -64,6 +65,17 @@ impl<'a> Reader<'a> {
             }
         }
         Ok(())
+    }
+
+    /// A total's value has its place before those of the cells under it.
+    pub(crate) fn reserve_total<M: Memory>(&self, memory: &mut M, cell: u64)
+        requires { IsCell self.now.version.now.model.space cell }
+        ensures values { M.values memory.new ≡ M.values memory.old }
+        ensures grew { Grew (M.known memory.old) (M.known memory.new) }
+    {
+        if !self.version.model().space().is_leaf(cell) {
+            reserve(self.version, memory, cell);
+        }
     }
 
     /// How the work on the value of a cell begins.
@@ -133,7 +145,10 @@ impl<'a, M: Memory, L: Ledger> Problem<M, Steps<L>> for Reader<'a> {
 
     fn open(&mut self, memory: &mut M, question: Ask) -> Result<Opened<Value, Frame>, AllocError> {
         match question {
-            Ask::Value(cell) => Ok(self.begin(cell)),
+            Ask::Value(cell) => {
+                self.reserve_total(memory, cell);
+                Ok(self.begin(cell))
+            }
             Ask::Base(cell) => Ok(Opened::Begun(base_sum(self.version, cell))),
             Ask::Children(cell, dim) => Ok(Opened::Begun(component_sum(self.version, cell, dim))),
         }

@@ -1,4 +1,4 @@
-ghost use Rattle.std.specs.Prelude.{◌≡◌, ◌⊎◌, false, Some, IfOk, IfSome, IfNone, IsSome};
+ghost use Rattle.std.specs.Prelude.{◌≡◌, ◌⊎◌, true, false, Some, IfOk, IfSome, IfNone, IsSome};
 ghost use Rattle.cell_values.specs.Reading.{AreValuesOn, IsKept, IsPlainTotal, IsUngoverned, IsWorkedOut, MayCount};
 ghost use Rattle.cell_values.specs.Reading.{value_on};
 ghost use Rattle.cube_space.specs.Cells.{IsCell, is_leaf_cell};
@@ -10,7 +10,7 @@ ghost use Rattle.stored_laws.specs.Stored.{stored_in};
 
 use crate::begins::evaluation;
 use crate::frames::{Frame, LeafSum};
-use crate::keeping::keep;
+use crate::keeping::{keep, reserve};
 use crate::machine::Reader;
 use crate::sound::is_sound;
 use crate::told::told;
@@ -23,10 +23,10 @@ use solver::{Opened, answer};
 use std::alloc::{AllocError, Global};
 use std::sync::ledger::Ledger;
 
-/// The value of a cell on a version. The memory has values on that version alone. It fails for want of memory alone.
+/// The value of a cell on a version. The memory has values on that version alone. It fails only when out of memory.
 ///
-/// What the memory knows is not worked out again, and what is worked out is kept there. Each evaluation of a statement
-/// is one step; a sum over cells is none.
+/// What the memory knows or holds is not worked out again, and what is worked out is kept there. Each evaluation of a
+/// statement is one step; a sum over cells is none.
 pub fn value_of<M: Memory, L: Ledger>(
     alloc: Global,
     version: &Version,
@@ -43,6 +43,7 @@ pub fn value_of<M: Memory, L: Ledger>(
 
     // also where memory is wanting
     ensures known { Knows (M.known memory.old) cell → steps.new ≡ steps.old }
+    ensures held { M.holds memory.old cell ≡ true → steps.new ≡ steps.old }
     ensures counted { (steps.new ≡ steps.old) ⊎ MayCount (M.known memory.old) (M.known memory.new) cell }
     ensures plain { IsPlainTotal version.now cell → steps.new ≡ steps.old }
 
@@ -56,7 +57,7 @@ pub fn value_of<M: Memory, L: Ledger>(
     if let Look::Value(value) = memory.look(cell) {
         return Ok(value);
     }
-    let value = computed(alloc, version, memory, cell, steps)?;
+    let value = held_or_computed(alloc, version, memory, cell, steps)?;
     memory.keep(cell, &value);
     Ok(value)
 }
@@ -80,6 +81,30 @@ fn stored_value(version: &Version, cell: u64) -> Option<Value>
             }
         }
     }
+}
+
+// The value of a governed or consolidated cell that isn't known: it may be held.
+fn held_or_computed<M: Memory, L: Ledger>(
+    alloc: Global,
+    version: &Version,
+    memory: &mut M,
+    cell: u64,
+    steps: &mut Steps<L>,
+) -> Result<Value, AllocError>
+    requires cell { IsCell version.now.model.space cell }
+    requires worked { IsWorkedOut version.now cell }
+    requires values { AreValuesOn version.now (M.values memory.old) }
+    ensures value { IfOk result (λ v. v ≡ value_on version.now cell) }
+    ensures values { M.values memory.new ≡ M.values memory.old }
+    ensures grew { Grew (M.known memory.old) (M.known memory.new) }
+    ensures held { M.holds memory.old cell ≡ true → steps.new ≡ steps.old }
+    ensures plain { IsPlainTotal version.now cell → steps.new ≡ steps.old }
+{
+    if let Some(value) = memory.recall(cell) {
+        return Ok(value);
+    }
+    reserve(version, memory, cell);
+    computed(alloc, version, memory, cell, steps)
 }
 
 // The value of a governed or consolidated cell.

@@ -9,7 +9,7 @@ pub enum NextFault {
     StoreLimit(u64),
     /// More than 4,000,000 cells would be fed. The number is always one more than that.
     FedLimit(u64),
-    /// Want of memory.
+    /// Out of memory.
     Memory,
 }
 

@@ -67,7 +67,7 @@ impl Version {
         ensures model { IfOk result (λ next. next.model ≡ self.now.model) }
         ensures stored { IfOk result (λ next. next.stored ≡ after_writes self.now.stored writes.now) }
 
-        // each limit is told exactly where it is passed, want of memory aside, that of the stored cells first
+        // each limit is answered exactly where it is passed, out of memory aside, that of the stored cells first
         ensures within { length (after_writes self.now.stored writes.now) ≤ most_cells →
             HasFewFed self.now.model (after_writes self.now.stored writes.now) → IsOkUnless result NextFault.Memory }
         ensures past_store { most_cells < length (after_writes self.now.stored writes.now) →
@@ -88,8 +88,8 @@ impl Version {
         })
     }
 
-    // The cells that are fed after these writes have made this store: where they took no cell out, no more than what
-    // was added is followed.
+    // The cells that are fed after these writes have made this store: where they took no cell out that is in the area
+    // of a feeder, no more than what was added is followed.
     fn fed_over(
         &self,
         alloc: Global,
@@ -103,7 +103,7 @@ impl Version {
             (result ≡ Err (FedFault.FedLimit (suc most_fed))) ⊎ (result ≡ Err FedFault.Memory) }
     {
         let model = self.accepted.model();
-        match added_by(alloc, &self.store, store, writes)? {
+        match added_by(alloc, model, &self.store, store, writes)? {
             Some(added) => self.fed.grown(alloc, model, store, &added),
             None => Fed::of(alloc, model, store),
         }

@@ -12,7 +12,7 @@ pub fn last_writes(alloc: Global, writes: &[(u64, Money)]) -> Result<Vec<(u64, M
     ensures { IfOk result (λ last. last.items ≡ last_writes writes.now) }
 {
     let mut last = Vec::from_slice(alloc, writes)?;
-    // A stable sort: the writes of a cell come to stand side by side, still in their order.
+    // A stable sort: the writes of a cell stand side by side then, still in their order.
     last.sort_by_key(|write| write.0)?;
     // Each then goes over the one before it.
     last.dedup_by(|later, earlier| {

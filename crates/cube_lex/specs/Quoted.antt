@@ -7,7 +7,7 @@ use Rattle.cube_lex.specs.Bytes.{is_quote}
 abbrev pub doubled : List ℕ → List ℕ
 doubled bytes = flat_map (λ b. if is_quote b then b ∷ b ∷ [] else b ∷ []) bytes
 
--- the quoted text that stands for the bytes
+-- the quoted text that means the bytes
 abbrev pub quoted : List ℕ → List ℕ
 quoted bytes = 39 ∷ doubled bytes ++ 39 ∷ []
 
@@ -17,6 +17,6 @@ undoubled [] = []
 undoubled (b ∷ []) = b ∷ []
 undoubled (b ∷ c ∷ bs) = b ∷ (if is_quote b then undoubled bs else undoubled (c ∷ bs))
 
--- the bytes that a quoted text stands for: without the outer quotes, each doubled quote being one
+-- the bytes that a quoted text means: without the outer quotes, each doubled quote being one
 abbrev pub unquoted : List ℕ → List ℕ
 unquoted piece = undoubled (take (length piece - 2) (drop 1 piece))

@@ -102,7 +102,7 @@ impl<'a> Tokens<'a> {
         self.end_line
     }
 
-    /// The bytes that a quoted text stands for: without the outer quotes, each doubled quote being one.
+    /// The bytes that a quoted text means: without the outer quotes, each doubled quote being one.
     pub fn text(&self, alloc: Global, i: usize) -> Result<Vec<u8>, AllocError>
         requires { IsSomeAnd (slice_get self.now.lexemes i) (λ token. token.kind ≡ Text) }
         ensures value { IfOk result (λ bytes.

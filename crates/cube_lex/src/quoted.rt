@@ -6,7 +6,7 @@ ghost use Rattle.cube_lex.specs.Quoted.{unquoted, quoted};
 
 use std::alloc::{AllocError, Global};
 
-/// What stands around a quoted text; inside, two stand for one.
+/// What stands around a quoted text; inside, two mean one.
 pub const QUOTE: u8 = b'\'';
 
 /// How a quoted text goes on behind its first quote.
@@ -47,7 +47,7 @@ pub fn quote_end(bytes: &[u8]) -> QuoteEnd
     QuoteEnd::Open
 }
 
-/// The bytes that a quoted text stands for: without the outer quotes, each doubled quote being one.
+/// The bytes that a quoted text means: without the outer quotes, each doubled quote being one.
 /// Of a piece that is no quoted text it takes off the first and the last byte all the same.
 pub fn unquoted(alloc: Global, piece: &[u8]) -> Result<Vec<u8>, AllocError>
     ensures value { IfOk result (λ bytes. bytes.items ≡ unquoted piece.now) }

@@ -82,7 +82,7 @@ pub fn tokens_until(
 pub fn tokens(alloc: Global, text: &[u8]) -> Result<Tokens<'_>, LexFault>
     ensures read { IfOk result (λ lexed. IsReading text.now lexed None) }
     ensures fault { IfErr result (λ fault. fault ≢ Memory → (lexed : Lexed) × IsReading text.now lexed (Some fault)) }
-    // A text is read as one thing only, so one without fault is never refused but for want of memory.
+    // A text is read as one thing only, so one without fault is never refused, unless out of memory.
     ensures only { (lexed : Lexed) (fault : Option LexFault) → IsReading text.now lexed fault
         → MatchResult result (λ tokens. (tokens ≡ lexed) × (fault ≡ None))
         (λ cause. (cause ≡ Memory) ⊎ (fault ≡ Some cause)) }

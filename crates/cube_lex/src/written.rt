@@ -71,7 +71,7 @@ pub fn write_sign(out: &mut Vec<u8>, sign: &[u8]) -> Result<(), AllocError>
     write_spaced(out, sign)
 }
 
-/// Writes the quoted text that stands for the bytes, each quote among them doubled, and a space.
+/// Writes the quoted text that means the bytes, each quote among them doubled, and a space.
 pub fn write_quoted(out: &mut Vec<u8>, bytes: &[u8]) -> Result<(), AllocError>
     requires plain { IsTrue (list_all is_plain bytes.now) }
     requires short { length (quoted bytes.now) ≤ most_token_bytes }

@@ -78,7 +78,7 @@ impl<R: std::rt::Files> Files for HostFiles<'_, R> {
     } };
 
     fn read(&mut self, alloc: Global, name: &str) -> Result<Vec<u8>, FileFault> {
-        // The name is kept before the file is opened, so that a failure can always be told.
+        // The name is kept before the file is opened, so that a failure can always be named.
         let missed = Vec::from_slice(alloc, name.as_bytes())?;
         let asked = Vec::from_slice(alloc, name.as_bytes())?;
         self.asked.insert(0, asked)?;

@@ -118,7 +118,7 @@ impl Files for MemoryFiles {
       asked = map (λ name. name.items) files.asked.items;
     } };
 
-    /// Fails exactly at a name that no pair has and at a call that was given to `fail_at`, want of memory aside.
+    /// Fails exactly at a name that no pair has and at a call that was given to `fail_at`, out of memory aside.
     fn read(&mut self, alloc: Global, name: &str) -> Result<Vec<u8>, FileFault>
         ensures pairs { self.new.pairs ≡ self.old.pairs }
         ensures failing { self.new.failing ≡ self.old.failing }

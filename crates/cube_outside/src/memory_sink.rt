@@ -72,7 +72,7 @@ impl Sink for MemorySink {
 
     ghost faults = { λ sink. sink.count };
 
-    /// Fails exactly at the calls that were given to `fail_at`, want of memory aside.
+    /// Fails exactly at the calls that were given to `fail_at`, out of memory aside.
     fn write(&mut self, piece: &[u8]) -> Result<(), SinkFault>
         ensures failing { self.new.failing ≡ self.old.failing }
         ensures calls { self.new.calls ≡ one_more self.old.calls }

@@ -2,10 +2,12 @@
 use denote.RattleType.{RattleType}
 use denote.Param.Send.{IsSend, IsSync, part_keyless, sendable}
 use Rattle.std.proofs.Crossing.{crosses}
+use Rattle.std.proofs.MapsCrossing.{BTreeMap-send, BTreeMap-sync}
 use Rattle.std.proofs.option.Option.TheSendSync as option
 use Rattle.lists.proofs.list.ListOf.TheSendSync as list
 use Rattle.sqlite_items.proofs.boxed.Boxed.TheSendSync as boxed
 use Rattle.cube_fixed.proofs.money.Money.TheSendSync as money
+use Rattle.cube_fixed.proofs.value.Value.TheSendSync as value
 use Rattle.rule_laws.proofs.formula.Formula.TheLaws.TheKnot as formula
 use Rattle.rule_laws.proofs.operation.Op.TheSendSync as op
 use Rattle.rule_laws.proofs.operation.Fun.TheSendSync as fun
@@ -114,10 +116,10 @@ Seat-sync : (S V : RattleType) → IsSend S → IsSync (Seat.the_row S V)
 Seat-sync S V s = record { shared = λ d b o κ q. part_keyless (Seat.the_row S V) (seat.the_send S V s) q d b o }
 
 SharedMemo-send : IsSend SharedMemo.the_field.row
-SharedMemo-send = search (parts, Memo-send, Memo-sync, seat.the_send) depth 20
+SharedMemo-send = search (parts, Memo-send, Memo-sync, seat.the_send, BTreeMap-send, value.the_send) depth 20
 
 SharedMemo-sync : IsSync SharedMemo.the_field.row
-SharedMemo-sync = search (parts, Memo-send, Memo-sync, Seat-sync) depth 20
+SharedMemo-sync = search (parts, Memo-send, Memo-sync, Seat-sync, BTreeMap-sync, value.the_sync) depth 20
 
 pub Snapshot-send : IsSend Snapshot.the_row
 Snapshot-send = search (parts, Version-send, Version-sync, SharedMemo-send) depth 20

@@ -1,4 +1,4 @@
-//! The server: one call reads a model and its users' commands, runs the users, and writes what each was told and the
+//! The server: one call reads a model and its users' commands, runs the users, and writes each reply and the
 //! one history; or it checks a model, or runs a generated sample.
 //!
 //! Read [`run_cubes`] first, and beside it `specs/Answer.antt`, which text each end of a run allows, and

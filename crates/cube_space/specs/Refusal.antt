@@ -24,7 +24,7 @@ cube_fault layout cube = fault_of cube (length (dims_of layout cube)) (cell_coun
 unfoldable pub refusal_of : Layout → Option SpaceFault
 refusal_of layout = slice_get (filter_map (cube_fault layout) (range_with_len 0 (length layout.cubes))) 0
 
--- an answer has this cause: it is Ok where there is none, and else the cause; want of memory may always come
+-- an answer has this cause: it is Ok where there is none, and else the cause; out of memory may always come
 abbrev pub IsAnsweredBy : {T : Type 0} → Option SpaceFault → Result T SpaceFault → Type 0
 IsAnsweredBy None (Ok value) = ⊤
 IsAnsweredBy (Some cause) (Ok value) = ⊥

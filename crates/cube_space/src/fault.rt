@@ -9,7 +9,7 @@ pub enum SpaceFault {
     ModelTooLarge(u32),
     /// The cube has fewer than 2 or more than 16 dimensions.
     DimensionCount(u32),
-    /// Want of memory.
+    /// Out of memory.
     Memory,
 }
 

@@ -1,4 +1,4 @@
-//! A model text and its rule files have one answer of deployment: they stand for one accepted model, or are refused for
+//! A model text and its rule files have one answer of deployment: they mean one accepted model, or are refused for
 //! one thing, and not both.
 //!
 //! The contract of `model_deploy::deploy` says what an answer means; the law says that there is only one such answer,

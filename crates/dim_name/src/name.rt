@@ -17,7 +17,7 @@ use std::marker::Model;
 pub enum NameFault {
     /// The text is empty or of spaces alone, or has a byte below 0x20 or the byte 0x7F.
     NotAName,
-    /// Want of memory.
+    /// Out of memory.
     Memory,
 }
 

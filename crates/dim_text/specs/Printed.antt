@@ -11,7 +11,7 @@ use Rattle.dim_text.specs.Spelled.{draft_spelled}
 use Rattle.dim_text.specs.declared.fault.DimTextFault.{DimTextFault}
 use Rattle.dim_text.specs.declared.fault.DimTextCause.TheVariants as causes
 
--- a block was read whose dimension is this one, up to this place; want of memory may always come
+-- a block was read whose dimension is this one, up to this place; out of memory may always come
 abbrev pub IsReadAs : Outline → ℕ → Result (Text × ℕ) DimTextFault → Type 0
 IsReadAs d end (Ok x) = (x.0.dimension ≡ d) × (x.1 ≡ end)
 IsReadAs d end (Err fault) = fault.cause ≡ causes.Memory

@@ -1,6 +1,6 @@
 use dim_core::DimFault;
 
-/// Why a block is refused, and on which line. For want of memory the line is 0.
+/// Why a block is refused, and on which line. Out of memory, the line is 0.
 #[derive(Debug, Drop)]
 pub struct DimTextFault {
     pub line: u32,
@@ -14,9 +14,9 @@ pub enum DimTextCause {
     /// block; where all tokens begin one but are none, it is the line of the text's end.
     Syntax,
     /// A statement that the dimension doesn't take, on the line of its first word. Where the whole dimension is refused
-    /// it is the line of the element that is named. It holds no want of memory.
+    /// it is the line of the element that is named. It is never out of memory.
     Dim(DimFault),
-    /// Want of memory.
+    /// Out of memory.
     Memory,
 }
 

@@ -10,7 +10,7 @@ pub enum WeightFault {
     /// So many pairs of an element and a leaf that counts in it there are up to and including the element, which is
     /// more than [`crate::MAX_PAIRS`].
     TooManyPairs(u64),
-    /// Want of memory.
+    /// Out of memory.
     Memory,
 }
 

@@ -1,10 +1,10 @@
--- What a language of expressions is told by: its operators, level by level, and how trees are made.
+-- What makes a language of expressions: its operators, level by level, and how trees are made.
 use Rattle.std.specs.Prelude.{ℕ, Bool, List, [], ◌∷◌, Option, Some, None, if◌then◌else◌}
 use Rattle.std.specs.List.{list_any}
 use Rattle.cube_lex.specs.Lexeme.{Lexeme}
 use Rattle.grammar.specs.Tokens.{is_sign}
 
--- operators of one level: the sign of each, and what it stands for
+-- operators of one level: the sign of each, and what it means
 abbrev pub Table : Type 0 → Type 0
 Table O = List (List ℕ × O)
 

@@ -14,7 +14,7 @@ const MAX_OPEN: u32 = 32;
 const MAX_PRIMARIES: u32 = 1_000;
 
 /// How many expressions may be one inside the other, or how many blocks of a script. Each is opened by itself, and the
-/// 33rd that is open is refused, so no text comes to the last of them.
+/// 33rd that is open is refused, so no text reaches the last of them.
 pub const MAX_INSIDE: u32 = 64;
 
 /// How deep and how long a whole expression is so far.

@@ -13,7 +13,7 @@ cells w = range_with_len 0 w.size
 abbrev pub is_leaf_cell : RuleSystem → ℕ → Bool
 is_leaf_cell w c = nat_lt c w.size && w.is_leaf c
 
--- whether c is among the leaf cells that a cell stands for, if there is one
+-- whether c is among the leaf cells that a cell means, if there is one
 abbrev pub is_under : RuleSystem → ℕ → ℕ → Bool
 is_under w c t = list_any (λ leaf. leaf == c) (leaves_of w t)
 

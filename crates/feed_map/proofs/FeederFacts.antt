@@ -1,6 +1,6 @@
 -- What the feeders of a cell's cube feed is what all feeders feed from it.
 use Rattle.std.proofs.Common.{◌≡◌, refl, sym, ap, ◌∙◌, subst, ℕ, zero, suc, ◌+◌, ◌<◌, ◌⊎◌, inl, inr, true, ◌&&◌, List, [], ◌∷◌, ◌++◌, length, take, get_or, eqb, arith}
-use Rattle.std.specs.List.{Contains}
+use Rattle.std.specs.List.{Any, Contains}
 use Rattle.std.proofs.lemmas.Bool.{and_parts, and_from, eqb-true, eq-eqb}
 use Rattle.std.proofs.lemmas.List.{take_more}
 use Rattle.cube_space.specs.Layout.{axes}
@@ -13,6 +13,7 @@ use Rattle.rule_model.specs.BoundModel.{BoundModel, rules_of}
 use Rattle.rule_model.specs.Areas.{in_source_sets}
 use Rattle.rule_model.specs.System.{system_of, feed_of, cube_feeds, cubes_of}
 use Rattle.feed_map.specs.Inside.Follows.{FeedsByOne, StandsFor}
+use Rattle.feed_map.specs.Sources.{IsSource}
 use Rattle.feed_map.proofs.Members.{some-front, some-behind, some-cases, some-of-none, some-left, some-right, some-parts, some-of-lists, list-of-some, some-mapped, some-unmapped}
 pub use Rattle.dim_weights.proofs.ByLevel.{range-contains as range-has}
 
@@ -83,6 +84,77 @@ module _ (m : BoundModel) (x c : ℕ) where
     target-by on stands =
         let same : eqb (cube_of m.space x) cube ≡ true = rw own (eq-eqb cube cube refl) in
         ((cell, leaf), and_from _ _ (and_from _ _ same leaf) on, stands)
+
+-- ---- cells in the area of a feeder
+
+module _ (m : BoundModel) (x : ℕ) where
+  abbrev pub Has : Feed → Type 0
+  Has feed = feed.source x ≡ true
+
+  -- in the area of one of these feeders of a cube
+  abbrev pub HasOne : ℕ → List Feeder → Type 0
+  HasOne cube feeders = Any (λ feeder. Has (feed_of m.space cube feeder)) feeders
+
+  pub source-one : IsSource (system_of m) x → HasOne (cube_of m.space x) (rules_of m (cube_of m.space x)).feeders
+  unfolding system_of
+  source-one source =
+      let found = list-of-some Has (cube_feeds m) (cubes_of m) source.1 in
+      let one = some-unmapped Has (feed_of m.space found.0) (rules_of m found.0).feeders found.1 in
+      let same : cube_of m.space x ≡ found.0 =
+      eqb-true (cube_of m.space x) found.0 (and_parts (eqb (cube_of m.space x) found.0) _ (and_parts (eqb (cube_of m.space x) found.0 && is_leaf_cell m.space x) _ one.4).0).0 in
+      subst (λ (cube : ℕ). HasOne cube (rules_of m cube).feeders) (sym same) one
+
+  pub one-source : IsCell m.space x → is_leaf_cell m.space x ≡ true → HasOne (cube_of m.space x) (rules_of m (cube_of m.space x)).feeders → IsSource (system_of m) x
+  unfolding system_of
+  one-source cell leaf one =
+      let there = (cell-place m.space x cell).place.there in
+      let some = some-of-lists Has (cube_feeds m) (cubes_of m) (cube_of m.space x) (range-has (length m.space.cubes) (cube_of m.space x) there)
+      (some-mapped Has (feed_of m.space (cube_of m.space x)) (rules_of m (cube_of m.space x)).feeders one) in
+      ((cell, leaf), some)
+
+  module _ (cube : ℕ) (feeder : Feeder) (leaf : is_leaf_cell m.space x ≡ true) (own : cube_of m.space x ≡ cube) where
+    pub has-source : in_source_sets (axes m.space cube) feeder.area.sets (elements_of m.space x) ≡ true → Has (feed_of m.space cube feeder)
+    has-source on =
+        let same : eqb (cube_of m.space x) cube ≡ true = rw own (eq-eqb cube cube refl) in
+        and_from _ _ (and_from _ _ same leaf) on
+
+    pub source-has : Has (feed_of m.space cube feeder) → in_source_sets (axes m.space cube) feeder.area.sets (elements_of m.space x) ≡ true
+    source-has has = (and_parts (eqb (cube_of m.space x) cube && is_leaf_cell m.space x) _ has).1
+
+  pub source-cell : IsSource (system_of m) x → IsCell m.space x
+  unfolding system_of
+  source-cell source = source.0.0
+
+  pub source-leaf : IsSource (system_of m) x → is_leaf_cell m.space x ≡ true
+  unfolding system_of
+  source-leaf source = source.0.1
+
+  -- what feeds is in the area of a feeder
+  pub feeds-source : (c : ℕ) → Feeds (system_of m) x c → IsSource (system_of m) x
+  feeds-source c (k, feed, low, is, by) = (by.0, (k, feed, low, is, by.1))
+
+  pub has-more : (cube : ℕ) (feeders : List Feeder) (n : ℕ) (feeder : Feeder) → n < length feeders → feeder ≡ get_or feeders n feeder → (HasOne cube (take n feeders) → ⊥)
+      → (Has (feed_of m.space cube feeder) → ⊥) → HasOne cube (take (n + 1) feeders) → ⊥
+  has-more cube feeders n feeder low is before not more =
+      let P : Feeder → Type 0 = λ f. Has (feed_of m.space cube f) in
+      let split : HasOne cube (take n feeders ++ feeder ∷ []) =
+      subst (λ (fs : List Feeder). HasOne cube fs) (take_more feeders n feeder low ∙ ap (λ f. take n feeders ++ f ∷ []) (sym is)) more in
+      elim (some-parts P (take n feeders) (feeder ∷ []) split) [
+        | inl one ↦ before one
+        | inr (zero, f, l, same, by) ↦ not (subst P (sym same) by)
+        | inr (suc k, f, l, same, by) ↦ absurd (omega (arith, l))
+      ]
+
+module _ (m : BoundModel) (x cube : ℕ) (feeders : List Feeder) (own : cube ≡ cube_of m.space x) (are : feeders ≡ (rules_of m cube).feeders) where
+  pub whole-source : IsCell m.space x → is_leaf_cell m.space x ≡ true → HasOne m x cube feeders → IsSource (system_of m) x
+  whole-source cell leaf one =
+      let all : HasOne m x cube (rules_of m cube).feeders = subst (λ (fs : List Feeder). HasOne m x cube fs) are one in
+      one-source m x cell leaf (subst (λ (k : ℕ). HasOne m x k (rules_of m k).feeders) own all)
+
+  pub source-whole : IsSource (system_of m) x → HasOne m x cube feeders
+  source-whole source =
+      let all : HasOne m x cube (rules_of m cube).feeders = subst (λ (k : ℕ). HasOne m x k (rules_of m k).feeders) (sym own) (source-one m x source) in
+      subst (λ (fs : List Feeder). HasOne m x cube fs) (sym are) all
 
 -- what feeds is a cell of a cube
 pub feeds-cube : (m : BoundModel) (x c : ℕ) → Feeds (system_of m) x c → cube_of m.space x < length m.space.cubes

@@ -1,2 +1,3 @@
 pub mod FedCells
 pub mod Inside
+pub mod Sources

@@ -5,7 +5,7 @@ use std::alloc::{AllocError, AllocFailed};
 pub enum FedFault {
     /// More than [`crate::MAX_FED`] cells are fed. The number is always one more than that.
     FedLimit(u64),
-    /// Want of memory.
+    /// Out of memory.
     Memory,
 }
 

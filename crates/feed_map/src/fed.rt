@@ -39,7 +39,7 @@ impl Fed {
         ensures fed { IfOk result (λ fed. AreFedCells model.now store.now fed) }
         ensures within { HasFewFed model.now store.now → IsOkUnless result FedFault.Memory }
 
-        // past the limit that is told, and nothing else but want of memory
+        // past the limit that is the answer, and no other fault but out of memory
         ensures past { HasManyFed model.now store.now →
             (result ≡ Err (FedFault.FedLimit (suc most_fed))) ⊎ (result ≡ Err FedFault.Memory) }
         ensures fault { IfErr result (λ fault. (fault ≡ FedFault.Memory)

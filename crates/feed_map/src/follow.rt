@@ -99,8 +99,8 @@ fn follow(model: &Model, cell: u64, growth: &mut Growth) -> Result<(), FedFault>
     Ok(())
 }
 
-// Whether a number is a leaf cell's.
-fn is_leaf_cell(space: &Space, cell: u64) -> bool
+/// Whether a number is a leaf cell's.
+pub fn is_leaf_cell(space: &Space, cell: u64) -> bool
     ensures cell { IsTrue result → IsCell space.now cell }
     ensures leaf { IsTrue result → is_leaf_cell space.now cell ≡ true }
     ensures other { IsFalse result → IsCell space.now cell → is_leaf_cell space.now cell ≡ false }

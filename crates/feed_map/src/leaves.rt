@@ -15,7 +15,7 @@ use dim_core::Dimension;
 use dim_weights::Weights;
 use rule_model::{Model, place_of};
 
-/// Finds the leaf cells that a cell stands for: itself, or those below it.
+/// Finds the leaf cells that a cell means: itself, or those below it.
 pub fn add_leaves_of(model: &Model, cell: u64, growth: &mut Growth) -> Result<(), FedFault>
     requires { IsCell model.now.space cell }
     ensures gains { OnOk result (Gains (Contains (leaves_of (system_of model.now) cell)) growth.old growth.new) }

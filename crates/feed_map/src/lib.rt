@@ -4,6 +4,8 @@
 //! which fewer cells were stored. Both follow each cell by the feeders of its cube whose area has it, and a fed cell
 //! once.
 //!
+//! A cell in no feeder's area feeds none ([`is_any_source`]), so the fed cells stay where such a cell is taken out.
+//!
 //! The feeder check promises that a leaf cell that is neither stored nor fed is 0: see [`cells_off_the_map_are_zero`].
 #![tactic(auto)]
 
@@ -11,6 +13,7 @@ pub use fault::FedFault;
 pub use fed::Fed;
 pub use growth::MAX_FED;
 pub use laws::{cells_off_the_map_are_zero, fed_cells_are_leaf_cells};
+pub use sources::is_any_source;
 
 mod dense;
 mod fault;
@@ -20,3 +23,4 @@ mod growth;
 mod laws;
 mod leaves;
 mod source;
+mod sources;

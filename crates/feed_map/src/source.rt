@@ -14,7 +14,7 @@ use dim_weights::Weights;
 use lists::ListOf;
 use rule_model::{Area, Model};
 
-/// Whether an area stands for the leaf cell of its cube with these elements: in each dimension that it restricts, the
+/// Whether an area has the leaf cell of its cube with these elements: in each dimension that it restricts, the
 /// cell's element counts in one that the area lists.
 pub fn is_source(model: &Model, cube: u32, area: &Area, elements: &[u32]) -> bool
     requires place { is_place model.now.space cube elements.now ≡ true }

@@ -14,7 +14,7 @@ abbrev pub unread : FileFault → Halt
 unread faults.Failed = halts.Unread
 unread faults.Memory = halts.Memory
 
--- why the pass went no further over these files, want of memory aside
+-- why the pass went no further over these files, out of memory aside
 abbrev pub Halts : {A : Type 0} → Pass A → Outside → Readings → Readings → Halt → Type 0
 Halts pass o old new halts.NotWords = pass.stops new NotWords × (o.after ≡ o.before) × Asks o old new []
 Halts pass o old new halts.Unread =

@@ -24,7 +24,7 @@ pub data Obstacle : Type 0 where
   Reads : List ℕ → Obstacle
   Refuses : Refusal → Obstacle
 
--- a pass, by what it comes to over the files read so far: it finds what the next pass needs, or it stops
+-- a pass, by its outcome over the files read so far: it finds what the next pass needs, or it stops
 pub record Pass (A : Type 0) : Type 1 where
   pub finds : Readings → A → Type 0
   pub stops : Readings → Obstacle → Type 0
@@ -64,12 +64,12 @@ files (name ∷ more) = file name >>= λ first. (files more >>= λ rest. found (
 abbrev pub source_of : List Source → List ℕ → Option Source
 source_of sources name = find (λ source. bytes_eq source.0 name) sources
 
--- how something that was read is judged: what it stands for, or why it is refused
+-- how something that was read is judged: what it means, or why it is refused
 pub record Judgement (A : Type 0) : Type 1 where
   pub stands_for : A → Type 0
   pub refused_for : Refusal → Type 0
 
--- what is found is what was read stands for; else it is refused
+-- what is found is what was read means; else it is refused
 abbrev pub judged : {A : Type 0} → Judgement A → Pass A
 judged {A} judgement = record {
   finds = λ _ a. judgement.stands_for a;

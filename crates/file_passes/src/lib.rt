@@ -1,6 +1,6 @@
 //! How a run reads its files in passes.
 //!
-//! Read `specs/Pass.antt` first: the words that passes are made of. What a pass comes to stands in
+//! Read `specs/Pass.antt` first: the words that passes are made of. The outcome of a pass is in
 //! `specs/Halting.antt`, which files it reads in `specs/Reading.antt`, and what of a run its outside sees in
 //! `specs/Course.antt` and `specs/Outside.antt`. [`obtain`] reads one file and [`obtain_all`] several, each once;
 //! [`Readings`] keeps them.

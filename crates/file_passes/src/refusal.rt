@@ -1,6 +1,6 @@
 use lists::ListOf;
 
-/// Which file is refused, where in it, and why. The first refusal of the first pass that has one is told.
+/// Which file is refused, where in it, and why. The answer is the first refusal of the first pass that has one.
 #[derive(Debug, Drop)]
 pub struct Refusal {
     /// The bytes of the file's name.
@@ -19,7 +19,7 @@ pub enum FilePlace {
     Feeder(u32),
 }
 
-/// Why a file is refused. Each is told by its name. Want of memory is no refusal.
+/// Why a file is refused. Each is printed by its name. Out of memory is no refusal.
 #[derive(Clone, Copy, Debug, PartialEq, Eq)]
 pub enum Cause {
     /// What stands there fits no text of its kind.
@@ -66,7 +66,7 @@ pub enum Cause {
     DynamicReference,
     /// What may stand in a rule of TM1 may not stand there, or not here.
     Unsupported,
-    /// An order line stands for no order.
+    /// An order line means no order.
     BadOrder,
     /// The height of the declared order, which is above 65,536, up to the first position with which it is.
     TooHigh(u64),

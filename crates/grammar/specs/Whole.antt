@@ -53,7 +53,7 @@ pub record IsWholeRefused {A R C : Type 0}
   pub reading : IsReading bytes lexed fault
   pub refused : IsRefused G W start lexed.lexemes cause
 
--- what is answered of the bytes: the tree, seen by view, or the first fault; for want of memory nothing is said
+-- what is answered of the bytes: the tree, seen by view, or the first fault; out of memory, nothing is said
 abbrev pub AnswersWhole : {X A R C : Type 0} → (X → A) → Grammar Lexeme A → Watch Lexeme R C → R → List ℕ
     → Result X (TextFault C) → Type 0
 AnswersWhole {R = R} view G W start bytes (Ok x) = (state : R) × IsWholeText G W start bytes (view x) state

@@ -9,7 +9,7 @@ use cube_lex::{LexFault, Tokens};
 /// Why a whole text is refused.
 #[derive(Debug, Drop)]
 pub enum TextFault<C> {
-    /// Want of memory.
+    /// Out of memory.
     Memory,
     /// The line of the first token with which the tokens so far begin no text. A lexical fault counts as such a token.
     /// Where all tokens begin a text but are none, it is the line of the text's end.

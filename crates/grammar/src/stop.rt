@@ -3,7 +3,7 @@ use std::alloc::{AllocError, AllocFailed};
 /// Why a reader stops.
 #[derive(Drop)]
 pub enum Stop<C> {
-    /// Want of memory.
+    /// Out of memory.
     Memory,
     /// The next token fits nothing that may stand here. So many tokens are left, it among them; at the text's end none.
     Unexpected(usize),

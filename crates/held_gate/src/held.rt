@@ -2,7 +2,7 @@ use cube_outside::Gate;
 use std::hint::spin_loop;
 use std::sync::atomic::{AtomicBool, Ordering};
 
-/// A gate that holds whoever comes to one place until somebody has passed another, and for so many turns of its loop
+/// A gate that holds whoever reaches one place until somebody has passed another, and for so many turns of its loop
 /// at most. A place is a user, a command and a part, as in [`Gate::at`]. Threads share it.
 #[derive(Drop)]
 pub struct HeldGate {

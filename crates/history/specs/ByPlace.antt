@@ -1,4 +1,4 @@
--- A user's run, read place by place. It is what `UserRun` says by going along the list of what was told.
+-- A user's run, read place by place. It is what `UserRun` says by going along the list of replies.
 use Rattle.std.specs.Prelude.{ℕ, ◌≡◌, ◌+◌, ◌≤◌, List, Some, slice_get, length}
 use Rattle.history.specs.declared.entry.Entry.{Entry}
 use Rattle.history.specs.declared.told.Told.{Told}
@@ -7,7 +7,7 @@ use Rattle.history.specs.declared.effect.Effect.TheVariants.{Commit}
 use Rattle.history.specs.Version.{version}
 use Rattle.history.specs.UserRun.{reply_of, least_after}
 
--- the entry is the accepted command of this user that was told at its place
+-- the entry is the accepted command of this user whose reply has its place
 pub record IsToldEntry {C K T R : Type 0} (effect : C → K → Effect T R) (after : C → T → C) (first : C)
     (log : List (Entry T)) (told : List (Told R)) (commands : List K) (entry : Entry T) (place : ℕ) : Type 0 where
   pub index : ℕ
@@ -21,7 +21,7 @@ pub record IsToldEntry {C K T R : Type 0} (effect : C → K → Effect T R) (aft
 
 pub record IsRunByPlace {C K T R : Type 0} (effect : C → K → Effect T R) (after : C → T → C) (first : C)
     (log : List (Entry T)) (user : ℕ) (told : List (Told R)) (commands : List K) : Type 0 where
-  -- each command was told one place and one reply
+  -- each command has one reply, with one place
   pub all : length told ≡ length commands
   -- each place is the number of a version
   pub within : (i : ℕ) (answer : Told R) → slice_get told i ≡ Some answer → answer.place ≤ length log

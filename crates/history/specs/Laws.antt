@@ -53,7 +53,7 @@ ByPlaceIsRun {C} {K} {T} {R} effect after =
     (first : C) (log : List (Entry T)) (user : ℕ) (told : List (Told R)) (commands : List K)
     → IsRunByPlace effect after first log user told commands → UserRun effect after first log user told commands
 
--- one user's commands have one history, and one list of what is told
+-- one user's commands have one history, and one list of replies
 abbrev pub OneUserHasOneHistory : {C K T R : Type 0} → (C → K → Effect T R) → (C → T → C) → Type 0
 OneUserHasOneHistory {C} {K} {T} {R} effect after =
     (first : C) (commands : List K) (told replies : List (List (Told R))) (log other : List (Entry T))

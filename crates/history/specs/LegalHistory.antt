@@ -34,21 +34,21 @@ abbrev pub HasUsers : {T : Type 0} → ℕ → List (Entry T) → Type 0
 HasUsers {T} count log =
     (place : ℕ) (entry : Entry T) → slice_get log place ≡ Some entry → (1 ≤ entry.user) × (entry.user ≤ count)
 
--- each user has what was told so far: the first commands with their replies
+-- each user has the replies so far: those to the first commands
 abbrev pub EachRunSoFar : {C K T R : Type 0} → (C → K → Effect T R) → (C → T → C) → C
     → List (List K) → List (List (Told R)) → List (Entry T) → Type 0
 EachRunSoFar {K = K} {R = R} effect after first users told log =
     (index : ℕ) (commands : List K) (replies : List (Told R)) → slice_get users index ≡ Some commands
     → slice_get told index ≡ Some replies → RunSoFar effect after first log (index + 1) replies commands
 
--- each user was told the replies of all its commands
+-- each user has the replies to all its commands
 abbrev pub EachRun : {C K T R : Type 0} → (C → K → Effect T R) → (C → T → C) → C
     → List (List K) → List (List (Told R)) → List (Entry T) → Type 0
 EachRun {K = K} {R = R} effect after first users told log =
     (index : ℕ) (commands : List K) (replies : List (Told R)) → slice_get users index ≡ Some commands
     → slice_get told index ≡ Some replies → UserRun effect after first log (index + 1) replies commands
 
--- the one history of all users: it is legal, and what each user was told is that user's run of it
+-- the one history of all users: it is legal, and the replies to each user are that user's run of it
 pub record IsHistoryOf {C K T R : Type 0} (effect : C → K → Effect T R) (after : C → T → C) (first : C)
     (users : List (List K)) (told : List (List (Told R))) (log : List (Entry T)) : Type 0 where
   pub legal : IsLegal effect after first users log

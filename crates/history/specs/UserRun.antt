@@ -1,4 +1,4 @@
--- One user's commands against a history: what the user may be told, and which entries are the user's.
+-- One user's commands against a history: which replies the user may have, and which entries are the user's.
 -- Everywhere `effect` is what a command does on a content; `after` and `first` are those of Version.
 use Rattle.std.specs.Prelude.{ℕ, ◌≡◌, ◌+◌, ◌≤◌, List, [], ◌∷◌, Some, slice_get, length}
 use Rattle.history.specs.declared.entry.Entry.{Entry}

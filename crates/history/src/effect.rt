@@ -1,5 +1,5 @@
 /// What a command does on one version of the content: it commits writes, it is rejected, or it only reads.
-/// Each has the reply that its user is told.
+/// Each has the reply to its user.
 #[derive(Drop)]
 pub enum Effect<T, R> {
     /// The command is accepted, and these are its writes.

@@ -10,7 +10,7 @@ pub fn runs_make_a_history<W: World>()
     ensures history { RunsMakeHistory W.effect W.after }
 {}
 
-/// What was told stays true while the history goes on without the user, and a run goes on by one answer at its end.
+/// The replies stay true while the history goes on without the user, and a run goes on by one answer at its end.
 pub fn runs_go_on<W: World>()
     ensures beside { RunStaysBesideOthers W.effect W.after }
     ensures answered { RunGoesOnByOne W.effect W.after }
@@ -24,7 +24,7 @@ pub fn runs_are_read_by_place<W: World>()
     ensures run { ByPlaceIsRun W.effect W.after }
 {}
 
-/// Where one user runs, the commands leave one history, and one list of what is told.
+/// Where one user runs, the commands leave one history, and one list of replies.
 pub fn one_user_has_one_history<W: World>()
     ensures { OneUserHasOneHistory W.effect W.after }
 {}

@@ -1,4 +1,4 @@
-/// What a user is told of one command: the number of the version that the reply speaks of, and the reply.
+/// The answer to one command: the number of the version that the reply speaks of, and the reply.
 #[derive(Drop)]
 pub struct Told<R> {
     pub place: u64,

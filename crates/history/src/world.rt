@@ -4,13 +4,13 @@ ghost use Rattle.history.specs.declared.effect.Effect.{Effect};
 use crate::effect::Effect;
 use std::alloc::{AllocError, Global};
 
-/// A world in which commands act: what a state stands for, and what each command does on it.
+/// A world in which commands act: what a state means, and what each command does on it.
 ///
-/// A `State` is what the program holds, and its content is plain data. Two states of one content can't be told apart
+/// A `State` is what the program holds, and its content is plain data. Two states of one content can't be distinguished
 /// by any call of this trait.
 pub trait World {
     type State: Drop;
-    /// What a state stands for. No value of it need ever be made.
+    /// What a state means. No value of it need ever be made.
     type Content;
 
     type Command: Drop;

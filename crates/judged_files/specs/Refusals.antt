@@ -1,4 +1,4 @@
--- Which refusal each fault of a text is. Want of memory is none.
+-- Which refusal each fault of a text is. Out of memory is none.
 use Rattle.std.specs.Prelude.{ℕ, List, Option, Some, None, option_map}
 use Rattle.dim_core.specs.declared.fault.DimFault.{DimFault}
 use Rattle.dim_core.specs.declared.fault.DimFault.TheVariants as dims

@@ -10,7 +10,7 @@ use Rattle.file_passes.specs.declared.refusal.Refusal.{Refusal}
 use Rattle.file_passes.specs.Pass.{Source, Judgement}
 use Rattle.judged_files.specs.Refusals.{script_refusal}
 
--- the scripts of a model, in its order: their names, and what their files stand for
+-- the scripts of a model, in its order: their names, and what their files mean
 pub record Scripts : Type 0 where
   pub names : List (List ℕ)
   pub trees : List Script

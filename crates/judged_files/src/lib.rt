@@ -1,7 +1,7 @@
 //! What the bytes of a run's files are judged to be.
 //!
 //! Read `specs/Models.antt`, `specs/Rules.antt`, `specs/Scripts.antt` and `specs/Users.antt`, a file of each kind after
-//! the other: what its bytes stand for, or why they are refused. Which refusal a fault of a text is stands in
+//! the other: what its bytes mean, or why they are refused. Which refusal a fault of a text is stands in
 //! `specs/Refusals.antt`, and which commands are run in `specs/Loads.antt`.
 #![tactic(auto)]
 

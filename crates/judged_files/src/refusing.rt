@@ -25,8 +25,8 @@ pub(crate) fn refused_on(
     })
 }
 
-/// Why a run goes no further with this file: for this cause on this line, or for want of memory where there is no
-/// cause.
+/// Why a run goes no further with this file: for this cause on this line, or, where there is no cause, since it is out
+/// of memory.
 pub(crate) fn halt_on(alloc: Global, file: &str, line: u32, cause: Option<Cause>) -> Halt
     ensures { IsHaltFor (option_map (refused_on file.now line) cause) result }
 {
@@ -39,7 +39,7 @@ pub(crate) fn halt_on(alloc: Global, file: &str, line: u32, cause: Option<Cause>
     }
 }
 
-/// What a fault of a model text is as a cause of a refusal. Want of memory is none.
+/// What a fault of a model text is as a cause of a refusal. Out of memory is none.
 pub(crate) fn model_cause(cause: &ModelTextCause) -> Option<Cause>
     ensures { result ≡ model_cause cause.now }
 {
@@ -68,7 +68,7 @@ fn dim_cause(fault: &DimFault) -> Option<Cause>
     }
 }
 
-/// What a fault of a whole model is as a cause of a refusal. Want of memory is none.
+/// What a fault of a whole model is as a cause of a refusal. Out of memory is none.
 pub(crate) fn deploy_cause(cause: DeployCause) -> Option<Cause>
     ensures { result ≡ deploy_cause cause }
 {

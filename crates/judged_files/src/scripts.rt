@@ -19,7 +19,7 @@ use std::alloc::{AllocError, Global};
 use std::marker::Model;
 use std::sync::Arc;
 
-/// The scripts of a model, in its order: their names, and what their files stand for.
+/// The scripts of a model, in its order: their names, and what their files mean.
 #[derive(Drop)]
 pub struct Scripts {
     pub names: ListOf<Name>,
@@ -117,7 +117,7 @@ pub fn script_files(alloc: Global, scripts: &[ScriptText]) -> Result<Vec<String>
     Ok(names)
 }
 
-/// The scripts that the bytes of all script files stand for.
+/// The scripts that the bytes of all script files mean.
 pub fn scripts_of(alloc: Global, sources: &[Source<'_>]) -> Result<ListOf<Script>, Halt>
     ensures { Judges (scripts_judgement sources.now) result }
 {

@@ -14,7 +14,7 @@ use lists::ListOf;
 use std::alloc::{AllocError, Global};
 use user_text::{MAX_COMMANDS, UserBody, UserCommand, UserFault, parse};
 
-/// The commands of each user that the bytes of all user files stand for, where each load is one of a script of these
+/// The commands of each user that the bytes of all user files mean, where each load is one of a script of these
 /// names.
 pub fn users_of(
     alloc: Global,

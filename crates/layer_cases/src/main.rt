@@ -3,7 +3,7 @@
 //! crates costs its proof and its two builds, however little it does.
 //!
 //! A case is a heading `KIND: TITLE`, its lines, and an empty line. Lines that begin with `#` head a section. The
-//! program writes each case again, and behind it what is told of it, each line behind `> `.
+//! program writes each case again, and behind it what is found, each line behind `> `.
 //!
 //! - `course`, `fed`: what evaluation asks, and which cells are fed; `text: NAME` gives lines a name for these
 //!   ([`rule_cases`]).

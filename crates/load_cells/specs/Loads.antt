@@ -1,7 +1,7 @@
 -- What a load runs on: the cells of a version, by names, with the writes so far.
 use Rattle.std.specs.Prelude.{ℕ, suc, nat_lt, ◌&&◌, not, List, length, Option, Some, None, if◌then◌else◌}
 use Rattle.std.specs.List.{list_all}
-use Rattle.cell_reader.specs.Limits.{fed_count}
+use Rattle.cell_reader.specs.FedCount.{fed_count}
 use Rattle.cell_store.specs.declared.entry.Entry.{Entry}
 use Rattle.cell_store.specs.Entries.{after_writes}
 use Rattle.cell_store.specs.StoreLimit.{most_cells}

@@ -8,7 +8,7 @@ use rule_model::is_input;
 use script_values::{LoadReason, Text, WorkCells};
 use std::alloc::{AllocError, Global};
 
-/// The work of a load, whose cells are told by names.
+/// The work of a load, whose cells have names.
 #[derive(Drop)]
 pub struct LoadCells {
     work: Work,

@@ -17,7 +17,7 @@ use std::thread::Threads;
 // What is stored in the two cells, in millionths.
 const NUMBER: i64 = 25_000_000;
 
-/// What the readers of a case find, a line each. `model` is a model text without rules; nothing is told of one that is
+/// What the readers of a case find, a line each. `model` is a model text without rules; nothing is found of one that is
 /// refused.
 pub fn readings<R: Threads + Sync>(
     rt: &R,

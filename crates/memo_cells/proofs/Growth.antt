@@ -2,19 +2,19 @@
 use Rattle.std.proofs.Common.{◌≡◌, ℕ, ◌+◌, ◌-◌, ◌%◌, ◌≤◌, Bool, true, false, cond, List, [], ◌∷◌, ◌++◌, sym, refl, ◌∙◌, subst, arith, eqb, le_refl, le_trans}
 use Rattle.std.proofs.lemmas.Bool.{and_parts, and_from, or_left, or_right}
 use Rattle.std.proofs.lemmas.List.Folds.{list_any-append}
-use Rattle.memo_cells.specs.declared.seat.View.{View}
+use Rattle.memo_cells.specs.declared.seat.SeatView.{SeatView}
 use Rattle.memo_cells.specs.Knowledge.{Grew}
 use Rattle.memo_cells.specs.Seats.{key_at, value_at, has_word, has_some, times, knows_in, names_in, zeros_in, known_by}
 use Rattle.memo_cells.specs.Inside.Plays.{learned, claiming, after_claim, after_put, together}
 
 -- what is known of words is known still
-record Longer (v w : View) : Type 0 where
+record Longer (v w : SeatView) : Type 0 where
   pub slots : v.slots ≡ w.slots
   pub word : (at word : ℕ) → has_word v.known at word ≡ true → has_word w.known at word ≡ true
   pub more : (at : ℕ) → has_some v.known at ≡ true → has_some w.known at ≡ true
   pub zeros : (at : ℕ) → times at v.zeros ≤ times at w.zeros
 
-grew-longer : (v w : View) → Longer v w → Grew (known_by v) (known_by w)
+grew-longer : (v w : SeatView) → Longer v w → Grew (known_by v) (known_by w)
 grew-longer v w longer =
     record {
       knows = λ cell has. subst (λ n. knows_in w (cell % n) cell ≡ true) longer.slots (knows (cell % v.slots) cell has);
@@ -36,7 +36,7 @@ grew-longer v w longer =
     zeros : (slot : ℕ) → zeros_in v slot ≤ zeros_in w slot
     zeros slot = let a = longer.zeros (key_at slot) in let b = longer.zeros (value_at slot) in omega arith
 
-longer-learned : (v : View) (at word : ℕ) → Longer v (learned v at word)
+longer-learned : (v : SeatView) (at word : ℕ) → Longer v (learned v at word)
 longer-learned v at word =
     record {
       slots = refl;
@@ -45,11 +45,11 @@ longer-learned v at word =
       zeros = λ i. le_refl _;
     }
 
-longer-claiming : (v w : View) (cell : ℕ) → Longer v w → Longer v (claiming w cell)
+longer-claiming : (v w : SeatView) (cell : ℕ) → Longer v w → Longer v (claiming w cell)
 longer-claiming v w cell longer =
     record { slots = longer.slots; word = longer.word; more = longer.more; zeros = longer.zeros }
 
-longer-then : (v w x : View) → Longer v w → Longer w x → Longer v x
+longer-then : (v w x : SeatView) → Longer v w → Longer w x → Longer v x
 longer-then v w x one other =
     record {
       slots = one.slots ∙ other.slots;
@@ -58,22 +58,27 @@ longer-then v w x one other =
       zeros = λ i. le_trans (one.zeros i) (other.zeros i);
     }
 
-longer-claim : (v : View) (at key word : ℕ) → Longer v (after_claim v at key word)
+longer-claim : (v : SeatView) (at key word : ℕ) → Longer v (after_claim v at key word)
 longer-claim v at key word = by (eqb word 0)
   where
     by : (b : Bool) → Longer v (cond b (claiming (learned v at key) (key - 1)) (learned v at word))
     by true = longer-claiming v (learned v at key) (key - 1) (longer-learned v at key)
     by false = longer-learned v at word
 
-longer-put : (v : View) (at value word : ℕ) → Longer v (after_put v at value word)
+longer-put : (v : SeatView) (at value word : ℕ) → Longer v (after_put v at value word)
 longer-put v at value word = by (eqb word 0)
   where
     by : (b : Bool) → Longer v (cond b (learned v at value) (learned v at word))
     by true = longer-learned v at value
     by false = longer-learned v at word
 
+-- through the one step of a reservation
+pub grew-reserved : (v w : SeatView) (at key found : ℕ) → w ≡ after_claim v at key found → Grew (known_by v) (known_by w)
+grew-reserved v w at key found claim =
+    grew-longer v w (subst (Longer v) (sym claim) (longer-claim v at key found))
+
 -- through the two steps of a keep
-pub grew-kept : (v w x : View) (at key found place value there : ℕ) → w ≡ after_claim v at key found
+pub grew-kept : (v w x : SeatView) (at key found place value there : ℕ) → w ≡ after_claim v at key found
     → x ≡ after_put w place value there → Grew (known_by v) (known_by x)
 grew-kept v w x at key found place value there claim put =
     grew-longer v x (longer-then v w x
@@ -84,9 +89,9 @@ times-append : (x : ℕ) (xs ys : List ℕ) → times x (xs ++ ys) ≡ times x x
 times-append x [] ys = omega arith
 times-append x (y ∷ xs) ys = let later = times-append x xs ys in omega arith
 
-pub grew-own : (v w x : View) → x ≡ together v w → Grew (known_by v) (known_by x)
+pub grew-own : (v w x : SeatView) → x ≡ together v w → Grew (known_by v) (known_by x)
 grew-own v w x is =
-    subst (λ (x : View). Grew (known_by v) (known_by x)) (sym is)
+    subst (λ (x : SeatView). Grew (known_by v) (known_by x)) (sym is)
     (grew-longer v (together v w)
     record {
       slots = refl;
@@ -95,9 +100,9 @@ grew-own v w x is =
       zeros = λ i. let e = times-append i v.zeros w.zeros in omega arith;
     })
 
-pub grew-other : (v w x : View) → w.slots ≡ v.slots → x ≡ together v w → Grew (known_by w) (known_by x)
+pub grew-other : (v w x : SeatView) → w.slots ≡ v.slots → x ≡ together v w → Grew (known_by w) (known_by x)
 grew-other v w x slots is =
-    subst (λ (x : View). Grew (known_by w) (known_by x)) (sym is)
+    subst (λ (x : SeatView). Grew (known_by w) (known_by x)) (sym is)
     (grew-longer w (together v w)
     record {
       slots = slots;

@@ -11,7 +11,7 @@ use Rattle.atomic_table.specs.Table.{State, keeps, stepped, step, Allows, Splits
 use Rattle.atomic_table.proofs.Lists.{at_set, at_snoc, exchanged}
 use Rattle.memo_cells.specs.declared.version.Version.{Version}
 use Rattle.memo_cells.specs.declared.version.About.{About}
-use Rattle.memo_cells.specs.declared.seat.View.{View}
+use Rattle.memo_cells.specs.declared.seat.SeatView.{SeatView}
 use Rattle.memo_cells.specs.Values.{cell_value, value_in}
 use Rattle.memo_cells.specs.Seats.{key_at, value_at, has_word}
 use Rattle.memo_cells.specs.Inside.Rule.{Fits, IsMemo, nobody}
@@ -19,15 +19,15 @@ use Rattle.memo_cells.specs.Inside.Plays.{Found, Sitting, learned, missed, claim
 use Rattle.memo_cells.proofs.Words.{Grows, HoldSlots, grows-set, holds-key, holds-value, fits-grows, fits-learned, fits-together}
 
 abbrev St : Type 0
-St = State (Unit {0}) View
+St = State (Unit {0}) SeatView
 
 -- a seat that isn't joined away is of the memo's version
-fits-of : (about : About) (s : St) (id : ℕ) (v : View) → IsMemo about s → get_elem? s.views id ≡ some v
+fits-of : (about : About) (s : St) (id : ℕ) (v : SeatView) → IsMemo about s → get_elem? s.views id ≡ some v
     → v.version ≡ Some about.version → Fits about s.words v
 fits-of about s id v memo at live = memo.views id v about.version at live
 
 -- what a step finds
-pub finds : (about : About) (s : St) (v : View) (at : ℕ) → IsMemo about s → Fits about s.words v → at < 2 * about.slots
+pub finds : (about : About) (s : St) (v : SeatView) (at : ℕ) → IsMemo about s → Fits about s.words v → at < 2 * about.slots
     → Found v at (get_or s.words at 0)
 finds about s v at memo fits below =
     record {
@@ -48,7 +48,7 @@ finds about s v at memo fits below =
     same_version version e = cc
 
 -- the rule after a step of one seat on one word
-moved : (about : About) (s : St) (at n id : ℕ) (me : Sitting) (w : View) → IsMemo about s → Grows s.words (set s.words at n)
+moved : (about : About) (s : St) (at n id : ℕ) (me : Sitting) (w : SeatView) → IsMemo about s → Grows s.words (set s.words at n)
     → HoldSlots about (set s.words at n) → Fits about (set s.words at n) w
     → IsMemo about (stepped s at n id me.1 w keeps)
 moved about s at n id me w memo grows holds fits =
@@ -63,7 +63,7 @@ moved about s at n id me w memo grows holds fits =
     }
 
 -- the same where the word stays
-stayed : (about : About) (s : St) (at id : ℕ) (me : Sitting) (w : View) → IsMemo about s → Fits about s.words w
+stayed : (about : About) (s : St) (at id : ℕ) (me : Sitting) (w : SeatView) → IsMemo about s → Fits about s.words w
     → IsMemo about (stepped s at (get_or s.words at 0) id me.1 w keeps)
 stayed about s at id me w memo fits =
     let same = sym (set-get_or s.words at 0) in
@@ -85,7 +85,7 @@ load_allowed about slots id me at live below s memo _ is _ = (
     n : ℕ
     n = get_or s.words at 0
 
-    w : View
+    w : SeatView
     w = after_load me.0 at n
 
     old : Fits about s.words me.0
@@ -97,8 +97,8 @@ load_allowed about slots id me at live below s memo _ is _ = (
     fits : Fits about s.words w
     fits =
         dite (ℕ_discrete n 0)
-        (λ none. subst (λ (v : View). Fits about s.words v) (sym (loads_none none)) fits_missed)
-        (λ more. subst (λ (v : View). Fits about s.words v) (sym (loads_some more))
+        (λ none. subst (λ (v : SeatView). Fits about s.words v) (sym (loads_none none)) fits_missed)
+        (λ more. subst (λ (v : SeatView). Fits about s.words v) (sym (loads_some more))
         (fits-learned about s.words me.0 at n refl more old))
       where
         loads_none : n ≡ 0 → after_load me.0 at n ≡ missed me.0 at
@@ -108,7 +108,7 @@ load_allowed about slots id me at live below s memo _ is _ = (
         loads_some e = ap (λ b. cond b (missed me.0 at) (learned me.0 at n)) (ne_eqb n 0 e)
 
 -- after an exchange of 0 for a word that fits its slot: where the word was 0 the seat is as `x`, which knows the new one
-exchanged_allowed : (about : About) (s : St) (at new id : ℕ) (me : Sitting) (x : View) → IsMemo about s
+exchanged_allowed : (about : About) (s : St) (at new id : ℕ) (me : Sitting) (x : SeatView) → IsMemo about s
     → at < 2 * about.slots → 0 < new → Fits about s.words me.0
     → (get_or s.words at 0 ≡ 0 → HoldSlots about (set s.words at new))
     → (Fits about (set s.words at new) (learned me.0 at new) → Fits about (set s.words at new) x)
@@ -122,7 +122,7 @@ exchanged_allowed about s at new id me x memo below more old holds fits =
     n : ℕ
     n = get_or s.words at 0
 
-    w : View
+    w : SeatView
     w = cond (eqb n 0) x (learned me.0 at n)
 
     us : List ℕ
@@ -134,13 +134,13 @@ exchanged_allowed about s at new id me x memo below more old holds fits =
         let there = get_or-set_same s.words at new 0 (omega arith) in
         let grown = fits-grows about s.words us me.0 (grows-set s.words at new empty) old in
         let is : w ≡ x = ap (λ b. cond b x (learned me.0 at n)) (eq-eqb n 0 empty) in
-        subst (λ (v : View). Fits about us v) (sym is)
+        subst (λ (v : SeatView). Fits about us v) (sym is)
         (fits (fits-learned about us me.0 at new there (λ e. omega arith) grown))
 
     miss : n ≢ 0 → Fits about s.words w
     miss full =
         let is : w ≡ learned me.0 at n = ap (λ b. cond b x (learned me.0 at n)) (ne_eqb n 0 full) in
-        subst (λ (v : View). Fits about s.words v) (sym is) (fits-learned about s.words me.0 at n refl full old)
+        subst (λ (v : SeatView). Fits about s.words v) (sym is) (fits-learned about s.words me.0 at n refl full old)
 
 pub claim_allowed : (about : About) (slots id : ℕ) (me : Sitting) (slot cell : ℕ) → me.0.version ≡ Some about.version
     → slot < about.slots → cell % about.slots ≡ slot
@@ -187,7 +187,7 @@ put_allowed about slots id me slot cell word live below has more right s memo _ 
     key : get_or s.words (key_at slot) 0 ≡ cell + 1
     key = (old.known (key_at slot) (cell + 1) has).0
 
-pub split_allowed : (about : About) (id : ℕ) (v : View) → v.version ≡ Some about.version
+pub split_allowed : (about : About) (id : ℕ) (v : SeatView) → v.version ≡ Some about.version
     → Splits (IsMemo about) id v v (another v)
 split_allowed about id v live s memo is =
     record {
@@ -209,7 +209,7 @@ split_allowed about id v live s memo is =
     fits_another : Fits about s.words (another v)
     fits_another = record { version = fits.version; slots = fits.slots; known = fits.known; some = fits.some }
 
-pub join_allowed : (about : About) (id : ℕ) (v : View) (other : ℕ) (w : View) → v.version ≡ Some about.version
+pub join_allowed : (about : About) (id : ℕ) (v : SeatView) (other : ℕ) (w : SeatView) → v.version ≡ Some about.version
     → w.version ≡ Some about.version → Joins (IsMemo about) id v other w (together v w) nobody
 join_allowed about id v other w live there s memo is apart at =
     record {
@@ -232,5 +232,5 @@ join_allowed about id v other w live there s memo is apart at =
     fits_other = ⊎_elim (λ same. absurd (apart same.0)) (λ old. fits-of about s other w memo old.1 there)
         (at_set s.views id other (together v w) w at)
 
-    none_left : (view : View) (version : Version) → nobody ≡ view → view.version ≡ Some version → ⊥
-    none_left view version gone here = let none : None ≡ Some version = ap (λ (x : View). x.version) gone ∙ here in cc
+    none_left : (view : SeatView) (version : Version) → nobody ≡ view → view.version ≡ Some version → ⊥
+    none_left view version gone here = let none : None ≡ Some version = ap (λ (x : SeatView). x.version) gone ∙ here in cc

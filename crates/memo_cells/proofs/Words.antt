@@ -5,7 +5,7 @@ use native.Mathlib.Decide.{ℕ_discrete}
 use Rattle.std.proofs.lemmas.Bool.{or_cases, and_parts, eqb-true}
 use Rattle.std.proofs.lemmas.List.Folds.{list_any-append}
 use Rattle.memo_cells.specs.declared.version.About.{About}
-use Rattle.memo_cells.specs.declared.seat.View.{View}
+use Rattle.memo_cells.specs.declared.seat.SeatView.{SeatView}
 use Rattle.memo_cells.specs.Values.{cell_value, value_in}
 use Rattle.memo_cells.specs.Seats.{key_at, value_at}
 use Rattle.memo_cells.specs.Inside.Rule.{HoldsSlot, Fits}
@@ -94,7 +94,7 @@ holds-value about ws slot cell word size below named more right h k k_below =
 
 -- ---- what is known
 
-pub fits-grows : (about : About) (ws us : List ℕ) (v : View) → Grows ws us → Fits about ws v → Fits about us v
+pub fits-grows : (about : About) (ws us : List ℕ) (v : SeatView) → Grows ws us → Fits about ws v → Fits about us v
 fits-grows about ws us v grows fits =
     record {
       version = fits.version;
@@ -104,7 +104,7 @@ fits-grows about ws us v grows fits =
     }
 
 -- one word more is known
-pub fits-learned : (about : About) (ws : List ℕ) (v : View) (at word : ℕ) → get_or ws at 0 ≡ word → word ≢ 0
+pub fits-learned : (about : About) (ws : List ℕ) (v : SeatView) (at word : ℕ) → get_or ws at 0 ≡ word → word ≢ 0
     → Fits about ws v → Fits about ws (learned v at word)
 fits-learned about ws v at word is more fits =
     record {
@@ -129,7 +129,7 @@ fits-learned about ws v at word is more fits =
     }
 
 -- what both knew is known
-pub fits-together : (about : About) (ws : List ℕ) (v w : View) → Fits about ws v → Fits about ws w
+pub fits-together : (about : About) (ws : List ℕ) (v w : SeatView) → Fits about ws v → Fits about ws w
     → Fits about ws (together v w)
 fits-together about ws v w one other =
     record {

@@ -2,7 +2,7 @@
 use Rattle.std.specs.Prelude.{◌≡◌, ℕ, ◌+◌, ◌*◌, ◌%◌, ◌==◌, Bool, not, ◌&&◌, List, [], ◌∷◌, Some, if◌then◌else◌}
 use Rattle.std.specs.List.{list_any}
 use Rattle.memo_cells.specs.declared.version.Version.{Version}
-use Rattle.memo_cells.specs.declared.seat.View.{View}
+use Rattle.memo_cells.specs.declared.seat.SeatView.{SeatView}
 use Rattle.memo_cells.specs.declared.seat.MemoSeat.{MemoSeat}
 use Rattle.memo_cells.specs.declared.memo.Memo.{Memo}
 use Rattle.memo_cells.specs.Knowledge.{Knowledge}
@@ -27,19 +27,19 @@ times x [] = 0
 times x (y ∷ ys) = (if y == x then 1 else 0) + times x ys
 
 -- of a slot and a cell in it: the key word is the cell's, and the value word is there
-abbrev pub knows_in : View → ℕ → ℕ → Bool
+abbrev pub knows_in : SeatView → ℕ → ℕ → Bool
 knows_in view slot cell = has_word view.known (key_at slot) (cell + 1) && has_some view.known (value_at slot)
 
 -- of a slot and a cell in it, and another cell: the key word is that of the other one
-abbrev pub names_in : View → ℕ → ℕ → ℕ → Bool
+abbrev pub names_in : SeatView → ℕ → ℕ → ℕ → Bool
 names_in view slot cell other = has_word view.known (key_at slot) (other + 1) && not (other == cell)
 
 -- how often a word of the slot was found to be 0
-abbrev pub zeros_in : View → ℕ → ℕ
+abbrev pub zeros_in : SeatView → ℕ → ℕ
 zeros_in view slot = times (key_at slot) view.zeros + times (value_at slot) view.zeros
 
 -- the slot of a cell is its number modulo the count of slots
-abbrev pub known_by : View → Knowledge
+abbrev pub known_by : SeatView → Knowledge
 known_by view =
     record {
       knows = λ cell. knows_in view (cell % view.slots) cell;

@@ -1,5 +1,8 @@
 -- What clauses say of a memo with the seat of one reader.
+use Rattle.std.specs.Prelude.{ℕ, Bool, is_some}
 use Rattle.std.specs.Arc.{arc_value}
+use Rattle.std.specs.BTreeMap.{get}
+use Rattle.std.specs.Ordering.{nat_cmp}
 use Rattle.memo_cells.specs.declared.version.Version.{Version}
 use Rattle.memo_cells.specs.declared.memo.Memo.{Memo}
 use Rattle.memo_cells.specs.declared.shared.SharedMemo.{SharedMemo}
@@ -16,3 +19,7 @@ version_kept shared = version_of (memo_of shared)
 -- what its reader knows
 abbrev pub known_to : SharedMemo → Knowledge
 known_to shared = knowledge shared.seat
+
+-- of a cell, whether its reader holds the value for itself
+abbrev pub holds : SharedMemo → ℕ → Bool
+holds shared cell = is_some (get nat_cmp shared.held cell)

@@ -48,6 +48,20 @@ impl Memo {
         Look::Value(value_of(word))
     }
 
+    /// Takes a cell's slot for its value to come, unless the slot is for another cell. It takes no memory and doesn't
+    /// wait.
+    pub fn reserve(&self, seat: &mut MemoSeat, cell: u64)
+        requires seat { IsAt self.now seat.old }
+        requires cell { IsNumber cell }
+        ensures seat { IsAt self.now seat.new }
+        ensures grew { Grew (knowledge seat.old) (knowledge seat.new) }
+        ensures zeros { (knowledge seat.new).zeros ≡ (knowledge seat.old).zeros }
+        ensures claims { (claimed seat.new ≡ claimed seat.old) ⊎ (claimed seat.new ≡ cell ∷ claimed seat.old) }
+    {
+        let slot = self.slot_of(cell);
+        self.claim(seat, slot, cell);
+    }
+
     /// Keeps a cell's value, unless the slot is for another cell. It takes no memory and doesn't wait.
     pub fn keep(&self, seat: &mut MemoSeat, cell: u64, value: &Value) -> Kept
         requires seat { IsAt self.now seat.old }

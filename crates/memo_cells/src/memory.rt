@@ -1,4 +1,4 @@
-ghost use Rattle.std.specs.Prelude.{◌≡◌, ℕ, true};
+ghost use Rattle.std.specs.Prelude.{◌≡◌, ℕ, Bool, true, IfSome, is_some};
 ghost use Rattle.cube_fixed.specs.declared.value.Value.{Value};
 ghost use Rattle.memo_cells.specs.Knowledge.{Grew, IsNumber, IsRight, KeepsAt, Knowledge, Knows, LooksAt, Names};
 ghost use Rattle.memo_cells.specs.Knowledge.{is_value};
@@ -15,6 +15,8 @@ pub trait Memory {
     ghost values: { Self → ℕ → Value };
     /// What is known of the values that are kept.
     ghost known: { Self → Knowledge };
+    /// The cells whose values are held for this reader alone, since their slots are for other cells.
+    ghost holds: { Self → ℕ → Bool };
 
     /// A cell's value, where it is kept.
     fn look(&mut self, cell: u64) -> Look
@@ -24,9 +26,23 @@ pub trait Memory {
         ensures known { Knows (known self.old) cell → is_value result ≡ true }
         ensures named { (other : ℕ) → Names (known self.old) cell other → result ≡ look_other other }
         ensures grew { Grew (known self.old) (known self.new) }
-        ensures values { values self.new ≡ values self.old };
+        ensures values { values self.new ≡ values self.old }
+        ensures holds { holds self.new ≡ holds self.old };
 
-    /// Keeps a cell's value, unless its slot is for another cell.
+    /// A cell's value that is held for this reader alone.
+    fn recall(&self, cell: u64) -> Option<Value>
+        ensures value { IfSome result (λ value. value ≡ values self.now cell) }
+        ensures holds { is_some result ≡ holds self.now cell };
+
+    /// Takes the slot of a cell for the value to come, unless the slot is for another cell.
+    fn reserve(&mut self, cell: u64)
+        requires cell { IsNumber cell }
+        ensures grew { Grew (known self.old) (known self.new) }
+        ensures zeros { (known self.new).zeros ≡ (known self.old).zeros }
+        ensures values { values self.new ≡ values self.old }
+        ensures holds { holds self.new ≡ holds self.old };
+
+    /// Keeps a cell's value. Where its slot is for another cell it may be held for this reader alone.
     fn keep(&mut self, cell: u64, value: &Value) -> Kept
         requires cell { IsNumber cell }
         requires value { value.now ≡ values self.old cell }

@@ -1,11 +1,11 @@
 //! The rule of the table, and what each kind of step tells.
-use crate::seat::View;
+use crate::seat::SeatView;
 use crate::version::About;
 use atomic_table::{Join, Play, Split, TableRule};
 
 pub struct MemoRule;
 
-impl TableRule<(), View, About> for MemoRule {
+impl TableRule<(), SeatView, About> for MemoRule {
     ghost use Rattle.memo_cells.specs.Inside.Rule.{IsMemo, newcomer};
 
     ghost holds = { IsMemo };
@@ -15,7 +15,7 @@ impl TableRule<(), View, About> for MemoRule {
 
 pub(crate) struct Loads;
 
-impl Play<(), View> for Loads {
+impl Play<(), SeatView> for Loads {
     ghost use Rattle.memo_cells.specs.Inside.Plays.{loads};
 
     ghost then = { loads };
@@ -23,7 +23,7 @@ impl Play<(), View> for Loads {
 
 pub(crate) struct Claims;
 
-impl Play<(), View> for Claims {
+impl Play<(), SeatView> for Claims {
     ghost use Rattle.memo_cells.specs.Inside.Plays.{claims};
 
     ghost then = { claims };
@@ -31,7 +31,7 @@ impl Play<(), View> for Claims {
 
 pub(crate) struct Puts;
 
-impl Play<(), View> for Puts {
+impl Play<(), SeatView> for Puts {
     ghost use Rattle.memo_cells.specs.Inside.Plays.{puts};
 
     ghost then = { puts };
@@ -39,7 +39,7 @@ impl Play<(), View> for Puts {
 
 pub(crate) struct Meets;
 
-impl Split<View> for Meets {
+impl Split<SeatView> for Meets {
     ghost use Rattle.memo_cells.specs.Inside.Plays.{another};
 
     ghost left = { λ v. v };
@@ -47,7 +47,7 @@ impl Split<View> for Meets {
     ghost right = { another };
 }
 
-impl Join<View> for Meets {
+impl Join<SeatView> for Meets {
     ghost use Rattle.memo_cells.specs.Inside.Plays.{together};
     ghost use Rattle.memo_cells.specs.Inside.Rule.{nobody};
 

@@ -5,7 +5,7 @@ use atomic_table::Seat;
 use std::collections::LinkedList;
 
 /// What a seat knows. No value of it is made.
-pub struct View {
+pub struct SeatView {
     /// What the values are of; none once the seat was joined away.
     pub(crate) version: Option<Version>,
     pub(crate) slots: u64,
@@ -20,6 +20,6 @@ pub struct View {
 /// One reader's place at a memo. It takes no bytes, and may go to another thread.
 #[derive(Drop)]
 pub struct MemoSeat {
-    pub(crate) seat: Seat<(), View>,
+    pub(crate) seat: Seat<(), SeatView>,
     ghost empty_handed: { seat.me.1 ≡ [] },
 }

@@ -3,6 +3,7 @@ ghost use Rattle.memo_cells.specs.Shared.{known_to, memo_of, version_kept};
 ghost use Rattle.memo_cells.specs.Seats.{slots_of};
 
 use crate::answers::{Kept, Look};
+use crate::held::{held_value, hold};
 use crate::memo::Memo;
 use crate::memory::Memory;
 use crate::shared::SharedMemo;
@@ -10,6 +11,7 @@ use cell_store::Store;
 use cube_fixed::Value;
 use rule_model::Model;
 use std::alloc::{AllocError, Global};
+use std::collections::BTreeMap;
 use std::sync::Arc;
 
 impl SharedMemo {
@@ -29,10 +31,16 @@ impl SharedMemo {
     {
         let (memo, seat) = Memo::new(alloc, model, store, version, slots)?;
         let memo = Arc::new(alloc, memo)?;
-        Ok(SharedMemo { memo, seat })
+        Ok(SharedMemo {
+            memo,
+            seat,
+            held: BTreeMap::new(alloc),
+            alloc,
+        })
     }
 
-    /// The same memo for another reader, who knows what this one knows. It doesn't wait.
+    /// The same memo for another reader, who knows what this one knows, and holds nothing for itself yet. It doesn't
+    /// wait.
     pub fn share(&mut self) -> Result<SharedMemo, AllocError>
         ensures same { IfOk result (λ shared. memo_of shared ≡ memo_of self.old) }
         ensures knows { IfOk result (λ shared. known_to shared ≡ known_to self.old) }
@@ -41,23 +49,43 @@ impl SharedMemo {
     {
         let memo = Arc::try_clone(&self.memo)?;
         let seat = memo.split(&mut self.seat);
-        Ok(SharedMemo { memo, seat })
+        Ok(SharedMemo {
+            memo,
+            seat,
+            held: BTreeMap::new(self.alloc),
+            alloc: self.alloc,
+        })
     }
 }
 
 impl Memory for SharedMemo {
     ghost use Rattle.memo_cells.specs.Values.{cell_value};
-    ghost use Rattle.memo_cells.specs.Shared.{known_to, version_kept};
+    ghost use Rattle.memo_cells.specs.Shared.{holds, known_to, version_kept};
 
     ghost values = { λ shared. cell_value (version_kept shared) };
 
     ghost known = { known_to };
 
+    ghost holds = { holds };
+
     fn look(&mut self, cell: u64) -> Look {
         self.memo.look(&mut self.seat, cell)
     }
 
+    fn recall(&self, cell: u64) -> Option<Value> {
+        held_value(&self.held, cell)
+    }
+
+    fn reserve(&mut self, cell: u64) {
+        self.memo.reserve(&mut self.seat, cell);
+    }
+
     fn keep(&mut self, cell: u64, value: &Value) -> Kept {
-        self.memo.keep(&mut self.seat, cell, value)
+        let kept = self.memo.keep(&mut self.seat, cell, value);
+        if let Kept::Other(_) = kept {
+            // a value that there is no memory for is worked out again
+            let _ = hold(&mut self.held, cell, value);
+        }
+        kept
     }
 }

@@ -44,7 +44,7 @@ order_lines cubes = map (λ cube. cube.order) cubes
 abbrev pub refused_on : ℕ → DeployCause → DeployFault
 refused_on line cause = record { file = None; at = Line line; cause = cause }
 
--- want of memory has no line
+-- out of memory has no line
 abbrev pub memory : DeployFault
 memory = refused_on 0 causes.Memory
 
@@ -97,7 +97,7 @@ foundation_refusal contents =
     (space_refusal (cube_lines contents.cubes) (layout_of contents))
     (products_refusal (cube_lines contents.cubes) (layout_of contents)))
 
--- an answer has this cause: it is Ok where there is none, and else the cause; want of memory may always come
+-- an answer has this cause: it is Ok where there is none, and else the cause; out of memory may always come
 abbrev pub IsAnsweredBy : {T : Type 0} → Option DeployFault → Result T DeployFault → Type 0
 IsAnsweredBy None (Ok value) = ⊤
 IsAnsweredBy (Some cause) (Ok value) = ⊥

@@ -37,7 +37,7 @@ abbrev pub refused_at : List (Option RuleFile) → ℕ → ℕ → DeployCause �
 refused_at files cube statement cause =
     record { file = file_name files cube; at = Statement statement; cause = cause }
 
--- what is wrong with the text of a rule file; want of memory is nothing of it
+-- what is wrong with the text of a rule file; out of memory is nothing of it
 abbrev pub text_refusal : List ℕ → RuleFault → Option DeployFault
 text_refusal name (texts.Syntax line) = Some (refused_in name line causes.Syntax)
 text_refusal name (texts.TooDeep line) = Some (refused_in name line causes.TooDeep)
@@ -79,7 +79,7 @@ meant_in name (Err fault) = Err (record { file = name; at = place_of fault.at; c
 abbrev pub meaning_stage : Layout → List (Option RuleFile) → ℕ → RuleText → Stage CubeRules
 meaning_stage space files cube text = meant (meant_in (file_name files cube) (rules_of space cube text))
 
--- rules in the order that a line stands for; where it stands for none it is refused on its line
+-- rules in the order that a line means; where it means none it is refused on its line
 abbrev pub in_order : CubeRules → ℕ → Option Order → Result CubeRules DeployFault
 in_order rules line None = Err (refused_on line causes.BadOrder)
 in_order rules line (Some order) =
@@ -90,7 +90,7 @@ in_order rules line (Some order) =
       order = order;
     })
 
--- the rules of a cube with the order that its order line stands for, where it has one
+-- the rules of a cube with the order that its order line means, where it has one
 abbrev pub by_line : Layout → ℕ → CubeRules → Option (ℕ × OrderLine) → Stage CubeRules
 by_line space cube rules None = found rules
 by_line space cube rules (Some line) = meant (in_order rules line.0 (order_of space cube line.1))

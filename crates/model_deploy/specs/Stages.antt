@@ -1,4 +1,4 @@
--- Deployment goes in stages: each comes to what the later ones need, or is refused, and then none comes after it.
+-- Deployment goes in stages: each finds what the later ones need, or is refused, and then none comes after it.
 use Rattle.std.specs.Prelude.{◌≡◌, ◌⊎◌, ℕ, ◌+◌, List, [], ◌∷◌, Option, Some, None, Result, Ok, Err}
 use Rattle.model_deploy.specs.declared.fault.DeployFault.{DeployFault}
 use Rattle.model_deploy.specs.Foundation.{memory}
@@ -36,7 +36,7 @@ each stage n (x ∷ xs) = do
   ys ← each stage (n + 1) xs
   found (y ∷ ys)
 
--- an answer is what a stage comes to; want of memory may come in its place
+-- an answer is what a stage comes to; out of memory may come in its place
 abbrev pub Comes : {A : Type 0} → Stage A → Result A DeployFault → Type 0
 Comes stage (Ok a) = stage.finds a
 Comes stage (Err fault) = (fault ≡ memory) ⊎ stage.refuses fault

@@ -23,7 +23,7 @@ use std::alloc::Global;
 /// The accepted model of a text that was read and of the rule files of its cubes, one entry a cube: None for a cube
 /// without rules. Scripts aren't looked at.
 ///
-/// The first refusal is told. Each kind of check is made over the whole model before the next: coefficients by
+/// The answer is the first refusal. Each kind of check is made over the whole model before the next: coefficients by
 /// dimension, cells of the cubes, weight products, rule texts, what these mean, order lines, the order of all that
 /// formulas read, feeders, and the cells that are fed where nothing is stored.
 #[tactic(auto, unfolding(crate::specs::Deployment::deployment))]
@@ -49,7 +49,7 @@ pub fn deploy(
 /// The rules of each cube with its order, over what the model stands on; the file of each cube, None for one without
 /// rules. Whether what formulas read stands before their cells, and what feeders cover, isn't looked at here.
 ///
-/// The first refusal is told: all rule texts are read, then all are bound, and then all order lines.
+/// The answer is the first refusal: all rule texts are read, then all are bound, and then all order lines.
 #[tactic(auto, unfolding(crate::specs::Rules::rules_stage))]
 pub fn rules_of(
     alloc: Global,

@@ -1,7 +1,7 @@
 use lists::ListOf;
 use std::alloc::{AllocError, AllocFailed, Global};
 
-/// Why a model isn't deployed: in which file, where in it, and why. For want of memory it is line 0 of the model file.
+/// Why a model isn't deployed: in which file, where in it, and why. Out of memory, it is line 0 of the model file.
 #[derive(Debug, Drop)]
 pub struct DeployFault {
     /// The bytes of a rule file's name; None is the model file.
@@ -56,7 +56,7 @@ pub enum DeployCause {
     DynamicReference,
     /// What may stand in a rule of TM1 may not stand there, or not here.
     Unsupported,
-    /// The order line of a cube, on this line, stands for no order.
+    /// The order line of a cube, on this line, means no order.
     BadOrder,
     /// The height of the declared order is above 65,536, up to the first position with which it is. The line is the
     /// model's first.
@@ -72,7 +72,7 @@ pub enum DeployCause {
     /// So many cells are fed where nothing is stored: one more than 4,000,000, also where there are more still. The
     /// line is the model's first.
     FedLimit(u64),
-    /// Want of memory. It may come in place of any answer.
+    /// Out of memory. It may come in place of any answer.
     Memory,
 }
 

@@ -12,7 +12,7 @@ use lists::ListOf;
 use rule_model::CubeRules;
 use std::alloc::Global;
 
-/// The rules of all cubes in the orders that their order lines stand for, or the first line that stands for none.
+/// The rules of all cubes in the orders that their order lines mean, or the first line that means none.
 pub fn ordered_rules(
     alloc: Global,
     found: &Foundation,

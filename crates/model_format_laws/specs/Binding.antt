@@ -12,7 +12,7 @@ use Rattle.rule_model.specs.declared.rules.CubeRules.{CubeRules}
 use Rattle.rule_model.specs.BoundModel.{BoundModel}
 use Rattle.bind_order.specs.Orders.{order_of}
 
--- the order that a cube declares: the one that its order line stands for, and one without positions where it has no
+-- the order that a cube declares: the one that its order line means, and one without positions where it has no
 -- line
 abbrev pub declared_order : Layout → ℕ → CubeText → Option Order
 declared_order space cube text =

@@ -25,7 +25,7 @@ pub fn a_bound_text_binds_the_same_in_version_2()
         → model_bound meant (contents_in 2 contents) ≡ Some model }
 {}
 
-/// An order line of version 1 that stands for an order of a cube stands for the same in version 2.
+/// An order line of version 1 that means an order of a cube means the same in version 2.
 pub fn order_lines_stand_for_the_same_in_version_2()
     ensures { (space : Layout) (cube : ℕ) (line : OrderLine) (order : Order) → line.version ≡ 1
         → order_of space cube line ≡ Some order → order_of space cube (line_in 2 line) ≡ Some order }

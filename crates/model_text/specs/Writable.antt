@@ -8,11 +8,11 @@ use Rattle.model_text.specs.declared.order.OrderWord.TheVariants as words
 use Rattle.model_text.specs.declared.parts.CubeText.{CubeText}
 use Rattle.model_text.specs.declared.parts.ScriptText.{ScriptText}
 
--- a name, which a quoted text can stand for
+-- a name, which a quoted text can mean
 abbrev pub IsNameText : List ℕ → Type 0
 IsNameText shown = IsTrue (is_name shown) × IsQuotable shown
 
--- what may name a file, which a quoted text can stand for
+-- what may name a file, which a quoted text can mean
 abbrev pub IsFileText : List ℕ → Type 0
 IsFileText bytes = IsTrue (is_file bytes) × IsQuotable bytes
 

@@ -4,14 +4,14 @@ ghost use Rattle.model_text.specs.Readers.Views.{refused_on};
 use dim_core::DimFault;
 use grammar::Stop;
 
-/// Why a model text is refused, and on which line: the first fault in the text. For want of memory the line is 0.
+/// Why a model text is refused, and on which line: the first fault in the text. Out of memory, the line is 0.
 #[derive(Debug, Drop)]
 pub struct ModelTextFault {
     pub line: u32,
     pub cause: ModelTextCause,
 }
 
-/// The cause of a refusal. At one token the first in this order is told.
+/// The cause of a refusal. At one token the answer is the first in this order.
 #[derive(Debug, Drop)]
 pub enum ModelTextCause {
     /// The line has the first token with which the tokens so far begin no model text; a lexical fault counts as such a
@@ -26,9 +26,9 @@ pub enum ModelTextCause {
     UnknownName,
     /// The 257th dimension, the 65th cube or the 257th script, on the line of its word.
     TooMany,
-    /// What a dimension's block is refused for, on the line of the statement that is named. It holds no want of memory.
+    /// What a dimension's block is refused for, on the line of the statement that is named. It is never out of memory.
     Dim(DimFault),
-    /// Want of memory.
+    /// Out of memory.
     Memory,
 }
 

@@ -12,9 +12,9 @@
 //! |GET 'Plan' ('Actual', 'Q1', 'Sales');
 //! ```
 //!
-//! What is told of a case is for each command whether its number is stored, or the value that the snapshot reads; and
-//! last how many cells there are, where every way of reading gives each of them the same value, or else the first cell
-//! that is read otherwise.
+//! A case prints, for each command, whether its number is stored, or the value that the snapshot reads; and last how
+//! many cells there are, where every way of reading gives each of them the same value, or else the first cell that is
+//! read otherwise.
 #![tactic(auto)]
 
 mod compared;
@@ -28,7 +28,7 @@ use rule_model::{cell_of, is_input};
 use std::alloc::{AllocError, Global};
 use user_text::UserBody;
 
-/// What is told of the commands of a case, and of reading all cells after them.
+/// What is printed of the commands of a case, and of reading all cells after them.
 pub fn readings(alloc: Global, lines: &str) -> Result<Vec<u8>, AllocError> {
     let Some(mut snapshot) = snapshot_of(alloc, lines)? else {
         return Vec::from_slice(alloc, b"the model is refused");
@@ -45,7 +45,7 @@ pub fn readings(alloc: Global, lines: &str) -> Result<Vec<u8>, AllocError> {
     Ok(told)
 }
 
-// The snapshot after a command, and what is told of it.
+// The snapshot after a command, and what is printed of it.
 fn after(
     alloc: Global,
     mut snapshot: Snapshot,

@@ -1,4 +1,4 @@
--- Which functions are values, and what operators stand for.
+-- Which functions are values, and what operators mean.
 use Rattle.std.specs.Prelude.{ℕ, List, codes, bytes_eq, if◌then◌else◌}
 use Rattle.rule_laws.specs.declared.operation.Op.TheVariants as ops
 use Rattle.rule_laws.specs.declared.operation.Fun.TheVariants as funs
@@ -29,7 +29,7 @@ function_of word =
     else if bytes_eq word (codes "CONSOLIDATECHILDREN") then functions.Children
     else value_function word
 
--- what an operator stands for
+-- what an operator means
 abbrev pub operator_of : TreeOp → Operator
 operator_of signs.Or = operators.Or
 operator_of signs.And = operators.And

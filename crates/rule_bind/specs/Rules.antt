@@ -117,7 +117,7 @@ rules_of space cube text = do
     order = record { positions = [] };
   })
 
--- an answer is what the text means; want of memory may come in its place
+-- an answer is what the text means; out of memory may come in its place
 abbrev pub IsBound : {A : Type 0} → Result A BindFault → Result A BindFault → Type 0
 IsBound meant (Ok a) = meant ≡ Ok a
 IsBound meant (Err fault) = (fault.cause ≡ Memory) ⊎ (meant ≡ Err fault)

@@ -136,7 +136,7 @@ fn all_feeders_of(
     Ok(ListOf::new(feeders))
 }
 
-/// The rules that the text of a cube's rules stands for, or its first fault in reading order: statements in their
+/// The rules that the text of a cube's rules means, or its first fault in reading order: statements in their
 /// order, then feeders. What is bound declares no order of the cube's cells.
 ///
 /// Statements and feeder statements are at most 1,000 each, as they are in every text that `parse` takes.

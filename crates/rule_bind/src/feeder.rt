@@ -84,7 +84,7 @@ fn feeders_to(
     Ok(ListOf::new(feeders))
 }
 
-/// The feeders that a text stands for, which has this number among the feeder statements, from 0.
+/// The feeders that a text means, which has this number among the feeder statements, from 0.
 #[tactic(auto, unfolding(crate::specs::Rules::feeders_of))]
 pub fn feeders_of(
     alloc: Global,

@@ -4,7 +4,7 @@ ghost use Rattle.rule_bind.specs.Functions.{operator_of};
 use rule_laws::{Op, Rel};
 use rule_tree::TreeOp;
 
-/// What an operator stands for: a value of two values, a truth of two values, or a truth of two truths.
+/// What an operator means: a value of two values, a truth of two values, or a truth of two truths.
 #[derive(Clone, Copy, PartialEq, Eq)]
 pub(crate) enum Operator {
     Operation(Op),
@@ -13,7 +13,7 @@ pub(crate) enum Operator {
     Or,
 }
 
-/// What an operator stands for.
+/// What an operator means.
 pub(crate) fn operator_of(op: TreeOp) -> Operator
     ensures { result ≡ operator_of op }
 {

@@ -59,7 +59,7 @@ fn parts_of(
     }
 }
 
-/// The statement that a text stands for.
+/// The statement that a text means.
 #[tactic(auto, unfolding(crate::specs::Rules::statement_of))]
 pub fn statement_of(
     alloc: Global,

@@ -34,7 +34,7 @@ fn unread(alloc: Global) -> Result<Option<String>, AllocError> {
     Ok(Some(String::from_str(alloc, "a line of this case is none of a text")?))
 }
 
-// What is told of the rules of these files, and then of each command.
+// What is printed of the rules of these files, and then of each command.
 fn answer_of(alloc: Global, files: &Files, kind: Kind) -> Result<String, Refusal> {
     let model = model_of(alloc, files)?;
     let mut told = counts_of(alloc, &model)?;

@@ -18,7 +18,7 @@ use std::alloc::Global;
 use std::marker::Brand;
 use std::sync::ledger::{Blank, Ledger};
 
-/// The most statements and the most questions that are told.
+/// The most statements and the most questions that are printed.
 const MAX_TOLD: u32 = 1_000;
 
 /// Adds how a cell is evaluated: the statements that have a part for it, one after the other; the cell that the first

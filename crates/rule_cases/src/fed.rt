@@ -8,7 +8,7 @@ use rule_model::Model;
 use sparse_sum::Walk;
 use std::alloc::{AllocError, Global};
 
-/// The most fed cells that are told one by one.
+/// The most fed cells that are printed one by one.
 const MAX_TOLD: u64 = 40;
 
 /// The most cells of a walk that are counted.

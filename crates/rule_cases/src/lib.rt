@@ -15,7 +15,7 @@
 //!
 //! Lines of a file are those of [`case_lines::spell`]. A case `text: NAME` gives its lines a name, for later cases.
 //!
-//! What is told of a case is why the model is refused, or how many statements and feeders it has, and then for each
+//! What is printed of a case is why the model is refused, or how many statements and feeders it has, and then for each
 //! command whether its number is stored, or the value. The order of the rules is checked and what feeders cover isn't,
 //! so that a model without feeders has cases too.
 //!

@@ -4,9 +4,9 @@ use std::fmt::Debug;
 /// Why a case has no values.
 #[derive(Drop)]
 pub enum Refusal {
-    /// It is refused: what is told of it.
+    /// It is refused: what is printed of it.
     Told(String),
-    /// Want of memory.
+    /// Out of memory.
     Memory,
 }
 

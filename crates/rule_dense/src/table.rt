@@ -26,7 +26,7 @@ pub const MAX_CUBE_CELLS: u64 = 1_000_000;
 
 /// The value of a cell, over what is stored: a table is filled with the values of all cells of the model, each when
 /// those that it reads are known. The rules are ordered, the height of the order is within its limit, and no cube has
-/// more than [`MAX_CUBE_CELLS`] cells. It fails for want of memory alone.
+/// more than [`MAX_CUBE_CELLS`] cells. It fails only when out of memory.
 ///
 /// The time grows with the square of a cube's cells, since a total looks at each cell of its cube.
 pub fn dense(alloc: Global, model: &Model, store: &Store, cell: u64) -> Result<Value, AllocError>

@@ -4,7 +4,7 @@ use Rattle.std.specs.Prelude.{Contains, ◌⊎◌, if◌then◌else◌}
 use Rattle.std.specs.List.{list_any}
 use Rattle.rule_laws.specs.RuleSystem.{RuleSystem, Feed, Stored, IsCell, IsLeafCell}
 
--- the leaf cells that a cell stands for: a leaf cell for itself, a consolidated cell for those below it
+-- the leaf cells that a cell means: a leaf cell for itself, a consolidated cell for those below it
 abbrev pub leaves_of : RuleSystem → ℕ → List ℕ
 leaves_of w t = if w.is_leaf t then t ∷ [] else map (λ pair. pair.0) (w.below t)
 

@@ -21,7 +21,7 @@ in_sets sets elements = list_all (λ p. in_set p.0 p.1) (zip sets elements)
 abbrev pub in_area : Layout → Area → ℕ → Bool
 in_area space area cell = in_sets area.sets (elements_of space cell)
 
--- whether a leaf is among the sources of a feeder in a dimension: a listed element stands for the leaves that count in
+-- whether a leaf is among the sources of a feeder in a dimension: a listed element means the leaves that count in
 -- it, and a leaf counts in itself alone
 abbrev pub in_source_set : Outline → Option (List ℕ) → ℕ → Bool
 in_source_set dimension None leaf = true
@@ -31,7 +31,7 @@ unfoldable pub in_source_sets : List Outline → List (Option (List ℕ)) → Li
 in_source_sets dimensions sets elements =
     list_all (λ p. in_source_set p.0 p.1.0 p.1.1) (zip dimensions (zip sets elements))
 
--- whether a cell is a source of a feeder of this cube with this area: a leaf cell that the area stands for
+-- whether a cell is a source of a feeder of this cube with this area: a leaf cell that the area means
 abbrev pub is_source : Layout → ℕ → Area → ℕ → Bool
 is_source space cube area cell =
     (cube_of space cell == cube) && is_leaf_cell space cell

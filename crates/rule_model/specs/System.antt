@@ -1,4 +1,4 @@
--- The system of rule equations that a model stands for: the one place where the model's tables become what the laws of
+-- The system of rule equations that a model means: the one place where the model's tables become what the laws of
 -- rules speak of.
 use Rattle.std.specs.Prelude.{ℕ, List, map, length}
 use Rattle.std.specs.List.{flat_map, range_with_len}

@@ -8,7 +8,7 @@
 //! - [`target`] is the cell that a reference names from a cell, and [`has_components`] tells whether the cell's element
 //!   has components; [`governing`] and [`governing_after`] are the statements that give a cell its value, one after the
 //!   other, and [`part_of`] is the formula of one; [`is_input`] tells whether a number can be stored in a cell.
-//! - [`target_from`] and [`governing_in`] are told of the cell by its elements, for callers that have them already;
+//! - [`target_from`] and [`governing_in`] take the cell by its elements, for callers that have them already;
 //!   [`place_of`] tells these.
 //!
 //! None of these takes memory.

@@ -69,7 +69,7 @@ pub fn target(model: &Model, reference: &Reference, cell: u64) -> Option<u64>
     target_from(model.space(), &at[..len], reference)
 }
 
-/// Whether the element of a cell in the dimension at this place of its cube has components. It is told of the cell by
+/// Whether the element of a cell in the dimension at this place of its cube has components. It takes the cell by
 /// its cube and its elements.
 pub fn has_components(model: &Model, cube: u32, elements: &[u32], dim: u32) -> bool
     requires { is_place model.now.space cube elements.now ≡ true }

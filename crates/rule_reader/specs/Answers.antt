@@ -9,7 +9,7 @@ use Rattle.rule_reader.specs.declared.fault.RuleFault.{RuleFault}
 use Rattle.rule_reader.specs.declared.fault.RuleFault.TheVariants as faults
 use Rattle.rule_tree.specs.declared.rule.RuleText.{RuleText}
 
--- The bytes are a rule text of these rules within the limits; or they have this first fault. For want of memory nothing
+-- The bytes are a rule text of these rules within the limits; or they have this first fault. For out of memory nothing
 -- is said.
 abbrev pub Answers : List ℕ → Result RuleText RuleFault → Type 0
 Answers bytes (Ok text) = (c : Counted) × IsWholeText rules counting start bytes text c

@@ -10,7 +10,7 @@ pub enum RuleFault {
     TooDeep(u32),
     /// The line of the `[` that begins the 1,001st statement, or the 1,001st feeder.
     TooMany(u32),
-    /// Want of memory.
+    /// Out of memory.
     Memory,
 }
 

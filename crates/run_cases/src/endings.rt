@@ -27,8 +27,8 @@ pub fn ending_of<R: Threads + Wait + AllocGlobal + Sync>(
     Ok(ending)
 }
 
-/// How a run ends with each beginning of one of its files, from the shortest on. An ending is told where it isn't that
-/// of the beginning before.
+/// How a run ends with each beginning of one of its files, from the shortest on. An ending is printed where it differs
+/// from that of the beginning before.
 pub fn endings_of_cuts<R: Threads + Wait + AllocGlobal + Sync>(
     rt: &R,
     texts: &Texts,

@@ -17,7 +17,7 @@ pub struct Run {
 
 /// The run of these lines, first those without a file and then those of each file. None where a line is none of a run.
 pub fn run_of(alloc: Global, texts: &Texts, lines: &str) -> Result<Option<Run>, AllocError> {
-    // Users count from 1, so nobody comes to a place of user 0 and waits there.
+    // Users count from 1, so nobody reaches a place of user 0 and waits there.
     let mut run = Run {
         words: Vec::new(alloc),
         files: MemoryFiles::new(alloc),

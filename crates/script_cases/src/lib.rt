@@ -13,7 +13,7 @@
 //! |Data: CellPutN(V3, 'Plan', V1, V2); a line of the script
 //! ```
 //!
-//! What is told of a case is how the load ends and what it wrote.
+//! What is printed of a case is how the load ends and what it wrote.
 #![tactic(auto)]
 
 mod cases;

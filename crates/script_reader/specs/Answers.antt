@@ -16,7 +16,7 @@ use Rattle.script_reader.specs.declared.fault.ScriptFault.TheVariants as faults
 abbrev pub FromStart : List ℕ → (Counted → Type 0) → Type 0
 FromStart bytes P = (lexed : Lexed) × (fault : Option LexFault) × IsReading bytes lexed fault × P (start lexed.lexemes)
 
--- The bytes are a text of this script within the limits; or they have this first fault. For want of memory nothing is
+-- The bytes are a text of this script within the limits; or they have this first fault. Out of memory, nothing is
 -- said.
 abbrev pub Answers : List ℕ → Result Script ScriptFault → Type 0
 Answers bytes (Ok tree) = FromStart bytes (λ s. (c : Counted) × IsWholeText script counting s bytes tree c)

@@ -11,7 +11,7 @@ pub enum ScriptFault {
     /// The line of the first `(`, `IF` or `WHILE` that stands within 32 open parentheses and blocks together, or of the
     /// first token of a whole expression's 1,001st primary.
     TooDeep(u32),
-    /// Want of memory.
+    /// Out of memory.
     Memory,
 }
 

@@ -20,7 +20,7 @@ fn expression_inside(
     ensures { Reads (λ read. read) (reading.read_inner left want) cursor.old result cursor.new }
 {
     if left == 0 {
-        // No text comes here, and of want of memory nothing is said.
+        // No text comes here, and out of memory nothing is said.
         return Err(Stop::Memory);
     }
     let nested = Nested {

@@ -57,7 +57,7 @@ fn statement_within(
     ensures { Reads (λ line. line) (reading.read_within section left) cursor.old result cursor.new }
 {
     if left == 0 {
-        // No text comes here, and of want of memory nothing is said.
+        // No text comes here, and out of memory nothing is said.
         return Err(Stop::Memory);
     }
     let inside = Inside {

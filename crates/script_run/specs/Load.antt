@@ -72,7 +72,7 @@ start script params = record {
 abbrev pub load : BoundScript → List (List ℕ × ParamText) → List (List (List ℕ)) → Store → List Write → Outcome
 load script params rows store writes = sections script store rows (start script params) writes
 
--- how a load ended whose last execution stands there: it is told there why
+-- how a load ended whose last execution stands there: its reason says why
 abbrev pub ran_at : Ending → ExecutionPlace → Ran
 ran_at Next last = Done
 ran_at Skipped last = Done

@@ -103,7 +103,7 @@ fn ran_at(ending: Ending, last: ExecutionPlace) -> Ran
 /// Runs a script: the Prolog, Data once for each record, and the Epilog. The parameters are variables, by their words
 /// in capitals, that are set before. The first reason ends the load, and what was written is then to be dropped.
 ///
-/// Records are lists of columns. Of the writes nothing is said after want of memory.
+/// Records are lists of columns. Out of memory, nothing is said of the writes.
 pub fn run<C: WorkCells>(
     alloc: Global,
     script: &Script,

@@ -8,7 +8,7 @@ use std::alloc::{AllocError, Global};
 
 /// The cells of a load: a model and a stored list, and the writes so far. A load sees its own writes.
 ///
-/// The outer `Result` is want of memory alone.
+/// The outer `Result` is out of memory alone.
 pub trait WorkCells {
     /// What the load runs on.
     ghost store: { Self → Store };

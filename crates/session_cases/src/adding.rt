@@ -19,7 +19,7 @@ pub enum Order {
     Ask,
 }
 
-/// What a user is told.
+/// The reply to a user.
 #[derive(Clone, Copy, Debug)]
 pub enum Answer {
     /// The number was added, and this is the total.

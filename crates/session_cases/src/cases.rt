@@ -22,7 +22,7 @@ pub fn users_of(alloc: Global, text: &str) -> Result<Vec<ListOf<Order>>, AllocEr
 }
 
 /// How a run ended, in words that no order of the users changes: the total, and of each user how many orders were told
-/// what, and whether each was told of the version of its place.
+/// what, and whether each speaks of the version of its place.
 pub fn ending(alloc: Global, served: &Served<u64, u64, Answer>) -> Result<String, AllocError> {
     let mut text = String::new(alloc);
     writeln!(
@@ -53,7 +53,7 @@ pub fn ending(alloc: Global, served: &Served<u64, u64, Answer>) -> Result<String
     Ok(text)
 }
 
-// Whether what was told is so of the version of its place.
+// Whether the replies are right for the versions of their places.
 fn is_right(log: &[Entry<u64>], told: &Told<Answer>) -> bool {
     let Ok(place) = usize::try_from(told.place) else {
         return false;

@@ -1,7 +1,7 @@
 //! Cases of users on threads, over a world of one total. The lines of a case are its users'.
 //!
-//! In a user's line a number is added, where it is at most 100, and `?` asks for the total. What is told of a case is
-//! how it ended, which no order of the users changes.
+//! In a user's line a number is added, where it is at most 100, and `?` asks for the total. A case prints how it ended,
+//! which no order of the users changes.
 #![tactic(auto)]
 
 mod adding;

@@ -1,5 +1,5 @@
 -- What holds of a session at a book, before and after each command. Everywhere `effect` is what a command does on a
--- content, `after` what writes make of it, and `content` what a state stands for.
+-- content, `after` what writes make of it, and `content` what a state means.
 use Rattle.std.specs.Prelude.{◌≡◌, [], ◌∷◌}
 use Rattle.std.specs.declared.snapshot.Snapshot.{Snapshot}
 use Rattle.history.specs.declared.effect.Effect.{Effect}
@@ -9,7 +9,7 @@ use Rattle.version_book.specs.declared.book.BookOf.{BookOf}
 use Rattle.version_book.specs.Passes.{IsOf, numbers_of, opening_of, seen}
 use Rattle.sessions.specs.declared.session.SessionOf.{SessionOf}
 
--- The session is of this book and acts under its user's number alone. What was told so far is the user's run of the
+-- The session is of this book and acts under its user's number alone. The replies so far are the user's run of the
 -- history that its pass has seen.
 pub record IsRunning {L S C T K R Q : Type 0} (effect : C → K → Effect T R) (after : C → T → C) (content : S → C)
     (book : BookOf L (PassView S T) (Snapshot S) Q) (session : SessionOf L S T K R) : Type 0 where

@@ -47,7 +47,7 @@ pub(crate) fn close_all<W: World, R: Wait>(
     })
 }
 
-// One pass of all sessions' passes and the first one, and what each session was told.
+// One pass of all sessions' passes and the first one, and the replies of each session.
 fn meet_all<W: World, R: Wait>(
     rt: &R,
     book: &Book<W>,

@@ -13,7 +13,7 @@ use std::sync::Wait;
 use std::thread::Threads;
 use version_book::Book;
 
-/// What each user was told, the history of accepted commands, and the state after it.
+/// The replies to each user, the history of accepted commands, and the state after it.
 #[derive(Drop)]
 pub struct Served<S, T, R> {
     pub told: Vec<ListOf<Told<R>>>,

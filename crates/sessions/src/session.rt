@@ -11,7 +11,7 @@ use std::alloc::{AllocError, Global};
 use std::sync::Wait;
 use version_book::{Book, Ledger, Pass, PassOf};
 
-/// One user's commands, the pass by which they act, and what was told of the commands so far. It may go to another
+/// One user's commands, the pass by which they act, and the replies so far. It may go to another
 /// thread.
 #[derive(Drop)]
 pub struct SessionOf<L, C, T, K, R> {
@@ -107,7 +107,7 @@ impl<W: World> Session<W> {
         Ok(())
     }
 
-    /// The pass, and what was told of the commands, in their order.
+    /// The pass, and the replies, in the order of the commands.
     pub fn finish(self) -> (Pass<W>, ListOf<Told<W::Reply>>)
         ensures pass { result.0 ≡ self.pass }
         ensures told { result.1 ≡ self.told.items }

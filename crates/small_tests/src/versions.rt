@@ -92,7 +92,7 @@ enum Check {
     Takes(Event),
     /// The event isn't enabled.
     Refuses(Event),
-    /// The user was told this: places and replies.
+    /// The replies to the user, with their places.
     Told(u32, &'static [(u64, u32)]),
     /// The history has these entries: users and numbers of commands.
     History(&'static [(u32, u32)]),
@@ -113,7 +113,7 @@ const CHECKS: [Check; 29] = [
     Check::Takes(Event::Try(1)),
     Check::Refuses(Event::Try(1)),
     Check::Takes(Event::Commit(1)),
-    // A rejected command is told at once, and a reading one at the pin, also after another's commit.
+    // A rejected command has its reply at once, and a reading one at the pin, also after another's commit.
     Check::Takes(Event::Pin(2)),
     Check::Takes(Event::Keep(2, 1)),
     Check::Takes(Event::Read(2, 1)),

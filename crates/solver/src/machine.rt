@@ -11,7 +11,7 @@ struct Waiting<Q, F> {
     frame: F,
 }
 
-/// The answer to a question, from a frame of the work on it on. It fails for want of memory alone.
+/// The answer to a question, from a frame of the work on it on. It fails only when out of memory.
 pub fn answer<M, C, P: Problem<M, C>>(
     problem: &mut P,
     memory: &mut M,

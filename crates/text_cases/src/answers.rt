@@ -27,8 +27,8 @@ pub fn refused(alloc: Global, fault: &impl Debug) -> Result<Answer, AllocError> 
     Ok(Answer::Refused(format!(in alloc; "{fault:?}")?))
 }
 
-/// The lines that are shown of what was read. Want of memory is told at the end alone, so that what adds lines has one
-/// way out.
+/// The lines that are shown of what was read. Out of memory is answered at the end alone, so that what adds lines has
+/// one way out.
 #[derive(Drop)]
 pub struct Lines {
     text: String,
@@ -64,7 +64,7 @@ pub fn shown(bytes: &[u8]) -> &str {
 
 /// What a text of this kind gives.
 ///
-/// - `tokens`: of any is shown of each token its kind, first byte, length and line, and what a Text stands for; the
+/// - `tokens`: of any is shown of each token its kind, first byte, length and line, and what a Text means; the
 /// first fault, twice, and its line
 /// - `names`: of a name a line is shown the name and its key
 /// - `numbers`: of an operation a line is shown its result

@@ -5,7 +5,7 @@ use Rattle.model_text.specs.Contents.{Contents}
 use Rattle.model_text.specs.declared.fault.ModelTextFault.{ModelTextFault}
 use Rattle.model_text.specs.declared.fault.ModelTextCause.TheVariants as causes
 
--- There are one content, or one first fault, and not both. Want of memory says nothing of the text.
+-- There are one content, or one first fault, and not both. Out of memory says nothing of the text.
 pub record OneModelAnswer (bytes : List ℕ) : Type 0 where
   pub one_contents : (x y : Contents) → IsModelText bytes x → IsModelText bytes y → x ≡ y
   pub one_fault : (e f : ModelTextFault) → e.cause ≢ causes.Memory → f.cause ≢ causes.Memory

@@ -13,7 +13,7 @@ AreCommands bytes before commands = Answers {X = List UserCommand} (λ x. x) byt
 abbrev pub IsUserFault : List ℕ → ℕ → UserFault → Type 0
 IsUserFault bytes before fault = Answers {X = List UserCommand} (λ x. x) bytes before (Err fault)
 
--- There are one list of commands, or one first fault, and not both. Want of memory says nothing of the text.
+-- There are one list of commands, or one first fault, and not both. Out of memory says nothing of the text.
 pub record OneUserAnswer (bytes : List ℕ) (before : ℕ) : Type 0 where
   pub one_list : (x y : List UserCommand) → AreCommands bytes before x → AreCommands bytes before y → x ≡ y
   pub one_fault : (e f : UserFault) → e ≢ faults.Memory → f ≢ faults.Memory

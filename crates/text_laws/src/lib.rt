@@ -17,7 +17,7 @@ pub fn user_texts_have_one_answer()
     ensures { (bytes : List ℕ) (before : ℕ) → OneUserAnswer bytes before }
 {}
 
-/// The bytes of a model text have one content, or one first fault, and not both. Want of memory is no fault of the
+/// The bytes of a model text have one content, or one first fault, and not both. Out of memory is no fault of the
 /// text.
 pub fn model_texts_have_one_answer()
     ensures { (bytes : List ℕ) → OneModelAnswer bytes }

@@ -3,7 +3,7 @@ use Rattle.std.proofs.Common.{Result, Ok, ◌≡◌, refl, subst, ℕ, ℤ, ◌�
 use Rattle.std.specs.Prelude.{nat_lt, suc}
 use Rattle.std.specs.List.{list_all}
 use Rattle.std.proofs.lemmas.List.Elements.{All-push}
-use Rattle.cell_reader.specs.Limits.{fed_count}
+use Rattle.cell_reader.specs.FedCount.{fed_count}
 use Rattle.cell_store.specs.declared.entry.Entry.{Entry}
 use Rattle.cell_store.specs.Entries.{after_writes}
 use Rattle.cell_store.specs.StoreLimit.{most_cells}

@@ -3,8 +3,8 @@ use Rattle.std.proofs.Common.{◌≡◌, ℕ, ℤ, ◌≤◌, subst, sym, true, 
 use Rattle.std.specs.Prelude.{option_and_then}
 use Rattle.std.proofs.lemmas.List.Elements.{All-nil}
 use Rattle.std.proofs.lemmas.Option.{cond_some, option_and_then_some}
-use Rattle.cell_reader.specs.Limits.{fed_count}
-use Rattle.cell_reader.proofs.Limits.{count_of}
+use Rattle.cell_reader.specs.FedCount.{fed_count}
+use Rattle.cell_reader.proofs.FedCount.{count_of}
 use Rattle.cell_store.specs.Entries.{after_writes}
 use Rattle.cell_store.specs.StoreLimit.{most_cells}
 use Rattle.cell_store.specs.declared.entry.Entry.{Entry}

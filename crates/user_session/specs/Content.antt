@@ -6,7 +6,7 @@ use Rattle.cell_store.specs.Entries.{after_writes}
 use Rattle.rule_model.specs.BoundModel.{BoundModel}
 use Rattle.user_session.specs.declared.content.Content.{Content}
 
--- what a snapshot stands for: its model and what is stored, and not its number
+-- what a snapshot means: its model and what is stored, and not its number
 abbrev pub content_of : Snapshot → Content
 content_of snapshot = record { model = (version_of snapshot).model; stored = (version_of snapshot).stored }
 

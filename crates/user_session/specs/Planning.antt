@@ -5,7 +5,7 @@ use Rattle.std.specs.Prelude.{if◌then◌else◌}
 use Rattle.std.specs.Arc.{arc_value}
 use Rattle.cube_fixed.specs.declared.value.Value.{Value}
 use Rattle.cube_fixed.specs.Arithmetic.{zero_value}
-use Rattle.cell_reader.specs.Limits.{fed_count}
+use Rattle.cell_reader.specs.FedCount.{fed_count}
 use Rattle.cell_store.specs.declared.entry.Entry.{Entry}
 use Rattle.cell_store.specs.Entries.{after_writes}
 use Rattle.cell_store.specs.StoreLimit.{most_cells}
@@ -102,7 +102,7 @@ load_effect content job script =
     let outcome = load (bound_of script) job.params job.rows (store_of content.model content.stored) [] in
     ended_effect (ran_of outcome) (writes_of outcome)
 
--- a question for a table: the table that its text stands for, or why it stands for none
+-- a question for a table: the table that its text means, or why it means none
 abbrev pub table_effect : Content → Result views.View ViewFault → PlanEffect
 table_effect content (Ok view) = effects.Read (table_text content.model.space view (value_at content))
 table_effect content (Err fault) = effects.Read (codes "refused " ++ fault_text fault)

@@ -1,4 +1,4 @@
--- What users are told, as text.
+-- The replies to users, as text.
 use Rattle.std.specs.Prelude.{ℕ, List, [], ◌++◌, codes, decimal}
 use Rattle.cube_fixed.specs.Text.{printed}
 use Rattle.user_session.specs.declared.reply.CommandReason.{CommandReason}
@@ -17,7 +17,7 @@ reason_text RuleDerived = codes "RuleDerived"
 reason_text StoreLimit = codes "StoreLimit"
 reason_text FedLimit = codes "FedLimit"
 
--- the name of why there is no table; want of memory is no such cause
+-- the name of why there is no table; out of memory is no such cause
 abbrev pub fault_text : ViewFault → List ℕ
 fault_text faults.UnknownName = codes "UnknownName"
 fault_text faults.WrongCount = codes "WrongCount"

@@ -5,10 +5,10 @@ use cube_fixed::{Value, print};
 use lists::ListOf;
 use std::alloc::{AllocError, Global};
 
-/// What a user is told of a command, as text without the end of its line.
+/// The reply to a command, as text without the end of its line.
 pub type ReplyText = ListOf<u8>;
 
-/// Why a command has no effect. Where several reasons hold, the first is told.
+/// Why a command has no effect. Where several reasons hold, the answer is the first.
 #[derive(Clone, Copy, Debug, PartialEq, Eq)]
 pub enum CommandReason {
     /// The cube or an element isn't there, or there are too many elements or too few.
@@ -23,7 +23,7 @@ pub enum CommandReason {
     FedLimit,
 }
 
-/// What a user is told of a command.
+/// The reply to a command.
 #[derive(Clone, Copy, PartialEq, Eq)]
 pub enum Reply {
     /// The command is accepted: so many cells were written.

@@ -9,7 +9,7 @@ use Rattle.user_text.specs.declared.fault.UserFault.TheVariants as faults
 use Rattle.user_text.specs.declared.counted.Counted.{Counted}
 
 -- The bytes are a user's text with these commands, seen by view, and with the commands of the users before they aren't
--- too many; or they have this first fault. For want of memory nothing is said.
+-- too many; or they have this first fault. Out of memory, nothing is said.
 abbrev pub Answers : {X : Type 0} → (X → List UserCommand) → List ℕ → ℕ → Result X UserFault → Type 0
 Answers view bytes before (Ok commands) =
     (c : Counted) × IsWholeText user counting (counted_from before) bytes (view commands) c

@@ -8,7 +8,7 @@ pub enum UserFault {
     Syntax(u32),
     /// The line of the first word of the 65,537th command, those of the users before counted.
     TooMany(u32),
-    /// Want of memory.
+    /// Out of memory.
     Memory,
 }
 

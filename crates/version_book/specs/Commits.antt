@@ -26,7 +26,7 @@ Decides (Commit writes reply) accepted log later user number =
 Decides (Rejected reply) accepted log later user number = (accepted ≡ false) × (later ≡ log)
 Decides (Read reply) accepted log later user number = (accepted ≡ false) × (later ≡ log)
 
--- the command's effect on the newest version, which is told and decides
+-- the command's effect on the newest version, which is the answer and decides
 pub record SettlesAt {C K T R : Type 0} (effect : C → K → Effect T R) (after : C → T → C) (first : C)
     (log later : List (Entry T)) (user number : ℕ) (command : K) (settled : Settled R) : Type 0 where
   pub place : settled.place ≡ length log

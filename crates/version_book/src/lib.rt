@@ -11,7 +11,7 @@
 //! state, and a commit that no other overtook runs no command under it.
 //!
 //! Contracts speak of what a pass has seen and of its numbers, `specs/Passes.antt`, of how lists of entries go on,
-//! `specs/Lists.antt`, and of what a commit is told, `specs/Commits.antt`. `specs/Inside/` has the rule that each step
+//! `specs/Lists.antt`, and of the answer of a commit, `specs/Commits.antt`. `specs/Inside/` has the rule that each step
 //! on the shared words keeps. The crate doesn't say that a user gets its turn.
 #![tactic(auto)]
 

@@ -36,7 +36,7 @@ pub record IsLastPin {C K T R V : Type 0} (effect : C → K → Effect T R) (aft
   pub no_other : (i : ℕ) → slice_get since i ≢ Some (Happen (event.Pin number))
   pub is_length : place ≡ length (acts_after effect after value opening before).log
 
--- By this act after those, the user was told nothing, or one thing, at the length that the history had at the user's
+-- By this act after those, the user has no reply, or one, at the length that the history had at the user's
 -- last Pin.
 abbrev pub TellsAtLastPin : {C K T R V : Type 0} → (C → K → Effect T R) → (C → T → C) → (C → ℕ → V)
     → CoreState C K T R V → List (Act K) → Act K → ℕ → Type 0

@@ -1,12 +1,12 @@
 -- What the core is seen as: one history of commits, a memo of cell values, and for each user the commands that were
--- given, what was told, and a pin with a try.
+-- given, the replies, and a pin with a try.
 use Rattle.std.specs.Prelude.{ℕ, zero, suc, Option, None}
 use Rattle.std.specs.Prelude.{List, [], ◌∷◌, ◌++◌, length, map, replicate, slice_get, slice_set}
 use Rattle.history.specs.declared.entry.Entry.{Entry}
 use Rattle.history.specs.declared.told.Told.{Told}
 use Rattle.version_core.specs.declared.user.Tried.{Tried}
 
--- one user: the commands, what was told of the first of them, the number of the pinned version, and what the next
+-- one user: the commands, the replies to the first of them, the number of the pinned version, and what the next
 -- command would commit, if it was tried on the pinned version and accepted there
 pub record UserState (K T R : Type 0) : Type 0 where
   pub commands : List K
@@ -35,7 +35,7 @@ new_user = record { commands = []; told = []; pin = None; tried = None }
 abbrev pub start : {C K T R V : Type 0} → C → ℕ → CoreState C K T R V
 start first count = record { first = first; log = []; memo = []; users = replicate count new_user }
 
--- the user's next command: the first that was told nothing yet
+-- the user's next command: the first that has no reply yet
 abbrev pub next_command : {K T R : Type 0} → UserState K T R → Option K
 next_command user = slice_get user.commands (length user.told)
 
@@ -61,6 +61,6 @@ given user command = record user { commands = user.commands ++ command ∷ [] }
 abbrev pub commands_of : {K T R : Type 0} → List (UserState K T R) → List (List K)
 commands_of users = map (λ user. user.commands) users
 
--- what each user was told, by index
+-- the replies to each user, by index
 abbrev pub told_of : {K T R : Type 0} → List (UserState K T R) → List (List (Told R))
 told_of users = map (λ user. user.told) users

@@ -19,7 +19,7 @@ pinned user place = record user { pin = Some place; tried = None }
 abbrev pub unpinned : {K T R : Type 0} → UserState K T R → UserState K T R
 unpinned user = record user { pin = None; tried = None }
 
--- the user's next command is answered: this reply was told at this place, and the pin and the try end
+-- the user's next command is answered: this reply is given at this place, and the pin and the try end
 abbrev pub answered : {K T R : Type 0} → UserState K T R → ℕ → R → UserState K T R
 answered user place reply =
     record user { told = user.told ++ record { place = place; reply = reply } ∷ []; pin = None; tried = None }

@@ -12,7 +12,7 @@ EveryRunIsOneHistory {C} {K} effect after value =
     (first : C) (count : ℕ) (acts : List (Act K))
     → IsOneHistory effect after value (acts_after effect after value (start first count) acts)
 
--- whatever acts come, a reply is told at the length that the history had at the user's last Pin
+-- whatever acts come, a reply has the length as its place that the history had at the user's last Pin
 abbrev pub EveryReplyIsAtLastPin : {C K T R V : Type 0} → (C → K → Effect T R) → (C → T → C) → (C → ℕ → V) → Type 0
 EveryReplyIsAtLastPin {C} {K} effect after value =
     (first : C) (count : ℕ) (acts : List (Act K)) (act : Act K) (number : ℕ)

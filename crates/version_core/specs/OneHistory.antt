@@ -12,7 +12,7 @@ pub record IsKeptSound {C T V : Type 0} (after : C → T → C) (value : C → �
   pub within : kept.version ≤ length log
   pub is_value : kept.value ≡ value (version after first log kept.version) kept.cell
 
--- the history is legal, each user's answered commands with what was told are that user's run of it, and each kept value
+-- the history is legal, each user's answered commands with their replies are that user's run of it, and each kept value
 -- is the cell's value on its version
 pub record IsOneHistory {C K T R V : Type 0} (effect : C → K → Effect T R) (after : C → T → C) (value : C → ℕ → V)
     (core : CoreState C K T R V) : Type 0 where

@@ -1,5 +1,5 @@
 //! The pure core of the server: one history of commits, a memo of cell values, and for each user the commands that were
-//! given, what was told, and a pin with a try. It runs no thread and reads no clock: events come in the order in which
+//! given, the replies, and a pin with a try. It runs no thread and reads no clock: events come in the order in which
 //! `Core::step` is called, and what holds of every order holds of every interleaving of users.
 //!
 //! Read `Event` first, then `specs/Events.antt` for what each event does, and `one_history` for what holds of every

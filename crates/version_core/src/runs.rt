@@ -3,8 +3,8 @@ ghost use Rattle.version_core.specs.Laws.{EveryRunIsOneHistory, EveryReplyIsAtLa
 use history::World;
 
 /// Whatever commands are given and whatever events come, in any order: the history is legal, each user's answered
-/// commands with what was told are that user's run of it, each kept value is the cell's on its version, and each reply
-/// is told at the length that the history had at the user's last `Pin` before.
+/// commands with their replies are that user's run of it, each kept value is the cell's on its version, and each reply
+/// has the length as its place that the history had at the user's last `Pin` before.
 ///
 /// `Core::start`, `Core::give` and `Core::step` are exact by the same definitions, so this is a theorem about them.
 pub fn one_history<W: World>()

@@ -105,7 +105,7 @@ impl<W: World> Core<W> {
         &self.history
     }
 
-    /// What the user of this number was told; none where no user has the number.
+    /// The replies to the user of this number; none where no user has the number.
     pub fn told(&self, user: u32) -> Option<&[Told<W::Reply>]>
         ensures { option_copied result ≡ option_map (λ found. found.told) (user_at self.now.users user) }
     {

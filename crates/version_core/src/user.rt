@@ -13,7 +13,7 @@ pub struct Tried<T, R> {
     pub reply: R,
 }
 
-/// One user of the core: the commands, what was told of the first of them, the number of the pinned version, and the
+/// One user of the core: the commands, the replies to the first of them, the number of the pinned version, and the
 /// next command's accepted try on that version.
 #[derive(Drop)]
 pub struct User<K, T, R> {
@@ -53,7 +53,7 @@ impl<K: Drop, T: Drop, R: Drop> User<K, T, R> {
         self.commands.len()
     }
 
-    /// What was told of the answered commands.
+    /// The replies to the answered commands.
     pub fn told(&self) -> &[Told<R>]
         ensures { result.now ≡ self.now.told }
     {
@@ -127,7 +127,7 @@ impl<K: Drop, T: Drop, R: Drop> User<K, T, R> {
         Ok(())
     }
 
-    /// The next command is committed: its try is handed over with the command's number, and its reply is told.
+    /// The next command is committed: its try is handed over with the command's number, and its reply is given.
     pub fn commit(&mut self, place: u64) -> Result<(u32, T), AllocError>
         requires tried { IsSome self.old.tried }
         requires few { length self.old.told + 1 < 2 ^ 32 }

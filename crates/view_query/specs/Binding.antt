@@ -71,13 +71,13 @@ is_counted dimensions text = do
 abbrev pub if_counted : List Outline → ℕ → ViewText → Bool → Meaning View
 if_counted dimensions cube text counted = if counted then with_elements dimensions cube text else Err WrongCount
 
--- the view that a text stands for in a cube with these dimensions
+-- the view that a text means in a cube with these dimensions
 abbrev pub bound_in : List Outline → ℕ → ViewText → Meaning View
 bound_in dimensions cube text = do
   counted ← is_counted dimensions text
   if_counted dimensions cube text counted
 
--- the view that a text stands for
+-- the view that a text means
 unfoldable pub bound : Layout → ViewText → Meaning View
 bound space text = do
   cube ← known (place_of (cube_names space) text.cube)

@@ -3,7 +3,7 @@ use Rattle.std.specs.Prelude.{◌≡◌, ◌⊎◌, List, [], ◌∷◌, Option,
 use Rattle.view_query.specs.declared.fault.ViewFault.{ViewFault}
 use Rattle.view_query.specs.declared.fault.ViewFault.TheVariants.{UnknownName, Memory}
 
--- what it stands for, or the first cause why it stands for nothing
+-- what it means, or the first cause why it means nothing
 abbrev pub Meaning : Type 0 → Type 0
 Meaning A = Result A ViewFault
 
@@ -16,7 +16,7 @@ abbrev pub ◌>>=◌ : {E A B : Type 0} → Result A E → (A → Result B E) �
 Ok a >>= next = next a
 Err cause >>= next = Err cause
 
--- what a name stands for, where it stands for something
+-- what a name means, where it means something
 abbrev pub known : {A : Type 0} → Option A → Meaning A
 known None = Err UnknownName
 known (Some a) = done a
@@ -29,7 +29,7 @@ each meaning (x ∷ xs) = do
   further ← each meaning xs
   done (first ∷ further)
 
--- an answer is what is meant; want of memory may come in its place
+-- an answer is what is meant; out of memory may come in its place
 abbrev pub Answers : {A : Type 0} → Meaning A → Result A ViewFault → Type 0
 Answers meant (Ok a) = meant ≡ Ok a
 Answers meant (Err cause) = (cause ≡ Memory) ⊎ (meant ≡ Err cause)

@@ -10,7 +10,7 @@ pub enum ViewFault {
     /// There would be more than 250,000 cells, which are so many. Where they are more than 2^64 - 1, this number stands
     /// for them.
     ViewLimit(u64),
-    /// Want of memory. It may come in place of any answer.
+    /// Out of memory. It may come in place of any answer.
     Memory,
 }
 

@@ -16,7 +16,7 @@ use rule_model::Model;
 use std::alloc::{AllocError, Global};
 
 /// Appends the table of a view: `table R C` and its lines, without the end of the last one. Each of its cells is asked
-/// for once, row by row. After want of memory the text is as it was.
+/// for once, row by row. Out of memory, the text is as it was.
 pub fn view<C: Cells>(
     alloc: Global,
     model: &Model,

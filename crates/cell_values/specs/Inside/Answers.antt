@@ -27,7 +27,7 @@ pub record AnswerTerms : Type 0 where
   pub listed : ListedAnswers
   pub values : ℕ → Value
 
--- whether a cell's value is told without work: of a leaf cell that no statement governs, or that is neither stored nor
+-- whether a cell's value is known without work: of a leaf cell that no statement governs, or that is neither stored nor
 -- fed
 unfoldable pub is_told : NumberedVersion → ℕ → Bool
 is_told version cell =

@@ -9,7 +9,7 @@ use Rattle.rule_model.specs.Weights.{most_weight_product}
 use Rattle.cell_values.specs.Reading.{value_on, IsUngoverned}
 use Rattle.cell_values.specs.Inside.Questions.{answer_on, values_of, cost_on}
 
--- what a sum comes to by the terms so far, and those of these cells
+-- what a sum has by the terms so far, and those of these cells
 unfoldable pub sum_on : NumberedVersion → Total → List (ℕ × ℤ) → Value
 sum_on version total pairs = value_of (fold (λ sum pair. with_term sum pair.1 (value_on version pair.0)) total pairs)
 

@@ -1,4 +1,4 @@
--- What the code's values stand for, and what its private functions answer.
+-- What the code's values mean, and what its private functions answer.
 use Rattle.std.specs.Prelude.{◌≡◌, ℕ, ◌-◌, List, length, drop, Option, Result, Ok, Err}
 use Rattle.dim_core.specs.declared.fault.DimFault.{DimFault}
 use Rattle.dim_core.specs.declared.fault.DimFault.TheVariants as faults
@@ -59,7 +59,7 @@ GivesPartial (Err stops.Memory) tokens read = Unit {0}
 GivesPartial (Err (stops.Unexpected left)) tokens read = read ≡ Err (Unexpected left)
 GivesPartial (Err (stops.Refused cause)) tokens read = read ≡ Err (Refused cause)
 
--- a block was read, which stands for what was built, unless memory ran out
+-- a block was read, which means what was built, unless memory ran out
 abbrev pub GivesText : Result Text (Stop Refusal) → List Lexeme → Read Lexeme Progress Refusal (Unit {0}) → Type 0
 GivesText (Ok text) tokens read = (p : Progress) × (read ≡ Ok (tt, p, tokens)) × IsBuilt text p
 GivesText (Err stops.Memory) tokens read = Unit {0}

@@ -1,5 +1,5 @@
--- The readers of expressions, in the shape of the code. What an expression may be at a place is told before it is read,
--- and its sort is told with its tree.
+-- The readers of expressions, in the shape of the code. What an expression may be at a place is known before it is
+-- read, and its sort comes with its tree.
 use Rattle.std.specs.Prelude.{ℕ, zero, suc, Bool, true, false, Err, Result, codes, if◌then◌else◌}
 use Rattle.cube_lex.specs.Lexeme.{Lexeme}
 use Rattle.grammar.specs.Reading.{Reader, OutOfTurns, gives, take_one, choose, all_of, ◌>>=◌, ◌>>◌}

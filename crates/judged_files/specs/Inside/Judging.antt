@@ -7,7 +7,7 @@ use Rattle.file_passes.specs.declared.refusal.Refusal.{Refusal}
 use Rattle.file_passes.specs.Pass.{Source, Judgement}
 use Rattle.judged_files.specs.Users.{AreUserTexts, IsFirstFault}
 
--- the run goes no further for this refusal, or for want of memory
+-- the run goes no further for this refusal, or for out of memory
 abbrev pub IsHaltFor : Option Refusal → Halt → Type 0
 IsHaltFor found halt =
     (halt ≡ halts.Memory) ⊎ ((refusal : Refusal) × (found ≡ Some refusal) × (halt ≡ halts.Refused refusal))

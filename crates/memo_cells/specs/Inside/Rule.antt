@@ -5,7 +5,7 @@ use lib.ListN.{get_elem?}
 use Rattle.atomic_table.specs.Table.{State}
 use Rattle.memo_cells.specs.declared.version.Version.{Version}
 use Rattle.memo_cells.specs.declared.version.About.{About}
-use Rattle.memo_cells.specs.declared.seat.View.{View}
+use Rattle.memo_cells.specs.declared.seat.SeatView.{SeatView}
 use Rattle.memo_cells.specs.Values.{cell_value, value_in}
 use Rattle.memo_cells.specs.Seats.{key_at, value_at, has_word, has_some}
 
@@ -18,24 +18,24 @@ pub record HoldsSlot (about : About) (words : List ℕ) (slot : ℕ) : Type 0 wh
       → value_in (slice_index words (value_at slot)) ≡ cell_value about.version cell
 
 -- what a seat knows is what the words hold, of the version and the slots of the memo
-pub record Fits (about : About) (words : List ℕ) (view : View) : Type 0 where
+pub record Fits (about : About) (words : List ℕ) (view : SeatView) : Type 0 where
   pub version : view.version ≡ Some about.version
   pub slots : view.slots ≡ about.slots
   pub known : (at word : ℕ) → has_word view.known at word ≡ true → (slice_index words at ≡ word) × (word ≢ 0)
   pub some : (at : ℕ) → has_some view.known at ≡ true → slice_index words at ≢ 0
 
 -- a seat that was joined away has no version, and the rule doesn't speak of it
-pub record IsMemo (about : About) (s : State (Unit {0}) View) : Type 0 where
+pub record IsMemo (about : About) (s : State (Unit {0}) SeatView) : Type 0 where
   pub size : length s.words ≡ 2 * about.slots
   pub slots : (slot : ℕ) → slot < about.slots → HoldsSlot about s.words slot
-  pub views : (seat : ℕ) (view : View) (version : Version) → get_elem? s.views seat ≡ some view
+  pub views : (seat : ℕ) (view : SeatView) (version : Version) → get_elem? s.views seat ≡ some view
       → view.version ≡ Some version → Fits about s.words view
 
 -- the first seat knows nothing
-abbrev pub newcomer : About → View
+abbrev pub newcomer : About → SeatView
 newcomer about =
     record { version = Some about.version; slots = about.slots; known = []; zeros = []; claimed = [] }
 
 -- what is left of a seat that was joined away
-abbrev pub nobody : View
+abbrev pub nobody : SeatView
 nobody = record { version = None; slots = 0; known = []; zeros = []; claimed = [] }

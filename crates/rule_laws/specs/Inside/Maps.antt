@@ -1,4 +1,4 @@
--- The list that a map stands for.
+-- The list that a map means.
 use Rattle.std.specs.Prelude.{ℕ, Option, List}
 use Rattle.rule_laws.specs.declared.element_map.Form.{Form}
 use Rattle.rule_laws.specs.declared.element_map.Form.TheVariants.{Identity, Nowhere, Listed}

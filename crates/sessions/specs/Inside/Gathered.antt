@@ -28,7 +28,7 @@ pub record IsFurther {L S C T K R Q : Type 0} (effect : C → K → Effect T R) 
   pub commands : later.commands ≡ before.commands
 
 -- These users' passes were brought together with the giver's: the numbers are those from 0 to the last user's, the
--- giver has no entry, and each user was told the replies of all its commands.
+-- giver has no entry, and each user has the replies to all its commands.
 pub record IsGathered {C K T R : Type 0} (effect : C → K → Effect T R) (after : C → T → C) (first : C)
     (users : List (List K)) (told : List (List (Told R))) (numbers : List ℕ) (log : List (Entry T)) : Type 0 where
   pub below : (number : ℕ) → number ≤ length users → has numbers number ≡ true

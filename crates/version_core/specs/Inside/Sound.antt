@@ -11,7 +11,7 @@ use Rattle.version_core.specs.declared.user.Tried.{Tried}
 use Rattle.version_core.specs.CoreState.{CoreState, UserState, KeptValue, next_command}
 use Rattle.version_core.specs.OneHistory.{IsKeptSound}
 
--- the user pins this version: a command waits, and all that was told is the user's run of the pinned version's history,
+-- the user pins this version: a command waits, and all replies are the user's run of the pinned version's history,
 -- after which the user has no entry
 pub record IsPinSound {C K T R : Type 0} (effect : C → K → Effect T R) (after : C → T → C) (first : C)
     (log : List (Entry T)) (number : ℕ) (user : UserState K T R) (place : ℕ) : Type 0 where

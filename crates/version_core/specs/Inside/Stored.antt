@@ -7,7 +7,7 @@ use Rattle.version_core.specs.declared.known.Known.{Known}
 use Rattle.version_core.specs.CoreState.{CoreState, UserState, KeptValue}
 use Rattle.version_core.specs.Inside.Sound.{IsSound}
 
--- what a version and a cell stand for: the cell's value on that version
+-- what a version and a cell mean: the cell's value on that version
 abbrev pub kept_value : {C T V : Type 0} → (C → T → C) → (C → ℕ → V) → C → List (Entry T) → Known → KeptValue V
 kept_value after value first log known = record {
   version = known.version;

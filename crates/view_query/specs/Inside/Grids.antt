@@ -9,7 +9,7 @@ use Rattle.view_query.specs.Views.{lines}
 use Rattle.view_query.specs.Table.{is_shown}
 use Rattle.view_query.specs.Inside.Lines.{is_other_at}
 
--- all lines of the view, with these values; a column is told by its index
+-- all lines of the view, with these values; a column is named by its index
 pub record IsGridOf (space : Layout) (view : View) (value : List ℕ → List ℕ → Value) (grid : Grid) : Type 0 where
   pub rows : grid.rows.items ≡ lines view.rows
   pub columns : grid.columns.items ≡ lines view.columns

@@ -1,11 +1,11 @@
-use Rattle.std.proofs.Common.{rules, ◌≡◌, ◌∙◌, ap, arith, ◌-◌, ◌≤◌, drop, length, take}
+use Rattle.std.proofs.Common.{rules, append-nil, ◌≡◌, ◌∙◌, ap, arith, ◌-◌, ◌≤◌, drop, length, take}
 use Rattle.std.specs.Prelude.{IsOkUnless}
 use Rattle.std.specs.Arc.{arc_value}
 use Rattle.std.proofs.lemmas.List.{take_rest}
 use Rattle.cell_store.specs.Entries.{after_writes}
 use Rattle.cell_store.specs.StoreLimit.{most_cells}
+use Rattle.cell_versions.specs.Versions.{NumberedVersion}
 use Rattle.cell_versions.specs.declared.fault.NextFault.TheVariants.{Memory}
-use Rattle.cell_reader.proofs.RoomFacts.{each_one_more}
 use Rattle.cell_reader.proofs.work.Work.settle.Goals as goal
 
 -- what waits passes neither limit
@@ -15,6 +15,19 @@ unreachable-requires c =
     let latest = arc_value work.latest in
     let waiting = drop work.made work.written.items in
     let slice : take (length c.deref.result.now - work.made) (drop work.made c.deref.result.now) ≡ waiting = take_rest c.deref.result.now work.made ∙ ap (drop work.made) c.deref.ensures.value in
-    let few_stored : length (after_writes latest.stored waiting) ≤ most_cells = omega (arith, each_one_more latest.stored waiting, work.ahead.waiting.few_stored) in
+    let few_stored : length (after_writes latest.stored waiting) ≤ most_cells = omega (arith, work.ahead.waiting.few_stored) in
     let within : IsOkUnless c.version_after.result Memory = c.version_after.ensures.within (rw (slice, c.deref-2.ensures) few_stored) (rw (slice, c.deref-2.ensures) work.ahead.waiting.few_fed) in
     search rules
+
+-- the version with what waits comes next
+pub go_on-requires : goal.go_on-requires
+go_on-requires c =
+    let work = c.args.self.now in
+    let latest = arc_value work.latest in
+    let waiting = drop work.made work.written.items in
+    let slice : take (length c.deref.result.now - work.made) (drop work.made c.deref.result.now) ≡ waiting = take_rest c.deref.result.now work.made ∙ ap (drop work.made) c.deref.ensures.value in
+    let model : c.in-Ok.next.model ≡ latest.model = c.in-Ok.ensures.model ∙ ap (λ (version : NumberedVersion). version.model) c.deref-2.ensures in
+    let stored : c.in-Ok.next.stored ≡ after_writes latest.stored waiting =
+    c.in-Ok.ensures.stored ∙ (ap (λ (version : NumberedVersion). after_writes version.stored (take (length c.deref.result.now - work.made) (drop work.made c.deref.result.now))) c.deref-2.ensures
+    ∙ ap (after_writes latest.stored) slice) in
+    rw (model, stored, append-nil work.written.items) work.ahead.all

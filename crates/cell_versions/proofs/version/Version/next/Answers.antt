@@ -1,4 +1,4 @@
-use Rattle.std.proofs.Common.{rules, ◌≡◌, sym, ◌∙◌, subst, inl, inr, ⊎_elim}
+use Rattle.std.proofs.Common.{rules, ◌≡◌, sym, ◌∙◌, subst, ⊎_elim}
 use Rattle.std.specs.Arc.{arc_value}
 use Rattle.cell_store.specs.Entries.{after_writes}
 use Rattle.feed_map.specs.FedCells.{HasManyFed}

@@ -1,5 +1,5 @@
 use Rattle.std.proofs.Common.{[], subst, sym, ◌≤◌, List, ℕ, ℤ, length}
-use Rattle.cell_reader.specs.Limits.{fed_count}
+use Rattle.cell_reader.specs.FedCount.{fed_count}
 use Rattle.cell_reader.specs.Snapshots.{version_of}
 use Rattle.cell_store.specs.declared.entry.Entry.{Entry}
 use Rattle.cell_store.specs.Entries.{after_writes}

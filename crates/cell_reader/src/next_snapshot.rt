@@ -8,7 +8,7 @@ ghost use Rattle.cell_values.specs.Reading.{AreValuesOn};
 ghost use Rattle.cell_versions.specs.Versions.{AreLeafWrites, IsVersion, number_after};
 ghost use Rattle.memo_cells.specs.Shared.{version_kept};
 ghost use Rattle.memo_cells.specs.Values.{cell_value};
-ghost use Rattle.cell_reader.specs.Limits.{fed_count};
+ghost use Rattle.cell_reader.specs.FedCount.{fed_count};
 ghost use Rattle.cell_reader.specs.Snapshots.{known_in, memory_of, version_of};
 
 use crate::snapshot::{SLOTS, Snapshot};
@@ -43,7 +43,7 @@ impl Snapshot {
         ensures stored { IfOk result (λ next.
             (version_of next).stored ≡ after_writes (version_of self.now).stored writes.now) }
 
-        // each limit is told exactly where it is passed, want of memory aside, that of the stored cells first
+        // each limit is answered exactly where it is passed, out of memory aside, that of the stored cells first
         ensures within { length (after_writes (version_of self.now).stored writes.now) ≤ most_cells →
             fed_count (version_of self.now).model (after_writes (version_of self.now).stored writes.now) ≤ most_fed →
             IsOkUnless result NextFault.Memory }
@@ -59,7 +59,7 @@ impl Snapshot {
         Ok(next)
     }
 
-    /// The same for another reader, who knows what this one knows. It doesn't wait.
+    /// The same for another reader, who knows what this one knows, and holds no value for itself yet. It doesn't wait.
     pub fn share(&mut self) -> Result<Snapshot, AllocError>
         ensures version { IfOk result (λ shared. version_of shared ≡ version_of self.old) }
         ensures memory { IfOk result (λ shared. memory_of shared ≡ memory_of self.old) }
@@ -77,7 +77,7 @@ impl Snapshot {
     fn of(alloc: Global, version: Version) -> Result<Snapshot, AllocError>
         ensures { IfOk result (λ snapshot. version_of snapshot ≡ version) }
     {
-        let memo = memory_for(alloc, &version)?;
+        let memo = memory_for(alloc, &version, SLOTS)?;
         let version = Arc::new(alloc, version)?;
         Ok(Snapshot { version, memo })
     }
@@ -121,8 +121,13 @@ impl Snapshot {
     }
 }
 
-/// A memory for the values on a version. None is kept yet.
-pub(crate) fn memory_for(alloc: Global, version: &Version) -> Result<SharedMemo, AllocError>
+/// A memory of so many slots for the values on a version. None is kept yet.
+pub(crate) fn memory_for(
+    alloc: Global,
+    version: &Version,
+    slots: u32,
+) -> Result<SharedMemo, AllocError>
+    requires { 0 < slots }
     ensures { IfOk result (λ memo. AreValuesOn version.now (cell_value (version_kept memo))) }
 {
     let memo = SharedMemo::new(
@@ -130,7 +135,7 @@ pub(crate) fn memory_for(alloc: Global, version: &Version) -> Result<SharedMemo,
         version.model(),
         version.store(),
         version.number(),
-        SLOTS,
+        slots,
     )?;
     Ok(memo)
 }

@@ -4,12 +4,12 @@ ghost use Rattle.std.specs.Arc.{arc_value};
 ghost use Rattle.cell_store.specs.StoreLimit.{most_cells};
 ghost use Rattle.cube_space.specs.Cells.{IsCell, is_leaf_cell};
 ghost use Rattle.feed_map.specs.FedCells.{most_fed};
-ghost use Rattle.cell_reader.specs.Limits.{fed_count};
+ghost use Rattle.cell_reader.specs.FedCount.{fed_count};
 ghost use Rattle.cell_reader.specs.Works.{opening_of, stored_after, writes_of};
 ghost use Rattle.cell_reader.specs.Inside.After.{IsAfter};
 
-use crate::making::version_after;
-use crate::room::{may_wait, passes_no_limit};
+use crate::next_snapshot::version_after;
+use crate::room::{room_behind, room_of};
 use crate::work::Work;
 use cell_versions::{NextFault, Version};
 use cube_fixed::Money;
@@ -25,7 +25,7 @@ impl Work {
         ensures written { OnOk result (writes_of self.new ≡ writes_of self.old ++ (cell, number) ∷ []) }
         ensures same { OnErr result (writes_of self.new ≡ writes_of self.old) }
 
-        // each limit is told exactly where this write passes it, want of memory aside, that of the stored cells first
+        // the answer is a limit exactly where this write passes it, out of memory aside, that of the stored cells first
         ensures within { length (stored_after self.old (writes_of self.old ++ (cell, number) ∷ [])) ≤ most_cells →
             fed_count (opening_of self.old).model (stored_after self.old (writes_of self.old ++ (cell, number) ∷ []))
             ≤ most_fed →
@@ -39,7 +39,9 @@ impl Work {
             (stored_after self.old (writes_of self.old ++ (cell, number) ∷ [])) →
             (result ≡ Err (NextFault.FedLimit (suc most_fed))) ⊎ (result ≡ Err NextFault.Memory) }
     {
-        if may_wait(&self.latest, &self.written[self.made..], cell) {
+        let waiting = &self.written[self.made..];
+        if let Some(room) = room_behind(&self.latest, waiting, self.room, cell, number) {
+            self.room = room;
             self.written.extend_from_slice(&[(cell, number)])?;
             return Ok(());
         }
@@ -82,11 +84,12 @@ impl Work {
         ensures settled { let latest = arc_value self.new.latest in
             OnOk result (IsAfter (opening_of self.new) (writes_of self.new) latest.model latest.stored) }
     {
-        passes_no_limit(&next);
+        let room = room_of(&next);
         let latest = Arc::new(alloc, next)?;
         self.written.extend_from_slice(more)?;
         self.latest = latest;
         self.made = self.written.len();
+        self.room = room;
         self.memo = None;
         Ok(())
     }

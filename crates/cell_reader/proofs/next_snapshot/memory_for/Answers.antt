@@ -1,7 +1,7 @@
 use Rattle.std.proofs.Common.{rules, ◌≡◌}
 use Rattle.memo_cells.specs.Shared.{version_kept}
 use Rattle.cell_reader.proofs.Works.{kept_values}
-use Rattle.cell_reader.proofs.making.memory_for.Goals as goal
+use Rattle.cell_reader.proofs.next_snapshot.memory_for.Goals as goal
 
 pub returns : goal.returns
 returns c =

@@ -2,8 +2,8 @@ use Rattle.std.proofs.Common.{rules}
 use Rattle.cell_store.specs.Entries.{after_writes}
 use Rattle.cube_space.specs.Cells.{IsSpace}
 use Rattle.rule_model.specs.Conditions.{AreRules}
-use Rattle.cell_reader.proofs.Limits.{few_fed, many_fed}
-use Rattle.cell_reader.proofs.making.version_after.Goals as goal
+use Rattle.cell_reader.proofs.FedCount.{few_fed, many_fed}
+use Rattle.cell_reader.proofs.next_snapshot.version_after.Goals as goal
 
 pub returns-clause-within : goal.returns-clause-within
 returns-clause-within c = λ short few.

@@ -8,10 +8,10 @@ ghost use Rattle.cell_reader.specs.Snapshots.{known_in, memory_of, version_of};
 ghost use Rattle.cell_reader.specs.Works.{opening_of, stored_after, writes_of};
 ghost use Rattle.cell_writes.specs.Writes.{last_writes};
 
-use crate::making::memory_for;
-use crate::room::passes_no_limit;
+use crate::next_snapshot::memory_for;
+use crate::room::room_of;
 use crate::snapshot::Snapshot;
-use crate::work::Work;
+use crate::work::{WORK_SLOTS, Work};
 use cell_values::value_of;
 use cell_writes::last_writes;
 use cube_fixed::{Money, Steps, Value};
@@ -30,7 +30,7 @@ impl Work {
         ensures memory { memory_of snapshot.new ≡ memory_of snapshot.old }
         ensures known { known_in snapshot.new ≡ known_in snapshot.old }
     {
-        passes_no_limit(&snapshot.version);
+        let room = room_of(&snapshot.version);
         let opening = Arc::try_clone(&snapshot.version)?;
         let latest = Arc::try_clone(&snapshot.version)?;
         let memo = snapshot.memo.share()?;
@@ -40,6 +40,7 @@ impl Work {
             memo: Some(memo),
             written: Vec::new(alloc),
             made: 0,
+            room,
         })
     }
 
@@ -59,7 +60,7 @@ impl Work {
         self.settle(alloc)?;
         let mut memo = match self.memo.take() {
             Some(memo) => memo,
-            None => memory_for(alloc, &self.latest)?,
+            None => memory_for(alloc, &self.latest, WORK_SLOTS)?,
         };
         let value = value_of(alloc, &self.latest, &mut memo, cell, steps);
         self.memo = Some(memo);

@@ -1,8 +1,8 @@
-ghost use Rattle.std.specs.Prelude.{◌≡◌, ◌<◌, ◌⊎◌, IfOk};
+ghost use Rattle.std.specs.Prelude.{◌≡◌, ◌<◌, ◌⊎◌, true, IfOk};
 ghost use Rattle.cell_values.specs.Reading.{IsKept, IsPlainTotal, IsWorkedOut, MayCount, value_on};
 ghost use Rattle.cube_space.specs.Cells.{IsCell};
 ghost use Rattle.memo_cells.specs.Knowledge.{Grew, Knows};
-ghost use Rattle.cell_reader.specs.Snapshots.{known_in, version_of};
+ghost use Rattle.cell_reader.specs.Snapshots.{held_in, known_in, version_of};
 
 use crate::snapshot::Snapshot;
 use cell_source::Cells;
@@ -13,7 +13,7 @@ use std::marker::Brand;
 use std::sync::ledger::{Blank, Ledger};
 
 impl Snapshot {
-    /// The value of a cell by the rules. It doesn't wait. What this reader knows isn't worked out again; each
+    /// The value of a cell by the rules. It doesn't wait. What this reader knows or holds isn't worked out again; each
     /// evaluation of a statement is a step.
     pub fn read<L: Ledger>(
         &mut self,
@@ -28,6 +28,7 @@ impl Snapshot {
 
         // when it counts no step, also where memory is wanting
         ensures known { Knows (known_in self.old) cell → steps.new ≡ steps.old }
+        ensures held { held_in self.old cell ≡ true → steps.new ≡ steps.old }
         ensures counted { (steps.new ≡ steps.old) ⊎ MayCount (known_in self.old) (known_in self.new) cell }
         ensures plain { IsPlainTotal (version_of self.old) cell → steps.new ≡ steps.old }
 

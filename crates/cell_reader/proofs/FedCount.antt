@@ -12,7 +12,7 @@ use Rattle.rule_model.specs.BoundModel.{BoundModel}
 use Rattle.rule_model.specs.Conditions.{AreRules}
 use Rattle.rule_model.specs.System.{system_of}
 use Rattle.stored_laws.specs.Stored.{stored_in}
-use Rattle.cell_reader.specs.Limits.{fed_count}
+use Rattle.cell_reader.specs.FedCount.{fed_count}
 
 pub few_fed : (m : BoundModel) (es : List Entry) → IsSpace m.space → AreRules m.space m.rules → fed_count m es ≤ most_fed → HasFewFed m es
 unfolding fed_count
