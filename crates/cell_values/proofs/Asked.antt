@@ -1,11 +1,11 @@
 -- What the evaluation of a cell asks, and that it is answered rightly.
 use Rattle.std.proofs.Common.{◌≡◌, refl, sym, ◌∙◌, ap, subst, arith, ℕ, suc, ◌<◌, ltb, eqb, Bool, true, false, ◌&&◌, ◌||◌, ℤ, List, [], ◌∷◌, ◌++◌, drop, map, length, Contains, Option, Some, None}
-use Rattle.std.specs.Prelude.{is_some, slice_get, Result, Ok, Err, IfOk, IfErr}
-use Rattle.std.specs.List.{range_with_len}
+use Rattle.std.specs.Prelude.{is_some, slice_get, Result, Ok, Err, IfOk, IfErr, if◌then◌else◌}
+use Rattle.std.specs.List.{All, range_with_len}
 use Rattle.std.proofs.Math.Path.{fun_ext}
 use Rattle.std.proofs.lemmas.Bool.{lt-ltb, ltb-true, and_parts, eq-eqb, eqb-true}
 use Rattle.std.proofs.lemmas.Option.{slice_get_within}
-use Rattle.std.proofs.lemmas.List.Elements.{All-head, All-tail, All-contains, Contains-append_left, Contains-append_right}
+use Rattle.std.proofs.lemmas.List.Elements.{All-head, All-tail, All-nil, All-contains, All-append, Contains-append_left, Contains-append_right}
 use Rattle.accepted.specs.Checks.{IsAccepted}
 use Rattle.cell_versions.specs.Versions.{NumberedVersion}
 use Rattle.cube_fixed.specs.declared.value.Value.{Value}
@@ -32,10 +32,11 @@ use Rattle.rule_model.specs.Governing.{rules_for}
 use Rattle.rule_model.specs.System.{system_of}
 use Rattle.rule_model.specs.Targets.{parts_at, with_components, component_cells}
 use Rattle.stored_laws.specs.Stored.{stored_in}
+use Rattle.cell_values.specs.declared.missing.Missing.{Missing}
 use Rattle.cell_values.specs.Reading.{value_on}
-use Rattle.cell_values.specs.Inside.Questions.{answer_on, base_on, children_on, asks_on, depth_on, components_on, is_grounded}
+use Rattle.cell_values.specs.Inside.Questions.{answer_on, base_on, children_on, asks_on, depth_on, components_on, is_grounded, LeadsTo}
 use Rattle.cell_values.specs.Inside.Frames.{AreRight}
-use Rattle.cell_values.specs.Inside.Answers.{ListedAnswers, AnswerTerms, is_told, answered_value, answered, may_ask, IsMissing}
+use Rattle.cell_values.specs.Inside.Answers.{ListedAnswers, AnswerTerms, is_told, answered_value, answered, may_ask, IsMissing, AreMissing}
 use Rattle.cell_values.proofs.Members.{filter-member, drop-member, all-pass as every-passes, nonzero-counts}
 use Rattle.cell_values.proofs.Values.{formed, ordered}
 use Rattle.cell_values.proofs.Work.{asks-has}
@@ -181,11 +182,13 @@ module _ (at : ListedAnswers) (values : ℕ → Value) where
       let inside = ltb-true x (size_of at.version.model.space) parts.0 in
       let less = ltb-true (depth_on at.version x) (depth_on at.version at.cell) parts.1 in
       record {
-        is_asked = inside;
-        leads = asks-has at.version (of_value at.cell) (of_value x)
-            (behind (of_base at.cell) _ (of_value x) (Contains-append_right (map (of_children at.cell) (range_with_len 0 (length (axes at.version.model.space (cube_of at.version.model.space at.cell)))))
-            (map of_value (range_with_len 0 (size_of at.version.model.space))) (of_value x) (map-contains of_value (size_of at.version.model.space) x inside)))
-            (omega (arith, less));
+        leads = record {
+          is_asked = inside;
+          leads = asks-has at.version (of_value at.cell) (of_value x)
+              (behind (of_base at.cell) _ (of_value x) (Contains-append_right (map (of_children at.cell) (range_with_len 0 (length (axes at.version.model.space (cube_of at.version.model.space at.cell)))))
+              (map of_value (range_with_len 0 (size_of at.version.model.space))) (of_value x) (map-contains of_value (size_of at.version.model.space) x inside)))
+              (omega (arith, less));
+        };
         unlisted = none;
       }
 
@@ -204,8 +207,10 @@ module _ (at : ListedAnswers) (values : ℕ → Value) where
       let inside = ltb-true x (size_of at.version.model.space) parts.0 in
       let same : x ≡ at.cell = eqb-true x at.cell parts.1 in
       record {
-        is_asked = (inside, total);
-        leads = subst (λ (y : ℕ). Contains (asks_on at.version (of_value at.cell)) (of_base y)) (sym same) (asks-has at.version (of_value at.cell) (of_base at.cell) (at-front (of_base at.cell) _) (omega arith));
+        leads = record {
+          is_asked = (inside, total);
+          leads = subst (λ (y : ℕ). Contains (asks_on at.version (of_value at.cell)) (of_base y)) (sym same) (asks-has at.version (of_value at.cell) (of_base at.cell) (at-front (of_base at.cell) _) (omega arith));
+        };
         unlisted = none;
       }
 
@@ -223,12 +228,14 @@ module _ (at : ListedAnswers) (values : ℕ → Value) where
       let filled = ltb-true 0 (length (parts_at at.version.model.space x d)) parts.0 in
       let within : d < length (axes at.version.model.space (cube_of at.version.model.space at.cell)) = subst (λ (y : ℕ). d < length (axes at.version.model.space (cube_of at.version.model.space y))) same (axis x d filled) in
       record {
-        is_asked = (inside, filled, parts.1);
-        leads = subst (λ (y : ℕ). Contains (asks_on at.version (of_value at.cell)) (of_children y d)) (sym same)
-            (asks-has at.version (of_value at.cell) (of_children at.cell d)
-            (behind (of_base at.cell) _ (of_children at.cell d) (Contains-append_left (map (of_children at.cell) (range_with_len 0 (length (axes at.version.model.space (cube_of at.version.model.space at.cell)))))
-            (map of_value (range_with_len 0 (size_of at.version.model.space))) (of_children at.cell d) (map-contains (of_children at.cell) (length (axes at.version.model.space (cube_of at.version.model.space at.cell))) d within)))
-            (omega arith));
+        leads = record {
+          is_asked = (inside, filled, parts.1);
+          leads = subst (λ (y : ℕ). Contains (asks_on at.version (of_value at.cell)) (of_children y d)) (sym same)
+              (asks-has at.version (of_value at.cell) (of_children at.cell d)
+              (behind (of_base at.cell) _ (of_children at.cell d) (Contains-append_left (map (of_children at.cell) (range_with_len 0 (length (axes at.version.model.space (cube_of at.version.model.space at.cell)))))
+              (map of_value (range_with_len 0 (size_of at.version.model.space))) (of_children at.cell d) (map-contains (of_children at.cell) (length (axes at.version.model.space (cube_of at.version.model.space at.cell))) d within)))
+              (omega arith));
+        };
         unlisted = none;
       }
 
@@ -250,14 +257,24 @@ answer-err known q e is = by (listed known q) refl
     by None none = let here : Err q ≡ Err e = rw none at is in let same : q ≡ e = cc in (none, same)
     by (Some b) some = let here : Ok b ≡ Err e = rw some at is in absurd (cc)
 
--- what is listed is right, and what isn't is missing
-pub right-or : (v : NumberedVersion) (known : Known) (q : Ask) (r : Result Value Ask) → AreRight v known → r ≡ answer_in known q → IfOk r (λ a. a ≡ answer_on v q)
-right-or v known q (Ok a) right is = listed-right v known right q a (answer-ok known q a (sym is))
-right-or v known q (Err e) right is = tt
+-- a question that is missing alone
+pub missing-one : (at : ListedAnswers) (missing : Missing) (q : Ask) → IsMissing at q → missing.first ≡ q → missing.more.items ≡ [] → AreMissing at missing
+missing-one at missing q is first more =
+    record {
+      first = subst (IsMissing at) (sym first) is;
+      more = subst (All (LeadsTo at.version at.cell)) (sym more) (All-nil (LeadsTo at.version at.cell));
+    }
 
-pub missing-or : (at : ListedAnswers) (q : Ask) (r : Result Value Ask) → r ≡ answer_in at.known q → (listed at.known q ≡ None → IsMissing at q) → IfErr r (λ e. IsMissing at e)
+pub missing-or : (at : ListedAnswers) (q : Ask) (r : Result Value Missing)
+    → IfErr r (λ missing. (listed at.known q ≡ None) × (missing.first ≡ q) × (missing.more.items ≡ []))
+    → (listed at.known q ≡ None → IsMissing at q) → IfErr r (λ missing. AreMissing at missing)
 missing-or at q (Ok a) is missing = tt
-missing-or at q (Err e) is missing = let both = answer-err at.known q e (sym is) in subst (IsMissing at) both.1 (missing both.0)
+missing-or at q (Err m) (none, first, more) missing = missing-one at m q (missing none) first more
+
+-- what is added to a list, as far as there was room
+pub all-added : (P : Ask → Type 0) (xs ys zs : List Ask) (b : Bool) → xs ≡ (if b then ys ++ zs else ys) → All P ys → All P zs → All P xs
+all-added P xs ys zs true is own more = subst (All P) (sym is) (All-append P ys zs own more)
+all-added P xs ys zs false is own more = subst (All P) (sym is) own
 
 pub answered-base : (terms : AnswerTerms) → (answered terms).base ≡ base_on terms.listed.version
 unfolding answered

@@ -1,6 +1,7 @@
 -- One turn of the work on a question, and how it begins.
 use Rattle.std.proofs.Common.{◌≡◌, refl, sym, ◌∙◌, ap, subst, arith, ℕ, suc, ◌+◌, ◌<◌, ◌≤◌, ◌^◌, ℤ, List, [], ◌∷◌, ◌++◌, Option, Some, None}
 use Rattle.std.specs.Prelude.{unsigned_abs}
+use Rattle.std.specs.List.{All}
 use Rattle.std.proofs.lemmas.List.Elements.{All-nil, All-push}
 use Rattle.cell_store.specs.Entries.{cells_of}
 use Rattle.cell_versions.specs.Versions.{NumberedVersion}
@@ -19,7 +20,7 @@ use Rattle.cell_values.specs.declared.frames.ComponentSum.{ComponentSum}
 use Rattle.cell_values.specs.declared.frames.Frame.{Frame}
 use Rattle.cell_values.specs.declared.frames.Frame.TheVariants as frame
 use Rattle.cell_values.specs.Reading.{value_on}
-use Rattle.cell_values.specs.Inside.Questions.{IsAsked, answer_on, values_of, work_on, cost_on, components_on}
+use Rattle.cell_values.specs.Inside.Questions.{IsAsked, LeadsTo, answer_on, values_of, work_on, cost_on, components_on}
 use Rattle.cell_values.specs.Inside.Sums.{sum_on, IsSum, Stops}
 use Rattle.cell_values.specs.Inside.Frames.{AreRight, open_asks, leaves_left, components_left, IsEvaluating, IsWork, IsSumBut, IsWaiting, work_left}
 use Rattle.cell_values.specs.Inside.Answers.{IsMissing}
@@ -29,7 +30,7 @@ module _ (v : NumberedVersion) where
   -- ---- evaluations
 
   pub own-work : (e : Evaluation) (q : Ask) → IsEvaluating v e q → IsEvaluating v e (of_value e.cell)
-  own-work e q is = record { asked = refl; is_cell = is.is_cell; governs = is.governs; right = is.right }
+  own-work e q is = record { asked = refl; is_cell = is.is_cell; governs = is.governs; right = is.right; pending = is.pending }
 
   pub evaluated : (e : Evaluation) (q : Ask) (a : Value) → IsEvaluating v e q → a ≡ value_on v e.cell → a ≡ answer_on v q
   evaluated e q a is value = value ∙ ap (answer_on v) (sym is.asked)
@@ -37,17 +38,23 @@ module _ (v : NumberedVersion) where
   abbrev Turns : Frame → Frame → Ask → Ask → Type 0
   Turns before after q next = IsAsked v next × IsWaiting v after q next × (work_left v after + work_on v next < work_left v before)
 
-  pub evaluation-waits : (e : Evaluation) (q next : Ask) → IsEvaluating v e q × (e.asked ≡ None) → IsMissing (record { version = v; known = e.known.items; cell = e.cell }) next
-      → Turns (frame.Evaluation e) (frame.Evaluation (record e { asked = Some next })) q next
-  evaluation-waits e q next (is, none) missing =
-      let less = evaluation-asks v e.known.items e.cell next missing.leads missing.unlisted in
+  pub evaluation-waits : (e after : Evaluation) (q next : Ask) → IsEvaluating v e q × (e.asked ≡ None) → IsMissing (record { version = v; known = e.known.items; cell = e.cell }) next
+      → IsEvaluating v after (of_value after.cell) → after.known ≡ e.known → after.cell ≡ e.cell
+      → Turns (frame.Evaluation e) (frame.Evaluation (record after { asked = Some next })) q next
+  evaluation-waits e after q next (is, none) missing own known cell =
+      let less = evaluation-asks v e.known.items e.cell next missing.leads.leads missing.unlisted in
       let now : cost_on v (open_asks v e.known.items e.asked e.cell) ≡ cost_on v (open_asks v e.known.items None e.cell) = ap (λ (o : Option Ask). cost_on v (open_asks v e.known.items o e.cell)) none in
-      (missing.is_asked, (record { asked = is.asked; is_cell = is.is_cell; governs = is.governs; right = is.right }, refl), omega (arith, less, now))
+      let then : cost_on v (open_asks v after.known.items (Some next) after.cell) ≡ cost_on v (open_asks v e.known.items (Some next) e.cell) =
+      ap (λ k. cost_on v (open_asks v k.items (Some next) after.cell)) known ∙ ap (λ (c : ℕ). cost_on v (open_asks v e.known.items (Some next) c)) cell in (
+        missing.leads.is_asked,
+        (record { asked = is.asked ∙ ap of_value (sym cell); is_cell = own.is_cell; governs = own.governs; right = own.right; pending = own.pending }, refl),
+        omega (arith, less, now, then),
+      )
 
   pub evaluation-answered : (e after : Evaluation) (q next : Ask) (a : Value) → IsEvaluating v e q × (e.asked ≡ Some next) → a ≡ answer_on v next
-      → after.cell ≡ e.cell → after.statement ≡ e.statement → after.known.items ≡ e.known.items ++ (next, a) ∷ [] → after.asked ≡ None
+      → after.cell ≡ e.cell → after.statement ≡ e.statement → after.known.items ≡ e.known.items ++ (next, a) ∷ [] → after.asked ≡ None → after.pending ≡ e.pending
       → IsWork v (frame.Evaluation after) q × (work_left v (frame.Evaluation after) ≤ work_left v (frame.Evaluation e))
-  evaluation-answered e after q next a (is, asked) value cell statement known none =
+  evaluation-answered e after q next a (is, asked) value cell statement known none pending =
       let less = evaluation-goes_on v e.known.items e.cell next a in
       let before : cost_on v (open_asks v e.known.items e.asked e.cell) ≡ cost_on v (open_asks v e.known.items (Some next) e.cell) = ap (λ (o : Option Ask). cost_on v (open_asks v e.known.items o e.cell)) asked in
       let one : cost_on v (open_asks v after.known.items after.asked after.cell) ≡ cost_on v (open_asks v after.known.items None after.cell) = ap (λ (o : Option Ask). cost_on v (open_asks v after.known.items o after.cell)) none in
@@ -59,15 +66,16 @@ module _ (v : NumberedVersion) where
             is_cell = subst (IsCell v.model.space) (sym cell) is.is_cell;
             governs = ap (λ (c : ℕ). governing_from v.model c 0) cell ∙ is.governs ∙ ap Some (sym statement);
             right = subst (AreRight v) (sym known) (All-push (λ entry. entry.1 ≡ answer_on v entry.0) e.known.items (next, a) is.right value);
+            pending = subst (λ (c : ℕ). All (LeadsTo v c) after.pending.items) (sym cell) (subst (λ asks. All (LeadsTo v e.cell) asks.items) (sym pending) is.pending);
           },
           none,
         ),
         omega (arith, less, before, one, two, three),
       )
 
-  pub evaluation-opens : (e : Evaluation) (c k : ℕ) → IsCell v.model.space c → governing_from v.model c 0 ≡ Some k → e.cell ≡ c → e.statement ≡ k → e.known.items ≡ [] → e.asked ≡ None
+  pub evaluation-opens : (e : Evaluation) (c k : ℕ) → IsCell v.model.space c → governing_from v.model c 0 ≡ Some k → e.cell ≡ c → e.statement ≡ k → e.known.items ≡ [] → e.asked ≡ None → e.pending.items ≡ []
       → IsWork v (frame.Evaluation e) (of_value c) × (work_left v (frame.Evaluation e) < work_on v (of_value c))
-  evaluation-opens e c k is_cell governs cell statement known none =
+  evaluation-opens e c k is_cell governs cell statement known none pending =
       let less = evaluation-begins v c in
       let one : cost_on v (open_asks v e.known.items e.asked e.cell) ≡ cost_on v (open_asks v e.known.items None e.cell) = ap (λ (o : Option Ask). cost_on v (open_asks v e.known.items o e.cell)) none in
       let two : cost_on v (open_asks v e.known.items None e.cell) ≡ cost_on v (open_asks v e.known.items None c) = ap (λ (c : ℕ). cost_on v (open_asks v e.known.items None c)) cell in
@@ -78,6 +86,7 @@ module _ (v : NumberedVersion) where
             is_cell = subst (IsCell v.model.space) (sym cell) is_cell;
             governs = ap (λ (c : ℕ). governing_from v.model c 0) cell ∙ governs ∙ ap Some (sym statement);
             right = subst (AreRight v) (sym known) (All-nil (λ entry. entry.1 ≡ answer_on v entry.0));
+            pending = subst (All (LeadsTo v e.cell)) (sym pending) (All-nil (LeadsTo v e.cell));
           },
           none,
         ),

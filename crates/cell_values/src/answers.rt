@@ -1,18 +1,28 @@
-ghost use Rattle.std.specs.Prelude.{◌≡◌, Some, None, IfErr, IfOk};
+ghost use Rattle.std.specs.Prelude.{◌≡◌, [], Some, None, IfErr, IfOk};
 ghost use Rattle.cell_values.specs.Inside.Frames.{AreRight};
+ghost use Rattle.cell_values.specs.Inside.Questions.{answer_on};
 ghost use Rattle.rule_evaluate.specs.Known.{listed};
 
 use crate::keeping::remembered;
+use crate::missing::Missing;
 use crate::sound::is_sound;
 use crate::told::told;
 use cell_versions::Version;
 use cube_fixed::Value;
 use memo_cells::Memory;
 use rule_evaluate::{Ask, Given, Refs};
+use std::alloc::Global;
 
-/// What the evaluation of a cell is answered: at once, from the list, or from the memory. Else the question is a fault.
+// The most questions that a frame holds back while it waits, where so many are answered: few at first, since many frames
+// may wait for their first answer at the same time.
+fn most_pending(answered: usize) -> usize {
+    answered.saturating_mul(3).saturating_add(8)
+}
+
+/// What the evaluation of a cell is answered: from the list, at once, or from the memory. Else the question is missing.
 #[derive(Drop)]
 pub(crate) struct Answers<'a> {
+    alloc: Global,
     version: &'a Version,
     known: &'a [(Ask, Value)],
     cell: u64,
@@ -35,24 +45,43 @@ impl<'a> std::marker::Model for Answers<'a> {
 
 impl<'a> Answers<'a> {
     /// For this cell, with these answers.
-    pub(crate) fn new(version: &'a Version, known: &'a [(Ask, Value)], cell: u64) -> Answers<'a>
+    pub(crate) fn new(
+        alloc: Global,
+        version: &'a Version,
+        known: &'a [(Ask, Value)],
+        cell: u64,
+    ) -> Answers<'a>
         requires { AreRight version.now known.now }
         ensures { result ≡ record { version = version.now; known = known.now; cell = cell } }
     {
         Answers {
+            alloc,
             version,
             known,
             cell,
         }
     }
+
+    // The answer to a question that is told by the list alone.
+    fn listed(&self, question: Ask) -> Result<Value, Missing>
+        ensures value { IfOk result (λ v. listed self.now.known question ≡ Some v) }
+        ensures right { IfOk result (λ v. v ≡ answer_on self.now.version question) }
+        ensures fault { IfErr result (λ missing. (listed self.now.known question ≡ None)
+            × (missing.first ≡ question) × (missing.more.items ≡ [])) }
+    {
+        match Given::new(self.known).answer(question) {
+            Ok(value) => Ok(value),
+            Err(open) => Err(Missing::new(self.alloc, open)),
+        }
+    }
 }
 
 impl<'a, M: Memory> Refs<M> for Answers<'a> {
-    ghost use Rattle.cell_values.specs.Inside.Answers.{AnswerTerms, IsMissing, answered, may_ask};
+    ghost use Rattle.cell_values.specs.Inside.Answers.{AnswerTerms, AreMissing, answered, may_ask};
     ghost use Rattle.memo_cells.specs.Knowledge.{Grew};
     ghost use Rattle.cell_values.specs.Inside.Growth.{grew-same, grew-later};
 
-    type Fault = Ask;
+    type Fault = Missing;
 
     ghost Terms = { AnswerTerms };
 
@@ -62,33 +91,39 @@ impl<'a, M: Memory> Refs<M> for Answers<'a> {
 
     ghost may_ask = { may_ask };
 
-    ghost may_fail = { λ terms question. IsMissing terms.listed question };
+    ghost may_fail = { λ terms missing. AreMissing terms.listed missing };
 
     ghost later = { λ before after. Grew (M.known before) (M.known after) };
 
-    fn value(&self, memory: &mut M, cell: u64) -> Result<Value, Ask> {
-        if let Some(value) = told(self.version, cell) {
-            return Ok(value);
-        }
-        if let Ok(value) = Given::new(self.known).value(&mut (), cell) {
-            return Ok(value);
-        }
-        match remembered(self.version, memory, cell) {
-            Some(value) => Ok(value),
-            None => Err(Ask::Value(cell)),
+    fn value(&self, memory: &mut M, cell: u64) -> Result<Value, Missing> {
+        match self.listed(Ask::Value(cell)) {
+            Ok(value) => Ok(value),
+            Err(missing) => {
+                if let Some(value) = told(self.version, cell) {
+                    return Ok(value);
+                }
+                match remembered(self.version, memory, cell) {
+                    Some(value) => Ok(value),
+                    None => Err(missing),
+                }
+            }
         }
     }
 
-    fn base(&self, memory: &mut M, cell: u64) -> Result<Value, Ask> {
+    fn base(&self, memory: &mut M, cell: u64) -> Result<Value, Missing> {
         is_sound(self.version);
         if self.version.model().space().is_leaf(cell) {
             return Ok(Value::Num(self.version.store().get(cell)));
         }
-        Given::new(self.known).base(&mut (), cell)
+        self.listed(Ask::Base(cell))
     }
 
-    fn children(&self, memory: &mut M, cell: u64, dim: u32) -> Result<Value, Ask> {
-        Given::new(self.known).children(&mut (), cell, dim)
+    fn children(&self, memory: &mut M, cell: u64, dim: u32) -> Result<Value, Missing> {
+        self.listed(Ask::Children(cell, dim))
+    }
+
+    fn merge(&self, memory: &M, first: Missing, second: Missing) -> Missing {
+        first.with(second, most_pending(self.known.len()))
     }
 
     ghost later_same = { λ m. grew-same (M.known m) };

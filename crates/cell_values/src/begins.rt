@@ -13,9 +13,11 @@ use crate::sound::is_sound;
 use cell_versions::Version;
 use cube_fixed::Value;
 use rule_evaluate::Ask;
+use std::alloc::Global;
 
 /// The evaluation of a cell that this statement governs, of which no question is answered yet.
 pub(crate) fn evaluation(
+    alloc: Global,
     version: &Version,
     cell: u64,
     statement: u32,
@@ -32,6 +34,7 @@ pub(crate) fn evaluation(
         statement,
         known,
         asked: None,
+        pending: Vec::new(alloc),
     })
 }
 

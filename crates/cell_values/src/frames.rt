@@ -11,6 +11,8 @@ pub struct Evaluation {
     pub(crate) known: Vec<(Ask, Value)>,
     /// The question that waits for its answer.
     pub(crate) asked: Option<Ask>,
+    /// The questions that are asked after it.
+    pub(crate) pending: Vec<Ask>,
 }
 
 /// The stored or fed leaf cells below a cell are added up.

@@ -20,6 +20,7 @@ mod keeping;
 mod laws;
 mod leaves;
 mod machine;
+mod missing;
 mod read;
 mod sound;
 mod told;

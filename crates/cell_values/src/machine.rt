@@ -90,7 +90,8 @@ impl<'a> Reader<'a> {
         let model = self.version.model();
         match governing(model, cell) {
             Some(statement) => {
-                Opened::Begun(evaluation(self.version, cell, statement, self.list()))
+                let known = self.list();
+                Opened::Begun(evaluation(self.alloc, self.version, cell, statement, known))
             }
             None => {
                 if model.space().is_leaf(cell) {
@@ -140,7 +141,7 @@ impl<'a, M: Memory, L: Ledger> Problem<M, Steps<L>> for Reader<'a> {
         frame: &mut Frame,
         question: Ask,
     ) -> Result<Turn<Ask, Value>, AllocError> {
-        Ok(go_on(self.version, memory, count, frame, question))
+        Ok(go_on(self.alloc, self.version, memory, count, frame, question))
     }
 
     fn open(&mut self, memory: &mut M, question: Ask) -> Result<Opened<Value, Frame>, AllocError> {

@@ -149,7 +149,7 @@ fn governed_value<M: Memory, L: Ledger>(
         return Ok(value);
     }
     let mut reader = Reader::new(alloc, version);
-    let frame = evaluation(version, cell, statement, reader.list());
+    let frame = evaluation(alloc, version, cell, statement, reader.list());
     answer(&mut reader, memory, steps, alloc, frame, Ask::Value(cell))
 }
 

@@ -11,11 +11,12 @@ use cube_fixed::{Steps, Value};
 use memo_cells::Memory;
 use rule_evaluate::Ask;
 use solver::Turn;
-use std::alloc::AllocError;
+use std::alloc::{AllocError, Global};
 use std::sync::ledger::Ledger;
 
 /// Goes on with a frame, up to the answer to its question or up to the next question.
 pub(crate) fn go_on<M: Memory, L: Ledger>(
+    alloc: Global,
     version: &Version,
     memory: &mut M,
     steps: &mut Steps<L>,
@@ -32,7 +33,7 @@ pub(crate) fn go_on<M: Memory, L: Ledger>(
     ensures grew { Grew (M.known memory.old) (M.known memory.new) }
 {
     match frame {
-        Frame::Evaluation(evaluation) => match evaluation.attempt(version, memory, steps) {
+        Frame::Evaluation(evaluation) => match evaluation.go_on(alloc, version, memory, steps) {
             Ok(value) => Turn::Done(value),
             Err(asked) => {
                 evaluation.asked = Some(asked);

@@ -36,6 +36,10 @@ impl<'a> Refs<()> for Plain<'a> {
         Ok(self.children_of(cell, dim as usize))
     }
 
+    fn merge(&self, memory: &(), first: Never, second: Never) -> Never {
+        first
+    }
+
     ghost later_same = { λ m. tt };
 
     ghost later_later = { λ a b c ab bc. tt };

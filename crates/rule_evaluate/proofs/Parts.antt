@@ -1,5 +1,5 @@
 -- The courses of a formula's parts: what is asked for a part is asked for the formula, and its value is theirs.
-use Rattle.std.proofs.Common.{◌≡◌, sym, ap, ◌∙◌, subst, Bool, true, false, ◌&&◌, ◌||◌, IfOk, Result}
+use Rattle.std.proofs.Common.{◌≡◌, sym, ap, ◌∙◌, subst, Bool, true, false, ◌&&◌, ◌||◌, IfOk, Result, Ok}
 use Rattle.std.specs.Bool.{if◌then◌else◌}
 use Rattle.cube_fixed.specs.declared.value.Value.{Value}
 use Rattle.rule_laws.specs.declared.formula.Formula.{Formula}
@@ -107,3 +107,6 @@ module _ (s : Sources) (rest : Value) where
 -- what comes out of a call comes out of the whole, where they agree
 pub ok_by : {V F : Type 0} (result : Result V F) (x y : V) → x ≡ y → IfOk result (λ v. v ≡ x) → IfOk result (λ v. v ≡ y)
 ok_by result x y same is = subst (λ z. IfOk result (λ v. v ≡ z)) same is
+
+pub ok_is : {V F : Type 0} (result : Result V F) (a x : V) → result ≡ Ok a → IfOk result (λ v. v ≡ x) → a ≡ x
+ok_is result a x is value = subst (λ r. IfOk r (λ v. v ≡ x)) is value

@@ -1,4 +1,4 @@
-ghost use Rattle.std.specs.Prelude.{◌≡◌, true, false, IfOk, IfErr};
+ghost use Rattle.std.specs.Prelude.{◌≡◌, true, false, Ok, IfOk, IfErr};
 ghost use Rattle.rule_model.specs.Input.{has_continue};
 ghost use Rattle.rule_evaluate.specs.Inside.Scene.{sources_at, course_at, trial_at};
 
@@ -6,6 +6,30 @@ use crate::here::Here;
 use crate::refs::Refs;
 use cube_fixed::Value;
 use rule_laws::{Formula, Reference, Truth};
+
+// Two values, or what stopped one of them. Where both were stopped, the faults are merged.
+fn both<M, R: Refs<M>>(
+    left: Result<Value, R::Fault>,
+    right: Result<Value, R::Fault>,
+    refs: &R,
+    memory: &M,
+) -> Result<(Value, Value), R::Fault>
+    requires left { IfErr left (λ e. R.may_fail (R.terms refs.now memory.now) e) }
+    requires right { IfErr right (λ e. R.may_fail (R.terms refs.now memory.now) e) }
+    ensures values { IfOk result (λ pair. (left ≡ Ok pair.0) × (right ≡ Ok pair.1)) }
+    ensures fault { IfErr result (λ e. R.may_fail (R.terms refs.now memory.now) e) }
+{
+    match left {
+        Ok(left) => match right {
+            Ok(right) => Ok((left, right)),
+            Err(fault) => Err(fault),
+        },
+        Err(first) => match right {
+            Ok(_) => Err(first),
+            Err(second) => Err(refs.merge(memory, first, second)),
+        },
+    }
+}
 
 /// What `STET` gives.
 #[tactic(auto, unfolding(crate::specs::Course::sources_of))]
@@ -66,7 +90,8 @@ fn children<M, R: Refs<M>>(
     }
 }
 
-/// What a formula gives, where the statements after it give `rest`.
+/// What a formula gives, where the statements after it give `rest`. Both operands of an operation are evaluated, also
+/// where the first is stopped: so one evaluation asks all that it needs whatever the answers are.
 #[cycle(value)]
 pub(crate) fn value_of<M, R: Refs<M>>(
     here: &Here,
@@ -90,8 +115,9 @@ pub(crate) fn value_of<M, R: Refs<M>>(
         Formula::Children(dim) => children(here, *dim, refs, memory),
         Formula::Ref(reference) => named(here, reference, refs, memory),
         Formula::Binary(op, left, right) => {
-            let left = value_of(here, rest, left.get(), refs, memory)?;
-            let right = value_of(here, rest, right.get(), refs, memory)?;
+            let left = value_of(here, rest, left.get(), refs, memory);
+            let right = value_of(here, rest, right.get(), refs, memory);
+            let (left, right) = both(left, right, refs, memory)?;
             Ok(op.apply(left, right))
         }
         Formula::Unary(fun, inner) => {
@@ -127,8 +153,9 @@ pub(crate) fn holds<M, R: Refs<M>>(
 {
     match truth {
         Truth::Compare(rel, left, right) => {
-            let left = value_of(here, rest, left, refs, memory)?;
-            let right = value_of(here, rest, right, refs, memory)?;
+            let left = value_of(here, rest, left, refs, memory);
+            let right = value_of(here, rest, right, refs, memory);
+            let (left, right) = both(left, right, refs, memory)?;
             Ok(rel.holds(left, right))
         }
         Truth::And(left, right) => {

@@ -29,8 +29,9 @@ impl<'a> Given<'a> {
         Given { known }
     }
 
+    /// The answer to a question; the question itself where none is known.
     #[tactic(auto, unfolding(crate::specs::Known::answer_in))]
-    fn answer(&self, question: Ask) -> Result<Value, Ask>
+    pub fn answer(&self, question: Ask) -> Result<Value, Ask>
         ensures { result ≡ answer_in self.now question }
     {
         for (asked, value) in self.known {
@@ -106,6 +107,10 @@ impl<'a> Refs<()> for Given<'a> {
         ensures fault { IfErr result (λ question. listed self.now question ≡ None) }
     {
         self.answer(Ask::Children(cell, dim))
+    }
+
+    fn merge(&self, memory: &(), first: Ask, second: Ask) -> Ask {
+        first
     }
 
     ghost later_same = { λ m. tt };

@@ -50,6 +50,12 @@ pub trait Refs<M> {
         ensures terms { terms self.now memory.new ≡ terms self.now memory.old }
         ensures later { later memory.old memory.new };
 
+    /// One fault for two, of which the first came before the second.
+    fn merge(&self, memory: &M, first: Self::Fault, second: Self::Fault) -> Self::Fault
+        requires first { may_fail (terms self.now memory.now) first }
+        requires second { may_fail (terms self.now memory.now) second }
+        ensures { may_fail (terms self.now memory.now) result };
+
     ghost later_same: { (m : M) → later m m };
 
     ghost later_later: { (a b c : M) → later a b → later b c → later a c };

@@ -1,6 +1,6 @@
 -- What the evaluation of a cell is answered.
 use Rattle.std.specs.Prelude.{◌≡◌, ℕ, ◌==◌, nat_lt, Bool, not, ◌&&◌, ◌||◌, None, is_some, is_none}
-use Rattle.std.specs.Prelude.{length, Contains, if◌then◌else◌}
+use Rattle.std.specs.Prelude.{length, All, if◌then◌else◌}
 use Rattle.cell_store.specs.Entries.{cells_of}
 use Rattle.cell_versions.specs.Versions.{NumberedVersion}
 use Rattle.cube_fixed.specs.declared.value.Value.{Value}
@@ -14,7 +14,8 @@ use Rattle.rule_model.specs.Governing.{governing_from}
 use Rattle.rule_model.specs.Targets.{parts_at}
 use Rattle.sparse_sum.specs.Live.{is_live}
 use Rattle.cell_values.specs.Reading.{value_on}
-use Rattle.cell_values.specs.Inside.Questions.{IsAsked, base_on, children_on, depth_on, is_grounded, asks_on}
+use Rattle.cell_values.specs.declared.missing.Missing.{Missing}
+use Rattle.cell_values.specs.Inside.Questions.{base_on, children_on, depth_on, is_grounded, LeadsTo}
 
 -- the evaluation of a cell, with the answers that are listed for it
 pub record ListedAnswers : Type 0 where
@@ -61,6 +62,10 @@ may_ask terms (of_children cell dim) =
 
 -- a question that the evaluation leads to, and that isn't answered yet
 pub record IsMissing (at : ListedAnswers) (question : Ask) : Type 0 where
-  pub is_asked : IsAsked at.version question
-  pub leads : Contains (asks_on at.version (of_value at.cell)) question
+  pub leads : LeadsTo at.version at.cell question
   pub unlisted : listed at.known question ≡ None
+
+-- questions that the evaluation leads to, of which the first isn't answered yet
+pub record AreMissing (at : ListedAnswers) (missing : Missing) : Type 0 where
+  pub first : IsMissing at missing.first
+  pub more : All (LeadsTo at.version at.cell) missing.more.items

@@ -19,7 +19,7 @@ use Rattle.cell_values.specs.declared.frames.Frame.{Frame}
 use Rattle.cell_values.specs.declared.frames.Frame.TheVariants as frame
 use Rattle.cell_values.specs.Reading.{AreValuesOn}
 use Rattle.cell_values.specs.Inside.Questions.{Setting, IsQuestion, answer_on, asks_on, components_on, cost_on}
-use Rattle.cell_values.specs.Inside.Questions.{values_of}
+use Rattle.cell_values.specs.Inside.Questions.{values_of, LeadsTo}
 use Rattle.cell_values.specs.Inside.Sums.{IsSum}
 
 -- the listed answers are right
@@ -41,12 +41,14 @@ leaves_left version sum = left version.model.space (cells_of version.stored) ver
 abbrev pub components_left : NumberedVersion → ComponentSum → List (ℕ × ℤ)
 components_left version sum = components_on version sum.cell sum.dim sum.next
 
--- an evaluation of a cell's statements, from the one that governs it on, with right answers
+-- an evaluation of a cell's statements, from the one that governs it on, with right answers, and with questions that
+-- it leads to
 pub record IsEvaluating (version : NumberedVersion) (evaluation : Evaluation) (question : Ask) : Type 0 where
   pub asked : question ≡ of_value evaluation.cell
   pub is_cell : IsCell version.model.space evaluation.cell
   pub governs : governing_from version.model evaluation.cell 0 ≡ Some evaluation.statement
   pub right : AreRight version evaluation.known.items
+  pub pending : All (LeadsTo version evaluation.cell) evaluation.pending.items
 
 -- the frame is a state of the work on the question
 abbrev pub IsWork : NumberedVersion → Frame → Ask → Type 0

@@ -1,6 +1,6 @@
 -- The questions that come up while a value is worked out, their answers, and how much work each is.
 use Rattle.std.specs.Prelude.{◌≡◌, ℕ, suc, ◌+◌, ◌<◌, nat_lt, Bool, true, false, ℤ, List, [], ◌∷◌, ◌++◌, map, filter}
-use Rattle.std.specs.Prelude.{drop, length}
+use Rattle.std.specs.Prelude.{drop, length, Contains}
 use Rattle.std.specs.List.{list_all, range_with_len}
 use Rattle.cell_store.specs.Entries.{cells_of}
 use Rattle.cell_versions.specs.Versions.{NumberedVersion}
@@ -100,3 +100,8 @@ work_on version = table_by_rounds 0 (work_by version) (λ question. suc (level_o
 -- the work on these questions, and one more for each
 unfoldable pub cost_on : NumberedVersion → List Ask → ℕ
 cost_on version asks = cost_by (work_on version) asks
+
+-- the evaluation of a cell leads to a question that work can begin on
+pub record LeadsTo (version : NumberedVersion) (cell : ℕ) (question : Ask) : Type 0 where
+  pub is_asked : IsAsked version question
+  pub leads : Contains (asks_on version (of_value cell)) question

@@ -5,5 +5,5 @@ use Rattle.cell_values.proofs.begins.evaluation.Goals as goal
 
 pub returns-clause-left : goal.returns-clause-left
 returns-clause-left c =
-    let e : Evaluation = record { cell = c.args.cell; statement = c.args.statement; known = c.args.known; asked = None } in
-    (evaluation-opens c.args.version.now e c.args.cell c.args.statement c.requires.cell c.requires.governs refl refl c.requires.known refl).1
+    let e : Evaluation = record { cell = c.args.cell; statement = c.args.statement; known = c.args.known; asked = None; pending = c.new.result } in
+    (evaluation-opens c.args.version.now e c.args.cell c.args.statement c.requires.cell c.requires.governs refl refl c.requires.known refl c.new.ensures.items).1

@@ -14,9 +14,9 @@ pub returns-in_ok-push-in-Evaluation-clause-left : goal.returns-in_ok-push-in-Ev
 returns-in_ok-push-in-Evaluation-clause-left c =
     let v = c.args.version.now in
     let e = c.in-Evaluation.evaluation in
-    let after : Evaluation = record { cell = e.cell; statement = e.statement; known = c.push.new.self; asked = None } in
+    let after : Evaluation = record { cell = e.cell; statement = e.statement; known = c.push.new.self; asked = None; pending = e.pending } in
     let waits = subst (λ (f : Frame). IsWaiting v f c.args.question c.args.asked) c.in-Evaluation.is c.requires.waits in
-    let (work, less) = evaluation-answered v e after c.args.question c.args.asked c.args.answer.now waits c.requires.right refl refl c.in_ok-push-in-Evaluation.ensures.items refl in
+    let (work, less) = evaluation-answered v e after c.args.question c.args.asked c.args.answer.now waits c.requires.right refl refl c.in_ok-push-in-Evaluation.ensures.items refl refl in
     subst (λ (f : Frame). cost_on v (open_asks v c.push.new.self.items None e.cell) ≤ work_left v f) (sym c.in-Evaluation.is) less
 
 pub returns-in-Leaves-clause-work : goal.returns-in-Leaves-clause-work

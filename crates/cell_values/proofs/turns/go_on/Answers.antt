@@ -11,15 +11,16 @@ returns-in-Err-clause-turn g c =
     let v = c.args.version.now in
     let e = c.in-Evaluation.evaluation in
     let work = subst (λ (f : Frame). IsWork v f c.args.question) c.in-Evaluation.is c.requires.work in
-    let (asked, waits, less) = evaluation-waits v e c.args.question c.in-Err.asked work c.in-Err.ensures.missing in
-    (asked, waits, subst (λ (f : Frame). cost_on v (open_asks v e.known.items (Some c.in-Err.asked) e.cell) + work_on v c.in-Err.asked < work_left v f) (sym c.in-Evaluation.is) less)
+    let after = c.go_on.new.self in
+    let (asked, waits, less) = evaluation-waits v e after c.args.question c.in-Err.asked work c.in-Err.ensures.missing c.go_on.ensures.own c.go_on.ensures.known c.go_on.ensures.cell in
+    (asked, waits, subst (λ (f : Frame). cost_on v (open_asks v after.known.items (Some c.in-Err.asked) after.cell) + work_on v c.in-Err.asked < work_left v f) (sym c.in-Evaluation.is) less)
 
 pub returns-in-Some-clause-turn : goal.returns-in-Some-clause-turn
 returns-in-Some-clause-turn g c =
     let v = c.args.version.now in
     let work = subst (λ (f : Frame). IsWork v f c.args.question) c.in-Leaves.is c.requires.work in
-    let (asked, waits, less) = leaves-wait v c.in-Leaves.sum c.go_on.new.self c.args.question c.in-Some.cell work c.go_on.ensures.cell c.in-Some.ensures.stops in
-    (asked, waits, subst (λ (f : Frame). cost_on v (values_of (leaves_left v c.go_on.new.self)) + work_on v (of_value c.in-Some.cell) < work_left v f) (sym c.in-Leaves.is) less)
+    let (asked, waits, less) = leaves-wait v c.in-Leaves.sum c.go_on-in-Leaves.new.self c.args.question c.in-Some.cell work c.go_on-in-Leaves.ensures.cell c.in-Some.ensures.stops in
+    (asked, waits, subst (λ (f : Frame). cost_on v (values_of (leaves_left v c.go_on-in-Leaves.new.self)) + work_on v (of_value c.in-Some.cell) < work_left v f) (sym c.in-Leaves.is) less)
 
 pub returns-in-Some-go_on-clause-turn : goal.returns-in-Some-go_on-clause-turn
 returns-in-Some-go_on-clause-turn g c =
