@@ -13,8 +13,8 @@ use memo_cells::Memory;
 use rule_evaluate::{Ask, Given, Refs};
 use std::alloc::Global;
 
-// The most questions that a frame holds back while it waits, where so many are answered: few at first, since many frames
-// may wait for their first answer at the same time.
+// The most questions that a frame holds back while it waits, where so many are answered: few at first, since many
+// frames may wait for their first answer at the same time.
 fn most_pending(answered: usize) -> usize {
     answered.saturating_mul(3).saturating_add(8)
 }
@@ -62,7 +62,7 @@ impl<'a> Answers<'a> {
         }
     }
 
-    // The answer to a question that is told by the list alone.
+    // The answer that the list alone has to a question.
     fn listed(&self, question: Ask) -> Result<Value, Missing>
         ensures value { IfOk result (λ v. listed self.now.known question ≡ Some v) }
         ensures right { IfOk result (λ v. v ≡ answer_on self.now.version question) }

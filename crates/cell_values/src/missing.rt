@@ -24,7 +24,7 @@ impl Missing {
     }
 
     /// These questions and the other ones, where there are no more than `most` after the first. Else the other ones are
-    /// left out, as where memory is wanting, and come again.
+    /// left out, as when out of memory, and come again.
     pub(crate) fn with(mut self, mut other: Missing, most: usize) -> Missing
         ensures { (at : ListedAnswers) → AreMissing at self → AreMissing at other → AreMissing at result }
     {
