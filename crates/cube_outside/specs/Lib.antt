@@ -2,3 +2,4 @@ pub mod Counts
 pub mod Bytes
 pub mod NamedBytes
 pub mod Failing
+pub mod Seen

@@ -24,9 +24,9 @@ pub struct HostFiles<'a, R> {
 
 impl<'a, R: std::rt::Files> HostFiles<'a, R> {
     pub fn new(alloc: Global, rt: &'a R) -> HostFiles<'a, R>
-        ensures faults { ⟦<HostFiles<'a, R> as Files>⟧.faults result ≡ 0 }
-        ensures missed { ⟦<HostFiles<'a, R> as Files>⟧.missed result ≡ [] }
-        ensures asked { ⟦<HostFiles<'a, R> as Files>⟧.asked result ≡ [] }
+        ensures faults { (⟦<HostFiles<'a, R> as Files>⟧.seen result).faults ≡ 0 }
+        ensures missed { (⟦<HostFiles<'a, R> as Files>⟧.seen result).missed ≡ [] }
+        ensures asked { (⟦<HostFiles<'a, R> as Files>⟧.seen result).asked ≡ [] }
     {
         HostFiles {
             rt,
@@ -70,13 +70,12 @@ fn read_more<F: Read>(file: &mut F, bytes: &mut Vec<u8>) -> Result<bool, FileFau
 }
 
 impl<R: std::rt::Files> Files for HostFiles<'_, R> {
-    ghost known = { λ _. None };
-
-    ghost faults = { λ files. files.count };
-
-    ghost missed = { λ files. files.missed.items };
-
-    ghost asked = { λ files. map (λ name. name.items) files.asked.items };
+    ghost seen = { λ files. record {
+      known = None;
+      faults = files.count;
+      missed = files.missed.items;
+      asked = map (λ name. name.items) files.asked.items;
+    } };
 
     fn read(&mut self, alloc: Global, name: &str) -> Result<Vec<u8>, FileFault> {
         // The name is kept before the file is opened, so that a failure can always be named.

@@ -111,13 +111,12 @@ impl MemoryFiles {
 }
 
 impl Files for MemoryFiles {
-    ghost known = { λ files. Some (bytes_named files.pairs.items) };
-
-    ghost faults = { λ files. files.count };
-
-    ghost missed = { λ files. files.missed.items };
-
-    ghost asked = { λ files. map (λ name. name.items) files.asked.items };
+    ghost seen = { λ files. record {
+      known = Some (bytes_named files.pairs.items);
+      faults = files.count;
+      missed = files.missed.items;
+      asked = map (λ name. name.items) files.asked.items;
+    } };
 
     /// Fails exactly at a name that no pair has and at a call that was given to `fail_at`, out of memory aside.
     fn read(&mut self, alloc: Global, name: &str) -> Result<Vec<u8>, FileFault>

@@ -1,5 +1,5 @@
 -- Each cause has its status.
-use Rattle.std.proofs.Common.{◌≡◌, ℕ, List, [], ◌∷◌, Option, Some, inl, inr, refl, sym, ap, subst, ◌∙◌}
+use Rattle.std.proofs.Common.{◌≡◌, ℕ, List, Option, Some, inl, inr, refl, subst}
 use Rattle.run_passes.specs.declared.run_job.RunJob.{RunJob}
 use Rattle.file_passes.specs.declared.refusal.Refusal.{Refusal}
 use Rattle.cube_server.specs.declared.status.Status.{Status}
@@ -8,8 +8,9 @@ use Rattle.file_passes.specs.Course.{IsCourse}
 use Rattle.file_passes.specs.Outside.{Outside}
 use Rattle.file_passes.specs.Pass.{Readings, NotWords, Reads, Refuses}
 use Rattle.run_passes.specs.RefusalOrder.{run_of}
-use Rattle.cube_server.specs.Status.{IsOneOf}
-use Rattle.cube_words.specs.Words.{Plan, IsPlan}
+use Rattle.cube_server.specs.Answer.{HasNoPlan}
+use Rattle.cube_server.specs.Known.{RefusesFile, FindsJob}
+use Rattle.cube_server.specs.Status.{IsOrFault}
 use Rattle.cube_server.specs.Inside.Ending.{Ends}
 use Rattle.file_passes.proofs.OneCourse.{same_course}
 use Rattle.run_passes.proofs.PlanFacts.{one_run}
@@ -30,7 +31,7 @@ not_both_ends words map r s j refusal p finds q refuses =
     let same = same_course (run_of words) (one_run words) map r s p q (found_ends words r j finds) (refused_ends words s refusal refuses) in
     (one_run words).not_both s j (Refuses refusal) (subst (λ l. (run_of words).finds l j) same finds) refuses
 
-misfit_stops : (words : List (List ℕ)) (readings : Readings) → ((plan : Plan) → ¬ IsPlan words plan) → (run_of words).stops readings NotWords
+misfit_stops : (words : List (List ℕ)) (readings : Readings) → HasNoPlan words → (run_of words).stops readings NotWords
 misfit_stops words readings misfit = inl (misfit, refl)
 
 known_as : (words : List (List ℕ)) (o : Outside) (map : List ℕ → Option (List ℕ)) (readings : Readings) → o.known ≡ Some map
@@ -40,31 +41,25 @@ known_as words o map readings told course = subst (λ t. IsCourse (run_of words)
 -- ---- the two converses
 
 pub refuses-status : (words : List (List ℕ)) (o : Outside) (old new : Option (List ℕ)) (before after : ℕ) (status : Status)
-    → Ends words o old new before after status
-    → (map : List ℕ → Option (List ℕ)) (readings : Readings) (refusal : Refusal)
-    → o.known ≡ Some map → IsCourse (run_of words) (Some map) readings → (run_of words).stops readings (Refuses refusal)
-    → IsOneOf (Refused ∷ ReadFault ∷ WriteFault ∷ NoMemory ∷ []) status
-refuses-status words o old new before after Done ends map readings refusal told course refuses =
+    → Ends words o old new before after status → RefusesFile words o.known → IsOrFault Refused status
+refuses-status words o old new before after Done ends it =
     let done = ends.0.is in
-    absurd (not_both_ends words map done.readings readings done.job refusal (known_as words o map done.readings told done.course) done.accepted course refuses)
-refuses-status words o old new before after Usage ends map readings refusal told course refuses =
-    absurd ((one_run words).one_stop readings (Refuses refusal) NotWords refuses (misfit_stops words readings ends.0.is.misfit))
-refuses-status words o old new before after Refused ends map readings refusal told course refuses = inl refl
-refuses-status words o old new before after ReadFault ends map readings refusal told course refuses = inr (inl refl)
-refuses-status words o old new before after WriteFault ends map readings refusal told course refuses = inr (inr (inl refl))
-refuses-status words o old new before after NoMemory ends map readings refusal told course refuses = inr (inr (inr (inl refl)))
+    absurd (not_both_ends words it.content done.readings it.readings done.job it.refusal (known_as words o it.content done.readings it.is_known done.course) done.accepted it.course it.refuses)
+refuses-status words o old new before after Usage ends it =
+    absurd ((one_run words).one_stop it.readings (Refuses it.refusal) NotWords it.refuses (misfit_stops words it.readings ends.0.is.misfit))
+refuses-status words o old new before after Refused ends it = inl refl
+refuses-status words o old new before after ReadFault ends it = inr (inl refl)
+refuses-status words o old new before after WriteFault ends it = inr (inr (inl refl))
+refuses-status words o old new before after NoMemory ends it = inr (inr (inr (inl refl)))
 
 pub accepts-status : (words : List (List ℕ)) (o : Outside) (old new : Option (List ℕ)) (before after : ℕ) (status : Status)
-    → Ends words o old new before after status
-    → (map : List ℕ → Option (List ℕ)) (readings : Readings) (j : RunJob)
-    → o.known ≡ Some map → IsCourse (run_of words) (Some map) readings → (run_of words).finds readings j
-    → IsOneOf (Done ∷ ReadFault ∷ WriteFault ∷ NoMemory ∷ []) status
-accepts-status words o old new before after Done ends map readings j told course finds = inl refl
-accepts-status words o old new before after Usage ends map readings j told course finds =
-    absurd ((one_run words).not_both readings j NotWords finds (misfit_stops words readings ends.0.is.misfit))
-accepts-status words o old new before after Refused ends map readings j told course finds =
+    → Ends words o old new before after status → FindsJob words o.known → IsOrFault Done status
+accepts-status words o old new before after Done ends it = inl refl
+accepts-status words o old new before after Usage ends it =
+    absurd ((one_run words).not_both it.readings it.job NotWords it.finds (misfit_stops words it.readings ends.0.is.misfit))
+accepts-status words o old new before after Refused ends it =
     let refused = ends.0.is in
-    absurd (not_both_ends words map readings refused.readings j refused.refusal course finds (known_as words o map refused.readings told refused.course) refused.refused)
-accepts-status words o old new before after ReadFault ends map readings j told course finds = inr (inl refl)
-accepts-status words o old new before after WriteFault ends map readings j told course finds = inr (inr (inl refl))
-accepts-status words o old new before after NoMemory ends map readings j told course finds = inr (inr (inr (inl refl)))
+    absurd (not_both_ends words it.content it.readings refused.readings it.job refused.refusal it.course it.finds (known_as words o it.content refused.readings it.is_known refused.course) refused.refused)
+accepts-status words o old new before after ReadFault ends it = inr (inl refl)
+accepts-status words o old new before after WriteFault ends it = inr (inr (inl refl))
+accepts-status words o old new before after NoMemory ends it = inr (inr (inr (inl refl)))

@@ -1,8 +1,10 @@
 -- Which text each end of a run allows, and what may have been written.
-use Rattle.std.specs.Prelude.{◌≡◌, ℕ, ℤ, List, [], ◌∷◌, ◌++◌, Option}
+use Rattle.std.specs.Prelude.{◌≡◌, ℕ, ℤ, List, [], ◌∷◌, ◌++◌, Option, String}
 use Rattle.std.specs.Io.KnownBytes.{Appends}
+use Rattle.std.specs.declared.alloc.Global.{Global}
 use Rattle.cube_outside.specs.Bytes.{AppendsPart}
 use Rattle.cube_outside.specs.Counts.{Rose}
+use Rattle.cube_outside.specs.Seen.{Seen}
 use Rattle.history.specs.declared.entry.Entry.{Entry}
 use Rattle.history.specs.declared.told.Told.{Told}
 use Rattle.history.specs.LegalHistory.{IsHistoryOf}
@@ -14,7 +16,7 @@ use Rattle.file_passes.specs.declared.refusal.Refusal.{Refusal}
 use Rattle.cube_server.specs.declared.status.Status.{Status}
 use Rattle.cube_server.specs.declared.status.Status.TheVariants.{Done, Usage, Refused, ReadFault, WriteFault, NoMemory}
 use Rattle.file_passes.specs.Course.{IsCourse, names_of}
-use Rattle.file_passes.specs.Outside.{Outside}
+use Rattle.file_passes.specs.Outside.{Outside, outside}
 use Rattle.cube_server.specs.Output.{output, refused_text, unread_text, usage_text}
 use Rattle.file_passes.specs.Pass.{Readings, Reads, Refuses}
 use Rattle.run_passes.specs.RefusalOrder.{run_of}
@@ -22,7 +24,7 @@ use Rattle.model_counts.specs.Counts.{accepted_text}
 use Rattle.rule_model.specs.BoundModel.{BoundModel}
 use Rattle.user_session.specs.declared.command.PlanCommand.{PlanCommand}
 use Rattle.cube_server.specs.Sample.{IsSummary}
-use Rattle.cube_words.specs.Words.{Plan, IsPlan}
+use Rattle.cube_words.specs.Words.{Plan, IsPlan, texts_of}
 
 -- the text is what the users were told, and the one history: a history that is legal, of which each user's replies are
 -- a run, each reply on the version at its place
@@ -53,8 +55,12 @@ pub record IsDone (words : List (List ℕ)) (o : Outside) (text : List ℕ) : Ty
   pub output : IsOutput job text
 
 -- the words aren't in the grammar
+abbrev pub HasNoPlan : List (List ℕ) → Type 0
+HasNoPlan words = (plan : Plan) → ¬ IsPlan words plan
+
+-- the words aren't in the grammar, and the text says how the program is called
 pub record IsUsage (words : List (List ℕ)) (o : Outside) (text : List ℕ) : Type 0 where
-  pub misfit : (plan : Plan) → ¬ IsPlan words plan
+  pub misfit : HasNoPlan words
   pub no_read_failed : o.after ≡ o.before
   pub asked : AsksJust o [] []
   pub is_text : text ≡ usage_text
@@ -99,3 +105,20 @@ pub record WritesPart (words : List (List ℕ)) (o : Outside) (old new : Option 
   pub text : List ℕ
   pub allowed : Allows words o status text
   pub part : AppendsPart old new text
+
+-- a text of this kind was written whole, by a run of these words: what was seen of the files, and the bytes that were
+-- written, at its start and at its end
+abbrev pub Wrote : {F S : Type 0} → (List (List ℕ) → Outside → List ℕ → Type 0)
+    → List (String Global) → (F → Seen) → F → F → (S → Option (List ℕ)) → S → S → Type 0
+Wrote Is words seen files files_after written out out_after =
+    Writes (Is (texts_of words) (outside seen files files_after)) (written out) (written out_after)
+
+-- such a run wrote the front of a text that another end allows
+abbrev pub WrotePart : {F S : Type 0}
+    → List (String Global) → (F → Seen) → F → F → (S → Option (List ℕ)) → S → S → Type 0
+WrotePart words seen files files_after written out out_after =
+    WritesPart (texts_of words) (outside seen files files_after) (written out) (written out_after)
+
+-- nothing was written
+abbrev pub WroteNothing : {S : Type 0} → (S → Option (List ℕ)) → S → S → Type 0
+WroteNothing written out out_after = Appends (written out) (written out_after) []

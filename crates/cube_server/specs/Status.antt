@@ -16,3 +16,11 @@ code_of NoMemory = 5
 abbrev pub IsOneOf : List Status → Status → Type 0
 IsOneOf [] status = ⊥
 IsOneOf (s ∷ rest) status = (status ≡ s) ⊎ IsOneOf rest status
+
+-- a read or a write failed, or memory ran out
+abbrev pub IsFault : Status → Type 0
+IsFault status = IsOneOf (ReadFault ∷ WriteFault ∷ NoMemory ∷ []) status
+
+-- the status is this one, unless a read or a write failed, or memory ran out
+abbrev pub IsOrFault : Status → Status → Type 0
+IsOrFault wanted status = IsOneOf (wanted ∷ ReadFault ∷ WriteFault ∷ NoMemory ∷ []) status

@@ -37,7 +37,7 @@ pub(crate) fn answer_of<R: Threads + Wait + Sync, F: Files, G: Gate + Sync>(
     gate: &G,
 ) -> Result<Answer, AllocError>
     ensures { IfOk result (λ answer. Allows (texts_of words.now)
-        (outside F.known F.faults F.missed F.asked files.old files.new) answer.status (joined answer.pieces.items)) }
+        (outside F.seen files.old files.new) answer.status (joined answer.pieces.items)) }
 {
     let mut readings = Readings::new(alloc);
     match run_passes(alloc, words, files, &mut readings) {

@@ -19,7 +19,7 @@ pub(crate) fn run<R: Threads + Wait + Sync, F: Files, S: Sink, G: Gate + Sync>(
     out: &mut S,
     gate: &G,
 ) -> Status
-    ensures { Ends (texts_of words.now) (outside F.known F.faults F.missed F.asked files.old files.new)
+    ensures { Ends (texts_of words.now) (outside F.seen files.old files.new)
         (S.written out.old) (S.written out.new) (S.faults out.old) (S.faults out.new) result }
 {
     let Ok(answer) = answer_of(rt, alloc, words, files, gate) else {

@@ -1,16 +1,10 @@
-ghost use Rattle.std.specs.Prelude.{◌≡◌, [], ◌∷◌, Some, ◌<◌, ◌⊎◌};
-ghost use Rattle.std.specs.Io.KnownBytes.{Appends};
+ghost use Rattle.std.specs.Prelude.{◌≡◌, [], ◌∷◌, ◌<◌, ◌⊎◌};
 ghost use Rattle.cube_outside.specs.Counts.{Rose};
-ghost use Rattle.cube_server.specs.Answer.{IsDone, IsUsage, IsRefused, IsReadFault, Writes, WritesPart};
-ghost use Rattle.file_passes.specs.Course.{IsCourse};
-ghost use Rattle.file_passes.specs.Outside.{outside};
-ghost use Rattle.file_passes.specs.Pass.{Readings};
-ghost use Rattle.file_passes.specs.Pass.{Refuses};
-ghost use Rattle.run_passes.specs.RefusalOrder.{run_of};
-ghost use Rattle.cube_server.specs.Status.{IsOneOf};
-ghost use Rattle.cube_words.specs.Words.{Plan, IsPlan, texts_of};
-ghost use Rattle.run_passes.specs.declared.run_job.RunJob.{RunJob};
-ghost use Rattle.file_passes.specs.declared.refusal.Refusal.{Refusal};
+ghost use Rattle.cube_server.specs.Answer.{IsDone, IsUsage, IsRefused, IsReadFault, HasNoPlan};
+ghost use Rattle.cube_server.specs.Answer.{Wrote, WrotePart, WroteNothing};
+ghost use Rattle.cube_server.specs.Known.{RefusesFile, FindsJob};
+ghost use Rattle.cube_server.specs.Status.{IsOneOf, IsFault, IsOrFault};
+ghost use Rattle.cube_words.specs.Words.{texts_of};
 ghost use Rattle.cube_server.specs.declared.status.Status.TheVariants.{Done, Usage, Refused, ReadFault, WriteFault};
 ghost use Rattle.cube_server.specs.declared.status.Status.TheVariants.{NoMemory};
 
@@ -40,36 +34,25 @@ pub fn run_cubes<R: Threads + Wait + AllocGlobal + Sync, F: Files, S: Sink, G: G
     gate: &G,
 ) -> Status
     // What each status says, of the text that was written and of the files.
-    ensures done { result ≡ Done → Writes (IsDone (texts_of words.now)
-        (outside F.known F.faults F.missed F.asked files.old files.new)) (S.written out.old) (S.written out.new) }
-    ensures usage { result ≡ Usage → Writes (IsUsage (texts_of words.now)
-        (outside F.known F.faults F.missed F.asked files.old files.new)) (S.written out.old) (S.written out.new) }
-    ensures refused { result ≡ Refused → Writes (IsRefused (texts_of words.now)
-        (outside F.known F.faults F.missed F.asked files.old files.new)) (S.written out.old) (S.written out.new) }
-    ensures read_fault { result ≡ ReadFault → Writes (IsReadFault (texts_of words.now)
-        (outside F.known F.faults F.missed F.asked files.old files.new)) (S.written out.old) (S.written out.new) }
-    ensures write_fault { result ≡ WriteFault → WritesPart (texts_of words.now)
-        (outside F.known F.faults F.missed F.asked files.old files.new) (S.written out.old) (S.written out.new)
+    ensures done { result ≡ Done → Wrote IsDone words.now F.seen files.old files.new S.written out.old out.new }
+    ensures usage { result ≡ Usage → Wrote IsUsage words.now F.seen files.old files.new S.written out.old out.new }
+    ensures refused { result ≡ Refused →
+        Wrote IsRefused words.now F.seen files.old files.new S.written out.old out.new }
+    ensures read_fault { result ≡ ReadFault →
+        Wrote IsReadFault words.now F.seen files.old files.new S.written out.old out.new }
+    ensures write_fault { result ≡ WriteFault →
+        WrotePart words.now F.seen files.old files.new S.written out.old out.new
         × Rose (S.faults out.old) (S.faults out.new) }
-    ensures no_memory { result ≡ NoMemory → Appends (S.written out.old) (S.written out.new) []
-        ⊎ WritesPart (texts_of words.now) (outside F.known F.faults F.missed F.asked files.old files.new)
-        (S.written out.old) (S.written out.new) }
+    ensures no_memory { result ≡ NoMemory → WroteNothing S.written out.old out.new
+        ⊎ WrotePart words.now F.seen files.old files.new S.written out.old out.new }
 
     // Which status each cause has, out of memory aside.
-    ensures a_read_failed { F.faults files.old < F.faults files.new →
-        IsOneOf (ReadFault ∷ WriteFault ∷ NoMemory ∷ []) result }
+    ensures a_read_failed { (F.seen files.old).faults < (F.seen files.new).faults → IsFault result }
     ensures a_write_failed { S.faults out.old < S.faults out.new → result ≡ WriteFault }
     ensures no_write_failed { (result ≡ WriteFault) ⊎ (S.faults out.new ≡ S.faults out.old) }
-    ensures off_the_grammar { ((plan : Plan) → ¬ IsPlan (texts_of words.now) plan) →
-        IsOneOf (Usage ∷ WriteFault ∷ NoMemory ∷ []) result }
-    ensures a_pass_refuses { (content : _) (readings : Readings) (refusal : Refusal) →
-        F.known files.old ≡ Some content → IsCourse (run_of (texts_of words.now)) (Some content) readings →
-        (run_of (texts_of words.now)).stops readings (Refuses refusal) →
-        IsOneOf (Refused ∷ ReadFault ∷ WriteFault ∷ NoMemory ∷ []) result }
-    ensures nothing_refused { (content : _) (readings : Readings) (job : RunJob) →
-        F.known files.old ≡ Some content → IsCourse (run_of (texts_of words.now)) (Some content) readings →
-        (run_of (texts_of words.now)).finds readings job →
-        IsOneOf (Done ∷ ReadFault ∷ WriteFault ∷ NoMemory ∷ []) result }
+    ensures off_the_grammar { HasNoPlan (texts_of words.now) → IsOneOf (Usage ∷ WriteFault ∷ NoMemory ∷ []) result }
+    ensures a_pass_refuses { RefusesFile (texts_of words.now) (F.seen files.old).known → IsOrFault Refused result }
+    ensures nothing_refused { FindsJob (texts_of words.now) (F.seen files.old).known → IsOrFault Done result }
 {
     run(rt, rt.alloc(), words, files, out, gate)
 }

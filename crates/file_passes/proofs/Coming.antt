@@ -1,9 +1,9 @@
 -- What one pass after another comes to.
 use Rattle.std.proofs.Common.{◌≡◌, ℕ, List, Result, Ok, Err, refl, ◌∙◌, subst, inl, inr}
 use Rattle.cube_outside.specs.Counts.{Rose}
+use Rattle.cube_outside.specs.Seen.{Seen}
 use Rattle.file_passes.specs.declared.halt.Halt.{Halt}
 use Rattle.file_passes.specs.declared.halt.Halt.TheVariants as halts
-use Rattle.file_passes.specs.Course.{Contents}
 use Rattle.file_passes.specs.Outside.{Outside, outside}
 use Rattle.file_passes.specs.Pass.{Readings, Pass, Judgement, found, judged, ◌>>=◌}
 use Rattle.file_passes.specs.Reading.{IsReadOn, Goes}
@@ -47,27 +47,27 @@ pub comes-mapped : {A B : Type 0} (P : Pass A) (f : A → B) (o : Outside) (old 
     → Comes P o old new (Ok a) → Comes (P >>= λ x. found (f x)) o old new (Ok (f a))
 comes-mapped P f o old new a came = (goes-later P (λ x. found (f x)) o old new came.0, (a, came.1, refl))
 
-module _ {F : Type 0} (known : F → Contents) (faults : F → ℕ) (missed : F → List ℕ) (asked : F → List (List ℕ)) where
+module _ {F : Type 0} (seen : F → Seen) where
   abbrev from : F → F → Outside
-  from a b = outside known faults missed asked a b
+  from a b = outside seen a b
 
   pub goes-found : {A : Type 0} (x : A) (a : F) (readings : Readings) → Goes (found x) (from a a) readings readings
-  goes-found x a readings = (on-refl (found x) (known a) readings, refl, λ base is. is)
+  goes-found x a readings = (on-refl (found x) (seen a).known readings, refl, λ base is. is)
 
   -- the files that the first pass left are those that the second began with
-  module _ {A B : Type 0} (P : Pass A) (K : A → Pass B) (keeps : IsKept P) (a b c : F) (old mid new : Readings) (x : A) (same : known b ≡ known a) (went : Goes P (from a b) old mid) (finds : P.finds mid x) where
-    on : IsReadOn (K x) (known b) mid new → IsReadOn (P >>= K) (known a) old new
-    on then = on-bind P K keeps (known a) x old mid new finds went.0 (subst (λ k. IsReadOn (K x) k mid new) same then)
+  module _ {A B : Type 0} (P : Pass A) (K : A → Pass B) (keeps : IsKept P) (a b c : F) (old mid new : Readings) (x : A) (same : (seen b).known ≡ (seen a).known) (went : Goes P (from a b) old mid) (finds : P.finds mid x) where
+    on : IsReadOn (K x) (seen b).known mid new → IsReadOn (P >>= K) (seen a).known old new
+    on then = on-bind P K keeps (seen a).known x old mid new finds went.0 (subst (λ k. IsReadOn (K x) k mid new) same then)
 
-    kept : IsReadOn (K x) (known b) mid new → P.finds new x
-    kept then = keeps mid new x (grows-on (K x) (known b) mid new then) finds
+    kept : IsReadOn (K x) (seen b).known mid new → P.finds new x
+    kept then = keeps mid new x (grows-on (K x) (seen b).known mid new then) finds
 
     goes : Goes (K x) (from b c) mid new → Goes (P >>= K) (from a c) old new
     goes then = (on then.0, then.1 ∙ went.1, λ base is. then.2 base (went.2 base is))
 
     halts_on : (h : Halt) → P.finds new x → Halts (K x) (from b c) mid new h → Halts (P >>= K) (from a c) old new h
     halts_on halts.NotWords is h = (inr (x, is, h.0), h.1 ∙ went.1, λ base begun. h.2 base (went.2 base begun))
-    halts_on halts.Unread is h = (inr (x, is, h.0), subst (λ n. Rose n (faults c)) went.1 h.1, λ base begun. h.2 base (went.2 base begun))
+    halts_on halts.Unread is h = (inr (x, is, h.0), subst (λ n. Rose n (seen c).faults) went.1 h.1, λ base begun. h.2 base (went.2 base begun))
     halts_on (halts.Refused refusal) is h = (inr (x, is, h.0), h.1 ∙ went.1, λ base begun. h.2 base (went.2 base begun))
     halts_on halts.Memory is h = tt
 
@@ -81,6 +81,6 @@ module _ {F : Type 0} (known : F → Contents) (faults : F → ℕ) (missed : F 
 
   -- one pass has found something, and then another comes to this
   pub comes-behind : {A B : Type 0} (P : Pass A) (K : A → Pass B) → IsKept P → (a b c : F) (old mid new : Readings) (x : A) (r : Result B Halt)
-      → known b ≡ known a → Comes P (from a b) old mid (Ok x) → Comes (K x) (from b c) mid new r → Comes (P >>= K) (from a c) old new r
+      → (seen b).known ≡ (seen a).known → Comes P (from a b) old mid (Ok x) → Comes (K x) (from b c) mid new r → Comes (P >>= K) (from a c) old new r
   comes-behind P K kept a b c old mid new x r same came then =
       comes-next P K kept a b c old mid new x same came.0 came.1 r then

@@ -16,8 +16,8 @@ pub fn obtain<F: Files>(
     readings: &mut Readings,
     name: &str,
 ) -> Result<(), Halt>
-    ensures known { F.known files.new ≡ F.known files.old }
-    ensures through { ComesThrough (file name.now) (outside F.known F.faults F.missed F.asked files.old files.new)
+    ensures known { (F.seen files.new).known ≡ (F.seen files.old).known }
+    ensures through { ComesThrough (file name.now) (outside F.seen files.old files.new)
         readings.old readings.new result }
 {
     match readings.read(alloc, files, name) {
@@ -33,9 +33,9 @@ pub fn obtain_all<F: Files>(
     readings: &mut Readings,
     names: &[String],
 ) -> Result<(), Halt>
-    ensures known { F.known files.new ≡ F.known files.old }
+    ensures known { (F.seen files.new).known ≡ (F.seen files.old).known }
     ensures through { ComesThrough (files_named (texts_of names.now))
-        (outside F.known F.faults F.missed F.asked files.old files.new) readings.old readings.new result }
+        (outside F.seen files.old files.new) readings.old readings.new result }
 {
     for name in names {
         if let Err(halt) = obtain(alloc, files, readings, name.as_str()) {

@@ -122,14 +122,14 @@ impl Readings {
         files: &mut F,
         name: &str,
     ) -> Result<(), FileFault>
-        ensures once { OnOk result (IsReadOnce (F.known files.old) name.now self.old self.new
-            (F.asked files.old) (F.asked files.new)) }
+        ensures once { OnOk result (IsReadOnce (F.seen files.old).known name.now self.old self.new
+            (F.seen files.old).asked (F.seen files.new).asked) }
         ensures unread { OnErr result ((bytes_of self.old name.now ≡ None) × (self.new ≡ self.old)) }
-        ensures known { F.known files.new ≡ F.known files.old }
-        ensures failed { IsErrOf result FileFault.Failed → Rose (F.faults files.old) (F.faults files.new) }
-        ensures missed { IsErrOf result FileFault.Failed → F.missed files.new ≡ name.now }
-        ensures asked { IsErrOf result FileFault.Failed → F.asked files.new ≡ name.now ∷ F.asked files.old }
-        ensures no_read_failed { IsErrOf result FileFault.Failed ⊎ (F.faults files.new ≡ F.faults files.old) }
+        ensures known { (F.seen files.new).known ≡ (F.seen files.old).known }
+        ensures failed { IsErrOf result FileFault.Failed → Rose (F.seen files.old).faults (F.seen files.new).faults }
+        ensures missed { IsErrOf result FileFault.Failed → (F.seen files.new).missed ≡ name.now }
+        ensures asked { IsErrOf result FileFault.Failed → (F.seen files.new).asked ≡ name.now ∷ (F.seen files.old).asked }
+        ensures no_read_failed { IsErrOf result FileFault.Failed ⊎ ((F.seen files.new).faults ≡ (F.seen files.old).faults) }
     {
         if self.bytes(name).is_some() {
             return Ok(());

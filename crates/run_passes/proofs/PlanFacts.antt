@@ -1,7 +1,7 @@
 -- The passes of a plan, one after another.
 use Rattle.std.proofs.Common.{◌≡◌, ℕ, List, Result, refl, sym, ◌∙◌, ap, subst}
+use Rattle.cube_outside.specs.Seen.{Seen}
 use Rattle.cube_words.specs.Words.{Plan, Run, Check, Sample, IsPlan}
-use Rattle.file_passes.specs.Course.{Contents}
 use Rattle.file_passes.specs.Halting.{Comes}
 use Rattle.file_passes.specs.Outside.{Outside, outside}
 use Rattle.file_passes.specs.Pass.{Readings, NotWords, Pass, found, the, file, files, judged, ◌>>=◌}
@@ -157,12 +157,12 @@ pub one_run : (words : List (List ℕ)) → AreAlike (run_of words) (run_of word
 one_run words =
     alike-behind (the (IsPlan words) NotWords) plan_pass plan_pass (one-the (IsPlan words) NotWords (one_plan words)) (λ plan. (settled-plan plan).alike)
 
-module _ {F : Type 0} (known : F → Contents) (faults : F → ℕ) (missed : F → List ℕ) (asked : F → List (List ℕ)) where
+module _ {F : Type 0} (seen : F → Seen) where
   abbrev from : F → F → Outside
-  from a b = outside known faults missed asked a b
+  from a b = outside seen a b
 
   pub run-planned : (words : List (List ℕ)) (a c : F) (old new : Readings) (plan : Plan) (r : Result RunJob Halt)
       → IsPlan words plan → Comes (plan_pass plan) (from a c) old new r → Comes (run_of words) (from a c) old new r
   run-planned words a c old new plan r is came =
-      comes-next known faults missed asked (the (IsPlan words) NotWords) plan_pass (kept-the (IsPlan words) NotWords) a a c old old new plan refl
-      (on-refl (the (IsPlan words) NotWords) (known a) old, refl, λ base begun. begun) is r came
+      comes-next seen (the (IsPlan words) NotWords) plan_pass (kept-the (IsPlan words) NotWords) a a c old old new plan refl
+      (on-refl (the (IsPlan words) NotWords) (seen a).known old, refl, λ base begun. begun) is r came

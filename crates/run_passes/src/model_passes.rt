@@ -46,8 +46,8 @@ fn text_pass<F: Files>(
     readings: &mut Readings,
     name: &str,
 ) -> Result<ModelText, Halt>
-    ensures known { F.known files.new ≡ F.known files.old }
-    ensures comes { Comes (text_pass name.now) (outside F.known F.faults F.missed F.asked files.old files.new)
+    ensures known { (F.seen files.new).known ≡ (F.seen files.old).known }
+    ensures comes { Comes (text_pass name.now) (outside F.seen files.old files.new)
         readings.old readings.new result }
 {
     if let Err(halt) = obtain(alloc, files, readings, name) {
@@ -64,8 +64,8 @@ fn deploy_pass<F: Files>(
     name: &str,
     text: ModelText,
 ) -> Result<Accepted, Halt>
-    ensures known { F.known files.new ≡ F.known files.old }
-    ensures comes { Comes (deploy_pass name.now text) (outside F.known F.faults F.missed F.asked files.old files.new)
+    ensures known { (F.seen files.new).known ≡ (F.seen files.old).known }
+    ensures comes { Comes (deploy_pass name.now text) (outside F.seen files.old files.new)
         readings.old readings.new result }
 {
     let names = match rule_names(alloc, text.cubes()) {
@@ -88,9 +88,9 @@ fn scripts_pass<F: Files>(
     readings: &mut Readings,
     names: &[String],
 ) -> Result<ListOf<Script>, Halt>
-    ensures known { F.known files.new ≡ F.known files.old }
+    ensures known { (F.seen files.new).known ≡ (F.seen files.old).known }
     ensures comes { Comes (scripts_pass (texts_of names.now))
-        (outside F.known F.faults F.missed F.asked files.old files.new) readings.old readings.new result }
+        (outside F.seen files.old files.new) readings.old readings.new result }
 {
     if let Err(halt) = obtain_all(alloc, files, readings, names) {
         return Err(halt);
@@ -108,8 +108,8 @@ pub(crate) fn model_pass<F: Files>(
     readings: &mut Readings,
     name: &str,
 ) -> Result<Checked, Halt>
-    ensures known { F.known files.new ≡ F.known files.old }
-    ensures comes { Comes (model_pass name.now) (outside F.known F.faults F.missed F.asked files.old files.new)
+    ensures known { (F.seen files.new).known ≡ (F.seen files.old).known }
+    ensures comes { Comes (model_pass name.now) (outside F.seen files.old files.new)
         readings.old readings.new result }
 {
     match text_pass(alloc, files, readings, name) {
@@ -126,8 +126,8 @@ fn behind_text<F: Files>(
     name: &str,
     text: ModelText,
 ) -> Result<Checked, Halt>
-    ensures known { F.known files.new ≡ F.known files.old }
-    ensures comes { Comes (behind_text name.now text) (outside F.known F.faults F.missed F.asked files.old files.new)
+    ensures known { (F.seen files.new).known ≡ (F.seen files.old).known }
+    ensures comes { Comes (behind_text name.now text) (outside F.seen files.old files.new)
         readings.old readings.new result }
 {
     let Ok(scripts) = script_files(alloc, text.scripts()) else {
@@ -153,9 +153,9 @@ fn behind_rules<F: Files>(
 ) -> Result<Checked, Halt>
     requires each { length scripts.now ≡ length names }
     requires few { length names ≤ most_scripts }
-    ensures known { F.known files.new ≡ F.known files.old }
+    ensures known { (F.seen files.new).known ≡ (F.seen files.old).known }
     ensures comes { Comes (behind_rules (texts_of scripts.now) names model)
-        (outside F.known F.faults F.missed F.asked files.old files.new) readings.old readings.new result }
+        (outside F.seen files.old files.new) readings.old readings.new result }
 {
     let trees = match scripts_pass(alloc, files, readings, scripts) {
         Ok(trees) => trees,

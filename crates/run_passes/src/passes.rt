@@ -26,9 +26,9 @@ fn users_pass<F: Files>(
     scripts: &[Name],
     names: &[String],
 ) -> Result<ListOf<ListOf<UserCommand>>, Halt>
-    ensures known { F.known files.new ≡ F.known files.old }
+    ensures known { (F.seen files.new).known ≡ (F.seen files.old).known }
     ensures comes { Comes (users_pass scripts.now (texts_of names.now))
-        (outside F.known F.faults F.missed F.asked files.old files.new) readings.old readings.new result }
+        (outside F.seen files.old files.new) readings.old readings.new result }
 {
     if let Err(halt) = obtain_all(alloc, files, readings, names) {
         return Err(halt);
@@ -48,9 +48,9 @@ fn records_pass<F: Files>(
     users: ListOf<ListOf<UserCommand>>,
 ) -> Result<ListOf<ListOf<PlanCommand>>, Halt>
     requires { AreKnown scripts.now.names users }
-    ensures known { F.known files.new ≡ F.known files.old }
+    ensures known { (F.seen files.new).known ≡ (F.seen files.old).known }
     ensures comes { Comes (records_pass scripts.now users)
-        (outside F.known F.faults F.missed F.asked files.old files.new) readings.old readings.new result }
+        (outside F.seen files.old files.new) readings.old readings.new result }
 {
     let names = match record_files(alloc, users.as_slice()) {
         Ok(names) => names,
@@ -76,7 +76,7 @@ fn plan_pass<F: Files>(
     readings: &mut Readings,
     plan: &Plan<'_>,
 ) -> Result<RunJob, Halt>
-    ensures { Comes (plan_pass (asked plan.now)) (outside F.known F.faults F.missed F.asked files.old files.new)
+    ensures { Comes (plan_pass (asked plan.now)) (outside F.seen files.old files.new)
         readings.old readings.new result }
 {
     match plan {
@@ -93,7 +93,7 @@ fn check_pass<F: Files>(
     readings: &mut Readings,
     model: &str,
 ) -> Result<RunJob, Halt>
-    ensures { Comes (plan_pass (Check model.now)) (outside F.known F.faults F.missed F.asked files.old files.new)
+    ensures { Comes (plan_pass (Check model.now)) (outside F.seen files.old files.new)
         readings.old readings.new result }
 {
     match model_pass(alloc, files, readings, model) {
@@ -111,7 +111,7 @@ fn run_pass<F: Files>(
     users: &[String],
 ) -> Result<RunJob, Halt>
     ensures { Comes (plan_pass (Run model.now (texts_of users.now)))
-        (outside F.known F.faults F.missed F.asked files.old files.new) readings.old readings.new result }
+        (outside F.seen files.old files.new) readings.old readings.new result }
 {
     match model_pass(alloc, files, readings, model) {
         Ok(checked) => behind_model(alloc, files, readings, users, checked),
@@ -128,7 +128,7 @@ fn behind_model<F: Files>(
     checked: Checked,
 ) -> Result<RunJob, Halt>
     ensures { Comes (behind_model (texts_of users.now) checked)
-        (outside F.known F.faults F.missed F.asked files.old files.new) readings.old readings.new result }
+        (outside F.seen files.old files.new) readings.old readings.new result }
 {
     let whole = &checked;
     let scripts = whole.scripts.names.as_slice();
@@ -147,7 +147,7 @@ fn behind_users<F: Files>(
     texts: ListOf<ListOf<UserCommand>>,
 ) -> Result<RunJob, Halt>
     requires { AreKnown checked.scripts.names texts }
-    ensures { Comes (behind_users checked texts) (outside F.known F.faults F.missed F.asked files.old files.new)
+    ensures { Comes (behind_users checked texts) (outside F.seen files.old files.new)
         readings.old readings.new result }
 {
     match records_pass(alloc, files, readings, &checked.scripts, texts) {
@@ -163,7 +163,7 @@ pub fn run_passes<F: Files>(
     files: &mut F,
     readings: &mut Readings,
 ) -> Result<RunJob, Halt>
-    ensures { Comes (run_of (texts_of words.now)) (outside F.known F.faults F.missed F.asked files.old files.new)
+    ensures { Comes (run_of (texts_of words.now)) (outside F.seen files.old files.new)
         readings.old readings.new result }
 {
     match plan_of(alloc, words) {

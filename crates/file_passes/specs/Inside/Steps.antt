@@ -1,5 +1,6 @@
 -- What the functions promise one another that read.
 use Rattle.std.specs.Prelude.{◌≡◌, ℕ, List, ◌∷◌, None, IsSome, Result, ◌⊎◌}
+use Rattle.cube_outside.specs.Seen.{Seen}
 use Rattle.file_passes.specs.declared.halt.Halt.{Halt}
 use Rattle.file_passes.specs.Course.{Contents, Tells}
 use Rattle.file_passes.specs.Outside.{outside}
@@ -14,9 +15,8 @@ IsReadOnce known name old new asked_before asked_after =
     × (asked_after ≡ name ∷ asked_before))
 
 -- whatever reading the rest of these files comes to, reading all of them comes to, from this start
-abbrev pub CarriesOn : {F : Type 0} → (F → Contents) → (F → ℕ) → (F → List ℕ) → (F → List (List ℕ))
-    → List (List ℕ) → F → Readings → List (List ℕ) → F → Readings → Type 0
-CarriesOn {F} known faults missed asked names start first rest now readings =
+abbrev pub CarriesOn : {F : Type 0} → (F → Seen) → List (List ℕ) → F → Readings → List (List ℕ) → F → Readings → Type 0
+CarriesOn {F} seen names start first rest now readings =
     (end : F) (new : Readings) (result : Result (Unit {0}) Halt)
-    → ComesThrough (files rest) (outside known faults missed asked now end) readings new result
-    → ComesThrough (files names) (outside known faults missed asked start end) first new result
+    → ComesThrough (files rest) (outside seen now end) readings new result
+    → ComesThrough (files names) (outside seen start end) first new result

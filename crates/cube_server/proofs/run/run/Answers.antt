@@ -10,7 +10,7 @@ use Rattle.cube_server.proofs.run.run.Goals as goal
 
 pub returns-in-Ok-tell : goal.returns-in-Ok-tell
 returns-in-Ok-tell g c =
-    Ends-whole (texts_of c.args.words.now) (outside g.F.Files.known g.F.Files.faults g.F.Files.missed g.F.Files.asked c.args.files.now c.answer_of.new.files)
+    Ends-whole (texts_of c.args.words.now) (outside g.F.Files.seen c.args.files.now c.answer_of.new.files)
     (g.S.Sink.written c.args.out.now) (g.S.Sink.written c.tell.new.out) (g.S.Sink.faults c.args.out.now) (g.S.Sink.faults c.tell.new.out)
     c.in-Ok.answer.status (joined c.in-Ok.answer.pieces.items) c.in-Ok.ensures
     (subst (λ l. Appends (g.S.Sink.written c.args.out.now) (g.S.Sink.written c.tell.new.out) (joined l)) c.deref.ensures.value c.in-Ok-tell.ensures.all)
@@ -20,7 +20,7 @@ pub returns-in-Err-Failed : goal.returns-in-Err-Failed
 returns-in-Err-Failed g c =
     let old = g.S.Sink.written c.args.out.now in
     let new = g.S.Sink.written c.tell.new.out in (
-      WritesPart-of (texts_of c.args.words.now) (outside g.F.Files.known g.F.Files.faults g.F.Files.missed g.F.Files.asked c.args.files.now c.answer_of.new.files)
+      WritesPart-of (texts_of c.args.words.now) (outside g.F.Files.seen c.args.files.now c.answer_of.new.files)
           old new c.in-Ok.answer.status (joined c.in-Ok.answer.pieces.items) c.in-Ok.ensures
           (subst (λ pieces. AppendsPart old new (joined pieces)) c.deref.ensures.value c.in-Err-Failed.ensures.part),
       c.tell.ensures.failed (c.in-Err-Failed.is ∙ ap Err c.in-Err-Failed.field-0-is),

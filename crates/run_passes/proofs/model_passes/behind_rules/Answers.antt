@@ -20,12 +20,12 @@ new-requires g c =
 pub returns-in-Err-clause-comes : goal.returns-in-Err-clause-comes
 returns-in-Err-clause-comes g c =
     comes-stopped (scripts_pass (texts_of c.args.scripts.now)) (behind_scripts c.args.names c.args.model)
-    (outside g.F.Files.known g.F.Files.faults g.F.Files.missed g.F.Files.asked c.args.files.now c.scripts_pass.new.files)
+    (outside g.F.Files.seen c.args.files.now c.scripts_pass.new.files)
     c.args.readings.now c.scripts_pass.new.readings c.in-Err.halt c.in-Err.ensures.comes
 
 pub returns-in-Ok-new-clause-comes : goal.returns-in-Ok-new-clause-comes
 returns-in-Ok-new-clause-comes g c =
-    let o = outside g.F.Files.known g.F.Files.faults g.F.Files.missed g.F.Files.asked c.args.files.now c.scripts_pass.new.files in
+    let o = outside g.F.Files.seen c.args.files.now c.scripts_pass.new.files in
     let whole : Checked = record { model = c.args.model; scripts = c.in-Ok-new.scripts } in
     let same : checked_of c.args.model c.args.names c.in-Ok.trees ≡ whole = rw (← c.in-Ok-new.ensures.names, ← c.in-Ok-new.ensures.trees) refl in
     let came = comes-mapped (scripts_pass (texts_of c.args.scripts.now)) (checked_of c.args.model c.args.names) o
@@ -34,7 +34,7 @@ returns-in-Ok-new-clause-comes g c =
 
 pub returns-in-Err-new-clause-comes : goal.returns-in-Err-new-clause-comes
 returns-in-Err-new-clause-comes g c = (
-  on-later (scripts_pass (texts_of c.args.scripts.now)) (behind_scripts c.args.names c.args.model) (g.F.Files.known c.args.files.now)
+  on-later (scripts_pass (texts_of c.args.scripts.now)) (behind_scripts c.args.names c.args.model) (g.F.Files.seen c.args.files.now).known
       c.args.readings.now c.scripts_pass.new.readings c.in-Ok.ensures.comes.0.0,
   tt,
 )

@@ -28,13 +28,13 @@ behind_rules-requires-clause-few g c =
 
 pub returns-in_default-clause-comes : goal.returns-in_default-clause-comes
 returns-in_default-clause-comes g c = (
-  on-refl (behind_text c.args.name.now c.args.text) (g.F.Files.known c.args.files.now) c.args.readings.now,
+  on-refl (behind_text c.args.name.now c.args.text) (g.F.Files.seen c.args.files.now).known c.args.readings.now,
   tt,
 )
 
 pub returns-in_default-script_names-clause-comes : goal.returns-in_default-script_names-clause-comes
 returns-in_default-script_names-clause-comes g c = (
-  on-refl (behind_text c.args.name.now c.args.text) (g.F.Files.known c.args.files.now) c.args.readings.now,
+  on-refl (behind_text c.args.name.now c.args.text) (g.F.Files.seen c.args.files.now).known c.args.readings.now,
   tt,
 )
 
@@ -42,16 +42,16 @@ pub returns-in-Ok-deploy_pass-clause-comes : goal.returns-in-Ok-deploy_pass-clau
 returns-in-Ok-deploy_pass-clause-comes g c =
     let files : texts_of c.deref.result.now ≡ script_files c.args.text.scripts = ap texts_of c.deref.ensures.value ∙ c.in-Ok.ensures ∙ ap script_files c.scripts.ensures.scripts in
     let names : c.in-Ok-script_names.names ≡ script_names c.args.text.scripts = c.in-Ok-script_names.ensures ∙ ap script_names c.scripts-2.ensures.scripts in
-    let o = outside g.F.Files.known g.F.Files.faults g.F.Files.missed g.F.Files.asked c.deploy_pass.new.files c.behind_rules.new.files in
+    let o = outside g.F.Files.seen c.deploy_pass.new.files c.behind_rules.new.files in
     let model = c.in-Ok-deploy_pass.model in
     let here = subst (λ l. Comes (behind_rules l c.in-Ok-script_names.names model) o c.deploy_pass.new.readings c.behind_rules.new.readings c.behind_rules.result) files c.behind_rules.ensures.comes in
     let then = subst (λ l. Comes (behind_rules (script_files c.args.text.scripts) l model) o c.deploy_pass.new.readings c.behind_rules.new.readings c.behind_rules.result) names here in
-    comes-behind g.F.Files.known g.F.Files.faults g.F.Files.missed g.F.Files.asked (deploy_pass c.args.name.now c.args.text) (behind_rules (script_files c.args.text.scripts) (script_names c.args.text.scripts)) (steady-deploy c.args.name.now c.args.text).kept
+    comes-behind g.F.Files.seen (deploy_pass c.args.name.now c.args.text) (behind_rules (script_files c.args.text.scripts) (script_names c.args.text.scripts)) (steady-deploy c.args.name.now c.args.text).kept
     c.args.files.now c.deploy_pass.new.files c.behind_rules.new.files c.args.readings.now c.deploy_pass.new.readings c.behind_rules.new.readings model c.behind_rules.result
     c.in-Ok-deploy_pass.ensures.known c.in-Ok-deploy_pass.ensures.comes then
 
 pub returns-clause-comes : goal.returns-clause-comes
 returns-clause-comes g c =
     comes-stopped (deploy_pass c.args.name.now c.args.text) (behind_rules (script_files c.args.text.scripts) (script_names c.args.text.scripts))
-    (outside g.F.Files.known g.F.Files.faults g.F.Files.missed g.F.Files.asked c.args.files.now c.deploy_pass.new.files)
+    (outside g.F.Files.seen c.args.files.now c.deploy_pass.new.files)
     c.args.readings.now c.deploy_pass.new.readings c.in-Err.halt c.in-Err.ensures.comes

@@ -11,12 +11,12 @@ use Rattle.file_passes.proofs.Coming.{comes-stopped, comes-judged}
 use Rattle.run_passes.proofs.model_passes.deploy_pass.Goals as goal
 
 pub returns-in-Err-clause-comes : goal.returns-in-Err-clause-comes
-returns-in-Err-clause-comes g c = (on-refl (deploy_pass c.args.name.now c.args.text) (g.F.Files.known c.args.files.now) c.args.readings.now, tt)
+returns-in-Err-clause-comes g c = (on-refl (deploy_pass c.args.name.now c.args.text) (g.F.Files.seen c.args.files.now).known c.args.readings.now, tt)
 
 pub returns-in-Err-obtain_all-clause-comes : goal.returns-in-Err-obtain_all-clause-comes
 returns-in-Err-obtain_all-clause-comes g c =
     let names : texts_of c.deref.result.now ≡ rule_names c.args.text.cubes = ap texts_of c.deref.ensures.value ∙ c.in-Ok.ensures ∙ ap rule_names c.cubes.ensures.cubes in
-    let o = outside g.F.Files.known g.F.Files.faults g.F.Files.missed g.F.Files.asked c.args.files.now c.obtain_all.new.files in
+    let o = outside g.F.Files.seen c.args.files.now c.obtain_all.new.files in
     comes-stopped (files (rule_names c.args.text.cubes)) (λ sources. judged (deployment_judgement c.args.name.now c.args.text sources))
     o c.args.readings.now c.obtain_all.new.readings c.in-Err-obtain_all.halt
     (subst (λ l. ComesThrough (files l) o c.args.readings.now c.obtain_all.new.readings (Err c.in-Err-obtain_all.halt)) names c.in-Err-obtain_all.ensures.through)
@@ -25,7 +25,7 @@ pub returns-in-Ok-sources-clause-comes : goal.returns-in-Ok-sources-clause-comes
 returns-in-Ok-sources-clause-comes g c =
     let names : texts_of c.deref.result.now ≡ rule_names c.args.text.cubes = ap texts_of c.deref.ensures.value ∙ c.in-Ok.ensures ∙ ap rule_names c.cubes.ensures.cubes in
     let again : texts_of c.deref-2.result.now ≡ rule_names c.args.text.cubes = ap texts_of c.deref-2.ensures.value ∙ c.in-Ok.ensures ∙ ap rule_names c.cubes.ensures.cubes in
-    let o = outside g.F.Files.known g.F.Files.faults g.F.Files.missed g.F.Files.asked c.args.files.now c.obtain_all.new.files in
+    let o = outside g.F.Files.seen c.args.files.now c.obtain_all.new.files in
     let judges = subst (λ s. Judges (deployment_judgement c.args.name.now c.args.text s) c.model_of.result) c.deref-in-Ok-sources.ensures.value c.model_of.ensures in
     comes-judged (files (rule_names c.args.text.cubes)) (deployment_judgement c.args.name.now c.args.text) o
     c.args.readings.now c.obtain_all.new.readings c.in-Ok-sources.sources.items c.model_of.result
@@ -35,9 +35,9 @@ returns-in-Ok-sources-clause-comes g c =
 pub returns-in-Err-sources-clause-comes : goal.returns-in-Err-sources-clause-comes
 returns-in-Err-sources-clause-comes g c =
     let names : texts_of c.deref.result.now ≡ rule_names c.args.text.cubes = ap texts_of c.deref.ensures.value ∙ c.in-Ok.ensures ∙ ap rule_names c.cubes.ensures.cubes in
-    let o = outside g.F.Files.known g.F.Files.faults g.F.Files.missed g.F.Files.asked c.args.files.now c.obtain_all.new.files in
+    let o = outside g.F.Files.seen c.args.files.now c.obtain_all.new.files in
     let went = subst (λ l. Goes (files l) o c.args.readings.now c.obtain_all.new.readings) names c.in_default.ensures.through.0 in (
       on-later (files (rule_names c.args.text.cubes)) (λ sources. judged (deployment_judgement c.args.name.now c.args.text sources))
-          (g.F.Files.known c.args.files.now) c.args.readings.now c.obtain_all.new.readings went.0,
+          (g.F.Files.seen c.args.files.now).known c.args.readings.now c.obtain_all.new.readings went.0,
       tt,
     )

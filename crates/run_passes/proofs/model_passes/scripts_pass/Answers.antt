@@ -11,19 +11,19 @@ use Rattle.run_passes.proofs.model_passes.scripts_pass.Goals as goal
 pub returns-in-Err-clause-comes : goal.returns-in-Err-clause-comes
 returns-in-Err-clause-comes g c =
     comes-stopped (files (texts_of c.args.names.now)) (λ sources. judged (scripts_judgement sources))
-    (outside g.F.Files.known g.F.Files.faults g.F.Files.missed g.F.Files.asked c.args.files.now c.obtain_all.new.files)
+    (outside g.F.Files.seen c.args.files.now c.obtain_all.new.files)
     c.args.readings.now c.obtain_all.new.readings c.in-Err.halt c.in-Err.ensures.through
 
 pub returns-in-Ok-clause-comes : goal.returns-in-Ok-clause-comes
 returns-in-Ok-clause-comes g c =
     let judges = subst (λ s. Judges (scripts_judgement s) c.scripts_of.result) c.deref.ensures.value c.scripts_of.ensures in
     comes-judged (files (texts_of c.args.names.now)) scripts_judgement
-    (outside g.F.Files.known g.F.Files.faults g.F.Files.missed g.F.Files.asked c.args.files.now c.obtain_all.new.files)
+    (outside g.F.Files.seen c.args.files.now c.obtain_all.new.files)
     c.args.readings.now c.obtain_all.new.readings c.in-Ok.sources.items c.scripts_of.result c.in_default.ensures.through.0 c.in-Ok.ensures judges
 
 pub returns-in-Err-sources-clause-comes : goal.returns-in-Err-sources-clause-comes
 returns-in-Err-sources-clause-comes g c = (
-  on-later (files (texts_of c.args.names.now)) (λ sources. judged (scripts_judgement sources)) (g.F.Files.known c.args.files.now)
+  on-later (files (texts_of c.args.names.now)) (λ sources. judged (scripts_judgement sources)) (g.F.Files.seen c.args.files.now).known
       c.args.readings.now c.obtain_all.new.readings c.in_default.ensures.through.0.0,
   tt,
 )

@@ -17,17 +17,17 @@ behind_users-requires g c =
 
 pub returns-in-Ok : goal.returns-in-Ok
 returns-in-Ok g c =
-    let o = outside g.F.Files.known g.F.Files.faults g.F.Files.missed g.F.Files.asked c.args.files.now c.users_pass.new.files in
+    let o = outside g.F.Files.seen c.args.files.now c.users_pass.new.files in
     let names : c.as_slice-scripts.result.now ≡ c.args.checked.scripts.names = search rules in
     let came = subst (λ l. Comes (users_pass l (texts_of c.args.users.now)) o c.args.readings.now c.users_pass.new.readings (Ok c.in-Ok.texts)) names c.in-Ok.ensures.comes in
-    comes-behind g.F.Files.known g.F.Files.faults g.F.Files.missed g.F.Files.asked (users_pass c.args.checked.scripts.names (texts_of c.args.users.now)) (behind_users c.args.checked)
+    comes-behind g.F.Files.seen (users_pass c.args.checked.scripts.names (texts_of c.args.users.now)) (behind_users c.args.checked)
     (steady-users c.args.checked.scripts.names (texts_of c.args.users.now)).kept
     c.args.files.now c.users_pass.new.files c.behind_users.new.files c.args.readings.now c.users_pass.new.readings c.behind_users.new.readings c.in-Ok.texts c.behind_users.result
     c.in-Ok.ensures.known came c.behind_users.ensures
 
 pub returns-in-Err : goal.returns-in-Err
 returns-in-Err g c =
-    let o = outside g.F.Files.known g.F.Files.faults g.F.Files.missed g.F.Files.asked c.args.files.now c.users_pass.new.files in
+    let o = outside g.F.Files.seen c.args.files.now c.users_pass.new.files in
     let names : c.as_slice-scripts.result.now ≡ c.args.checked.scripts.names = search rules in
     let came = subst (λ l. Comes (users_pass l (texts_of c.args.users.now)) o c.args.readings.now c.users_pass.new.readings (Err c.in-Err.halt)) names c.in-Err.ensures.comes in
     comes-stopped (users_pass c.args.checked.scripts.names (texts_of c.args.users.now)) (behind_users c.args.checked) o

@@ -13,14 +13,14 @@ records_pass-requires g c = subst (λ checked. AreKnown checked.scripts.names c.
 
 pub returns-in-Ok : goal.returns-in-Ok
 returns-in-Ok g c =
-    let o = outside g.F.Files.known g.F.Files.faults g.F.Files.missed g.F.Files.asked c.args.files.now c.records_pass.new.files in
+    let o = outside g.F.Files.seen c.args.files.now c.records_pass.new.files in
     let came = comes-mapped (records_pass c.checked.inside.scripts c.args.texts) (Serve c.checked.inside.model) o
     c.args.readings.now c.records_pass.new.readings c.in-Ok.commands c.in-Ok.ensures.comes in
     subst (λ w. Comes (behind_users w c.args.texts) o c.args.readings.now c.records_pass.new.readings (Ok (Serve c.checked.inside.model c.in-Ok.commands))) c.checked.view_is came
 
 pub returns-in-Err : goal.returns-in-Err
 returns-in-Err g c =
-    let o = outside g.F.Files.known g.F.Files.faults g.F.Files.missed g.F.Files.asked c.args.files.now c.records_pass.new.files in
+    let o = outside g.F.Files.seen c.args.files.now c.records_pass.new.files in
     let whole = checked_of c.checked.inside.model c.checked.inside.scripts.names c.checked.inside.scripts.trees in
     let came = comes-stopped (records_pass c.checked.inside.scripts c.args.texts) (served whole) o
     c.args.readings.now c.records_pass.new.readings c.in-Err.halt c.in-Err.ensures.comes in

@@ -12,4 +12,4 @@ returns-in-Check g c = rw c.in-Check.is c.check_pass.ensures
 
 pub returns-in-Sample : goal.returns-in-Sample
 returns-in-Sample g c =
-    rw c.in-Sample.is ((on-refl (plan_pass (Sample c.in-Sample.size)) (g.F.Files.known c.args.files.now) c.args.readings.now, refl, λ base begun. begun), refl)
+    rw c.in-Sample.is ((on-refl (plan_pass (Sample c.in-Sample.size)) (g.F.Files.seen c.args.files.now).known c.args.readings.now, refl, λ base begun. begun), refl)

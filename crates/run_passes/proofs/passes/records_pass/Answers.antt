@@ -19,12 +19,12 @@ commands_of-requires g c =
     (all-ready c.args.scripts.now c.in-Ok-sources.sources.items c.obtain_all.new.readings c.args.users c.requires read)
 
 pub returns-in-Err-clause-comes : goal.returns-in-Err-clause-comes
-returns-in-Err-clause-comes g c = (on-refl (records_pass c.args.scripts.now c.args.users) (g.F.Files.known c.args.files.now) c.args.readings.now, tt)
+returns-in-Err-clause-comes g c = (on-refl (records_pass c.args.scripts.now c.args.users) (g.F.Files.seen c.args.files.now).known c.args.readings.now, tt)
 
 pub returns-in-Err-obtain_all-clause-comes : goal.returns-in-Err-obtain_all-clause-comes
 returns-in-Err-obtain_all-clause-comes g c =
     let names : texts_of c.deref.result.now ≡ record_files c.args.users = ap texts_of c.deref.ensures.value ∙ c.in-Ok.ensures ∙ ap record_files c.as_slice.ensures in
-    let o = outside g.F.Files.known g.F.Files.faults g.F.Files.missed g.F.Files.asked c.args.files.now c.obtain_all.new.files in
+    let o = outside g.F.Files.seen c.args.files.now c.obtain_all.new.files in
     comes-stopped (files (record_files c.args.users)) (λ sources. judged (commands_judgement c.args.scripts.now sources c.args.users))
     o c.args.readings.now c.obtain_all.new.readings c.in-Err-obtain_all.halt
     (subst (λ l. ComesThrough (files l) o c.args.readings.now c.obtain_all.new.readings (Err c.in-Err-obtain_all.halt)) names c.in-Err-obtain_all.ensures.through)
@@ -32,10 +32,10 @@ returns-in-Err-obtain_all-clause-comes g c =
 pub returns-in-Err-sources-clause-comes : goal.returns-in-Err-sources-clause-comes
 returns-in-Err-sources-clause-comes g c =
     let names : texts_of c.deref.result.now ≡ record_files c.args.users = ap texts_of c.deref.ensures.value ∙ c.in-Ok.ensures ∙ ap record_files c.as_slice.ensures in
-    let o = outside g.F.Files.known g.F.Files.faults g.F.Files.missed g.F.Files.asked c.args.files.now c.obtain_all.new.files in
+    let o = outside g.F.Files.seen c.args.files.now c.obtain_all.new.files in
     let went = subst (λ l. Goes (files l) o c.args.readings.now c.obtain_all.new.readings) names c.in_default.ensures.through.0 in (
       on-later (files (record_files c.args.users)) (λ sources. judged (commands_judgement c.args.scripts.now sources c.args.users))
-          (g.F.Files.known c.args.files.now) c.args.readings.now c.obtain_all.new.readings went.0,
+          (g.F.Files.seen c.args.files.now).known c.args.readings.now c.obtain_all.new.readings went.0,
       tt,
     )
 
@@ -43,7 +43,7 @@ pub returns-in-Ok-commands_of-clause-comes : goal.returns-in-Ok-commands_of-clau
 returns-in-Ok-commands_of-clause-comes g c =
     let names : texts_of c.deref.result.now ≡ record_files c.args.users = ap texts_of c.deref.ensures.value ∙ c.in-Ok.ensures ∙ ap record_files c.as_slice.ensures in
     let again : texts_of c.deref-2.result.now ≡ record_files c.args.users = ap texts_of c.deref-2.ensures.value ∙ c.in-Ok.ensures ∙ ap record_files c.as_slice.ensures in
-    let o = outside g.F.Files.known g.F.Files.faults g.F.Files.missed g.F.Files.asked c.args.files.now c.obtain_all.new.files in
+    let o = outside g.F.Files.seen c.args.files.now c.obtain_all.new.files in
     let judges = subst (λ s. Judges (commands_judgement c.args.scripts.now s c.args.users) (Ok c.in-Ok-commands_of.commands)) c.deref-3.ensures.value c.in-Ok-commands_of.ensures in
     comes-judged (files (record_files c.args.users)) (λ sources. commands_judgement c.args.scripts.now sources c.args.users) o
     c.args.readings.now c.obtain_all.new.readings c.in-Ok-sources.sources.items (Ok c.in-Ok-commands_of.commands)
@@ -53,9 +53,9 @@ returns-in-Ok-commands_of-clause-comes g c =
 pub returns-clause-comes : goal.returns-clause-comes
 returns-clause-comes g c =
     let names : texts_of c.deref.result.now ≡ record_files c.args.users = ap texts_of c.deref.ensures.value ∙ c.in-Ok.ensures ∙ ap record_files c.as_slice.ensures in
-    let o = outside g.F.Files.known g.F.Files.faults g.F.Files.missed g.F.Files.asked c.args.files.now c.obtain_all.new.files in
+    let o = outside g.F.Files.seen c.args.files.now c.obtain_all.new.files in
     let went = subst (λ l. Goes (files l) o c.args.readings.now c.obtain_all.new.readings) names c.in_default.ensures.through.0 in (
       on-later (files (record_files c.args.users)) (λ sources. judged (commands_judgement c.args.scripts.now sources c.args.users))
-          (g.F.Files.known c.args.files.now) c.args.readings.now c.obtain_all.new.readings went.0,
+          (g.F.Files.seen c.args.files.now).known c.args.readings.now c.obtain_all.new.readings went.0,
       tt,
     )

@@ -7,14 +7,14 @@ use Rattle.run_passes.proofs.passes.run_passes.Goals as goal
 
 pub returns-in-Ok : goal.returns-in-Ok
 returns-in-Ok g c =
-    run-planned g.F.Files.known g.F.Files.faults g.F.Files.missed g.F.Files.asked (texts_of c.args.words.now) c.args.files.now c.plan_pass.new.files c.args.readings.now c.plan_pass.new.readings
+    run-planned g.F.Files.seen (texts_of c.args.words.now) c.args.files.now c.plan_pass.new.files c.args.readings.now c.plan_pass.new.readings
     (asked c.in-Ok.plan) c.plan_pass.result c.in-Ok.ensures c.plan_pass.ensures
 
 pub returns-in-Err-OutOfMemory : goal.returns-in-Err-OutOfMemory
-returns-in-Err-OutOfMemory g c = (on-refl (run_of (texts_of c.args.words.now)) (g.F.Files.known c.args.files.now) c.args.readings.now, tt)
+returns-in-Err-OutOfMemory g c = (on-refl (run_of (texts_of c.args.words.now)) (g.F.Files.seen c.args.files.now).known c.args.readings.now, tt)
 
 pub returns-in-Err-Usage : goal.returns-in-Err-Usage
 returns-in-Err-Usage g c = (
-  on-refl (run_of (texts_of c.args.words.now)) (g.F.Files.known c.args.files.now) c.args.readings.now,
+  on-refl (run_of (texts_of c.args.words.now)) (g.F.Files.seen c.args.files.now).known c.args.readings.now,
   (inl (c.in-Err-Usage.ensures c.in-Err-Usage.field-0-is, refl), refl, λ base begun. begun),
 )
