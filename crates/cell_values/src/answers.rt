@@ -77,6 +77,7 @@ impl<'a> Answers<'a> {
 }
 
 impl<'a, M: Memory> Refs<M> for Answers<'a> {
+    ghost use Rattle.std.specs.Prelude.{◌≡◌, Ok, IfOk, IfErr};
     ghost use Rattle.cell_values.specs.Inside.Answers.{AnswerTerms, AreMissing, answered, may_ask};
     ghost use Rattle.memo_cells.specs.Knowledge.{Grew};
     ghost use Rattle.cell_values.specs.Inside.Growth.{grew-same, grew-later};
@@ -125,8 +126,27 @@ impl<'a, M: Memory> Refs<M> for Answers<'a> {
         self.listed(Ask::Children(cell, dim))
     }
 
-    fn merge(&self, memory: &M, first: Missing, second: Missing) -> Missing {
-        first.with(second, most_pending(self.known.len()))
+    fn both(
+        &self,
+        memory: &M,
+        left: Result<Value, Missing>,
+        right: Result<Value, Missing>,
+    ) -> Result<(Value, Value), Missing>
+        requires left { IfErr left (λ missing. AreMissing self.now missing) }
+        requires right { IfErr right (λ missing. AreMissing self.now missing) }
+        ensures values { IfOk result (λ pair. (left ≡ Ok pair.0) × (right ≡ Ok pair.1)) }
+        ensures fault { IfErr result (λ missing. AreMissing self.now missing) }
+    {
+        match left {
+            Ok(left) => match right {
+                Ok(right) => Ok((left, right)),
+                Err(missing) => Err(missing),
+            },
+            Err(first) => match right {
+                Ok(_) => Err(first),
+                Err(second) => Err(first.with(second, most_pending(self.known.len()))),
+            },
+        }
     }
 
     ghost later_same = { λ m. grew-same (M.known m) };

@@ -4,7 +4,7 @@ use cube_fixed::Value;
 use rule_evaluate::Refs;
 
 impl<'a> Refs<()> for Plain<'a> {
-    ghost use Rattle.std.specs.Prelude.{◌≡◌, true, ⊤};
+    ghost use Rattle.std.specs.Prelude.{◌≡◌, true, ⊤, Ok, IfOk, IfErr};
     ghost use Rattle.rule_dense.specs.Inside.Plain.{PlainTable, plain_readings, may_be_asked};
 
     type Fault = Never;
@@ -36,8 +36,24 @@ impl<'a> Refs<()> for Plain<'a> {
         Ok(self.children_of(cell, dim as usize))
     }
 
-    fn merge(&self, memory: &(), first: Never, second: Never) -> Never {
-        first
+    fn both(
+        &self,
+        memory: &(),
+        left: Result<Value, Never>,
+        right: Result<Value, Never>,
+    ) -> Result<(Value, Value), Never>
+        requires left { IfErr left (λ never. ⊤) }
+        requires right { IfErr right (λ never. ⊤) }
+        ensures values { IfOk result (λ pair. (left ≡ Ok pair.0) × (right ≡ Ok pair.1)) }
+        ensures fault { IfErr result (λ never. ⊤) }
+    {
+        match left {
+            Ok(left) => match right {
+                Ok(right) => Ok((left, right)),
+                Err(never) => Err(never),
+            },
+            Err(never) => Err(never),
+        }
     }
 
     ghost later_same = { λ m. tt };

@@ -16,7 +16,7 @@ use std::sync::ledger::Ledger;
 /// What a statement of a cell's cube gives the cell, by what `refs` answers: the statement has a part for the cell.
 /// `CONTINUE` goes on with the statements after it. Each statement that is entered is one step. There are no faults but
 /// those of `refs`. A fault doesn't stop what is evaluated beside it whatever the answers are, as the other operand of
-/// an operation: faults that come there are merged with it.
+/// an operation: `both` makes one fault of those that come there.
 ///
 /// Asked are only cells that references of the entered statements name, what the cell itself would have without a
 /// statement, and sums over its components; of an `IF` the branch that is taken is asked for alone.

@@ -1,4 +1,4 @@
-ghost use Rattle.std.specs.Prelude.{◌≡◌, true, false, Ok, IfOk, IfErr};
+ghost use Rattle.std.specs.Prelude.{◌≡◌, true, false, IfOk, IfErr};
 ghost use Rattle.rule_model.specs.Input.{has_continue};
 ghost use Rattle.rule_evaluate.specs.Inside.Scene.{sources_at, course_at, trial_at};
 
@@ -6,30 +6,6 @@ use crate::here::Here;
 use crate::refs::Refs;
 use cube_fixed::Value;
 use rule_laws::{Formula, Reference, Truth};
-
-// Two values, or what stopped one of them. Where both were stopped, the faults are merged.
-fn both<M, R: Refs<M>>(
-    left: Result<Value, R::Fault>,
-    right: Result<Value, R::Fault>,
-    refs: &R,
-    memory: &M,
-) -> Result<(Value, Value), R::Fault>
-    requires left { IfErr left (λ e. R.may_fail (R.terms refs.now memory.now) e) }
-    requires right { IfErr right (λ e. R.may_fail (R.terms refs.now memory.now) e) }
-    ensures values { IfOk result (λ pair. (left ≡ Ok pair.0) × (right ≡ Ok pair.1)) }
-    ensures fault { IfErr result (λ e. R.may_fail (R.terms refs.now memory.now) e) }
-{
-    match left {
-        Ok(left) => match right {
-            Ok(right) => Ok((left, right)),
-            Err(fault) => Err(fault),
-        },
-        Err(first) => match right {
-            Ok(_) => Err(first),
-            Err(second) => Err(refs.merge(memory, first, second)),
-        },
-    }
-}
 
 /// What `STET` gives.
 #[tactic(auto, unfolding(crate::specs::Course::sources_of))]
@@ -117,7 +93,7 @@ pub(crate) fn value_of<M, R: Refs<M>>(
         Formula::Binary(op, left, right) => {
             let left = value_of(here, rest, left.get(), refs, memory);
             let right = value_of(here, rest, right.get(), refs, memory);
-            let (left, right) = both(left, right, refs, memory)?;
+            let (left, right) = refs.both(memory, left, right)?;
             Ok(op.apply(left, right))
         }
         Formula::Unary(fun, inner) => {
@@ -155,7 +131,7 @@ pub(crate) fn holds<M, R: Refs<M>>(
         Truth::Compare(rel, left, right) => {
             let left = value_of(here, rest, left, refs, memory);
             let right = value_of(here, rest, right, refs, memory);
-            let (left, right) = both(left, right, refs, memory)?;
+            let (left, right) = refs.both(memory, left, right)?;
             Ok(rel.holds(left, right))
         }
         Truth::And(left, right) => {

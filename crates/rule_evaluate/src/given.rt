@@ -63,7 +63,7 @@ fn is_same(left: &Ask, right: &Ask) -> bool
 }
 
 impl<'a> Refs<()> for Given<'a> {
-    ghost use Rattle.std.specs.Prelude.{◌≡◌, true, None, IfOk, IfErr, ⊤};
+    ghost use Rattle.std.specs.Prelude.{◌≡◌, true, None, Ok, IfOk, IfErr, ⊤};
     ghost use Rattle.rule_evaluate.specs.declared.ask.Ask.TheVariants.{Value as of_value, Base as of_base};
     ghost use Rattle.rule_evaluate.specs.declared.ask.Ask.TheVariants.{Children as of_children};
     ghost use Rattle.rule_evaluate.specs.Known.{Known, listed, listed_readings, answer_in};
@@ -109,8 +109,24 @@ impl<'a> Refs<()> for Given<'a> {
         self.answer(Ask::Children(cell, dim))
     }
 
-    fn merge(&self, memory: &(), first: Ask, second: Ask) -> Ask {
-        first
+    fn both(
+        &self,
+        memory: &(),
+        left: Result<Value, Ask>,
+        right: Result<Value, Ask>,
+    ) -> Result<(Value, Value), Ask>
+        requires left { IfErr left (λ question. listed self.now question ≡ None) }
+        requires right { IfErr right (λ question. listed self.now question ≡ None) }
+        ensures values { IfOk result (λ pair. (left ≡ Ok pair.0) × (right ≡ Ok pair.1)) }
+        ensures fault { IfErr result (λ question. listed self.now question ≡ None) }
+    {
+        match left {
+            Ok(left) => match right {
+                Ok(right) => Ok((left, right)),
+                Err(question) => Err(question),
+            },
+            Err(question) => Err(question),
+        }
     }
 
     ghost later_same = { λ m. tt };

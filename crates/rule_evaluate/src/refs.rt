@@ -1,4 +1,4 @@
-ghost use Rattle.std.specs.Prelude.{◌≡◌, Bool, true, IfOk, IfErr};
+ghost use Rattle.std.specs.Prelude.{◌≡◌, Bool, true, Ok, IfOk, IfErr};
 ghost use Rattle.rule_evaluate.specs.declared.ask.Ask.{Ask};
 ghost use Rattle.rule_evaluate.specs.declared.ask.Ask.TheVariants.{Value as of_value, Base as of_base};
 ghost use Rattle.rule_evaluate.specs.declared.ask.Ask.TheVariants.{Children as of_children};
@@ -50,11 +50,17 @@ pub trait Refs<M> {
         ensures terms { terms self.now memory.new ≡ terms self.now memory.old }
         ensures later { later memory.old memory.new };
 
-    /// One fault for two, of which the first came before the second.
-    fn merge(&self, memory: &M, first: Self::Fault, second: Self::Fault) -> Self::Fault
-        requires first { may_fail (terms self.now memory.now) first }
-        requires second { may_fail (terms self.now memory.now) second }
-        ensures { may_fail (terms self.now memory.now) result };
+    /// Two values, or one fault for those of both. The left one came first.
+    fn both(
+        &self,
+        memory: &M,
+        left: Result<Value, Self::Fault>,
+        right: Result<Value, Self::Fault>,
+    ) -> Result<(Value, Value), Self::Fault>
+        requires left { IfErr left (λ e. may_fail (terms self.now memory.now) e) }
+        requires right { IfErr right (λ e. may_fail (terms self.now memory.now) e) }
+        ensures values { IfOk result (λ pair. (left ≡ Ok pair.0) × (right ≡ Ok pair.1)) }
+        ensures fault { IfErr result (λ e. may_fail (terms self.now memory.now) e) };
 
     ghost later_same: { (m : M) → later m m };
 

@@ -1,4 +1,4 @@
-use Rattle.std.proofs.Common.{◌≡◌, sym, ◌∙◌, ap, subst, true, false, Option, Some}
+use Rattle.std.proofs.Common.{◌≡◌, sym, ◌∙◌, ap, subst, true, false, Option}
 use Rattle.std.specs.Prelude.{is_some}
 use Rattle.cube_fixed.specs.declared.value.Value.{Value}
 use Rattle.rule_evaluate.specs.declared.ask.Ask.TheVariants.{Value as of_value}
