@@ -128,8 +128,10 @@ impl Readings {
         ensures known { (F.seen files.new).known ≡ (F.seen files.old).known }
         ensures failed { IsErrOf result FileFault.Failed → Rose (F.seen files.old).faults (F.seen files.new).faults }
         ensures missed { IsErrOf result FileFault.Failed → (F.seen files.new).missed ≡ name.now }
-        ensures asked { IsErrOf result FileFault.Failed → (F.seen files.new).asked ≡ name.now ∷ (F.seen files.old).asked }
-        ensures no_read_failed { IsErrOf result FileFault.Failed ⊎ ((F.seen files.new).faults ≡ (F.seen files.old).faults) }
+        ensures asked { IsErrOf result FileFault.Failed
+            → (F.seen files.new).asked ≡ name.now ∷ (F.seen files.old).asked }
+        ensures no_read_failed { IsErrOf result FileFault.Failed
+            ⊎ ((F.seen files.new).faults ≡ (F.seen files.old).faults) }
     {
         if self.bytes(name).is_some() {
             return Ok(());

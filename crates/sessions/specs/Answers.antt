@@ -17,9 +17,9 @@ pub record Sight (T : Type 0) : Type 0 where
 abbrev pub sight : {L C T : Type 0} → PassOf L C T → Sight T
 sight pass = record { seen = seen pass; looks = looks pass }
 
--- The user's command of this number was answered: the pass looked at the history, and the command's effect on the newest
--- version that it then saw decided. So the place is the length of what was seen before the command's own entry, if it
--- has one.
+-- The user's command of this number was answered: the pass looked at the history, and the command's effect on the
+-- newest version that it then saw decided. So the place is the length of what was seen before the command's own entry,
+-- if it has one.
 pub record IsAnswered {C K T R : Type 0} (effect : C → K → Effect T R) (after : C → T → C) (first : C)
     (before later : Sight T) (user number : ℕ) (command : K) (told : Told R) : Type 0 where
   pub accepted : Bool
