@@ -1,7 +1,7 @@
 ghost use Rattle.std.specs.Prelude.{◌≡◌, IfOk};
 
 use crate::Name;
-use crate::attributes::copy_of;
+use dim_name::NameFault;
 use indexmap::IndexSet;
 use lists::Numbered;
 use std::alloc::{AllocError, Global};
@@ -16,4 +16,15 @@ pub fn kept_names(alloc: Global, names: IndexSet<Name>) -> Result<Numbered<Name>
         kept.insert(name, copy)?;
     }
     Ok(kept)
+}
+
+/// The same name once more.
+pub fn copy_of(alloc: Global, name: &Name) -> Result<Name, AllocError>
+    ensures { IfOk result (λ copy. copy ≡ name.now) }
+{
+    match Name::new(alloc, name.shown()) {
+        Ok(copy) => Ok(copy),
+        Err(NameFault::Memory) => Err(AllocError),
+        Err(NameFault::NotAName) => unreachable!(),
+    }
 }

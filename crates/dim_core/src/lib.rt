@@ -6,6 +6,7 @@
 #![tactic(auto)]
 
 mod attribute;
+mod attribute_draft;
 mod attributes;
 mod builder;
 mod components;

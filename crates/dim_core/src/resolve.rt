@@ -8,6 +8,7 @@ ghost use Rattle.dim_core.specs.Outline.{is_same_attribute, most_elements};
 ghost use Rattle.dim_core.specs.Refusal.{IsAnsweredBy};
 
 use crate::attribute::NamedAttribute;
+use crate::attribute_draft::AttributeDraft;
 use crate::attributes::Attributes;
 use crate::components::NamedComponents;
 use crate::{DimFault, Name};
@@ -77,14 +78,14 @@ pub fn resolve_attributes(
     ensures once { IfOk result (λ resolved. IsDistinct is_same_attribute resolved) }
     ensures answered { IsAnsweredBy (option_map BadAttribute (first_bad_among names.now.keys calls.items)) result }
 {
-    let mut resolved = Attributes::new(alloc);
+    let mut resolved = AttributeDraft::new(alloc);
     for call in calls {
         let before = resolved.as_slice().len();
         if !add_call(alloc, names, call, &mut resolved)? {
             return Err(DimFault::BadAttribute(before as u64 + 1));
         }
     }
-    Ok(resolved)
+    Ok(resolved.finish(alloc)?)
 }
 
 // Adds the attribute of a call, unless the call is bad after those that came before it.
@@ -92,7 +93,7 @@ fn add_call(
     alloc: Global,
     names: &IndexSet<Name>,
     call: NamedAttribute,
-    resolved: &mut Attributes,
+    resolved: &mut AttributeDraft,
 ) -> Result<bool, AllocError>
     requires few { length names.now.keys ≤ most_elements }
     ensures bad { IfOk result (λ added. (before : List NamedAttribute)

@@ -51,5 +51,5 @@ returns-clause-answered c =
     let parts : c.args.calls.items ≡ seen ++ into_iter_items c.loop-call.call-iterator =
     sym c.into_iter-call-iterator.ensures.into_iter_gives.0 ∙ taken_front c.into_iter-call-iterator.result seen c.loop-call.call-iterator c.loop-call.yielded_by in
     let all : c.args.calls.items ≡ seen = parts ∙ ap (λ rest. seen ++ rest) (nothing_left (into_iter_items c.loop-call.call-iterator) (sym c.loop-call.call-iterator.rest.ok.0 ∙ c.in-None.ensures.steps.0)) ∙ append-nil seen in
-    let P : Option ℕ → Type 0 = λ o. IsAnsweredBy (option_map BadAttribute o) (Ok c.loop-call.resolved) in
+    let P : Option ℕ → Type 0 = λ o. IsAnsweredBy (option_map BadAttribute o) (Ok c.in_ok-finish.field-0) in
     subst P (sym (ap (first_bad_among names) all ∙ first_bad-none names seen c.loop-call.invariant.3)) tt
