@@ -3,5 +3,6 @@ pub mod GrowthLemmas
 pub mod LevelFacts
 pub mod LoopLemmas
 pub mod Maxima
+pub mod RankLemmas
 pub mod Tests
 pub mod Walks

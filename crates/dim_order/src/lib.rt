@@ -6,9 +6,11 @@ mod growth;
 mod joining;
 mod levels;
 mod likely;
+mod likely_ranks;
 mod loops;
 mod members;
 mod order;
+mod ranks;
 
 pub use components::Components;
 pub use levels::levels_of;

@@ -27,8 +27,8 @@ pub fn likely_order(
     Ok(queue)
 }
 
-// The elements that each element is a component of.
-fn parents_of(alloc: Global, lists: &[Components]) -> Result<Vec<Vec<u32>>, AllocError>
+/// The elements that each element is a component of.
+pub fn parents_of(alloc: Global, lists: &[Components]) -> Result<Vec<Vec<u32>>, AllocError>
     requires few { length lists.now < 2 ^ 32 }
 {
     let mut parents = Vec::with_capacity(alloc, lists.len())?;

@@ -1,43 +1,44 @@
 ghost use Rattle.std.specs.Prelude.{◌≡◌, ◌<◌, ◌^◌, length, IfOk};
-ghost use Rattle.dim_order.specs.Inside.Growth.{IsGrown};
+ghost use Rattle.dim_order.specs.Inside.Ranks.{AreRanks};
 ghost use Rattle.dim_order.specs.Loops.{lies_on_loop, first_on_loop, ArePartsWithin};
 
 use crate::Components;
 use crate::growth::grow;
 use crate::joining::Joining;
-use crate::members::Members;
+use crate::ranks::{are_below, rank_at, ranks_of};
 use std::alloc::{AllocError, Global};
 
-/// The element of least index that lies on a loop of components, or None where none does. It walks the components once
-/// for each element before it that can't be ordered, since it lies above a loop.
+/// The element of least index that lies on a loop of components, or None where none does. It takes a few passes over
+/// the components.
 pub fn first_on_loop(alloc: Global, lists: &[Components]) -> Result<Option<u32>, AllocError>
     requires few { length lists.now < 2 ^ 32 }
     requires within { ArePartsWithin lists.now }
     ensures { IfOk result (λ found. found ≡ first_on_loop lists.now) }
 {
-    let ordered = grow(alloc, Joining::AfterAllParts, lists)?;
+    let ranks = ranks_of(alloc, lists)?;
     for element in 0..lists.len() {
-        if is_left_on_loop(alloc, lists, &ordered, element as u32)? {
+        if is_level_on_loop(alloc, lists, &ranks, element as u32)? {
             return Ok(Some(element as u32));
         }
     }
     Ok(None)
 }
 
-// The same as `is_on_loop`, and quicker for the elements that were ordered, which lie on none.
-fn is_left_on_loop(
+// The same as `is_on_loop`, and quicker for the elements whose components all have a lower rank: no way leads up again.
+fn is_level_on_loop(
     alloc: Global,
     lists: &[Components],
-    ordered: &Members,
+    ranks: &[u32],
     element: u32,
 ) -> Result<bool, AllocError>
     requires few { length lists.now < 2 ^ 32 }
     requires within { ArePartsWithin lists.now }
-    requires grown { IsGrown Joining.AfterAllParts lists.now ordered.now.list }
+    requires ranks { AreRanks lists.now ranks.now }
     requires there { element < length lists.now }
     ensures { IfOk result (λ on. on ≡ lies_on_loop lists.now element) }
 {
-    if ordered.has(element) {
+    let parts = lists[element as usize].as_slice();
+    if are_below(parts, ranks, rank_at(ranks, element)) {
         return Ok(false);
     }
     is_on_loop(alloc, lists, element)

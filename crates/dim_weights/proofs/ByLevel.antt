@@ -6,7 +6,9 @@ use Rattle.std.proofs.lemmas.Bool.{eqb-true}
 use Rattle.std.proofs.lemmas.Bool.Decides.{nat_tests}
 use Rattle.std.proofs.lemmas.List.Elements.{All-head, All-tail}
 use Rattle.std.proofs.lemmas.List.FromFn.{length-range_with_len, get_or-range_with_len}
-use Rattle.std.proofs.lemmas.List.Sorted.{All-permutation, Contains-permutation, length_permutation}
+use Rattle.std.specs.Ordering.{is_lt, nat_cmp}
+use Rattle.std.specs.List.Sorted.{IsSortedByKey}
+use Rattle.std.proofs.lemmas.List.Sorted.{All-permutation, Contains-permutation, length_permutation, ties_still_rise}
 use Rattle.lists.proofs.Stable.{of_key, stable_of_key}
 use Rattle.dim_core.specs.Outline.{Outline, IsDimension, IsElement, component_lists, level}
 use Rattle.dim_weights.specs.Refusal.{of_level}
@@ -94,6 +96,16 @@ range-within n k d within =
 pub range-contains : (n k : ℕ) → k < n → Contains (range_with_len 0 n) k
 range-contains n k low = (k, omega (arith, length-range_with_len 0 n), omega (arith, get_or-range_with_len 0 n k k low))
 
+not-less : (a b : ℕ) → b ≤ a → is_lt (nat_cmp a b) ≡ false
+not-less a b le = grind (arith, nat_tests)
+
+range-sorted : (n : ℕ) → IsSortedByKey (λ (x : ℕ). x) nat_cmp (range_with_len 0 n)
+range-sorted n k d low within =
+    let next : k + 1 < n = omega (arith, within, length-range_with_len 0 n) in
+    let one = get_or-range_with_len 0 n k d (omega arith) in
+    let two = get_or-range_with_len 0 n (k + 1) d next in
+    not-less (get_or (range_with_len 0 n) (k + 1) d) (get_or (range_with_len 0 n) k d) (omega (arith, one, two))
+
 module _ (d : Outline) (dim : IsDimension d) (levels ys : List ℕ) (are : AreLevels (component_lists d.elements) levels) (sorted : IsSortedByLevel levels (range_with_len 0 (length d.elements)) ys) where
   inside : All (IsElement d) ys
   inside = All-permutation (IsElement d) (range_with_len 0 (length d.elements)) ys sorted.moved (range-within (length d.elements))
@@ -122,6 +134,10 @@ module _ (d : Outline) (dim : IsDimension d) (levels ys : List ℕ) (are : AreLe
         let two = level-at (get_or ys j e) (inside j e within) in
         let up = sorted.rising i j e le within in
         omega arith;
+    ties = λ k e within same.
+        let one = level-at (get_or ys k e) (inside k e (omega arith)) in
+        let two = level-at (get_or ys (k + 1) e) (inside (k + 1) e within) in
+        ties_still_rise (λ (x : ℕ). x) (slice_index levels) (range_with_len 0 (length d.elements)) ys (range-sorted (length d.elements)) sorted.stable k e within (omega (arith, one, two, same));
     within = inside;
     each = λ element here. Contains-permutation (range_with_len 0 (length d.elements)) ys element sorted.moved (range-contains (length d.elements) element here);
     whole = length_permutation (range_with_len 0 (length d.elements)) ys sorted.moved ∙ length-range_with_len 0 (length d.elements);

@@ -1,3 +1,4 @@
+pub mod AlikeRows
 pub mod Building
 pub mod ByLevel
 pub mod Equations
@@ -7,6 +8,7 @@ pub mod Pairs
 pub mod MadeRows
 pub mod Nonzero
 pub mod Searches
+pub mod StandIns
 pub mod SumFacts
 pub mod Tables
 pub mod Touched

@@ -76,28 +76,23 @@ AreParts-of d dim element here =
 
 -- components come at a lower level, so they come before
 module _ (d : Outline) (dim : IsDimension d) (elements : List ℕ) (by : IsByLevel d elements) where
-  pub components-before : (i : ℕ) → i < length elements → list_all (λ part. is_among (take i elements) part.0) (components_of d (get_or elements i 0)) ≡ true
-  components-before i within = list_all-from_AllPass (λ part. is_among (take i elements) part.0) (components_of d (get_or elements i 0)) before
+  pub lower-before : (i other : ℕ) → i < length elements → IsElement d other → level d other < level d (get_or elements i 0) → is_among (take i elements) other ≡ true
+  lower-before i other within inside lower =
+      let place = by.each other inside in
+      let at : get_or elements place.0 0 ≡ other = get_or_within elements place.0 0 _ place.1 ∙ place.2 in
+      decide place.0 at place.1 (cases_lt place.0 i)
     where
-      element : ℕ
-      element = get_or elements i 0
+      decide : (j : ℕ) → get_or elements j 0 ≡ other → j < length elements → (j < i) ⊎ (i ≤ j) → is_among (take i elements) other ≡ true
+      decide j at long (inl front) = subst (λ (x : ℕ). is_among (take i elements) x ≡ true) at (among-front elements i j front long)
+      decide j at long (inr after) =
+          let up = by.rising i j 0 after long in
+          let same : level d (get_or elements j 0) ≡ level d other = ap (level d) at in
+          absurd (omega arith)
 
-      before : All (λ part. is_among (take i elements) part.0 ≡ true) (components_of d (get_or elements i 0))
-      before k e there =
-          let here : get_or elements i 0 < length d.elements = by.within i 0 within in
-          let part = get_or (components_of d (get_or elements i 0)) k e in
-          let inside : (get_or (components_of d (get_or elements i 0)) k e).0 < length d.elements = (dim.parts (get_or elements i 0) k e there).0 in
-          let place = by.each (get_or (components_of d (get_or elements i 0)) k e).0 inside in
-          let at : get_or elements place.0 0 ≡ (get_or (components_of d (get_or elements i 0)) k e).0 = get_or_within elements place.0 0 _ place.1 ∙ place.2 in
-          let lower = component-lower d dim (get_or elements i 0) here k e there in
-          decide (get_or (components_of d (get_or elements i 0)) k e).0 place.0 at place.1 (omega arith) (cases_lt place.0 i)
-        where
-          decide : (part j : ℕ) → get_or elements j 0 ≡ part → j < length elements → level d part < level d (get_or elements i 0) → (j < i) ⊎ (i ≤ j) → is_among (take i elements) part ≡ true
-          decide part j at long less (inl front) = subst (λ (x : ℕ). is_among (take i elements) x ≡ true) at (among-front elements i j front long)
-          decide part j at long less (inr after) =
-              let up = by.rising i j 0 after long in
-              let same : level d (get_or elements j 0) ≡ level d part = ap (level d) at in
-              absurd (omega arith)
+  pub components-before : (i : ℕ) → i < length elements → list_all (λ part. is_among (take i elements) part.0) (components_of d (get_or elements i 0)) ≡ true
+  components-before i within =
+      list_all-from_AllPass (λ part. is_among (take i elements) part.0) (components_of d (get_or elements i 0))
+      (λ k e there. lower-before i (get_or (components_of d (get_or elements i 0)) k e).0 within (dim.parts (get_or elements i 0) k e there).0 (component-lower d dim (get_or elements i 0) (by.within i 0 within) k e there))
 
   -- so the row is that of the element
   pub row-is : (rows : List (List (ℕ × ℤ))) (i : ℕ) → i < length elements → ((x : ℕ) → is_among (take i elements) x ≡ true → leaves_in rows x ≡ leaves_of d x)

@@ -1,3 +1,4 @@
+pub mod Alike
 pub mod Kept
 pub mod Levels
 pub mod Rows

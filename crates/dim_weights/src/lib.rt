@@ -13,6 +13,7 @@ pub use fault::WeightFault;
 pub use laws::{coefficients_solve, only_coefficients_solve, only_leaves_count};
 pub use weights::{MAX_COEFFICIENT, MAX_PAIRS, Weights};
 
+mod alike;
 mod fault;
 mod laws;
 mod levels;

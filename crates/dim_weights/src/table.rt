@@ -1,9 +1,10 @@
 ghost use Rattle.std.specs.Prelude.{◌≡◌, ℕ, ◌+◌, ◌<◌, ◌≤◌, ◌⊎◌, pos, [], Err, length, IfOk, OnOk, IfSome, IfNone};
 ghost use Rattle.std.specs.Prelude.{IsOkUnless};
 ghost use Rattle.dim_core.specs.Outline.{IsDimension};
-ghost use Rattle.dim_core.specs.Outline.{IsElement};
+ghost use Rattle.dim_core.specs.Outline.{IsElement, components_of};
 ghost use Rattle.dim_weights.specs.Table.{leaves_in, greatest_of, greatest_in};
 ghost use Rattle.dim_weights.specs.Refusal.{fault_of};
+ghost use Rattle.dim_weights.specs.Inside.Alike.{HasSameRow, HaveSameRows};
 ghost use Rattle.dim_weights.specs.Inside.Sums.{AreRows, AreZero};
 ghost use Rattle.dim_weights.specs.Inside.Rows.{pairs_over, row_of, with_row};
 ghost use Rattle.dim_weights.specs.Coefficients.{most_coefficient};
@@ -52,11 +53,13 @@ impl TableBuilder {
         })
     }
 
-    /// Makes the row of an element, whose components have theirs.
+    /// Makes the row of an element, whose components have theirs, as has each element that stands in for one of them or
+    /// for the element.
     pub fn add(
         &mut self,
         sums: &mut Sums,
         dimension: &Dimension,
+        alike: &[u32],
         element: u32,
     ) -> Result<(), WeightFault>
         requires valid { IsDimension dimension.now }
@@ -64,6 +67,9 @@ impl TableBuilder {
         requires sums { length sums.old ≡ length dimension.now.elements }
         requires zero { AreZero sums.old }
         requires within { IsElement dimension.now element }
+        requires same { HaveSameRows self.old.rows alike.now (components_of dimension.now element) }
+        requires made { HasSameRow (length dimension.now.elements) self.old.rows alike.now element
+            (components_of dimension.now element) }
         ensures refused { IfSome (fault_of element (row_of dimension.now self.old element)
             (self.old.count + length (row_of dimension.now self.old element)))
             (λ fault. (result ≡ Err fault) ⊎ (result ≡ Err WeightFault.Memory)) }
@@ -74,7 +80,7 @@ impl TableBuilder {
         ensures sums { length sums.new ≡ length sums.old }
     {
         let parts = dimension.components(element);
-        let found = pairs_over(self.alloc, sums, &self.rows, element, parts)?;
+        let found = pairs_over(self.alloc, sums, &self.rows, alike, element, parts)?;
         let Some(pairs) = found else {
             return Err(WeightFault::CoefficientTooLarge(element));
         };

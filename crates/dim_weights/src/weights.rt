@@ -8,6 +8,7 @@ ghost use Rattle.dim_weights.specs.Refusal.{refusal_of};
 ghost use Rattle.dim_weights.specs.Inside.Sums.{AreRows};
 ghost use Rattle.dim_weights.specs.Coefficients.{most_coefficient};
 
+use crate::alike::alike_of;
 use crate::fault::WeightFault;
 use crate::levels::elements_by_level;
 use crate::sums::Sums;
@@ -112,11 +113,12 @@ fn rows_of(alloc: Global, dimension: &Dimension) -> Result<Vec<ListOf<(u32, i64)
     ensures accepted { IfNone (refusal_of dimension.now) (IsOkUnless result WeightFault.Memory) }
 {
     let elements = elements_by_level(alloc, dimension)?;
+    let alike = alike_of(alloc, dimension)?;
     let mut sums = Sums::new(alloc, dimension.len() as usize)?;
     let mut table = TableBuilder::new(alloc, dimension.len() as usize)?;
     let by_level = elements.as_slice();
     for element in by_level {
-        table.add(&mut sums, dimension, *element)?;
+        table.add(&mut sums, dimension, &alike, *element)?;
     }
     Ok(table.into_rows())
 }

@@ -1,4 +1,4 @@
-use Rattle.std.proofs.Common.{◌≡◌, slice_index, get_or, ◌+◌, pos, arith}
+use Rattle.std.proofs.Common.{slice_index, get_or, ◌+◌, pos, arith}
 use Rattle.dim_order.proofs.LevelFacts.{level_over-more}
 use Rattle.dim_order.proofs.Maxima.{ord_max-is}
 use Rattle.dim_order.proofs.levels.level_over.Goals as goal

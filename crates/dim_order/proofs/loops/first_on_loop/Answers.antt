@@ -5,7 +5,7 @@ use Rattle.dim_order.proofs.loops.first_on_loop.Goals as goal
 
 pub returns-then-branch : goal.returns-then-branch
 returns-then-branch c =
-    let here : lies_on_loop c.args.lists.now c.loop-element.element ≡ true = cc (c.in_ok-is_left_on_loop.ensures) in
+    let here : lies_on_loop c.args.lists.now c.loop-element.element ≡ true = cc (c.in_ok-is_level_on_loop.ensures) in
     sym (first_on_loop-first c.args.lists.now c.loop-element.element c.loop-element-test.true c.loop-element.invariant here)
 
 pub returns : goal.returns

@@ -1,8 +1,11 @@
-use Rattle.std.proofs.Common.{◌∙◌, ◌+◌, ◌<◌, Err, ap, sym, subst, ℕ, List, length, take, arith}
+use Rattle.std.proofs.Common.{◌∙◌, ◌+◌, ◌<◌, Err, ap, sym, subst, ℕ, List, length, take, get_or, arith}
 use Rattle.std.proofs.lemmas.Result.{err_from_is_err_and}
 use Rattle.dim_weights.specs.Refusal.{fault_at, refusal_of}
 use Rattle.dim_weights.specs.Inside.Rows.{Rows, AreRowsOf}
 use Rattle.dim_weights.specs.Inside.Levels.{IsByLevel}
+use Rattle.dim_core.specs.Outline.{components_of}
+use Rattle.dim_weights.specs.Inside.Alike.{HaveSameRows, HasSameRow}
+use Rattle.dim_weights.proofs.AlikeRows.{same-rows, same-row}
 use Rattle.dim_weights.proofs.MadeRows.{AreRowsOf-none, AreRowsOf-more, IsWeightsOf-all, fault-is, refusal-some, refusal-none, cause-refused, cause-accepted, ok-free, free-more}
 use Rattle.dim_weights.proofs.weights.rows_of.Goals as goal
 
@@ -13,6 +16,23 @@ loop-element-init c = record {
   zero = c.in_ok-sums.ensures.zero;
   free = λ j low. absurd (omega arith);
 }
+
+pub add-requires-clause-same : goal.add-requires-clause-same
+add-requires-clause-same c =
+    let P : List ℕ → Type 0 = IsByLevel c.args.dimension.now in
+    let by = subst P (sym c.as_slice-by_level.ensures.value) c.in_ok-elements.ensures in
+    let H : List ℕ → Type 0 = λ xs. HaveSameRows c.loop-element.table.rows xs (components_of c.args.dimension.now (get_or c.as_slice-by_level.result.now c.loop-element.element-index 0)) in
+    subst H (sym c.deref.ensures.value)
+    (same-rows c.args.dimension.now c.len.ensures.valid c.as_slice-by_level.result.now by c.in_ok-alike.alike.items c.in_ok-alike.ensures c.loop-element.table c.loop-element.element-index c.loop-element-test.true c.loop-element.invariant.made)
+
+pub add-requires-clause-made : goal.add-requires-clause-made
+add-requires-clause-made c =
+    let P : List ℕ → Type 0 = IsByLevel c.args.dimension.now in
+    let by = subst P (sym c.as_slice-by_level.ensures.value) c.in_ok-elements.ensures in
+    let element : ℕ = get_or c.as_slice-by_level.result.now c.loop-element.element-index 0 in
+    let H : List ℕ → Type 0 = λ xs. HasSameRow (length c.args.dimension.now.elements) c.loop-element.table.rows xs element (components_of c.args.dimension.now element) in
+    subst H (sym c.deref.ensures.value)
+    (same-row c.args.dimension.now c.len.ensures.valid c.as_slice-by_level.result.now by c.in_ok-alike.alike.items c.in_ok-alike.ensures c.loop-element.table c.loop-element.element-index c.loop-element-test.true c.loop-element.invariant.made)
 
 pub returns-in_err-add-clause-refused : goal.returns-in_err-add-clause-refused
 returns-in_err-add-clause-refused c =
