@@ -1,3 +1,4 @@
 pub mod FedCount
 pub mod RoomFacts
+pub mod SlotFacts
 pub mod Works

@@ -1,4 +1,5 @@
 pub mod Snapshots
+pub mod Slots
 pub mod FedCount
 pub mod Works
 pub mod Inside

@@ -9,11 +9,13 @@
 #![tactic(auto)]
 
 pub use cell_versions::NextFault;
-pub use snapshot::{SLOTS, Snapshot};
+pub use slots::{CELLS_PER_SLOT, MAX_SLOTS, MIN_SLOTS};
+pub use snapshot::Snapshot;
 pub use work::Work;
 
 mod next_snapshot;
 mod room;
+mod slots;
 mod snapshot;
 mod snapshot_read;
 mod work;

@@ -11,7 +11,8 @@ ghost use Rattle.memo_cells.specs.Values.{cell_value};
 ghost use Rattle.cell_reader.specs.FedCount.{fed_count};
 ghost use Rattle.cell_reader.specs.Snapshots.{known_in, memory_of, version_of};
 
-use crate::snapshot::{SLOTS, Snapshot};
+use crate::slots::slots_for;
+use crate::snapshot::Snapshot;
 use accepted::Accepted;
 use cell_store::Store;
 use cell_versions::{NextFault, Version};
@@ -30,7 +31,7 @@ impl Snapshot {
         ensures stored { IfOk result (λ first. (version_of first).stored ≡ []) }
     {
         let version = Version::first(alloc, accepted)?;
-        let first = Snapshot::of(alloc, version)?;
+        let first = Snapshot::of(alloc, version, 0)?;
         Ok(first)
     }
 
@@ -55,7 +56,7 @@ impl Snapshot {
             (result ≡ Err (NextFault.FedLimit (suc most_fed))) ⊎ (result ≡ Err NextFault.Memory) }
     {
         let version = version_after(alloc, &self.version, writes)?;
-        let next = Snapshot::of(alloc, version)?;
+        let next = Snapshot::of(alloc, version, writes.len())?;
         Ok(next)
     }
 
@@ -73,11 +74,12 @@ impl Snapshot {
         Ok(Snapshot { version, memo })
     }
 
-    // The snapshot of a version, in which no value is kept yet.
-    fn of(alloc: Global, version: Version) -> Result<Snapshot, AllocError>
+    // The snapshot of a version that so many writes made, in which no value is kept yet.
+    fn of(alloc: Global, version: Version, writes: usize) -> Result<Snapshot, AllocError>
         ensures { IfOk result (λ snapshot. version_of snapshot ≡ version) }
     {
-        let memo = memory_for(alloc, &version, SLOTS)?;
+        let slots = slots_for(version.model().space().size(), writes);
+        let memo = memory_for(alloc, &version, slots)?;
         let version = Arc::new(alloc, version)?;
         Ok(Snapshot { version, memo })
     }

@@ -8,9 +8,6 @@ use memo_cells::SharedMemo;
 use std::alloc::Global;
 use std::sync::Arc;
 
-/// Into how many slots the cells of a version fall. Each keeps the value of one cell.
-pub const SLOTS: u32 = 4_096;
-
 /// A version of the numbers, and a memory for the values of its cells that readers share.
 #[derive(Drop)]
 pub struct Snapshot {

@@ -1,14 +1,15 @@
 -- What the evaluation of a cell asks, and that it is answered rightly.
-use Rattle.std.proofs.Common.{◌≡◌, refl, sym, ◌∙◌, ap, subst, arith, ℕ, suc, ◌<◌, ltb, eqb, Bool, true, false, ◌&&◌, ◌||◌, ℤ, List, [], ◌∷◌, ◌++◌, drop, map, length, Contains, Option, Some, None}
-use Rattle.std.specs.Prelude.{is_some, not, slice_get, Result, Ok, Err, IfErr, if◌then◌else◌}
+use Rattle.std.proofs.Common.{◌≡◌, refl, sym, ◌∙◌, ap, subst, arith, ℕ, suc, ◌<◌, ltb, eqb, Bool, true, false, ◌&&◌, ℤ, List, [], ◌∷◌, ◌++◌, drop, map, length, Contains, Option, Some, None}
+use Rattle.std.specs.Prelude.{is_some, slice_get, Result, Ok, Err, IfErr, if◌then◌else◌}
 use Rattle.std.specs.List.{All, range_with_len}
-use Rattle.std.proofs.Math.Path.{fun_ext}
+use Rattle.std.proofs.lemmas.Bool.Decides.{Decides-int_eq}
 use Rattle.std.proofs.lemmas.Bool.{lt-ltb, ltb-true, and_parts, eq-eqb, eqb-true}
 use Rattle.std.proofs.lemmas.Option.{slice_get_within}
 use Rattle.std.proofs.lemmas.List.Elements.{All-head, All-tail, All-nil, All-contains, All-append, Contains-append_left, Contains-append_right}
 use Rattle.accepted.specs.Checks.{IsAccepted}
 use Rattle.cell_versions.specs.Versions.{NumberedVersion}
 use Rattle.cube_fixed.specs.declared.value.Value.{Value}
+use Rattle.cube_fixed.specs.declared.value.Value.TheVariants.{Num, Over}
 use Rattle.cube_space.specs.Cells.{IsSpace, IsCell, cube_of, size_of, is_leaf_cell}
 use Rattle.cube_space.specs.Layout.{axes}
 use Rattle.dim_core.specs.Outline.{Outline}
@@ -34,9 +35,9 @@ use Rattle.rule_model.specs.Targets.{parts_at, with_components, component_cells}
 use Rattle.stored_laws.specs.Stored.{stored_in}
 use Rattle.cell_values.specs.declared.missing.Missing.{Missing}
 use Rattle.cell_values.specs.Reading.{value_on}
-use Rattle.cell_values.specs.Inside.Questions.{answer_on, base_on, children_on, asks_on, depth_on, components_on, is_grounded, LeadsTo}
+use Rattle.cell_values.specs.Inside.Questions.{answer_on, base_on, children_on, readings_on, asks_on, depth_on, components_on, is_grounded, LeadsTo}
 use Rattle.cell_values.specs.Inside.Frames.{AreRight}
-use Rattle.cell_values.specs.Inside.Answers.{ListedAnswers, AnswerTerms, is_told, answered_value, answered, may_ask, IsMissing, AreMissing}
+use Rattle.cell_values.specs.Inside.Answers.{ListedAnswers, AnswerTerms, is_same_value, may_ask, IsMissing, AreMissing}
 use Rattle.cell_values.proofs.Members.{filter-member, drop-member, all-pass as every-passes, nonzero-counts}
 use Rattle.cell_values.proofs.Values.{formed, ordered}
 use Rattle.cell_values.proofs.Work.{asks-has}
@@ -71,43 +72,32 @@ listed-right v (one ∷ known) right q a is = by (is_same one.0 q) refl (λ late
 
 -- ---- what is answered
 
--- where the remembered values are those on the version, the answers are those of the table of values
-pub answered-is : (at : ListedAnswers) (values : ℕ → Value) (holds : ℕ → Bool) → values ≡ value_on at.version
-    → answered (record { listed = at; values = values; holds = holds }) ≡ readings_of (system_of at.version.model) (stored_in at.version.stored) (value_on at.version)
-unfolding answered answered_value base_on children_on
-answered-is at values holds are = ap (λ (table : ℕ → Value). record { value = table; base = base_on at.version; children = children_on at.version }) (fun_ext same)
-  where
-    same : (c : ℕ) → answered_value (record { listed = at; values = values; holds = holds }) c ≡ value_on at.version c
-    same c = by (not (holds c) && (is_told at.version c || is_some (listed at.known (of_value c)))) refl
-      where
-        by : (b : Bool) → (not (holds c) && (is_told at.version c || is_some (listed at.known (of_value c)))) ≡ b → answered_value (record { listed = at; values = values; holds = holds }) c ≡ value_on at.version c
-        by true is = rw is refl
-        by false is = rw is (ap (λ (table : ℕ → Value). table c) are)
+-- the answers are those of the table of values
+pub readings-are : (v : NumberedVersion) → readings_on v ≡ readings_of (system_of v.model) (stored_in v.stored) (value_on v)
+unfolding readings_on base_on children_on
+readings-are v = refl
 
-pub not-held : (o : Option Value) → ((a : Value) → o ≡ Some a → ⊥) → is_some o ≡ false
-not-held None none = refl
-not-held (Some a) none = absurd (none a refl)
+pub readings-value : (v : NumberedVersion) → (readings_on v).value ≡ value_on v
+unfolding readings_on
+readings-value v = refl
 
-module _ (terms : AnswerTerms) (c : ℕ) where
-  pub value-held : terms.holds c ≡ true → (answered terms).value c ≡ terms.values c
-  unfolding answered answered_value
-  value-held held = rw held refl
+pub readings-base : (v : NumberedVersion) → (readings_on v).base ≡ base_on v
+unfolding readings_on
+readings-base v = refl
 
-  pub value-told : terms.holds c ≡ false → is_told terms.listed.version c ≡ true → (answered terms).value c ≡ value_on terms.listed.version c
-  unfolding answered answered_value
-  value-told free is = rw (free, is) refl
+pub readings-children : (v : NumberedVersion) → (readings_on v).children ≡ children_on v
+unfolding readings_on
+readings-children v = refl
 
-  pub value-listed : (a : Value) → terms.holds c ≡ false → listed terms.listed.known (of_value c) ≡ Some a → (answered terms).value c ≡ value_on terms.listed.version c
-  unfolding answered answered_value
-  value-listed a free is = by (is_told terms.listed.version c) refl
-    where
-      by : (b : Bool) → is_told terms.listed.version c ≡ b → answered_value terms c ≡ value_on terms.listed.version c
-      by true told = rw (free, told) refl
-      by false told = rw (free, told, is) refl
+same-values : (a b : Value) → is_same_value a b ≡ true → a ≡ b
+same-values (Num a) (Num b) same = ap Num ((Decides-int_eq a b).0 same)
+same-values (Num a) Over same = absurd (cc)
+same-values Over (Num b) same = absurd (cc)
+same-values Over Over same = refl
 
-  pub value-remembered : terms.holds c ≡ false → is_told terms.listed.version c ≡ false → listed terms.listed.known (of_value c) ≡ None → (answered terms).value c ≡ terms.values c
-  unfolding answered answered_value
-  value-remembered free told none = rw (free, told, none) refl
+same-self : (a : Value) → is_same_value a a ≡ true
+same-self (Num a) = (Decides-int_eq a a).1 refl
+same-self Over = refl
 
 -- ---- what is asked
 
@@ -127,16 +117,20 @@ module _ (v : NumberedVersion) (valid : IsSpace v.model.space) (rules : AreRules
       All-contains (λ p. Throughout (system_of v.model) rule ((system_of v.model).is_leaf c) p (λ c t. depth (system_of v.model) t < depth (system_of v.model) c)) (precedents f) p
       (own ((system_of v.model).is_leaf c) f given.1) reads c t here precedes
 
-  module _ (known : Known) (values : ℕ → Value) (holds : ℕ → Bool) where
+  module _ (known : Known) (values : ℕ → Value) (are : values ≡ value_on v) where
     abbrev terms : AnswerTerms
-    terms = record { listed = record { version = v; known = known; cell = c }; values = values; holds = holds }
+    terms = record { listed = record { version = v; known = known; cell = c }; values = values }
 
     own-base : may_ask terms (of_base c) ≡ true
     own-base = let a = lt-ltb c (size_of v.model.space) is_cell in let b : eqb c c ≡ true = eq-eqb c c refl in rw (a, b) refl
 
     may-name : (x : ℕ) → IsCell v.model.space x → depth (system_of v.model) x < depth (system_of v.model) c → may_ask terms (of_value x) ≡ true
     unfolding depth_on
-    may-name x is less = let a = lt-ltb x (size_of v.model.space) is in let b = lt-ltb (depth (system_of v.model) x) (depth (system_of v.model) c) less in rw (a, b) refl
+    may-name x is less =
+        let a = lt-ltb x (size_of v.model.space) is in
+        let b = lt-ltb (depth (system_of v.model) x) (depth (system_of v.model) c) less in
+        let e : is_same_value (values x) (value_on v x) ≡ true = subst (λ (y : Value). is_same_value y (value_on v x) ≡ true) (sym (ap (λ (table : ℕ → Value). table x) are)) (same-self (value_on v x)) in
+        rw (a, b, e) refl
 
     may-sum : (d : ℕ) → is_some (component_cells v.model.space c d) ≡ true
         → ((t : ℕ) → HasPrecedent (system_of v.model) (Components d) c t → depth (system_of v.model) t < depth (system_of v.model) c) → may_ask terms (of_children c d) ≡ true
@@ -166,10 +160,10 @@ module _ (v : NumberedVersion) (valid : IsSpace v.model.space) (rules : AreRules
             rw (a, b, e, g) refl
 
     -- all that the statements from a place on ask may be asked
-    pub evaluation-passes : (k : ℕ) → passes (system_of v.model) (answered terms) c (may_ask terms) (drop k (rules_for v.model c)) ≡ true
+    pub evaluation-passes : (k : ℕ) → passes (system_of v.model) (readings_on v) c (may_ask terms) (drop k (rules_for v.model c)) ≡ true
     unfolding system_of
     evaluation-passes k =
-        all-pass (system_of v.model) (answered terms) c (may_ask terms) own-base (drop k (rules_for v.model c)) (λ rule f has part p reads. may rule f (drop-member k (rules_for v.model c) rule has) part p reads)
+        all-pass (system_of v.model) (readings_on v) c (may_ask terms) own-base (drop k (rules_for v.model c)) (λ rule f has part p reads. may rule f (drop-member k (rules_for v.model c) rule has) part p reads)
       where
         may : (rule : Rule) (f : Formula) → Contains (rules_for v.model c) rule → part_at (system_of v.model) c rule ≡ Some f → (p : Precedent) → Contains (precedents f) p → MayRead (system_of v.model) (may_ask terms) c p
         may rule f has part (Named r) reads = λ x names. may-name x ((formed v valid rules accepted).target_cell r c x is_cell names) (reads-less rule f has part (Named r) reads x names)
@@ -177,18 +171,27 @@ module _ (v : NumberedVersion) (valid : IsSpace v.model.space) (rules : AreRules
 
 -- ---- what is missing
 
-module _ (at : ListedAnswers) (values : ℕ → Value) (holds : ℕ → Bool) where
+module _ (at : ListedAnswers) (values : ℕ → Value) where
   abbrev own_terms : AnswerTerms
-  own_terms = record { listed = at; values = values; holds = holds }
+  own_terms = record { listed = at; values = values }
 
   pub value-within : (x : ℕ) → may_ask own_terms (of_value x) ≡ true → IsCell at.version.model.space x
   value-within x may = ltb-true x (size_of at.version.model.space) (and_parts (ltb x (size_of at.version.model.space)) _ may).0
 
+  value-parts : (x : ℕ) → may_ask own_terms (of_value x) ≡ true → (depth_on at.version x < depth_on at.version at.cell) × (is_same_value (values x) (value_on at.version x) ≡ true)
+  value-parts x may =
+      let rest = (and_parts (ltb x (size_of at.version.model.space)) _ may).1 in
+      let parts = and_parts (ltb (depth_on at.version x) (depth_on at.version at.cell)) (is_same_value (values x) (value_on at.version x)) rest in
+      (ltb-true (depth_on at.version x) (depth_on at.version at.cell) parts.0, parts.1)
+
+  -- what is remembered of it is right
+  pub value-right : (x : ℕ) → may_ask own_terms (of_value x) ≡ true → values x ≡ value_on at.version x
+  value-right x may = same-values (values x) (value_on at.version x) (value-parts x may).1
+
   pub value-missing : (x : ℕ) → may_ask own_terms (of_value x) ≡ true → listed at.known (of_value x) ≡ None → IsMissing at (of_value x)
   value-missing x may none =
-      let parts = and_parts (ltb x (size_of at.version.model.space)) (ltb (depth_on at.version x) (depth_on at.version at.cell)) may in
-      let inside = ltb-true x (size_of at.version.model.space) parts.0 in
-      let less = ltb-true (depth_on at.version x) (depth_on at.version at.cell) parts.1 in
+      let inside = value-within x may in
+      let less = (value-parts x may).0 in
       record {
         leads = record {
           is_asked = inside;
@@ -283,11 +286,3 @@ missing-or at q (Err m) (none, first, more) missing = missing-one at m q (missin
 pub all-added : (P : Ask → Type 0) (xs ys zs : List Ask) (b : Bool) → xs ≡ (if b then ys ++ zs else ys) → All P ys → All P zs → All P xs
 all-added P xs ys zs true is own more = subst (All P) (sym is) (All-append P ys zs own more)
 all-added P xs ys zs false is own more = subst (All P) (sym is) own
-
-pub answered-base : (terms : AnswerTerms) → (answered terms).base ≡ base_on terms.listed.version
-unfolding answered
-answered-base own = refl
-
-pub answered-children : (terms : AnswerTerms) → (answered terms).children ≡ children_on terms.listed.version
-unfolding answered
-answered-children own = refl

@@ -19,7 +19,7 @@ fn most_pending(answered: usize) -> usize {
     answered.saturating_mul(3).saturating_add(8)
 }
 
-/// What the evaluation of a cell is answered: from the list, at once, or from the memory. Else the question is missing.
+/// What the evaluation of a cell is answered: from the memory, from the list, or at once. Else the question is missing.
 #[derive(Drop)]
 pub(crate) struct Answers<'a> {
     alloc: Global,
@@ -78,7 +78,8 @@ impl<'a> Answers<'a> {
 
 impl<'a, M: Memory> Refs<M> for Answers<'a> {
     ghost use Rattle.std.specs.Prelude.{◌≡◌, Ok, IfOk, IfErr};
-    ghost use Rattle.cell_values.specs.Inside.Answers.{AnswerTerms, AreMissing, answered, may_ask};
+    ghost use Rattle.cell_values.specs.Inside.Answers.{AnswerTerms, AreMissing, may_ask};
+    ghost use Rattle.cell_values.specs.Inside.Questions.{readings_on};
     ghost use Rattle.memo_cells.specs.Knowledge.{Grew};
     ghost use Rattle.cell_values.specs.Inside.Growth.{grew-same, grew-later};
 
@@ -86,9 +87,9 @@ impl<'a, M: Memory> Refs<M> for Answers<'a> {
 
     ghost Terms = { AnswerTerms };
 
-    ghost terms = { λ answers memory. record { listed = answers; values = M.values memory; holds = M.holds memory } };
+    ghost terms = { λ answers memory. record { listed = answers; values = M.values memory } };
 
-    ghost readings = { answered };
+    ghost readings = { λ terms. readings_on terms.listed.version };
 
     ghost may_ask = { may_ask };
 
@@ -97,20 +98,15 @@ impl<'a, M: Memory> Refs<M> for Answers<'a> {
     ghost later = { λ before after. Grew (M.known before) (M.known after) };
 
     fn value(&self, memory: &mut M, cell: u64) -> Result<Value, Missing> {
-        if let Some(value) = memory.recall(cell) {
+        if let Some(value) = remembered(self.version, memory, cell) {
             return Ok(value);
         }
         match self.listed(Ask::Value(cell)) {
             Ok(value) => Ok(value),
-            Err(missing) => {
-                if let Some(value) = told(self.version, cell) {
-                    return Ok(value);
-                }
-                match remembered(self.version, memory, cell) {
-                    Some(value) => Ok(value),
-                    None => Err(missing),
-                }
-            }
+            Err(missing) => match told(self.version, cell) {
+                Some(value) => Ok(value),
+                None => Err(missing),
+            },
         }
     }
 

@@ -81,8 +81,8 @@ fn cell_value<M: Memory>(version: &Version, memory: &mut M, cell: u64) -> Option
     ensures values { M.values memory.new ≡ M.values memory.old }
     ensures grew { Grew (M.known memory.old) (M.known memory.new) }
 {
-    match told(version, cell) {
+    match remembered(version, memory, cell) {
         Some(value) => Some(value),
-        None => remembered(version, memory, cell),
+        None => told(version, cell),
     }
 }

@@ -1,5 +1,5 @@
 ghost use Rattle.std.specs.Prelude.{◌≡◌, IfSome};
-ghost use Rattle.cell_values.specs.Reading.{AreValuesOn, value_on};
+ghost use Rattle.cell_values.specs.Reading.{AreValuesOn, IsKept, value_on};
 ghost use Rattle.cube_space.specs.Cells.{IsCell};
 ghost use Rattle.memo_cells.specs.Knowledge.{Grew};
 
@@ -13,7 +13,6 @@ pub(crate) fn remembered<M: Memory>(version: &Version, memory: &mut M, cell: u64
     requires { IsCell version.now.model.space cell }
     ensures value { IfSome result (λ v. v ≡ M.values memory.old cell) }
     ensures values { M.values memory.new ≡ M.values memory.old }
-    ensures holds { M.holds memory.new ≡ M.holds memory.old }
     ensures grew { Grew (M.known memory.old) (M.known memory.new) }
 {
     is_sound(version);
@@ -38,9 +37,11 @@ pub(crate) fn keep<M: Memory>(version: &Version, memory: &mut M, cell: u64, valu
     requires cell { IsCell version.now.model.space cell }
     requires values { AreValuesOn version.now (M.values memory.old) }
     requires value { value.now ≡ value_on version.now cell }
+    ensures kept { IsKept (M.known memory.new) cell }
     ensures values { M.values memory.new ≡ M.values memory.old }
     ensures grew { Grew (M.known memory.old) (M.known memory.new) }
 {
     is_sound(version);
-    memory.keep(cell, value);
+    // a value that there is no memory for is worked out again
+    let _ = memory.keep(cell, value);
 }

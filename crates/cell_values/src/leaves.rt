@@ -12,7 +12,7 @@ ghost use Rattle.stored_laws.specs.Stored.{stored_in};
 use crate::frames::LeafSum;
 use crate::keeping::remembered;
 use crate::sound::is_sound;
-use crate::told::governing_leaf;
+use crate::told::governing;
 use cell_versions::Version;
 use cube_fixed::{Money, Value};
 use memo_cells::Memory;
@@ -78,10 +78,12 @@ fn leaf_value<M: Memory>(version: &Version, memory: &mut M, leaf: &Leaf) -> Opti
     ensures values { M.values memory.new ≡ M.values memory.old }
     ensures grew { Grew (M.known memory.old) (M.known memory.new) }
 {
-    let model = version.model();
     is_sound(version);
-    match governing_leaf(model, leaf.cell) {
+    if let Some(value) = remembered(version, memory, leaf.cell) {
+        return Some(value);
+    }
+    match governing(version.model(), leaf.cell, true) {
         None => Some(Value::Num(leaf.stored.unwrap_or(Money::ZERO))),
-        Some(_) => remembered(version, memory, leaf.cell),
+        Some(_) => None,
     }
 }

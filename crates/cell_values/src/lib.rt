@@ -21,6 +21,7 @@ mod laws;
 mod leaves;
 mod machine;
 mod missing;
+mod origin;
 mod read;
 mod sound;
 mod told;

@@ -10,13 +10,13 @@ ghost use Rattle.solver.specs.Turns.{MatchOpened};
 use crate::begins::{base_sum, component_sum, evaluation, total};
 use crate::frames::Frame;
 use crate::keeping::{keep, reserve};
-use crate::sound::is_sound;
+use crate::origin::Origin;
+use crate::told::origin_of;
 use crate::turns::{give, go_on};
 use cell_versions::Version;
 use cube_fixed::{Steps, Value};
 use memo_cells::Memory;
 use rule_evaluate::Ask;
-use rule_model::governing;
 use solver::{Opened, Problem, Turn};
 use std::alloc::{AllocError, Global};
 use std::sync::ledger::Ledger;
@@ -86,20 +86,14 @@ impl<'a> Reader<'a> {
             × (work_left self.old.version.now frame < work_on self.old.version.now (of_value cell))) }
         ensures version { self.new.version.now ≡ self.old.version.now }
     {
-        is_sound(self.version);
-        let model = self.version.model();
-        match governing(model, cell) {
-            Some(statement) => {
+        match origin_of(self.version, cell) {
+            Origin::Stored(value) => Opened::Known(value),
+            Origin::Quiet => Opened::Known(Value::ZERO),
+            Origin::Statement(statement) => {
                 let known = self.list();
                 Opened::Begun(evaluation(self.alloc, self.version, cell, statement, known))
             }
-            None => {
-                if model.space().is_leaf(cell) {
-                    Opened::Known(Value::Num(self.version.store().get(cell)))
-                } else {
-                    Opened::Begun(total(self.version, cell))
-                }
-            }
+            Origin::Leaves => Opened::Begun(total(self.version, cell)),
         }
     }
 }

@@ -1,6 +1,7 @@
-ghost use Rattle.std.specs.Prelude.{◌≡◌, ◌⊎◌, true, false, Some, IfOk, IfSome, IfNone, IsSome};
+ghost use Rattle.std.specs.Prelude.{◌≡◌, ◌⊎◌, true, false, Some, IfOk};
 ghost use Rattle.cell_values.specs.Reading.{AreValuesOn, IsKept, IsPlainTotal, IsUngoverned, IsWorkedOut, MayCount};
 ghost use Rattle.cell_values.specs.Reading.{value_on};
+ghost use Rattle.cell_values.specs.Inside.Origins.{IsOrigin};
 ghost use Rattle.cube_space.specs.Cells.{IsCell, is_leaf_cell};
 ghost use Rattle.memo_cells.specs.Knowledge.{Grew, Knows};
 ghost use Rattle.rule_laws.specs.RuleSystem.{dense_value};
@@ -12,13 +13,13 @@ use crate::begins::evaluation;
 use crate::frames::{Frame, LeafSum};
 use crate::keeping::{keep, reserve};
 use crate::machine::Reader;
+use crate::origin::Origin;
 use crate::sound::is_sound;
-use crate::told::told;
+use crate::told::origin_of;
 use cell_versions::Version;
 use cube_fixed::{Steps, Value};
 use memo_cells::{Look, Memory};
 use rule_evaluate::Ask;
-use rule_model::governing;
 use solver::{Opened, answer};
 use std::alloc::{AllocError, Global};
 use std::sync::ledger::Ledger;
@@ -51,81 +52,48 @@ pub fn value_of<M: Memory, L: Ledger>(
     ensures kept { IfOk result (λ _. IsWorkedOut version.now cell → IsKept (M.known memory.new) cell) }
 {
     is_sound(version);
-    if let Some(value) = stored_value(version, cell) {
-        return Ok(value);
-    }
     if let Look::Value(value) = memory.look(cell) {
         return Ok(value);
     }
-    let value = held_or_computed(alloc, version, memory, cell, steps)?;
-    memory.keep(cell, &value);
-    Ok(value)
-}
-
-// What is stored in a leaf cell that no statement governs. None of any other cell.
-fn stored_value(version: &Version, cell: u64) -> Option<Value>
-    requires { IsCell version.now.model.space cell }
-    ensures value { IfSome result (λ v. v ≡ value_on version.now cell) }
-    ensures input { IsSome result → IsWorkedOut version.now cell → ⊥ }
-    ensures other { IfNone result (IsWorkedOut version.now cell) }
-{
-    is_sound(version);
-    let model = version.model();
-    match governing(model, cell) {
-        Some(_) => None,
-        None => {
-            if model.space().is_leaf(cell) {
-                Some(Value::Num(version.store().get(cell)))
-            } else {
-                None
-            }
+    if let Some(value) = memory.recall(cell) {
+        keep(version, memory, cell, &value);
+        return Ok(value);
+    }
+    match origin_of(version, cell) {
+        Origin::Stored(value) => Ok(value),
+        origin => {
+            reserve(version, memory, cell);
+            let value = computed(alloc, version, memory, cell, origin, steps)?;
+            keep(version, memory, cell, &value);
+            Ok(value)
         }
     }
 }
 
-// The value of a governed or consolidated cell that isn't known: it may be held.
-fn held_or_computed<M: Memory, L: Ledger>(
-    alloc: Global,
-    version: &Version,
-    memory: &mut M,
-    cell: u64,
-    steps: &mut Steps<L>,
-) -> Result<Value, AllocError>
-    requires cell { IsCell version.now.model.space cell }
-    requires worked { IsWorkedOut version.now cell }
-    requires values { AreValuesOn version.now (M.values memory.old) }
-    ensures value { IfOk result (λ v. v ≡ value_on version.now cell) }
-    ensures values { M.values memory.new ≡ M.values memory.old }
-    ensures grew { Grew (M.known memory.old) (M.known memory.new) }
-    ensures held { M.holds memory.old cell ≡ true → steps.new ≡ steps.old }
-    ensures plain { IsPlainTotal version.now cell → steps.new ≡ steps.old }
-{
-    if let Some(value) = memory.recall(cell) {
-        return Ok(value);
-    }
-    reserve(version, memory, cell);
-    computed(alloc, version, memory, cell, steps)
-}
-
-// The value of a governed or consolidated cell.
+// The value of a cell that comes from there.
 fn computed<M: Memory, L: Ledger>(
     alloc: Global,
     version: &Version,
     memory: &mut M,
     cell: u64,
+    origin: Origin,
     steps: &mut Steps<L>,
 ) -> Result<Value, AllocError>
     requires cell { IsCell version.now.model.space cell }
-    requires worked { IsWorkedOut version.now cell }
+    requires origin { IsOrigin version.now cell origin }
     requires values { AreValuesOn version.now (M.values memory.old) }
     ensures value { IfOk result (λ v. v ≡ value_on version.now cell) }
     ensures values { M.values memory.new ≡ M.values memory.old }
     ensures grew { Grew (M.known memory.old) (M.known memory.new) }
     ensures plain { IsPlainTotal version.now cell → steps.new ≡ steps.old }
 {
-    match governing(version.model(), cell) {
-        Some(statement) => governed_value(alloc, version, memory, cell, statement, steps),
-        None => total(alloc, version, memory, cell, steps),
+    match origin {
+        Origin::Stored(value) => Ok(value),
+        Origin::Quiet => Ok(Value::ZERO),
+        Origin::Statement(statement) => governed_value(
+            alloc, version, memory, cell, statement, steps,
+        ),
+        Origin::Leaves => total(alloc, version, memory, cell, steps),
     }
 }
 
@@ -145,9 +113,6 @@ fn governed_value<M: Memory, L: Ledger>(
     ensures values { M.values memory.new ≡ M.values memory.old }
     ensures grew { Grew (M.known memory.old) (M.known memory.new) }
 {
-    if let Some(value) = told(version, cell) {
-        return Ok(value);
-    }
     let mut reader = Reader::new(alloc, version);
     let frame = evaluation(alloc, version, cell, statement, reader.list());
     answer(&mut reader, memory, steps, alloc, frame, Ask::Value(cell))

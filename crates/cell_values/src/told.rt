@@ -1,12 +1,13 @@
-ghost use Rattle.std.specs.Prelude.{◌≡◌, true, Some, None, if◌then◌else◌};
+ghost use Rattle.std.specs.Prelude.{◌≡◌, IfSome};
 ghost use Rattle.cell_values.specs.Reading.{value_on};
-ghost use Rattle.cell_values.specs.Inside.Answers.{is_told};
+ghost use Rattle.cell_values.specs.Inside.Origins.{IsOrigin};
 ghost use Rattle.cell_store.specs.Entries.{cells_of};
 ghost use Rattle.cube_space.specs.Cells.{IsCell, is_leaf_cell};
 ghost use Rattle.dim_order.specs.Members.{is_among};
 ghost use Rattle.rule_model.specs.Governing.{governing_from};
 ghost use Rattle.sparse_sum.specs.Live.{is_live};
 
+use crate::origin::Origin;
 use crate::sound::is_sound;
 use cell_store::CellSet;
 use cell_versions::Version;
@@ -14,26 +15,42 @@ use cube_fixed::Value;
 use cube_space::MAX_DIMENSIONS;
 use rule_model::{Model, governing_in, place_of};
 
-/// The value of a cell that takes no work: of a leaf cell that no statement governs, or that is neither stored nor fed.
-/// None of any other.
-pub fn told(version: &Version, cell: u64) -> Option<Value>
+/// Where the value of a cell comes from.
+pub(crate) fn origin_of(version: &Version, cell: u64) -> Origin
     requires { IsCell version.now.model.space cell }
-    ensures { result ≡ (if is_told version.now cell then Some (value_on version.now cell) else None) }
+    ensures { IsOrigin version.now cell result }
 {
     is_sound(version);
     let model = version.model();
-    if !model.space().is_leaf(cell) {
-        return None;
-    }
-    match governing_leaf(model, cell) {
-        None => Some(Value::Num(version.store().get(cell))),
-        Some(_) => {
-            if is_live(version, cell) {
-                None
+    let is_leaf = model.space().is_leaf(cell);
+    match governing(model, cell, is_leaf) {
+        Some(statement) => {
+            if is_leaf && !is_live(version, cell) {
+                Origin::Quiet
             } else {
-                Some(Value::ZERO)
+                Origin::Statement(statement)
             }
         }
+        None => {
+            if is_leaf {
+                Origin::Stored(Value::Num(version.store().get(cell)))
+            } else {
+                Origin::Leaves
+            }
+        }
+    }
+}
+
+/// The value of a cell that takes no work: of a leaf cell that no statement governs, or that is neither stored nor fed.
+/// None of any other.
+pub(crate) fn told(version: &Version, cell: u64) -> Option<Value>
+    requires { IsCell version.now.model.space cell }
+    ensures { IfSome result (λ v. v ≡ value_on version.now cell) }
+{
+    match origin_of(version, cell) {
+        Origin::Stored(value) => Some(value),
+        Origin::Quiet => Some(Value::ZERO),
+        _ => None,
     }
 }
 
@@ -50,13 +67,13 @@ fn has<W: CellSet>(set: &W, cell: u64) -> bool
     set.has(cell)
 }
 
-/// The statement that governs a leaf cell.
-pub fn governing_leaf(model: &Model, cell: u64) -> Option<u32>
+/// The statement that governs a cell, a leaf cell or not.
+pub(crate) fn governing(model: &Model, cell: u64, is_leaf: bool) -> Option<u32>
     requires cell { IsCell model.now.space cell }
-    requires leaf { is_leaf_cell model.now.space cell ≡ true }
+    requires leaf { is_leaf_cell model.now.space cell ≡ is_leaf }
     ensures { result ≡ governing_from model.now cell 0 }
 {
     let mut at = [0u32; MAX_DIMENSIONS];
     let (cube, len) = place_of(model, cell, &mut at);
-    governing_in(model, cube, &at[..len], true, 0)
+    governing_in(model, cube, &at[..len], is_leaf, 0)
 }

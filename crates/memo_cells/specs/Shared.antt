@@ -1,11 +1,12 @@
 -- What clauses say of a memo with the seat of one reader.
-use Rattle.std.specs.Prelude.{ℕ, Bool, is_some}
+use Rattle.std.specs.Prelude.{ℕ, Bool, is_some, nat_lt}
 use Rattle.std.specs.Arc.{arc_value}
-use Rattle.std.specs.BTreeMap.{get}
+use Rattle.std.specs.BTreeMap.{btree_map_len, get}
 use Rattle.std.specs.Ordering.{nat_cmp}
 use Rattle.memo_cells.specs.declared.version.Version.{Version}
 use Rattle.memo_cells.specs.declared.memo.Memo.{Memo}
 use Rattle.memo_cells.specs.declared.shared.SharedMemo.{SharedMemo}
+use Rattle.memo_cells.specs.HeldValues.{most_held}
 use Rattle.memo_cells.specs.Knowledge.{Knowledge}
 use Rattle.memo_cells.specs.Seats.{knowledge, version_of}
 
@@ -23,3 +24,7 @@ known_to shared = knowledge shared.seat
 -- of a cell, whether its reader holds the value for itself
 abbrev pub holds : SharedMemo → ℕ → Bool
 holds shared cell = is_some (get nat_cmp shared.held cell)
+
+-- whether it holds fewer values than may be held
+abbrev pub has_room : SharedMemo → Bool
+has_room shared = nat_lt (btree_map_len shared.held) most_held

@@ -1,7 +1,8 @@
-ghost use Rattle.std.specs.Prelude.{◌≡◌, ℕ, ◌⊎◌, Some, OnOk};
-ghost use Rattle.std.specs.BTreeMap.{get};
+ghost use Rattle.std.specs.Prelude.{◌≡◌, ◌<◌, ℕ, ◌⊎◌, Some, OnOk};
+ghost use Rattle.std.specs.BTreeMap.{btree_map_len, get};
 ghost use Rattle.std.specs.Ordering.{nat_cmp};
 ghost use Rattle.cube_fixed.specs.declared.value.Value.{Value as AnyValue};
+ghost use Rattle.memo_cells.specs.HeldValues.{StaysHeld, most_held};
 
 use cube_fixed::Value;
 use std::alloc::AllocError;
@@ -29,6 +30,7 @@ pub(crate) fn hold(
     ensures kept { OnOk result (get nat_cmp held.new cell ≡ Some value.now) }
     ensures others { (other : ℕ) (found : AnyValue) → get nat_cmp held.new other ≡ Some found
         → (get nat_cmp held.old other ≡ Some found) ⊎ ((other ≡ cell) × (found ≡ value.now)) }
+    ensures stays { btree_map_len held.old < most_held → StaysHeld held.old held.new }
 {
     make_room(held);
     held.insert(cell, *value)?;
@@ -37,8 +39,9 @@ pub(crate) fn hold(
 
 // Where the values are as many as may be, none stays.
 fn make_room(held: &mut BTreeMap<u64, Value>)
-    ensures { (other : ℕ) (found : AnyValue) → get nat_cmp held.new other ≡ Some found
+    ensures others { (other : ℕ) (found : AnyValue) → get nat_cmp held.new other ≡ Some found
         → get nat_cmp held.old other ≡ Some found }
+    ensures stays { btree_map_len held.old < most_held → held.new ≡ held.old }
 {
     if held.len() >= MAX_HELD {
         held.clear();

@@ -60,13 +60,15 @@ impl SharedMemo {
 
 impl Memory for SharedMemo {
     ghost use Rattle.memo_cells.specs.Values.{cell_value};
-    ghost use Rattle.memo_cells.specs.Shared.{holds, known_to, version_kept};
+    ghost use Rattle.memo_cells.specs.Shared.{has_room, holds, known_to, version_kept};
 
     ghost values = { λ shared. cell_value (version_kept shared) };
 
     ghost known = { known_to };
 
     ghost holds = { holds };
+
+    ghost has_room = { has_room };
 
     fn look(&mut self, cell: u64) -> Look {
         self.memo.look(&mut self.seat, cell)
@@ -80,12 +82,13 @@ impl Memory for SharedMemo {
         self.memo.reserve(&mut self.seat, cell);
     }
 
-    fn keep(&mut self, cell: u64, value: &Value) -> Kept {
-        let kept = self.memo.keep(&mut self.seat, cell, value);
-        if let Kept::Other(_) = kept {
-            // a value that there is no memory for is worked out again
-            let _ = hold(&mut self.held, cell, value);
+    fn keep(&mut self, cell: u64, value: &Value) -> Result<Kept, AllocError> {
+        match self.memo.keep(&mut self.seat, cell, value) {
+            Kept::Here => Ok(Kept::Here),
+            Kept::Other(other) => {
+                hold(&mut self.held, cell, value)?;
+                Ok(Kept::Other(other))
+            }
         }
-        kept
     }
 }

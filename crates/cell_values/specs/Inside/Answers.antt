@@ -1,21 +1,18 @@
 -- What the evaluation of a cell is answered.
-use Rattle.std.specs.Prelude.{◌≡◌, ℕ, ◌==◌, nat_lt, Bool, not, ◌&&◌, ◌||◌, None, is_some, is_none}
-use Rattle.std.specs.Prelude.{length, All, if◌then◌else◌}
-use Rattle.cell_store.specs.Entries.{cells_of}
+use Rattle.std.specs.Prelude.{◌≡◌, ℕ, ◌==◌, nat_lt, Bool, true, false, ◌&&◌, None, length, All}
+use Rattle.std.specs.Ordering.{int_eq}
 use Rattle.cell_versions.specs.Versions.{NumberedVersion}
 use Rattle.cube_fixed.specs.declared.value.Value.{Value}
-use Rattle.cube_space.specs.Cells.{is_leaf_cell, size_of}
+use Rattle.cube_fixed.specs.declared.value.Value.TheVariants.{Num, Over}
+use Rattle.cube_space.specs.Cells.{size_of}
 use Rattle.rule_evaluate.specs.declared.ask.Ask.{Ask}
 use Rattle.rule_evaluate.specs.declared.ask.Ask.TheVariants.{Value as of_value, Base as of_base}
 use Rattle.rule_evaluate.specs.declared.ask.Ask.TheVariants.{Children as of_children}
 use Rattle.rule_evaluate.specs.Known.{Known, listed}
-use Rattle.rule_evaluate.specs.Readings.{Readings}
-use Rattle.rule_model.specs.Governing.{governing_from}
 use Rattle.rule_model.specs.Targets.{parts_at}
-use Rattle.sparse_sum.specs.Live.{is_live}
 use Rattle.cell_values.specs.Reading.{value_on}
 use Rattle.cell_values.specs.declared.missing.Missing.{Missing}
-use Rattle.cell_values.specs.Inside.Questions.{base_on, children_on, depth_on, is_grounded, LeadsTo}
+use Rattle.cell_values.specs.Inside.Questions.{depth_on, is_grounded, LeadsTo}
 
 -- the evaluation of a cell, with the answers that are listed for it
 pub record ListedAnswers : Type 0 where
@@ -23,39 +20,25 @@ pub record ListedAnswers : Type 0 where
   pub known : Known
   pub cell : ℕ
 
--- and the values that are remembered, with the cells whose values are held
+-- and the values that are remembered
 pub record AnswerTerms : Type 0 where
   pub listed : ListedAnswers
   pub values : ℕ → Value
-  pub holds : ℕ → Bool
 
--- whether a cell's value is known without work: of a leaf cell that no statement governs, or that is neither stored nor
--- fed
-unfoldable pub is_told : NumberedVersion → ℕ → Bool
-is_told version cell =
-    is_leaf_cell version.model.space cell
-    && (is_none (governing_from version.model cell 0) || not (is_live (cells_of version.stored) version.fed cell))
+-- whether two values are the same
+abbrev pub is_same_value : Value → Value → Bool
+is_same_value (Num a) (Num b) = int_eq a b
+is_same_value (Num a) Over = false
+is_same_value Over (Num b) = false
+is_same_value Over Over = true
 
--- the value of a cell as it is answered: where it is held, or neither told without work nor listed, it is remembered
-unfoldable pub answered_value : AnswerTerms → ℕ → Value
-answered_value terms cell =
-    if not (terms.holds cell)
-    && (is_told terms.listed.version cell || is_some (listed terms.listed.known (of_value cell)))
-    then value_on terms.listed.version cell else terms.values cell
-
-unfoldable pub answered : AnswerTerms → Readings
-answered terms =
-    record {
-      value = answered_value terms;
-      base = base_on terms.listed.version;
-      children = children_on terms.listed.version;
-    }
-
--- what is asked: less deep cells, what the cell would have, and sums over components that lie less deep
+-- what is asked: less deep cells, of which the right values are remembered, what the cell would have, and sums over
+-- components that lie less deep
 abbrev pub may_ask : AnswerTerms → Ask → Bool
 may_ask terms (of_value cell) =
     nat_lt cell (size_of terms.listed.version.model.space)
-    && nat_lt (depth_on terms.listed.version cell) (depth_on terms.listed.version terms.listed.cell)
+    && (nat_lt (depth_on terms.listed.version cell) (depth_on terms.listed.version terms.listed.cell)
+    && is_same_value (terms.values cell) (value_on terms.listed.version cell))
 may_ask terms (of_base cell) = nat_lt cell (size_of terms.listed.version.model.space) && (cell == terms.listed.cell)
 may_ask terms (of_children cell dim) =
     (nat_lt cell (size_of terms.listed.version.model.space) && (cell == terms.listed.cell))

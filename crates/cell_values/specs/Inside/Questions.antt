@@ -12,6 +12,7 @@ use Rattle.equations.specs.Equations.{table_by_rounds}
 use Rattle.rule_evaluate.specs.declared.ask.Ask.{Ask}
 use Rattle.rule_evaluate.specs.declared.ask.Ask.TheVariants.{Value as of_value, Base as of_base}
 use Rattle.rule_evaluate.specs.declared.ask.Ask.TheVariants.{Children as of_children}
+use Rattle.rule_evaluate.specs.Readings.{Readings}
 use Rattle.rule_laws.specs.RuleSystem.{base, children_value, depth}
 use Rattle.rule_model.specs.System.{system_of}
 use Rattle.rule_model.specs.Targets.{parts_at, with_components}
@@ -30,6 +31,10 @@ base_on version = base (system_of version.model) (stored_in version.stored) (val
 
 unfoldable pub children_on : NumberedVersion → ℕ → ℕ → Value
 children_on version = children_value (system_of version.model) (stored_in version.stored) (value_on version)
+
+unfoldable pub readings_on : NumberedVersion → Readings
+readings_on version =
+    record { value = value_on version; base = base_on version; children = children_on version }
 
 abbrev pub answer_on : NumberedVersion → Ask → Value
 answer_on version (of_value cell) = value_on version cell

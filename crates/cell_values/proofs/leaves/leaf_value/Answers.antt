@@ -11,6 +11,6 @@ returns-in-None-clause-value g c =
     let sound = c.is_sound.ensures in
     let v = c.args.version.now in
     let cell = c.args.leaf.now.cell in
-    let none = sym (c.governing_leaf.ensures ∙ ap (λ (m : BoundModel). governing_from m cell 0) c.model-model.ensures.model) ∙ c.in-None.is in
+    let none = sym (c.governing.ensures ∙ ap (λ (m : BoundModel). governing_from m cell 0) c.model.ensures.model) ∙ c.in-None.is in
     ap (λ (z : ℤ). Num z) c.unwrap_or.ensures ∙ stored-or v.stored cell c.args.leaf.now.stored c.requires.stored
     ∙ sym (stored-value v cell sound.space sound.rules sound.accepted c.requires.cell c.requires.leaf none)

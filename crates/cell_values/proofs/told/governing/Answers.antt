@@ -1,7 +1,7 @@
 use Rattle.std.proofs.Common.{ap, ◌∙◌, take}
 use Rattle.cube_space.specs.Cells.{is_place, cube_of, elements_of}
 use Rattle.cube_space.proofs.Places.{cell-place, is_place-from}
-use Rattle.cell_values.proofs.told.governing_leaf.Goals as goal
+use Rattle.cell_values.proofs.told.governing.Goals as goal
 
 pub governing_in-requires : goal.governing_in-requires
 governing_in-requires c =

@@ -1,0 +1,14 @@
+use cube_fixed::Value;
+
+/// Where the value of a cell comes from. It is found out once while a cell is worked out.
+#[derive(Drop)]
+pub enum Origin {
+    /// This is stored in a leaf cell that no statement governs.
+    Stored(Value),
+    /// A governed leaf cell is neither stored nor fed, so its value is 0.
+    Quiet,
+    /// This statement governs the cell.
+    Statement(u32),
+    /// It is the sum over the leaf cells below a consolidated cell that no statement governs.
+    Leaves,
+}
