@@ -1,3 +1,4 @@
 pub mod FedCount
+pub mod Limits
 pub mod RoomFacts
 pub mod Works

@@ -1,4 +1,5 @@
 pub mod Snapshots
 pub mod FedCount
+pub mod Limits
 pub mod Works
 pub mod Inside

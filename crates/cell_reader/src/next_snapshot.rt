@@ -1,14 +1,12 @@
-ghost use Rattle.std.specs.Prelude.{◌≡◌, suc, ◌<◌, ◌≤◌, ◌⊎◌, [], length, Err, IfOk, IsOkUnless};
+ghost use Rattle.std.specs.Prelude.{◌≡◌, ◌<◌, [], IfOk};
 ghost use Rattle.std.specs.Arc.{arc_value};
 ghost use Rattle.cell_store.specs.Entries.{after_writes};
-ghost use Rattle.cell_store.specs.StoreLimit.{most_cells};
-ghost use Rattle.feed_map.specs.FedCells.{most_fed};
 ghost use Rattle.accepted.specs.Checks.{IsAccepted};
 ghost use Rattle.cell_values.specs.Reading.{AreValuesOn};
 ghost use Rattle.cell_versions.specs.Versions.{AreLeafWrites, IsVersion, number_after};
 ghost use Rattle.memo_cells.specs.Shared.{version_kept};
 ghost use Rattle.memo_cells.specs.Values.{cell_value};
-ghost use Rattle.cell_reader.specs.FedCount.{fed_count};
+ghost use Rattle.cell_reader.specs.Limits.{IsLimitAnswer};
 ghost use Rattle.cell_reader.specs.Snapshots.{known_in, memory_of, version_of};
 
 use crate::snapshot::{SLOTS, Snapshot};
@@ -43,16 +41,9 @@ impl Snapshot {
         ensures stored { IfOk result (λ next.
             (version_of next).stored ≡ after_writes (version_of self.now).stored writes.now) }
 
-        // each limit is answered exactly where it is passed, out of memory aside, that of the stored cells first
-        ensures within { length (after_writes (version_of self.now).stored writes.now) ≤ most_cells →
-            fed_count (version_of self.now).model (after_writes (version_of self.now).stored writes.now) ≤ most_fed →
-            IsOkUnless result NextFault.Memory }
-        ensures past_store { most_cells < length (after_writes (version_of self.now).stored writes.now) →
-            (result ≡ Err (NextFault.StoreLimit (length (after_writes (version_of self.now).stored writes.now))))
-            ⊎ (result ≡ Err NextFault.Memory) }
-        ensures past_fed { length (after_writes (version_of self.now).stored writes.now) ≤ most_cells →
-            most_fed < fed_count (version_of self.now).model (after_writes (version_of self.now).stored writes.now) →
-            (result ≡ Err (NextFault.FedLimit (suc most_fed))) ⊎ (result ≡ Err NextFault.Memory) }
+        // each limit is answered exactly where it is passed, out of memory aside
+        ensures limits { let v = version_of self.now in
+            IsLimitAnswer v.model (after_writes v.stored writes.now) result }
     {
         let version = version_after(alloc, &self.version, writes)?;
         let next = Snapshot::of(alloc, version)?;
@@ -150,15 +141,7 @@ pub(crate) fn version_after(
     ensures number { IfOk result (λ next. next.number ≡ number_after version.now.number) }
     ensures model { IfOk result (λ next. next.model ≡ version.now.model) }
     ensures stored { IfOk result (λ next. next.stored ≡ after_writes version.now.stored writes.now) }
-    ensures within { length (after_writes version.now.stored writes.now) ≤ most_cells →
-        fed_count version.now.model (after_writes version.now.stored writes.now) ≤ most_fed →
-        IsOkUnless result NextFault.Memory }
-    ensures past_store { most_cells < length (after_writes version.now.stored writes.now) →
-        (result ≡ Err (NextFault.StoreLimit (length (after_writes version.now.stored writes.now))))
-        ⊎ (result ≡ Err NextFault.Memory) }
-    ensures past_fed { length (after_writes version.now.stored writes.now) ≤ most_cells →
-        most_fed < fed_count version.now.model (after_writes version.now.stored writes.now) →
-        (result ≡ Err (NextFault.FedLimit (suc most_fed))) ⊎ (result ≡ Err NextFault.Memory) }
+    ensures limits { IsLimitAnswer version.now.model (after_writes version.now.stored writes.now) result }
 {
     // a model says of itself that its rules are in range, so that its fed cells can be listed
     let _cells = version.model().space().size();

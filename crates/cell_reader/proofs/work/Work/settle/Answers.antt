@@ -16,7 +16,7 @@ unreachable-requires c =
     let waiting = drop work.made work.written.items in
     let slice : take (length c.deref.result.now - work.made) (drop work.made c.deref.result.now) ≡ waiting = take_rest c.deref.result.now work.made ∙ ap (drop work.made) c.deref.ensures.value in
     let few_stored : length (after_writes latest.stored waiting) ≤ most_cells = omega (arith, work.ahead.waiting.few_stored) in
-    let within : IsOkUnless c.version_after.result Memory = c.version_after.ensures.within (rw (slice, c.deref-2.ensures) few_stored) (rw (slice, c.deref-2.ensures) work.ahead.waiting.few_fed) in
+    let within : IsOkUnless c.version_after.result Memory = c.version_after.ensures.limits.within (rw (slice, c.deref-2.ensures) few_stored) (rw (slice, c.deref-2.ensures) work.ahead.waiting.few_fed) in
     search rules
 
 -- the version with what waits comes next

@@ -39,4 +39,4 @@ unless_memory-requires c =
     subst (λ (writes : List (ℕ × ℤ)). length (after_writes content.stored writes) ≤ most_cells) (sym c.as_slice.ensures) few.few_stored in
     let fed_after : fed_count content.model (after_writes content.stored c.as_slice.result.now) ≤ most_fed =
     subst (λ (writes : List (ℕ × ℤ)). fed_count content.model (after_writes content.stored writes) ≤ most_fed) (sym c.as_slice.ensures) few.few_fed in
-    c.next.ensures.within stored_after fed_after
+    c.next.ensures.limits.within stored_after fed_after
