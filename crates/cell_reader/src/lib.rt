@@ -16,6 +16,7 @@ mod next_snapshot;
 mod room;
 mod snapshot;
 mod snapshot_read;
+mod sound;
 mod work;
 mod work_values;
 mod work_writes;

@@ -5,7 +5,7 @@ ghost use Rattle.cell_reader.specs.Limits.{IsLimitAnswer};
 ghost use Rattle.cell_reader.specs.Works.{opening_of, stored_after, writes_of};
 ghost use Rattle.cell_reader.specs.Inside.After.{IsAfter};
 
-use crate::next_snapshot::version_after;
+use crate::next_snapshot::{version_after, version_within};
 use crate::room::{room_behind, room_of};
 use crate::work::Work;
 use cell_versions::{NextFault, Version};
@@ -49,12 +49,8 @@ impl Work {
         if waiting.is_empty() {
             return Ok(());
         }
-        match version_after(alloc, &self.latest, waiting) {
-            Ok(next) => self.go_on(alloc, next, &[]),
-            Err(NextFault::Memory) => Err(AllocError),
-            // what waits passes no limit
-            Err(NextFault::StoreLimit(_)) | Err(NextFault::FedLimit(_)) => unreachable!(),
-        }
+        let next = version_within(alloc, &self.latest, waiting)?;
+        self.go_on(alloc, next, &[])
     }
 
     // Goes on with the version after all writes, and these more.

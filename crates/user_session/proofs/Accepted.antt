@@ -3,6 +3,7 @@ use Rattle.std.proofs.Common.{Result, Ok, Err, ◌≡◌, refl, subst, ℕ, ℤ,
 use Rattle.std.specs.Prelude.{nat_lt}
 use Rattle.std.proofs.lemmas.List.Elements.{All-nil, All-cons}
 use Rattle.cell_reader.specs.FedCount.{fed_count}
+use Rattle.cell_reader.specs.Limits.{IsWithinLimits}
 use Rattle.cell_store.specs.declared.entry.Entry.{Entry}
 use Rattle.cell_store.specs.Entries.{after_writes}
 use Rattle.cell_store.specs.StoreLimit.{most_cells}
@@ -29,14 +30,14 @@ use Rattle.view_query.specs.Binding.{bound}
 use Rattle.view_query.specs.declared.fault.ViewFault.{ViewFault}
 use Rattle.view_query.specs.declared.shape.View as views
 use Rattle.user_session.proofs.Kept.{write-kept}
-use Rattle.user_session.proofs.Within.{AreWithin, last-within, named-cell}
+use Rattle.user_session.proofs.Within.{AreWithin, before-writes, last-within, named-cell}
 use Rattle.user_session.specs.declared.reply.CommandReason.TheVariants.{NotALeaf, RuleDerived, StoreLimit, FedLimit}
 use Rattle.std.proofs.lemmas.Bool.{ltb-false as at_most}
 
 -- ---- an accepted PUT
 
 abbrev IsAmong : BoundModel → List Entry → List (ℕ × ℤ) → List (ℕ × ℤ) → Type 0
-IsAmong model stored writes others = (writes ≡ others) × (length stored ≤ most_cells) × (fed_count model stored ≤ most_fed)
+IsAmong model stored writes others = (writes ≡ others) × IsWithinLimits model stored
 
 limited : (model : BoundModel) (stored : List Entry) (writes others : List (ℕ × ℤ)) (reply : List ℕ) → within_limits model stored writes ≡ Commit others reply → IsAmong model stored writes others
 limited model stored writes others reply is = by (nat_lt most_cells (length stored)) refl (nat_lt most_fed (fed_count model stored)) refl is
@@ -45,7 +46,7 @@ limited model stored writes others reply is = by (nat_lt most_cells (length stor
         → (if b then rejected StoreLimit else if d then rejected FedLimit else committed writes) ≡ Commit others reply → IsAmong model stored writes others
     by true few d fed is = absurd (cc)
     by false few true fed is = absurd (cc)
-    by false few false fed is = (cc, at_most most_cells (length stored) few, at_most most_fed (fed_count model stored) fed)
+    by false few false fed is = (cc, record { few_stored = at_most most_cells (length stored) few; few_fed = at_most most_fed (fed_count model stored) fed })
 
 put-within : (content : Content) (named : Option ℕ) (number : ℤ) (writes : List (ℕ × ℤ)) (reply : List ℕ) → ((c : ℕ) → named ≡ Some c → IsCell content.model.space c)
     → put_effect content named number ≡ Commit writes reply → AreWithin content writes
@@ -61,8 +62,7 @@ put-within content (Some c) number writes reply cell is = by (is_leaf_cell conte
         let parts = limited content.model (after_writes content.stored ((c, number) ∷ [])) ((c, number) ∷ []) writes reply is in
         subst (AreWithin content) parts.0 (record {
           leaves = All-cons (λ write. IsCell content.model.space write.0 × (is_leaf_cell content.model.space write.0 ≡ true)) (c, number) [] (cell c refl, leaf) (All-nil (λ write. IsCell content.model.space write.0 × (is_leaf_cell content.model.space write.0 ≡ true)));
-          few_stored = parts.1;
-          few_fed = parts.2;
+          within = λ before. parts.1;
         })
 
 -- ---- an accepted LOAD
@@ -73,13 +73,13 @@ ended-within content Done written writes reply within is =
     subst (AreWithin content) same (last-within content written within)
 ended-within content (Stopped section row statement reason) written writes reply within is = absurd (cc)
 
-load-within : (content : Content) → AreWithin content [] → (job : LoadJob) (script : Script) (writes : List (ℕ × ℤ)) (reply : List ℕ) → load_effect content job script ≡ Commit writes reply
+load-within : (content : Content) (job : LoadJob) (script : Script) (writes : List (ℕ × ℤ)) (reply : List ℕ) → load_effect content job script ≡ Commit writes reply
     → AreWithin content writes
-load-within content begins job script writes reply is =
+load-within content job script writes reply is =
     let store = store_of content.model content.stored in
     let outcome = load (bound_of script) job.params job.rows store [] in
     let kept : AreWithin content (writes_of outcome) =
-    load_keeps store (AreWithin content) (λ before after cube elements value within written. write-kept content before after within cube elements value written) (bound_of script) job.params job.rows [] begins in
+    load_keeps store (AreWithin content) (λ before after cube elements value within written. write-kept content before after within cube elements value written) (bound_of script) job.params job.rows [] (before-writes content) in
     ended-within content (ran_of outcome) (writes_of outcome) writes reply kept is
 
 -- ---- questions write nothing
@@ -92,10 +92,10 @@ view-never : (content : Content) (meant : Result views.View ViewFault) (writes :
 view-never content (Ok view) writes reply is = absurd (cc)
 view-never content (Err fault) writes reply is = absurd (cc)
 
-pub accepted-within : (content : Content) → AreWithin content [] → (command : PlanCommand) (writes : List (ℕ × ℤ)) (reply : List ℕ) → effect content command ≡ Commit writes reply
+pub accepted-within : (content : Content) (command : PlanCommand) (writes : List (ℕ × ℤ)) (reply : List ℕ) → effect content command ≡ Commit writes reply
     → AreWithin content writes
-accepted-within content begins (Put text number) writes reply is =
+accepted-within content (Put text number) writes reply is =
     put-within content (named_cell content.model text) number writes reply (λ c named. named-cell content.model.space text.cube text.elements c named) is
-accepted-within content begins (Get text) writes reply is = get-never content (named_cell content.model text) writes reply is
-accepted-within content begins (Load job script) writes reply is = load-within content begins job (arc_value script) writes reply is
-accepted-within content begins (View text) writes reply is = view-never content (bound content.model.space text) writes reply is
+accepted-within content (Get text) writes reply is = get-never content (named_cell content.model text) writes reply is
+accepted-within content (Load job script) writes reply is = load-within content job (arc_value script) writes reply is
+accepted-within content (View text) writes reply is = view-never content (bound content.model.space text) writes reply is

@@ -4,6 +4,7 @@ use Rattle.std.specs.Prelude.{nat_lt, suc}
 use Rattle.std.specs.List.{list_all}
 use Rattle.std.proofs.lemmas.List.Elements.{All-push}
 use Rattle.cell_reader.specs.FedCount.{fed_count}
+use Rattle.cell_reader.specs.Limits.{IsWithinLimits}
 use Rattle.cell_store.specs.declared.entry.Entry.{Entry}
 use Rattle.cell_store.specs.Entries.{after_writes}
 use Rattle.cell_store.specs.StoreLimit.{most_cells}
@@ -42,15 +43,15 @@ open-leaf model c is = by (is_leaf_cell model.space c) refl (is_input model c) i
     by false leaf input is = absurd (cc)
 
 -- what is stored where no limit is passed
-none-passed : (model : BoundModel) (stored : List Entry) → passed model stored ≡ None → (length stored ≤ most_cells) × (fed_count model stored ≤ most_fed)
+none-passed : (model : BoundModel) (stored : List Entry) → passed model stored ≡ None → IsWithinLimits model stored
 none-passed model stored is = by (nat_lt most_cells (length stored)) refl (nat_lt most_fed (fed_count model stored)) refl is
   where
     by : (b : Bool) → nat_lt most_cells (length stored) ≡ b → (d : Bool) → nat_lt most_fed (fed_count model stored) ≡ d
         → (if b then Some (StoreLimit (length stored)) else if d then Some (FedLimit (suc most_fed)) else None) ≡ None
-        → (length stored ≤ most_cells) × (fed_count model stored ≤ most_fed)
+        → IsWithinLimits model stored
     by true few d fed is = absurd (cc)
     by false few true fed is = absurd (cc)
-    by false few false fed is = (at_most most_cells (length stored) few, at_most most_fed (fed_count model stored) fed)
+    by false few false fed is = record { few_stored = at_most most_cells (length stored) few; few_fed = at_most most_fed (fed_count model stored) fed }
 
 module _ (content : Content) (before after : List (ℕ × ℤ)) (within : AreWithin content before) where
   abbrev Leads : Result (List (ℕ × ℤ)) LoadReason → Type 0
@@ -63,8 +64,7 @@ module _ (content : Content) (before after : List (ℕ × ℤ)) (within : AreWit
       let same : before ++ (c, n) ∷ [] ≡ after = cc in
       subst (AreWithin content) same (record {
         leaves = All-push (λ write. IsCell content.model.space write.0 × (is_leaf_cell content.model.space write.0 ≡ true)) before (c, n) within.leaves (cell, leaf);
-        few_stored = few.0;
-        few_fed = few.1;
+        within = λ before. few;
       })
   with_limits c n cell leaf (Some reason) is leads = absurd (cc)
 

@@ -1,4 +1,4 @@
-use Rattle.std.proofs.Common.{◌≡◌, ◌∙◌, ap, arith, true, ℕ, ℤ, List, [], ◌∷◌, ◌++◌}
+use Rattle.std.proofs.Common.{◌≡◌, ◌∙◌, ap, true, ℕ, ℤ, List, [], ◌∷◌, ◌++◌}
 use Rattle.std.specs.Prelude.{is_ok}
 use Rattle.std.specs.Arc.{arc_value}
 use Rattle.cell_store.specs.Entries.{after_writes}
