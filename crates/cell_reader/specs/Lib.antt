@@ -2,4 +2,5 @@ pub mod Snapshots
 pub mod FedCount
 pub mod Limits
 pub mod Works
+pub mod WritePermission
 pub mod Inside

@@ -4,13 +4,16 @@
 //!   stored, [`Snapshot::next`] is the one after some writes, and [`Snapshot::share`] is the same for another reader.
 //! - [`Snapshot::read`] is a cell's value.
 //! - [`Work`] is a version with the writes of a load so far, which sees its own writes: [`Work::get`], [`Work::put`].
+//! - [`why_closed`] says whether a cell may be written, and why not.
 //!
-//! Contracts speak of both by the words of `specs/Snapshots.antt` and `specs/Works.antt`.
+//! Contracts speak of these by the words of `specs/Snapshots.antt`, `specs/Works.antt`, `specs/Limits.antt` and
+//! `specs/WritePermission.antt`.
 #![tactic(auto)]
 
 pub use cell_versions::NextFault;
 pub use snapshot::{SLOTS, Snapshot};
 pub use work::Work;
+pub use write_permission::{Closed, why_closed};
 
 mod next_snapshot;
 mod room;
@@ -20,3 +23,4 @@ mod sound;
 mod work;
 mod work_values;
 mod work_writes;
+mod write_permission;

@@ -1,9 +1,11 @@
 -- What is known of the writes of an accepted command.
-use Rattle.std.proofs.Common.{Result, Ok, Err, ◌≡◌, refl, subst, ℕ, ℤ, ◌≤◌, Bool, true, false, not, if◌then◌else◌, List, [], ◌∷◌, length, Option, Some, None}
+use Rattle.std.proofs.Common.{Result, Ok, Err, ◌≡◌, refl, subst, ℕ, ℤ, ◌≤◌, Bool, true, false, if◌then◌else◌, List, [], ◌∷◌, length, Option, Some, None}
 use Rattle.std.specs.Prelude.{nat_lt}
 use Rattle.std.proofs.lemmas.List.Elements.{All-nil, All-cons}
 use Rattle.cell_reader.specs.FedCount.{fed_count}
 use Rattle.cell_reader.specs.Limits.{IsWithinLimits}
+use Rattle.cell_reader.specs.WritePermission.{why_closed}
+use Rattle.cell_reader.specs.declared.write_permission.Closed.{Closed}
 use Rattle.cell_store.specs.declared.entry.Entry.{Entry}
 use Rattle.cell_store.specs.Entries.{after_writes}
 use Rattle.cell_store.specs.StoreLimit.{most_cells}
@@ -14,7 +16,6 @@ use Rattle.load_cells.specs.Loads.{store_of}
 use Rattle.user_text.specs.declared.load_job.LoadJob.{LoadJob}
 use Rattle.history.specs.declared.effect.Effect.TheVariants.{Commit}
 use Rattle.rule_model.specs.BoundModel.{BoundModel}
-use Rattle.rule_model.specs.Input.{is_input}
 use Rattle.script_bind.specs.Binding.{bound_of}
 use Rattle.script_laws.proofs.Kept.{load_keeps}
 use Rattle.script_run.specs.Load.{load, ran_of, writes_of}
@@ -25,13 +26,13 @@ use Rattle.std.specs.Arc.{arc_value}
 use Rattle.user_session.specs.declared.content.Content.{Content}
 use Rattle.user_session.specs.declared.command.PlanCommand.{PlanCommand}
 use Rattle.user_session.specs.declared.command.PlanCommand.TheVariants.{Put, Get, Load, View}
-use Rattle.user_session.specs.Planning.{committed, effect, ended_effect, get_effect, load_effect, named_cell, put_effect, rejected, table_effect, within_limits}
+use Rattle.user_session.specs.Planning.{committed, effect, ended_effect, get_effect, load_effect, named_cell, put_effect, rejected, table_effect, unless_closed, within_limits, write_effect}
 use Rattle.view_query.specs.Binding.{bound}
 use Rattle.view_query.specs.declared.fault.ViewFault.{ViewFault}
 use Rattle.view_query.specs.declared.shape.View as views
-use Rattle.user_session.proofs.Kept.{write-kept}
+use Rattle.user_session.proofs.Kept.{open-leaf, write-kept}
 use Rattle.user_session.proofs.Within.{AreWithin, before-writes, last-within, named-cell}
-use Rattle.user_session.specs.declared.reply.CommandReason.TheVariants.{NotALeaf, RuleDerived, StoreLimit, FedLimit}
+use Rattle.user_session.specs.declared.reply.CommandReason.TheVariants.{StoreLimit, FedLimit}
 use Rattle.std.proofs.lemmas.Bool.{ltb-false as at_most}
 
 -- ---- an accepted PUT
@@ -51,17 +52,15 @@ limited model stored writes others reply is = by (nat_lt most_cells (length stor
 put-within : (content : Content) (named : Option ℕ) (number : ℤ) (writes : List (ℕ × ℤ)) (reply : List ℕ) → ((c : ℕ) → named ≡ Some c → IsCell content.model.space c)
     → put_effect content named number ≡ Commit writes reply → AreWithin content writes
 put-within content None number writes reply cell is = absurd (cc)
-put-within content (Some c) number writes reply cell is = by (is_leaf_cell content.model.space c) refl (is_input content.model c) is
+put-within content (Some c) number writes reply cell is = by (why_closed content.model c) refl is
   where
-    by : (leaf : Bool) → is_leaf_cell content.model.space c ≡ leaf → (open_cell : Bool)
-        → (if not leaf then rejected NotALeaf else if not open_cell then rejected RuleDerived else within_limits content.model (after_writes content.stored ((c, number) ∷ [])) ((c, number) ∷ [])) ≡ Commit writes reply
+    by : (why : Option Closed) → why_closed content.model c ≡ why → unless_closed why (write_effect content c number) ≡ Commit writes reply
         → AreWithin content writes
-    by false leaf open_cell is = absurd (cc)
-    by true leaf false is = absurd (cc)
-    by true leaf true is =
+    by (Some why) shut is = absurd (cc)
+    by None opens is =
         let parts = limited content.model (after_writes content.stored ((c, number) ∷ [])) ((c, number) ∷ []) writes reply is in
         subst (AreWithin content) parts.0 (record {
-          leaves = All-cons (λ write. IsCell content.model.space write.0 × (is_leaf_cell content.model.space write.0 ≡ true)) (c, number) [] (cell c refl, leaf) (All-nil (λ write. IsCell content.model.space write.0 × (is_leaf_cell content.model.space write.0 ≡ true)));
+          leaves = All-cons (λ write. IsCell content.model.space write.0 × (is_leaf_cell content.model.space write.0 ≡ true)) (c, number) [] (cell c refl, open-leaf content.model c opens) (All-nil (λ write. IsCell content.model.space write.0 × (is_leaf_cell content.model.space write.0 ≡ true)));
           within = λ before. parts.1;
         })
 

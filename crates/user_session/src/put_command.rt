@@ -1,15 +1,16 @@
 ghost use Rattle.std.specs.Prelude.{◌≡◌, true, IfOk};
 ghost use Rattle.cube_space.specs.Cells.{IsCell, is_leaf_cell};
 ghost use Rattle.user_session.specs.Content.{content_of};
-ghost use Rattle.user_session.specs.Planning.{committed, named_cell, put_effect, rejected, write_effect};
+ghost use Rattle.user_session.specs.Planning.{committed, named_cell, put_effect, reason_of, rejected};
+ghost use Rattle.user_session.specs.Planning.{write_effect};
 
 use crate::reply::{CommandReason, Reply};
 use crate::world::PlanEffect;
-use cell_reader::{NextFault, Snapshot};
+use cell_reader::{Closed, NextFault, Snapshot, why_closed};
 use cube_fixed::Money;
 use history::Effect;
 use lists::ListOf;
-use rule_model::{cell_of, is_input};
+use rule_model::cell_of;
 use std::alloc::{AllocError, Global};
 use user_text::CellText;
 
@@ -27,13 +28,20 @@ pub(crate) fn put(
     let Some(cell) = cell_of(model, &text.cube, text.elements.as_slice()) else {
         return rejected(alloc, CommandReason::UnknownName);
     };
-    if !model.space().is_leaf(cell) {
-        return rejected(alloc, CommandReason::NotALeaf);
+    match why_closed(model, cell) {
+        Some(closed) => rejected(alloc, reason_of(closed)),
+        None => write(alloc, state, cell, number),
     }
-    if !is_input(model, cell) {
-        return rejected(alloc, CommandReason::RuleDerived);
+}
+
+// Why a command that writes into a closed cell is rejected.
+fn reason_of(closed: Closed) -> CommandReason
+    ensures { result ≡ reason_of closed }
+{
+    match closed {
+        Closed::NotALeaf => CommandReason::NotALeaf,
+        Closed::RuleDerived => CommandReason::RuleDerived,
     }
-    write(alloc, state, cell, number)
 }
 
 // The effect of one write into a leaf cell that takes numbers.
