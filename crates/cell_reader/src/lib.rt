@@ -2,7 +2,7 @@
 //!
 //! - [`Snapshot`] is a version with a memory for the values that its readers work out. [`Snapshot::first`] has nothing
 //!   stored, [`Snapshot::next`] is the one after some writes, and [`Snapshot::share`] is the same for another reader.
-//! - [`Snapshot::read`] is a cell's value.
+//! - [`Snapshot::value_at`] is a cell's value, and [`Snapshot::read`] the same for who counts steps.
 //! - [`Work`] is a version with the writes of a load so far, which sees its own writes: [`Work::get`], [`Work::put`].
 //! - [`why_closed`] says whether a cell may be written, and why not.
 //!
@@ -20,6 +20,7 @@ mod room;
 mod snapshot;
 mod snapshot_read;
 mod sound;
+mod uncounted;
 mod work;
 mod work_values;
 mod work_writes;

@@ -46,7 +46,7 @@ impl WorkCells for LoadCells {
     ) -> Result<Result<Value, LoadReason>, AllocError> {
         match cell_by_texts(alloc, self.work.model(), cube, elements)? {
             Some(cell) => {
-                let value = self.work.value_at(alloc, cell)?;
+                let value = self.work.get(alloc, cell)?;
                 Ok(Ok(value))
             }
             None => Ok(Err(LoadReason::UnknownName)),
