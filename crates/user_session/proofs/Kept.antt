@@ -1,5 +1,5 @@
 -- A load that begins within the limits stays within them.
-use Rattle.std.proofs.Common.{Result, Ok, ◌≡◌, refl, subst, ℕ, ℤ, ◌≤◌, Bool, true, false, not, if◌then◌else◌, List, [], ◌∷◌, ◌++◌, ◌&&◌, length, Option, Some, None}
+use Rattle.std.proofs.Common.{Result, Ok, ◌≡◌, refl, subst, ℕ, ℤ, Bool, true, false, not, if◌then◌else◌, List, [], ◌∷◌, ◌++◌, ◌&&◌, length, Option, Some, None}
 use Rattle.std.specs.Prelude.{nat_lt, option_map, suc}
 use Rattle.std.specs.List.{list_all}
 use Rattle.std.proofs.lemmas.List.Elements.{All-push}

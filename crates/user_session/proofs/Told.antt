@@ -1,5 +1,5 @@
 -- What a write is told of the limits is what its effect says of them.
-use Rattle.std.proofs.Common.{◌≡◌, ◌∙◌, refl, sym, subst, ℕ, suc, ℤ, ◌<◌, ◌≤◌, List, length, ◌⊎◌, inl, inr, ⊎_elim, Result, Ok, Err}
+use Rattle.std.proofs.Common.{◌≡◌, ◌∙◌, refl, sym, subst, ℕ, suc, ℤ, ◌≤◌, List, length, ◌⊎◌, inl, inr, ⊎_elim, Result, Ok, Err}
 use Rattle.std.specs.Prelude.{IsOkUnless}
 use Rattle.std.proofs.lemmas.Bool.{cases_lt, lt-ltb, le-ltb}
 use Rattle.cell_reader.specs.FedCount.{fed_count}
