@@ -1,4 +1,5 @@
 pub mod FedCount
+pub mod Limits
 pub mod RoomFacts
 pub mod SlotFacts
 pub mod Works

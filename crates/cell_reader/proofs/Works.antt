@@ -1,5 +1,5 @@
 -- A load's work with one write more, and memories of its values.
-use Rattle.std.proofs.Common.{◌≡◌, ◌∙◌, refl, sym, ap, subst, arith, Bool, true, false, cond, ℕ, ℤ, pos, ◌-◌, ◌<◌, ◌≤◌, List, [], ◌∷◌, ◌++◌, drop, length, take}
+use Rattle.std.proofs.Common.{◌≡◌, ◌∙◌, refl, sym, ap, subst, arith, Bool, true, false, cond, ℕ, ℤ, pos, ◌-◌, ◌<◌, ◌≤◌, List, [], ◌∷◌, ◌++◌, drop, length, take, Ok}
 use Rattle.std.specs.Arc.{arc_value}
 use Rattle.std.specs.declared.alloc.Global.{Global}
 use Rattle.std.specs.declared.sync.Arc.{Arc}
@@ -19,8 +19,11 @@ use Rattle.rule_laws.specs.Feeding.{Feeds}
 use Rattle.rule_model.specs.BoundModel.{BoundModel}
 use Rattle.rule_model.specs.Conditions.{AreRules}
 use Rattle.rule_model.specs.System.{system_of}
+use Rattle.cell_reader.specs.FedCount.{fed_count}
+use Rattle.cell_reader.specs.Limits.{IsLimitAnswer}
 use Rattle.cell_reader.specs.Inside.After.{IsAfter, IsAhead, MayWait}
 use Rattle.cell_reader.specs.declared.work.Work.{Work}
+use Rattle.cell_reader.proofs.Limits.{within-answers}
 use Rattle.cell_reader.proofs.RoomFacts.{fed_of_all, few_more, no_more_fed, none_more, same_fed}
 
 -- a memory that was made for a version has its values
@@ -59,8 +62,17 @@ module _ (opening latest : Arc NumberedVersion Global) (ws : List (ℕ × ℤ)) 
       }
 
   -- few cells are stored
-  pub few_after : length (after_writes (arc_value opening).stored ws) ≤ most_cells
+  few_after : length (after_writes (arc_value opening).stored ws) ≤ most_cells
   few_after = omega (arith, ahead.waiting.few_stored, ap length ahead.all.after)
+
+  -- and few are fed
+  few_fed_after : fed_count (arc_value opening).model (after_writes (arc_value opening).stored ws) ≤ most_fed
+  few_fed_after =
+      subst (λ (m : BoundModel). fed_count m (after_writes (arc_value opening).stored ws) ≤ most_fed) ahead.all.same
+      (subst (λ (es : List Entry). fed_count now.model es ≤ most_fed) ahead.all.after ahead.waiting.few_fed)
+
+  pub ahead_answers : {T : Type 0} (ok : T) → IsLimitAnswer (arc_value opening).model (after_writes (arc_value opening).stored ws) (Ok ok)
+  ahead_answers ok = within-answers (arc_value opening).model (after_writes (arc_value opening).stored ws) ok few_after few_fed_after
 
   -- less room is left
   pub less-room : (left : ℕ) → left ≤ room → IsAhead opening latest ws made left

@@ -1,5 +1,7 @@
 pub mod Snapshots
 pub mod Slots
 pub mod FedCount
+pub mod Limits
 pub mod Works
+pub mod WritePermission
 pub mod Inside

@@ -2,22 +2,28 @@
 //!
 //! - [`Snapshot`] is a version with a memory for the values that its readers work out. [`Snapshot::first`] has nothing
 //!   stored, [`Snapshot::next`] is the one after some writes, and [`Snapshot::share`] is the same for another reader.
-//! - [`Snapshot::read`] is a cell's value.
+//! - [`Snapshot::value_at`] is a cell's value, and [`Snapshot::read`] the same for who counts steps.
 //! - [`Work`] is a version with the writes of a load so far, which sees its own writes: [`Work::get`], [`Work::put`].
+//! - [`why_closed`] says whether a cell may be written, and why not.
 //!
-//! Contracts speak of both by the words of `specs/Snapshots.antt` and `specs/Works.antt`.
+//! Contracts speak of these by the words of `specs/Snapshots.antt`, `specs/Works.antt`, `specs/Limits.antt` and
+//! `specs/WritePermission.antt`.
 #![tactic(auto)]
 
 pub use cell_versions::NextFault;
 pub use slots::{CELLS_PER_SLOT, MAX_SLOTS, MIN_SLOTS};
 pub use snapshot::Snapshot;
 pub use work::Work;
+pub use write_permission::{Closed, why_closed};
 
 mod next_snapshot;
 mod room;
 mod slots;
 mod snapshot;
 mod snapshot_read;
+mod sound;
+mod uncounted;
 mod work;
 mod work_values;
 mod work_writes;
+mod write_permission;

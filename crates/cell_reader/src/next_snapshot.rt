@@ -1,18 +1,19 @@
-ghost use Rattle.std.specs.Prelude.{◌≡◌, suc, ◌<◌, ◌≤◌, ◌⊎◌, [], length, Err, IfOk, IsOkUnless};
+ghost use Rattle.std.specs.Prelude.{◌≡◌, ◌<◌, true, [], ◌∷◌, IfOk};
 ghost use Rattle.std.specs.Arc.{arc_value};
 ghost use Rattle.cell_store.specs.Entries.{after_writes};
-ghost use Rattle.cell_store.specs.StoreLimit.{most_cells};
-ghost use Rattle.feed_map.specs.FedCells.{most_fed};
 ghost use Rattle.accepted.specs.Checks.{IsAccepted};
 ghost use Rattle.cell_values.specs.Reading.{AreValuesOn};
+ghost use Rattle.cube_space.specs.Cells.{IsCell, is_leaf_cell};
 ghost use Rattle.cell_versions.specs.Versions.{AreLeafWrites, IsVersion, number_after};
 ghost use Rattle.memo_cells.specs.Shared.{version_kept};
 ghost use Rattle.memo_cells.specs.Values.{cell_value};
-ghost use Rattle.cell_reader.specs.FedCount.{fed_count};
+ghost use Rattle.cell_reader.specs.Limits.{IsLimitAnswer, IsWithinLimits};
 ghost use Rattle.cell_reader.specs.Snapshots.{known_in, memory_of, version_of};
 
+use crate::room::{room_behind, room_of};
 use crate::slots::slots_for;
 use crate::snapshot::Snapshot;
+use crate::sound::is_sound;
 use accepted::Accepted;
 use cell_store::Store;
 use cell_versions::{NextFault, Version};
@@ -44,20 +45,48 @@ impl Snapshot {
         ensures stored { IfOk result (λ next.
             (version_of next).stored ≡ after_writes (version_of self.now).stored writes.now) }
 
-        // each limit is answered exactly where it is passed, out of memory aside, that of the stored cells first
-        ensures within { length (after_writes (version_of self.now).stored writes.now) ≤ most_cells →
-            fed_count (version_of self.now).model (after_writes (version_of self.now).stored writes.now) ≤ most_fed →
-            IsOkUnless result NextFault.Memory }
-        ensures past_store { most_cells < length (after_writes (version_of self.now).stored writes.now) →
-            (result ≡ Err (NextFault.StoreLimit (length (after_writes (version_of self.now).stored writes.now))))
-            ⊎ (result ≡ Err NextFault.Memory) }
-        ensures past_fed { length (after_writes (version_of self.now).stored writes.now) ≤ most_cells →
-            most_fed < fed_count (version_of self.now).model (after_writes (version_of self.now).stored writes.now) →
-            (result ≡ Err (NextFault.FedLimit (suc most_fed))) ⊎ (result ≡ Err NextFault.Memory) }
+        // each limit is answered exactly where it is passed, out of memory aside
+        ensures limits { let v = version_of self.now in
+            IsLimitAnswer v.model (after_writes v.stored writes.now) result }
     {
         let version = version_after(alloc, &self.version, writes)?;
         let next = Snapshot::of(alloc, version, writes.len())?;
         Ok(next)
+    }
+
+    /// The same for writes that pass no limit where none is passed before, as none is: out of memory is the only error.
+    pub fn next_within(
+        &self,
+        alloc: Global,
+        writes: &[(u64, Money)],
+    ) -> Result<Snapshot, AllocError>
+        requires leaves { AreLeafWrites (version_of self.now).model.space writes.now }
+        requires within { let v = version_of self.now in
+            IsWithinLimits v.model v.stored → IsWithinLimits v.model (after_writes v.stored writes.now) }
+        ensures number { IfOk result (λ next. (version_of next).number ≡ number_after (version_of self.now).number) }
+        ensures model { IfOk result (λ next. (version_of next).model ≡ (version_of self.now).model) }
+        ensures stored { IfOk result (λ next.
+            (version_of next).stored ≡ after_writes (version_of self.now).stored writes.now) }
+    {
+        is_sound(&self.version);
+        let version = version_within(alloc, &self.version, writes)?;
+        let next = Snapshot::of(alloc, version, writes.len())?;
+        Ok(next)
+    }
+
+    /// Which limit the version passes that has this number in a leaf cell, if it passes one.
+    pub fn check_limits(&self, alloc: Global, cell: u64, number: Money) -> Result<(), NextFault>
+        requires cell { IsCell (version_of self.now).model.space cell }
+        requires leaf { is_leaf_cell (version_of self.now).model.space cell ≡ true }
+        ensures { let v = version_of self.now in
+            IsLimitAnswer v.model (after_writes v.stored ((cell, number) ∷ [])) result }
+    {
+        let room = room_of(&self.version);
+        if let Some(_) = room_behind(&self.version, &[], room, cell, number) {
+            return Ok(());
+        }
+        version_after(alloc, &self.version, &[(cell, number)])?;
+        Ok(())
     }
 
     /// The same for another reader, who knows what this one knows, and holds no value for itself yet. It doesn't wait.
@@ -152,17 +181,27 @@ pub(crate) fn version_after(
     ensures number { IfOk result (λ next. next.number ≡ number_after version.now.number) }
     ensures model { IfOk result (λ next. next.model ≡ version.now.model) }
     ensures stored { IfOk result (λ next. next.stored ≡ after_writes version.now.stored writes.now) }
-    ensures within { length (after_writes version.now.stored writes.now) ≤ most_cells →
-        fed_count version.now.model (after_writes version.now.stored writes.now) ≤ most_fed →
-        IsOkUnless result NextFault.Memory }
-    ensures past_store { most_cells < length (after_writes version.now.stored writes.now) →
-        (result ≡ Err (NextFault.StoreLimit (length (after_writes version.now.stored writes.now))))
-        ⊎ (result ≡ Err NextFault.Memory) }
-    ensures past_fed { length (after_writes version.now.stored writes.now) ≤ most_cells →
-        most_fed < fed_count version.now.model (after_writes version.now.stored writes.now) →
-        (result ≡ Err (NextFault.FedLimit (suc most_fed))) ⊎ (result ≡ Err NextFault.Memory) }
+    ensures limits { IsLimitAnswer version.now.model (after_writes version.now.stored writes.now) result }
 {
-    // a model says of itself that its rules are in range, so that its fed cells can be listed
-    let _cells = version.model().space().size();
+    is_sound(version);
     version.next(alloc, writes)
+}
+
+/// The version after these writes, which pass no limit: out of memory is the only error.
+pub(crate) fn version_within(
+    alloc: Global,
+    version: &Version,
+    writes: &[(u64, Money)],
+) -> Result<Version, AllocError>
+    requires leaves { AreLeafWrites version.now.model.space writes.now }
+    requires within { IsWithinLimits version.now.model (after_writes version.now.stored writes.now) }
+    ensures number { IfOk result (λ next. next.number ≡ number_after version.now.number) }
+    ensures model { IfOk result (λ next. next.model ≡ version.now.model) }
+    ensures stored { IfOk result (λ next. next.stored ≡ after_writes version.now.stored writes.now) }
+{
+    match version_after(alloc, version, writes) {
+        Ok(next) => Ok(next),
+        Err(NextFault::Memory) => Err(AllocError),
+        Err(NextFault::StoreLimit(_)) | Err(NextFault::FedLimit(_)) => unreachable!(),
+    }
 }

@@ -4,6 +4,7 @@ ghost use Rattle.rule_laws.specs.Feeding.{Feeds};
 ghost use Rattle.rule_model.specs.System.{system_of};
 ghost use Rattle.cell_reader.specs.Inside.After.{MayWait};
 
+use crate::sound::is_sound;
 use cell_store::MAX_CELLS;
 use cell_versions::Version;
 use cube_fixed::Money;
@@ -54,12 +55,10 @@ fn feeds_nothing(model: &Model, cell: u64) -> bool
     model.rules(cube).feeders.as_slice().is_empty()
 }
 
-/// How many more cells may be stored than a version stores. It says of itself that it passes no limit, and its model
-/// that its rules are in range.
+/// How many more cells may be stored than a version stores.
 pub(crate) fn room_of(version: &Version) -> usize
     ensures { MayWait version.now [] result }
 {
-    let _fed = version.fed().count();
-    let _cells = version.model().space().size();
+    is_sound(version);
     MAX_CELLS - version.store().len() as usize
 }

@@ -1,10 +1,11 @@
-ghost use Rattle.std.specs.Prelude.{◌≡◌, ◌<◌, ◌⊎◌, true, IfOk};
+ghost use Rattle.std.specs.Prelude.{◌≡◌, ◌⊎◌, true, IfOk};
 ghost use Rattle.cell_values.specs.Reading.{IsKept, IsPlainTotal, IsWorkedOut, MayCount, value_on};
 ghost use Rattle.cube_space.specs.Cells.{IsCell};
 ghost use Rattle.memo_cells.specs.Knowledge.{Grew, Knows};
 ghost use Rattle.cell_reader.specs.Snapshots.{held_in, known_in, version_of};
 
 use crate::snapshot::Snapshot;
+use crate::uncounted::uncounted_value;
 use cell_source::Cells;
 use cell_values::value_of;
 use cube_fixed::{Steps, Value};
@@ -44,24 +45,7 @@ impl Snapshot {
         ensures value { IfOk result (λ value. value ≡ value_on (version_of self.old) cell) }
         ensures version { version_of self.new ≡ version_of self.old }
     {
-        self.value_for::<Brand>(Blank::new(1), alloc, cell)
-    }
-
-    fn value_for<L: Ledger>(
-        &mut self,
-        blank: Blank,
-        alloc: Global,
-        cell: u64,
-    ) -> Result<Value, AllocError>
-        requires name { blank.name ≡ L.name }
-        requires parts { blank.parts ≡ L.parts }
-        requires some { 0 < L.parts }
-        requires cell { IsCell (version_of self.old).model.space cell }
-        ensures value { IfOk result (λ value. value ≡ value_on (version_of self.old) cell) }
-        ensures version { version_of self.new ≡ version_of self.old }
-    {
-        let mut steps = Steps::<L>::begin(blank);
-        self.read(alloc, cell, &mut steps)
+        uncounted_value::<Brand>(Blank::new(1), alloc, &self.version, &mut self.memo, cell)
     }
 }
 

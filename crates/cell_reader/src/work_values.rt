@@ -1,4 +1,4 @@
-ghost use Rattle.std.specs.Prelude.{◌≡◌, ◌<◌, [], IfOk};
+ghost use Rattle.std.specs.Prelude.{◌≡◌, [], IfOk};
 ghost use Rattle.cell_versions.specs.Versions.{AreLeafWrites};
 ghost use Rattle.cube_space.specs.Cells.{IsCell};
 ghost use Rattle.rule_laws.specs.RuleSystem.{dense_value};
@@ -11,15 +11,15 @@ ghost use Rattle.cell_writes.specs.Writes.{last_writes};
 use crate::next_snapshot::memory_for;
 use crate::room::room_of;
 use crate::snapshot::Snapshot;
+use crate::uncounted::uncounted_value;
 use crate::work::{WORK_SLOTS, Work};
-use cell_values::value_of;
 use cell_writes::last_writes;
-use cube_fixed::{Money, Steps, Value};
+use cube_fixed::{Money, Value};
 use rule_model::Model;
 use std::alloc::{AllocError, Global};
 use std::marker::Brand;
 use std::sync::Arc;
-use std::sync::ledger::{Blank, Ledger};
+use std::sync::ledger::Blank;
 
 impl Work {
     /// The work of a load that begins with this snapshot.
@@ -45,12 +45,7 @@ impl Work {
     }
 
     /// The value of a cell by the rules, on what is stored after the writes so far.
-    pub fn get<L: Ledger>(
-        &mut self,
-        alloc: Global,
-        cell: u64,
-        steps: &mut Steps<L>,
-    ) -> Result<Value, AllocError>
+    pub fn get(&mut self, alloc: Global, cell: u64) -> Result<Value, AllocError>
         requires { IsCell (opening_of self.old).model.space cell }
         ensures value { IfOk result (λ value. value ≡ dense_value (system_of (opening_of self.old).model)
             (stored_in (stored_after self.old (writes_of self.old))) cell) }
@@ -62,39 +57,9 @@ impl Work {
             Some(memo) => memo,
             None => memory_for(alloc, &self.latest, WORK_SLOTS)?,
         };
-        let value = value_of(alloc, &self.latest, &mut memo, cell, steps);
+        let value = uncounted_value::<Brand>(Blank::new(1), alloc, &self.latest, &mut memo, cell);
         self.memo = Some(memo);
         value
-    }
-
-    /// The same where nobody counts the steps.
-    pub fn value_at(&mut self, alloc: Global, cell: u64) -> Result<Value, AllocError>
-        requires { IsCell (opening_of self.old).model.space cell }
-        ensures value { IfOk result (λ value. value ≡ dense_value (system_of (opening_of self.old).model)
-            (stored_in (stored_after self.old (writes_of self.old))) cell) }
-        ensures opening { opening_of self.new ≡ opening_of self.old }
-        ensures writes { writes_of self.new ≡ writes_of self.old }
-    {
-        self.value_for::<Brand>(Blank::new(1), alloc, cell)
-    }
-
-    fn value_for<L: Ledger>(
-        &mut self,
-        blank: Blank,
-        alloc: Global,
-        cell: u64,
-    ) -> Result<Value, AllocError>
-        requires name { blank.name ≡ L.name }
-        requires parts { blank.parts ≡ L.parts }
-        requires some { 0 < L.parts }
-        requires cell { IsCell (opening_of self.old).model.space cell }
-        ensures value { IfOk result (λ value. value ≡ dense_value (system_of (opening_of self.old).model)
-            (stored_in (stored_after self.old (writes_of self.old))) cell) }
-        ensures opening { opening_of self.new ≡ opening_of self.old }
-        ensures writes { writes_of self.new ≡ writes_of self.old }
-    {
-        let mut steps = Steps::<L>::begin(blank);
-        self.get(alloc, cell, &mut steps)
     }
 
     /// The model.

@@ -1,14 +1,11 @@
-ghost use Rattle.std.specs.Prelude.{◌≡◌, suc, ◌<◌, ◌≤◌, ◌⊎◌, true, [], ◌∷◌, ◌++◌, length, Err};
-ghost use Rattle.std.specs.Prelude.{OnOk, OnErr, IsOkUnless};
+ghost use Rattle.std.specs.Prelude.{◌≡◌, true, [], ◌∷◌, ◌++◌, OnOk, OnErr};
 ghost use Rattle.std.specs.Arc.{arc_value};
-ghost use Rattle.cell_store.specs.StoreLimit.{most_cells};
 ghost use Rattle.cube_space.specs.Cells.{IsCell, is_leaf_cell};
-ghost use Rattle.feed_map.specs.FedCells.{most_fed};
-ghost use Rattle.cell_reader.specs.FedCount.{fed_count};
+ghost use Rattle.cell_reader.specs.Limits.{IsLimitAnswer};
 ghost use Rattle.cell_reader.specs.Works.{opening_of, stored_after, writes_of};
 ghost use Rattle.cell_reader.specs.Inside.After.{IsAfter};
 
-use crate::next_snapshot::version_after;
+use crate::next_snapshot::{version_after, version_within};
 use crate::room::{room_behind, room_of};
 use crate::work::Work;
 use cell_versions::{NextFault, Version};
@@ -25,19 +22,9 @@ impl Work {
         ensures written { OnOk result (writes_of self.new ≡ writes_of self.old ++ (cell, number) ∷ []) }
         ensures same { OnErr result (writes_of self.new ≡ writes_of self.old) }
 
-        // the answer is a limit exactly where this write passes it, out of memory aside, that of the stored cells first
-        ensures within { length (stored_after self.old (writes_of self.old ++ (cell, number) ∷ [])) ≤ most_cells →
-            fed_count (opening_of self.old).model (stored_after self.old (writes_of self.old ++ (cell, number) ∷ []))
-            ≤ most_fed →
-            IsOkUnless result NextFault.Memory }
-        ensures past_store { most_cells < length (stored_after self.old (writes_of self.old ++ (cell, number) ∷ [])) →
-            (result ≡ Err (NextFault.StoreLimit
-            (length (stored_after self.old (writes_of self.old ++ (cell, number) ∷ [])))))
-            ⊎ (result ≡ Err NextFault.Memory) }
-        ensures past_fed { length (stored_after self.old (writes_of self.old ++ (cell, number) ∷ [])) ≤ most_cells →
-            most_fed < fed_count (opening_of self.old).model
-            (stored_after self.old (writes_of self.old ++ (cell, number) ∷ [])) →
-            (result ≡ Err (NextFault.FedLimit (suc most_fed))) ⊎ (result ≡ Err NextFault.Memory) }
+        // the answer is a limit exactly where this write passes it, out of memory aside
+        ensures limits { IsLimitAnswer (opening_of self.old).model
+            (stored_after self.old (writes_of self.old ++ (cell, number) ∷ [])) result }
     {
         let waiting = &self.written[self.made..];
         if let Some(room) = room_behind(&self.latest, waiting, self.room, cell, number) {
@@ -62,12 +49,8 @@ impl Work {
         if waiting.is_empty() {
             return Ok(());
         }
-        match version_after(alloc, &self.latest, waiting) {
-            Ok(next) => self.go_on(alloc, next, &[]),
-            Err(NextFault::Memory) => Err(AllocError),
-            // what waits passes no limit
-            Err(NextFault::StoreLimit(_)) | Err(NextFault::FedLimit(_)) => unreachable!(),
-        }
+        let next = version_within(alloc, &self.latest, waiting)?;
+        self.go_on(alloc, next, &[])
     }
 
     // Goes on with the version after all writes, and these more.

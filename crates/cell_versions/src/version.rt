@@ -1,9 +1,9 @@
-ghost use Rattle.std.specs.Prelude.{◌≡◌, suc, ◌<◌, ◌≤◌, ◌⊎◌, [], length, Err, IfOk, IsOkUnless};
+ghost use Rattle.std.specs.Prelude.{◌≡◌, suc, ◌⊎◌, [], Err, IfOk, IsOkUnless};
 ghost use Rattle.std.specs.Arc.{arc_value};
 ghost use Rattle.cell_store.specs.Entries.{after_writes};
-ghost use Rattle.cell_store.specs.StoreLimit.{most_cells};
 ghost use Rattle.feed_map.specs.FedCells.{AreFedCells, HasFewFed, HasManyFed, most_fed};
 ghost use Rattle.accepted.specs.Checks.{IsAccepted};
+ghost use Rattle.cell_versions.specs.LimitAnswers.{AnswersLimits};
 ghost use Rattle.cell_versions.specs.Versions.{AreLeafWrites, IsVersion, number_after};
 
 use crate::changes::added_by;
@@ -67,15 +67,9 @@ impl Version {
         ensures model { IfOk result (λ next. next.model ≡ self.now.model) }
         ensures stored { IfOk result (λ next. next.stored ≡ after_writes self.now.stored writes.now) }
 
-        // each limit is answered exactly where it is passed, out of memory aside, that of the stored cells first
-        ensures within { length (after_writes self.now.stored writes.now) ≤ most_cells →
-            HasFewFed self.now.model (after_writes self.now.stored writes.now) → IsOkUnless result NextFault.Memory }
-        ensures past_store { most_cells < length (after_writes self.now.stored writes.now) →
-            (result ≡ Err (NextFault.StoreLimit (length (after_writes self.now.stored writes.now))))
-            ⊎ (result ≡ Err NextFault.Memory) }
-        ensures past_fed { length (after_writes self.now.stored writes.now) ≤ most_cells →
-            HasManyFed self.now.model (after_writes self.now.stored writes.now) →
-            (result ≡ Err (NextFault.FedLimit (suc most_fed))) ⊎ (result ≡ Err NextFault.Memory) }
+        // each limit is answered exactly where it is passed, out of memory aside
+        ensures limits { let stored = after_writes self.now.stored writes.now in AnswersLimits
+            (HasFewFed self.now.model stored) (HasManyFed self.now.model stored) stored result }
     {
         let accepted = Arc::try_clone(&self.accepted)?;
         let store = self.store.apply(alloc, writes)?;

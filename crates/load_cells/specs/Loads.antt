@@ -1,17 +1,18 @@
 -- What a load runs on: the cells of a version, by names, with the writes so far.
-use Rattle.std.specs.Prelude.{ℕ, suc, nat_lt, ◌&&◌, not, List, length, Option, Some, None, if◌then◌else◌}
+use Rattle.std.specs.Prelude.{ℕ, suc, nat_lt, ◌&&◌, List, length, Option, Some, None, option_map, if◌then◌else◌}
 use Rattle.std.specs.List.{list_all}
 use Rattle.cell_reader.specs.FedCount.{fed_count}
+use Rattle.cell_reader.specs.WritePermission.{why_closed}
+use Rattle.cell_reader.specs.declared.write_permission.Closed.{Closed}
+use Rattle.cell_reader.specs.declared.write_permission.Closed.TheVariants as closed
 use Rattle.cell_store.specs.declared.entry.Entry.{Entry}
 use Rattle.cell_store.specs.Entries.{after_writes}
 use Rattle.cell_store.specs.StoreLimit.{most_cells}
-use Rattle.cube_space.specs.Cells.{is_leaf_cell}
 use Rattle.cube_space.specs.Layout.{Layout}
 use Rattle.dim_name.specs.Name.{is_name}
 use Rattle.feed_map.specs.FedCells.{most_fed}
 use Rattle.rule_laws.specs.RuleSystem.{dense_value}
 use Rattle.rule_model.specs.BoundModel.{BoundModel}
-use Rattle.rule_model.specs.Input.{is_input}
 use Rattle.rule_model.specs.Named.{cell_named}
 use Rattle.rule_model.specs.System.{system_of}
 use Rattle.script_values.specs.Cells.{Store}
@@ -24,12 +25,10 @@ abbrev pub cell_by_texts : Layout → List ℕ → List (List ℕ) → Option �
 cell_by_texts space cube elements =
     if is_name cube && list_all is_name elements then cell_named space cube elements else None
 
--- why nothing can be written into a cell, whatever is stored
-abbrev pub closed : BoundModel → ℕ → Option LoadReason
-closed model cell =
-    if not (is_leaf_cell model.space cell) then Some NotALeaf
-    else if not (is_input model cell) then Some RuleDerived
-    else None
+-- why a load that writes into a closed cell is rejected
+abbrev pub reason_of : Closed → LoadReason
+reason_of closed.NotALeaf = NotALeaf
+reason_of closed.RuleDerived = RuleDerived
 
 -- which limit is passed where this is stored
 abbrev pub passed : BoundModel → List Entry → Option LoadReason
@@ -44,6 +43,6 @@ store_of model stored =
     record {
       cell = cell_by_texts model.space;
       value = λ writes. dense_value (system_of model) (stored_in (after_writes stored writes));
-      closed = closed model;
+      closed = λ cell. option_map reason_of (why_closed model cell);
       full = λ writes. passed model (after_writes stored writes);
     }

@@ -1,10 +1,10 @@
 ghost use Rattle.std.specs.Prelude.{◌≡◌};
 ghost use Rattle.cell_reader.specs.Works.{opening_of, writes_of};
+ghost use Rattle.load_cells.specs.Loads.{reason_of};
 
 use crate::names::cell_by_texts;
-use cell_reader::{NextFault, Work};
+use cell_reader::{Closed, NextFault, Work, why_closed};
 use cube_fixed::Value;
-use rule_model::is_input;
 use script_values::{LoadReason, Text, WorkCells};
 use std::alloc::{AllocError, Global};
 
@@ -46,7 +46,7 @@ impl WorkCells for LoadCells {
     ) -> Result<Result<Value, LoadReason>, AllocError> {
         match cell_by_texts(alloc, self.work.model(), cube, elements)? {
             Some(cell) => {
-                let value = self.work.value_at(alloc, cell)?;
+                let value = self.work.get(alloc, cell)?;
                 Ok(Ok(value))
             }
             None => Ok(Err(LoadReason::UnknownName)),
@@ -64,11 +64,8 @@ impl WorkCells for LoadCells {
         let Some(cell) = cell_by_texts(alloc, model, cube, elements)? else {
             return Ok(Some(LoadReason::UnknownName));
         };
-        if !model.space().is_leaf(cell) {
-            return Ok(Some(LoadReason::NotALeaf));
-        }
-        if !is_input(model, cell) {
-            return Ok(Some(LoadReason::RuleDerived));
+        if let Some(closed) = why_closed(model, cell) {
+            return Ok(Some(reason_of(closed)));
         }
         let Value::Num(number) = value else {
             return Ok(Some(LoadReason::OverWrite));
@@ -79,5 +76,15 @@ impl WorkCells for LoadCells {
             Err(NextFault::FedLimit(count)) => Ok(Some(LoadReason::FedLimit(count))),
             Err(NextFault::Memory) => Err(AllocError),
         }
+    }
+}
+
+// Why a load that writes into a closed cell is rejected.
+fn reason_of(closed: Closed) -> LoadReason
+    ensures { result ≡ reason_of closed }
+{
+    match closed {
+        Closed::NotALeaf => LoadReason::NotALeaf,
+        Closed::RuleDerived => LoadReason::RuleDerived,
     }
 }

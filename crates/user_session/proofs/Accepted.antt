@@ -1,8 +1,11 @@
 -- What is known of the writes of an accepted command.
-use Rattle.std.proofs.Common.{Result, Ok, Err, ◌≡◌, refl, subst, ℕ, ℤ, ◌≤◌, Bool, true, false, not, if◌then◌else◌, List, [], ◌∷◌, length, Option, Some, None}
+use Rattle.std.proofs.Common.{Result, Ok, Err, ◌≡◌, refl, subst, ℕ, ℤ, Bool, true, false, if◌then◌else◌, List, [], ◌∷◌, length, Option, Some, None}
 use Rattle.std.specs.Prelude.{nat_lt}
 use Rattle.std.proofs.lemmas.List.Elements.{All-nil, All-cons}
 use Rattle.cell_reader.specs.FedCount.{fed_count}
+use Rattle.cell_reader.specs.Limits.{IsWithinLimits}
+use Rattle.cell_reader.specs.WritePermission.{why_closed}
+use Rattle.cell_reader.specs.declared.write_permission.Closed.{Closed}
 use Rattle.cell_store.specs.declared.entry.Entry.{Entry}
 use Rattle.cell_store.specs.Entries.{after_writes}
 use Rattle.cell_store.specs.StoreLimit.{most_cells}
@@ -13,7 +16,6 @@ use Rattle.load_cells.specs.Loads.{store_of}
 use Rattle.user_text.specs.declared.load_job.LoadJob.{LoadJob}
 use Rattle.history.specs.declared.effect.Effect.TheVariants.{Commit}
 use Rattle.rule_model.specs.BoundModel.{BoundModel}
-use Rattle.rule_model.specs.Input.{is_input}
 use Rattle.script_bind.specs.Binding.{bound_of}
 use Rattle.script_laws.proofs.Kept.{load_keeps}
 use Rattle.script_run.specs.Load.{load, ran_of, writes_of}
@@ -24,19 +26,19 @@ use Rattle.std.specs.Arc.{arc_value}
 use Rattle.user_session.specs.declared.content.Content.{Content}
 use Rattle.user_session.specs.declared.command.PlanCommand.{PlanCommand}
 use Rattle.user_session.specs.declared.command.PlanCommand.TheVariants.{Put, Get, Load, View}
-use Rattle.user_session.specs.Planning.{committed, effect, ended_effect, get_effect, load_effect, named_cell, put_effect, rejected, table_effect, within_limits}
+use Rattle.user_session.specs.Planning.{committed, effect, ended_effect, get_effect, load_effect, named_cell, put_effect, rejected, table_effect, unless_closed, within_limits, write_effect}
 use Rattle.view_query.specs.Binding.{bound}
 use Rattle.view_query.specs.declared.fault.ViewFault.{ViewFault}
 use Rattle.view_query.specs.declared.shape.View as views
-use Rattle.user_session.proofs.Kept.{write-kept}
-use Rattle.user_session.proofs.Within.{AreWithin, last-within, named-cell}
-use Rattle.user_session.specs.declared.reply.CommandReason.TheVariants.{NotALeaf, RuleDerived, StoreLimit, FedLimit}
+use Rattle.user_session.proofs.Kept.{open-leaf, write-kept}
+use Rattle.user_session.proofs.Within.{AreWithin, before-writes, last-within, named-cell}
+use Rattle.user_session.specs.declared.reply.CommandReason.TheVariants.{StoreLimit, FedLimit}
 use Rattle.std.proofs.lemmas.Bool.{ltb-false as at_most}
 
 -- ---- an accepted PUT
 
 abbrev IsAmong : BoundModel → List Entry → List (ℕ × ℤ) → List (ℕ × ℤ) → Type 0
-IsAmong model stored writes others = (writes ≡ others) × (length stored ≤ most_cells) × (fed_count model stored ≤ most_fed)
+IsAmong model stored writes others = (writes ≡ others) × IsWithinLimits model stored
 
 limited : (model : BoundModel) (stored : List Entry) (writes others : List (ℕ × ℤ)) (reply : List ℕ) → within_limits model stored writes ≡ Commit others reply → IsAmong model stored writes others
 limited model stored writes others reply is = by (nat_lt most_cells (length stored)) refl (nat_lt most_fed (fed_count model stored)) refl is
@@ -45,24 +47,21 @@ limited model stored writes others reply is = by (nat_lt most_cells (length stor
         → (if b then rejected StoreLimit else if d then rejected FedLimit else committed writes) ≡ Commit others reply → IsAmong model stored writes others
     by true few d fed is = absurd (cc)
     by false few true fed is = absurd (cc)
-    by false few false fed is = (cc, at_most most_cells (length stored) few, at_most most_fed (fed_count model stored) fed)
+    by false few false fed is = (cc, record { few_stored = at_most most_cells (length stored) few; few_fed = at_most most_fed (fed_count model stored) fed })
 
 put-within : (content : Content) (named : Option ℕ) (number : ℤ) (writes : List (ℕ × ℤ)) (reply : List ℕ) → ((c : ℕ) → named ≡ Some c → IsCell content.model.space c)
     → put_effect content named number ≡ Commit writes reply → AreWithin content writes
 put-within content None number writes reply cell is = absurd (cc)
-put-within content (Some c) number writes reply cell is = by (is_leaf_cell content.model.space c) refl (is_input content.model c) is
+put-within content (Some c) number writes reply cell is = by (why_closed content.model c) refl is
   where
-    by : (leaf : Bool) → is_leaf_cell content.model.space c ≡ leaf → (open_cell : Bool)
-        → (if not leaf then rejected NotALeaf else if not open_cell then rejected RuleDerived else within_limits content.model (after_writes content.stored ((c, number) ∷ [])) ((c, number) ∷ [])) ≡ Commit writes reply
+    by : (why : Option Closed) → why_closed content.model c ≡ why → unless_closed why (write_effect content c number) ≡ Commit writes reply
         → AreWithin content writes
-    by false leaf open_cell is = absurd (cc)
-    by true leaf false is = absurd (cc)
-    by true leaf true is =
+    by (Some why) shut is = absurd (cc)
+    by None opens is =
         let parts = limited content.model (after_writes content.stored ((c, number) ∷ [])) ((c, number) ∷ []) writes reply is in
         subst (AreWithin content) parts.0 (record {
-          leaves = All-cons (λ write. IsCell content.model.space write.0 × (is_leaf_cell content.model.space write.0 ≡ true)) (c, number) [] (cell c refl, leaf) (All-nil (λ write. IsCell content.model.space write.0 × (is_leaf_cell content.model.space write.0 ≡ true)));
-          few_stored = parts.1;
-          few_fed = parts.2;
+          leaves = All-cons (λ write. IsCell content.model.space write.0 × (is_leaf_cell content.model.space write.0 ≡ true)) (c, number) [] (cell c refl, open-leaf content.model c opens) (All-nil (λ write. IsCell content.model.space write.0 × (is_leaf_cell content.model.space write.0 ≡ true)));
+          within = λ before. parts.1;
         })
 
 -- ---- an accepted LOAD
@@ -73,13 +72,13 @@ ended-within content Done written writes reply within is =
     subst (AreWithin content) same (last-within content written within)
 ended-within content (Stopped section row statement reason) written writes reply within is = absurd (cc)
 
-load-within : (content : Content) → AreWithin content [] → (job : LoadJob) (script : Script) (writes : List (ℕ × ℤ)) (reply : List ℕ) → load_effect content job script ≡ Commit writes reply
+load-within : (content : Content) (job : LoadJob) (script : Script) (writes : List (ℕ × ℤ)) (reply : List ℕ) → load_effect content job script ≡ Commit writes reply
     → AreWithin content writes
-load-within content begins job script writes reply is =
+load-within content job script writes reply is =
     let store = store_of content.model content.stored in
     let outcome = load (bound_of script) job.params job.rows store [] in
     let kept : AreWithin content (writes_of outcome) =
-    load_keeps store (AreWithin content) (λ before after cube elements value within written. write-kept content before after within cube elements value written) (bound_of script) job.params job.rows [] begins in
+    load_keeps store (AreWithin content) (λ before after cube elements value within written. write-kept content before after within cube elements value written) (bound_of script) job.params job.rows [] (before-writes content) in
     ended-within content (ran_of outcome) (writes_of outcome) writes reply kept is
 
 -- ---- questions write nothing
@@ -92,10 +91,10 @@ view-never : (content : Content) (meant : Result views.View ViewFault) (writes :
 view-never content (Ok view) writes reply is = absurd (cc)
 view-never content (Err fault) writes reply is = absurd (cc)
 
-pub accepted-within : (content : Content) → AreWithin content [] → (command : PlanCommand) (writes : List (ℕ × ℤ)) (reply : List ℕ) → effect content command ≡ Commit writes reply
+pub accepted-within : (content : Content) (command : PlanCommand) (writes : List (ℕ × ℤ)) (reply : List ℕ) → effect content command ≡ Commit writes reply
     → AreWithin content writes
-accepted-within content begins (Put text number) writes reply is =
+accepted-within content (Put text number) writes reply is =
     put-within content (named_cell content.model text) number writes reply (λ c named. named-cell content.model.space text.cube text.elements c named) is
-accepted-within content begins (Get text) writes reply is = get-never content (named_cell content.model text) writes reply is
-accepted-within content begins (Load job script) writes reply is = load-within content begins job (arc_value script) writes reply is
-accepted-within content begins (View text) writes reply is = view-never content (bound content.model.space text) writes reply is
+accepted-within content (Get text) writes reply is = get-never content (named_cell content.model text) writes reply is
+accepted-within content (Load job script) writes reply is = load-within content job (arc_value script) writes reply is
+accepted-within content (View text) writes reply is = view-never content (bound content.model.space text) writes reply is

@@ -1,9 +1,13 @@
 -- A load that begins within the limits stays within them.
-use Rattle.std.proofs.Common.{Result, Ok, ◌≡◌, refl, subst, ℕ, ℤ, ◌≤◌, Bool, true, false, not, if◌then◌else◌, List, [], ◌∷◌, ◌++◌, ◌&&◌, length, Option, Some, None}
-use Rattle.std.specs.Prelude.{nat_lt, suc}
+use Rattle.std.proofs.Common.{Result, Ok, ◌≡◌, refl, subst, ℕ, ℤ, Bool, true, false, not, if◌then◌else◌, List, [], ◌∷◌, ◌++◌, ◌&&◌, length, Option, Some, None}
+use Rattle.std.specs.Prelude.{nat_lt, option_map, suc}
 use Rattle.std.specs.List.{list_all}
 use Rattle.std.proofs.lemmas.List.Elements.{All-push}
 use Rattle.cell_reader.specs.FedCount.{fed_count}
+use Rattle.cell_reader.specs.Limits.{IsWithinLimits}
+use Rattle.cell_reader.specs.WritePermission.{why_closed}
+use Rattle.cell_reader.specs.declared.write_permission.Closed.{Closed}
+use Rattle.cell_reader.specs.declared.write_permission.Closed.TheVariants.{NotALeaf, RuleDerived}
 use Rattle.cell_store.specs.declared.entry.Entry.{Entry}
 use Rattle.cell_store.specs.Entries.{after_writes}
 use Rattle.cell_store.specs.StoreLimit.{most_cells}
@@ -13,13 +17,13 @@ use Rattle.cube_space.specs.Cells.{IsCell, is_leaf_cell}
 use Rattle.cube_space.specs.Layout.{Layout}
 use Rattle.dim_name.specs.Name.{is_name}
 use Rattle.feed_map.specs.FedCells.{most_fed}
-use Rattle.load_cells.specs.Loads.{cell_by_texts, closed, passed, store_of}
+use Rattle.load_cells.specs.Loads.{cell_by_texts, passed, reason_of, store_of}
 use Rattle.rule_model.specs.BoundModel.{BoundModel}
 use Rattle.rule_model.specs.Input.{is_input}
 use Rattle.rule_model.specs.Named.{cell_named}
 use Rattle.script_values.specs.Cells.{unless, with_cell, with_number, with_value, writing}
 use Rattle.script_values.specs.declared.load_reason.LoadReason.{LoadReason}
-use Rattle.script_values.specs.declared.load_reason.LoadReason.TheVariants.{NotALeaf, RuleDerived, StoreLimit, FedLimit}
+use Rattle.script_values.specs.declared.load_reason.LoadReason.TheVariants.{StoreLimit, FedLimit}
 use Rattle.user_session.specs.declared.content.Content.{Content}
 use Rattle.user_session.proofs.Within.{AreWithin, named-cell}
 use Rattle.std.proofs.lemmas.Bool.{ltb-false as at_most}
@@ -32,8 +36,8 @@ texts-cell space cube elements c is = by (is_name cube && list_all is_name eleme
     by true is = named-cell space cube elements c is
     by false is = absurd (cc)
 
--- a cell that isn't closed is a leaf cell
-open-leaf : (model : BoundModel) (c : ℕ) → closed model c ≡ None → is_leaf_cell model.space c ≡ true
+-- a cell that may be written is a leaf cell
+pub open-leaf : (model : BoundModel) (c : ℕ) → why_closed model c ≡ None → is_leaf_cell model.space c ≡ true
 open-leaf model c is = by (is_leaf_cell model.space c) refl (is_input model c) is
   where
     by : (leaf : Bool) → is_leaf_cell model.space c ≡ leaf → (input : Bool)
@@ -42,15 +46,15 @@ open-leaf model c is = by (is_leaf_cell model.space c) refl (is_input model c) i
     by false leaf input is = absurd (cc)
 
 -- what is stored where no limit is passed
-none-passed : (model : BoundModel) (stored : List Entry) → passed model stored ≡ None → (length stored ≤ most_cells) × (fed_count model stored ≤ most_fed)
+none-passed : (model : BoundModel) (stored : List Entry) → passed model stored ≡ None → IsWithinLimits model stored
 none-passed model stored is = by (nat_lt most_cells (length stored)) refl (nat_lt most_fed (fed_count model stored)) refl is
   where
     by : (b : Bool) → nat_lt most_cells (length stored) ≡ b → (d : Bool) → nat_lt most_fed (fed_count model stored) ≡ d
         → (if b then Some (StoreLimit (length stored)) else if d then Some (FedLimit (suc most_fed)) else None) ≡ None
-        → (length stored ≤ most_cells) × (fed_count model stored ≤ most_fed)
+        → IsWithinLimits model stored
     by true few d fed is = absurd (cc)
     by false few true fed is = absurd (cc)
-    by false few false fed is = (at_most most_cells (length stored) few, at_most most_fed (fed_count model stored) fed)
+    by false few false fed is = record { few_stored = at_most most_cells (length stored) few; few_fed = at_most most_fed (fed_count model stored) fed }
 
 module _ (content : Content) (before after : List (ℕ × ℤ)) (within : AreWithin content before) where
   abbrev Leads : Result (List (ℕ × ℤ)) LoadReason → Type 0
@@ -63,8 +67,7 @@ module _ (content : Content) (before after : List (ℕ × ℤ)) (within : AreWit
       let same : before ++ (c, n) ∷ [] ≡ after = cc in
       subst (AreWithin content) same (record {
         leaves = All-push (λ write. IsCell content.model.space write.0 × (is_leaf_cell content.model.space write.0 ≡ true)) before (c, n) within.leaves (cell, leaf);
-        few_stored = few.0;
-        few_fed = few.1;
+        within = λ before. few;
       })
   with_limits c n cell leaf (Some reason) is leads = absurd (cc)
 
@@ -72,13 +75,13 @@ module _ (content : Content) (before after : List (ℕ × ℤ)) (within : AreWit
   number_kept c (Num n) cell leaf leads = with_limits c n cell leaf (passed content.model (after_writes content.stored (before ++ (c, n) ∷ []))) refl leads
   number_kept c Over cell leaf leads = absurd (cc)
 
-  value_kept : (c : ℕ) (value : Value) → IsCell content.model.space c → (reason : Option LoadReason) → closed content.model c ≡ reason
-      → Leads (with_value (store_of content.model content.stored) before c value reason)
+  value_kept : (c : ℕ) (value : Value) → IsCell content.model.space c → (why : Option Closed) → why_closed content.model c ≡ why
+      → Leads (with_value (store_of content.model content.stored) before c value (option_map reason_of why))
   value_kept c value cell None is leads = number_kept c value cell (open-leaf content.model c is) leads
-  value_kept c value cell (Some reason) is leads = absurd (cc)
+  value_kept c value cell (Some why) is leads = absurd (cc)
 
   cell_kept : (value : Value) (named : Option ℕ) → ((c : ℕ) → named ≡ Some c → IsCell content.model.space c) → Leads (with_cell (store_of content.model content.stored) before value named)
-  cell_kept value (Some c) is_cell leads = value_kept c value (is_cell c refl) (closed content.model c) refl leads
+  cell_kept value (Some c) is_cell leads = value_kept c value (is_cell c refl) (why_closed content.model c) refl leads
   cell_kept value None is_cell leads = absurd (cc)
 
   pub write-kept : (cube : List ℕ) (elements : List (List ℕ)) (value : Value) → writing (store_of content.model content.stored) before cube elements value ≡ Ok after → AreWithin content after

@@ -1,8 +1,9 @@
 -- What a write is told of the limits is what its effect says of them.
-use Rattle.std.proofs.Common.{◌≡◌, ◌∙◌, refl, sym, subst, ℕ, suc, ℤ, ◌<◌, ◌≤◌, List, length, ◌⊎◌, inl, inr, ⊎_elim, Result, Ok, Err}
+use Rattle.std.proofs.Common.{◌≡◌, ◌∙◌, refl, sym, subst, ℕ, suc, ℤ, ◌≤◌, List, length, ◌⊎◌, inl, inr, ⊎_elim, Result, Ok, Err}
 use Rattle.std.specs.Prelude.{IsOkUnless}
 use Rattle.std.proofs.lemmas.Bool.{cases_lt, lt-ltb, le-ltb}
 use Rattle.cell_reader.specs.FedCount.{fed_count}
+use Rattle.cell_reader.specs.Limits.{IsLimitAnswer}
 use Rattle.cell_store.specs.declared.entry.Entry.{Entry}
 use Rattle.cell_store.specs.StoreLimit.{most_cells}
 use Rattle.cell_versions.specs.declared.fault.NextFault.{NextFault}
@@ -17,14 +18,12 @@ no_fault answer ok fault is was = absurd (let clash = sym is ∙ was in cc)
 
 -- what a write is told, where these entries are stored after it
 module _ {T : Type 0} (model : BoundModel) (stored : List Entry) (writes : List (ℕ × ℤ)) (answer : Result T NextFault)
-    (within : length stored ≤ most_cells → fed_count model stored ≤ most_fed → IsOkUnless answer faults.Memory)
-    (past_store : most_cells < length stored → (answer ≡ Err (faults.StoreLimit (length stored))) ⊎ (answer ≡ Err faults.Memory))
-    (past_fed : length stored ≤ most_cells → most_fed < fed_count model stored → (answer ≡ Err (faults.FedLimit (suc most_fed))) ⊎ (answer ≡ Err faults.Memory)) where
+    (limits : IsLimitAnswer model stored answer) where
   pub told-kept : (ok : T) → answer ≡ Ok ok → within_limits model stored writes ≡ committed writes
   told-kept ok is = elim (cases_lt most_cells (length stored)) [
-    | inl past ↦ absurd (⊎_elim (no_fault answer ok (faults.StoreLimit (length stored)) is) (no_fault answer ok faults.Memory is) (past_store past))
+    | inl past ↦ absurd (⊎_elim (no_fault answer ok (faults.StoreLimit (length stored)) is) (no_fault answer ok faults.Memory is) (limits.past_store past))
     | inr few ↦ elim (cases_lt most_fed (fed_count model stored)) [
-      | inl past ↦ absurd (⊎_elim (no_fault answer ok (faults.FedLimit (suc most_fed)) is) (no_fault answer ok faults.Memory is) (past_fed few past))
+      | inl past ↦ absurd (⊎_elim (no_fault answer ok (faults.FedLimit (suc most_fed)) is) (no_fault answer ok faults.Memory is) (limits.past_fed few past))
       | inr fed ↦ rw (le-ltb most_cells (length stored) few, le-ltb most_fed (fed_count model stored) fed) refl
     ]
   ]
@@ -50,17 +49,17 @@ module _ {T : Type 0} (model : BoundModel) (stored : List Entry) (writes : List 
       not_within : length stored ≤ most_cells → ⊥
       not_within few = elim (cases_lt most_fed (fed_count model stored)) [
         | inl past ↦ ⊎_elim (λ fed. not_fed (one_fault (faults.StoreLimit count) (faults.FedLimit (suc most_fed)) is fed))
-            (λ memory. other (one_fault (faults.StoreLimit count) faults.Memory is memory)) (past_fed few past)
-        | inr fed ↦ other (unless (faults.StoreLimit count) is (within few fed))
+            (λ memory. other (one_fault (faults.StoreLimit count) faults.Memory is memory)) (limits.past_fed few past)
+        | inr fed ↦ other (unless (faults.StoreLimit count) is (limits.within few fed))
       ]
 
   pub told-fed : (count : ℕ) → answer ≡ Err (faults.FedLimit count) → within_limits model stored writes ≡ rejected FedLimit
   told-fed count is = elim (cases_lt most_cells (length stored)) [
     | inl past ↦ absurd (⊎_elim (λ full. not_full (one_fault (faults.FedLimit count) (faults.StoreLimit (length stored)) is full))
-        (λ memory. other (one_fault (faults.FedLimit count) faults.Memory is memory)) (past_store past))
+        (λ memory. other (one_fault (faults.FedLimit count) faults.Memory is memory)) (limits.past_store past))
     | inr few ↦ elim (cases_lt most_fed (fed_count model stored)) [
       | inl past ↦ rw (le-ltb most_cells (length stored) few, lt-ltb most_fed (fed_count model stored) past) refl
-      | inr fed ↦ absurd (other (unless (faults.FedLimit count) is (within few fed)))
+      | inr fed ↦ absurd (other (unless (faults.FedLimit count) is (limits.within few fed)))
     ]
   ]
     where

@@ -1,16 +1,19 @@
 -- What a planner's commands do on a version of the numbers.
-use Rattle.std.specs.Prelude.{ℕ, nat_lt, ℤ, List, [], ◌∷◌, length, Option, Some, None, not, ◌++◌, codes}
+use Rattle.std.specs.Prelude.{ℕ, nat_lt, ℤ, List, [], ◌∷◌, length, Option, Some, None, ◌++◌, codes}
 use Rattle.std.specs.Prelude.{Result, Ok, Err}
 use Rattle.std.specs.Prelude.{if◌then◌else◌}
 use Rattle.std.specs.Arc.{arc_value}
 use Rattle.cube_fixed.specs.declared.value.Value.{Value}
 use Rattle.cube_fixed.specs.Arithmetic.{zero_value}
 use Rattle.cell_reader.specs.FedCount.{fed_count}
+use Rattle.cell_reader.specs.WritePermission.{why_closed}
+use Rattle.cell_reader.specs.declared.write_permission.Closed.{Closed}
+use Rattle.cell_reader.specs.declared.write_permission.Closed.TheVariants as closed
 use Rattle.cell_store.specs.declared.entry.Entry.{Entry}
 use Rattle.cell_store.specs.Entries.{after_writes}
 use Rattle.cell_store.specs.StoreLimit.{most_cells}
 use Rattle.cell_writes.specs.Writes.{last_writes}
-use Rattle.cube_space.specs.Cells.{is_leaf_cell, size_of}
+use Rattle.cube_space.specs.Cells.{size_of}
 use Rattle.feed_map.specs.FedCells.{most_fed}
 use Rattle.history.specs.declared.effect.Effect.{Effect}
 use Rattle.history.specs.declared.effect.Effect.TheVariants as effects
@@ -18,7 +21,6 @@ use Rattle.load_cells.specs.Loads.{store_of}
 use Rattle.user_text.specs.declared.load_job.LoadJob.{LoadJob}
 use Rattle.rule_laws.specs.RuleSystem.{dense_value}
 use Rattle.rule_model.specs.BoundModel.{BoundModel}
-use Rattle.rule_model.specs.Input.{is_input}
 use Rattle.rule_model.specs.Named.{cell_named}
 use Rattle.rule_model.specs.System.{system_of}
 use Rattle.script_bind.specs.Binding.{bound_of}
@@ -77,13 +79,21 @@ abbrev pub write_effect : Content → ℕ → ℤ → PlanEffect
 write_effect content cell number =
     within_limits content.model (after_writes content.stored ((cell, number) ∷ [])) ((cell, number) ∷ [])
 
+-- why a command that writes into a closed cell is rejected
+abbrev pub reason_of : Closed → CommandReason
+reason_of closed.NotALeaf = NotALeaf
+reason_of closed.RuleDerived = RuleDerived
+
+-- what comes of a write, unless the cell is closed
+abbrev pub unless_closed : Option Closed → PlanEffect → PlanEffect
+unless_closed None written = written
+unless_closed (Some why) written = rejected (reason_of why)
+
 -- a number that is put into a cell: the first reason that holds against it, or the one write
 abbrev pub put_effect : Content → Option ℕ → ℤ → PlanEffect
 put_effect content None number = rejected UnknownName
 put_effect content (Some cell) number =
-    if not (is_leaf_cell content.model.space cell) then rejected NotALeaf
-    else if not (is_input content.model cell) then rejected RuleDerived
-    else write_effect content cell number
+    unless_closed (why_closed content.model cell) (write_effect content cell number)
 
 -- a question for the value of a cell
 abbrev pub get_effect : Content → Option ℕ → PlanEffect

@@ -1,9 +1,10 @@
-ghost use Rattle.std.specs.Prelude.{◌≡◌, ◌++◌, IfOk};
-ghost use Rattle.user_session.specs.Replies.{reason_text, reply_text};
+ghost use Rattle.std.specs.Prelude.{◌≡◌, ◌≢◌, ◌++◌, codes, IfOk};
+ghost use Rattle.user_session.specs.Replies.{fault_text, reason_text, reply_text};
 
 use cube_fixed::{Value, print};
 use lists::ListOf;
 use std::alloc::{AllocError, Global};
+use view_query::ViewFault;
 
 /// The reply to a command, as text without the end of its line.
 pub type ReplyText = ListOf<u8>;
@@ -51,12 +52,33 @@ impl Reply {
     }
 }
 
+/// `refused` and the name of why there is no table.
+pub(crate) fn refused_view(alloc: Global, fault: ViewFault) -> Result<ReplyText, AllocError>
+    ensures { IfOk result (λ text. (text ≡ codes "refused " ++ fault_text fault) × (fault ≢ ViewFault.Memory)) }
+{
+    let name = match fault {
+        ViewFault::UnknownName => "UnknownName",
+        ViewFault::WrongCount => "WrongCount",
+        ViewFault::ViewLimit(_) => "ViewLimit",
+        ViewFault::Memory => return Err(AllocError),
+    };
+    let text = with_name(alloc, b"refused ", name.as_bytes())?;
+    Ok(ListOf::new(text))
+}
+
+// A word and a name behind it.
+fn with_name(alloc: Global, word: &[u8], name: &[u8]) -> Result<Vec<u8>, AllocError>
+    ensures { IfOk result (λ text. text.items ≡ word.now ++ name.now) }
+{
+    let mut text = Vec::from_slice(alloc, word)?;
+    text.extend_from_slice(name)?;
+    Ok(text)
+}
+
 fn reason_text(alloc: Global, word: &[u8], reason: CommandReason) -> Result<Vec<u8>, AllocError>
     ensures { IfOk result (λ text. text.items ≡ word.now ++ reason_text reason) }
 {
-    let mut text = Vec::from_slice(alloc, word)?;
-    text.extend_from_slice(reason_name(reason).as_bytes())?;
-    Ok(text)
+    with_name(alloc, word, reason_name(reason).as_bytes())
 }
 
 fn reason_name(reason: CommandReason) -> &'static str

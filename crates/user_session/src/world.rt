@@ -1,5 +1,3 @@
-ghost use Rattle.std.specs.Prelude.{◌≡◌, IfOk, IsOkUnless, Ok};
-
 use crate::command::PlanCommand;
 use crate::content::Content;
 use crate::get_command::get;
@@ -7,7 +5,7 @@ use crate::load_command::load;
 use crate::put_command::put;
 use crate::reply::ReplyText;
 use crate::view_command::view;
-use cell_reader::{NextFault, Snapshot};
+use cell_reader::Snapshot;
 use cube_fixed::{Money, Value};
 use history::{Effect, World};
 use lists::ListOf;
@@ -65,21 +63,6 @@ impl World for PlanWorld {
     }
 
     fn next(alloc: Global, state: &Snapshot, writes: &CellWrites) -> Result<Snapshot, AllocError> {
-        // a version says of itself that it passes no limit, and its model that its rules are in range
-        let (_stored, _fed) = (state.store().len(), state.fed().count());
-        let _cells = state.model().space().size();
-        unless_memory(state.next(alloc, writes.as_slice()))
-    }
-}
-
-// A version that passes no limit is wanting for memory alone.
-fn unless_memory(next: Result<Snapshot, NextFault>) -> Result<Snapshot, AllocError>
-    requires { IsOkUnless next NextFault.Memory }
-    ensures { IfOk result (λ version. next ≡ Ok version) }
-{
-    match next {
-        Ok(version) => Ok(version),
-        Err(NextFault::Memory) => Err(AllocError),
-        Err(NextFault::StoreLimit(_)) | Err(NextFault::FedLimit(_)) => unreachable!(),
+        state.next_within(alloc, writes.as_slice())
     }
 }

@@ -1,4 +1,4 @@
-ghost use Rattle.std.specs.Prelude.{◌≡◌, ◌++◌, IfOk, OnOk, OnErr, count_by, fold};
+ghost use Rattle.std.specs.Prelude.{◌≡◌, IfOk, OnOk, count_by, fold};
 ghost use Rattle.cube_space.specs.Cells.{size_of};
 ghost use Rattle.view_query.specs.Views.{IsView, cell_at, table_cells};
 ghost use Rattle.view_query.specs.Inside.Grids.{IsGridOf};
@@ -12,41 +12,11 @@ use crate::written::{write_heads, write_rows, write_title};
 use crate::zeros::{shown_columns, shown_rows};
 use cell_source::Cells;
 use cube_space::Space;
-use rule_model::Model;
 use std::alloc::{AllocError, Global};
 
-/// Appends the table of a view: `table R C` and its lines, without the end of the last one. Each of its cells is asked
-/// for once, row by row. Out of memory, the text is as it was.
+/// The table of a view: `table R C` and its lines, without the end of the last one. Each of its cells is asked for
+/// once, row by row.
 pub fn view<C: Cells>(
-    alloc: Global,
-    model: &Model,
-    view: &View,
-    cells: &mut C,
-    out: &mut Vec<u8>,
-) -> Result<(), AllocError>
-    requires view { IsView model.now.space view.now }
-    requires cells { C.size cells.old ≡ size_of model.now.space }
-    ensures text { OnOk result (out.new.items
-        ≡ out.old.items ++ table_text model.now.space view.now (C.values cells.old)) }
-    ensures refused { OnErr result (out.new.items ≡ out.old.items) }
-    ensures asked { OnOk result (C.asked cells.new
-        ≡ fold C.after_asking (C.asked cells.old) (table_cells model.now.space view.now)) }
-    ensures values { C.values cells.new ≡ C.values cells.old }
-    ensures size { C.size cells.new ≡ C.size cells.old }
-{
-    let text = text_of(alloc, model.space(), view, cells)?;
-    out.extend_from_slice(&text)
-}
-
-// How many of these are shown.
-fn shown_count(shown: &[bool]) -> usize
-    ensures { result ≡ count_by (λ is_shown. is_shown) shown.now }
-{
-    shown.iter().filter(|is_shown| **is_shown).count()
-}
-
-// The text of a table.
-fn text_of<C: Cells>(
     alloc: Global,
     space: &Space,
     view: &View,
@@ -71,6 +41,13 @@ fn text_of<C: Cells>(
     write_heads(space, view, &grid, &mut text)?;
     write_rows(alloc, space, view, &grid, &mut text)?;
     Ok(text)
+}
+
+// How many of these are shown.
+fn shown_count(shown: &[bool]) -> usize
+    ensures { result ≡ count_by (λ is_shown. is_shown) shown.now }
+{
+    shown.iter().filter(|is_shown| **is_shown).count()
 }
 
 // The lines of a view with their values.

@@ -1,16 +1,14 @@
-use Rattle.std.proofs.Common.{rules}
 use Rattle.cell_store.specs.Entries.{after_writes}
-use Rattle.cube_space.specs.Cells.{IsSpace}
-use Rattle.rule_model.specs.Conditions.{AreRules}
 use Rattle.cell_reader.proofs.FedCount.{few_fed, many_fed}
 use Rattle.cell_reader.proofs.next_snapshot.version_after.Goals as goal
 
-pub returns-clause-within : goal.returns-clause-within
-returns-clause-within c = λ short few.
-    let valid : IsSpace c.args.version.now.model.space = search rules in
-    let bound : AreRules c.args.version.now.model.space c.args.version.now.model.rules = search rules in
-    c.next.ensures.within short (few_fed c.args.version.now.model (after_writes c.args.version.now.stored c.args.writes.now) valid bound few)
-
-pub returns-clause-past_fed : goal.returns-clause-past_fed
-returns-clause-past_fed c = λ short many.
-    c.next.ensures.past_fed short (many_fed c.args.version.now.model (after_writes c.args.version.now.stored c.args.writes.now) many)
+pub returns-clause-limits : goal.returns-clause-limits
+returns-clause-limits c =
+    let version = c.args.version.now in
+    let after = after_writes version.stored c.args.writes.now in
+    let limits = c.next.ensures.limits in
+    record {
+      within = λ short few. limits.within short (few_fed version.model after c.is_sound.ensures.space c.is_sound.ensures.rules few);
+      past_store = limits.past_store;
+      past_fed = λ short many. limits.past_fed short (many_fed version.model after many);
+    }

@@ -1,4 +1,4 @@
-use Rattle.std.proofs.Common.{rules, ◌≡◌, ◌∙◌, ap, subst, List, ℕ, ◌++◌, Ok}
+use Rattle.std.proofs.Common.{rules, ◌≡◌, ◌∙◌, subst, Ok}
 use Rattle.cell_reader.specs.Snapshots.{version_of}
 use Rattle.cell_values.specs.Reading.{value_on}
 use Rattle.view_query.specs.Binding.{bound}
@@ -17,7 +17,7 @@ returns-in-Ok-clause-effect c =
     let same : reader ≡ version = c.in_ok-reader.ensures.version in
     let meant : bound version.model.space c.args.text.now ≡ Ok view = subst (λ m. bound m.space c.args.text.now ≡ Ok view) model c.in-Ok.ensures.answered in
     let told : c.new.result ≡ table_text c.model-model.result.now.space view (value_on reader) =
-    c.new.ensures ∙ (c.in_ok-view-in-Ok.ensures.text ∙ ap (λ (text : List ℕ). text ++ table_text c.model-model.result.now.space view (value_on reader)) c.new-table.ensures.items) in
+    subst (λ s. c.new.result ≡ table_text s view (value_on reader)) c.space.ensures.space (c.new.ensures ∙ c.in_ok-table-in-Ok.ensures.text) in
     let by_version : c.new.result ≡ table_text c.model-model.result.now.space view (value_on version) = subst (λ v. c.new.result ≡ table_text c.model-model.result.now.space view (value_on v)) same told in
     let table : c.new.result ≡ table_text version.model.space view (value_at (content_of c.args.state.now)) = subst (λ m. c.new.result ≡ table_text m.space view (value_on version)) model by_version in
     rw meant (cc)

@@ -1,4 +1,4 @@
-use Rattle.std.proofs.Common.{◌≡◌, ◌∙◌, ap, arith, true, ℕ, ℤ, List, [], ◌∷◌, ◌++◌}
+use Rattle.std.proofs.Common.{◌≡◌, ◌∙◌, ap, true, ℕ, ℤ, List, [], ◌∷◌, ◌++◌}
 use Rattle.std.specs.Prelude.{is_ok}
 use Rattle.std.specs.Arc.{arc_value}
 use Rattle.cell_store.specs.Entries.{after_writes}
@@ -6,7 +6,7 @@ use Rattle.cell_versions.specs.Versions.{NumberedVersion}
 use Rattle.cube_space.specs.Cells.{IsCell, is_leaf_cell}
 use Rattle.cell_reader.specs.Inside.After.{IsAfter, IsAhead}
 use Rattle.cell_reader.specs.Works.{opening_of}
-use Rattle.cell_reader.proofs.Works.{ahead_either, few_after, less-room, more-after, waits-behind}
+use Rattle.cell_reader.proofs.Works.{ahead_answers, ahead_either, less-room, more-after, waits-behind}
 use Rattle.cell_reader.proofs.work.Work.put.Goals as goal
 
 pub invariant_of-self-clause-ahead : goal.invariant_of-self-clause-ahead
@@ -29,9 +29,9 @@ go_on-requires c =
     let stored : c.in_ok-next.next.stored ≡ after_writes latest.stored one = c.in_ok-next.ensures.stored ∙ ap (λ (version : NumberedVersion). after_writes version.stored one) c.deref-3.ensures in
     rw (model, stored) (more-after (arc_value work.opening) latest.model latest.stored work.written.items c.args.cell c.args.number settled own leaf)
 
-pub returns-in-Some-clause-past_store : goal.returns-in-Some-clause-past_store
-returns-in-Some-clause-past_store c = λ past.
+pub returns-in-Some-clause-limits : goal.returns-in-Some-clause-limits
+returns-in-Some-clause-limits c =
     let work = c.args.self.now in
     let more : IsAhead work.opening work.latest (work.written.items ++ (c.args.cell, c.args.number) ∷ []) work.made c.in-Some.room =
     waits-behind work c.deref-2.result.now c.deref.result.now c.in-Some.room c.args.cell c.args.number c.deref-2.ensures c.deref.ensures.value c.requires.cell c.requires.leaf c.in-Some.ensures.waits in
-    absurd (omega (arith, past, few_after work.opening work.latest (work.written.items ++ (c.args.cell, c.args.number) ∷ []) work.made c.in-Some.room more))
+    ahead_answers work.opening work.latest (work.written.items ++ (c.args.cell, c.args.number) ∷ []) work.made c.in-Some.room more tt

@@ -1,10 +1,10 @@
 use Rattle.std.proofs.Common.{rules, ◌≡◌, sym, ◌∙◌, subst, ⊎_elim}
 use Rattle.std.specs.Arc.{arc_value}
 use Rattle.cell_store.specs.Entries.{after_writes}
-use Rattle.feed_map.specs.FedCells.{HasManyFed}
+use Rattle.feed_map.specs.FedCells.{HasFewFed, HasManyFed}
 use Rattle.stored_laws.specs.Stored.{AreLeafEntries}
 use Rattle.cell_versions.proofs.Writes.{leaves_after}
-use Rattle.cell_versions.proofs.Faults.{passed_on}
+use Rattle.cell_versions.proofs.Faults.{few_on, not_past, passed_on}
 use Rattle.cell_versions.proofs.version.Version.next.Goals as goal
 
 pub invariant_of-result : goal.invariant_of-result
@@ -17,14 +17,23 @@ invariant_of-result c =
       fed = rw model c.in_ok-fed.ensures.fed;
     }
 
-pub returns-clause-past_fed : goal.returns-clause-past_fed
-returns-clause-past_fed c = λ few many.
+pub returns-clause-limits : goal.returns-clause-limits
+returns-clause-limits c =
     let stored : c.in_ok-store.store ≡ after_writes c.args.self.now.stored c.args.writes.now = search rules in
-    ⊎_elim (λ limit. absurd (let clash = sym c.in_ok-fed.was ∙ limit in cc)) (λ memory. absurd (let clash = sym c.in_ok-fed.was ∙ memory in cc))
-    (c.fed_over.ensures.past (subst (HasManyFed c.args.self.now.model) (sym stored) many))
+    record {
+      within = λ short few. tt;
+      past_store = λ past. absurd (not_past _ c.in_ok-store.store c.apply.result c.in_ok-store.was (c.apply.ensures.past (rw (← c.self.view_is) at past)));
+      past_fed = λ short many. absurd (⊎_elim (λ limit. absurd (let clash = sym c.in_ok-fed.was ∙ limit in cc)) (λ memory. absurd (let clash = sym c.in_ok-fed.was ∙ memory in cc))
+          (c.fed_over.ensures.past (subst (HasManyFed c.args.self.now.model) (sym stored) many)));
+    }
 
-pub returns-in_err-fed-clause-past_fed : goal.returns-in_err-fed-clause-past_fed
-returns-in_err-fed-clause-past_fed c = λ few many.
+pub returns-in_err-fed-clause-limits : goal.returns-in_err-fed-clause-limits
+returns-in_err-fed-clause-limits c =
     let stored : c.in_ok-store.store ≡ after_writes c.args.self.now.stored c.args.writes.now = search rules in
-    passed_on 4000001 c.in_err-fed.field-0.0 c.fed_over.result c.from_residual-in_err-fed.result c.in_err-fed.was
-    (c.fed_over.ensures.past (subst (HasManyFed c.args.self.now.model) (sym stored) many)) (search rules)
+    record {
+      within = λ short few. few_on c.in_err-fed.field-0.0 c.fed_over.result c.from_residual-in_err-fed.result c.in_err-fed.was
+          (c.fed_over.ensures.within (subst (HasFewFed c.args.self.now.model) (sym stored) few)) (search rules);
+      past_store = λ past. absurd (not_past _ c.in_ok-store.store c.apply.result c.in_ok-store.was (c.apply.ensures.past (rw (← c.self.view_is) at past)));
+      past_fed = λ short many. passed_on 4000001 c.in_err-fed.field-0.0 c.fed_over.result c.from_residual-in_err-fed.result c.in_err-fed.was
+          (c.fed_over.ensures.past (subst (HasManyFed c.args.self.now.model) (sym stored) many)) (search rules);
+    }

@@ -2,7 +2,7 @@ use Rattle.std.proofs.Common.{◌∙◌, ◌++◌, ap, count_by}
 use Rattle.view_query.specs.Views.{cell_at}
 use Rattle.view_query.proofs.GridFacts.{table_valid, text_is}
 use Rattle.view_query.proofs.ShownFacts.{title_of}
-use Rattle.view_query.proofs.table.text_of.Goals as goal
+use Rattle.view_query.proofs.table.view.Goals as goal
 
 pub write_heads-requires-clause-grid : goal.write_heads-requires-clause-grid
 write_heads-requires-clause-grid g c =

@@ -1,0 +1,5 @@
+use Rattle.cell_reader.proofs.work.Work.get.Given as goal
+
+-- the ledger is the new one
+abbrev pub ghosts-uncounted_value : goal.ghosts-uncounted_value
+ghosts-uncounted_value a = record { name = a.blank.name; parts = a.blank.parts }

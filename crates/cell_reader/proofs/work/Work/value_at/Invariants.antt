@@ -1,5 +1,0 @@
-use Rattle.cell_reader.proofs.work.Work.value_at.Given as goal
-
--- the ledger is the new one
-abbrev pub ghosts-value_for : goal.ghosts-value_for
-ghosts-value_for a = record { name = a.blank.name; parts = a.blank.parts }
