@@ -1,4 +1,4 @@
-use Rattle.ref_order.proofs.most.+leaf_sum.Given as goal
+use Rattle.ref_order.proofs.most.+sum_from.Given as goal
 
-abbrev pub decreases-leaf_sum : goal.decreases-leaf_sum
-decreases-leaf_sum l = l.left
+abbrev pub decreases-sum_from : goal.decreases-sum_from
+decreases-sum_from l = l.left
