@@ -1,14 +1,15 @@
-ghost use Rattle.std.specs.Prelude.{◌≡◌, suc, ◌+◌, ◌<◌, ◌^◌, length, map, IfSome};
+ghost use Rattle.std.specs.Prelude.{◌≡◌, suc, ◌+◌, ◌<◌, ◌^◌, map, IfSome};
 ghost use Rattle.rule_laws.specs.Meaning.{precedents, truth_precedents};
-ghost use Rattle.rule_model.specs.Conditions.{IsArea, IsPrecedent, IsConsolidatedPart, read_count};
+ghost use Rattle.rule_model.specs.Conditions.{IsPrecedent, IsConsolidatedPart, read_count};
 ghost use Rattle.order_laws.specs.Earlier.{is_earlier};
+ghost use Rattle.ref_order.specs.Areas.{IsAreaCells};
+ghost use Rattle.ref_order.specs.Known.{IsKnown};
 ghost use Rattle.ref_order.specs.Reads.{precedent_of};
 ghost use Rattle.check_order.specs.References.{part_marks};
 ghost use Rattle.check_order.specs.Inside.Walk.{AreReads, seen_next, seen_after, earliest};
 
-use ref_order::{Read, is_earlier};
+use ref_order::{AreaCells, Known, Read, is_earlier};
 use rule_laws::{Formula, Truth};
-use rule_model::{Area, Model};
 
 /// What a walk over the references of a statement has seen.
 #[derive(Clone, Copy)]
@@ -50,82 +51,102 @@ pub fn earliest(first: Option<u32>, second: Option<u32>) -> Option<u32>
     }
 }
 
-fn read(model: &Model, cube: u32, area: &Area, kind: bool, read: Read, seen: Seen) -> Seen
-    requires cube { cube < length model.now.space.cubes }
-    requires area { IsArea model.now.space cube area.now }
-    requires read { IsPrecedent model.now.space cube (precedent_of read) }
+fn read<'a>(cells: AreaCells, known: &mut Known<'a>, kind: bool, read: Read<'a>, seen: Seen) -> Seen
+    requires cells { IsAreaCells cells }
+    requires known { IsKnown cells.model.now cells.cube cells.area.now known.old }
+    requires read { IsPrecedent cells.model.now.space cells.cube (precedent_of read) }
     requires few { suc seen.count < 2 ^ 32 }
-    ensures { result ≡ seen_next seen (is_earlier model.now cube area.now kind (precedent_of read.entry)) }
+    ensures seen { result ≡ seen_next seen (is_earlier cells.entry.model.now cells.entry.cube cells.entry.area.now kind
+        (precedent_of read.entry)) }
+    ensures known { IsKnown cells.entry.model.now cells.entry.cube cells.entry.area.now known.new }
 {
-    next(seen, is_earlier(model, cube, area, kind, read))
+    next(seen, is_earlier(cells, known, kind, read))
 }
 
 /// Goes over what a formula reads, in reading order.
 #[cycle(walk)]
-fn walk(model: &Model, cube: u32, area: &Area, kind: bool, formula: &Formula, seen: Seen) -> Seen
-    requires cube { cube < length model.now.space.cubes }
-    requires area { IsArea model.now.space cube area.now }
-    requires reads { AreReads model.now.space cube seen.count (precedents formula.now) }
-    ensures { result ≡ seen_after seen (map (is_earlier model.now cube area.now kind) (precedents formula.now)) }
+fn walk<'a>(
+    cells: AreaCells,
+    known: &mut Known<'a>,
+    kind: bool,
+    formula: &'a Formula,
+    seen: Seen,
+) -> Seen
+    requires cells { IsAreaCells cells }
+    requires known { IsKnown cells.model.now cells.cube cells.area.now known.old }
+    requires reads { AreReads cells.model.now.space cells.cube seen.count (precedents formula.now) }
+    ensures seen { result ≡ seen_after seen
+        (map (is_earlier cells.entry.model.now cells.entry.cube cells.entry.area.now kind) (precedents formula.now)) }
+    ensures known { IsKnown cells.entry.model.now cells.entry.cube cells.entry.area.now known.new }
 {
     match formula {
         Formula::Number(_) | Formula::Stet | Formula::Continue => seen,
-        Formula::Children(dim) => read(model, cube, area, kind, Read::Children(*dim), seen),
-        Formula::Ref(reference) => read(model, cube, area, kind, Read::Cell(reference), seen),
+        Formula::Children(dim) => read(cells, known, kind, Read::Children(*dim), seen),
+        Formula::Ref(reference) => read(cells, known, kind, Read::Cell(reference), seen),
         Formula::Binary(_, left, right) => {
-            let after = walk(model, cube, area, kind, left.get(), seen);
-            walk(model, cube, area, kind, right.get(), after)
+            let after = walk(cells, known, kind, left.get(), seen);
+            walk(cells, known, kind, right.get(), after)
         }
-        Formula::Unary(_, inner) => walk(model, cube, area, kind, inner.get(), seen),
+        Formula::Unary(_, inner) => walk(cells, known, kind, inner.get(), seen),
         Formula::If(truth, left, right) => {
-            let after = walk_truth(model, cube, area, kind, truth.get(), seen);
-            let after = walk(model, cube, area, kind, left.get(), after);
-            walk(model, cube, area, kind, right.get(), after)
+            let after = walk_truth(cells, known, kind, truth.get(), seen);
+            let after = walk(cells, known, kind, left.get(), after);
+            walk(cells, known, kind, right.get(), after)
         }
     }
 }
 
 #[cycle(walk)]
-fn walk_truth(model: &Model, cube: u32, area: &Area, kind: bool, truth: &Truth, seen: Seen) -> Seen
-    requires cube { cube < length model.now.space.cubes }
-    requires area { IsArea model.now.space cube area.now }
-    requires reads { AreReads model.now.space cube seen.count (truth_precedents truth.now) }
-    ensures { result ≡ seen_after seen (map (is_earlier model.now cube area.now kind) (truth_precedents truth.now)) }
+fn walk_truth<'a>(
+    cells: AreaCells,
+    known: &mut Known<'a>,
+    kind: bool,
+    truth: &'a Truth,
+    seen: Seen,
+) -> Seen
+    requires cells { IsAreaCells cells }
+    requires known { IsKnown cells.model.now cells.cube cells.area.now known.old }
+    requires reads { AreReads cells.model.now.space cells.cube seen.count (truth_precedents truth.now) }
+    ensures seen { result ≡ seen_after seen
+        (map (is_earlier cells.entry.model.now cells.entry.cube cells.entry.area.now kind)
+        (truth_precedents truth.now)) }
+    ensures known { IsKnown cells.entry.model.now cells.entry.cube cells.entry.area.now known.new }
 {
     match truth {
         Truth::Compare(_, left, right) => {
-            let after = walk(model, cube, area, kind, left, seen);
-            walk(model, cube, area, kind, right, after)
+            let after = walk(cells, known, kind, left, seen);
+            walk(cells, known, kind, right, after)
         }
         Truth::And(left, right) => {
-            let after = walk_truth(model, cube, area, kind, left.get(), seen);
-            walk_truth(model, cube, area, kind, right.get(), after)
+            let after = walk_truth(cells, known, kind, left.get(), seen);
+            walk_truth(cells, known, kind, right.get(), after)
         }
         Truth::Or(left, right) => {
-            let after = walk_truth(model, cube, area, kind, left.get(), seen);
-            walk_truth(model, cube, area, kind, right.get(), after)
+            let after = walk_truth(cells, known, kind, left.get(), seen);
+            walk_truth(cells, known, kind, right.get(), after)
         }
-        Truth::Not(inner) => walk_truth(model, cube, area, kind, inner.get(), seen),
+        Truth::Not(inner) => walk_truth(cells, known, kind, inner.get(), seen),
     }
 }
 
 /// Goes over what a part of a statement reads.
-pub fn walk_part(
-    model: &Model,
-    cube: u32,
-    area: &Area,
+pub fn walk_part<'a>(
+    cells: AreaCells,
+    known: &mut Known<'a>,
     kind: bool,
-    part: &Option<Formula>,
+    part: &'a Option<Formula>,
     seen: Seen,
 ) -> Seen
-    requires cube { cube < length model.now.space.cubes }
-    requires area { IsArea model.now.space cube area.now }
-    requires reads { IfSome part.now (IsConsolidatedPart model.now.space cube) }
+    requires cells { IsAreaCells cells }
+    requires known { IsKnown cells.model.now cells.cube cells.area.now known.old }
+    requires reads { IfSome part.now (IsConsolidatedPart cells.model.now.space cells.cube) }
     requires few { seen.count + read_count part.now < 2 ^ 32 }
-    ensures { result ≡ seen_after seen (part_marks model.now cube area.now kind part.now) }
+    ensures seen { result ≡ seen_after seen
+        (part_marks cells.entry.model.now cells.entry.cube cells.entry.area.now kind part.now) }
+    ensures known { IsKnown cells.entry.model.now cells.entry.cube cells.entry.area.now known.new }
 {
     match part {
-        Some(formula) => walk(model, cube, area, kind, formula, seen),
+        Some(formula) => walk(cells, known, kind, formula, seen),
         None => seen,
     }
 }

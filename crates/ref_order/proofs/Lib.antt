@@ -1,3 +1,4 @@
+mod Likeness
 pub mod Axes
 pub mod Args
 pub mod Sums

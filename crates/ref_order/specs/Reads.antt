@@ -5,8 +5,8 @@ use Rattle.order_laws.specs.Earlier.{each, is_leaf_element, is_total}
 use Rattle.rule_laws.specs.Meaning.{Precedent, Named, Components}
 use Rattle.ref_order.specs.declared.reads.Read.{Read}
 use Rattle.ref_order.specs.declared.reads.Read.TheVariants.{Cell, Children}
-use Rattle.ref_order.specs.declared.most.Which.{Which}
-use Rattle.ref_order.specs.declared.most.Which.TheVariants.{All, Leaves, Totals}
+use Rattle.ref_order.specs.declared.question.Which.{Which}
+use Rattle.ref_order.specs.declared.question.Which.TheVariants.{All, Leaves, Totals}
 
 abbrev pub precedent_of : Read → Precedent
 precedent_of (Cell r) = Named r.now

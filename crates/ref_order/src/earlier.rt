@@ -1,40 +1,54 @@
-ghost use Rattle.std.specs.Prelude.{◌≡◌, ◌-◌, ◌<◌, ◌≤◌, length};
-ghost use Rattle.rule_model.specs.Conditions.{IsArea, IsPrecedent};
+ghost use Rattle.std.specs.Prelude.{◌≡◌, ◌-◌, ◌≤◌};
+ghost use Rattle.rule_model.specs.Conditions.{IsPrecedent};
 ghost use Rattle.rule_model.specs.Order.{most_positions};
 ghost use Rattle.order_laws.specs.Earlier.{most_excess, earlier_from, is_earlier};
+ghost use Rattle.ref_order.specs.Areas.{IsAreaCells};
+ghost use Rattle.ref_order.specs.Known.{IsKnown};
 ghost use Rattle.ref_order.specs.Reads.{precedent_of};
 
+use crate::area_cells::AreaCells;
+use crate::known::Known;
 use crate::most::most_excess;
 use crate::number::{is_below, is_within};
 use crate::reads::Read;
 use crate::scale::MAX_POSITIONS;
-use rule_model::{Area, Model};
 
-/// Whether what is read stands before each cell of this kind in an area of a cube, `true` for leaf cells.
+/// Whether what is read stands before each cell of this kind in an area of a cube, `true` for leaf cells. What is known
+/// is not worked out again.
 #[tactic(auto, unfolding(order_laws::specs::Earlier::is_earlier))]
-pub fn is_earlier(model: &Model, cube: u32, area: &Area, kind: bool, read: Read) -> bool
-    requires cube { cube < length model.now.space.cubes }
-    requires area { IsArea model.now.space cube area.now }
-    requires read { IsPrecedent model.now.space cube (precedent_of read) }
-    ensures { result ≡ is_earlier model.now cube area.now kind (precedent_of read.entry) }
+pub fn is_earlier<'a>(cells: AreaCells, known: &mut Known<'a>, kind: bool, read: Read<'a>) -> bool
+    requires cells { IsAreaCells cells }
+    requires known { IsKnown cells.model.now cells.cube cells.area.now known.old }
+    requires read { IsPrecedent cells.model.now.space cells.cube (precedent_of read) }
+    ensures earlier { result ≡ is_earlier cells.entry.model.now cells.entry.cube cells.entry.area.now kind
+        (precedent_of read.entry) }
+    ensures known { IsKnown cells.entry.model.now cells.entry.cube cells.entry.area.now known.new }
 {
-    earlier_from(model, cube, area, kind, read, 0)
+    earlier_from(cells, known, kind, read, 0)
 }
 
 // The same by the positions from this one on.
 #[cycle(earlier_from)]
-fn earlier_from(model: &Model, cube: u32, area: &Area, kind: bool, read: Read, place: u32) -> bool
-    requires cube { cube < length model.now.space.cubes }
-    requires area { IsArea model.now.space cube area.now }
-    requires read { IsPrecedent model.now.space cube (precedent_of read) }
+fn earlier_from<'a>(
+    cells: AreaCells,
+    known: &mut Known<'a>,
+    kind: bool,
+    read: Read<'a>,
+    place: u32,
+) -> bool
+    requires cells { IsAreaCells cells }
+    requires known { IsKnown cells.model.now cells.cube cells.area.now known.old }
+    requires read { IsPrecedent cells.model.now.space cells.cube (precedent_of read) }
     requires place { place ≤ most_positions }
-    ensures { result ≡ earlier_from (most_excess model.now cube area.now kind (precedent_of read.entry))
-        (most_excess model.now cube area.now kind (precedent_of read.entry) most_positions) place
-        (most_positions - place) }
+    ensures earlier { result ≡ earlier_from
+        (most_excess cells.entry.model.now cells.entry.cube cells.entry.area.now kind (precedent_of read.entry))
+        (most_excess cells.entry.model.now cells.entry.cube cells.entry.area.now kind (precedent_of read.entry)
+        most_positions) place (most_positions - place) }
+    ensures known { IsKnown cells.entry.model.now cells.entry.cube cells.entry.area.now known.new }
 {
-    let most = most_excess(model, cube, area, kind, read, place);
+    let most = most_excess(cells, known, kind, read, place);
     if place == MAX_POSITIONS {
         return is_below(most);
     }
-    is_below(most) || (is_within(most) && earlier_from(model, cube, area, kind, read, place + 1))
+    is_below(most) || (is_within(most) && earlier_from(cells, known, kind, read, place + 1))
 }

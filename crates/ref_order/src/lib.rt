@@ -2,17 +2,24 @@
 //! tables of a model. Nothing here takes memory, and the cost is that of the area's elements, and not of its cells.
 //!
 //! [`is_earlier`] decides it for one [`Read`] of one part of a statement. That its answer is right for every cell of
-//! the area is the law of `order_laws`.
+//! the area is the law of `order_laws`. What it has found of the elements of a dimension is [`Known`] to the references
+//! that follow, so that a reference costs what is new in it.
 #![tactic(auto)]
 
+pub use area_cells::AreaCells;
 pub use earlier::is_earlier;
+pub use known::Known;
 pub use most::{count, element_at};
 pub use reads::Read;
 pub use scale::{MAX_POSITIONS, axis, axis_count};
 
+mod alike;
+mod area_cells;
 mod earlier;
 mod excess;
+mod known;
 mod most;
 mod number;
+mod question;
 mod reads;
 mod scale;

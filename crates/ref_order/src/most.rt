@@ -1,25 +1,24 @@
-ghost use Rattle.std.specs.Prelude.{◌≡◌, ℕ, ◌+◌, ◌*◌, ◌-◌, ◌<◌, ◌≤◌, ◌^◌, length, unsigned_abs, IfSome, slice_index_or};
+ghost use Rattle.std.specs.Prelude.{◌≡◌, ℕ, ◌+◌, ◌*◌, ◌<◌, ◌≤◌, ◌^◌, length, None, IfSome, slice_index_or};
+ghost use Rattle.std.specs.Prelude.{unsigned_abs};
 ghost use Rattle.cube_space.specs.Layout.{axes, sizes, most_dimensions};
-ghost use Rattle.rule_model.specs.Conditions.{IsArea, IsPrecedent};
+ghost use Rattle.rule_model.specs.declared.area.Area.{Area as AnyArea};
+ghost use Rattle.rule_model.specs.Conditions.{IsPrecedent};
 ghost use Rattle.order_laws.specs.Greatest.{greatest_sum, greatest_passing_sum, only};
-ghost use Rattle.order_laws.specs.Earlier.{excess, greatest_by, excess_sum, most_excess, set_count, set_element};
+ghost use Rattle.order_laws.specs.Earlier.{excess, most_excess, set_count, set_element};
+ghost use Rattle.ref_order.specs.Areas.{IsAreaCells, numbers_of};
+ghost use Rattle.ref_order.specs.Known.{AreReads, AreRight, IsKnown, answer_of};
 ghost use Rattle.ref_order.specs.Reads.{precedent_of, test_of};
-ghost use Rattle.ref_order.specs.declared.most.Which.TheVariants.{All, Leaves, Totals};
+ghost use Rattle.ref_order.specs.declared.question.Which.TheVariants.{All, Totals};
 
+use crate::area_cells::AreaCells;
 use crate::excess::{excess, start};
+use crate::known::{Kept, Known, recalled, remember};
 use crate::number::{larger, plus};
+use crate::question::{Answer, Question, Which};
 use crate::reads::Read;
 use crate::scale::{axis, axis_count};
 use lists::ListOf;
-use rule_model::{Area, Model};
-
-/// Which elements of a set are taken.
-#[derive(Clone, Copy)]
-pub enum Which {
-    All,
-    Leaves,
-    Totals,
-}
+use rule_model::Model;
 
 fn passes(model: &Model, cube: u32, which: Which, dim: usize, element: u32) -> bool
     requires cube { cube < length model.now.space.cubes }
@@ -35,27 +34,19 @@ fn passes(model: &Model, cube: u32, which: Which, dim: usize, element: u32) -> b
 }
 
 // The number of an element that passes.
-fn passing(
-    model: &Model,
-    cube: u32,
-    place: u32,
-    read: Read,
-    which: Which,
-    dim: usize,
-    element: u32,
-) -> Option<i64>
+fn passing(model: &Model, cube: u32, asked: Question, element: u32) -> Option<i64>
     requires cube { cube < length model.now.space.cubes }
-    requires read { IsPrecedent model.now.space cube (precedent_of read) }
-    requires dim { dim < length (axes model.now.space cube) }
-    requires element { element < slice_index_or (sizes model.now.space cube) dim 0 }
-    ensures value { result ≡ only (test_of which (axes model.now.space cube) dim element)
-        (excess model.now cube place (precedent_of read.entry) dim element) }
+    requires read { IsPrecedent model.now.space cube (precedent_of asked.read) }
+    requires dim { asked.dim < length (axes model.now.space cube) }
+    requires element { element < slice_index_or (sizes model.now.space cube) asked.dim 0 }
+    ensures value { result ≡ only (test_of asked.entry.which (axes model.now.space cube) asked.entry.dim element)
+        (excess model.now cube asked.entry.place (precedent_of asked.entry.read) asked.entry.dim element) }
     ensures size { IfSome result (λ n. unsigned_abs n ≤ 2 ^ 40) }
 {
-    if !passes(model, cube, which, dim, element) {
+    if !passes(model, cube, asked.which, asked.dim, element) {
         return None;
     }
-    excess(model, cube, place, read, dim, element)
+    excess(model, cube, asked.place, asked.read, asked.dim, element)
 }
 
 /// How many elements a set of an area has in a dimension of this size.
@@ -79,62 +70,93 @@ pub fn element_at(set: &Option<ListOf<u32>>, size: u32, k: usize) -> u32
     }
 }
 
-/// The greatest number of the elements of an area in a dimension.
-pub fn greatest_by(
-    model: &Model,
-    cube: u32,
-    area: &Area,
-    place: u32,
-    read: Read,
-    which: Which,
-    dim: usize,
-) -> Option<i64>
-    requires cube { cube < length model.now.space.cubes }
-    requires area { IsArea model.now.space cube area.now }
-    requires read { IsPrecedent model.now.space cube (precedent_of read) }
-    requires dim { dim < length (axes model.now.space cube) }
-    ensures value { result ≡ greatest_by model.now cube area.now place (precedent_of read.entry)
-        (test_of which (axes model.now.space cube)) dim }
+// The greatest number of the elements of an area in a dimension, from all of them.
+fn greatest_of(cells: AreaCells, asked: Question) -> Option<i64>
+    requires cells { IsAreaCells cells }
+    requires read { IsPrecedent cells.model.now.space cells.cube (precedent_of asked.read) }
+    requires dim { asked.dim < length (axes cells.model.now.space cells.cube) }
+    ensures value { result ≡ answer_of cells.entry.model.now cells.entry.cube cells.entry.area.now asked.entry }
     ensures size { IfSome result (λ n. unsigned_abs n ≤ 2 ^ 40) }
 {
-    let size = axis(model, cube, dim).len();
-    let set = &area.sets.as_slice()[dim];
+    let dim = asked.dim;
+    let size = axis(cells.model, cells.cube, dim).len();
+    let set = &cells.area.sets.as_slice()[dim];
     let mut best = None;
     'each: for k in 0..count(set, size) {
         let element = element_at(set, size, k);
-        best = larger(passing(model, cube, place, read, which, dim, element), best);
+        best = larger(passing(cells.model, cells.cube, asked, element), best);
     }
     best
 }
 
-/// The greatest sum of numbers of leaves over the dimensions from this one on.
-#[cycle(leaf_sum)]
-fn leaf_sum(
-    model: &Model,
-    cube: u32,
-    area: &Area,
-    place: u32,
-    read: Read,
-    dim: usize,
+// The same by what is remembered: of this area, or of one that has the same elements of the dimension.
+fn answer<'a>(cells: AreaCells, kept: &mut Kept<'a>, asked: Question<'a>) -> Option<i64>
+    requires cells { IsAreaCells cells }
+    requires read { IsPrecedent cells.model.now.space cells.cube (precedent_of asked.read) }
+    requires dim { asked.dim < length (axes cells.model.now.space cells.cube) }
+    requires reads { AreReads cells.model.now.space cells.cube kept.old }
+    ensures value { (area : AnyArea) → slice_index_or area.sets asked.entry.dim None
+        ≡ slice_index_or cells.entry.area.now.sets asked.entry.dim None
+        → AreRight cells.entry.model.now cells.entry.cube area kept.old
+        → (result ≡ answer_of cells.entry.model.now cells.entry.cube area asked.entry)
+        × IfSome result (λ n. unsigned_abs n ≤ 2 ^ 40)
+        × AreRight cells.entry.model.now cells.entry.cube area kept.new }
+    ensures reads { AreReads cells.entry.model.now.space cells.entry.cube kept.new }
+{
+    if let Some(number) = recalled(cells.model, cells.cube, kept, asked) {
+        return number;
+    }
+    let number = greatest_of(cells, asked);
+    remember(kept, Answer { asked, number });
+    number
+}
+
+// The greatest number of the elements of an area in a dimension.
+fn greatest_by<'a>(cells: AreaCells, known: &mut Known<'a>, asked: Question<'a>) -> Option<i64>
+    requires cells { IsAreaCells cells }
+    requires known { IsKnown cells.model.now cells.cube cells.area.now known.old }
+    requires read { IsPrecedent cells.model.now.space cells.cube (precedent_of asked.read) }
+    requires dim { asked.dim < length (axes cells.model.now.space cells.cube) }
+    ensures value { result ≡ answer_of cells.entry.model.now cells.entry.cube cells.entry.area.now asked.entry }
+    ensures size { IfSome result (λ n. unsigned_abs n ≤ 2 ^ 40) }
+    ensures known { IsKnown cells.entry.model.now cells.entry.cube cells.entry.area.now known.new }
+{
+    let dim = asked.dim;
+    let set = &cells.area.sets.as_slice()[dim];
+    match set {
+        None => answer(cells, &mut known.whole, asked),
+        Some(_) => answer(cells, &mut known.listed, asked),
+    }
+}
+
+// The greatest sum of such numbers over the dimensions from this one on.
+#[cycle(sum_from)]
+fn sum_from<'a>(
+    cells: AreaCells,
+    known: &mut Known<'a>,
+    asked: Question<'a>,
     left: usize,
 ) -> Option<i64>
-    requires cube { cube < length model.now.space.cubes }
-    requires area { IsArea model.now.space cube area.now }
-    requires read { IsPrecedent model.now.space cube (precedent_of read) }
-    requires few { length (axes model.now.space cube) ≤ most_dimensions }
-    requires dim { dim + left ≡ length (axes model.now.space cube) }
-    ensures value { result ≡ greatest_sum (greatest_by model.now cube area.now place (precedent_of read.entry)
-        (test_of Leaves (axes model.now.space cube))) dim left }
+    requires cells { IsAreaCells cells }
+    requires known { IsKnown cells.model.now cells.cube cells.area.now known.old }
+    requires read { IsPrecedent cells.model.now.space cells.cube (precedent_of asked.read) }
+    requires few { length (axes cells.model.now.space cells.cube) ≤ most_dimensions }
+    requires dim { asked.dim + left ≡ length (axes cells.model.now.space cells.cube) }
+    ensures value { result ≡ greatest_sum (numbers_of cells.entry asked.entry asked.entry.which) asked.entry.dim left }
     ensures size { IfSome result (λ n. unsigned_abs n ≤ left * 2 ^ 40) }
+    ensures known { IsKnown cells.entry.model.now cells.entry.cube cells.entry.area.now known.new }
 {
     if left == 0 {
         return Some(0);
     }
-    let here = greatest_by(model, cube, area, place, read, Which::Leaves, dim);
-    plus(
-        here,
-        leaf_sum(model, cube, area, place, read, dim + 1, left - 1),
-    )
+    let here = greatest_by(cells, known, asked);
+    let next = Question {
+        read: asked.read,
+        place: asked.place,
+        dim: asked.dim + 1,
+        which: asked.which,
+    };
+    plus(here, sum_from(cells, known, next, left - 1))
 }
 
 /// The greatest sums over dimensions.
@@ -146,33 +168,20 @@ struct Sums {
     passing: Option<i64>,
 }
 
-/// The greatest sums over the dimensions from this one on.
+// The greatest sums over the dimensions from this one on, of all elements and where some element is consolidated.
 #[cycle(total_sum)]
-fn total_sum(
-    model: &Model,
-    cube: u32,
-    area: &Area,
-    place: u32,
-    read: Read,
-    dim: usize,
-    left: usize,
-) -> Sums
-    requires cube { cube < length model.now.space.cubes }
-    requires area { IsArea model.now.space cube area.now }
-    requires read { IsPrecedent model.now.space cube (precedent_of read) }
-    requires few { length (axes model.now.space cube) ≤ most_dimensions }
-    requires dim { dim + left ≡ length (axes model.now.space cube) }
-    ensures all { result.all ≡ greatest_sum (greatest_by model.now cube area.now place (precedent_of read.entry)
-        (test_of All (axes model.now.space cube))) dim left }
-    ensures passing { result.passing ≡ greatest_passing_sum
-        (greatest_by model.now cube area.now place (precedent_of read.entry)
-        (test_of All (axes model.now.space cube)))
-        (greatest_by model.now cube area.now place (precedent_of read.entry)
-        (test_of Totals (axes model.now.space cube))) dim left }
-    ensures all_size { IfSome result.all
-        (λ n. unsigned_abs n ≤ left * 2 ^ 40) }
-    ensures passing_size { IfSome result.passing
-        (λ n. unsigned_abs n ≤ left * 2 ^ 40) }
+fn total_sum<'a>(cells: AreaCells, known: &mut Known<'a>, asked: Question<'a>, left: usize) -> Sums
+    requires cells { IsAreaCells cells }
+    requires known { IsKnown cells.model.now cells.cube cells.area.now known.old }
+    requires read { IsPrecedent cells.model.now.space cells.cube (precedent_of asked.read) }
+    requires few { length (axes cells.model.now.space cells.cube) ≤ most_dimensions }
+    requires dim { asked.dim + left ≡ length (axes cells.model.now.space cells.cube) }
+    ensures all { result.all ≡ greatest_sum (numbers_of cells.entry asked.entry All) asked.entry.dim left }
+    ensures passing { result.passing ≡ greatest_passing_sum (numbers_of cells.entry asked.entry All)
+        (numbers_of cells.entry asked.entry Totals) asked.entry.dim left }
+    ensures all_size { IfSome result.all (λ n. unsigned_abs n ≤ left * 2 ^ 40) }
+    ensures passing_size { IfSome result.passing (λ n. unsigned_abs n ≤ left * 2 ^ 40) }
+    ensures known { IsKnown cells.entry.model.now cells.entry.cube cells.entry.area.now known.new }
 {
     if left == 0 {
         return Sums {
@@ -180,41 +189,67 @@ fn total_sum(
             passing: None,
         };
     }
-    let rest = total_sum(model, cube, area, place, read, dim + 1, left - 1);
-    let all = greatest_by(model, cube, area, place, read, Which::All, dim);
-    let totals = greatest_by(model, cube, area, place, read, Which::Totals, dim);
+    let Question {
+        read,
+        place,
+        dim,
+        which,
+    } = asked;
+    let next = Question {
+        read,
+        place,
+        dim: dim + 1,
+        which,
+    };
+    let each = Question {
+        read,
+        place,
+        dim,
+        which: Which::All,
+    };
+    let total = Question {
+        read,
+        place,
+        dim,
+        which: Which::Totals,
+    };
+    let rest = total_sum(cells, known, next, left - 1);
+    let all = greatest_by(cells, known, each);
+    let totals = greatest_by(cells, known, total);
     Sums {
         all: plus(all, rest.all),
         passing: larger(plus(all, rest.passing), plus(totals, rest.all)),
     }
 }
 
-/// The most that a cell that is read has more than its cell, over the cells of an area of this kind.
+/// The most that a cell that is read has more than its cell, over the cells of an area of this kind, at a position or
+/// as their level.
 #[tactic(auto, unfolding(order_laws::specs::Earlier::most_excess))]
-pub fn most_excess(
-    model: &Model,
-    cube: u32,
-    area: &Area,
+pub fn most_excess<'a>(
+    cells: AreaCells,
+    known: &mut Known<'a>,
     kind: bool,
-    read: Read,
+    read: Read<'a>,
     place: u32,
 ) -> Option<i64>
-    requires cube { cube < length model.now.space.cubes }
-    requires area { IsArea model.now.space cube area.now }
-    requires read { IsPrecedent model.now.space cube (precedent_of read) }
-    ensures { result ≡ most_excess model.now cube area.now kind (precedent_of read.entry) place }
+    requires cells { IsAreaCells cells }
+    requires known { IsKnown cells.model.now cells.cube cells.area.now known.old }
+    requires read { IsPrecedent cells.model.now.space cells.cube (precedent_of read) }
+    ensures most { result ≡ most_excess cells.entry.model.now cells.entry.cube cells.entry.area.now kind
+        (precedent_of read.entry) place }
+    ensures known { IsKnown cells.entry.model.now cells.entry.cube cells.entry.area.now known.new }
 {
-    let start = start(model, cube, place, read);
-    let count = axis_count(model, cube);
+    let start = start(cells.model, cells.cube, place, read);
+    let count = axis_count(cells.model, cells.cube);
+    let first = Question {
+        read,
+        place,
+        dim: 0,
+        which: Which::Leaves,
+    };
     if kind {
-        plus(
-            Some(start),
-            leaf_sum(model, cube, area, place, read, 0, count),
-        )
+        plus(Some(start), sum_from(cells, known, first, count))
     } else {
-        plus(
-            Some(start),
-            total_sum(model, cube, area, place, read, 0, count).passing,
-        )
+        plus(Some(start), total_sum(cells, known, first, count).passing)
     }
 }

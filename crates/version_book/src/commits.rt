@@ -1,10 +1,10 @@
-ghost use Rattle.std.specs.Prelude.{◌≡◌, ◌+◌, [], length, IfOk, OnErr};
+ghost use Rattle.std.specs.Prelude.{◌≡◌, ◌+◌, length, IfOk, OnErr};
 ghost use Rattle.history.specs.Version.{content_after};
 ghost use Rattle.version_book.specs.Lists.{GoesOn};
-ghost use Rattle.version_book.specs.Passes.{IsAt, IsOf, IsSame, looks, number_of, numbers_of, opening_of, seen};
+ghost use Rattle.version_book.specs.Passes.{IsOf, IsSame, looks, number_of, numbers_of, opening_of, seen};
 ghost use Rattle.version_book.specs.Commits.{IsTryOf, Settles, SettlesAt};
 ghost use Rattle.version_book.specs.Inside.Plays.{Stays};
-ghost use Rattle.version_book.specs.declared.pass_view.Stage.TheVariants.{Looked};
+ghost use Rattle.version_book.specs.Inside.Turns.{HasLooked};
 
 use crate::book::{Book, Pass, PassSeat, Settled, Tried, TriedOf};
 use history::{Effect, Entry, World};
@@ -61,16 +61,12 @@ impl<W: World> Book<W> {
         command: &W::Command,
         tried: Tried<W>,
     ) -> Result<Settled<W::Reply>, AllocError>
-        requires at { IsAt self.now place.old }
-        requires looked { place.old.me.0.stage ≡ Looked }
-        requires hand { place.old.me.1 ≡ [] }
+        requires looked { HasLooked self.now place.old }
         requires count { count ≡ length place.old.me.0.seen }
         requires user { by.user ≡ place.old.me.0.number }
         requires tried { count ≡ tried.place → tried.effect
             ≡ W.effect (content_after W.after (W.content (opening_of self.now)) place.old.me.0.seen) command.now }
-        ensures at { IsAt self.now place.new }
-        ensures looked { place.new.me.0.stage ≡ Looked }
-        ensures hand { place.new.me.1 ≡ [] }
+        ensures looked { HasLooked self.now place.new }
         ensures stays { Stays place.old.me.0 place.new.me.0 }
         ensures settled { IfOk result (λ settled. SettlesAt W.effect W.after (W.content (opening_of self.now))
             place.old.me.0.seen place.new.me.0.seen by.user by.number command.now settled) }

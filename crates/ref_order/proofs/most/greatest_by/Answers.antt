@@ -1,40 +1,55 @@
-use Rattle.std.proofs.Common.{◌≡◌, ◌∙◌, sym, ap, subst, arith, ◌<◌, length}
+use Rattle.std.proofs.Common.{◌≡◌, ◌∙◌, refl, sym, ap, arith, ◌<◌, length, None, List, Option, ℕ}
 use Rattle.std.specs.Prelude.{slice_index_or}
-use Rattle.std.proofs.Common.{ℕ, ◌≤◌}
-use Rattle.cube_space.specs.Layout.{sizes, axes}
-use Rattle.order_laws.specs.Greatest.{greatest}
-use Rattle.order_laws.specs.Earlier.{excess, set_count, greatest_in}
+use Rattle.cube_space.specs.Layout.{axes, sizes}
+use Rattle.order_laws.specs.Earlier.{excess, greatest_in}
+use Rattle.ref_order.specs.Known.{whole_area}
 use Rattle.ref_order.specs.Reads.{precedent_of, test_of}
-use Rattle.ref_order.proofs.Sums.{sets-long, set-found, element-below}
+use Rattle.ref_order.proofs.Sums.{sets-long, set-found}
 use Rattle.ref_order.proofs.most.greatest_by.Goals as goal
-
-reached : (k n : ℕ) → k ≤ n → n ≤ k → k ≡ n
-reached k n a b = omega (arith, a, b)
-
-pub bounds-as_slice-dim : goal.bounds-as_slice-dim
-bounds-as_slice-dim c = omega (arith, sets-long c.args.model.now.space c.args.cube c.args.area.now c.requires.area, c.requires.dim, ap length c.as_slice.ensures)
 
 pub offset_bounds-as_slice-dim : goal.offset_bounds-as_slice-dim
 offset_bounds-as_slice-dim c =
-    let low : c.args.dim < length c.as_slice.result.now = omega (arith, sets-long c.args.model.now.space c.args.cube c.args.area.now c.requires.area, c.requires.dim, ap length c.as_slice.ensures) in
+    let low : c.args.asked.dim < length c.as_slice.result.now = omega (arith, sets-long c.args.cells.model.now.space c.args.cells.cube c.args.cells.area.now c.requires.cells.area, c.requires.dim, ap length c.as_slice.ensures) in
     omega (arith, low, c.as_slice.type_inv)
 
-pub passing-requires-clause-element : goal.passing-requires-clause-element
-passing-requires-clause-element c =
-    let space = c.args.model.now.space in
-    let low : c.args.dim < length c.args.area.now.sets = omega (arith, sets-long space c.args.cube c.args.area.now c.requires.area, c.requires.dim) in
-    let set = set-found c.as_slice.result.now c.args.area.now.sets c.args.dim c.index-as_slice-dim.result c.as_slice.ensures low c.index-as_slice-dim.is in
-    let size = c.len-size.ensures.len ∙ sym c.axis.ensures.size in
-    let short = subst (λ n. c.each.k < n) (c.count-k-end.ensures ∙ ap (λ n. set_count n c.index-as_slice-dim.result) size) c.each-test.true in
-    subst (λ n. n < slice_index_or (sizes space c.args.cube) c.args.dim 0) (sym c.element_at-element.ensures)
-    (element-below space c.args.cube c.args.dim c.each.k c.args.area.now c.index-as_slice-dim.result c.requires.area set short)
+pub bounds-as_slice-dim : goal.bounds-as_slice-dim
+bounds-as_slice-dim c = omega (arith, sets-long c.args.cells.model.now.space c.args.cells.cube c.args.cells.area.now c.requires.cells.area, c.requires.dim, ap length c.as_slice.ensures)
 
-pub returns-clause-value : goal.returns-clause-value
-returns-clause-value c =
-    let space = c.args.model.now.space in
-    let low : c.args.dim < length c.args.area.now.sets = omega (arith, sets-long space c.args.cube c.args.area.now c.requires.area, c.requires.dim) in
-    let set = set-found c.as_slice.result.now c.args.area.now.sets c.args.dim c.index-as_slice-dim.result c.as_slice.ensures low c.index-as_slice-dim.is in
-    let size = c.len-size.ensures.len ∙ sym c.axis.ensures.size in
-    let done = reached c.each.k c.count-k-end.result c.each.auto.k-end c.each-test.false in
-    c.each.invariant.value ∙ ap (greatest _) (done ∙ c.count-k-end.ensures ∙ ap (λ n. set_count n c.index-as_slice-dim.result) size)
-    ∙ ap (λ s. greatest_in (excess c.args.model.now c.args.cube c.args.place (precedent_of c.args.read) c.args.dim) (test_of c.args.which (axes space c.args.cube) c.args.dim) (slice_index_or (sizes space c.args.cube) c.args.dim 0) s) set
+pub returns-in-None-clause-value : goal.returns-in-None-clause-value
+returns-in-None-clause-value c =
+    let model = c.args.cells.model.now in
+    let cube = c.args.cells.cube in
+    let asked = c.args.asked in
+    let low : asked.dim < length c.args.cells.area.now.sets = omega (arith, sets-long model.space cube c.args.cells.area.now c.requires.cells.area, c.requires.dim) in
+    let set = set-found c.as_slice.result.now c.args.cells.area.now.sets asked.dim c.index-as_slice-dim.result c.as_slice.ensures low c.index-as_slice-dim.is in
+    let same : slice_index_or whole_area.sets asked.dim None ≡ slice_index_or c.args.cells.area.now.sets asked.dim None = sym c.in-None.is ∙ set in
+    (c.answer.ensures.value whole_area same c.requires.known.of_cube.whole).0
+    ∙ ap (λ (set : Option (List ℕ)). greatest_in (excess model cube asked.place (precedent_of asked.read) asked.dim) (test_of asked.which (axes model.space cube) asked.dim) (slice_index_or (sizes model.space cube) asked.dim 0) set) same
+
+pub returns-in-None-clause-size : goal.returns-in-None-clause-size
+returns-in-None-clause-size c =
+    let low : c.args.asked.dim < length c.args.cells.area.now.sets = omega (arith, sets-long c.args.cells.model.now.space c.args.cells.cube c.args.cells.area.now c.requires.cells.area, c.requires.dim) in
+    let set = set-found c.as_slice.result.now c.args.cells.area.now.sets c.args.asked.dim c.index-as_slice-dim.result c.as_slice.ensures low c.index-as_slice-dim.is in
+    let same : slice_index_or whole_area.sets c.args.asked.dim None ≡ slice_index_or c.args.cells.area.now.sets c.args.asked.dim None = sym c.in-None.is ∙ set in
+    (c.answer.ensures.value whole_area same c.requires.known.of_cube.whole).1
+
+pub returns-in-None-clause-known : goal.returns-in-None-clause-known
+returns-in-None-clause-known c =
+    let low : c.args.asked.dim < length c.args.cells.area.now.sets = omega (arith, sets-long c.args.cells.model.now.space c.args.cells.cube c.args.cells.area.now c.requires.cells.area, c.requires.dim) in
+    let set = set-found c.as_slice.result.now c.args.cells.area.now.sets c.args.asked.dim c.index-as_slice-dim.result c.as_slice.ensures low c.index-as_slice-dim.is in
+    let same : slice_index_or whole_area.sets c.args.asked.dim None ≡ slice_index_or c.args.cells.area.now.sets c.args.asked.dim None = sym c.in-None.is ∙ set in
+    let whole = (c.answer.ensures.value whole_area same c.requires.known.of_cube.whole).2 in
+    record {
+      of_cube = record { reads = c.answer.ensures.reads; whole = whole };
+      reads = c.requires.known.reads;
+      listed = c.requires.known.listed;
+    }
+
+pub returns-in-Some-clause-known : goal.returns-in-Some-clause-known
+returns-in-Some-clause-known c =
+    let listed = (c.answer-in-Some.ensures.value c.args.cells.area.now refl c.requires.known.listed).2 in
+    record {
+      of_cube = record { reads = c.requires.known.of_cube.reads; whole = c.requires.known.of_cube.whole };
+      reads = c.answer-in-Some.ensures.reads;
+      listed = listed;
+    }

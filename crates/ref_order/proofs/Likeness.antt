@@ -1,0 +1,134 @@
+-- References that name the same from the elements of a dimension, and what is remembered of them.
+use Rattle.std.proofs.Common.{◌≡◌, refl, sym, ap, ◌∙◌, arith, subst, ℕ, zero, suc, ◌+◌, ◌<◌, ◌≤◌, ◌⊎◌, inl, inr, Bool, true, false, eqb, Option, Some, None, ℤ, pos, List, [], ◌∷◌, length, map, drop}
+use Rattle.std.proofs.Math.ListN.{replicate}
+use Rattle.std.specs.Prelude.{slice_get, slice_index_or, ◌==◌, if◌then◌else◌, option_map, unwrap_or, neg_ℤ}
+use Rattle.std.proofs.lemmas.Bool.Decides.{Decides-eqb}
+use Rattle.cube_space.specs.Layout.{Layout, axes, sizes}
+use Rattle.rule_laws.specs.declared.reference.Arg.{Arg}
+use Rattle.rule_laws.specs.declared.reference.Arg.TheVariants.{Fixed, Moved}
+use Rattle.rule_laws.specs.declared.reference.Reference.{Reference}
+use Rattle.rule_laws.specs.Meaning.{Precedent, Named, Components}
+use Rattle.rule_model.specs.declared.area.Area.{Area}
+use Rattle.rule_model.specs.BoundModel.{BoundModel}
+use Rattle.rule_model.specs.Conditions.{IsArg, IsReference, IsPrecedent}
+use Rattle.order_laws.specs.Greatest.{plus, larger, greatest, only}
+use Rattle.order_laws.specs.Earlier.{scale_of, moved_sum, excess, greatest_in, set_count, set_element}
+use Rattle.ref_order.specs.declared.question.Question.{Question}
+use Rattle.ref_order.specs.declared.question.Answer.{Answer}
+use Rattle.ref_order.specs.Reads.{precedent_of, test_of}
+use Rattle.ref_order.specs.Known.{followed_by, answer_of, IsRight, AreRight, AreReads}
+use Rattle.ref_order.proofs.Args.{args-long, arg-at}
+
+-- ---- arguments
+
+followed-long : (source : List ℕ) (size dim : ℕ) (arg : Arg) (to : List (Option ℕ)) → IsArg source size arg → followed_by dim arg ≡ Some to → length to ≡ slice_index_or source dim 0
+followed-long source size dim (Fixed e) to is h = absurd (cc)
+followed-long source size dim (Moved from own) to is h = by (dim == from) refl h
+  where
+    by : (b : Bool) → (dim == from) ≡ b → (if b then Some own else None) ≡ Some to → length to ≡ slice_index_or source dim 0
+    by true e h = let same : own ≡ to = cc in subst (λ (m : List (Option ℕ)). length m ≡ slice_index_or source dim 0) same (is.1 ∙ ap (λ k. slice_index_or source k 0) (sym ((Decides-eqb dim from).0 e)))
+    by false e h = absurd (cc)
+
+pub map-long : (space : Layout) (cube dim : ℕ) (r : Reference) (args : List Arg) (j : ℕ) (arg : Arg) (to : List (Option ℕ)) → IsReference space cube r → args ≡ r.args → j < length r.args → arg ≡ slice_index_or args j arg
+    → followed_by dim arg ≡ Some to → length to ≡ slice_index_or (sizes space cube) dim 0
+map-long space cube dim r args j arg to is same low at h =
+    let here = arg-at (IsArg (sizes space cube)) (sizes space r.cube) r.args j arg is.1 low in
+    let found : slice_index_or r.args j arg ≡ arg = ap (λ xs. slice_index_or xs j arg) (sym same) ∙ sym at in
+    followed-long (sizes space cube) (slice_index_or (sizes space r.cube) j 0) dim arg to (subst (IsArg (sizes space cube) (slice_index_or (sizes space r.cube) j 0)) found here) h
+
+-- two references to one cube have as many arguments
+pub as-long : (space : Layout) (cube : ℕ) (one other : Reference) → IsReference space cube one → IsReference space cube other → one.cube ≡ other.cube → length one.args ≡ length other.args
+as-long space cube one other is it same = args-long space cube one is ∙ ap (λ k. length (axes space k)) same ∙ sym (args-long space cube other it)
+
+module _ (dim : ℕ) where
+  abbrev follow : List Arg → List (Option (List (Option ℕ)))
+  follow args = map (followed_by dim) args
+
+  pub alike-end : (xs ys : List Arg) (k : ℕ) → length xs ≤ k → length ys ≤ k → follow (drop k xs) ≡ follow (drop k ys)
+  alike-end xs ys k long wide = ap follow (past xs k long ∙ sym (past ys k wide))
+    where
+      past : (zs : List Arg) (k : ℕ) → length zs ≤ k → drop k zs ≡ []
+      past [] zero h = refl
+      past [] (suc k) h = refl
+      past (z ∷ zs) zero h = absurd (omega arith)
+      past (z ∷ zs) (suc k) h = past zs k (omega arith)
+
+  more : (xs ys : List Arg) (k : ℕ) (x y : Arg) → k < length xs → k < length ys → followed_by dim (slice_index_or xs k x) ≡ followed_by dim (slice_index_or ys k y) → follow (drop (suc k) xs) ≡ follow (drop (suc k) ys)
+      → follow (drop k xs) ≡ follow (drop k ys)
+  more [] ys k x y low less here rest = absurd (omega arith)
+  more (a ∷ xs) [] k x y low less here rest = absurd (omega arith)
+  more (a ∷ xs) (b ∷ ys) zero x y low less here rest = ap (λ (f : Option (List (Option ℕ))). f ∷ follow xs) here ∙ ap (λ (fs : List (Option (List (Option ℕ)))). followed_by dim b ∷ fs) rest
+  more (a ∷ xs) (b ∷ ys) (suc k) x y low less here rest = more xs ys k x y (omega arith) (omega arith) here rest
+
+  pub alike-more : (xs ys own its : List Arg) (k : ℕ) (x y : Arg) → own ≡ xs → its ≡ ys → k < length xs → k < length ys → x ≡ slice_index_or own k x → y ≡ slice_index_or its k y → followed_by dim x ≡ followed_by dim y
+      → follow (drop (k + 1) xs) ≡ follow (drop (k + 1) ys) → follow (drop k xs) ≡ follow (drop k ys)
+  alike-more xs ys own its k x y same alike low less at here is rest =
+      let next : k + 1 ≡ suc k = omega arith in
+      more xs ys k x y low less
+      (ap (followed_by dim) (ap (λ zs. slice_index_or zs k x) (sym same) ∙ sym at) ∙ is ∙ sym (ap (followed_by dim) (ap (λ zs. slice_index_or zs k y) (sym alike) ∙ sym here)))
+      (subst (λ n. follow (drop n xs) ≡ follow (drop n ys)) next rest)
+
+  -- ---- what follows is all that counts
+
+  abbrev step : (ℕ → ℕ → ℕ) → ℕ → ℕ → Option (List (Option ℕ)) → Option ℤ → Option ℤ
+  step worth j e None rest = rest
+  step worth j e (Some to) rest = plus (option_map (λ target. pos (worth j target)) (unwrap_or (slice_get to e) None)) rest
+
+  stepped : (worth : ℕ → ℕ → ℕ) (j e : ℕ) (arg : Arg) (args : List Arg) → moved_sum worth j (arg ∷ args) dim e ≡ step worth j e (followed_by dim arg) (moved_sum worth (suc j) args dim e)
+  stepped worth j e (Fixed fixed) args = refl
+  stepped worth j e (Moved from to) args = by (dim == from)
+    where
+      by : (b : Bool) → (if b then plus (option_map (λ target. pos (worth j target)) (unwrap_or (slice_get to e) None)) (moved_sum worth (suc j) args dim e) else moved_sum worth (suc j) args dim e)
+          ≡ step worth j e (if b then Some to else None) (moved_sum worth (suc j) args dim e)
+      by true = refl
+      by false = refl
+
+  sum-alike : (worth : ℕ → ℕ → ℕ) (j e : ℕ) (xs ys : List Arg) → follow xs ≡ follow ys → moved_sum worth j xs dim e ≡ moved_sum worth j ys dim e
+  sum-alike worth j e [] [] h = refl
+  sum-alike worth j e [] (y ∷ ys) h = absurd (cc)
+  sum-alike worth j e (x ∷ xs) [] h = absurd (cc)
+  sum-alike worth j e (x ∷ xs) (y ∷ ys) h =
+      let here : followed_by dim x ≡ followed_by dim y = cc in
+      let rest : follow xs ≡ follow ys = cc in
+      stepped worth j e x xs ∙ ap (λ f. step worth j e f (moved_sum worth (suc j) xs dim e)) here
+      ∙ ap (step worth j e (followed_by dim y)) (sum-alike worth (suc j) e xs ys rest) ∙ sym (stepped worth j e y ys)
+
+  pub excess-alike : (model : BoundModel) (cube place e : ℕ) (one other : Reference) → one.cube ≡ other.cube → follow one.args ≡ follow other.args
+      → excess model cube place (Named one) dim e ≡ excess model cube place (Named other) dim e
+  excess-alike model cube place e one other same alike =
+      ap (λ s. plus s (Some (neg_ℤ (pos ((scale_of model cube place).worth dim e))))) (sum-alike (scale_of model one.cube place).worth 0 e one.args other.args alike ∙ ap (λ k. moved_sum (scale_of model k place).worth 0 other.args dim e) same)
+
+-- ---- the greatest of equal numbers
+
+greatest-alike : (f g : ℕ → Option ℤ) (n : ℕ) → ((k : ℕ) → f k ≡ g k) → greatest f n ≡ greatest g n
+greatest-alike f g zero same = refl
+greatest-alike f g (suc n) same = ap (λ x. larger x (greatest f n)) (same n) ∙ ap (larger (g n)) (greatest-alike f g n same)
+
+pub answers-alike : (model : BoundModel) (cube : ℕ) (area : Area) (one other : Question) → one.place ≡ other.place → one.dim ≡ other.dim → one.which ≡ other.which
+    → ((place e : ℕ) → excess model cube place (precedent_of one.read) one.dim e ≡ excess model cube place (precedent_of other.read) one.dim e) → answer_of model cube area one ≡ answer_of model cube area other
+answers-alike model cube area one other place dim which same =
+    let set = slice_index_or area.sets one.dim None in
+    let size = slice_index_or (sizes model.space cube) one.dim 0 in
+    let test = test_of one.which (axes model.space cube) one.dim in
+    greatest-alike (λ k. only (test (set_element set k)) (excess model cube one.place (precedent_of one.read) one.dim (set_element set k)))
+    (λ k. only (test (set_element set k)) (excess model cube one.place (precedent_of other.read) one.dim (set_element set k))) (set_count size set)
+    (λ k. ap (only (test (set_element set k))) (same one.place (set_element set k)))
+    ∙ ap (λ p. greatest_in (excess model cube p (precedent_of other.read) one.dim) test size set) place
+    ∙ ap (λ w. greatest_in (excess model cube other.place (precedent_of other.read) one.dim) (test_of w (axes model.space cube) one.dim) size set) which
+    ∙ ap (λ d. greatest_in (excess model cube other.place (precedent_of other.read) d) (test_of other.which (axes model.space cube) d) (slice_index_or (sizes model.space cube) d 0) (slice_index_or area.sets d None)) dim
+
+-- ---- nothing is remembered at first
+
+pub none-kept : (n k : ℕ) (answer : Answer) → slice_get (replicate {A = Option Answer} n None) k ≡ Some (Some answer) → ⊥
+none-kept zero k answer at = cc
+none-kept (suc n) zero answer at = cc
+none-kept (suc n) (suc k) answer at = none-kept n k answer at
+
+-- ---- one answer more is remembered
+
+pub right-more : (model : BoundModel) (cube : ℕ) (area : Area) (old new : List (Option Answer)) (one : Answer) → AreRight model cube area old → IsRight model cube area one
+    → ((k : ℕ) (other : Answer) → slice_get new k ≡ Some (Some other) → (slice_get old k ≡ Some (Some other)) ⊎ (other ≡ one)) → AreRight model cube area new
+right-more model cube area old new one right here told k answer at = elim (told k answer at) [
+  | inl was ↦ right k answer was
+  | inr is ↦ subst (IsRight model cube area) (sym is) here
+]
