@@ -6,8 +6,8 @@ use Rattle.feed_map.specs.FedCells.{most_fed}
 use Rattle.cell_versions.specs.declared.fault.NextFault.{NextFault}
 use Rattle.cell_versions.specs.declared.fault.NextFault.TheVariants.{StoreLimit, FedLimit, Memory}
 
--- each limit is answered exactly where it is passed, out of memory aside, that of the stored cells first; that few cells
--- are fed, or many, is said by whoever counts them
+-- each limit is answered exactly where it is passed, out of memory aside, that of the stored cells first; whoever
+-- counts the fed cells says whether they are few or many
 pub record AnswersLimits {T : Type 0} (few_fed many_fed : Type 0) (stored : List Entry) (answer : Result T NextFault)
     : Type 0 where
   pub within : length stored ≤ most_cells → few_fed → IsOkUnless answer Memory
