@@ -47,8 +47,8 @@ pub trait Memory {
         ensures holds { holds self.new ≡ holds self.old }
         ensures room { has_room self.new ≡ has_room self.old };
 
-    /// Keeps a cell's value. Where its slot is for another cell it is held for this reader alone: out of memory for that
-    /// the answer is an error, and nothing else is lost. What was held stays held where there was room.
+    /// Keeps a cell's value. Where its slot is for another cell it is held for this reader alone. An error means that
+    /// there was no memory to hold it; nothing else is lost. What was held stays held where there was room.
     fn keep(&mut self, cell: u64, value: &Value) -> Result<Kept, AllocError>
         requires cell { IsNumber cell }
         requires value { value.now ≡ values self.old cell }
