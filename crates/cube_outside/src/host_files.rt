@@ -1,4 +1,4 @@
-ghost use Rattle.std.specs.Prelude.{◌≡◌, ◌*◌, ◌<◌, ◌≤◌, ◌+◌, [], None, IfOk, vec_len, map};
+ghost use Rattle.std.specs.Prelude.{◌≡◌, ◌*◌, ◌<◌, ◌≤◌, ◌+◌, [], None, IfOk, vec_len, map, reverse};
 ghost use Rattle.std.specs.Bool.{OnTrue, OnFalse};
 
 use crate::files::{FileFault, Files};
@@ -19,6 +19,7 @@ pub struct HostFiles<'a, R> {
     rt: &'a R,
     count: u64,
     missed: Vec<u8>,
+    // Each name that was asked for, the last one last.
     asked: Vec<Vec<u8>>,
 }
 
@@ -74,14 +75,14 @@ impl<R: std::rt::Files> Files for HostFiles<'_, R> {
       known = None;
       faults = files.count;
       missed = files.missed.items;
-      asked = map (λ name. name.items) files.asked.items;
+      asked = reverse (map (λ name. name.items) files.asked.items);
     } };
 
     fn read(&mut self, alloc: Global, name: &str) -> Result<Vec<u8>, FileFault> {
         // The name is kept before the file is opened, so that a failure can always be named.
         let missed = Vec::from_slice(alloc, name.as_bytes())?;
         let asked = Vec::from_slice(alloc, name.as_bytes())?;
-        self.asked.insert(0, asked)?;
+        self.asked.push(asked)?;
         let outcome = self.read_whole(alloc, name);
         if let Err(FileFault::Failed) = outcome {
             self.count = self.count.saturating_add(1);

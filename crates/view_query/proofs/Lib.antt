@@ -7,3 +7,4 @@ pub mod LoopFacts
 pub mod WritingFacts
 pub mod ShownFacts
 pub mod GridFacts
+pub mod EmptyFacts

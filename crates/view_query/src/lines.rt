@@ -1,6 +1,7 @@
-ghost use Rattle.std.specs.Prelude.{◌≡◌, ◌==◌, ◌∷◌, ◌++◌, length, map, IfOk, OnOk};
-ghost use Rattle.std.specs.List.{flat_map, list_any};
+ghost use Rattle.std.specs.Prelude.{◌≡◌, ◌∷◌, ◌++◌, map, IfOk, OnOk};
+ghost use Rattle.std.specs.List.{flat_map};
 ghost use Rattle.view_query.specs.Views.{lines};
+ghost use Rattle.view_query.specs.Inside.Lines.{has_empty};
 
 use crate::shape::Axis;
 use lists::ListOf;
@@ -18,8 +19,9 @@ pub(crate) fn lines(alloc: Global, axes: &[Axis]) -> Result<Vec<ListOf<u32>>, Al
     }
 }
 
-fn has_empty(axes: &[Axis]) -> bool
-    ensures { result ≡ list_any (λ axis. length axis.elements == 0) axes.now }
+/// Whether an axis has no element.
+pub(crate) fn has_empty(axes: &[Axis]) -> bool
+    ensures { result ≡ has_empty axes.now }
 {
     axes.iter().any(|axis| axis.elements.as_slice().is_empty())
 }

@@ -1,5 +1,6 @@
-use Rattle.std.proofs.Common.{◌∙◌, ◌++◌, ap, count_by}
+use Rattle.std.proofs.Common.{◌∙◌, ◌++◌, ap, count_by, fold, sym}
 use Rattle.view_query.specs.Views.{cell_at}
+use Rattle.view_query.proofs.EmptyFacts.{nothing_asked, on_ok}
 use Rattle.view_query.proofs.GridFacts.{table_valid, text_is}
 use Rattle.view_query.proofs.ShownFacts.{title_of}
 use Rattle.view_query.proofs.table.view.Goals as goal
@@ -23,3 +24,8 @@ returns-clause-text g c =
     (c.shown_count-2.ensures ∙ ap (count_by (λ shown. shown)) c.deref-2.ensures.value)
     (c.in_ok-write_title.ensures ∙ ap (λ l. l ++ title_of c.shown_count.result c.shown_count-2.result) c.new-text.ensures.items)
     c.in_ok-write_heads.ensures c.in_ok-write_rows.ensures
+
+pub returns-then-shows_nothing-clause-asked : goal.returns-then-shows_nothing-clause-asked
+returns-then-shows_nothing-clause-asked g c =
+    on_ok c.empty_text.result
+    (sym (ap (fold g.C.Cells.after_asking (g.C.Cells.asked c.args.cells.now)) (nothing_asked c.args.space.now c.args.view.now (sym c.shows_nothing.ensures ∙ c.if-shows_nothing.true))))
