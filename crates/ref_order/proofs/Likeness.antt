@@ -1,5 +1,5 @@
 -- References that name the same from the elements of a dimension, and what is remembered of them.
-use Rattle.std.proofs.Common.{◌≡◌, refl, sym, ap, ◌∙◌, arith, subst, ℕ, zero, suc, ◌+◌, ◌<◌, ◌≤◌, ◌⊎◌, inl, inr, Bool, true, false, eqb, Option, Some, None, ℤ, pos, List, [], ◌∷◌, length, map, drop}
+use Rattle.std.proofs.Common.{◌≡◌, refl, sym, ap, ◌∙◌, arith, subst, ℕ, zero, suc, ◌+◌, ◌<◌, ◌≤◌, ◌⊎◌, inl, inr, Bool, true, false, Option, Some, None, ℤ, pos, List, [], ◌∷◌, length, map, drop}
 use Rattle.std.proofs.Math.ListN.{replicate}
 use Rattle.std.specs.Prelude.{slice_get, slice_index_or, ◌==◌, if◌then◌else◌, option_map, unwrap_or, neg_ℤ}
 use Rattle.std.proofs.lemmas.Bool.Decides.{Decides-eqb}
@@ -7,16 +7,16 @@ use Rattle.cube_space.specs.Layout.{Layout, axes, sizes}
 use Rattle.rule_laws.specs.declared.reference.Arg.{Arg}
 use Rattle.rule_laws.specs.declared.reference.Arg.TheVariants.{Fixed, Moved}
 use Rattle.rule_laws.specs.declared.reference.Reference.{Reference}
-use Rattle.rule_laws.specs.Meaning.{Precedent, Named, Components}
+use Rattle.rule_laws.specs.Meaning.{Named}
 use Rattle.rule_model.specs.declared.area.Area.{Area}
 use Rattle.rule_model.specs.BoundModel.{BoundModel}
-use Rattle.rule_model.specs.Conditions.{IsArg, IsReference, IsPrecedent}
+use Rattle.rule_model.specs.Conditions.{IsArg, IsReference}
 use Rattle.order_laws.specs.Greatest.{plus, larger, greatest, only}
 use Rattle.order_laws.specs.Earlier.{scale_of, moved_sum, excess, greatest_in, set_count, set_element}
 use Rattle.ref_order.specs.declared.question.Question.{Question}
 use Rattle.ref_order.specs.declared.question.Answer.{Answer}
 use Rattle.ref_order.specs.Reads.{precedent_of, test_of}
-use Rattle.ref_order.specs.Known.{followed_by, answer_of, IsRight, AreRight, AreReads}
+use Rattle.ref_order.specs.Known.{followed_by, answer_of, IsRight, AreRight}
 use Rattle.ref_order.proofs.Args.{args-long, arg-at}
 
 -- ---- arguments

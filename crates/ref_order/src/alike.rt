@@ -1,5 +1,4 @@
 ghost use Rattle.std.specs.Prelude.{◌≡◌, ℕ, ◌≤◌, IsTrue, List, Option, Some, None, MatchOption, length, map, drop};
-ghost use Rattle.rule_laws.specs.Maps.{identity};
 ghost use Rattle.rule_model.specs.declared.area.Area.{Area as AnyArea};
 ghost use Rattle.rule_model.specs.Conditions.{IsReference, IsPrecedent};
 ghost use Rattle.order_laws.specs.Earlier.{excess};
