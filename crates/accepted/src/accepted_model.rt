@@ -1,16 +1,21 @@
-ghost use Rattle.std.specs.Prelude.{◌≡◌};
+ghost use Rattle.std.specs.Prelude.{◌≡◌, []};
+ghost use Rattle.feed_map.specs.FedCells.{IsFeeding};
 ghost use Rattle.accepted.specs.Checks.{IsAccepted};
 
+use feed_map::Feeding;
 use rule_model::Model;
 
-/// A model that deployment has accepted.
+/// A model that deployment has accepted, with what is fed where nothing is stored.
 #[derive(Drop)]
 pub struct Accepted {
     model: Model,
+    feeding: Feeding,
 }
 
 impl std::marker::Model for Accepted {
+    ghost use Rattle.std.specs.Prelude.{[]};
     ghost use Rattle.rule_model.specs.BoundModel.{BoundModel};
+    ghost use Rattle.feed_map.specs.FedCells.{IsFeeding};
     ghost use Rattle.accepted.specs.Checks.{IsAccepted};
     ghost use Rattle.rule_laws.specs.contracts.formula.Formula as formula;
     ghost use Rattle.std.specs.Coded.{codes};
@@ -21,16 +26,17 @@ impl std::marker::Model for Accepted {
 
     ghost view = { λ a. a.model };
 
-    ghost invariant = { λ a. IsAccepted a.model };
+    ghost invariant = { λ a. IsAccepted a.model × IsFeeding a.model [] a.feeding.fed a.feeding.totals };
 }
 
 impl Accepted {
-    /// The model, which the checks have accepted.
-    pub fn new(model: Model) -> Accepted
-        requires { IsAccepted model }
+    /// The model, which the checks have accepted, with what is fed where nothing is stored.
+    pub fn new(model: Model, feeding: Feeding) -> Accepted
+        requires accepted { IsAccepted model }
+        requires feeding { IsFeeding model [] feeding.fed feeding.totals }
         ensures { result ≡ model }
     {
-        Accepted { model }
+        Accepted { model, feeding }
     }
 
     /// The model.
@@ -39,5 +45,12 @@ impl Accepted {
         ensures accepted { IsAccepted self.now }
     {
         &self.model
+    }
+
+    /// What is fed where nothing is stored.
+    pub fn feeding(&self) -> &Feeding
+        ensures { IsFeeding self.now [] result.now.fed result.now.totals }
+    {
+        &self.feeding
     }
 }

@@ -11,3 +11,4 @@ mod SourceFacts
 mod FollowSteps
 mod Fresh
 mod StandFacts
+mod OpenFacts

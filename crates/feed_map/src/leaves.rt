@@ -6,27 +6,41 @@ ghost use Rattle.cube_space.specs.Cells.{IsCell, cube_of, elements_of, is_leaf_c
 ghost use Rattle.rule_laws.specs.Feeding.{leaves_of};
 ghost use Rattle.rule_model.specs.System.{system_of};
 ghost use Rattle.feed_map.specs.Inside.Gains.{Gains, StopsBy};
+ghost use Rattle.feed_map.specs.Inside.Follows.{AreOpened};
 ghost use Rattle.feed_map.specs.Inside.Leaves.{candidates, candidate, leaf_at, AreRoots, GoesOn, GoesOnBy};
 
 use crate::fault::FedFault;
 use crate::growth::Growth;
+use crate::reached::Reached;
+use cell_store::CellSet;
 use cube_space::{MAX_DIMENSIONS, Space};
 use dim_core::Dimension;
 use dim_weights::Weights;
 use rule_model::{Model, place_of};
 
-/// Finds the leaf cells that a cell means: itself, or those below it.
-pub fn add_leaves_of(model: &Model, cell: u64, growth: &mut Growth) -> Result<(), FedFault>
-    requires { IsCell model.now.space cell }
-    ensures gains { OnOk result (Gains (Contains (leaves_of (system_of model.now) cell)) growth.old growth.new) }
-    ensures stops { IfErr result (StopsBy (Contains (leaves_of (system_of model.now) cell)) growth.old growth.new) }
+/// Finds the leaf cells that a cell means: itself, or those below it. A total that was opened isn't opened again.
+pub fn add_leaves_of(model: &Model, cell: u64, reached: &mut Reached) -> Result<(), FedFault>
+    requires cell { IsCell model.now.space cell }
+    requires totals { AreOpened model.now reached.old.totals reached.old.growth }
+    ensures gains { OnOk result (Gains (Contains (leaves_of (system_of model.now) cell))
+        reached.old.growth reached.new.growth) }
+    ensures stops { IfErr result (StopsBy (Contains (leaves_of (system_of model.now) cell))
+        reached.old.growth reached.new.growth) }
+    ensures totals { OnOk result (AreOpened model.now reached.new.totals reached.new.growth) }
 {
     if model.space().is_leaf(cell) {
-        return growth.add(cell);
+        return reached.growth.add(cell);
+    }
+    if reached.totals.has(cell) {
+        return Ok(());
     }
     let mut roots = [0u32; MAX_DIMENSIONS];
     let (cube, len) = place_of(model, cell, &mut roots);
-    add_below(model, cell, cube, &roots[..len], growth)
+    let before = reached.growth.finds;
+    add_below(model, cell, cube, &roots[..len], &mut reached.growth)?;
+    let leaves = reached.growth.finds.saturating_sub(before);
+    reached.keep(cell, leaves)?;
+    Ok(())
 }
 
 // Finds the leaf cells below a consolidated cell of these elements.

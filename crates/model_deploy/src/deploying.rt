@@ -8,7 +8,7 @@ ghost use Rattle.model_deploy.specs.Deployment.{deployment};
 ghost use Rattle.model_deploy.specs.Rules.{rules_stage};
 
 use crate::binding::meanings_of;
-use crate::checks::{check_covered, check_fed, check_ordered};
+use crate::checks::{check_covered, check_ordered, fed_over_nothing};
 use crate::fault::DeployFault;
 use crate::file::RuleFile;
 use crate::foundation::{Foundation, foundation_of};
@@ -42,8 +42,8 @@ pub fn deploy(
     let model = Model::of(space, weights, bound.into_vec())?;
     check_ordered(alloc, &rules, &model)?;
     check_covered(alloc, &rules, &model)?;
-    check_fed(alloc, &model)?;
-    Ok(Accepted::new(model))
+    let feeding = fed_over_nothing(alloc, &model)?;
+    Ok(Accepted::new(model, feeding))
 }
 
 /// The rules of each cube with its order, over what the model stands on; the file of each cube, None for one without

@@ -1,4 +1,4 @@
-use Rattle.std.proofs.Common.{rules, ◌≡◌, sym, ◌∙◌, subst, ⊎_elim}
+use Rattle.std.proofs.Common.{rules, ◌≡◌, sym, ◌∙◌, subst, inl, inr, ⊎_elim}
 use Rattle.std.specs.Arc.{arc_value}
 use Rattle.cell_store.specs.Entries.{after_writes}
 use Rattle.feed_map.specs.FedCells.{HasManyFed}
@@ -11,20 +11,20 @@ pub invariant_of-result : goal.invariant_of-result
 invariant_of-result c =
     let model : arc_value c.in_ok-accepted.accepted ≡ c.args.self.now.model = search rules in
     let stored : c.in_ok-store.store ≡ after_writes c.args.self.now.stored c.args.writes.now = search rules in
-    let before : AreLeafEntries c.args.self.now.model.space c.args.self.now.stored = rw (← c.self.view_is) c.self.invariant.leaves in
-    record {
+    let before : AreLeafEntries c.args.self.now.model.space c.args.self.now.stored = rw (← c.self.view_is) c.self.invariant.0.leaves in
+    (record {
       leaves = rw (model, stored) (leaves_after c.args.self.now.model.space c.args.writes.now c.args.self.now.stored before c.requires);
-      fed = rw model c.in_ok-fed.ensures.fed;
-    }
+      fed = rw model c.in_ok-feeding.ensures.fed.fed;
+    }, rw model c.in_ok-feeding.ensures.fed.opened)
 
 pub returns-clause-past_fed : goal.returns-clause-past_fed
 returns-clause-past_fed c = λ few many.
     let stored : c.in_ok-store.store ≡ after_writes c.args.self.now.stored c.args.writes.now = search rules in
-    ⊎_elim (λ limit. absurd (let clash = sym c.in_ok-fed.was ∙ limit in cc)) (λ memory. absurd (let clash = sym c.in_ok-fed.was ∙ memory in cc))
+    ⊎_elim (λ limit. absurd (let clash = sym c.in_ok-feeding.was ∙ limit in cc)) (λ memory. absurd (let clash = sym c.in_ok-feeding.was ∙ memory in cc))
     (c.fed_over.ensures.past (subst (HasManyFed c.args.self.now.model) (sym stored) many))
 
-pub returns-in_err-fed-clause-past_fed : goal.returns-in_err-fed-clause-past_fed
-returns-in_err-fed-clause-past_fed c = λ few many.
+pub returns-in_err-feeding-clause-past_fed : goal.returns-in_err-feeding-clause-past_fed
+returns-in_err-feeding-clause-past_fed c = λ few many.
     let stored : c.in_ok-store.store ≡ after_writes c.args.self.now.stored c.args.writes.now = search rules in
-    passed_on 4000001 c.in_err-fed.field-0.0 c.fed_over.result c.from_residual-in_err-fed.result c.in_err-fed.was
+    passed_on 4000001 c.in_err-feeding.field-0.0 c.fed_over.result c.from_residual-in_err-feeding.result c.in_err-feeding.was
     (c.fed_over.ensures.past (subst (HasManyFed c.args.self.now.model) (sym stored) many)) (search rules)
