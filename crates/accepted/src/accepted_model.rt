@@ -2,13 +2,13 @@ ghost use Rattle.std.specs.Prelude.{◌≡◌, []};
 ghost use Rattle.feed_map.specs.FedCells.{IsFeeding};
 ghost use Rattle.accepted.specs.Checks.{IsAccepted};
 
-use feed_map::Feeding;
+use feed_map::{Feeding, SourceModel};
 use rule_model::Model;
 
 /// A model that deployment has accepted, with what is fed where nothing is stored.
 #[derive(Drop)]
 pub struct Accepted {
-    model: Model,
+    model: SourceModel,
     feeding: Feeding,
 }
 
@@ -31,7 +31,7 @@ impl std::marker::Model for Accepted {
 
 impl Accepted {
     /// The model, which the checks have accepted, with what is fed where nothing is stored.
-    pub fn new(model: Model, feeding: Feeding) -> Accepted
+    pub fn new(model: SourceModel, feeding: Feeding) -> Accepted
         requires accepted { IsAccepted model }
         requires feeding { IsFeeding model [] feeding.fed feeding.totals }
         ensures { result ≡ model }
@@ -43,6 +43,13 @@ impl Accepted {
     pub fn model(&self) -> &Model
         ensures model { result.now ≡ self.now }
         ensures accepted { IsAccepted self.now }
+    {
+        self.model.model()
+    }
+
+    /// The model, with what finds the sources of its feeders.
+    pub fn sources(&self) -> &SourceModel
+        ensures model { result.now ≡ self.now }
     {
         &self.model
     }

@@ -36,7 +36,9 @@ impl std::marker::Model for Version {
 
     ghost coded = { Prim.hlevel (codes, formula.the_row.coded) };
 
-    ghost view = { λ v. record { number = v.number; model = arc_value v.accepted; stored = v.store; fed = v.feeding.fed } };
+    ghost view = { λ v. record {
+        number = v.number; model = arc_value v.accepted; stored = v.store; fed = v.feeding.fed
+    } };
 
     ghost invariant = { λ v. IsVersion (arc_value v.accepted) v.store v.feeding.fed
         × HaveLeaves (arc_value v.accepted) v.feeding.totals v.feeding.fed };
@@ -50,7 +52,7 @@ impl Version {
         ensures stored { IfOk result (λ version. version.stored ≡ []) }
     {
         let store = Store::new(alloc);
-        let Ok(feeding) = accepted.feeding().over(alloc, accepted.model(), &store) else {
+        let Ok(feeding) = accepted.feeding().over(alloc, accepted.sources(), &store) else {
             return Err(AllocError);
         };
         Ok(Version {
@@ -104,7 +106,7 @@ impl Version {
         ensures past { HasManyFed self.now.model store.now →
             (result ≡ Err (FedFault.FedLimit (suc most_fed))) ⊎ (result ≡ Err FedFault.Memory) }
     {
-        let model = self.accepted.model();
+        let model = self.accepted.sources();
         match added_by(alloc, model, &self.store, store, writes)? {
             Some(added) => self.feeding.grown(alloc, model, store, &added),
             None => self.accepted.feeding().over(alloc, model, store),

@@ -1,6 +1,6 @@
 -- The cells whose elements are leaves that count in a cell's elements are the leaf cells below it; those of any leaves are
 -- the leaf cells of a cube.
-use Rattle.std.proofs.Common.{◌≡◌, refl, sym, ap, ◌∙◌, subst, ℕ, zero, suc, ◌+◌, ◌*◌, ◌<◌, ◌≤◌, ◌⊎◌, inl, inr, Bool, true, false, cond, ℤ, ◌*ℤ◌, List, [], ◌∷◌, ◌++◌, append_assoc, length, map, get_or, Option, Some, None, nat_lt, arith, zero-add}
+use Rattle.std.proofs.Common.{◌≡◌, refl, sym, ap, ◌∙◌, subst, ℕ, zero, suc, ◌+◌, ◌<◌, ◌≤◌, ◌⊎◌, inl, inr, Bool, true, false, cond, ℤ, List, [], ◌∷◌, ◌++◌, append_assoc, length, map, get_or, Option, Some, None, nat_lt, arith, zero-add}
 use Rattle.std.specs.Prelude.{slice_get}
 use Rattle.std.specs.List.{Contains, filter, range_with_len}
 use Rattle.std.specs.Option.{option_map}

@@ -12,3 +12,4 @@ mod FollowSteps
 mod Fresh
 mod StandFacts
 mod OpenFacts
+mod AboveFacts

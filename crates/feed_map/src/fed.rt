@@ -1,15 +1,15 @@
 ghost use Rattle.std.specs.Prelude.{◌≡◌, ℕ, suc, ◌≤◌, ◌⊎◌, [], Err, IfOk, IfErr, IsOkUnless, length, All, Contains};
 ghost use Rattle.cell_store.specs.Cells.{IsUnion};
 ghost use Rattle.cell_store.specs.Entries.{cells_of};
-ghost use Rattle.feed_map.specs.FedCells.{AreFedCells, HasFewFed, HasManyFed, IsFeeding, most_fed, without};
+ghost use Rattle.feed_map.specs.FedCells.{HasFewFed, HasManyFed, IsFeeding, most_fed, without};
 ghost use Rattle.feed_map.specs.Inside.Follows.{IsReach};
 
 use crate::dense::add_dense;
 use crate::fault::FedFault;
 use crate::follow::{follow_cells, follow_opened, follow_stored};
 use crate::reached::Reached;
+use crate::source_model::SourceModel;
 use cell_store::{CellSet, PageSet, Store};
-use rule_model::Model;
 use std::alloc::{AllocError, Global};
 
 /// The fed cells of a version: the leaf cells that may have a value other than 0 though nothing is stored in them.
@@ -33,26 +33,6 @@ impl std::marker::Model for Fed {
 }
 
 impl Fed {
-    /// The fed cells over what is stored. There may be 4,000,000; where there are more, `FedLimit(4_000_001)` says so.
-    ///
-    /// It follows each stored cell and each fed one once.
-    pub fn of(alloc: Global, model: &Model, store: &Store) -> Result<Fed, FedFault>
-        ensures fed { IfOk result (λ fed. AreFedCells model.now store.now fed) }
-        ensures within { HasFewFed model.now store.now → IsOkUnless result FedFault.Memory }
-
-        // past the limit that is the answer, and no other fault but out of memory
-        ensures past { HasManyFed model.now store.now →
-            (result ≡ Err (FedFault.FedLimit (suc most_fed))) ⊎ (result ≡ Err FedFault.Memory) }
-        ensures fault { IfErr result (λ fault. (fault ≡ FedFault.Memory)
-            ⊎ ((fault ≡ FedFault.FedLimit (suc most_fed)) × HasManyFed model.now store.now)) }
-    {
-        let reached = all_fed(alloc, model, store)?;
-        let growth = reached.growth;
-        Ok(Fed {
-            cells: growth.known,
-        })
-    }
-
     /// How many cells are fed.
     pub fn count(&self) -> u64
         ensures count { result ≡ length self.now }
@@ -74,9 +54,13 @@ pub struct Feeding {
 impl Feeding {
     /// What is fed over what is stored. There may be 4,000,000 fed cells; where there are more, `FedLimit(4_000_001)`
     /// says so.
-    pub fn of(alloc: Global, model: &Model, store: &Store) -> Result<Feeding, FedFault>
+    ///
+    /// It follows each stored cell and each fed one once.
+    pub fn of(alloc: Global, model: &SourceModel, store: &Store) -> Result<Feeding, FedFault>
         ensures fed { IfOk result (λ feeding. IsFeeding model.now store.now feeding.fed feeding.totals) }
         ensures within { HasFewFed model.now store.now → IsOkUnless result FedFault.Memory }
+
+        // past the limit that is the answer, and no other fault but out of memory
         ensures past { HasManyFed model.now store.now →
             (result ≡ Err (FedFault.FedLimit (suc most_fed))) ⊎ (result ≡ Err FedFault.Memory) }
         ensures fault { IfErr result (λ fault. (fault ≡ FedFault.Memory)
@@ -86,9 +70,14 @@ impl Feeding {
         Ok(Feeding::from(reached))
     }
 
-    /// What is fed over what is stored, where this is what is fed over nothing. It answers what [`Feeding::of`] answers,
-    /// and lists no dense cube.
-    pub fn over(&self, alloc: Global, model: &Model, store: &Store) -> Result<Feeding, FedFault>
+    /// What is fed over what is stored, where this is what is fed over nothing. It answers what [`Feeding::of`]
+    /// answers, and lists no dense cube.
+    pub fn over(
+        &self,
+        alloc: Global,
+        model: &SourceModel,
+        store: &Store,
+    ) -> Result<Feeding, FedFault>
         requires { IsFeeding model.now [] self.now.fed self.now.totals }
         ensures fed { IfOk result (λ feeding. IsFeeding model.now store.now feeding.fed feeding.totals) }
         ensures within { HasFewFed model.now store.now → IsOkUnless result FedFault.Memory }
@@ -106,7 +95,7 @@ impl Feeding {
     pub fn grown(
         &self,
         alloc: Global,
-        model: &Model,
+        model: &SourceModel,
         store: &Store,
         added: &[u64],
     ) -> Result<Feeding, FedFault>
@@ -139,11 +128,11 @@ impl Feeding {
 }
 
 // What is fed over what is stored.
-fn all_fed(alloc: Global, model: &Model, store: &Store) -> Result<Reached, FedFault>
+fn all_fed(alloc: Global, model: &SourceModel, store: &Store) -> Result<Reached, FedFault>
     ensures { IsReach model.now store.now result }
 {
     let mut found = Reached::from(alloc, PageSet::new(alloc), PageSet::new(alloc));
-    add_dense(model, &mut found.growth)?;
+    add_dense(model.model(), &mut found.growth)?;
     follow_stored(model, store, &mut found)?;
     follow_opened(model, &mut found)?;
     Ok(found)
@@ -152,7 +141,7 @@ fn all_fed(alloc: Global, model: &Model, store: &Store) -> Result<Reached, FedFa
 // What is fed over what is stored, by what is over nothing.
 fn fed_over(
     alloc: Global,
-    model: &Model,
+    model: &SourceModel,
     store: &Store,
     fed: &PageSet,
     totals: &PageSet,
@@ -170,7 +159,7 @@ fn fed_over(
 // What is fed over what is stored, by what is without these stored cells.
 fn more_fed(
     alloc: Global,
-    model: &Model,
+    model: &SourceModel,
     store: &Store,
     fed: &PageSet,
     totals: &PageSet,

@@ -12,13 +12,14 @@ use crate::fault::FedFault;
 use crate::leaves::add_leaves_of;
 use crate::reached::Reached;
 use crate::source::is_source;
+use crate::source_model::SourceModel;
 use cell_store::Store;
 use cube_space::{MAX_DIMENSIONS, Space};
 use rule_laws::Reference;
-use rule_model::{Feeder, Model, place_of, target};
+use rule_model::{Feeder, Model, target};
 
 /// Whether the model has feeders.
-pub fn has_feeders(model: &Model) -> bool
+pub fn has_feeders(model: &SourceModel) -> bool
     ensures { result ≡ false → (x c : ℕ) → Feeds (system_of model.now) x c → ⊥ }
 {
     'each: for cube in 0..model.space().cubes() {
@@ -30,10 +31,16 @@ pub fn has_feeders(model: &Model) -> bool
 }
 
 /// Finds what the stored cells feed.
-pub fn follow_stored(model: &Model, store: &Store, reached: &mut Reached) -> Result<(), FedFault>
+pub fn follow_stored(
+    model: &SourceModel,
+    store: &Store,
+    reached: &mut Reached,
+) -> Result<(), FedFault>
     requires totals { AreOpened model.now reached.old.totals reached.old.growth }
-    ensures gains { OnOk result (Gains (FeedsFrom model.now (cells_of store.now)) reached.old.growth reached.new.growth) }
-    ensures stops { IfErr result (StopsBy (FeedsFrom model.now (cells_of store.now)) reached.old.growth reached.new.growth) }
+    ensures gains { OnOk result (Gains (FeedsFrom model.now (cells_of store.now))
+        reached.old.growth reached.new.growth) }
+    ensures stops { IfErr result (StopsBy (FeedsFrom model.now (cells_of store.now))
+        reached.old.growth reached.new.growth) }
     ensures totals { OnOk result (AreOpened model.now reached.new.totals reached.new.growth) }
 {
     if !has_feeders(model) {
@@ -52,7 +59,11 @@ pub fn follow_stored(model: &Model, store: &Store, reached: &mut Reached) -> Res
 }
 
 /// Finds what these cells feed.
-pub fn follow_cells(model: &Model, cells: &[u64], reached: &mut Reached) -> Result<(), FedFault>
+pub fn follow_cells(
+    model: &SourceModel,
+    cells: &[u64],
+    reached: &mut Reached,
+) -> Result<(), FedFault>
     requires totals { AreOpened model.now reached.old.totals reached.old.growth }
     ensures gains { OnOk result (Gains (FeedsFrom model.now cells.now) reached.old.growth reached.new.growth) }
     ensures stops { IfErr result (StopsBy (FeedsFrom model.now cells.now) reached.old.growth reached.new.growth) }
@@ -68,12 +79,13 @@ pub fn follow_cells(model: &Model, cells: &[u64], reached: &mut Reached) -> Resu
 }
 
 /// Finds all that chains of feeds lead to from what is known or found.
-pub fn follow_opened(model: &Model, reached: &mut Reached) -> Result<(), FedFault>
+pub fn follow_opened(model: &SourceModel, reached: &mut Reached) -> Result<(), FedFault>
     requires open { AreOpen model.now reached.old.growth }
     requires few { length reached.old.growth.known ≤ most_fed }
     requires totals { AreOpened model.now reached.old.totals reached.old.growth }
     ensures gains { OnOk result (Gains (EndsChain model.now reached.old.growth) reached.old.growth reached.new.growth) }
-    ensures stops { IfErr result (StopsBy (EndsChain model.now reached.old.growth) reached.old.growth reached.new.growth) }
+    ensures stops { IfErr result (StopsBy (EndsChain model.now reached.old.growth)
+        reached.old.growth reached.new.growth) }
     ensures none { OnOk result (reached.new.growth.found.items ≡ []) }
     ensures totals { OnOk result (AreOpened model.now reached.new.totals reached.new.growth) }
 {
@@ -89,7 +101,7 @@ pub fn follow_opened(model: &Model, reached: &mut Reached) -> Result<(), FedFaul
 }
 
 // Finds what a cell feeds. A number that is no cell's feeds none.
-fn follow(model: &Model, cell: u64, reached: &mut Reached) -> Result<(), FedFault>
+fn follow(model: &SourceModel, cell: u64, reached: &mut Reached) -> Result<(), FedFault>
     requires totals { AreOpened model.now reached.old.totals reached.old.growth }
     ensures gains { OnOk result (Gains (Feeds (system_of model.now) cell) reached.old.growth reached.new.growth) }
     ensures stops { IfErr result (StopsBy (Feeds (system_of model.now) cell) reached.old.growth reached.new.growth) }
@@ -99,7 +111,7 @@ fn follow(model: &Model, cell: u64, reached: &mut Reached) -> Result<(), FedFaul
         return Ok(());
     }
     let mut at = [0u32; MAX_DIMENSIONS];
-    let (cube, len) = place_of(model, cell, &mut at);
+    let (cube, len) = model.place_of(cell, &mut at);
     let feeders = model.rules(cube).feeders.as_slice();
     'each: for n in 0..feeders.len() {
         follow_by(model, &feeders[n], cube, &at[..len], cell, reached)?;
@@ -118,7 +130,7 @@ pub fn is_leaf_cell(space: &Space, cell: u64) -> bool
 
 // Finds what a leaf cell of these elements feeds by one feeder of its cube.
 fn follow_by(
-    model: &Model,
+    model: &SourceModel,
     feeder: &Feeder,
     cube: u32,
     elements: &[u32],
@@ -140,7 +152,7 @@ fn follow_by(
     if !is_source(model, cube, &feeder.area, elements) {
         return Ok(());
     }
-    add_target(model, &feeder.target, cell, reached)
+    add_target(model.model(), &feeder.target, cell, reached)
 }
 
 // Finds the leaf cells of the cell that a reference names from a cell.
@@ -153,7 +165,8 @@ fn add_target(
     requires cell { IsCell model.now.space cell }
     requires totals { AreOpened model.now reached.old.totals reached.old.growth }
     ensures gains { OnOk result (Gains (StandsFor model.now reference.now cell) reached.old.growth reached.new.growth) }
-    ensures stops { IfErr result (StopsBy (StandsFor model.now reference.now cell) reached.old.growth reached.new.growth) }
+    ensures stops { IfErr result (StopsBy (StandsFor model.now reference.now cell)
+        reached.old.growth reached.new.growth) }
     ensures totals { OnOk result (AreOpened model.now reached.new.totals reached.new.growth) }
 {
     match target(model, reference, cell) {

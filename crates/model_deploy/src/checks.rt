@@ -16,7 +16,7 @@ use crate::file::{RuleFile, fault_in};
 use cell_store::Store;
 use check_order::{OrderFault, check_order};
 use feed_check::{FeedCheckFault, check_feeders};
-use feed_map::{FedFault, Feeding};
+use feed_map::{FedFault, Feeding, SourceModel};
 use rule_model::Model;
 use std::alloc::Global;
 
@@ -87,7 +87,7 @@ fn feeders_fault(alloc: Global, files: &[Option<RuleFile>], fault: FeedCheckFaul
 }
 
 /// What is fed where nothing is stored. It checks that no more cells are than may be.
-pub fn fed_over_nothing(alloc: Global, model: &Model) -> Result<Feeding, DeployFault>
+pub fn fed_over_nothing(alloc: Global, model: &SourceModel) -> Result<Feeding, DeployFault>
     ensures fed { IfOk result (λ feeding. IsFeeding model.now [] feeding.fed feeding.totals) }
     ensures few { IfOk result (λ feeding. length feeding.fed ≤ most_fed) }
     ensures refused { IfErr result (λ fault. Comes (fed_stage model.now) (Err fault)) }

@@ -40,10 +40,9 @@ returns-in_err-follow_opened c =
 pub returns : goal.returns
 returns c =
     let z = c.in_ok-reached.reached.growth in
-    let union = c.in_ok-reached.ensures.known in
-    (
-    all-from-before c.args.model.now c.args.store.now (cells_of c.args.store.now) c.args.fed.now z c.follow_stored.new.reached.growth (fed-of-none c.args.model.now c.args.store.now c.args.fed.now c.requires.before.fed) c.requires.few (all-stored c.args.store.now) union c.in_ok-reached.ensures.opened c.in_ok-reached.ensures.found
-    c.in_ok-follow_stored.ensures.gains c.follow_opened.new.reached.growth c.in_ok-follow_opened.ensures.gains c.in_ok-follow_opened.ensures.none,
+    let union = c.in_ok-reached.ensures.known in (
+      all-from-before c.args.model.now c.args.store.now (cells_of c.args.store.now) c.args.fed.now z c.follow_stored.new.reached.growth (fed-of-none c.args.model.now c.args.store.now c.args.fed.now c.requires.before.fed) c.requires.few (all-stored c.args.store.now) union c.in_ok-reached.ensures.opened c.in_ok-reached.ensures.found
+          c.in_ok-follow_stored.ensures.gains c.follow_opened.new.reached.growth c.in_ok-follow_opened.ensures.gains c.in_ok-follow_opened.ensures.none,
       opened-known c.args.model.now c.follow_opened.new.reached.totals c.follow_opened.new.reached.growth c.in_ok-follow_opened.ensures.totals c.in_ok-follow_opened.ensures.none,
     )
 

@@ -66,10 +66,10 @@ each-preserved c =
     let n = c.each.n in
     record {
       gains = gains-then (FeedsByOne m cube (take n fs) x) (FeedsBy (system_of m) (feed_of m.space cube f) x) (FeedsByOne m cube (take (n + 1) fs) x)
-    (λ y one. more-from m x y cube fs n f c.each-test.true c.index-feeders-n.is (inl one))
-    (λ y by. more-from m x y cube fs n f c.each-test.true c.index-feeders-n.is (inr by))
-    (λ y more. more-parts m x y cube fs n f c.each-test.true c.index-feeders-n.is more)
-    c.args.reached.now.growth c.each.reached.growth c.follow_by.new.reached.growth c.each.invariant.gains c.in_ok-follow_by.ensures.gains;
+          (λ y one. more-from m x y cube fs n f c.each-test.true c.index-feeders-n.is (inl one))
+          (λ y by. more-from m x y cube fs n f c.each-test.true c.index-feeders-n.is (inr by))
+          (λ y more. more-parts m x y cube fs n f c.each-test.true c.index-feeders-n.is more)
+          c.args.reached.now.growth c.each.reached.growth c.follow_by.new.reached.growth c.each.invariant.gains c.in_ok-follow_by.ensures.gains;
       totals = c.in_ok-follow_by.ensures.totals;
     }
 

@@ -57,21 +57,19 @@ each-preserved c =
 pub returns-then-is_source_of-clause-source : goal.returns-then-is_source_of-clause-source
 returns-then-is_source_of-clause-source c =
     let sure : c.is_leaf_cell.result ≡ true = search rules in
-    let at = goal.at.returns-then-is_source_of-clause-source c in
-    (
+    let at = goal.at.returns-then-is_source_of-clause-source c in (
       λ _. whole-source c.args.model.now c.args.cell c.place_of-cube.result.0 c.as_slice-feeders.result.now c.place_of-cube.ensures.cube (are at.After-as_slice-feeders)
-      (cell-of at.After-is_leaf_cell sure) (leaf-of at.After-is_leaf_cell sure)
-      (c.each.n, c.index-feeders-n.result, c.each-test.true, sym c.index-feeders-n.is, c.is_source_of.ensures.0 c.if-is_source_of.true),
+          (cell-of at.After-is_leaf_cell sure) (leaf-of at.After-is_leaf_cell sure)
+          (c.each.n, c.index-feeders-n.result, c.each-test.true, sym c.index-feeders-n.is, c.is_source_of.ensures.0 c.if-is_source_of.true),
       λ _. refl,
     )
 
 pub returns-clause-source : goal.returns-clause-source
 returns-clause-source c =
-    let fs = c.as_slice-feeders.result.now in
-    (
+    let fs = c.as_slice-feeders.result.now in (
       λ is. absurd (let clash : false ≡ true = is in cc),
       λ source. absurd (c.each.invariant (subst (λ (gs : List Feeder). HasOne c.args.model.now c.args.cell c.place_of-cube.result.0 gs) (sym (take_all c.each.n fs c.each-test.false))
-      (source-whole c.args.model.now c.args.cell c.place_of-cube.result.0 fs c.place_of-cube.ensures.cube (are (goal.at.returns-clause-source c).After-as_slice-feeders) source))),
+          (source-whole c.args.model.now c.args.cell c.place_of-cube.result.0 fs c.place_of-cube.ensures.cube (are (goal.at.returns-clause-source c).After-as_slice-feeders) source))),
     )
 
 pub returns-clause-other : goal.returns-clause-other

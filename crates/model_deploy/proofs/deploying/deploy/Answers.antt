@@ -48,10 +48,10 @@ returns-in_err-feeding-clause-comes c =
     let answer = c.from_residual-in_err-feeding.result in
     checks (goal.at.returns-in_err-feeding-clause-comes c).In_ok-model answer
     (overfed c.args.rules.items c.in_ok-model.model c.in_err-feeding.field-0.0 answer c.from_residual-in_err-feeding.ensures.1
-    (rw c.deref-2.ensures.value at c.in_ok-check_ordered.ensures.comes) c.in_ok-check_covered.ensures.comes c.in_err-feeding.ensures.refused)
+    (rw c.deref-2.ensures.value at c.in_ok-check_ordered.ensures.comes) c.in_ok-check_covered.ensures.comes (rw c.in_ok-sources.ensures at c.in_err-feeding.ensures.refused))
 
 pub returns-clause-comes : goal.returns-clause-comes
 returns-clause-comes c =
     checks (goal.at.returns-clause-comes c).In_ok-model (Ok c.new.result)
-    (passes c.args.rules.items c.in_ok-model.model c.new.result c.new.ensures (rw c.deref-2.ensures.value at c.in_ok-check_ordered.ensures.comes)
-    c.in_ok-check_covered.ensures.comes (c.in_ok-feeding.feeding.fed, c.in_ok-feeding.ensures.fed.fed, c.in_ok-feeding.ensures.few))
+    (passes c.args.rules.items c.in_ok-model.model c.new.result (c.new.ensures ∙ c.in_ok-sources.ensures) (rw c.deref-2.ensures.value at c.in_ok-check_ordered.ensures.comes)
+    c.in_ok-check_covered.ensures.comes (c.in_ok-feeding.feeding.fed, (rw c.in_ok-sources.ensures at c.in_ok-feeding.ensures.fed.fed), c.in_ok-feeding.ensures.few))
