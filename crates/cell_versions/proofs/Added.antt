@@ -1,6 +1,6 @@
 -- What some writes have added, where they took no cell out.
-use Rattle.std.proofs.Common.{◌≡◌, ◌↔◌, refl, sym, ◌∙◌, ap, arith, ℕ, ℤ, Bool, true, false, not, ◌&&◌, true≢false, List, [], ◌∷◌, ◌++◌, map, take, filter, Contains, ◌⊎◌, inl, inr, ⊎_elim, eqb, cond, length, get_or, ◌<◌, ◌+◌}
-use Rattle.std.specs.Prelude.{All, ◌==◌, IsTrue}
+use Rattle.std.proofs.Common.{◌≡◌, ◌↔◌, refl, sym, ◌∙◌, ap, ℕ, ℤ, Bool, true, false, not, ◌&&◌, true≢false, List, [], ◌∷◌, ◌++◌, map, take, Contains, ◌⊎◌, inl, inr, ⊎_elim, cond, length, get_or, ◌<◌, ◌+◌}
+use Rattle.std.specs.Prelude.{◌==◌, IsTrue}
 use Rattle.std.specs.List.{list_any}
 use Rattle.std.proofs.lemmas.Bool.{and_parts, not-true as not_true}
 use Rattle.std.proofs.lemmas.List.{take_more, map-append}

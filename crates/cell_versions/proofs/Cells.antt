@@ -1,8 +1,8 @@
 -- Which cells are stored after writes.
-use Rattle.std.proofs.Common.{◌≡◌, ◌≢◌, refl, sym, ◌∙◌, ap, ap₂, arith, ℕ, ℤ, Bool, true, false, ◌&&◌, ◌||◌, true≢false, cond, eqb, ne_eqb, lt-ltb, List, [], ◌∷◌, ◌++◌, map, filter, ◌⊎◌, inl, inr, ⊎_elim, ◌<◌, ◌≤◌, Some}
+use Rattle.std.proofs.Common.{◌≡◌, ◌≢◌, refl, sym, ◌∙◌, ap, ap₂, arith, ℕ, ℤ, Bool, true, false, ◌&&◌, ◌||◌, true≢false, cond, eqb, ne_eqb, lt-ltb, List, [], ◌∷◌, ◌++◌, map, filter, ◌⊎◌, inl, inr, ◌<◌, ◌≤◌, Some}
 use Rattle.std.specs.Prelude.{nat_lt, pos, is_some, option_map, find}
 use Rattle.std.specs.Ordering.{int_eq}
-use Rattle.std.proofs.lemmas.Bool.{cases_lt, and_parts, and_right, or_cases}
+use Rattle.std.proofs.lemmas.Bool.{cases_lt, and_right}
 use Rattle.std.proofs.lemmas.Bool.Decides.{eqb_tells}
 use Rattle.std.proofs.lemmas.List.Folds.{list_any-append}
 use Rattle.cell_store.specs.declared.entry.Entry.{Entry}
@@ -64,13 +64,6 @@ written_apart c cell number es apart =
         either true true = refl
         either true false = refl
         either false b = refl
-
--- after a written 0 no cell is stored that wasn't
-pub zero_kept : (c cell : ℕ) (es : List Entry) → has c (with_write es cell (pos 0)) ≡ true → has c es ≡ true
-zero_kept c cell es is =
-    ⊎_elim (λ low. (and_parts (nat_lt c cell) (has c es) (sym (filtered (λ x. nat_lt x cell) c es) ∙ low)).1)
-    (λ high. (and_parts (nat_lt cell c) (has c es) (sym (filtered (λ x. nat_lt cell x) c es) ∙ high)).1)
-    (or_cases (has c (below es cell)) (has c (above es cell)) (sym (has-append c (below es cell) (above es cell)) ∙ is))
 
 -- so do many
 pub untouched : (c : ℕ) (ws : List (ℕ × ℤ)) (es : List Entry) → among c (map (λ write. write.0) ws) ≡ false → has c (after_writes es ws) ≡ has c es

@@ -1,5 +1,5 @@
 -- Faults that are handed on.
-use Rattle.std.proofs.Common.{◌≡◌, refl, ℕ, ◌⊎◌, inl, inr, Result, Ok, Err}
+use Rattle.std.proofs.Common.{◌≡◌, refl, ℕ, ◌⊎◌, inl, inr, Result, Err}
 use Rattle.feed_map.specs.declared.fault.FedFault.{FedFault}
 use Rattle.feed_map.specs.declared.fault.FedFault.TheVariants as feds
 use Rattle.cell_versions.specs.declared.fault.NextFault.{NextFault}

@@ -1,5 +1,5 @@
 -- What is fed rests on which cells are stored that feed others, and not on their numbers.
-use Rattle.std.proofs.Common.{◌≡◌, ◌↔◌, ◌∙◌, ℕ, zero, suc, List, Contains, ◌⊎◌, inl, inr, ⊎_elim, subst, sym}
+use Rattle.std.proofs.Common.{ℕ, zero, suc, List, Contains, ◌⊎◌, inl, inr, ⊎_elim, subst, sym}
 use Rattle.std.specs.Prelude.{IsSome}
 use Rattle.cell_store.specs.declared.entry.Entry.{Entry}
 use Rattle.cell_store.specs.Entries.{cells_of}

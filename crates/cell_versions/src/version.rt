@@ -37,7 +37,10 @@ impl std::marker::Model for Version {
     ghost coded = { Prim.hlevel (codes, formula.the_row.coded) };
 
     ghost view = { λ v. record {
-        number = v.number; model = arc_value v.accepted; stored = v.store; fed = v.feeding.fed
+      number = v.number;
+      model = arc_value v.accepted;
+      stored = v.store;
+      fed = v.feeding.fed;
     } };
 
     ghost invariant = { λ v. IsVersion (arc_value v.accepted) v.store v.feeding.fed

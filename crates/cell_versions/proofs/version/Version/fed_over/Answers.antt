@@ -1,4 +1,4 @@
-use Rattle.std.proofs.Common.{rules, ◌≡◌, subst, sym, map}
+use Rattle.std.proofs.Common.{rules, ◌≡◌, subst, map}
 use Rattle.std.specs.Prelude.{option_map}
 use Rattle.cell_store.specs.Entries.{after_writes}
 use Rattle.feed_map.specs.FedCells.{AreFedCells, HasManyFed, HaveLeaves}

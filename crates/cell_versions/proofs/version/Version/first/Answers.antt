@@ -11,8 +11,7 @@ pub invariant_of-result : goal.invariant_of-result
 invariant_of-result c =
     let space = (arc_value c.args.accepted).space in
     let feeding : IsFeeding (arc_value c.args.accepted) c.new-store.result c.in-Ok.feeding.fed c.in-Ok.feeding.totals =
-    subst (λ (m : BoundModel). IsFeeding m c.new-store.result c.in-Ok.feeding.fed c.in-Ok.feeding.totals) (c.sources.ensures.model ∙ c.deref-2.ensures) c.in-Ok.ensures.fed in
-    (
+    subst (λ (m : BoundModel). IsFeeding m c.new-store.result c.in-Ok.feeding.fed c.in-Ok.feeding.totals) (c.sources.ensures.model ∙ c.deref-2.ensures) c.in-Ok.ensures.fed in (
       record {
         leaves = rw c.new-store.ensures (All-nil (λ (entry : Entry). IsCell space entry.cell × (is_leaf_cell space entry.cell ≡ true)));
         fed = feeding.fed;

@@ -1,4 +1,4 @@
-use Rattle.std.proofs.Common.{rules, ◌≡◌, sym, ◌∙◌, subst, inl, inr, ⊎_elim}
+use Rattle.std.proofs.Common.{rules, ◌≡◌, sym, ◌∙◌, subst, ⊎_elim}
 use Rattle.std.specs.Arc.{arc_value}
 use Rattle.cell_store.specs.Entries.{after_writes}
 use Rattle.feed_map.specs.FedCells.{HasManyFed}
@@ -11,11 +11,13 @@ pub invariant_of-result : goal.invariant_of-result
 invariant_of-result c =
     let model : arc_value c.in_ok-accepted.accepted ≡ c.args.self.now.model = search rules in
     let stored : c.in_ok-store.store ≡ after_writes c.args.self.now.stored c.args.writes.now = search rules in
-    let before : AreLeafEntries c.args.self.now.model.space c.args.self.now.stored = rw (← c.self.view_is) c.self.invariant.0.leaves in
-    (record {
-      leaves = rw (model, stored) (leaves_after c.args.self.now.model.space c.args.writes.now c.args.self.now.stored before c.requires);
-      fed = rw model c.in_ok-feeding.ensures.fed.fed;
-    }, rw model c.in_ok-feeding.ensures.fed.opened)
+    let before : AreLeafEntries c.args.self.now.model.space c.args.self.now.stored = rw (← c.self.view_is) c.self.invariant.0.leaves in (
+      record {
+        leaves = rw (model, stored) (leaves_after c.args.self.now.model.space c.args.writes.now c.args.self.now.stored before c.requires);
+        fed = rw model c.in_ok-feeding.ensures.fed.fed;
+      },
+      rw model c.in_ok-feeding.ensures.fed.opened,
+    )
 
 pub returns-clause-past_fed : goal.returns-clause-past_fed
 returns-clause-past_fed c = λ few many.
