@@ -3,15 +3,14 @@ ghost use Rattle.cell_versions.specs.Inside.Changes.{IsAddedIf};
 
 use cell_store::{CellSet, Store};
 use cube_fixed::Money;
-use feed_map::is_any_source;
-use rule_model::Model;
+use feed_map::{SourceModel, is_any_source};
 use std::alloc::{AllocError, Global};
 
 /// The cells of these writes that are stored now and weren't before; None where one that was stored isn't any more, and
 /// is in the area of a feeder.
 pub(crate) fn added_by(
     alloc: Global,
-    model: &Model,
+    model: &SourceModel,
     before: &Store,
     after: &Store,
     writes: &[(u64, Money)],

@@ -1,7 +1,7 @@
 ghost use Rattle.std.specs.Prelude.{◌≡◌, suc, ◌⊎◌, [], Err, IfOk, IsOkUnless};
 ghost use Rattle.std.specs.Arc.{arc_value};
 ghost use Rattle.cell_store.specs.Entries.{after_writes};
-ghost use Rattle.feed_map.specs.FedCells.{AreFedCells, HasFewFed, HasManyFed, most_fed};
+ghost use Rattle.feed_map.specs.FedCells.{HasFewFed, HasManyFed, IsFeeding, most_fed};
 ghost use Rattle.accepted.specs.Checks.{IsAccepted};
 ghost use Rattle.cell_versions.specs.LimitAnswers.{AnswersLimits};
 ghost use Rattle.cell_versions.specs.Versions.{AreLeafWrites, IsVersion, number_after};
@@ -11,7 +11,7 @@ use crate::fault::NextFault;
 use accepted::Accepted;
 use cell_store::Store;
 use cube_fixed::Money;
-use feed_map::{Fed, FedFault};
+use feed_map::{Fed, FedFault, Feeding};
 use rule_model::Model;
 use std::alloc::{AllocError, Global};
 use std::sync::Arc;
@@ -22,11 +22,12 @@ pub struct Version {
     accepted: Arc<Accepted, Global>,
     number: u64,
     store: Store,
-    fed: Fed,
+    feeding: Feeding,
 }
 
 impl std::marker::Model for Version {
     ghost use Rattle.std.specs.Arc.{arc_value};
+    ghost use Rattle.feed_map.specs.FedCells.{HaveLeaves};
     ghost use Rattle.cell_versions.specs.Versions.{NumberedVersion, IsVersion};
     ghost use Rattle.rule_laws.specs.contracts.formula.Formula as formula;
     ghost use Rattle.std.specs.Coded.{codes};
@@ -35,9 +36,15 @@ impl std::marker::Model for Version {
 
     ghost coded = { Prim.hlevel (codes, formula.the_row.coded) };
 
-    ghost view = { λ v. record { number = v.number; model = arc_value v.accepted; stored = v.store; fed = v.fed } };
+    ghost view = { λ v. record {
+      number = v.number;
+      model = arc_value v.accepted;
+      stored = v.store;
+      fed = v.feeding.fed;
+    } };
 
-    ghost invariant = { λ v. IsVersion (arc_value v.accepted) v.store v.fed };
+    ghost invariant = { λ v. IsVersion (arc_value v.accepted) v.store v.feeding.fed
+        × HaveLeaves (arc_value v.accepted) v.feeding.totals v.feeding.fed };
 }
 
 impl Version {
@@ -48,14 +55,14 @@ impl Version {
         ensures stored { IfOk result (λ version. version.stored ≡ []) }
     {
         let store = Store::new(alloc);
-        let Ok(fed) = Fed::of(alloc, accepted.model(), &store) else {
+        let Ok(feeding) = accepted.feeding().over(alloc, accepted.sources(), &store) else {
             return Err(AllocError);
         };
         Ok(Version {
             accepted,
             number: 0,
             store,
-            fed,
+            feeding,
         })
     }
 
@@ -73,33 +80,33 @@ impl Version {
     {
         let accepted = Arc::try_clone(&self.accepted)?;
         let store = self.store.apply(alloc, writes)?;
-        let fed = self.fed_over(alloc, &store, writes)?;
+        let feeding = self.fed_over(alloc, &store, writes)?;
         Ok(Version {
             accepted,
             number: self.number.saturating_add(1),
             store,
-            fed,
+            feeding,
         })
     }
 
-    // The cells that are fed after these writes have made this store: where they took no cell out that is in the area
-    // of a feeder, no more than what was added is followed.
+    // What is fed after these writes have made this store: where they took no cell out that is in the area of a feeder,
+    // no more than what was added is followed.
     fn fed_over(
         &self,
         alloc: Global,
         store: &Store,
         writes: &[(u64, Money)],
-    ) -> Result<Fed, FedFault>
+    ) -> Result<Feeding, FedFault>
         requires { store.now ≡ after_writes self.now.stored writes.now }
-        ensures fed { IfOk result (λ fed. AreFedCells self.now.model store.now fed) }
+        ensures fed { IfOk result (λ feeding. IsFeeding self.now.model store.now feeding.fed feeding.totals) }
         ensures within { HasFewFed self.now.model store.now → IsOkUnless result FedFault.Memory }
         ensures past { HasManyFed self.now.model store.now →
             (result ≡ Err (FedFault.FedLimit (suc most_fed))) ⊎ (result ≡ Err FedFault.Memory) }
     {
-        let model = self.accepted.model();
+        let model = self.accepted.sources();
         match added_by(alloc, model, &self.store, store, writes)? {
-            Some(added) => self.fed.grown(alloc, model, store, &added),
-            None => Fed::of(alloc, model, store),
+            Some(added) => self.feeding.grown(alloc, model, store, &added),
+            None => self.accepted.feeding().over(alloc, model, store),
         }
     }
 
@@ -138,6 +145,6 @@ impl Version {
         ensures fed { result.now ≡ self.now.fed }
         ensures valid { IsVersion self.now.model self.now.stored self.now.fed }
     {
-        &self.fed
+        &self.feeding.fed
     }
 }

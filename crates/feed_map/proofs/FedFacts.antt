@@ -3,7 +3,7 @@ use Rattle.std.proofs.Common.{◌≡◌, refl, sym, ap, ◌∙◌, subst, ℕ, z
 use Rattle.std.specs.Prelude.{IsSome, IsErrAnd, IsOkUnless, Result, ◌==◌}
 use Rattle.std.specs.List.{All, Contains, list_any}
 use Rattle.std.specs.List.Sorted.{IsStrictlyIncreasing}
-use Rattle.std.proofs.lemmas.Bool.{eqb-true}
+use Rattle.std.proofs.lemmas.Bool.{eqb-true, eq-eqb, or_left, or_right}
 use Rattle.std.proofs.lemmas.List.Elements.{All-contains, All-contains_itself, All-weaker, Contains-append_left, Contains-append_right, Contains-append_cases}
 use Rattle.std.proofs.lemmas.Option.{slice_get-get_or}
 use Rattle.std.proofs.lemmas.Result.{err_from_is_err_and}
@@ -79,6 +79,29 @@ listed-has (x ∷ added) c on = by (eqb x c) refl (λ more. listed-has added c m
     by true same later = subst (Contains (x ∷ added)) (eqb-true x c same) (at-front x added)
     by false other later = behind x added c (later (rw other at on))
 
+listed-is : (added : List ℕ) (c : ℕ) → Contains added c → list_any (λ cell. cell == c) added ≡ true
+listed-is [] c has = absurd (none-there c has)
+listed-is (x ∷ added) c has =
+    elim (front-or-behind x added c has) [
+      | inl is ↦ or_left (eqb x c) (list_any (λ cell. cell == c) added) (eq-eqb x c is)
+      | inr more ↦ or_right (eqb x c) (list_any (λ cell. cell == c) added) (listed-is added c more)
+    ]
+
+-- where all cells are taken out nothing is left
+all-out : (entries : List Entry) (cells : List ℕ) → ((c : ℕ) → Contains (cells_of entries) c → list_any (λ cell. cell == c) cells ≡ true) → without entries cells ≡ []
+all-out [] cells all = refl
+all-out (e ∷ entries) cells all = rw (all e.cell (at-front e.cell (cells_of entries))) (all-out entries cells (λ c has. all c (behind e.cell (cells_of entries) c has)))
+
+pub nothing-left : (entries : List Entry) → without entries (cells_of entries) ≡ []
+nothing-left entries = all-out entries (cells_of entries) (listed-is (cells_of entries))
+
+-- what is fed over nothing, and all that is stored
+pub fed-of-none : (m : BoundModel) (entries : List Entry) (fed : List ℕ) → AreFedCells m [] fed → AreFedCells m (without entries (cells_of entries)) fed
+fed-of-none m entries fed are = subst (λ (left : List Entry). AreFedCells m left fed) (sym (nothing-left entries)) are
+
+pub all-stored : (entries : List Entry) → All (Contains (cells_of entries)) (cells_of entries)
+all-stored entries = All-contains_itself (cells_of entries)
+
 -- ---- few or many
 
 pub few-or-many : (m : BoundModel) (entries : List Entry) → HasFewFed m entries → HasManyFed m entries → ⊥
@@ -117,12 +140,7 @@ module _ (m : BoundModel) (entries : List Entry) where
   from-stored = from-fed (cells_of entries) (entry-stored entries)
 
   -- what a `?` hands on
-  pub verdict-of : (r : Result (List ℕ) FedFault) (fault : FedFault) → IsErrAnd r (λ e. e ≡ fault) → IsVerdict m entries (Err fault) → IsVerdict m entries r
-  verdict-of r fault gives holds =
-      let p = err_from_is_err_and r gives in
-      rw (p.1, p.2) holds
-
-  pub within-of : (r : Result (List ℕ) FedFault) (fault : FedFault) → IsErrAnd r (λ e. e ≡ fault) → IsVerdict m entries (Err fault) → HasFewFed m entries → IsOkUnless r Memory
+  pub within-of : {T : Type 0} (r : Result T FedFault) (fault : FedFault) → IsErrAnd r (λ e. e ≡ fault) → IsVerdict m entries (Err fault) → HasFewFed m entries → IsOkUnless r Memory
   within-of r fault gives holds few =
       let p = err_from_is_err_and r gives in
       rw (p.1, p.2) (by fault holds)

@@ -11,3 +11,5 @@ mod SourceFacts
 mod FollowSteps
 mod Fresh
 mod StandFacts
+mod OpenFacts
+mod AboveFacts

@@ -1,12 +1,13 @@
 -- Whether an area stands for a cell, dimension by dimension.
-use Rattle.std.proofs.Common.{◌≡◌, refl, sym, ap, ◌∙◌, subst, ℕ, zero, suc, ◌+◌, ◌<◌, ◌≤◌, inl, inr, true, ◌&&◌, ℤ, List, [], ◌∷◌, length, drop, get_or, Option, Some, None, arith}
+use Rattle.std.proofs.Common.{◌≡◌, refl, sym, ap, ◌∙◌, subst, ℕ, zero, suc, ◌+◌, ◌<◌, ◌≤◌, inl, inr, true, ◌&&◌, ℤ, List, [], ◌∷◌, ◌++◌, length, take, drop, get_or, Option, Some, None, arith}
 use Rattle.std.specs.Prelude.{slice_get}
 use Rattle.std.specs.List.{All, AllZip}
-use Rattle.std.proofs.lemmas.List.{drop_more, drop_all, get_or-map, length-map, get_or_default as get_or-default}
+use Rattle.std.proofs.lemmas.List.{take_more, drop_more, drop_all, get_or-map, length-map, get_or_default as get_or-default}
 use Rattle.std.proofs.lemmas.List.Elements.{All-tail}
 use Rattle.std.proofs.lemmas.Option.{slice_get_within, slice_get_cases, get_or_from_slice_get}
 use Rattle.dim_core.specs.Outline.{Outline}
 use Rattle.dim_weights.specs.Table.{IsWeightsOf}
+use Rattle.feed_map.specs.Inside.Above.{IsAboveOf}
 use Rattle.cube_space.specs.Radix.{are_digits}
 use Rattle.cube_space.specs.Layout.{axes_of, sizes_of}
 use Rattle.rule_model.specs.Areas.{in_source_set, in_source_sets}
@@ -29,14 +30,38 @@ zip-at R (x ∷ xs) [] k d e zip low = absurd zip
 zip-at R (x ∷ xs) (y ∷ ys) zero d e zip low = zip.0
 zip-at R (x ∷ xs) (y ∷ ys) (suc k) d e zip low = zip-at R xs ys k d e zip.1 (omega (arith, low))
 
+-- what goes with a dimension
+goes-with : {X : Type 0} (R : Outline → X → Type 0) (D : List Outline) (W : List X) (k : ℕ) (d : Outline) (w : X) → AllZip R D W → slice_get D k ≡ Some d
+    → (k < length W) × (w ≡ get_or W k w → R d w)
+goes-with R D W k d w zip found =
+    let low = slice_get_within D k d found in
+    let here : R (get_or D k d) (get_or W k w) = zip-at R D W k d w zip low in
+    let own : R d (get_or W k w) = subst (λ (o : Outline). R o (get_or W k w)) (get_or_from_slice_get D k d d found) here in
+    (omega (arith, low, zip-length R D W zip), λ is. subst (R d) (sym is) own)
+
 -- its coefficients
 pub weights-there : (D : List Outline) (W : List (List (List (ℕ × ℤ)))) (k : ℕ) (d : Outline) (w : List (List (ℕ × ℤ))) → AllZip IsWeightsOf D W → slice_get D k ≡ Some d
     → (k < length W) × (w ≡ get_or W k w → IsWeightsOf d w)
-weights-there D W k d w zip found =
+weights-there = goes-with IsWeightsOf
+
+-- what its leaves count in
+pub above-there : (D : List Outline) (A : List (List (List ℕ))) (k : ℕ) (d : Outline) (a : List (List ℕ)) → AllZip IsAboveOf D A → slice_get D k ≡ Some d
+    → (k < length A) × (a ≡ get_or A k a → IsAboveOf d a)
+above-there = goes-with IsAboveOf
+
+-- one dimension more
+pub above-one : (D : List Outline) (A after : List (List (List ℕ))) (k : ℕ) (d : Outline) (a : List (List ℕ)) → AllZip IsAboveOf (take k D) A → slice_get D k ≡ Some d → IsAboveOf d a → after ≡ A ++ a ∷ []
+    → AllZip IsAboveOf (take (k + 1) D) after
+above-one D A after k d a zip found own is =
     let low = slice_get_within D k d found in
-    let here : IsWeightsOf (get_or D k d) (get_or W k w) = zip-at IsWeightsOf D W k d w zip low in
-    let own : IsWeightsOf d (get_or W k w) = subst (λ (o : Outline). IsWeightsOf o (get_or W k w)) (get_or_from_slice_get D k d d found) here in
-    (omega (arith, low, zip-length IsWeightsOf D W zip), λ is. subst (IsWeightsOf d) (sym is) own)
+    let more : take (k + 1) D ≡ take k D ++ d ∷ [] = take_more D k d low ∙ ap (λ (o : Outline). take k D ++ o ∷ []) (get_or_from_slice_get D k d d found) in
+    subst (λ (ds : List Outline). AllZip IsAboveOf ds after) (sym more) (subst (λ (all : List (List (List ℕ))). AllZip IsAboveOf (take k D ++ d ∷ []) all) (sym is) (zip-last (take k D) A zip))
+  where
+    zip-last : (xs : List Outline) (ys : List (List (List ℕ))) → AllZip IsAboveOf xs ys → AllZip IsAboveOf (xs ++ d ∷ []) (ys ++ a ∷ [])
+    zip-last [] [] zip = (own, tt)
+    zip-last [] (y ∷ ys) zip = absurd zip
+    zip-last (x ∷ xs) [] zip = absurd zip
+    zip-last (x ∷ xs) (y ∷ ys) zip = (zip.0, zip-last xs ys zip.1)
 
 pub axis-at : (D : List Outline) (dims : List ℕ) (place : ℕ) (d : Outline) → All (λ dim. dim < length D) dims → place < length dims → slice_get D (get_or dims place 0) ≡ Some d
     → slice_get (axes_of D dims) place ≡ Some d

@@ -3,7 +3,7 @@ use Rattle.std.specs.Prelude.{ℕ, ◌==◌, ◌<◌, ◌≤◌, ◌↔◌, not,
 use Rattle.std.specs.List.{list_any}
 use Rattle.std.specs.List.Sorted.{IsStrictlyIncreasing}
 use Rattle.cell_store.specs.declared.entry.Entry.{Entry}
-use Rattle.rule_laws.specs.Feeding.{IsFed}
+use Rattle.rule_laws.specs.Feeding.{IsFed, leaves_of}
 use Rattle.rule_model.specs.BoundModel.{BoundModel}
 use Rattle.rule_model.specs.System.{system_of}
 use Rattle.stored_laws.specs.Stored.{stored_in}
@@ -13,6 +13,16 @@ use Rattle.stored_laws.specs.Stored.{stored_in}
 pub record AreFedCells (model : BoundModel) (entries : List Entry) (cells : List ℕ) : Type 0 where
   pub rising : IsStrictlyIncreasing cells
   pub fed : (cell : ℕ) → Contains cells cell ↔ IsFed (system_of model) (stored_in entries) cell
+
+-- each leaf cell of these totals is among the cells
+abbrev pub HaveLeaves : BoundModel → List ℕ → List ℕ → Type 0
+HaveLeaves model totals cells =
+    (total cell : ℕ) → Contains totals total → Contains (leaves_of (system_of model) total) cell → Contains cells cell
+
+-- what is fed over what is stored: these cells, and some totals whose leaf cells are all among them
+pub record IsFeeding (model : BoundModel) (entries : List Entry) (cells totals : List ℕ) : Type 0 where
+  pub fed : AreFedCells model entries cells
+  pub opened : HaveLeaves model totals cells
 
 -- the most fed cells of a version
 abbrev pub most_fed : ℕ

@@ -1,4 +1,5 @@
 -- What the code keeps. No public clause cites it.
+pub mod Above
 pub mod Gains
 pub mod Leaves
 pub mod Follows

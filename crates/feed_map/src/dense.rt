@@ -7,7 +7,7 @@ ghost use Rattle.feed_map.specs.Inside.Follows.{IsDenseOf};
 
 use crate::fault::FedFault;
 use crate::growth::Growth;
-use crate::leaves::add_product;
+use crate::leaves::{Below, add_product};
 use cube_space::MAX_DIMENSIONS;
 use rule_model::Model;
 
@@ -41,7 +41,12 @@ fn add_cube(model: &Model, cube: u32, growth: &mut Growth) -> Result<(), FedFaul
     ensures stops { IfErr result (StopsBy (IsLeafCellOf model.now.space cube) growth.old growth.new) }
 {
     let mut at = [0u32; MAX_DIMENSIONS];
-    add_product(model, cube, &[], 0, &mut at, growth)
+    let below = Below {
+        model,
+        cube,
+        roots: &[],
+    };
+    add_product(below, 0, &mut at, growth)
 }
 
 // Whether a cube has statements and doesn't say SKIPCHECK.

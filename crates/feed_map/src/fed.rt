@@ -1,15 +1,16 @@
-ghost use Rattle.std.specs.Prelude.{◌≡◌, ℕ, suc, ◌≤◌, ◌⊎◌, Err, IfOk, IfErr, IsOkUnless, length, All, Contains};
+ghost use Rattle.std.specs.Prelude.{◌≡◌, ℕ, suc, ◌≤◌, ◌⊎◌, [], Err, IfOk, IfErr, IsOkUnless, length, All, Contains};
+ghost use Rattle.cell_store.specs.Cells.{IsUnion};
 ghost use Rattle.cell_store.specs.Entries.{cells_of};
-ghost use Rattle.feed_map.specs.FedCells.{AreFedCells, HasFewFed, HasManyFed, most_fed, without};
-ghost use Rattle.feed_map.specs.Inside.Follows.{IsVerdict};
+ghost use Rattle.feed_map.specs.FedCells.{HasFewFed, HasManyFed, IsFeeding, most_fed, without};
+ghost use Rattle.feed_map.specs.Inside.Follows.{IsReach};
 
 use crate::dense::add_dense;
 use crate::fault::FedFault;
 use crate::follow::{follow_cells, follow_opened, follow_stored};
-use crate::growth::Growth;
+use crate::reached::Reached;
+use crate::source_model::SourceModel;
 use cell_store::{CellSet, PageSet, Store};
-use rule_model::Model;
-use std::alloc::Global;
+use std::alloc::{AllocError, Global};
 
 /// The fed cells of a version: the leaf cells that may have a value other than 0 though nothing is stored in them.
 ///
@@ -32,47 +33,6 @@ impl std::marker::Model for Fed {
 }
 
 impl Fed {
-    /// The fed cells over what is stored. There may be 4,000,000; where there are more, `FedLimit(4_000_001)` says so.
-    ///
-    /// It follows each stored cell and each fed one once.
-    pub fn of(alloc: Global, model: &Model, store: &Store) -> Result<Fed, FedFault>
-        ensures fed { IfOk result (λ fed. AreFedCells model.now store.now fed) }
-        ensures within { HasFewFed model.now store.now → IsOkUnless result FedFault.Memory }
-
-        // past the limit that is the answer, and no other fault but out of memory
-        ensures past { HasManyFed model.now store.now →
-            (result ≡ Err (FedFault.FedLimit (suc most_fed))) ⊎ (result ≡ Err FedFault.Memory) }
-        ensures fault { IfErr result (λ fault. (fault ≡ FedFault.Memory)
-            ⊎ ((fault ≡ FedFault.FedLimit (suc most_fed)) × HasManyFed model.now store.now)) }
-    {
-        Ok(Fed {
-            cells: all_fed(alloc, model, store)?,
-        })
-    }
-
-    /// The fed cells over a store that has these cells more than one of which these are the fed cells. It answers what
-    /// [`Fed::of`] answers of the whole store, and follows just the added cells and those that are newly fed.
-    pub fn grown(
-        &self,
-        alloc: Global,
-        model: &Model,
-        store: &Store,
-        added: &[u64],
-    ) -> Result<Fed, FedFault>
-        requires stored { All (Contains (cells_of store.now)) added.now }
-        requires before { AreFedCells model.now (without store.now added.now) self.now }
-        ensures fed { IfOk result (λ fed. AreFedCells model.now store.now fed) }
-        ensures within { HasFewFed model.now store.now → IsOkUnless result FedFault.Memory }
-        ensures past { HasManyFed model.now store.now →
-            (result ≡ Err (FedFault.FedLimit (suc most_fed))) ⊎ (result ≡ Err FedFault.Memory) }
-        ensures fault { IfErr result (λ fault. (fault ≡ FedFault.Memory)
-            ⊎ ((fault ≡ FedFault.FedLimit (suc most_fed)) × HasManyFed model.now store.now)) }
-    {
-        Ok(Fed {
-            cells: more_fed(alloc, model, store, &self.cells, added)?,
-        })
-    }
-
     /// How many cells are fed.
     pub fn count(&self) -> u64
         ensures count { result ≡ length self.now }
@@ -82,34 +42,150 @@ impl Fed {
     }
 }
 
-// The fed cells over what is stored.
-fn all_fed(alloc: Global, model: &Model, store: &Store) -> Result<PageSet, FedFault>
-    ensures { IsVerdict model.now store.now result }
-{
-    let mut found = Growth::from(alloc, PageSet::new(alloc));
-    add_dense(model, &mut found)?;
-    follow_stored(model, store, &mut found)?;
-    follow_opened(model, &mut found)?;
-    Ok(found.known)
+/// What is fed over what is stored: the fed cells, and totals that feeders name, whose leaf cells are all among them.
+///
+/// Such a total is opened once, as long as it is kept here.
+#[derive(Drop)]
+pub struct Feeding {
+    pub fed: Fed,
+    pub totals: PageSet,
 }
 
-// The fed cells over what is stored, by those without these stored cells.
-fn more_fed(
+impl Feeding {
+    /// What is fed over what is stored. There may be 4,000,000 fed cells; where there are more, `FedLimit(4_000_001)`
+    /// says so.
+    ///
+    /// It follows each stored cell and each fed one once.
+    pub fn of(alloc: Global, model: &SourceModel, store: &Store) -> Result<Feeding, FedFault>
+        ensures fed { IfOk result (λ feeding. IsFeeding model.now store.now feeding.fed feeding.totals) }
+        ensures within { HasFewFed model.now store.now → IsOkUnless result FedFault.Memory }
+
+        // past the limit that is the answer, and no other fault but out of memory
+        ensures past { HasManyFed model.now store.now →
+            (result ≡ Err (FedFault.FedLimit (suc most_fed))) ⊎ (result ≡ Err FedFault.Memory) }
+        ensures fault { IfErr result (λ fault. (fault ≡ FedFault.Memory)
+            ⊎ ((fault ≡ FedFault.FedLimit (suc most_fed)) × HasManyFed model.now store.now)) }
+    {
+        let reached = all_fed(alloc, model, store)?;
+        Ok(Feeding::from(reached))
+    }
+
+    /// What is fed over what is stored, where this is what is fed over nothing. It answers what [`Feeding::of`]
+    /// answers, and lists no dense cube.
+    pub fn over(
+        &self,
+        alloc: Global,
+        model: &SourceModel,
+        store: &Store,
+    ) -> Result<Feeding, FedFault>
+        requires { IsFeeding model.now [] self.now.fed self.now.totals }
+        ensures fed { IfOk result (λ feeding. IsFeeding model.now store.now feeding.fed feeding.totals) }
+        ensures within { HasFewFed model.now store.now → IsOkUnless result FedFault.Memory }
+        ensures past { HasManyFed model.now store.now →
+            (result ≡ Err (FedFault.FedLimit (suc most_fed))) ⊎ (result ≡ Err FedFault.Memory) }
+        ensures fault { IfErr result (λ fault. (fault ≡ FedFault.Memory)
+            ⊎ ((fault ≡ FedFault.FedLimit (suc most_fed)) × HasManyFed model.now store.now)) }
+    {
+        let reached = fed_over(alloc, model, store, &self.fed.cells, &self.totals)?;
+        Ok(Feeding::from(reached))
+    }
+
+    /// What is fed over a store that has these cells more than one over which this is fed. It answers what
+    /// [`Feeding::of`] answers of the whole store, and follows just the added cells and those that are newly fed.
+    pub fn grown(
+        &self,
+        alloc: Global,
+        model: &SourceModel,
+        store: &Store,
+        added: &[u64],
+    ) -> Result<Feeding, FedFault>
+        requires stored { All (Contains (cells_of store.now)) added.now }
+        requires before { IsFeeding model.now (without store.now added.now) self.now.fed self.now.totals }
+        ensures fed { IfOk result (λ feeding. IsFeeding model.now store.now feeding.fed feeding.totals) }
+        ensures within { HasFewFed model.now store.now → IsOkUnless result FedFault.Memory }
+        ensures past { HasManyFed model.now store.now →
+            (result ≡ Err (FedFault.FedLimit (suc most_fed))) ⊎ (result ≡ Err FedFault.Memory) }
+        ensures fault { IfErr result (λ fault. (fault ≡ FedFault.Memory)
+            ⊎ ((fault ≡ FedFault.FedLimit (suc most_fed)) × HasManyFed model.now store.now)) }
+    {
+        let reached = more_fed(alloc, model, store, &self.fed.cells, &self.totals, added)?;
+        Ok(Feeding::from(reached))
+    }
+
+    fn from(reached: Reached) -> Feeding
+        requires { length reached.growth.known ≤ most_fed }
+        ensures fed { result.fed ≡ reached.growth.known }
+        ensures totals { result.totals ≡ reached.totals }
+    {
+        let (growth, totals) = (reached.growth, reached.totals);
+        Feeding {
+            fed: Fed {
+                cells: growth.known,
+            },
+            totals,
+        }
+    }
+}
+
+// What is fed over what is stored.
+fn all_fed(alloc: Global, model: &SourceModel, store: &Store) -> Result<Reached, FedFault>
+    ensures { IsReach model.now store.now result }
+{
+    let mut found = Reached::from(alloc, PageSet::new(alloc), PageSet::new(alloc));
+    add_dense(model.model(), &mut found.growth)?;
+    follow_stored(model, store, &mut found)?;
+    follow_opened(model, &mut found)?;
+    Ok(found)
+}
+
+// What is fed over what is stored, by what is over nothing.
+fn fed_over(
     alloc: Global,
-    model: &Model,
+    model: &SourceModel,
     store: &Store,
     fed: &PageSet,
-    added: &[u64],
-) -> Result<PageSet, FedFault>
-    requires stored { All (Contains (cells_of store.now)) added.now }
-    requires before { AreFedCells model.now (without store.now added.now) fed.now }
+    totals: &PageSet,
+) -> Result<Reached, FedFault>
+    requires before { IsFeeding model.now [] fed.now totals.now }
     requires few { length fed.now ≤ most_fed }
-    ensures { IsVerdict model.now store.now result }
+    ensures { IsReach model.now store.now result }
 {
-    let mut growth = Growth::from(alloc, fed.with(alloc, &[])?);
-    follow_cells(model, added, &mut growth)?;
-    follow_opened(model, &mut growth)?;
-    Ok(growth.known)
+    let mut reached = begun(alloc, fed, totals)?;
+    follow_stored(model, store, &mut reached)?;
+    follow_opened(model, &mut reached)?;
+    Ok(reached)
+}
+
+// What is fed over what is stored, by what is without these stored cells.
+fn more_fed(
+    alloc: Global,
+    model: &SourceModel,
+    store: &Store,
+    fed: &PageSet,
+    totals: &PageSet,
+    added: &[u64],
+) -> Result<Reached, FedFault>
+    requires stored { All (Contains (cells_of store.now)) added.now }
+    requires before { IsFeeding model.now (without store.now added.now) fed.now totals.now }
+    requires few { length fed.now ≤ most_fed }
+    ensures { IsReach model.now store.now result }
+{
+    let mut reached = begun(alloc, fed, totals)?;
+    follow_cells(model, added, &mut reached)?;
+    follow_opened(model, &mut reached)?;
+    Ok(reached)
+}
+
+// These cells are known, and these totals opened.
+fn begun(alloc: Global, fed: &PageSet, totals: &PageSet) -> Result<Reached, AllocError>
+    ensures known { IfOk result (λ reached. IsUnion fed.now [] reached.growth.known) }
+    ensures opened { IfOk result (λ reached. reached.growth.opened.items ≡ []) }
+    ensures found { IfOk result (λ reached. reached.growth.found.items ≡ []) }
+    ensures totals { IfOk result (λ reached. IsUnion totals.now [] reached.totals) }
+{
+    let known = fed.with(alloc, &[])?;
+    let opened = totals.with(alloc, &[])?;
+    Ok(Reached::from(alloc, known, opened))
 }
 
 impl CellSet for Fed {

@@ -6,19 +6,20 @@ ghost use Rattle.rule_model.specs.Conditions.{IsFeeder};
 ghost use Rattle.rule_model.specs.System.{system_of, feed_of};
 ghost use Rattle.feed_map.specs.FedCells.{most_fed};
 ghost use Rattle.feed_map.specs.Inside.Gains.{Gains, StopsBy};
-ghost use Rattle.feed_map.specs.Inside.Follows.{FeedsFrom, EndsChain, AreOpen, StandsFor};
+ghost use Rattle.feed_map.specs.Inside.Follows.{FeedsFrom, EndsChain, AreOpen, AreOpened, StandsFor};
 
 use crate::fault::FedFault;
-use crate::growth::Growth;
 use crate::leaves::add_leaves_of;
+use crate::reached::Reached;
 use crate::source::is_source;
+use crate::source_model::SourceModel;
 use cell_store::Store;
 use cube_space::{MAX_DIMENSIONS, Space};
 use rule_laws::Reference;
-use rule_model::{Feeder, Model, place_of, target};
+use rule_model::{Feeder, Model, target};
 
 /// Whether the model has feeders.
-pub fn has_feeders(model: &Model) -> bool
+pub fn has_feeders(model: &SourceModel) -> bool
     ensures { result ≡ false → (x c : ℕ) → Feeds (system_of model.now) x c → ⊥ }
 {
     'each: for cube in 0..model.space().cubes() {
@@ -30,9 +31,17 @@ pub fn has_feeders(model: &Model) -> bool
 }
 
 /// Finds what the stored cells feed.
-pub fn follow_stored(model: &Model, store: &Store, growth: &mut Growth) -> Result<(), FedFault>
-    ensures gains { OnOk result (Gains (FeedsFrom model.now (cells_of store.now)) growth.old growth.new) }
-    ensures stops { IfErr result (StopsBy (FeedsFrom model.now (cells_of store.now)) growth.old growth.new) }
+pub fn follow_stored(
+    model: &SourceModel,
+    store: &Store,
+    reached: &mut Reached,
+) -> Result<(), FedFault>
+    requires totals { AreOpened model.now reached.old.totals reached.old.growth }
+    ensures gains { OnOk result (Gains (FeedsFrom model.now (cells_of store.now))
+        reached.old.growth reached.new.growth) }
+    ensures stops { IfErr result (StopsBy (FeedsFrom model.now (cells_of store.now))
+        reached.old.growth reached.new.growth) }
+    ensures totals { OnOk result (AreOpened model.now reached.new.totals reached.new.growth) }
 {
     if !has_feeders(model) {
         return Ok(());
@@ -43,58 +52,69 @@ pub fn follow_stored(model: &Model, store: &Store, growth: &mut Growth) -> Resul
         if entry.cell >= size {
             return Ok(());
         }
-        follow(model, entry.cell, growth)?;
+        follow(model, entry.cell, reached)?;
         from = entry.cell + 1;
     }
     Ok(())
 }
 
 /// Finds what these cells feed.
-pub fn follow_cells(model: &Model, cells: &[u64], growth: &mut Growth) -> Result<(), FedFault>
-    ensures gains { OnOk result (Gains (FeedsFrom model.now cells.now) growth.old growth.new) }
-    ensures stops { IfErr result (StopsBy (FeedsFrom model.now cells.now) growth.old growth.new) }
+pub fn follow_cells(
+    model: &SourceModel,
+    cells: &[u64],
+    reached: &mut Reached,
+) -> Result<(), FedFault>
+    requires totals { AreOpened model.now reached.old.totals reached.old.growth }
+    ensures gains { OnOk result (Gains (FeedsFrom model.now cells.now) reached.old.growth reached.new.growth) }
+    ensures stops { IfErr result (StopsBy (FeedsFrom model.now cells.now) reached.old.growth reached.new.growth) }
+    ensures totals { OnOk result (AreOpened model.now reached.new.totals reached.new.growth) }
 {
     if !has_feeders(model) {
         return Ok(());
     }
     'each: for place in 0..cells.len() {
-        follow(model, cells[place], growth)?;
+        follow(model, cells[place], reached)?;
     }
     Ok(())
 }
 
 /// Finds all that chains of feeds lead to from what is known or found.
-pub fn follow_opened(model: &Model, growth: &mut Growth) -> Result<(), FedFault>
-    requires open { AreOpen model.now growth.old }
-    requires few { length growth.old.known ≤ most_fed }
-    ensures gains { OnOk result (Gains (EndsChain model.now growth.old) growth.old growth.new) }
-    ensures stops { IfErr result (StopsBy (EndsChain model.now growth.old) growth.old growth.new) }
-    ensures none { OnOk result (growth.new.found.items ≡ []) }
+pub fn follow_opened(model: &SourceModel, reached: &mut Reached) -> Result<(), FedFault>
+    requires open { AreOpen model.now reached.old.growth }
+    requires few { length reached.old.growth.known ≤ most_fed }
+    requires totals { AreOpened model.now reached.old.totals reached.old.growth }
+    ensures gains { OnOk result (Gains (EndsChain model.now reached.old.growth) reached.old.growth reached.new.growth) }
+    ensures stops { IfErr result (StopsBy (EndsChain model.now reached.old.growth)
+        reached.old.growth reached.new.growth) }
+    ensures none { OnOk result (reached.new.growth.found.items ≡ []) }
+    ensures totals { OnOk result (AreOpened model.now reached.new.totals reached.new.growth) }
 {
     if !has_feeders(model) {
-        return growth.settle();
+        return reached.growth.settle();
     }
     let mut place = 0;
-    'each: while let Some(cell) = growth.open_at(place)? {
-        follow(model, cell, growth)?;
+    'each: while let Some(cell) = reached.growth.open_at(place)? {
+        follow(model, cell, reached)?;
         place += 1;
     }
     Ok(())
 }
 
 // Finds what a cell feeds. A number that is no cell's feeds none.
-fn follow(model: &Model, cell: u64, growth: &mut Growth) -> Result<(), FedFault>
-    ensures gains { OnOk result (Gains (Feeds (system_of model.now) cell) growth.old growth.new) }
-    ensures stops { IfErr result (StopsBy (Feeds (system_of model.now) cell) growth.old growth.new) }
+fn follow(model: &SourceModel, cell: u64, reached: &mut Reached) -> Result<(), FedFault>
+    requires totals { AreOpened model.now reached.old.totals reached.old.growth }
+    ensures gains { OnOk result (Gains (Feeds (system_of model.now) cell) reached.old.growth reached.new.growth) }
+    ensures stops { IfErr result (StopsBy (Feeds (system_of model.now) cell) reached.old.growth reached.new.growth) }
+    ensures totals { OnOk result (AreOpened model.now reached.new.totals reached.new.growth) }
 {
     if !is_leaf_cell(model.space(), cell) {
         return Ok(());
     }
     let mut at = [0u32; MAX_DIMENSIONS];
-    let (cube, len) = place_of(model, cell, &mut at);
+    let (cube, len) = model.place_of(cell, &mut at);
     let feeders = model.rules(cube).feeders.as_slice();
     'each: for n in 0..feeders.len() {
-        follow_by(model, &feeders[n], cube, &at[..len], cell, growth)?;
+        follow_by(model, &feeders[n], cube, &at[..len], cell, reached)?;
     }
     Ok(())
 }
@@ -110,27 +130,29 @@ pub fn is_leaf_cell(space: &Space, cell: u64) -> bool
 
 // Finds what a leaf cell of these elements feeds by one feeder of its cube.
 fn follow_by(
-    model: &Model,
+    model: &SourceModel,
     feeder: &Feeder,
     cube: u32,
     elements: &[u32],
     cell: u64,
-    growth: &mut Growth,
+    reached: &mut Reached,
 ) -> Result<(), FedFault>
     requires cell { IsCell model.now.space cell }
     requires leaf { is_leaf_cell model.now.space cell ≡ true }
     requires cube { cube_of model.now.space cell ≡ cube }
     requires elements { elements_of model.now.space cell ≡ elements.now }
     requires feeder { IsFeeder model.now.space cube feeder.now }
+    requires totals { AreOpened model.now reached.old.totals reached.old.growth }
     ensures gains { OnOk result (Gains (FeedsBy (system_of model.now) (feed_of model.now.space cube feeder.now) cell)
-        growth.old growth.new) }
+        reached.old.growth reached.new.growth) }
     ensures stops { IfErr result (StopsBy (FeedsBy (system_of model.now) (feed_of model.now.space cube feeder.now) cell)
-        growth.old growth.new) }
+        reached.old.growth reached.new.growth) }
+    ensures totals { OnOk result (AreOpened model.now reached.new.totals reached.new.growth) }
 {
     if !is_source(model, cube, &feeder.area, elements) {
         return Ok(());
     }
-    add_target(model, &feeder.target, cell, growth)
+    add_target(model.model(), &feeder.target, cell, reached)
 }
 
 // Finds the leaf cells of the cell that a reference names from a cell.
@@ -138,14 +160,17 @@ fn add_target(
     model: &Model,
     reference: &Reference,
     cell: u64,
-    growth: &mut Growth,
+    reached: &mut Reached,
 ) -> Result<(), FedFault>
-    requires { IsCell model.now.space cell }
-    ensures gains { OnOk result (Gains (StandsFor model.now reference.now cell) growth.old growth.new) }
-    ensures stops { IfErr result (StopsBy (StandsFor model.now reference.now cell) growth.old growth.new) }
+    requires cell { IsCell model.now.space cell }
+    requires totals { AreOpened model.now reached.old.totals reached.old.growth }
+    ensures gains { OnOk result (Gains (StandsFor model.now reference.now cell) reached.old.growth reached.new.growth) }
+    ensures stops { IfErr result (StopsBy (StandsFor model.now reference.now cell)
+        reached.old.growth reached.new.growth) }
+    ensures totals { OnOk result (AreOpened model.now reached.new.totals reached.new.growth) }
 {
     match target(model, reference, cell) {
-        Some(target) => add_leaves_of(model, target, growth),
+        Some(target) => add_leaves_of(model, target, reached),
         None => Ok(()),
     }
 }

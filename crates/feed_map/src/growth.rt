@@ -23,6 +23,8 @@ pub struct Growth {
     pub opened: Vec<u64>,
     /// Cells that were found, and wait to be put to those known. Some may be known already.
     pub found: Vec<u64>,
+    /// How often a cell was found.
+    pub finds: u64,
 }
 
 impl Growth {
@@ -37,6 +39,7 @@ impl Growth {
             known,
             opened: Vec::new(alloc),
             found: Vec::new(alloc),
+            finds: 0,
         }
     }
 
@@ -45,6 +48,7 @@ impl Growth {
         ensures gains { OnOk result (Gains (λ other. cell ≡ other) self.old self.new) }
         ensures stops { IfErr result (StopsBy (λ other. cell ≡ other) self.old self.new) }
     {
+        self.finds = self.finds.saturating_add(1);
         self.found.push(cell)?;
         if self.found.len() < BATCH {
             return Ok(());

@@ -6,27 +6,41 @@ ghost use Rattle.cube_space.specs.Cells.{IsCell, cube_of, elements_of, is_leaf_c
 ghost use Rattle.rule_laws.specs.Feeding.{leaves_of};
 ghost use Rattle.rule_model.specs.System.{system_of};
 ghost use Rattle.feed_map.specs.Inside.Gains.{Gains, StopsBy};
-ghost use Rattle.feed_map.specs.Inside.Leaves.{candidates, candidate, leaf_at, AreRoots, GoesOn, GoesOnBy};
+ghost use Rattle.feed_map.specs.Inside.Follows.{AreOpened};
+ghost use Rattle.feed_map.specs.Inside.Leaves.{candidates, candidate, leaf_at, axes_from, AreRoots, IsBelow, IsBelowBy};
 
 use crate::fault::FedFault;
 use crate::growth::Growth;
+use crate::reached::Reached;
+use cell_store::CellSet;
 use cube_space::{MAX_DIMENSIONS, Space};
 use dim_core::Dimension;
 use dim_weights::Weights;
 use rule_model::{Model, place_of};
 
-/// Finds the leaf cells that a cell means: itself, or those below it.
-pub fn add_leaves_of(model: &Model, cell: u64, growth: &mut Growth) -> Result<(), FedFault>
-    requires { IsCell model.now.space cell }
-    ensures gains { OnOk result (Gains (Contains (leaves_of (system_of model.now) cell)) growth.old growth.new) }
-    ensures stops { IfErr result (StopsBy (Contains (leaves_of (system_of model.now) cell)) growth.old growth.new) }
+/// Finds the leaf cells that a cell means: itself, or those below it. A total that was opened isn't opened again.
+pub fn add_leaves_of(model: &Model, cell: u64, reached: &mut Reached) -> Result<(), FedFault>
+    requires cell { IsCell model.now.space cell }
+    requires totals { AreOpened model.now reached.old.totals reached.old.growth }
+    ensures gains { OnOk result (Gains (Contains (leaves_of (system_of model.now) cell))
+        reached.old.growth reached.new.growth) }
+    ensures stops { IfErr result (StopsBy (Contains (leaves_of (system_of model.now) cell))
+        reached.old.growth reached.new.growth) }
+    ensures totals { OnOk result (AreOpened model.now reached.new.totals reached.new.growth) }
 {
     if model.space().is_leaf(cell) {
-        return growth.add(cell);
+        return reached.growth.add(cell);
+    }
+    if reached.totals.has(cell) {
+        return Ok(());
     }
     let mut roots = [0u32; MAX_DIMENSIONS];
     let (cube, len) = place_of(model, cell, &mut roots);
-    add_below(model, cell, cube, &roots[..len], growth)
+    let before = reached.growth.finds;
+    add_below(model, cell, cube, &roots[..len], &mut reached.growth)?;
+    let leaves = reached.growth.finds.saturating_sub(before);
+    reached.keep(cell, leaves)?;
+    Ok(())
 }
 
 // Finds the leaf cells below a consolidated cell of these elements.
@@ -45,40 +59,46 @@ fn add_below(
     ensures stops { IfErr result (StopsBy (Contains (leaves_of (system_of model.now) cell)) growth.old growth.new) }
 {
     let mut at = [0u32; MAX_DIMENSIONS];
-    add_product(model, cube, elements, 0, &mut at, growth)
+    let below = Below {
+        model,
+        cube,
+        roots: elements,
+    };
+    add_product(below, 0, &mut at, growth)
 }
 
-/// Finds the cells of a cube whose elements are, up to a place, those of `at`, and from there on leaves that count in
-/// the roots: any leaf in a dimension that has no root.
+/// Which leaf cells of a cube are looked for: those whose elements count in the roots. A dimension behind the last root
+/// has none, and then each of its leaves counts.
+#[derive(Clone, Copy)]
+pub struct Below<'a> {
+    pub model: &'a Model,
+    pub cube: u32,
+    pub roots: &'a [u32],
+}
+
+/// Finds the cells whose elements are, up to a place, those of `at`, and from there on leaves that count in the roots.
 #[cycle(add_product)]
 pub fn add_product(
-    model: &Model,
-    cube: u32,
-    roots: &[u32],
+    below: Below,
     place: usize,
     at: &mut [u32; MAX_DIMENSIONS],
     growth: &mut Growth,
 ) -> Result<(), FedFault>
-    requires cube { cube < length model.now.space.cubes }
-    requires place { place ≤ length (dims_of model.now.space cube) }
-    requires roots { AreRoots roots.now place
-        (axes_of model.now.space.dimensions (drop place (dims_of model.now.space cube))) }
-    ensures gains { OnOk result (Gains (GoesOn model.now.space cube roots.now place
-        (axes_of model.now.space.dimensions (drop place (dims_of model.now.space cube))) (take place at.old))
-        growth.old growth.new) }
-    ensures stops { IfErr result (StopsBy (GoesOn model.now.space cube roots.now place
-        (axes_of model.now.space.dimensions (drop place (dims_of model.now.space cube))) (take place at.old))
-        growth.old growth.new) }
+    requires cube { below.cube < length below.model.now.space.cubes }
+    requires place { place ≤ length (dims_of below.model.now.space below.cube) }
+    requires roots { AreRoots below.roots.now place (axes_from below.model.now.space below.cube place) }
+    ensures gains { OnOk result (Gains (IsBelow below.entry place (take place at.old)) growth.old growth.new) }
+    ensures stops { IfErr result (StopsBy (IsBelow below.entry place (take place at.old)) growth.old growth.new) }
     ensures front { take place at.new ≡ take place at.old }
 {
-    if place == rank_of(model, cube) {
-        return add_number(model.space(), cube, &at[..place], growth);
+    if place == rank_of(below.model, below.cube) {
+        return add_number(below.model.space(), below.cube, &at[..place], growth);
     }
-    let (dimension, weights) = axis_of(model, cube, place);
-    let root = root_of(roots, place);
+    let (dimension, weights) = axis_of(below.model, below.cube, place);
+    let root = root_of(below.roots, place);
     'each: for choice in 0..candidates(dimension, weights, root) {
         let leaf = leaf_at(dimension, weights, root, choice);
-        add_choice(model, cube, roots, place, leaf, at, growth)?;
+        add_choice(below, place, leaf, at, growth)?;
     }
     Ok(())
 }
@@ -86,23 +106,17 @@ pub fn add_product(
 // The same where the element at the place is this leaf: none where there is no leaf.
 #[cycle(add_product)]
 fn add_choice(
-    model: &Model,
-    cube: u32,
-    roots: &[u32],
+    below: Below,
     place: usize,
     leaf: Option<u32>,
     at: &mut [u32; MAX_DIMENSIONS],
     growth: &mut Growth,
 ) -> Result<(), FedFault>
-    requires cube { cube < length model.now.space.cubes }
-    requires place { place < length (dims_of model.now.space cube) }
-    requires roots { AreRoots roots.now (place + 1)
-        (axes_of model.now.space.dimensions (drop (place + 1) (dims_of model.now.space cube))) }
-    ensures gains { OnOk result (Gains (GoesOnBy model.now.space cube roots.now place
-        (axes_of model.now.space.dimensions (drop (place + 1) (dims_of model.now.space cube))) (take place at.old) leaf)
-        growth.old growth.new) }
-    ensures stops { IfErr result (StopsBy (GoesOnBy model.now.space cube roots.now place
-        (axes_of model.now.space.dimensions (drop (place + 1) (dims_of model.now.space cube))) (take place at.old) leaf)
+    requires cube { below.cube < length below.model.now.space.cubes }
+    requires place { place < length (dims_of below.model.now.space below.cube) }
+    requires roots { AreRoots below.roots.now (place + 1) (axes_from below.model.now.space below.cube (place + 1)) }
+    ensures gains { OnOk result (Gains (IsBelowBy below.entry place (take place at.old) leaf) growth.old growth.new) }
+    ensures stops { IfErr result (StopsBy (IsBelowBy below.entry place (take place at.old) leaf)
         growth.old growth.new) }
     ensures front { take place at.new ≡ take place at.old }
 {
@@ -110,9 +124,9 @@ fn add_choice(
         return Ok(());
     };
     // a cube has no more dimensions than there are places
-    let _rank = rank_of(model, cube);
+    let _rank = rank_of(below.model, below.cube);
     at[place] = leaf;
-    add_product(model, cube, roots, place + 1, at, growth)
+    add_product(below, place + 1, at, growth)
 }
 
 // How many dimensions a cube has.

@@ -1,20 +1,23 @@
 //! The fed cells of a version: which leaf cells may have a value other than 0 though nothing is stored in them.
 //!
-//! [`Fed`] is the list of them, rising. [`Fed::of`] finds them anew, and [`Fed::grown`] from those of a version in
-//! which fewer cells were stored. Both follow each cell by the feeders of its cube whose area has it, and a fed cell
-//! once.
+//! [`Fed`] is the list of them, rising, and [`Feeding`] has with them the totals that feeders name, so that none is
+//! opened twice. [`Feeding::of`] finds them anew, [`Feeding::over`] from those over nothing, and [`Feeding::grown`] from
+//! those of a version in which fewer cells were stored. Each follows a cell by the feeders of its cube whose area has
+//! it, and a fed cell once. Where no cell of an area is taken out, the fed cells stay: [`is_any_source`].
 //!
-//! A cell in no feeder's area feeds none ([`is_any_source`]), so the fed cells stay where such a cell is taken out.
+//! [`SourceModel`] is a model in which the areas that have a cell are found fast.
 //!
 //! The feeder check promises that a leaf cell that is neither stored nor fed is 0: see [`cells_off_the_map_are_zero`].
 #![tactic(auto)]
 
 pub use fault::FedFault;
-pub use fed::Fed;
+pub use fed::{Fed, Feeding};
 pub use growth::MAX_FED;
 pub use laws::{cells_off_the_map_are_zero, fed_cells_are_leaf_cells};
+pub use source_model::SourceModel;
 pub use sources::is_any_source;
 
+mod above;
 mod dense;
 mod fault;
 mod fed;
@@ -22,5 +25,7 @@ mod follow;
 mod growth;
 mod laws;
 mod leaves;
+mod reached;
 mod source;
+mod source_model;
 mod sources;

@@ -7,11 +7,12 @@ ghost use Rattle.feed_map.specs.Sources.{IsSource};
 
 use crate::follow::is_leaf_cell;
 use crate::source::is_source;
+use crate::source_model::SourceModel;
 use cube_space::MAX_DIMENSIONS;
-use rule_model::{Feeder, Model, place_of};
+use rule_model::Feeder;
 
 /// Whether a cell is a leaf cell in the area of a feeder. No other cell feeds any.
-pub fn is_any_source(model: &Model, cell: u64) -> bool
+pub fn is_any_source(model: &SourceModel, cell: u64) -> bool
     ensures source { IsTrue result ↔ IsSource (system_of model.now) cell }
     ensures other { IsFalse result → (fed : ℕ) → Feeds (system_of model.now) cell fed → ⊥ }
 {
@@ -19,7 +20,7 @@ pub fn is_any_source(model: &Model, cell: u64) -> bool
         return false;
     }
     let mut at = [0u32; MAX_DIMENSIONS];
-    let (cube, len) = place_of(model, cell, &mut at);
+    let (cube, len) = model.place_of(cell, &mut at);
     let feeders = model.rules(cube).feeders.as_slice();
     'each: for n in 0..feeders.len() {
         if is_source_of(model, &feeders[n], cube, &at[..len], cell) {
@@ -30,7 +31,13 @@ pub fn is_any_source(model: &Model, cell: u64) -> bool
 }
 
 // Whether a leaf cell of these elements is in the area of a feeder of its cube.
-fn is_source_of(model: &Model, feeder: &Feeder, cube: u32, elements: &[u32], cell: u64) -> bool
+fn is_source_of(
+    model: &SourceModel,
+    feeder: &Feeder,
+    cube: u32,
+    elements: &[u32],
+    cell: u64,
+) -> bool
     requires cell { IsCell model.now.space cell }
     requires leaf { is_leaf_cell model.now.space cell ≡ true }
     requires cube { cube_of model.now.space cell ≡ cube }

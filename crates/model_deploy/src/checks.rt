@@ -1,7 +1,7 @@
-ghost use Rattle.std.specs.Prelude.{◌≡◌, ◌⊎◌, ◌≤◌, [], OnOk, option_map};
+ghost use Rattle.std.specs.Prelude.{◌≡◌, ◌⊎◌, ◌≤◌, [], length, Err, IfErr, IfOk, OnOk, option_map};
 ghost use Rattle.cube_space.specs.Radix.{product};
 ghost use Rattle.check_order.specs.Verdict.{order_fault};
-ghost use Rattle.feed_map.specs.FedCells.{HasFewFed};
+ghost use Rattle.feed_map.specs.FedCells.{IsFeeding, most_fed};
 ghost use Rattle.rule_laws.specs.Cover.{IsCovered};
 ghost use Rattle.rule_laws.specs.OrderByPlace.{IsOrderedByPlace};
 ghost use Rattle.rule_model.specs.Order.{most_height, position_sizes};
@@ -16,7 +16,7 @@ use crate::file::{RuleFile, fault_in};
 use cell_store::Store;
 use check_order::{OrderFault, check_order};
 use feed_check::{FeedCheckFault, check_feeders};
-use feed_map::{Fed, FedFault};
+use feed_map::{FedFault, Feeding, SourceModel};
 use rule_model::Model;
 use std::alloc::Global;
 
@@ -86,16 +86,17 @@ fn feeders_fault(alloc: Global, files: &[Option<RuleFile>], fault: FeedCheckFaul
     }
 }
 
-/// Checks that no more cells are fed than may be, where nothing is stored.
-pub fn check_fed(alloc: Global, model: &Model) -> Result<(), DeployFault>
-    ensures comes { Comes (fed_stage model.now) result }
-    ensures few { OnOk result (HasFewFed model.now []) }
+/// What is fed where nothing is stored. It checks that no more cells are than may be.
+pub fn fed_over_nothing(alloc: Global, model: &SourceModel) -> Result<Feeding, DeployFault>
+    ensures fed { IfOk result (λ feeding. IsFeeding model.now [] feeding.fed feeding.totals) }
+    ensures few { IfOk result (λ feeding. length feeding.fed ≤ most_fed) }
+    ensures refused { IfErr result (λ fault. Comes (fed_stage model.now) (Err fault)) }
 {
-    match Fed::of(alloc, model, &Store::new(alloc)) {
-        Ok(fed) => {
+    match Feeding::of(alloc, model, &Store::new(alloc)) {
+        Ok(feeding) => {
             // it says of itself that they are few
-            let _count = fed.count();
-            Ok(())
+            let _count = feeding.fed.count();
+            Ok(feeding)
         }
         Err(FedFault::FedLimit(count)) => Err(DeployFault::on(1, DeployCause::FedLimit(count))),
         Err(FedFault::Memory) => Err(DeployFault::memory()),

@@ -8,13 +8,14 @@ ghost use Rattle.model_deploy.specs.Deployment.{deployment};
 ghost use Rattle.model_deploy.specs.Rules.{rules_stage};
 
 use crate::binding::meanings_of;
-use crate::checks::{check_covered, check_fed, check_ordered};
+use crate::checks::{check_covered, check_ordered, fed_over_nothing};
 use crate::fault::DeployFault;
 use crate::file::RuleFile;
 use crate::foundation::{Foundation, foundation_of};
 use crate::ordering::ordered_rules;
 use crate::texts::texts_of;
 use accepted::Accepted;
+use feed_map::SourceModel;
 use lists::ListOf;
 use model_text::ModelText;
 use rule_model::{CubeRules, Model};
@@ -42,8 +43,9 @@ pub fn deploy(
     let model = Model::of(space, weights, bound.into_vec())?;
     check_ordered(alloc, &rules, &model)?;
     check_covered(alloc, &rules, &model)?;
-    check_fed(alloc, &model)?;
-    Ok(Accepted::new(model))
+    let sources = SourceModel::of(alloc, model)?;
+    let feeding = fed_over_nothing(alloc, &sources)?;
+    Ok(Accepted::new(sources, feeding))
 }
 
 /// The rules of each cube with its order, over what the model stands on; the file of each cube, None for one without

@@ -4,6 +4,7 @@ use crate::kind::Kind;
 use crate::models::{counts_of, model_of};
 use crate::refusal::Refusal;
 use case_lines::Texts;
+use feed_map::SourceModel;
 use std::alloc::{AllocError, Global};
 
 /// The answer to a case, where it has one. The text of a case `text: NAME` gets that name.
@@ -38,6 +39,7 @@ fn unread(alloc: Global) -> Result<Option<String>, AllocError> {
 fn answer_of(alloc: Global, files: &Files, kind: Kind) -> Result<String, Refusal> {
     let model = model_of(alloc, files)?;
     let mut told = counts_of(alloc, &model)?;
-    answer_commands(alloc, &model, files.file("user"), kind, &mut told)?;
+    let sources = SourceModel::of(alloc, model)?;
+    answer_commands(alloc, &sources, files.file("user"), kind, &mut told)?;
     Ok(told)
 }

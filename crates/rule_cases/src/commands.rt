@@ -11,15 +11,16 @@ use crate::refusal::Refusal;
 use crate::values::value_text;
 use cell_store::{Store, StoreFault};
 use cube_fixed::Money;
+use feed_map::SourceModel;
 use rule_dense::{MAX_CUBE_CELLS, dense};
-use rule_model::{Model, cell_of, is_input};
+use rule_model::{cell_of, is_input};
 use std::alloc::Global;
 use user_text::UserBody;
 
 /// Adds what each command comes to, a line each, with what a case of this kind tells besides.
 pub fn answer_commands(
     alloc: Global,
-    model: &Model,
+    model: &SourceModel,
     text: &[u8],
     kind: Kind,
     told: &mut String,
@@ -46,7 +47,7 @@ pub fn answer_commands(
     Ok(())
 }
 
-fn has_small_cubes(model: &Model) -> bool
+fn has_small_cubes(model: &SourceModel) -> bool
     ensures { IsTrue result → HasSmallCubes model.now.space }
 {
     for cube in 0..model.space().cubes() {
@@ -59,7 +60,7 @@ fn has_small_cubes(model: &Model) -> bool
 
 fn answer_to(
     alloc: Global,
-    model: &Model,
+    model: &SourceModel,
     store: &mut Store,
     command: &UserBody,
     kind: Kind,
@@ -70,11 +71,11 @@ fn answer_to(
 {
     match command {
         UserBody::Put(text, number) => {
-            let cell = cell_of(model, &text.cube, text.elements.as_slice());
+            let cell = cell_of(model.model(), &text.cube, text.elements.as_slice());
             put(alloc, model, store, cell, *number, kind)
         }
         UserBody::Get(text) => {
-            let cell = cell_of(model, &text.cube, text.elements.as_slice());
+            let cell = cell_of(model.model(), &text.cube, text.elements.as_slice());
             told_of(alloc, model, store, cell, kind)
         }
         _ => Ok(String::from_str(alloc, "neither PUT nor GET")?),
@@ -83,7 +84,7 @@ fn answer_to(
 
 fn put(
     alloc: Global,
-    model: &Model,
+    model: &SourceModel,
     store: &mut Store,
     cell: Option<u64>,
     number: Money,
@@ -98,7 +99,7 @@ fn put(
     if !model.space().is_leaf(cell) {
         return Ok(String::from_str(alloc, "no leaf cell")?);
     }
-    if !is_input(model, cell) {
+    if !is_input(model.model(), cell) {
         return Ok(String::from_str(alloc, "not open for input")?);
     }
     match store.apply(alloc, &[(cell, number)]) {
@@ -116,7 +117,7 @@ fn put(
 // The value of a cell, and how it is evaluated.
 fn told_of(
     alloc: Global,
-    model: &Model,
+    model: &SourceModel,
     store: &Store,
     cell: Option<u64>,
     kind: Kind,
@@ -131,10 +132,10 @@ fn told_of(
     if cell >= model.space().size() {
         return Ok(String::from_str(alloc, "no cell")?);
     }
-    let value = dense(alloc, model, store, cell)?;
+    let value = dense(alloc, model.model(), store, cell)?;
     let mut told = value_text(alloc, value)?;
     if kind == Kind::Courses {
-        add_course(alloc, model, store, cell, &mut told)?;
+        add_course(alloc, model.model(), store, cell, &mut told)?;
     }
     if kind == Kind::Fed {
         add_walked(alloc, model, store, cell, &mut told)?;

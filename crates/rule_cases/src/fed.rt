@@ -3,7 +3,7 @@ ghost use Rattle.cube_space.specs.Cells.{IsCell};
 use crate::refusal::Refusal;
 use cell_store::{CellSet, Store};
 use cube_space::MAX_DIMENSIONS;
-use feed_map::{Fed, FedFault};
+use feed_map::{Fed, FedFault, Feeding, SourceModel};
 use rule_model::Model;
 use sparse_sum::Walk;
 use std::alloc::{AllocError, Global};
@@ -17,13 +17,13 @@ const MAX_WALKED: u64 = 1_000_000;
 /// Adds how many cells are fed over what is stored: `, fed 7`.
 pub fn add_count(
     alloc: Global,
-    model: &Model,
+    model: &SourceModel,
     store: &Store,
     told: &mut String,
 ) -> Result<(), Refusal> {
-    match Fed::of(alloc, model, store) {
-        Ok(fed) => {
-            let count = fed.count();
+    match Feeding::of(alloc, model, store) {
+        Ok(feeding) => {
+            let count = feeding.fed.count();
             let piece = format!(in alloc; ", fed {count}")?;
             Ok(told.push_str(&piece)?)
         }
@@ -38,12 +38,12 @@ pub fn add_count(
 /// Adds the fed cells, a line each, rising by their numbers; of many cells the first and the last.
 pub fn add_cells(
     alloc: Global,
-    model: &Model,
+    model: &SourceModel,
     store: &Store,
     told: &mut String,
 ) -> Result<(), Refusal> {
-    let fed = match Fed::of(alloc, model, store) {
-        Ok(fed) => fed,
+    let fed = match Feeding::of(alloc, model, store) {
+        Ok(feeding) => feeding.fed,
         Err(FedFault::FedLimit(count)) => {
             let piece = format!(in alloc; "\nFedLimit({count})")?;
             return Ok(told.push_str(&piece)?);
@@ -60,7 +60,7 @@ pub fn add_cells(
         };
         if count <= MAX_TOLD || place == 0 || place + 1 == count {
             told.push_str("\nfed ")?;
-            add_name(alloc, model, cell, told)?;
+            add_name(alloc, model.model(), cell, told)?;
         }
         from = cell.saturating_add(1);
     }
@@ -70,7 +70,7 @@ pub fn add_cells(
 /// Adds how many stored or fed leaf cells a walk finds below a consolidated cell: `, of 3 cells`.
 pub fn add_walked(
     alloc: Global,
-    model: &Model,
+    model: &SourceModel,
     store: &Store,
     cell: u64,
     told: &mut String,
@@ -80,12 +80,12 @@ pub fn add_walked(
     if model.space().is_leaf(cell) {
         return Ok(());
     }
-    let fed = match Fed::of(alloc, model, store) {
-        Ok(fed) => fed,
+    let fed = match Feeding::of(alloc, model, store) {
+        Ok(feeding) => feeding.fed,
         Err(FedFault::FedLimit(_)) => return Ok(told.push_str(", FedLimit")?),
         Err(FedFault::Memory) => return Err(Refusal::Memory),
     };
-    let count = walked(model, store, &fed, cell);
+    let count = walked(model.model(), store, &fed, cell);
     let piece = format!(in alloc; ", of {count} cells")?;
     Ok(told.push_str(&piece)?)
 }

@@ -12,7 +12,8 @@ use Rattle.rule_model.specs.Targets.{target}
 use Rattle.feed_map.specs.declared.fault.FedFault.{FedFault}
 use Rattle.feed_map.specs.declared.fault.FedFault.TheVariants.{FedLimit, Memory}
 use Rattle.feed_map.specs.declared.growth.Growth.{Growth}
-use Rattle.feed_map.specs.FedCells.{AreFedCells, HasManyFed, most_fed}
+use Rattle.feed_map.specs.declared.reached.Reached.{Reached}
+use Rattle.feed_map.specs.FedCells.{AreFedCells, HasManyFed, HaveLeaves, most_fed}
 use Rattle.feed_map.specs.Inside.Gains.{HasCell}
 use Rattle.feed_map.specs.Inside.Leaves.{IsLeafCellOf}
 
@@ -46,6 +47,11 @@ pub record AreOpen (model : BoundModel) (growth : Growth) : Type 0 where
   pub others : (x : ℕ) → Contains growth.known x
       → Contains growth.opened.items x ⊎ ((c : ℕ) → Feeds (system_of model) x c → HasCell growth c)
 
+-- the leaf cells of these totals are known or found
+abbrev pub AreOpened : BoundModel → List ℕ → Growth → Type 0
+AreOpened model totals growth =
+    (total cell : ℕ) → Contains totals total → Contains (leaves_of (system_of model) total) cell → HasCell growth cell
+
 -- it is among the leaf cells of the cell that the reference names from this one
 abbrev pub StandsFor : BoundModel → Reference → ℕ → ℕ → Type 0
 StandsFor model reference x c =
@@ -64,3 +70,9 @@ abbrev pub IsVerdict : BoundModel → List Entry → Result (List ℕ) FedFault 
 IsVerdict model entries (Ok cells) = AreFedCells model entries cells × (length cells ≤ most_fed)
 IsVerdict model entries (Err Memory) = ⊤
 IsVerdict model entries (Err (FedLimit count)) = (count ≡ suc most_fed) × HasManyFed model entries
+
+-- what is reached in the end, if it isn't too much: the fed cells, and totals all of whose leaf cells are fed
+abbrev pub IsReach : BoundModel → List Entry → Result Reached FedFault → Type 0
+IsReach model entries (Ok reached) =
+    IsVerdict model entries (Ok reached.growth.known) × HaveLeaves model reached.totals reached.growth.known
+IsReach model entries (Err fault) = IsVerdict model entries (Err fault)

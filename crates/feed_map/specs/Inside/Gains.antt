@@ -51,3 +51,10 @@ StopsBy P before after Memory = ⊤
 StopsBy P before after (FedLimit count) =
     (count ≡ suc most_fed) × IsStrictlyIncreasing after.known × (most_fed < length after.known)
     × ((cell : ℕ) → Contains after.known cell → HasCell before cell ⊎ P cell)
+
+-- the most totals that are kept as opened, and how many leaf cells are too few for one to be kept
+abbrev pub most_totals : ℕ
+most_totals = 1000000
+
+abbrev pub few_leaves : ℕ
+few_leaves = 64

@@ -1,11 +1,12 @@
 -- Cells whose elements are leaves, dimension by dimension.
 use Rattle.std.specs.Prelude.{◌≡◌, ℕ, ◌+◌, ◌<◌, true, ⊤}
 use Rattle.std.specs.Prelude.{Option, Some, None, IfSome, if◌then◌else◌, option_map, option_and_then}
-use Rattle.std.specs.Prelude.{List, [], ◌∷◌, ◌++◌, length, slice_get}
+use Rattle.std.specs.Prelude.{List, [], ◌∷◌, ◌++◌, length, drop, slice_get}
 use Rattle.dim_core.specs.Outline.{Outline}
 use Rattle.dim_weights.specs.Table.{leaves_of}
-use Rattle.cube_space.specs.Layout.{Layout}
+use Rattle.cube_space.specs.Layout.{Layout, axes_of, dims_of}
 use Rattle.cube_space.specs.Cells.{IsCell, is_leaf, is_leaf_cell, cube_of, cell_number}
+use Rattle.feed_map.specs.declared.leaves.Below.{Below}
 
 -- the elements to choose leaves from: those that count in an element, or all
 abbrev pub candidates : Outline → Option ℕ → ℕ
@@ -56,6 +57,22 @@ abbrev pub GoesOnBy : Layout → ℕ → List ℕ → ℕ → List Outline → L
 GoesOnBy space cube roots place ds front None cell = ⊥
 GoesOnBy space cube roots place ds front (Some leaf) cell =
     GoesOn space cube roots (place + 1) ds (front ++ leaf ∷ []) cell
+
+-- the dimensions of a cube from a place on
+abbrev pub axes_from : Layout → ℕ → ℕ → List Outline
+axes_from space cube place = axes_of space.dimensions (drop place (dims_of space cube))
+
+-- a cell that is looked for, whose elements up to a place are these
+abbrev pub IsBelow : Below → ℕ → List ℕ → ℕ → Type 0
+IsBelow below place front cell =
+    GoesOn below.model.now.space below.cube below.roots.now place
+    (axes_from below.model.now.space below.cube place) front cell
+
+-- the same, where the next leaf is this one; none where there is none
+abbrev pub IsBelowBy : Below → ℕ → List ℕ → Option ℕ → ℕ → Type 0
+IsBelowBy below place front leaf cell =
+    GoesOnBy below.model.now.space below.cube below.roots.now place
+    (axes_from below.model.now.space below.cube (place + 1)) front leaf cell
 
 -- a leaf cell of the cube
 abbrev pub IsLeafCellOf : Layout → ℕ → ℕ → Type 0

@@ -19,11 +19,11 @@ returns-in-Some-clause-gains c =
     (λ x stands. (let some : Some c.in-Some.target ≡ Some stands.0 = sym own ∙ stands.1 in
     let same : stands.0 ≡ c.in-Some.target = cc in
     subst (λ (t : ℕ). Contains (leaves_of (system_of c.args.model.now) t) x) same stands.2))
-    c.args.growth.now c.add_leaves_of.new.growth c.add_leaves_of.ensures.gains
+    c.args.reached.now.growth c.add_leaves_of.new.reached.growth c.add_leaves_of.ensures.gains
 
 pub returns-in-Some-clause-stops : goal.returns-in-Some-clause-stops
 returns-in-Some-clause-stops c =
     let own = is (goal.at.returns-in-Some-clause-stops c).After-add_leaves_of in
     stops-result c.add_leaves_of.result (Contains (leaves_of (system_of c.args.model.now) c.in-Some.target)) (StandsFor c.args.model.now c.args.reference.now c.args.cell)
     (λ x has. (c.in-Some.target, own, has))
-    c.args.growth.now c.add_leaves_of.new.growth c.add_leaves_of.ensures.stops
+    c.args.reached.now.growth c.add_leaves_of.new.reached.growth c.add_leaves_of.ensures.stops

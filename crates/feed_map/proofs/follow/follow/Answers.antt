@@ -31,7 +31,7 @@ returns-then-not-is_leaf_cell-clause-gains c =
     let other = c.is_leaf_cell.ensures.other off (rw c.space.ensures.space cell) in
     let none = rw c.space.ensures.space at other in
     let clash : true ≡ false = sym leaf ∙ none in cc))
-    c.args.growth.now
+    c.args.reached.now.growth
 
 pub rules-requires : goal.rules-requires
 rules-requires c =
@@ -50,11 +50,11 @@ returns-in_err-follow_by-clause-stops c =
     let fs = c.as_slice-feeders.result.now in
     let f = c.index-feeders-n.result in
     let n = c.each.n in
-    handed-on c.from_residual.result c.in_err-follow_by.field-0.0 (StopsBy (Feeds (system_of m) x) c.args.growth.now c.follow_by.new.growth) c.from_residual.ensures.1
+    handed-on c.from_residual.result c.in_err-follow_by.field-0.0 (StopsBy (Feeds (system_of m) x) c.args.reached.now.growth c.follow_by.new.reached.growth) c.from_residual.ensures.1
     (stops-then (FeedsByOne m cube (take n fs) x) (FeedsBy (system_of m) (feed_of m.space cube f) x) (Feeds (system_of m) x)
     (λ y one. whole-feeds m x y cube fs c.place_of-cube.ensures.cube own cell (taken-one m cube fs n x y one))
     (λ y by. whole-feeds m x y cube fs c.place_of-cube.ensures.cube own cell (taken-one m cube fs (n + 1) x y (more-from m x y cube fs n f c.each-test.true c.index-feeders-n.is (inr by))))
-    c.args.growth.now c.each.growth c.follow_by.new.growth c.in_err-follow_by.field-0.0 c.each.invariant.only c.in_err-follow_by.ensures.stops)
+    c.args.reached.now.growth c.each.reached.growth c.follow_by.new.reached.growth c.in_err-follow_by.field-0.0 c.each.invariant.gains.only c.in_err-follow_by.ensures.stops)
 
 pub each-preserved : goal.each-preserved
 each-preserved c =
@@ -64,11 +64,14 @@ each-preserved c =
     let fs = c.as_slice-feeders.result.now in
     let f = c.index-feeders-n.result in
     let n = c.each.n in
-    gains-then (FeedsByOne m cube (take n fs) x) (FeedsBy (system_of m) (feed_of m.space cube f) x) (FeedsByOne m cube (take (n + 1) fs) x)
-    (λ y one. more-from m x y cube fs n f c.each-test.true c.index-feeders-n.is (inl one))
-    (λ y by. more-from m x y cube fs n f c.each-test.true c.index-feeders-n.is (inr by))
-    (λ y more. more-parts m x y cube fs n f c.each-test.true c.index-feeders-n.is more)
-    c.args.growth.now c.each.growth c.follow_by.new.growth c.each.invariant c.in_ok-follow_by.ensures.gains
+    record {
+      gains = gains-then (FeedsByOne m cube (take n fs) x) (FeedsBy (system_of m) (feed_of m.space cube f) x) (FeedsByOne m cube (take (n + 1) fs) x)
+          (λ y one. more-from m x y cube fs n f c.each-test.true c.index-feeders-n.is (inl one))
+          (λ y by. more-from m x y cube fs n f c.each-test.true c.index-feeders-n.is (inr by))
+          (λ y more. more-parts m x y cube fs n f c.each-test.true c.index-feeders-n.is more)
+          c.args.reached.now.growth c.each.reached.growth c.follow_by.new.reached.growth c.each.invariant.gains c.in_ok-follow_by.ensures.gains;
+      totals = c.in_ok-follow_by.ensures.totals;
+    }
 
 pub returns-clause-gains : goal.returns-clause-gains
 returns-clause-gains c =
@@ -82,4 +85,4 @@ returns-clause-gains c =
     gains-as (FeedsByOne m cube (take c.each.n fs) x) (Feeds (system_of m) x)
     (λ y one. whole-feeds m x y cube fs c.place_of-cube.ensures.cube own cell (taken-one m cube fs c.each.n x y one))
     (λ y feeds. subst (λ (gs : List Feeder). FeedsByOne m cube gs x y) (sym (take_all c.each.n fs c.each-test.false)) (feeds-whole m x y cube fs c.place_of-cube.ensures.cube own feeds))
-    c.args.growth.now c.each.growth c.each.invariant
+    c.args.reached.now.growth c.each.reached.growth c.each.invariant.gains

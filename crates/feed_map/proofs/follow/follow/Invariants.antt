@@ -1,8 +1,11 @@
 -- What the feeders so far feed.
 use Rattle.std.proofs.Common.{take}
 use Rattle.feed_map.specs.Inside.Gains.{Gains}
-use Rattle.feed_map.specs.Inside.Follows.{FeedsByOne}
+use Rattle.feed_map.specs.Inside.Follows.{AreOpened, FeedsByOne}
 use Rattle.feed_map.proofs.follow.follow.Given as goal
 
 abbrev pub invariant-each : goal.invariant-each
-invariant-each l = Gains (FeedsByOne l.model l.cube (take l.n l.feeders) l.cell) l.fn.growth l.growth
+invariant-each l = record {
+  gains : Gains (FeedsByOne l.model l.cube (take l.n l.feeders) l.cell) l.fn.reached.growth l.reached.growth;
+  totals : AreOpened l.model l.reached.totals l.reached.growth;
+}

@@ -28,7 +28,7 @@ returns-clause-gains c =
     gains-result c.add_target.result (StandsFor c.args.model.now c.args.feeder.now.target c.args.cell) (FeedsBy (system_of c.args.model.now) (feed_of c.args.model.now.space c.args.cube c.args.feeder.now) c.args.cell)
     (λ x. target-by c.args.model.now c.args.cell x c.args.cube c.args.feeder.now c.requires.cell c.requires.leaf c.requires.cube stands)
     (λ x. by-target c.args.model.now c.args.cell x c.args.cube c.args.feeder.now c.requires.cell c.requires.leaf c.requires.cube)
-    c.args.growth.now c.add_target.new.growth c.add_target.ensures.gains
+    c.args.reached.now.growth c.add_target.new.reached.growth (rw c.model.ensures at c.add_target.ensures.gains)
 
 pub returns-clause-stops : goal.returns-clause-stops
 returns-clause-stops c =
@@ -36,4 +36,13 @@ returns-clause-stops c =
     let stands = on (goal.at.returns-clause-stops c).After-is_source sure in
     stops-result c.add_target.result (StandsFor c.args.model.now c.args.feeder.now.target c.args.cell) (FeedsBy (system_of c.args.model.now) (feed_of c.args.model.now.space c.args.cube c.args.feeder.now) c.args.cell)
     (λ x. target-by c.args.model.now c.args.cell x c.args.cube c.args.feeder.now c.requires.cell c.requires.leaf c.requires.cube stands)
-    c.args.growth.now c.add_target.new.growth c.add_target.ensures.stops
+    c.args.reached.now.growth c.add_target.new.reached.growth (rw c.model.ensures at c.add_target.ensures.stops)
+
+pub add_target-requires-clause-cell : goal.add_target-requires-clause-cell
+add_target-requires-clause-cell c = rw c.model.ensures c.requires.cell
+
+pub add_target-requires-clause-totals : goal.add_target-requires-clause-totals
+add_target-requires-clause-totals c = rw c.model.ensures c.requires.totals
+
+pub returns-clause-totals : goal.returns-clause-totals
+returns-clause-totals c = rw c.model.ensures at c.add_target.ensures.totals

@@ -2,12 +2,13 @@
 use Rattle.std.proofs.Common.{◌≤◌, ◌-◌, ◌^◌}
 use Rattle.cell_store.specs.Entries.{cells_of}
 use Rattle.feed_map.specs.Inside.Gains.{Gains}
-use Rattle.feed_map.specs.Inside.Follows.{FeedsBelow}
+use Rattle.feed_map.specs.Inside.Follows.{AreOpened, FeedsBelow}
 use Rattle.feed_map.proofs.follow.follow_stored.Given as goal
 
 abbrev pub invariant-each : goal.invariant-each
 invariant-each l = record {
-  gains : Gains (FeedsBelow l.model (cells_of l.store) l.from) l.fn.growth l.growth;
+  gains : Gains (FeedsBelow l.model (cells_of l.store) l.from) l.fn.reached.growth l.reached.growth;
+  totals : AreOpened l.model l.reached.totals l.reached.growth;
   place : l.from ≤ 2 ^ 62;
 }
 

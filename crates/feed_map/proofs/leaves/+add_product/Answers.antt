@@ -19,25 +19,25 @@ put t c =
 
 pub add_choice-returns-clause-gains : goal.add_choice-returns-clause-gains
 add_choice-returns-clause-gains t c =
-    let space = c.args.model.now.space in
-    let ds = axes_of space.dimensions (drop (c.args.place + 1) (dims_of space c.args.cube)) in
+    let space = c.args.below.model.now.space in
+    let ds = axes_of space.dimensions (drop (c.args.place + 1) (dims_of space c.args.below.cube)) in
     let front = take c.args.place c.args.at.now in
     let at = take (c.args.place + 1) (set c.args.at.now c.args.place c.in-Some.leaf) in
     let own = put t (goal.at.add_choice-returns-clause-gains t c).After-rank_of-rank in
-    gains-result c.add_product.result (GoesOn space c.args.cube c.args.roots.now (c.args.place + 1) ds at) (GoesOnBy space c.args.cube c.args.roots.now c.args.place ds front c.args.leaf)
-    (some-by space c.args.cube c.args.roots.now c.args.place ds front at c.in-Some.leaf c.args.leaf c.in-Some.is own)
-    (by-some space c.args.cube c.args.roots.now c.args.place ds front at c.in-Some.leaf c.args.leaf c.in-Some.is own)
+    gains-result c.add_product.result (GoesOn space c.args.below.cube c.args.below.roots.now (c.args.place + 1) ds at) (GoesOnBy space c.args.below.cube c.args.below.roots.now c.args.place ds front c.args.leaf)
+    (some-by space c.args.below.cube c.args.below.roots.now c.args.place ds front at c.in-Some.leaf c.args.leaf c.in-Some.is own)
+    (by-some space c.args.below.cube c.args.below.roots.now c.args.place ds front at c.in-Some.leaf c.args.leaf c.in-Some.is own)
     c.args.growth.now c.add_product.new.growth c.add_product.ensures.gains
 
 pub add_choice-returns-clause-stops : goal.add_choice-returns-clause-stops
 add_choice-returns-clause-stops t c =
-    let space = c.args.model.now.space in
-    let ds = axes_of space.dimensions (drop (c.args.place + 1) (dims_of space c.args.cube)) in
+    let space = c.args.below.model.now.space in
+    let ds = axes_of space.dimensions (drop (c.args.place + 1) (dims_of space c.args.below.cube)) in
     let front = take c.args.place c.args.at.now in
     let at = take (c.args.place + 1) (set c.args.at.now c.args.place c.in-Some.leaf) in
     let own = put t (goal.at.add_choice-returns-clause-stops t c).After-rank_of-rank in
-    stops-result c.add_product.result (GoesOn space c.args.cube c.args.roots.now (c.args.place + 1) ds at) (GoesOnBy space c.args.cube c.args.roots.now c.args.place ds front c.args.leaf)
-    (some-by space c.args.cube c.args.roots.now c.args.place ds front at c.in-Some.leaf c.args.leaf c.in-Some.is own)
+    stops-result c.add_product.result (GoesOn space c.args.below.cube c.args.below.roots.now (c.args.place + 1) ds at) (GoesOnBy space c.args.below.cube c.args.below.roots.now c.args.place ds front c.args.leaf)
+    (some-by space c.args.below.cube c.args.below.roots.now c.args.place ds front at c.in-Some.leaf c.args.leaf c.in-Some.is own)
     c.args.growth.now c.add_product.new.growth c.add_product.ensures.stops
 
 pub add_choice-returns-clause-front : goal.add_choice-returns-clause-front
@@ -45,66 +45,66 @@ add_choice-returns-clause-front t c = front-kept c.args.at.now c.add_product.new
 
 pub add_product-returns-then-place-rank_of-clause-gains : goal.add_product-returns-then-place-rank_of-clause-gains
 add_product-returns-then-place-rank_of-clause-gains t c =
-    let space = c.args.model.now.space in
-    let ds = axes_of space.dimensions (drop c.args.place (dims_of space c.args.cube)) in
+    let space = c.args.below.model.now.space in
+    let ds = axes_of space.dimensions (drop c.args.place (dims_of space c.args.below.cube)) in
     let front = take c.args.place c.args.at.now in
-    let none = axes-past space.dimensions (dims_of space c.args.cube) c.args.place (omega (arith, c.if-place-rank_of.true, c.rank_of.ensures.rank)) in
-    gains-result c.add_number.result (λ cell. cell_number c.space.result.now c.args.cube front ≡ Some cell) (GoesOn space c.args.cube c.args.roots.now c.args.place ds front)
-    (number-goes space c.space.result.now c.args.cube c.args.roots.now c.args.place ds front c.space.ensures.space none)
-    (goes-number space c.space.result.now c.args.cube c.args.roots.now c.args.place ds front c.space.ensures.space none)
+    let none = axes-past space.dimensions (dims_of space c.args.below.cube) c.args.place (omega (arith, c.if-place-rank_of.true, c.rank_of.ensures.rank)) in
+    gains-result c.add_number.result (λ cell. cell_number c.space.result.now c.args.below.cube front ≡ Some cell) (GoesOn space c.args.below.cube c.args.below.roots.now c.args.place ds front)
+    (number-goes space c.space.result.now c.args.below.cube c.args.below.roots.now c.args.place ds front c.space.ensures.space none)
+    (goes-number space c.space.result.now c.args.below.cube c.args.below.roots.now c.args.place ds front c.space.ensures.space none)
     c.args.growth.now c.add_number.new.growth c.add_number.ensures.gains
 
 pub add_product-returns-then-place-rank_of-clause-stops : goal.add_product-returns-then-place-rank_of-clause-stops
 add_product-returns-then-place-rank_of-clause-stops t c =
-    let space = c.args.model.now.space in
-    let ds = axes_of space.dimensions (drop c.args.place (dims_of space c.args.cube)) in
+    let space = c.args.below.model.now.space in
+    let ds = axes_of space.dimensions (drop c.args.place (dims_of space c.args.below.cube)) in
     let front = take c.args.place c.args.at.now in
-    let none = axes-past space.dimensions (dims_of space c.args.cube) c.args.place (omega (arith, c.if-place-rank_of.true, c.rank_of.ensures.rank)) in
-    stops-result c.add_number.result (λ cell. cell_number c.space.result.now c.args.cube front ≡ Some cell) (GoesOn space c.args.cube c.args.roots.now c.args.place ds front)
-    (number-goes space c.space.result.now c.args.cube c.args.roots.now c.args.place ds front c.space.ensures.space none)
+    let none = axes-past space.dimensions (dims_of space c.args.below.cube) c.args.place (omega (arith, c.if-place-rank_of.true, c.rank_of.ensures.rank)) in
+    stops-result c.add_number.result (λ cell. cell_number c.space.result.now c.args.below.cube front ≡ Some cell) (GoesOn space c.args.below.cube c.args.below.roots.now c.args.place ds front)
+    (number-goes space c.space.result.now c.args.below.cube c.args.below.roots.now c.args.place ds front c.space.ensures.space none)
     c.args.growth.now c.add_number.new.growth c.add_number.ensures.stops
 
 pub add_product-returns-in_err-add_choice-clause-stops : goal.add_product-returns-in_err-add_choice-clause-stops
 add_product-returns-in_err-add_choice-clause-stops t c =
-    let space = c.args.model.now.space in
+    let space = c.args.below.model.now.space in
     let d = c.axis_of.result.0.now in
-    let ds = axes_of space.dimensions (drop (c.args.place + 1) (dims_of space c.args.cube)) in
+    let ds = axes_of space.dimensions (drop (c.args.place + 1) (dims_of space c.args.below.cube)) in
     let front = take c.args.place c.args.at.now in
     let n = c.each.choice in
-    let root = slice_get c.args.roots.now c.args.place in
+    let root = slice_get c.args.below.roots.now c.args.place in
     let is : c.leaf_at-leaf.result ≡ leaf_at d root n = c.leaf_at-leaf.ensures.leaf ∙ ap (λ (o : Option ℕ). leaf_at d o n) c.root_of-root.ensures in
     let many : c.candidates-choice-end.result ≡ candidates d root = c.candidates-choice-end.ensures ∙ ap (candidates d) c.root_of-root.ensures in
     let low : n < candidates d root = omega (arith, c.each-test.true, many) in
     let stops = rw c.each.invariant.front at c.in_err-add_choice.ensures.stops in
     handed-on c.from_residual.result c.in_err-add_choice.field-0.0
-    (StopsBy (GoesOn space c.args.cube c.args.roots.now c.args.place (axes_of space.dimensions (drop c.args.place (dims_of space c.args.cube))) front) c.args.growth.now c.add_choice.new.growth) c.from_residual.ensures.1
-    (subst (λ (os : List Outline). StopsBy (GoesOn space c.args.cube c.args.roots.now c.args.place os front) c.args.growth.now c.add_choice.new.growth c.in_err-add_choice.field-0.0) (sym c.axis_of.ensures.axis)
-    (goes-stops space c.args.cube c.args.roots.now c.args.place d ds front n c.leaf_at-leaf.result is low c.args.growth.now c.each.growth c.add_choice.new.growth c.in_err-add_choice.field-0.0 c.each.invariant.gains stops))
+    (StopsBy (GoesOn space c.args.below.cube c.args.below.roots.now c.args.place (axes_of space.dimensions (drop c.args.place (dims_of space c.args.below.cube))) front) c.args.growth.now c.add_choice.new.growth) c.from_residual.ensures.1
+    (subst (λ (os : List Outline). StopsBy (GoesOn space c.args.below.cube c.args.below.roots.now c.args.place os front) c.args.growth.now c.add_choice.new.growth c.in_err-add_choice.field-0.0) (sym c.axis_of.ensures.axis)
+    (goes-stops space c.args.below.cube c.args.below.roots.now c.args.place d ds front n c.leaf_at-leaf.result is low c.args.growth.now c.each.growth c.add_choice.new.growth c.in_err-add_choice.field-0.0 c.each.invariant.gains stops))
 
 pub add_product-each-preserved : goal.add_product-each-preserved
 add_product-each-preserved t c =
-    let space = c.args.model.now.space in
+    let space = c.args.below.model.now.space in
     let d = c.axis_of.result.0.now in
-    let ds = axes_of space.dimensions (drop (c.args.place + 1) (dims_of space c.args.cube)) in
+    let ds = axes_of space.dimensions (drop (c.args.place + 1) (dims_of space c.args.below.cube)) in
     let front = take c.args.place c.args.at.now in
     let n = c.each.choice in
-    let root = slice_get c.args.roots.now c.args.place in
+    let root = slice_get c.args.below.roots.now c.args.place in
     let is : c.leaf_at-leaf.result ≡ leaf_at d root n = c.leaf_at-leaf.ensures.leaf ∙ ap (λ (o : Option ℕ). leaf_at d o n) c.root_of-root.ensures in
     let gains = rw c.each.invariant.front at c.in_ok-add_choice.ensures.gains in
     record {
-      gains = goes-more space c.args.cube c.args.roots.now c.args.place d ds front n c.leaf_at-leaf.result is c.args.growth.now c.each.growth c.add_choice.new.growth c.each.invariant.gains gains;
+      gains = goes-more space c.args.below.cube c.args.below.roots.now c.args.place d ds front n c.leaf_at-leaf.result is c.args.growth.now c.each.growth c.add_choice.new.growth c.each.invariant.gains gains;
       front = c.add_choice.ensures.front ∙ c.each.invariant.front;
     }
 
 pub add_product-returns-clause-gains : goal.add_product-returns-clause-gains
 add_product-returns-clause-gains t c =
-    let space = c.args.model.now.space in
+    let space = c.args.below.model.now.space in
     let d = c.axis_of.result.0.now in
-    let ds = axes_of space.dimensions (drop (c.args.place + 1) (dims_of space c.args.cube)) in
+    let ds = axes_of space.dimensions (drop (c.args.place + 1) (dims_of space c.args.below.cube)) in
     let front = take c.args.place c.args.at.now in
-    let root = slice_get c.args.roots.now c.args.place in
+    let root = slice_get c.args.below.roots.now c.args.place in
     let many : c.candidates-choice-end.result ≡ candidates d root = c.candidates-choice-end.ensures ∙ ap (candidates d) c.root_of-root.ensures in
     let end : c.each.choice ≡ candidates d root = omega (arith, c.each-test.false, c.each.auto.choice-end, many) in
-    let gains = subst (λ (k : ℕ). Gains (GoesOnWithin space c.args.cube c.args.roots.now c.args.place d ds front k) c.args.growth.now c.each.growth) end c.each.invariant.gains in
-    subst (λ (os : List Outline). Gains (GoesOn space c.args.cube c.args.roots.now c.args.place os front) c.args.growth.now c.each.growth) (sym c.axis_of.ensures.axis)
-    (goes-done space c.args.cube c.args.roots.now c.args.place d ds front c.args.growth.now c.each.growth gains)
+    let gains = subst (λ (k : ℕ). Gains (GoesOnWithin space c.args.below.cube c.args.below.roots.now c.args.place d ds front k) c.args.growth.now c.each.growth) end c.each.invariant.gains in
+    subst (λ (os : List Outline). Gains (GoesOn space c.args.below.cube c.args.below.roots.now c.args.place os front) c.args.growth.now c.each.growth) (sym c.axis_of.ensures.axis)
+    (goes-done space c.args.below.cube c.args.below.roots.now c.args.place d ds front c.args.growth.now c.each.growth gains)

@@ -43,15 +43,15 @@ returns-in_err-check_covered-clause-comes c =
     (late-fed c.args.rules.items c.in_ok-model.model c.in_err-check_covered.field-0.0 answer c.from_residual-in_err-check_covered.ensures.1
     (rw c.deref-2.ensures.value at c.in_ok-check_ordered.ensures.comes) (rw c.deref-3.ensures.value at c.in_err-check_covered.ensures.comes))
 
-pub returns-in_err-check_fed-clause-comes : goal.returns-in_err-check_fed-clause-comes
-returns-in_err-check_fed-clause-comes c =
-    let answer = c.from_residual-in_err-check_fed.result in
-    checks (goal.at.returns-in_err-check_fed-clause-comes c).In_ok-model answer
-    (overfed c.args.rules.items c.in_ok-model.model c.in_err-check_fed.field-0.0 answer c.from_residual-in_err-check_fed.ensures.1
-    (rw c.deref-2.ensures.value at c.in_ok-check_ordered.ensures.comes) c.in_ok-check_covered.ensures.comes c.in_err-check_fed.ensures.comes)
+pub returns-in_err-feeding-clause-comes : goal.returns-in_err-feeding-clause-comes
+returns-in_err-feeding-clause-comes c =
+    let answer = c.from_residual-in_err-feeding.result in
+    checks (goal.at.returns-in_err-feeding-clause-comes c).In_ok-model answer
+    (overfed c.args.rules.items c.in_ok-model.model c.in_err-feeding.field-0.0 answer c.from_residual-in_err-feeding.ensures.1
+    (rw c.deref-2.ensures.value at c.in_ok-check_ordered.ensures.comes) c.in_ok-check_covered.ensures.comes (rw c.in_ok-sources.ensures at c.in_err-feeding.ensures.refused))
 
 pub returns-clause-comes : goal.returns-clause-comes
 returns-clause-comes c =
     checks (goal.at.returns-clause-comes c).In_ok-model (Ok c.new.result)
-    (passes c.args.rules.items c.in_ok-model.model c.new.result c.new.ensures (rw c.deref-2.ensures.value at c.in_ok-check_ordered.ensures.comes)
-    c.in_ok-check_covered.ensures.comes c.in_ok-check_fed.ensures.comes)
+    (passes c.args.rules.items c.in_ok-model.model c.new.result (c.new.ensures ∙ c.in_ok-sources.ensures) (rw c.deref-2.ensures.value at c.in_ok-check_ordered.ensures.comes)
+    c.in_ok-check_covered.ensures.comes (c.in_ok-feeding.feeding.fed, (rw c.in_ok-sources.ensures at c.in_ok-feeding.ensures.fed.fed), c.in_ok-feeding.ensures.few))
