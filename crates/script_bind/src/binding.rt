@@ -3,17 +3,17 @@ ghost use Rattle.script_bind.specs.Binding.{section_of, bound_of};
 
 use crate::statements::statements_of;
 use crate::variables::variables;
-use lists::ListOf;
 use script_bound::{BoundScript, Statement};
 use script_tree::{Line, Script};
 use sqlite_items::Items;
 use std::alloc::{AllocError, Global};
+use word_table::WordTable;
 
 /// The statements of a section, which are numbered from 1.
 #[tactic(auto, unfolding(crate::specs::Binding::section_of))]
 fn section_of(
     alloc: Global,
-    words: &[ListOf<u8>],
+    words: &WordTable,
     lines: &[Line],
 ) -> Result<Items<Statement>, AllocError>
     ensures { IfOk result (λ statements. statements ≡ section_of words.now lines.now) }
@@ -32,7 +32,7 @@ pub fn bind(alloc: Global, script: &Script) -> Result<BoundScript, AllocError>
     let body = section_of(alloc, &variables, script.body.lines.as_slice())?;
     let epilog = section_of(alloc, &variables, script.epilog.lines.as_slice())?;
     Ok(BoundScript {
-        variables: ListOf::new(variables),
+        variables: variables.into_words(),
         prolog,
         body,
         epilog,

@@ -3,11 +3,11 @@ ghost use Rattle.script_bind.specs.Binding as bound;
 ghost use Rattle.script_bind.specs.Binding.{term_of, statement_of, case_of, in_order};
 
 use crate::terms::{nothing, number_of, term_of, terms_of};
-use lists::ListOf;
 use script_bound::{Case, Statement, Term};
 use script_tree::{Arm, Expr, Line};
 use sqlite_items::Items;
 use std::alloc::{AllocError, Global};
+use word_table::WordTable;
 
 /// Takes the next number. No memory holds so many statements that there is none.
 fn take_number(next: &mut u32) -> Result<u32, AllocError>
@@ -28,7 +28,7 @@ fn take_number(next: &mut u32) -> Result<u32, AllocError>
 #[tactic(auto, unfolding(crate::specs::Binding::written))]
 fn written(
     alloc: Global,
-    words: &[ListOf<u8>],
+    words: &WordTable,
     arguments: &[Expr],
 ) -> Result<(Term, Items<Term>), AllocError>
     ensures { IfOk result (λ written. written ≡ bound.written (map (term_of words.now) arguments.now)) }
@@ -47,7 +47,7 @@ fn written(
 #[cycle(statements)]
 fn statement_of(
     alloc: Global,
-    words: &[ListOf<u8>],
+    words: &WordTable,
     line: &Line,
     next: &mut u32,
 ) -> Result<Statement, AllocError>
@@ -88,7 +88,7 @@ fn statement_of(
 #[cycle(statements)]
 pub(crate) fn statements_of(
     alloc: Global,
-    words: &[ListOf<u8>],
+    words: &WordTable,
     lines: &[Line],
     next: &mut u32,
 ) -> Result<Items<Statement>, AllocError>
@@ -106,12 +106,7 @@ pub(crate) fn statements_of(
 
 /// A block of an `IF`.
 #[cycle(statements)]
-fn case_of(
-    alloc: Global,
-    words: &[ListOf<u8>],
-    arm: &Arm,
-    next: &mut u32,
-) -> Result<Case, AllocError>
+fn case_of(alloc: Global, words: &WordTable, arm: &Arm, next: &mut u32) -> Result<Case, AllocError>
     ensures bound { IfOk result (λ case. case ≡ (case_of words.now arm.now next.old).0) }
     ensures left { OnOk result (next.new ≡ (case_of words.now arm.now next.old).1) }
 {
@@ -132,7 +127,7 @@ fn case_of(
 #[cycle(statements)]
 fn cases_of(
     alloc: Global,
-    words: &[ListOf<u8>],
+    words: &WordTable,
     arms: &[Arm],
     next: &mut u32,
 ) -> Result<Items<Case>, AllocError>

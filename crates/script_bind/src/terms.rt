@@ -1,4 +1,4 @@
-ghost use Rattle.std.specs.Prelude.{◌≡◌, ◌-◌, map, position, bytes_eq, IfOk};
+ghost use Rattle.std.specs.Prelude.{◌≡◌, ◌-◌, map, IfOk};
 ghost use Rattle.script_bind.specs.Binding as bound;
 ghost use Rattle.script_bind.specs.Binding.{term_of, call_term, function_term, operation_term, to_number, to_text};
 ghost use Rattle.script_bound.specs.declared.term.Term.TheVariants as terms;
@@ -11,19 +11,14 @@ use script_bound::Term;
 use script_tree::{Expr, ScriptFun, ScriptOp};
 use sqlite_items::{Boxed, Items};
 use std::alloc::{AllocError, Global};
-
-fn place_in(words: &[ListOf<u8>], word: &[u8]) -> Option<usize>
-    ensures { result ≡ position (λ other. bytes_eq other word.now) words.now }
-{
-    words.iter().position(|other| other.as_slice() == word)
-}
+use word_table::WordTable;
 
 /// The number of a variable: its place among the words.
 #[tactic(auto, unfolding(crate::specs::Binding::number_of))]
-pub(crate) fn number_of(words: &[ListOf<u8>], word: &[u8]) -> usize
+pub(crate) fn number_of(words: &WordTable, word: &[u8]) -> usize
     ensures { result ≡ bound.number_of words.now word.now }
 {
-    match place_in(words, word) {
+    match words.place_of(word) {
         Some(place) => place,
         None => words.len(),
     }
@@ -62,7 +57,7 @@ fn column_place(word: &[u8]) -> usize
 
 /// A variable or a column.
 #[tactic(auto, unfolding(crate::specs::Binding::word_term))]
-fn word_term(words: &[ListOf<u8>], word: &[u8]) -> Term
+fn word_term(words: &WordTable, word: &[u8]) -> Term
     ensures { result ≡ bound.word_term words.now word.now }
 {
     if is_column(word) {
@@ -114,7 +109,7 @@ fn operator_term(alloc: Global, op: ScriptOp, left: Term, right: Term) -> Result
 
 /// An expression in which these are the variables.
 #[cycle(terms)]
-pub(crate) fn term_of(alloc: Global, words: &[ListOf<u8>], expr: &Expr) -> Result<Term, AllocError>
+pub(crate) fn term_of(alloc: Global, words: &WordTable, expr: &Expr) -> Result<Term, AllocError>
     ensures { IfOk result (λ term. term ≡ term_of words.now expr.now) }
 {
     match expr {
@@ -146,7 +141,7 @@ pub(crate) fn term_of(alloc: Global, words: &[ListOf<u8>], expr: &Expr) -> Resul
 #[cycle(terms)]
 pub(crate) fn terms_of(
     alloc: Global,
-    words: &[ListOf<u8>],
+    words: &WordTable,
     exprs: &[Expr],
 ) -> Result<Items<Term>, AllocError>
     ensures { IfOk result (λ terms. terms ≡ map (term_of words.now) exprs.now) }
@@ -164,7 +159,7 @@ pub(crate) fn terms_of(
 #[tactic(auto, unfolding(crate::specs::Binding::call_term))]
 fn call_term(
     alloc: Global,
-    words: &[ListOf<u8>],
+    words: &WordTable,
     function: ScriptFun,
     arguments: &[Expr],
 ) -> Result<Term, AllocError>
@@ -190,7 +185,7 @@ fn call_term(
 #[tactic(auto, unfolding(crate::specs::Binding::function_term))]
 fn function_term(
     alloc: Global,
-    words: &[ListOf<u8>],
+    words: &WordTable,
     function: Fun,
     arguments: &[Expr],
 ) -> Result<Term, AllocError>
@@ -209,7 +204,7 @@ fn function_term(
 #[tactic(auto, unfolding(crate::specs::Binding::operation_term))]
 fn operation_term(
     alloc: Global,
-    words: &[ListOf<u8>],
+    words: &WordTable,
     op: Op,
     arguments: &[Expr],
 ) -> Result<Term, AllocError>
@@ -227,7 +222,7 @@ fn operation_term(
 
 #[cycle(terms)]
 #[tactic(auto, unfolding(crate::specs::Binding::to_number))]
-fn to_number(alloc: Global, words: &[ListOf<u8>], arguments: &[Expr]) -> Result<Term, AllocError>
+fn to_number(alloc: Global, words: &WordTable, arguments: &[Expr]) -> Result<Term, AllocError>
     ensures { IfOk result (λ term. term ≡ to_number (map (term_of words.now) arguments.now)) }
 {
     match arguments {
@@ -241,7 +236,7 @@ fn to_number(alloc: Global, words: &[ListOf<u8>], arguments: &[Expr]) -> Result<
 
 #[cycle(terms)]
 #[tactic(auto, unfolding(crate::specs::Binding::to_text))]
-fn to_text(alloc: Global, words: &[ListOf<u8>], arguments: &[Expr]) -> Result<Term, AllocError>
+fn to_text(alloc: Global, words: &WordTable, arguments: &[Expr]) -> Result<Term, AllocError>
     ensures { IfOk result (λ term. term ≡ to_text (map (term_of words.now) arguments.now)) }
 {
     match arguments {

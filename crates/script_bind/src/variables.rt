@@ -3,30 +3,23 @@ ghost use Rattle.script_bind.specs.Variables as named;
 ghost use Rattle.script_bind.specs.Variables.{in_turn, with_word, with_variable, words_in, words_at, words_of_arm};
 
 use grammar::is_column;
-use lists::ListOf;
 use script_tree::{Arm, Expr, Line, Script};
 use std::alloc::{AllocError, Global};
-
-fn is_named(words: &[ListOf<u8>], word: &[u8]) -> bool
-    ensures { result ≡ named.is_named words.now word.now }
-{
-    words.iter().any(|other| other.as_slice() == word)
-}
+use word_table::WordTable;
 
 /// Adds a word, where it is new.
-fn add_word(alloc: Global, words: &mut Vec<ListOf<u8>>, word: &[u8]) -> Result<(), AllocError>
-    ensures { OnOk result (words.new.items ≡ with_word word.now words.old.items) }
+fn add_word(alloc: Global, words: &mut WordTable, word: &[u8]) -> Result<(), AllocError>
+    ensures { OnOk result (words.new ≡ with_word word.now words.old) }
 {
-    if !is_named(words, word) {
-        let word = Vec::from_slice(alloc, word)?;
-        words.push(ListOf::new(word))?;
+    if words.contains(word) {
+        return Ok(());
     }
-    Ok(())
+    words.push(alloc, word)
 }
 
 /// Adds a variable's word. A column is no variable.
-fn add_variable(alloc: Global, words: &mut Vec<ListOf<u8>>, word: &[u8]) -> Result<(), AllocError>
-    ensures { OnOk result (words.new.items ≡ with_variable word.now words.old.items) }
+fn add_variable(alloc: Global, words: &mut WordTable, word: &[u8]) -> Result<(), AllocError>
+    ensures { OnOk result (words.new ≡ with_variable word.now words.old) }
 {
     if is_column(word) {
         Ok(())
@@ -37,8 +30,8 @@ fn add_variable(alloc: Global, words: &mut Vec<ListOf<u8>>, word: &[u8]) -> Resu
 
 /// Adds the variables of an expression.
 #[cycle(expressions)]
-fn add_words_in(alloc: Global, words: &mut Vec<ListOf<u8>>, expr: &Expr) -> Result<(), AllocError>
-    ensures { OnOk result (words.new.items ≡ words_in expr.now words.old.items) }
+fn add_words_in(alloc: Global, words: &mut WordTable, expr: &Expr) -> Result<(), AllocError>
+    ensures { OnOk result (words.new ≡ words_in expr.now words.old) }
 {
     match expr {
         Expr::Number(_) => Ok(()),
@@ -55,12 +48,8 @@ fn add_words_in(alloc: Global, words: &mut Vec<ListOf<u8>>, expr: &Expr) -> Resu
 }
 
 #[cycle(expressions)]
-fn add_words_in_all(
-    alloc: Global,
-    words: &mut Vec<ListOf<u8>>,
-    exprs: &[Expr],
-) -> Result<(), AllocError>
-    ensures { OnOk result (words.new.items ≡ in_turn (map words_in exprs.now) words.old.items) }
+fn add_words_in_all(alloc: Global, words: &mut WordTable, exprs: &[Expr]) -> Result<(), AllocError>
+    ensures { OnOk result (words.new ≡ in_turn (map words_in exprs.now) words.old) }
 {
     'each: for expr in exprs {
         add_words_in(alloc, words, expr)?;
@@ -70,8 +59,8 @@ fn add_words_in_all(
 
 /// Adds the variables of a statement and of those in it.
 #[cycle(lines)]
-fn add_words_at(alloc: Global, words: &mut Vec<ListOf<u8>>, line: &Line) -> Result<(), AllocError>
-    ensures { OnOk result (words.new.items ≡ words_at line.now words.old.items) }
+fn add_words_at(alloc: Global, words: &mut WordTable, line: &Line) -> Result<(), AllocError>
+    ensures { OnOk result (words.new ≡ words_at line.now words.old) }
 {
     match line {
         Line::Assign(word, given) => {
@@ -93,8 +82,8 @@ fn add_words_at(alloc: Global, words: &mut Vec<ListOf<u8>>, line: &Line) -> Resu
 
 /// Adds the variables of a block of an `IF`.
 #[cycle(lines)]
-fn add_words_of_arm(alloc: Global, words: &mut Vec<ListOf<u8>>, arm: &Arm) -> Result<(), AllocError>
-    ensures { OnOk result (words.new.items ≡ words_of_arm arm.now words.old.items) }
+fn add_words_of_arm(alloc: Global, words: &mut WordTable, arm: &Arm) -> Result<(), AllocError>
+    ensures { OnOk result (words.new ≡ words_of_arm arm.now words.old) }
 {
     match arm {
         Arm::When(test, lines) => {
@@ -106,12 +95,8 @@ fn add_words_of_arm(alloc: Global, words: &mut Vec<ListOf<u8>>, arm: &Arm) -> Re
 }
 
 #[cycle(lines)]
-fn add_words_of_arms(
-    alloc: Global,
-    words: &mut Vec<ListOf<u8>>,
-    arms: &[Arm],
-) -> Result<(), AllocError>
-    ensures { OnOk result (words.new.items ≡ in_turn (map words_of_arm arms.now) words.old.items) }
+fn add_words_of_arms(alloc: Global, words: &mut WordTable, arms: &[Arm]) -> Result<(), AllocError>
+    ensures { OnOk result (words.new ≡ in_turn (map words_of_arm arms.now) words.old) }
 {
     'each: for arm in arms {
         add_words_of_arm(alloc, words, arm)?;
@@ -122,10 +107,10 @@ fn add_words_of_arms(
 #[cycle(lines)]
 fn add_words_of_lines(
     alloc: Global,
-    words: &mut Vec<ListOf<u8>>,
+    words: &mut WordTable,
     lines: &[Line],
 ) -> Result<(), AllocError>
-    ensures { OnOk result (words.new.items ≡ in_turn (map words_at lines.now) words.old.items) }
+    ensures { OnOk result (words.new ≡ in_turn (map words_at lines.now) words.old) }
 {
     'each: for line in lines {
         add_words_at(alloc, words, line)?;
@@ -135,10 +120,10 @@ fn add_words_of_lines(
 
 /// The words of a script's variables, in the order in which they are first named.
 #[tactic(auto, unfolding(crate::specs::Variables::variables))]
-pub(crate) fn variables(alloc: Global, script: &Script) -> Result<Vec<ListOf<u8>>, AllocError>
-    ensures { IfOk result (λ words. words.items ≡ named.variables script.now) }
+pub(crate) fn variables(alloc: Global, script: &Script) -> Result<WordTable, AllocError>
+    ensures { IfOk result (λ words. words ≡ named.variables script.now) }
 {
-    let mut words = Vec::new(alloc);
+    let mut words = WordTable::new(alloc);
     add_words_of_lines(alloc, &mut words, script.prolog.lines.as_slice())?;
     add_words_of_lines(alloc, &mut words, script.body.lines.as_slice())?;
     add_words_of_lines(alloc, &mut words, script.epilog.lines.as_slice())?;

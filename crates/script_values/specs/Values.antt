@@ -1,5 +1,5 @@
 -- What an expression gives.
-use Rattle.std.specs.Prelude.{ℕ, ℤ, ◌==◌, Bool, not, ◌&&◌, ◌||◌, List, [], ◌∷◌, ◌++◌, reverse}
+use Rattle.std.specs.Prelude.{ℕ, ℤ, ◌==◌, nat_lt, Bool, not, ◌&&◌, ◌||◌, List, [], ◌∷◌, ◌++◌, length, reverse}
 use Rattle.std.specs.Prelude.{Option, Some, None, Result, Ok, Err, slice_get, if◌then◌else◌}
 use Rattle.cube_fixed.specs.declared.value.Value.{Value}
 use Rattle.cube_fixed.specs.declared.value.Value.TheVariants.{Num}
@@ -20,7 +20,7 @@ use Rattle.script_values.specs.declared.kept.Kept.{Kept}
 use Rattle.script_values.specs.declared.kept.Kept.TheVariants as kept
 use Rattle.script_values.specs.declared.load_reason.LoadReason.{LoadReason}
 use Rattle.script_values.specs.declared.load_reason.LoadReason.TheVariants.{UnknownName, NotANumber, UnsetVariable}
-use Rattle.script_values.specs.declared.load_reason.LoadReason.TheVariants.{TypeMismatch}
+use Rattle.script_values.specs.declared.load_reason.LoadReason.TheVariants.{TypeMismatch, TextLimit}
 use Rattle.script_values.specs.Cells.{Store, Write, reading}
 use Rattle.script_values.specs.Scene.{Scene}
 
@@ -132,6 +132,15 @@ abbrev pub column : ℕ → Option (List (List ℕ)) → Result Datum LoadReason
 column place (Some columns) = Ok (data_of.Text (filled (slice_get columns place)))
 column place None = Err UnsetVariable
 
+-- the most bytes of a text that is put together
+abbrev pub most_text_bytes : ℕ
+most_text_bytes = 1048576
+
+-- two texts, one behind the other, unless that is too long for a text
+abbrev pub joined : List ℕ × List ℕ → Result Datum LoadReason
+joined (left, right) =
+    if nat_lt most_text_bytes (length (left ++ right)) then Err TextLimit else Ok (data_of.Text (left ++ right))
+
 -- what an expression gives: by what is seen, and by the cells after the writes so far
 abbrev pub Reading : Type 0
 Reading = Scene → Store → List Write → Result Datum LoadReason
@@ -165,7 +174,8 @@ value_step (Term-F.ToNumber a) scene store writes =
 value_step (Term-F.ToText a) scene store writes =
     done (λ value. data_of.Text (printed value)) (amount (a scene store writes))
 value_step (Term-F.Join a b) scene store writes =
-    two_texts (λ left right. data_of.Text (left ++ right)) (a scene store writes) (b scene store writes)
+    taken joined
+    (one_and_other (λ left right. (left, right)) (text (a scene store writes)) (text (b scene store writes)))
 value_step (Term-F.Same a b) scene store writes =
     two_texts (λ left right. data_of.Truth (is_same_name left right)) (a scene store writes) (b scene store writes)
 value_step (Term-F.Other a b) scene store writes =

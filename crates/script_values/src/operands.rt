@@ -1,4 +1,4 @@
-ghost use Rattle.std.specs.Prelude.{◌≡◌, ◌++◌, ◌&&◌, ◌||◌, not, IfOk};
+ghost use Rattle.std.specs.Prelude.{◌≡◌, ◌&&◌, ◌||◌, not, IfOk};
 ghost use Rattle.cube_fixed.specs.Text.{printed};
 ghost use Rattle.dim_name.specs.Name.{is_same_name};
 ghost use Rattle.rule_laws.specs.Operation.{function_of};
@@ -76,13 +76,25 @@ pub(crate) fn text_of<'a>(
     }
 }
 
-/// Two texts, one behind the other.
-fn both<'a>(alloc: Global, left: &[u8], right: &[u8]) -> Result<Text<'a>, AllocError>
-    ensures { IfOk result (λ both. both ≡ left.now ++ right.now) }
+/// The most bytes of a text that is put together.
+const MAX_TEXT: usize = 1_048_576;
+
+/// Two texts, one behind the other, unless that is too long for a text.
+fn both<'a>(
+    alloc: Global,
+    left: &[u8],
+    right: &[u8],
+) -> Result<Result<Datum<'a>, LoadReason>, AllocError>
+    ensures { IfOk result (λ answer. answer ≡ values.joined (left.now, right.now)) }
 {
-    let mut bytes = Vec::from_slice(alloc, left)?;
+    let count = left.len() + right.len();
+    if count > MAX_TEXT {
+        return Ok(Err(LoadReason::TextLimit));
+    }
+    let mut bytes = Vec::with_capacity(alloc, count)?;
+    bytes.extend_from_slice(left)?;
     bytes.extend_from_slice(right)?;
-    Ok(Text::owned(bytes))
+    Ok(Ok(Datum::Text(Text::owned(bytes))))
 }
 
 /// What two operands give as texts.
@@ -103,13 +115,11 @@ pub(crate) fn joined<'a>(
     right: Result<Datum<'a>, LoadReason>,
 ) -> Result<Result<Datum<'a>, LoadReason>, AllocError>
     ensures { IfOk result (λ answer. answer
-        ≡ values.two_texts (λ a b. data_of.Text (a ++ b)) left.entry right.entry) }
+        ≡ values.taken values.joined
+        (values.one_and_other (λ a b. (a, b)) (values.text left.entry) (values.text right.entry))) }
 {
     match two_texts(left, right) {
-        Ok((left, right)) => {
-            let text = both(alloc, left.as_slice(), right.as_slice())?;
-            Ok(Ok(Datum::Text(text)))
-        }
+        Ok((left, right)) => both(alloc, left.as_slice(), right.as_slice()),
         Err(reason) => Ok(Err(reason)),
     }
 }

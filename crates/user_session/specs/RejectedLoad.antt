@@ -24,6 +24,7 @@ cause_text (stops.StoreLimit count) = codes "StoreLimit"
 cause_text (stops.FedLimit count) = codes "FedLimit"
 cause_text stops.UnsetVariable = codes "UnsetVariable"
 cause_text stops.TypeMismatch = codes "TypeMismatch"
+cause_text stops.TextLimit = codes "TextLimit"
 
 -- `rejected SECTION record R statement S REASON`
 abbrev pub stopped_text : Section → ℕ → ℕ → scripts.LoadReason → List ℕ

@@ -91,5 +91,6 @@ fn cause_name(reason: LoadReason) -> &'static str
         LoadReason::FedLimit(_) => "FedLimit",
         LoadReason::UnsetVariable => "UnsetVariable",
         LoadReason::TypeMismatch => "TypeMismatch",
+        LoadReason::TextLimit => "TextLimit",
     }
 }
