@@ -1,9 +1,9 @@
 //! The fed cells of a version: which leaf cells may have a value other than 0 though nothing is stored in them.
 //!
 //! [`Fed`] is the list of them, rising, and [`Feeding`] has with them the totals that feeders name, so that none is
-//! opened twice. [`Feeding::of`] finds them anew, [`Feeding::over`] from those over nothing, and [`Feeding::grown`] from
-//! those of a version in which fewer cells were stored. Each follows a cell by the feeders of its cube whose area has
-//! it, and a fed cell once. Where no cell of an area is taken out, the fed cells stay: [`is_any_source`].
+//! opened twice. [`Feeding::of`] finds them anew, [`Feeding::over`] from those over nothing, and [`Feeding::grown`]
+//! from those of a version in which fewer cells were stored. Each follows a cell by the feeders of its cube whose area
+//! has it, and a fed cell once. Where no cell of an area is taken out, the fed cells stay: [`is_any_source`].
 //!
 //! [`SourceModel`] is a model in which the areas that have a cell are found fast.
 //!
