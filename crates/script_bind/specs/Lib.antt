@@ -1,3 +1,4 @@
 pub mod Variables
 pub mod Binding
 pub mod Numbers
+pub mod Inside

@@ -11,6 +11,7 @@ mod operator;
 mod statements;
 mod terms;
 mod variables;
+mod word_table;
 
 pub use binding::bind;
 pub use laws::statements_are_numbered_from_1;

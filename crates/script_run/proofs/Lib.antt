@@ -1,3 +1,2 @@
 pub mod Begun
 pub mod Turns
-pub mod Params

@@ -15,10 +15,8 @@ use script_bind::bind;
 use script_bound::BoundScript;
 use script_tree::{Script, Section};
 use script_values::{Kept, WorkCells};
-use sqlite_items::at;
 use std::alloc::{AllocError, Global};
 use user_text::ParamText;
-use word_table::WordTable;
 
 /// The most statements that a load executes.
 const MAX_STEPS: u32 = 1_000_000;
@@ -35,52 +33,37 @@ fn param_value(alloc: Global, param: &ParamText) -> Result<Kept, AllocError>
     }
 }
 
-/// The words of the parameters.
-fn words_of(alloc: Global, params: &[(ListOf<u8>, ParamText)]) -> Result<WordTable, AllocError>
-    ensures { IfOk result (λ words. words ≡ map (λ param. param.0) params.now) }
-{
-    let mut words = WordTable::new(alloc);
-    'each: for param in params {
-        words.push(alloc, param.0.as_slice())?;
-    }
-    Ok(words)
-}
-
-/// The parameter of a word, if there is one. These are the words of the parameters.
-#[tactic(auto, using(crate::proofs::Params::by_place))]
+/// The parameter of a word, if there is one.
 fn param_of(
     alloc: Global,
-    words: &WordTable,
     params: &[(ListOf<u8>, ParamText)],
     word: &[u8],
 ) -> Result<Option<Kept>, AllocError>
-    requires { words.now ≡ map (λ param. param.0) params.now }
     ensures { IfOk result (λ kept. kept ≡ loads.param_of params.now word.now) }
 {
-    let Some(place) = words.place_of(word) else {
-        return Ok(None);
-    };
-    match at(params, place) {
-        Some(param) => Ok(Some(param_value(alloc, &param.1)?)),
-        None => Ok(None),
+    'each: for param in params {
+        if param.0.as_slice() == word {
+            let value = param_value(alloc, &param.1)?;
+            return Ok(Some(value));
+        }
     }
+    Ok(None)
 }
 
-/// What the variables of these words hold before the Prolog.
+/// What the variables hold before the Prolog.
 fn variables(
     alloc: Global,
-    variables: &[ListOf<u8>],
+    words: &[ListOf<u8>],
     params: &[(ListOf<u8>, ParamText)],
 ) -> Result<Vec<Option<Kept>>, AllocError>
-    ensures { IfOk result (λ values. values.items ≡ map (loads.param_of params.now) variables.now) }
+    ensures { IfOk result (λ variables. variables.items ≡ map (loads.param_of params.now) words.now) }
 {
-    let words = words_of(alloc, params)?;
-    let mut values = Vec::new(alloc);
-    'each: for variable in variables {
-        let value = param_of(alloc, &words, params, variable.as_slice())?;
-        values.push(value)?;
+    let mut variables = Vec::new(alloc);
+    'each: for word in words {
+        let value = param_of(alloc, params, word.as_slice())?;
+        variables.push(value)?;
     }
-    Ok(values)
+    Ok(variables)
 }
 
 /// Before the first execution.

@@ -4,5 +4,4 @@ use Rattle.script_run.proofs.running.variables.Given as goal
 
 abbrev pub invariant-each : goal.invariant-each
 invariant-each l =
-    (l.values.items ++ map (param_of l.params) (drop l.variable-index l.variables) ≡ map (param_of l.params) l.variables)
-    × (l.words ≡ map (λ param. param.0) l.params)
+    l.variables.items ++ map (param_of l.params) (drop l.word-index l.words) ≡ map (param_of l.params) l.words
