@@ -25,8 +25,9 @@ use Rattle.cube_space.proofs.space.Space.TheSendSync as space
 use Rattle.dim_weights.proofs.weights.Weights.TheSendSync as weights
 use Rattle.cell_store.proofs.store.Store.TheSendSync as store
 use Rattle.cell_store.proofs.set.PageSet.TheSendSync as pages
-use Rattle.feed_map.specs.contracts.fed.Fed as Fed
-use Rattle.feed_map.specs.contracts.fed.Feeding as Feeding
+use Rattle.feed_map.proofs.fed.Feeding.TheSendSync as feeding
+use Rattle.feed_map.proofs.above.Above.TheSendSync as above
+use Rattle.feed_map.specs.contracts.source_model.SourceModel as SourceModel
 use Rattle.accepted.specs.contracts.accepted_model.Accepted as Accepted
 use Rattle.cell_versions.specs.contracts.version.Version as Version
 use Rattle.atomic_table.proofs.shared.Shared.TheSendSync as table
@@ -88,29 +89,23 @@ Content-send = search (parts, Model-send, store.the_send) depth 20
 pub Content-sync : IsSync Content.the_row
 Content-sync = search (parts, Model-sync, store.the_sync) depth 20
 
-Fed-send : IsSend Fed.the_row
-Fed-send = search (parts, pages.the_send) depth 20
+SourceModel-send : IsSend SourceModel.the_row
+SourceModel-send = search (parts, Model-send, above.the_send) depth 20
 
-Fed-sync : IsSync Fed.the_row
-Fed-sync = search (parts, pages.the_sync) depth 20
-
-Feeding-send : IsSend Feeding.the_row
-Feeding-send = search (parts, pages.the_send, Fed-send) depth 20
-
-Feeding-sync : IsSync Feeding.the_row
-Feeding-sync = search (parts, pages.the_sync, Fed-sync) depth 20
+SourceModel-sync : IsSync SourceModel.the_row
+SourceModel-sync = search (parts, Model-sync, above.the_sync) depth 20
 
 Accepted-send : IsSend Accepted.the_row
-Accepted-send = search (parts, Model-send, Feeding-send) depth 20
+Accepted-send = search (parts, SourceModel-send, feeding.the_send, feeding.the_field_send) depth 20
 
 Accepted-sync : IsSync Accepted.the_row
-Accepted-sync = search (parts, Model-sync, Feeding-sync) depth 20
+Accepted-sync = search (parts, SourceModel-sync, feeding.the_sync, feeding.the_field_sync) depth 20
 
 Version-send : IsSend Version.the_row
-Version-send = search (parts, Accepted-send, Accepted-sync, store.the_send, Feeding-send) depth 20
+Version-send = search (parts, Accepted-send, Accepted-sync, store.the_send, feeding.the_send, feeding.the_field_send) depth 20
 
 Version-sync : IsSync Version.the_row
-Version-sync = search (parts, Accepted-send, Accepted-sync, store.the_sync, Feeding-sync) depth 20
+Version-sync = search (parts, Accepted-send, Accepted-sync, store.the_sync, feeding.the_sync, feeding.the_field_sync) depth 20
 
 Memo-send : IsSend Memo.the_row
 Memo-send = search (parts, table.the_send, lease.the_send) depth 20
