@@ -1,5 +1,5 @@
 -- The stages of deployment, put together.
-use Rattle.std.proofs.Common.{◌≡◌, ◌⊎◌, inl, inr, ℕ, suc, [], Option, Some, None, option_map, Result, Ok, Err, List, length, refl, ap, sym, ◌∙◌, subst, IsErrAnd}
+use Rattle.std.proofs.Common.{◌≡◌, ◌⊎◌, inl, inr, ℕ, suc, [], Option, Some, None, option_map, Result, Ok, Err, List, length, ap, sym, ◌∙◌, subst, IsErrAnd}
 use Rattle.std.specs.Option.{option_or}
 use Rattle.std.proofs.lemmas.List.{length-map}
 use Rattle.cube_space.specs.Layout.{Layout}
@@ -26,7 +26,7 @@ use Rattle.bind_areas.specs.declared.cause.BindCause.TheVariants.{Memory}
 use Rattle.rule_bind.specs.declared.fault.BindFault.{BindFault}
 use Rattle.rule_bind.specs.Rules.{IsBound}
 use Rattle.model_deploy.specs.Rules.{text_stage, place_of, cause_of, meant_in, meaning_stage, order_stage, rules_stage}
-use Rattle.model_deploy.specs.Deployment.{order_refusal, feeders_refusal, feeders_stage, fed_stage, model_of, deployment}
+use Rattle.model_deploy.specs.Deployment.{order_refusal, feeders_refusal, feeders_stage, fed_stage, deployment}
 use Rattle.model_deploy.specs.Inside.Grouped.{checked, grouped}
 use Rattle.model_deploy.proofs.Stages.{stopped, goes-on, as-many, in-turn, behind, one-by-one}
 

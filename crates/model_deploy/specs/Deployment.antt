@@ -1,5 +1,5 @@
 -- Deployment: the checks of a model text and its rule files, in order, and the model that passes them.
-use Rattle.std.specs.Prelude.{◌≡◌, ℕ, suc, List, [], Option, option_map}
+use Rattle.std.specs.Prelude.{◌≡◌, suc, List, [], Option, option_map}
 use Rattle.model_text.specs.Contents.{Contents}
 use Rattle.rule_laws.specs.Cover.{IsCovered}
 use Rattle.rule_model.specs.BoundModel.{BoundModel}

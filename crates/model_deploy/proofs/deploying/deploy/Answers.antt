@@ -1,6 +1,8 @@
-use Rattle.std.proofs.Common.{Result, Ok}
+use Rattle.std.proofs.Common.{Result, Ok, Err, ◌∙◌, sym, subst, []}
+use Rattle.accepted.specs.Checks.{IsAccepted}
+use Rattle.feed_map.specs.FedCells.{AreFedCells}
 use Rattle.rule_model.specs.BoundModel.{BoundModel}
-use Rattle.model_deploy.specs.Deployment.{deployment}
+use Rattle.model_deploy.specs.Deployment.{deployment, fed_stage}
 use Rattle.model_deploy.specs.Stages.{Comes}
 use Rattle.model_deploy.specs.Inside.Grouped.{checked}
 use Rattle.model_deploy.specs.declared.fault.DeployFault.{DeployFault}
@@ -48,10 +50,18 @@ returns-in_err-feeding-clause-comes c =
     let answer = c.from_residual-in_err-feeding.result in
     checks (goal.at.returns-in_err-feeding-clause-comes c).In_ok-model answer
     (overfed c.args.rules.items c.in_ok-model.model c.in_err-feeding.field-0.0 answer c.from_residual-in_err-feeding.ensures.1
-    (rw c.deref-2.ensures.value at c.in_ok-check_ordered.ensures.comes) c.in_ok-check_covered.ensures.comes (rw c.in_ok-sources.ensures at c.in_err-feeding.ensures.refused))
+    (rw c.deref-2.ensures.value at c.in_ok-check_ordered.ensures.comes) c.in_ok-check_covered.ensures.comes (subst (λ (m : BoundModel). Comes (fed_stage m) (Err c.in_err-feeding.field-0.0)) c.in_ok-sources.ensures c.in_err-feeding.ensures.refused))
 
 pub returns-clause-comes : goal.returns-clause-comes
 returns-clause-comes c =
     checks (goal.at.returns-clause-comes c).In_ok-model (Ok c.new.result)
     (passes c.args.rules.items c.in_ok-model.model c.new.result (c.new.ensures ∙ c.in_ok-sources.ensures) (rw c.deref-2.ensures.value at c.in_ok-check_ordered.ensures.comes)
-    c.in_ok-check_covered.ensures.comes (c.in_ok-feeding.feeding.fed, (rw c.in_ok-sources.ensures at c.in_ok-feeding.ensures.fed.fed), c.in_ok-feeding.ensures.few))
+    c.in_ok-check_covered.ensures.comes (c.in_ok-feeding.feeding.fed, (subst (λ (m : BoundModel). AreFedCells m [] c.in_ok-feeding.feeding.fed) c.in_ok-sources.ensures c.in_ok-feeding.ensures.fed.fed), c.in_ok-feeding.ensures.few))
+
+pub new-requires-clause-accepted : goal.new-requires-clause-accepted
+new-requires-clause-accepted c =
+    subst IsAccepted (sym c.in_ok-sources.ensures) (record {
+      ordered = c.in_ok-check_ordered.ensures.ordered;
+      covered = c.in_ok-check_covered.ensures.covered;
+      few_fed = (c.in_ok-feeding.feeding.fed, subst (λ (m : BoundModel). AreFedCells m [] c.in_ok-feeding.feeding.fed) c.in_ok-sources.ensures c.in_ok-feeding.ensures.fed.fed, c.in_ok-feeding.ensures.few);
+    })
