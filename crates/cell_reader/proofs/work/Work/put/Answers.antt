@@ -1,4 +1,5 @@
-use Rattle.std.proofs.Common.{◌≡◌, ◌∙◌, ap, true, ℕ, ℤ, List, [], ◌∷◌, ◌++◌}
+use Rattle.std.proofs.Common.{◌≡◌, ◌∙◌, ap, true, ℕ, ℤ, ◌-◌, List, [], ◌∷◌, ◌++◌, drop, length, take}
+use Rattle.std.proofs.lemmas.List.{take_rest}
 use Rattle.std.specs.Prelude.{is_ok}
 use Rattle.std.specs.Arc.{arc_value}
 use Rattle.cell_store.specs.Entries.{after_writes}
@@ -15,6 +16,13 @@ invariant_of-self-clause-ahead c =
     let more : IsAhead work.opening work.latest (work.written.items ++ (c.args.cell, c.args.number) ∷ []) work.made c.in-Some.room =
     waits-behind work c.deref-2.result.now c.deref.result.now c.in-Some.room c.args.cell c.args.number c.deref-2.ensures c.deref.ensures.value c.requires.cell c.requires.leaf c.in-Some.ensures.waits in
     rw c.extend_from_slice.ensures.items (ahead_either work.opening work.latest work.written.items (work.written.items ++ (c.args.cell, c.args.number) ∷ []) work.made c.in-Some.room (less-room work.opening work.latest work.written.items work.made work.room work.ahead c.in-Some.room c.in-Some.ensures.less) more (is_ok c.extend_from_slice.result))
+
+-- what waits may wait
+pub room_behind-requires-clause-waiting : goal.room_behind-requires-clause-waiting
+room_behind-requires-clause-waiting c =
+    let work = c.args.self.now in
+    let slice : take (length c.deref.result.now - work.made) (drop work.made c.deref.result.now) ≡ drop work.made work.written.items = take_rest c.deref.result.now work.made ∙ ap (drop work.made) c.deref.ensures.value in
+    rw (slice, c.deref-2.ensures) work.ahead.waiting
 
 pub go_on-requires : goal.go_on-requires
 go_on-requires c =
