@@ -18,6 +18,7 @@ use Rattle.rule_model.proofs.area.Area.TheSendSync as area
 use Rattle.rule_model.proofs.order.Order.TheSendSync as order
 use Rattle.rule_model.proofs.rules.Feeder.TheSendSync as feeder
 use Rattle.rule_model.proofs.rules.Form.TheSendSync as form
+use Rattle.rule_model.proofs.words.Words.TheSendSync as words
 use Rattle.rule_model.specs.contracts.rules.Statement as Statement
 use Rattle.rule_model.specs.contracts.rules.CubeRules as CubeRules
 use Rattle.rule_model.specs.contracts.model.Model as Model
@@ -78,10 +79,10 @@ CubeRules-sync : IsSync CubeRules.the_row
 CubeRules-sync = search (parts, Statement-sync, feeder.the_sync, order.the_field_sync) depth 20
 
 Model-send : IsSend Model.the_row
-Model-send = search (parts, CubeRules-send, space.the_send, weights.the_send) depth 20
+Model-send = search (parts, CubeRules-send, space.the_send, weights.the_send, words.the_field_send) depth 20
 
 Model-sync : IsSync Model.the_row
-Model-sync = search (parts, CubeRules-sync, space.the_sync, weights.the_sync) depth 20
+Model-sync = search (parts, CubeRules-sync, space.the_sync, weights.the_sync, words.the_field_sync) depth 20
 
 pub Content-send : IsSend Content.the_row
 Content-send = search (parts, Model-send, store.the_send) depth 20

@@ -40,7 +40,7 @@ pub fn deploy(
     let found = foundation_of(alloc, text)?;
     let bound = rules_of(alloc, &found, &rules)?;
     let Foundation { space, weights, .. } = found;
-    let model = Model::of(space, weights, bound.into_vec())?;
+    let model = Model::of(alloc, space, weights, bound.into_vec())?;
     check_ordered(alloc, &rules, &model)?;
     check_covered(alloc, &rules, &model)?;
     let sources = SourceModel::of(alloc, model)?;

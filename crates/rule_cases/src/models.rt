@@ -41,7 +41,7 @@ fn unordered(alloc: Global, files: &Files) -> Result<Model, Refusal> {
         Err(fault) => return Err(told(alloc, fault)),
     };
     let Foundation { space, weights, .. } = found;
-    Ok(Model::of(space, weights, bound.into_vec())?)
+    Ok(Model::of(alloc, space, weights, bound.into_vec())?)
 }
 
 fn rule_files(alloc: Global, files: &Files, cubes: usize) -> Result<Vec<Option<RuleFile>>, Refusal>

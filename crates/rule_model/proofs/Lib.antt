@@ -5,3 +5,4 @@ mod Components
 pub mod Arguments
 pub mod Statements
 mod GoverningFacts
+mod OpenFacts

@@ -3,11 +3,14 @@ ghost use Rattle.cube_space.specs.Cells.{IsSpace};
 ghost use Rattle.rule_model.specs.BoundModel.{rules_of};
 ghost use Rattle.rule_model.specs.Conditions.{AreRules};
 ghost use Rattle.rule_model.specs.Weights.{AreWeightsOf, HasSmallProducts};
+ghost use Rattle.rule_model.specs.Inside.Words.{rule_words};
 
 use crate::rules::CubeRules;
+use crate::words::{Words, words_of_cubes};
 use cube_space::Space;
 use dim_weights::Weights;
-use std::alloc::AllocError;
+use lists::ListOf;
+use std::alloc::{AllocError, Global};
 
 /// The greatest weight product that a cube may have: the product, over its dimensions, of the greatest size of a
 /// coefficient.
@@ -20,6 +23,7 @@ pub struct Model {
     space: Space,
     weights: Vec<Weights>,
     rules: Vec<CubeRules>,
+    words: Vec<ListOf<Words>>,
 }
 
 impl std::marker::Model for Model {
@@ -34,12 +38,13 @@ impl std::marker::Model for Model {
 
     ghost view = { λ m. record { space = m.space; rules = m.rules.items } };
 
-    ghost invariant = { λ m. IsBound m.space m.weights.items m.rules.items };
+    ghost invariant = { λ m. IsBound m.space m.weights.items m.rules.items m.words.items };
 }
 
 impl Model {
     /// The model over this space, with the coefficients of each of its dimensions and the rules of each of its cubes.
     pub fn of(
+        alloc: Global,
         space: Space,
         weights: Vec<Weights>,
         rules: Vec<CubeRules>,
@@ -51,10 +56,12 @@ impl Model {
     {
         // a space says of itself that it is one
         let _cells = space.size();
+        let words = words_of_cubes(alloc, &rules)?;
         Ok(Model {
             space,
             weights,
             rules,
+            words,
         })
     }
 
@@ -81,5 +88,13 @@ impl Model {
         ensures { result.now ≡ rules_of self.now cube }
     {
         &self.rules[cube as usize]
+    }
+
+    /// The words for what comes without a statement, in the N part of each statement of a cube.
+    pub(crate) fn words(&self, cube: u32) -> &[Words]
+        requires { cube < length self.now.space.cubes }
+        ensures { result.now ≡ rule_words (rules_of self.now cube) }
+    {
+        self.words[cube as usize].as_slice()
     }
 }

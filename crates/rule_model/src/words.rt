@@ -1,8 +1,12 @@
-ghost use Rattle.std.specs.Prelude.{◌≡◌, ◌||◌};
+ghost use Rattle.std.specs.Prelude.{◌≡◌, ◌||◌, IfOk, map};
 ghost use Rattle.rule_model.specs.Input.{has_stet, has_continue};
 ghost use Rattle.rule_model.specs.Inside.Parts.{truth_has_stet, truth_has_continue};
+ghost use Rattle.rule_model.specs.Inside.Words.{leaf_words, rule_words};
 
+use crate::rules::{CubeRules, Statement};
+use lists::ListOf;
 use rule_laws::{Formula, Truth};
+use std::alloc::{AllocError, Global};
 
 /// Which words for what comes without a statement stand in a formula.
 #[derive(Clone, Copy)]
@@ -30,9 +34,40 @@ impl Words {
     }
 }
 
+/// Those that stand in the N parts of each cube's statements.
+pub fn words_of_cubes(alloc: Global, cubes: &[CubeRules]) -> Result<Vec<ListOf<Words>>, AllocError>
+    ensures { IfOk result (λ words. words.items ≡ map rule_words cubes.now) }
+{
+    let mut words = Vec::with_capacity(alloc, cubes.len())?;
+    'each: for place in 0..cubes.len() {
+        let of_cube = words_of_statements(alloc, cubes[place].statements.as_slice())?;
+        words.push(of_cube)?;
+    }
+    Ok(words)
+}
+
+fn words_of_statements(alloc: Global, statements: &[Statement]) -> Result<ListOf<Words>, AllocError>
+    ensures { IfOk result (λ words. words ≡ map leaf_words statements.now) }
+{
+    let mut words = Vec::with_capacity(alloc, statements.len())?;
+    'each: for place in 0..statements.len() {
+        words.push(words_of_leaf(&statements[place]))?;
+    }
+    Ok(ListOf::new(words))
+}
+
+fn words_of_leaf(statement: &Statement) -> Words
+    ensures { result ≡ leaf_words statement.now }
+{
+    match &statement.leaf {
+        Some(formula) => words_of(formula),
+        None => Words::NONE,
+    }
+}
+
 /// Those that stand in a formula.
 #[cycle(words)]
-pub fn words_of(formula: &Formula) -> Words
+fn words_of(formula: &Formula) -> Words
     ensures stet { result.stet ≡ has_stet formula.now }
     ensures rest { result.rest ≡ has_continue formula.now }
 {
