@@ -8,8 +8,8 @@ use crate::dense::add_dense;
 use crate::fault::FedFault;
 use crate::follow::{follow_cells, follow_opened, follow_stored};
 use crate::reached::Reached;
-use crate::source_model::SourceModel;
 use cell_store::{CellSet, PageSet, Store};
+use feed_sources::SourceModel;
 use std::alloc::{AllocError, Global};
 
 /// The fed cells of a version: the leaf cells that may have a value other than 0 though nothing is stored in them.
