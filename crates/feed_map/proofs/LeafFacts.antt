@@ -1,26 +1,74 @@
 -- The cells whose elements are leaves that count in a cell's elements are the leaf cells below it; those of any leaves are
 -- the leaf cells of a cube.
-use Rattle.std.proofs.Common.{◌≡◌, refl, sym, ap, ◌∙◌, subst, ℕ, zero, suc, ◌+◌, ◌<◌, ◌≤◌, ◌⊎◌, inl, inr, Bool, true, false, cond, ℤ, List, [], ◌∷◌, ◌++◌, append_assoc, length, map, get_or, Option, Some, None, nat_lt, arith, zero-add}
+use Rattle.std.proofs.Common.{◌≡◌, refl, sym, ap, ◌∙◌, subst, ℕ, zero, suc, ◌+◌, ◌<◌, ◌≤◌, ◌⊎◌, inl, inr, Bool, true, false, cond, ℤ, List, [], ◌∷◌, ◌++◌, append_assoc, length, map, Option, Some, None, nat_lt, arith, zero-add, All, append-nil}
 use Rattle.std.specs.Prelude.{slice_get}
 use Rattle.std.specs.List.{Contains, filter, range_with_len}
 use Rattle.std.specs.Option.{option_map}
-use Rattle.std.proofs.lemmas.Bool.{and_parts, and_from, ltb-true, lt-ltb, cond_both, eq-eqb}
+use Rattle.std.proofs.lemmas.Bool.{and_parts, and_from, ltb-true, lt-ltb, cond_both}
 use Rattle.std.proofs.lemmas.Option.{cond_some, option_and_then_some, slice_get_within, slice_get-get_or, get_or_from_slice_get}
+use Rattle.std.proofs.lemmas.List.Elements.{All-filter, filter-append}
 use Rattle.std.proofs.lemmas.List.FromFn.{get_or-range_with_len, length-range_with_len}
 use Rattle.std.proofs.lemmas.List.Elements.{All-contains}
 use Rattle.dim_core.specs.Outline.{Outline}
 use Rattle.dim_weights.specs.Coefficients.{coef}
-use Rattle.dim_weights.specs.Table.{is_nonzero, nonzero_among, leaves_of}
+use Rattle.dim_weights.proofs.ByLevel.{range-push}
+use Rattle.dim_weights.specs.Table.{is_nonzero, leaves_of}
 use Rattle.cube_space.specs.Radix.{are_digits}
 use Rattle.cube_space.specs.Layout.{Layout, axes, sizes_of}
-use Rattle.cube_space.specs.Cells.{IsCell, size_of, cube_of, elements_of, is_leaf, are_leaves, is_leaf_cell, cell_number, is_place}
-use Rattle.cube_space.proofs.Places.{cell-place, cell_number-cell, place_number, is_place-parts, place-within, cell_at-place}
+use Rattle.cube_space.specs.Cells.{IsCell, cube_of, elements_of, is_leaf, are_leaves, is_leaf_cell, cell_number}
+use Rattle.cube_space.proofs.Places.{cell-place, cell_number-cell}
 use Rattle.rule_model.specs.Weights.{coef_product, weight, leaf_cells, leaves_below}
 use Rattle.model_laws.proofs.Below.{weight-counted, leaf_cells-are}
-use Rattle.feed_map.specs.Inside.Leaves.{candidates, candidate, leaf_at, IsChosen, AreChosen, GoesOn, GoesOnWithin, IsLeafCellOf}
+use Rattle.feed_map.specs.Inside.Leaves.{own_leaves, candidates, candidate, leaf_at, IsChosen, AreChosen, GoesOn, GoesOnWithin, IsLeafCellOf}
 use Rattle.feed_sources.proofs.Members.{none-there, at-front, behind, front-or-behind}
 use Rattle.feed_sources.proofs.BelowFacts.{IsAt, number-at, cell-leaves, has-nonzero, below-has, has-below, leaf_cells-has, weight-product}
 use Rattle.dim_weights.proofs.Nonzero.{both-factors as product-nonzero, first-factor, second-factor, among-in as nonzero-has}
+
+-- ---- the leaves of a dimension
+
+-- what passes a test is among those that do
+kept : (p : ℕ → Bool) (xs : List ℕ) (c : ℕ) → Contains xs c → p c ≡ true → Contains (filter p xs) c
+kept p [] c has on = absurd (none-there c has)
+kept p (x ∷ xs) c has on =
+    elim (front-or-behind x xs c has) [
+      | inl is ↦ (let here : p x ≡ true = ap p is ∙ on in
+          rw here (subst (Contains (x ∷ filter p xs)) is (at-front x (filter p xs))))
+      | inr more ↦ (let later = kept p xs c more on in
+          cond_both (p x) (x ∷ filter p xs) (filter p xs) (λ (ys : List ℕ). Contains ys c)
+          (λ on. behind x (filter p xs) c later) (λ off. later))
+    ]
+
+-- a number below a length is in the range
+in-range : (n k : ℕ) → k < n → Contains (range_with_len 0 n) k
+in-range n k low = (k, omega (arith, low, length-range_with_len 0 n), get_or-range_with_len 0 n k k low ∙ zero-add k)
+
+leaves-low : (d : Outline) → All (λ l. l < length d.elements) (own_leaves d)
+leaves-low d =
+    All-filter (is_leaf d) (λ l. l < length d.elements) (range_with_len 0 (length d.elements)) (λ k x low. (
+    let few : k < length d.elements = omega (arith, low, length-range_with_len 0 (length d.elements)) in
+    let at = get_or-range_with_len 0 (length d.elements) k x few in
+    omega (arith, few, at)))
+
+pub leaf-there : (d : Outline) (place leaf : ℕ) → slice_get (own_leaves d) place ≡ Some leaf → leaf < length d.elements
+leaf-there d place leaf own =
+    subst (λ x. x < length d.elements) (get_or_from_slice_get (own_leaves d) place leaf leaf own)
+    (leaves-low d place leaf (slice_get_within (own_leaves d) place leaf own))
+
+-- one element more
+more : (d : Outline) (n : ℕ) → filter (is_leaf d) (range_with_len 0 (n + 1)) ≡ filter (is_leaf d) (range_with_len 0 n) ++ filter (is_leaf d) (n ∷ [])
+more d n = ap (filter (is_leaf d)) (range-push n) ∙ filter-append (is_leaf d) (range_with_len 0 n) (n ∷ [])
+
+pub leaf-more : (d : Outline) (n : ℕ) → is_leaf d n ≡ true
+    → filter (is_leaf d) (range_with_len 0 (n + 1)) ≡ filter (is_leaf d) (range_with_len 0 n) ++ n ∷ []
+leaf-more d n on =
+    let one : filter (is_leaf d) (n ∷ []) ≡ n ∷ [] = rw on refl in
+    more d n ∙ ap (λ xs. filter (is_leaf d) (range_with_len 0 n) ++ xs) one
+
+pub total-more : (d : Outline) (n : ℕ) → is_leaf d n ≡ false
+    → filter (is_leaf d) (range_with_len 0 (n + 1)) ≡ filter (is_leaf d) (range_with_len 0 n)
+total-more d n off =
+    let none : filter (is_leaf d) (n ∷ []) ≡ [] = rw off refl in
+    more d n ∙ ap (λ xs. filter (is_leaf d) (range_with_len 0 n) ++ xs) none ∙ append-nil (filter (is_leaf d) (range_with_len 0 n))
 
 -- ---- one dimension
 
@@ -52,8 +100,7 @@ is-there d e l place is = by (slice_get (leaves_of d e) place) refl
 
 chosen-at : (d : Outline) (root : Option ℕ) (place leaf l : ℕ) → place < candidates d root → candidate d root place ≡ Some leaf → is_leaf d leaf ≡ true → leaf ≡ l → IsLeafIn d root l
 chosen-at d None place leaf l low own on same =
-    let at : place ≡ leaf = cc in
-    record { there = omega (arith, low, at, same); leaf = ap (is_leaf d) (sym same) ∙ on; counts = tt }
+    record { there = omega (arith, leaf-there d place leaf own, same); leaf = ap (is_leaf d) (sym same) ∙ on; counts = tt }
 chosen-at d (Some e) place leaf l low own on same =
     let here = is-there d e leaf place own in
     record { there = omega (arith, here.0, same); leaf = ap (is_leaf d) (sym same) ∙ on; counts = ap (λ (y : ℕ). is_nonzero (coef d e y)) (sym same) ∙ here.1 }
@@ -65,9 +112,12 @@ chosen-leaf d root l (place, low, is) =
     chosen-at d root place leaf l low own parts.0 parts.1)
 
 leaf-chosen : (d : Outline) (root : Option ℕ) (l : ℕ) → IsLeafIn d root l → IsChosen d root (candidates d root) l
-leaf-chosen d None l is = (l, is.there, rw is.leaf refl)
+leaf-chosen d None l is =
+    let has = kept (is_leaf d) (range_with_len 0 (length d.elements)) l (in-range (length d.elements) l is.there) is.leaf in
+    let found : slice_get (own_leaves d) has.0 ≡ Some l = slice_get-get_or (own_leaves d) has.0 l has.1 ∙ ap Some has.2 in
+    (has.0, has.1, rw found (rw is.leaf refl))
 leaf-chosen d (Some e) l is =
-    let listed : Contains (range_with_len 0 (length d.elements)) l = (l, omega (arith, is.there, length-range_with_len 0 (length d.elements)), get_or-range_with_len 0 (length d.elements) l l is.there ∙ zero-add l) in
+    let listed = in-range (length d.elements) l is.there in
     let has = nonzero-has (coef d e) (range_with_len 0 (length d.elements)) l listed is.counts in
     let found : slice_get (leaves_of d e) has.0 ≡ Some (l, coef d e l) = slice_get-get_or (leaves_of d e) has.0 (l, coef d e l) has.1 ∙ ap Some has.2 in
     let own : candidate d (Some e) has.0 ≡ Some l = ap (option_map (λ (pair : ℕ × ℤ). pair.0)) found in

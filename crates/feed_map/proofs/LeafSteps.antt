@@ -1,18 +1,17 @@
 -- The cells of a product of leaves, leaf by leaf.
-use Rattle.std.proofs.Common.{◌≡◌, refl, sym, ap, ◌∙◌, subst, ℕ, zero, suc, ◌+◌, ◌<◌, ◌≤◌, ◌⊎◌, inl, inr, List, [], ◌∷◌, ◌++◌, append-nil, length, take, drop, set, get_or, Option, Some, None, arith, zero-add}
-use Rattle.std.specs.Prelude.{slice_get, IfSome}
-use Rattle.std.proofs.lemmas.List.{drop_more, get_or-map, drop_all, take-set}
+use Rattle.std.proofs.Common.{◌≡◌, refl, sym, ap, ◌∙◌, subst, ℕ, zero, suc, ◌+◌, ◌<◌, ◌≤◌, ◌⊎◌, inl, inr, List, [], ◌∷◌, ◌++◌, append-nil, take, set, get_or, Option, Some, None, arith, zero-add}
+use Rattle.std.specs.Prelude.{map, slice_get, slice_index_or}
+use Rattle.std.proofs.lemmas.List.{get_or-map, take-set}
 use Rattle.std.proofs.lemmas.Option.{slice_get_within, get_or_from_slice_get, slice_get-get_or}
 use Rattle.dim_core.specs.Outline.{Outline}
-use Rattle.cube_space.specs.declared.shape.CubeShape.{CubeShape}
-use Rattle.cube_space.specs.Layout.{Layout, axes, axes_of, dims_of}
+use Rattle.cube_space.specs.Layout.{Layout, axes}
 use Rattle.cube_space.specs.Cells.{IsCell, cube_of, elements_of, cell_number}
 use Rattle.cube_space.proofs.Places.{cell-place}
 use Rattle.model_laws.proofs.Levels.{element-of}
 use Rattle.feed_map.specs.declared.fault.FedFault.{FedFault}
 use Rattle.feed_map.specs.declared.growth.Growth.{Growth}
 use Rattle.feed_map.specs.Inside.Gains.{Gains, StopsBy}
-use Rattle.feed_map.specs.Inside.Leaves.{candidates, leaf_at, AreRoots, GoesOn, GoesOnBy, GoesOnWithin}
+use Rattle.feed_map.specs.Inside.Leaves.{own_leaves, candidates, leaf_at, AreRoots, IsRoot, GoesOn, GoesOnBy, GoesOnWithin}
 use Rattle.feed_map.proofs.GainFacts.{gains-none, gains-as, gains-then, stops-then}
 use Rattle.feed_map.proofs.LeafFacts.{chosen-more, chosen-before, chosen-here, goes-on-next, next-goes-on}
 
@@ -63,25 +62,30 @@ module _ (space : Layout) (cube : ℕ) (roots : List ℕ) (place : ℕ) (d : Out
   pub goes-done : (a b : Growth) → Gains (Within (candidates d root)) a b → Gains (GoesOn space cube roots place (d ∷ ds) front) a b
   goes-done = gains-as (Within (candidates d root)) (GoesOn space cube roots place (d ∷ ds) front) (next-goes-on space cube roots place d ds front) (goes-on-next space cube roots place d ds front)
 
--- the elements of a cell are roots
-pub roots-from : (roots : List ℕ) (place : ℕ) (ds : List Outline) → ((k : ℕ) (d : Outline) → slice_get ds k ≡ Some d → IfSome (slice_get roots (place + k)) (λ element. element < length d.elements))
-    → AreRoots roots place ds
-roots-from roots place [] each = tt
-roots-from roots place (d ∷ ds) each =
+-- roots, dimension by dimension
+pub roots-from : (roots : List ℕ) (leaves : List (List ℕ)) (place : ℕ) (ds : List Outline)
+    → ((k : ℕ) (d : Outline) → slice_get ds k ≡ Some d → IsRoot d (slice_get roots (place + k)) (slice_index_or leaves (place + k) []))
+    → AreRoots roots leaves place ds
+roots-from roots leaves place [] each = tt
+roots-from roots leaves place (d ∷ ds) each =
     let e : place + 0 ≡ place = omega arith in (
-      subst (λ (n : ℕ). IfSome (slice_get roots n) (λ element. element < length d.elements)) e (each 0 d refl),
-      roots-from roots (place + 1) ds (λ k o found. (let f : place + suc k ≡ place + 1 + k = omega arith in subst (λ (n : ℕ). IfSome (slice_get roots n) (λ element. element < length o.elements)) f (each (suc k) o found))),
+      subst (λ (n : ℕ). IsRoot d (slice_get roots n) (slice_index_or leaves n [])) e (each 0 d refl),
+      roots-from roots leaves (place + 1) ds (λ k o found. (let f : place + suc k ≡ place + 1 + k = omega arith in subst (λ (n : ℕ). IsRoot o (slice_get roots n) (slice_index_or leaves n [])) f (each (suc k) o found))),
     )
 
-pub no-roots : (place : ℕ) (ds : List Outline) → AreRoots [] place ds
-no-roots place [] = tt
-no-roots place (d ∷ ds) = (tt, no-roots (place + 1) ds)
+-- with the leaves of each dimension, no roots are needed
+pub leaf-roots : (ds : List Outline) (leaves : List (List ℕ)) → leaves ≡ map own_leaves ds → AreRoots [] leaves 0 ds
+leaf-roots ds leaves are =
+    roots-from [] leaves 0 ds (λ k d found. (
+    let low = slice_get_within ds k d found in
+    ap (λ n. slice_index_or leaves n []) (zero-add k) ∙ ap (λ ls. slice_index_or ls k []) are ∙ get_or-map own_leaves ds k d [] low
+    ∙ ap own_leaves (get_or_from_slice_get ds k d d found)))
 
 -- the elements of a cell are roots of its cube's dimensions
-pub cell-roots : (space : Layout) (t : ℕ) → IsCell space t → AreRoots (elements_of space t) 0 (axes space (cube_of space t))
+pub cell-roots : (space : Layout) (t : ℕ) → IsCell space t → AreRoots (elements_of space t) [] 0 (axes space (cube_of space t))
 cell-roots space t cell =
     let digits = (cell-place space t cell).place.digits in
-    roots-from (elements_of space t) 0 (axes space (cube_of space t)) (λ k d found. (
+    roots-from (elements_of space t) [] 0 (axes space (cube_of space t)) (λ k d found. (
     let at = element-of (axes space (cube_of space t)) (elements_of space t) k d digits found in
     let get : slice_get (elements_of space t) (0 + k) ≡ Some (get_or (elements_of space t) k 0) = ap (slice_get (elements_of space t)) (zero-add k) ∙ slice_get-get_or (elements_of space t) k 0 at.0 in
     rw get at.1))

@@ -132,7 +132,7 @@ fn all_fed(alloc: Global, model: &SourceModel, store: &Store) -> Result<Reached,
     ensures { IsReach model.now store.now result }
 {
     let mut found = Reached::from(alloc, PageSet::new(alloc), PageSet::new(alloc));
-    add_dense(model.model(), &mut found.growth)?;
+    add_dense(alloc, model.model(), &mut found.growth)?;
     follow_stored(model, store, &mut found)?;
     follow_opened(model, &mut found)?;
     Ok(found)

@@ -1,13 +1,14 @@
-ghost use Rattle.std.specs.Prelude.{◌≡◌, ◌+◌, ◌<◌, ◌≤◌, false, Some, IfSome, IfErr, OnOk, ◌∷◌, length, take, drop};
-ghost use Rattle.std.specs.Prelude.{slice_get, Contains};
+ghost use Rattle.std.specs.Prelude.{◌≡◌, ◌+◌, ◌<◌, ◌≤◌, false, Some, IfSome, IfErr, OnOk, [], ◌∷◌, IfOk, length, map, take, drop};
+ghost use Rattle.std.specs.Prelude.{slice_get, slice_index_or, Contains};
 ghost use Rattle.dim_weights.specs.Table.{IsWeightsOf};
-ghost use Rattle.cube_space.specs.Layout.{axes_of, dims_of, most_dimensions};
+ghost use Rattle.cube_space.specs.Layout.{axes, axes_of, dims_of, most_dimensions};
 ghost use Rattle.cube_space.specs.Cells.{IsCell, cube_of, elements_of, is_leaf_cell, cell_number};
 ghost use Rattle.rule_laws.specs.Feeding.{leaves_of};
 ghost use Rattle.rule_model.specs.System.{system_of};
 ghost use Rattle.feed_map.specs.Inside.Gains.{Gains, StopsBy};
 ghost use Rattle.feed_map.specs.Inside.Follows.{AreOpened};
-ghost use Rattle.feed_map.specs.Inside.Leaves.{candidates, candidate, leaf_at, axes_from, AreRoots, IsBelow, IsBelowBy};
+ghost use Rattle.feed_map.specs.Inside.Leaves.{candidates, candidate, leaf_at, own_leaves};
+ghost use Rattle.feed_map.specs.Inside.Leaves.{axes_from, AreRoots, IsRoot, IsBelow, IsBelowBy};
 
 use crate::fault::FedFault;
 use crate::growth::Growth;
@@ -16,7 +17,9 @@ use cell_store::CellSet;
 use cube_space::{MAX_DIMENSIONS, Space};
 use dim_core::Dimension;
 use dim_weights::Weights;
+use lists::ListOf;
 use rule_model::{Model, place_of};
+use std::alloc::{AllocError, Global};
 
 /// Finds the leaf cells that a cell means: itself, or those below it. A total that was opened isn't opened again.
 pub fn add_leaves_of(model: &Model, cell: u64, reached: &mut Reached) -> Result<(), FedFault>
@@ -63,6 +66,7 @@ fn add_below(
         model,
         cube,
         roots: elements,
+        leaves: &[],
     };
     add_product(below, 0, &mut at, growth)
 }
@@ -74,6 +78,8 @@ pub struct Below<'a> {
     pub model: &'a Model,
     pub cube: u32,
     pub roots: &'a [u32],
+    /// The leaves of each dimension, where there is one without a root.
+    pub leaves: &'a [ListOf<u32>],
 }
 
 /// Finds the cells whose elements are, up to a place, those of `at`, and from there on leaves that count in the roots.
@@ -86,7 +92,8 @@ pub fn add_product(
 ) -> Result<(), FedFault>
     requires cube { below.cube < length below.model.now.space.cubes }
     requires place { place ≤ length (dims_of below.model.now.space below.cube) }
-    requires roots { AreRoots below.roots.now place (axes_from below.model.now.space below.cube place) }
+    requires roots { AreRoots below.roots.now below.leaves.now place
+        (axes_from below.model.now.space below.cube place) }
     ensures gains { OnOk result (Gains (IsBelow below.entry place (take place at.old)) growth.old growth.new) }
     ensures stops { IfErr result (StopsBy (IsBelow below.entry place (take place at.old)) growth.old growth.new) }
     ensures front { take place at.new ≡ take place at.old }
@@ -96,8 +103,9 @@ pub fn add_product(
     }
     let (dimension, weights) = axis_of(below.model, below.cube, place);
     let root = root_of(below.roots, place);
-    'each: for choice in 0..candidates(dimension, weights, root) {
-        let leaf = leaf_at(dimension, weights, root, choice);
+    let leaves = leaves_at(below.leaves, place);
+    'each: for choice in 0..candidates(dimension, weights, leaves, root) {
+        let leaf = leaf_at(dimension, weights, leaves, root, choice);
         add_choice(below, place, leaf, at, growth)?;
     }
     Ok(())
@@ -114,7 +122,8 @@ fn add_choice(
 ) -> Result<(), FedFault>
     requires cube { below.cube < length below.model.now.space.cubes }
     requires place { place < length (dims_of below.model.now.space below.cube) }
-    requires roots { AreRoots below.roots.now (place + 1) (axes_from below.model.now.space below.cube (place + 1)) }
+    requires roots { AreRoots below.roots.now below.leaves.now (place + 1)
+        (axes_from below.model.now.space below.cube (place + 1)) }
     ensures gains { OnOk result (Gains (IsBelowBy below.entry place (take place at.old) leaf) growth.old growth.new) }
     ensures stops { IfErr result (StopsBy (IsBelowBy below.entry place (take place at.old) leaf)
         growth.old growth.new) }
@@ -177,27 +186,43 @@ fn add_number(
     }
 }
 
-// How many elements there are to choose leaves from: those that count in the root, or all.
-fn candidates(dimension: &Dimension, weights: &Weights, root: Option<u32>) -> usize
+// The leaves at a place; none where there are none.
+fn leaves_at(leaves: &[ListOf<u32>], place: usize) -> &[u32]
+    ensures { result.now ≡ slice_index_or leaves.now place [] }
+{
+    match leaves.get(place) {
+        Some(leaves) => leaves.as_slice(),
+        None => &[],
+    }
+}
+
+// How many elements there are to choose leaves from: those that count in the root, or these leaves.
+fn candidates(dimension: &Dimension, weights: &Weights, leaves: &[u32], root: Option<u32>) -> usize
     requires weights { IsWeightsOf dimension.now weights.now }
-    requires root { IfSome root (λ element. element < length dimension.now.elements) }
+    requires root { IsRoot dimension.now root leaves.now }
     ensures { result ≡ candidates dimension.now root }
 {
     match root {
         Some(element) => weights.leaves(element).len(),
-        None => dimension.len() as usize,
+        None => leaves.len(),
     }
 }
 
 // The leaf at a place among them.
-fn leaf_at(dimension: &Dimension, weights: &Weights, root: Option<u32>, place: usize) -> Option<u32>
+fn leaf_at(
+    dimension: &Dimension,
+    weights: &Weights,
+    leaves: &[u32],
+    root: Option<u32>,
+    place: usize,
+) -> Option<u32>
     requires weights { IsWeightsOf dimension.now weights.now }
-    requires root { IfSome root (λ element. element < length dimension.now.elements) }
+    requires root { IsRoot dimension.now root leaves.now }
     requires place { place < candidates dimension.now root }
     ensures leaf { result ≡ leaf_at dimension.now root place }
     ensures within { IfSome result (λ leaf. leaf < length dimension.now.elements) }
 {
-    let leaf = candidate(dimension, weights, root, place);
+    let leaf = candidate(dimension, weights, leaves, root, place);
     if dimension.is_leaf(leaf) {
         Some(leaf)
     } else {
@@ -206,19 +231,50 @@ fn leaf_at(dimension: &Dimension, weights: &Weights, root: Option<u32>, place: u
 }
 
 // The element at a place among them.
-fn candidate(dimension: &Dimension, weights: &Weights, root: Option<u32>, place: usize) -> u32
+fn candidate(
+    dimension: &Dimension,
+    weights: &Weights,
+    leaves: &[u32],
+    root: Option<u32>,
+    place: usize,
+) -> u32
     requires weights { IsWeightsOf dimension.now weights.now }
-    requires root { IfSome root (λ element. element < length dimension.now.elements) }
+    requires root { IsRoot dimension.now root leaves.now }
     requires place { place < candidates dimension.now root }
     ensures element { candidate dimension.now root place ≡ Some result }
     ensures within { result < length dimension.now.elements }
 {
     match root {
         Some(element) => weights.leaves(element)[place].0,
-        None => {
-            // a dimension says of itself how many elements it has at most
-            let _len = dimension.len();
-            place as u32
+        None => leaves[place],
+    }
+}
+
+/// The leaves of each dimension of a cube.
+pub fn leaves_of_cube(
+    alloc: Global,
+    model: &Model,
+    cube: u32,
+) -> Result<Vec<ListOf<u32>>, AllocError>
+    requires { cube < length model.now.space.cubes }
+    ensures { IfOk result (λ leaves. leaves.items ≡ map own_leaves (axes model.now.space cube)) }
+{
+    let mut leaves = Vec::new(alloc);
+    'each: for place in 0..rank_of(model, cube) {
+        let (dimension, _) = axis_of(model, cube, place);
+        leaves.push(leaves_of_dimension(alloc, dimension)?)?;
+    }
+    Ok(leaves)
+}
+
+fn leaves_of_dimension(alloc: Global, dimension: &Dimension) -> Result<ListOf<u32>, AllocError>
+    ensures { IfOk result (λ leaves. leaves ≡ own_leaves dimension.now) }
+{
+    let mut leaves = Vec::new(alloc);
+    'each: for element in 0..dimension.len() {
+        if dimension.is_leaf(element) {
+            leaves.push(element)?;
         }
     }
+    Ok(ListOf::new(leaves))
 }

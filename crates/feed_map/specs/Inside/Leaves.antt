@@ -1,20 +1,25 @@
 -- Cells whose elements are leaves, dimension by dimension.
 use Rattle.std.specs.Prelude.{◌≡◌, ℕ, ◌+◌, ◌<◌, true, ⊤}
-use Rattle.std.specs.Prelude.{Option, Some, None, IfSome, if◌then◌else◌, option_map, option_and_then}
-use Rattle.std.specs.Prelude.{List, [], ◌∷◌, ◌++◌, length, drop, slice_get}
+use Rattle.std.specs.Prelude.{Option, Some, None, if◌then◌else◌, option_map, option_and_then}
+use Rattle.std.specs.Prelude.{List, [], ◌∷◌, ◌++◌, length, drop, filter, slice_get, slice_index_or}
+use Rattle.std.specs.List.{range_with_len}
 use Rattle.dim_core.specs.Outline.{Outline}
 use Rattle.dim_weights.specs.Table.{leaves_of}
 use Rattle.cube_space.specs.Layout.{Layout, axes_of, dims_of}
 use Rattle.cube_space.specs.Cells.{IsCell, is_leaf, is_leaf_cell, cube_of, cell_number}
 use Rattle.feed_map.specs.declared.leaves.Below.{Below}
 
--- the elements to choose leaves from: those that count in an element, or all
+-- the leaves of a dimension, rising
+abbrev pub own_leaves : Outline → List ℕ
+own_leaves dimension = filter (is_leaf dimension) (range_with_len 0 (length dimension.elements))
+
+-- the elements to choose leaves from: those that count in an element, or all leaves
 abbrev pub candidates : Outline → Option ℕ → ℕ
-candidates dimension None = length dimension.elements
+candidates dimension None = length (own_leaves dimension)
 candidates dimension (Some element) = length (leaves_of dimension element)
 
 abbrev pub candidate : Outline → Option ℕ → ℕ → Option ℕ
-candidate dimension None place = Some place
+candidate dimension None place = slice_get (own_leaves dimension) place
 candidate dimension (Some element) place = option_map (λ pair. pair.0) (slice_get (leaves_of dimension element) place)
 
 -- the leaf at a place, or None where what stands there is no leaf
@@ -26,11 +31,16 @@ leaf_at dimension root place =
 abbrev pub IsChosen : Outline → Option ℕ → ℕ → ℕ → Type 0
 IsChosen dimension root places leaf = (place : ℕ) × (place < places) × (leaf_at dimension root place ≡ Some leaf)
 
--- there are roots for these dimensions from a place on: an element of each, or none of those from some place on
-abbrev pub AreRoots : List ℕ → ℕ → List Outline → Type 0
-AreRoots roots place [] = ⊤
-AreRoots roots place (d ∷ ds) =
-    IfSome (slice_get roots place) (λ element. element < length d.elements) × AreRoots roots (place + 1) ds
+-- what is asked of the root of a dimension: that it is an element, or that these are the leaves, where there is none
+abbrev pub IsRoot : Outline → Option ℕ → List ℕ → Type 0
+IsRoot d None leaves = leaves ≡ own_leaves d
+IsRoot d (Some element) leaves = element < length d.elements
+
+-- for these dimensions, from a place on, there are roots, or their leaves where there is none
+abbrev pub AreRoots : List ℕ → List (List ℕ) → ℕ → List Outline → Type 0
+AreRoots roots leaves place [] = ⊤
+AreRoots roots leaves place (d ∷ ds) =
+    IsRoot d (slice_get roots place) (slice_index_or leaves place []) × AreRoots roots leaves (place + 1) ds
 
 -- each is a leaf of its dimension, from a place on, that counts in the root there; any leaf where there is none
 abbrev pub AreChosen : List ℕ → ℕ → List Outline → List ℕ → Type 0

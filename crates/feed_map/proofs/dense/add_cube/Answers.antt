@@ -3,11 +3,11 @@ use Rattle.cube_space.specs.Layout.{axes}
 use Rattle.feed_map.specs.Inside.Leaves.{IsLeafCellOf, GoesOn}
 use Rattle.feed_map.proofs.GainFacts.{gains-result, stops-result}
 use Rattle.feed_map.proofs.LeafFacts.{goes-on-cube, cube-goes-on}
-use Rattle.feed_map.proofs.LeafSteps.{no-roots}
+use Rattle.feed_map.proofs.LeafSteps.{leaf-roots}
 use Rattle.feed_map.proofs.dense.add_cube.Goals as goal
 
 pub add_product-requires-clause-roots : goal.add_product-requires-clause-roots
-add_product-requires-clause-roots c = no-roots 0 (axes c.args.model.now.space c.args.cube)
+add_product-requires-clause-roots c = leaf-roots (axes c.args.model.now.space c.args.cube) c.deref.result.now (rw c.deref.ensures.value c.in_ok-leaves.ensures)
 
 pub returns-clause-gains : goal.returns-clause-gains
 returns-clause-gains c =

@@ -18,8 +18,8 @@ add_product-requires-clause-cube c =
 pub add_product-requires-clause-roots : goal.add_product-requires-clause-roots
 add_product-requires-clause-roots c =
     let space = c.args.model.now.space in
-    subst (λ (k : ℕ). AreRoots c.args.elements.now 0 (axes space k)) (sym c.requires.cube)
-    (subst (λ (es : List ℕ). AreRoots es 0 (axes space (cube_of space c.args.cell))) (sym c.requires.elements) (cell-roots space c.args.cell c.requires.cell))
+    subst (λ (k : ℕ). AreRoots c.args.elements.now [] 0 (axes space k)) (sym c.requires.cube)
+    (subst (λ (es : List ℕ). AreRoots es [] 0 (axes space (cube_of space c.args.cell))) (sym c.requires.elements) (cell-roots space c.args.cell c.requires.cell))
 
 pub returns-clause-gains : goal.returns-clause-gains
 returns-clause-gains c =
