@@ -22,7 +22,7 @@ module _ (m : BoundModel) (x c : ℕ) where
   By feed = FeedsBy (system_of m) feed x c
 
   -- a feeder feeds from cells of its cube alone
-  source-cube : (cube : ℕ) (feeder : Feeder) → By (feed_of m.space cube feeder) → cube_of m.space x ≡ cube
+  pub source-cube : (cube : ℕ) (feeder : Feeder) → By (feed_of m.space cube feeder) → cube_of m.space x ≡ cube
   source-cube cube feeder by =
       let same = and_parts (eqb (cube_of m.space x) cube) _ (and_parts (eqb (cube_of m.space x) cube && is_leaf_cell m.space x) _ by.1).0 in
       eqb-true (cube_of m.space x) cube same.0

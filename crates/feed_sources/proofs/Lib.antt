@@ -4,3 +4,10 @@ pub mod AboveFacts
 pub mod SourceFacts
 pub mod FeederFacts
 pub mod BelowFacts
+mod DigitFacts
+mod JumpFacts
+mod KeptFacts
+mod ChoiceFacts
+mod FeedFacts
+mod WalkFacts
+mod BackFacts

@@ -18,7 +18,7 @@ pub use Rattle.rule_model.proofs.Coefs.{dimension_at as dimension-there}
 pub use Rattle.dim_weights.proofs.Nonzero.{counts-nonzero as nonzero-is}
 
 -- lists of pairs that go together
-zip-length : {A B : Type 0} (R : A → B → Type 0) (xs : List A) (ys : List B) → AllZip R xs ys → length xs ≡ length ys
+pub zip-length : {A B : Type 0} (R : A → B → Type 0) (xs : List A) (ys : List B) → AllZip R xs ys → length xs ≡ length ys
 zip-length R [] [] zip = refl
 zip-length R [] (y ∷ ys) zip = absurd zip
 zip-length R (x ∷ xs) [] zip = absurd zip
