@@ -9,6 +9,7 @@ ghost use Rattle.feed_sources.specs.Feeders.{FeedsByOne};
 use crate::choices::choices_of;
 use crate::feeds::feeds_by;
 use crate::jumps::jump_from;
+use crate::misses::misses;
 use crate::source_model::SourceModel;
 use cell_store::CellSet;
 use rule_model::Feeder;
@@ -91,6 +92,9 @@ fn is_fed_by<W: CellSet>(
     ensures out { IfErr result (λ _. steps.new ≡ 0) }
 {
     take_step(steps)?;
+    if misses(model, cube, &feeder.target, cell) {
+        return Ok(false);
+    }
     let choices = choices_of(model, cube, feeder, cell);
     let space = model.space();
     let dims = space.shape(cube).dims.as_slice();

@@ -15,6 +15,7 @@ mod choices;
 mod fed_from;
 mod feeds;
 mod jumps;
+mod misses;
 mod source;
 mod source_model;
 mod sources;

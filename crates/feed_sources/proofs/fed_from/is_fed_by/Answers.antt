@@ -9,6 +9,7 @@ use Rattle.rule_model.proofs.Shapes.{dims_few, dims_within, shape_dims}
 use Rattle.feed_sources.specs.Inside.Choices.{AreChosen}
 use Rattle.feed_sources.proofs.WalkFacts.{IsLeast, next-least, run-at}
 use Rattle.feed_sources.proofs.BackFacts.{none-begun, none-ended, none-outside, none-jumped, none-passed}
+use Rattle.feed_sources.proofs.FeedFacts.{fed-parts}
 use Rattle.feed_sources.proofs.fed_from.is_fed_by.Goals.{After-cells-cells, In-Some}
 use Rattle.feed_sources.proofs.fed_from.is_fed_by.Goals as goal
 
@@ -24,6 +25,10 @@ few-cells g c =
     let run = run_within c.args.model.now.space c.args.cube c.requires.cube in
     let most = c.space-space.ensures.valid.size in
     omega (arith, run, most, first-is g c, cells-is g c)
+
+pub returns-then-misses-clause-none : goal.returns-then-misses-clause-none
+returns-then-misses-clause-none g c = λ _ x _ by.
+    c.misses.ensures c.if-misses.true x (fed-parts c.args.model.now c.args.cube x c.args.cell c.args.feeder.now by).stands
 
 pub jumps-init : goal.jumps-init
 jumps-init g c = record {
