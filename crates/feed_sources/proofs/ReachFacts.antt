@@ -13,7 +13,7 @@ use Rattle.feed_sources.specs.declared.aim.Aim.TheVariants.{Named}
 use Rattle.feed_sources.specs.Inside.Aims.{ReachesBy, ReachesByOne, ReachesSome}
 use Rattle.feed_sources.specs.Names.{Names}
 use Rattle.feed_sources.proofs.Members.{some-parts, some-of-lists, list-of-some, some-mapped, some-unmapped}
-use Rattle.feed_sources.proofs.FeederFacts.{range-has}
+use Rattle.dim_weights.proofs.ByLevel.{range-contains as range-has}
 
 module _ (m : BoundModel) (x : ℕ) (aim : Aim) where
   abbrev By : Feed → Type 0

@@ -96,7 +96,8 @@ fn choose_kept(
     requires cell { IsCell model.now.space (cell_of aim) }
     ensures { (x : ℕ) → IsCell model.now.space x → cube_of model.now.space x ≡ cube
         → is_leaf_cell model.now.space x ≡ true → Reaches model.now reference.now x aim
-        → AreChosen choices.old (elements_of model.now.space x) → AreChosen choices.new (elements_of model.now.space x) }
+        → AreChosen choices.old (elements_of model.now.space x)
+        → AreChosen choices.new (elements_of model.now.space x) }
 {
     let mut at = [0u32; MAX_DIMENSIONS];
     let (into, len) = model.place_of(aim.cell(), &mut at);
