@@ -4,3 +4,11 @@ pub mod AboveFacts
 pub mod SourceFacts
 pub mod FeederFacts
 pub mod BelowFacts
+mod DigitFacts
+mod JumpFacts
+mod KeptFacts
+mod ChoiceFacts
+mod ReachParts
+mod ReachFacts
+mod WalkFacts
+mod BackFacts

@@ -18,13 +18,13 @@ pub use Rattle.rule_model.proofs.Coefs.{dimension_at as dimension-there}
 pub use Rattle.dim_weights.proofs.Nonzero.{counts-nonzero as nonzero-is}
 
 -- lists of pairs that go together
-zip-length : {A B : Type 0} (R : A → B → Type 0) (xs : List A) (ys : List B) → AllZip R xs ys → length xs ≡ length ys
+pub zip-length : {A B : Type 0} (R : A → B → Type 0) (xs : List A) (ys : List B) → AllZip R xs ys → length xs ≡ length ys
 zip-length R [] [] zip = refl
 zip-length R [] (y ∷ ys) zip = absurd zip
 zip-length R (x ∷ xs) [] zip = absurd zip
 zip-length R (x ∷ xs) (y ∷ ys) zip = ap suc (zip-length R xs ys zip.1)
 
-zip-at : {A B : Type 0} (R : A → B → Type 0) (xs : List A) (ys : List B) (k : ℕ) (d : A) (e : B) → AllZip R xs ys → k < length xs → R (get_or xs k d) (get_or ys k e)
+pub zip-at : {A B : Type 0} (R : A → B → Type 0) (xs : List A) (ys : List B) (k : ℕ) (d : A) (e : B) → AllZip R xs ys → k < length xs → R (get_or xs k d) (get_or ys k e)
 zip-at R [] ys k d e zip low = absurd (omega (arith, low))
 zip-at R (x ∷ xs) [] k d e zip low = absurd zip
 zip-at R (x ∷ xs) (y ∷ ys) zero d e zip low = zip.0

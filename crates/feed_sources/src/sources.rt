@@ -38,8 +38,8 @@ pub fn is_leaf_cell(space: &Space, cell: u64) -> bool
     cell < space.size() && space.is_leaf(cell)
 }
 
-// Whether a leaf cell of these elements is in the area of a feeder of its cube.
-fn is_source_of(
+/// Whether a leaf cell of these elements is in the area of a feeder of its cube.
+pub fn is_source_of(
     model: &SourceModel,
     feeder: &Feeder,
     cube: u32,
