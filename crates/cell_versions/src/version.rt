@@ -6,7 +6,7 @@ ghost use Rattle.accepted.specs.Checks.{IsAccepted};
 ghost use Rattle.cell_versions.specs.LimitAnswers.{AnswersLimits};
 ghost use Rattle.cell_versions.specs.Versions.{AreLeafWrites, IsVersion, number_after};
 
-use crate::changes::added_by;
+use crate::changes::{added_by, change_by};
 use crate::fault::NextFault;
 use accepted::Accepted;
 use cell_store::Store;
@@ -89,7 +89,7 @@ impl Version {
         })
     }
 
-    // What is fed after these writes have made this store: where they took no cell out that is in the area of a feeder,
+    // What is fed after these writes have made this store. Where they took no cell out that is in the area of a feeder,
     // no more than what was added is followed.
     fn fed_over(
         &self,
@@ -106,7 +106,12 @@ impl Version {
         let model = self.accepted.sources();
         match added_by(alloc, model, &self.store, store, writes)? {
             Some(added) => self.feeding.grown(alloc, model, store, &added),
-            None => self.accepted.feeding().over(alloc, model, store),
+            None => {
+                let change = change_by(alloc, &self.store, store, writes)?;
+                let base = self.accepted.feeding();
+                let (went, came) = (&change.went, &change.came);
+                self.feeding.changed(alloc, base, model, &self.store, store, went, came)
+            }
         }
     }
 

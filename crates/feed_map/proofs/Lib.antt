@@ -13,3 +13,5 @@ mod Fresh
 mod StandFacts
 mod OpenFacts
 mod AboveFacts
+mod RiskFacts
+mod ChangeFacts

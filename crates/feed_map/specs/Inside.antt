@@ -3,3 +3,4 @@ pub mod Above
 pub mod Gains
 pub mod Leaves
 pub mod Follows
+pub mod Risks
