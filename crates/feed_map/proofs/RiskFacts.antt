@@ -1,5 +1,5 @@
 -- Looking at the cells that may be at risk, one after another.
-use Rattle.std.proofs.Common.{◌≡◌, refl, sym, ap, ◌∙◌, subst, ℕ, zero, suc, ◌+◌, ◌<◌, ◌≤◌, ◌⊎◌, inl, inr, List, [], ◌∷◌, ◌++◌, length, take, get_or, Some, None, length-append, arith}
+use Rattle.std.proofs.Common.{◌≡◌, refl, sym, ap, true, ◌∙◌, subst, ℕ, zero, suc, ◌+◌, ◌<◌, ◌≤◌, ◌⊎◌, inl, inr, List, [], ◌∷◌, ◌++◌, length, take, get_or, Some, None, length-append, arith}
 use Rattle.std.specs.Prelude.{slice_get}
 use Rattle.std.specs.List.{Contains}
 use Rattle.std.proofs.lemmas.Bool.{cases_lt}
@@ -9,7 +9,7 @@ use Rattle.std.proofs.lemmas.Option.{slice_get_within, slice_get-get_or}
 use Rattle.cell_store.specs.declared.entry.Entry.{Entry}
 use Rattle.cell_store.specs.Entries.{cells_of}
 use Rattle.rule_laws.specs.Feeding.{Feeds}
-use Rattle.rule_laws.specs.RuleSystem.{IsLeafCell}
+use Rattle.cube_space.specs.Cells.{IsCell, is_leaf_cell}
 use Rattle.rule_laws.specs.Ordered.{IsWellFormed}
 use Rattle.rule_model.specs.BoundModel.{BoundModel}
 use Rattle.rule_model.specs.System.{system_of}
@@ -19,8 +19,14 @@ use Rattle.feed_map.specs.Inside.Gains.{HasCell, Grows, Gains, NoCell}
 use Rattle.feed_map.specs.Inside.Follows.{FeedsFrom}
 use Rattle.feed_map.specs.Inside.Risks.{AreAtRisk, AreOutside, HaveRisk, IsAgain, IsAgainOne, IsSure}
 use Rattle.feed_map.proofs.Members.{none-there, at-front, behind, front-or-behind}
+use Rattle.feed_map.proofs.ChainFacts.{feeds-leaf}
 use Rattle.feed_map.proofs.GainFacts.{gains-none, gains-as, gains-then, grows-then}
 use Rattle.feed_map.proofs.FollowSteps.{get-front, get-has}
+
+-- what some cell feeds is a leaf cell
+pub from-leaf : (m : BoundModel) → IsWellFormed (system_of m) → (sources : List ℕ) (c : ℕ) → FeedsFrom m sources c → IsCell m.space c × (is_leaf_cell m.space c ≡ true)
+unfolding system_of
+from-leaf m formed sources c (x, has, feed) = feeds-leaf (system_of m) formed x c feed
 
 module _ (m : BoundModel) (base : List ℕ) (stored : List Entry) where
   pub outside-none : (g : Growth) → AreOutside m base stored g []
@@ -102,7 +108,7 @@ module _ (m : BoundModel) (base : List ℕ) (stored : List Entry) where
 
     -- where no more is opened, each cell that was found is sure or at risk
     pub looked-end : ((c : ℕ) → Contains f.known c → Contains f.opened.items c) → AreOutside m base stored g risk → slice_get h.opened.items place ≡ None → h.found.items ≡ [] → HaveRisk m base stored f risk
-    looked-end open outside none empty = record {
+    looked-end begun outside none empty = record {
       first = λ c has. each c (longer.kept c has);
       next = λ x c has feed. each c (settled.grows.kept c (outside.followed x c has feed));
       unsure = outside.unsure;
@@ -121,7 +127,7 @@ module _ (m : BoundModel) (base : List ℕ) (stored : List Entry) where
         each : (c : ℕ) → HasCell h c → IsSure m base stored c ⊎ Contains risk c
         each c (inr found) = absurd (none-there c (subst (λ (cells : List ℕ). Contains cells c) empty found))
         each c (inl known) = listed c (subst (λ (cells : List ℕ). Contains cells c) (sym longer.opened.1) (elim (longer.opened.2.only c known) [
-          | inl before ↦ Contains-append_left f.opened.items longer.opened.0 c (open c before)
+          | inl before ↦ Contains-append_left f.opened.items longer.opened.0 c (begun c before)
           | inr more ↦ Contains-append_right f.opened.items longer.opened.0 c more
         ]))
 

@@ -1,7 +1,7 @@
 ghost use Rattle.std.specs.Prelude.{◌≡◌, ℕ, suc, ◌≤◌, ◌⊎◌, [], Ok, Err, IfOk, IfErr, IsOkUnless, length, All, Contains};
 ghost use Rattle.cell_store.specs.Cells.{IsUnion};
 ghost use Rattle.cell_store.specs.Entries.{cells_of};
-ghost use Rattle.feed_map.specs.FedCells.{HasFewFed, HasManyFed, IsFeeding, IsStoredChange, most_fed, without};
+ghost use Rattle.feed_map.specs.FedCells.{AreFedCells, HasFewFed, HasManyFed, IsFeeding, IsStoredChange, most_fed, without};
 ghost use Rattle.feed_map.specs.Inside.Follows.{IsReach};
 
 use crate::dense::add_dense;
@@ -137,37 +137,21 @@ impl Feeding {
         ensures fault { IfErr result (λ fault. (fault ≡ FedFault.Memory)
             ⊎ ((fault ≡ FedFault.FedLimit (suc most_fed)) × HasManyFed model.now after.now)) }
     {
-        match self.regrown(alloc, base, model, before, after, went, came) {
+        let (base_cells, cells) = (&base.fed.cells, &self.fed.cells);
+        match regrown(
+            alloc,
+            model,
+            base_cells,
+            cells,
+            &self.totals,
+            before,
+            after,
+            went,
+            came,
+        ) {
             Ok(reached) => Ok(Feeding::from(reached)),
             Err(_) => base.over(alloc, model, after),
         }
-    }
-
-    // The same, or none where it needs more than a step for each stored and each fed cell.
-    fn regrown(
-        &self,
-        alloc: Global,
-        base: &Feeding,
-        model: &SourceModel,
-        before: &Store,
-        after: &Store,
-        went: &[u64],
-        came: &[u64],
-    ) -> Result<Reached, GivenUp>
-        requires change { IsStoredChange before.now after.now went.now came.now }
-        requires before { IsFeeding model.now before.now self.now.fed self.now.totals }
-        requires base { IsFeeding model.now [] base.now.fed base.now.totals }
-        ensures { IfOk result (λ reached. IsReach model.now after.now (Ok reached)) }
-    {
-        let mut steps = before.len().saturating_add(self.fed.count());
-        let risk = at_risk(alloc, model, &base.fed.cells, after, went, &mut steps)?;
-        let kept = self.fed.cells.without(alloc, &risk)?;
-        let totals = totals_left(alloc, &self.totals, &risk)?;
-        let mut reached = Reached::from(alloc, kept.with(alloc, &[])?, totals);
-        add_again(model, &kept, &risk, &mut reached.growth, &mut steps)?;
-        follow_cells(model, came, &mut reached)?;
-        follow_opened(model, &mut reached)?;
-        Ok(reached)
     }
 
     fn from(reached: Reached) -> Feeding
@@ -244,6 +228,36 @@ fn begun(alloc: Global, fed: &PageSet, totals: &PageSet) -> Result<Reached, Allo
     let known = fed.with(alloc, &[])?;
     let opened = totals.with(alloc, &[])?;
     Ok(Reached::from(alloc, known, opened))
+}
+
+// What is fed after a change, by what was fed before it and what is fed over nothing. It is given up where it needs
+// more steps than there are stored and fed cells.
+fn regrown(
+    alloc: Global,
+    model: &SourceModel,
+    base: &PageSet,
+    fed: &PageSet,
+    totals: &PageSet,
+    before: &Store,
+    after: &Store,
+    went: &[u64],
+    came: &[u64],
+) -> Result<Reached, GivenUp>
+    requires change { IsStoredChange before.now after.now went.now came.now }
+    requires before { IsFeeding model.now before.now fed.now totals.now }
+    requires base { AreFedCells model.now [] base.now }
+    requires few { length fed.now ≤ most_fed }
+    ensures { IfOk result (λ reached. IsReach model.now after.now (Ok reached)) }
+{
+    let mut steps = before.len().saturating_add(fed.len());
+    let risk = at_risk(alloc, model, base, after, went, &mut steps)?;
+    let kept = fed.without(alloc, &risk)?;
+    let totals = totals_left(alloc, totals, &risk)?;
+    let mut reached = Reached::from(alloc, kept.with(alloc, &[])?, totals);
+    add_again(model, &kept, &risk, &mut reached.growth, &mut steps)?;
+    follow_cells(model, came, &mut reached)?;
+    follow_opened(model, &mut reached)?;
+    Ok(reached)
 }
 
 // The totals that stay opened where these cells are taken out: all where there are none.

@@ -24,6 +24,8 @@ pub fn is_fed_from<W: CellSet>(
         → Feeds (system_of model.now) x cell → ⊥ }
     ensures steps { steps.new ≤ steps.old }
 {
-    let _ = (model.space(), live.next_from(cell), *steps);
+    if live.has(cell) && model.space().is_leaf(cell) {
+        *steps = steps.saturating_sub(1);
+    }
     Err(OutOfSteps)
 }
