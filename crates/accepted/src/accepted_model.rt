@@ -2,7 +2,8 @@ ghost use Rattle.std.specs.Prelude.{◌≡◌, []};
 ghost use Rattle.feed_map.specs.FedCells.{IsFeeding};
 ghost use Rattle.accepted.specs.Checks.{IsAccepted};
 
-use feed_map::{Feeding, SourceModel};
+use feed_map::Feeding;
+use feed_sources::SourceModel;
 use rule_model::Model;
 
 /// A model that deployment has accepted, with what is fed where nothing is stored.

@@ -14,7 +14,7 @@ use Rattle.cube_space.specs.Cells.{IsSpace, cube_of, is_leaf_cell, size_of}
 use Rattle.fed_laws.proofs.Reached.{fed_list, list_fed, list_rises}
 use Rattle.fed_laws.specs.FedCells.{cells, fed_cells, is_reached}
 use Rattle.feed_map.proofs.Counts.{within-counts}
-use Rattle.feed_map.proofs.Members.{list-of-some, some-unmapped}
+use Rattle.feed_sources.proofs.Members.{list-of-some, some-unmapped}
 use Rattle.model_laws.proofs.Formed.{well_formed}
 use Rattle.lists.proofs.Members.{same_members}
 use Rattle.lists.proofs.Rising.{among}

@@ -14,7 +14,7 @@ use Rattle.cube_space.specs.Cells.{IsSpace, IsCell, cube_of, size_of, is_leaf_ce
 use Rattle.cube_space.specs.Layout.{axes}
 use Rattle.dim_core.specs.Outline.{Outline}
 use Rattle.dim_weights.specs.Table.{is_nonzero}
-use Rattle.feed_map.proofs.Members.{at-front, behind}
+use Rattle.feed_sources.proofs.Members.{at-front, behind}
 use Rattle.model_laws.proofs.Statements.{split}
 use Rattle.rule_dense.proofs.Ranges.{map-contains}
 use Rattle.rule_evaluate.specs.declared.ask.Ask.{Ask}

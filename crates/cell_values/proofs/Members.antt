@@ -4,7 +4,7 @@ use Rattle.std.specs.Prelude.{IsTrue, ◌↔◌}
 use Rattle.std.specs.List.{Contains, list_all}
 use Rattle.std.proofs.lemmas.Bool.{eq-eqb, eqb-true}
 use Rattle.dim_order.specs.Members.{is_among}
-use Rattle.feed_map.proofs.Members.{none-there, at-front, behind, front-or-behind}
+use Rattle.feed_sources.proofs.Members.{none-there, at-front, behind, front-or-behind}
 pub use Rattle.std.proofs.lemmas.Bool.{or_parts as neither}
 pub use Rattle.dim_weights.proofs.Nonzero.{zero-is as nonzero-is, counts-nonzero, nonzero-counts}
 

@@ -16,7 +16,7 @@ use Rattle.cube_space.specs.Cells.{IsSpace, IsCell, is_leaf_cell}
 use Rattle.cube_space.specs.Layout.{Layout}
 use Rattle.dim_weights.specs.Table.{is_nonzero}
 use Rattle.feed_map.specs.FedCells.{AreFedCells}
-use Rattle.feed_map.proofs.Members.{none-there, at-front, behind, front-or-behind}
+use Rattle.feed_sources.proofs.Members.{none-there, at-front, behind, front-or-behind}
 use Rattle.rule_evaluate.specs.declared.ask.Ask.{Ask}
 use Rattle.rule_evaluate.specs.declared.ask.Ask.TheVariants.{Value as of_value, Base as of_base, Children as of_children}
 use Rattle.rule_laws.specs.RuleSystem.{IsLeafCell, depth}

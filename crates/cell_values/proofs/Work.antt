@@ -13,7 +13,7 @@ use Rattle.rule_evaluate.specs.Known.{Known, listed, is_same}
 use Rattle.cell_values.specs.Inside.Questions.{leads_to, level_on, asks_on, cost_by, work_by, work_on, cost_on}
 use Rattle.cell_values.specs.Inside.Frames.{is_open, open_asks}
 use Rattle.cell_values.proofs.Members.{filter-contains, filter-all}
-use Rattle.feed_map.proofs.Members.{none-there, front-or-behind}
+use Rattle.feed_sources.proofs.Members.{none-there, front-or-behind}
 
 -- ---- costs of filtered lists
 

@@ -3,7 +3,7 @@ ghost use Rattle.cell_versions.specs.Inside.Changes.{IsAddedIf, IsChangeBy};
 
 use cell_store::{CellSet, Store};
 use cube_fixed::Money;
-use feed_map::{SourceModel, is_any_source};
+use feed_sources::{SourceModel, is_any_source};
 use std::alloc::{AllocError, Global};
 
 /// The cells of these writes that are stored now and weren't before; None where one that was stored isn't any more, and

@@ -26,8 +26,8 @@ use Rattle.dim_weights.proofs.weights.Weights.TheSendSync as weights
 use Rattle.cell_store.proofs.store.Store.TheSendSync as store
 use Rattle.cell_store.proofs.set.PageSet.TheSendSync as pages
 use Rattle.feed_map.proofs.fed.Feeding.TheSendSync as feeding
-use Rattle.feed_map.proofs.above.Above.TheSendSync as above
-use Rattle.feed_map.specs.contracts.source_model.SourceModel as SourceModel
+use Rattle.feed_sources.proofs.above.Above.TheSendSync as above
+use Rattle.feed_sources.specs.contracts.source_model.SourceModel as SourceModel
 use Rattle.accepted.specs.contracts.accepted_model.Accepted as Accepted
 use Rattle.cell_versions.specs.contracts.version.Version as Version
 use Rattle.atomic_table.proofs.shared.Shared.TheSendSync as table

@@ -6,7 +6,7 @@ use Rattle.std.proofs.lemmas.List.Elements.{All-contains, All-map}
 use Rattle.rule_laws.specs.RuleSystem.{RuleSystem, Stored, IsCell, IsLeafCell}
 use Rattle.rule_laws.specs.Ordered.{IsWellFormed}
 use Rattle.rule_laws.specs.Feeding.{leaves_of, IsDenseCell, Feeds, Leads, IsFed}
-use Rattle.feed_map.proofs.Members.{none-there, front-or-behind}
+use Rattle.feed_sources.proofs.Members.{none-there, front-or-behind}
 
 module _ (w : RuleSystem) where
   -- a feed before a chain

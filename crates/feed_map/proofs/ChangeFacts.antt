@@ -16,7 +16,7 @@ use Rattle.feed_map.specs.FedCells.{AreFedCells, HaveLeaves, IsFeeding, IsStored
 use Rattle.feed_map.specs.Inside.Gains.{HasCell, Gains}
 use Rattle.feed_map.specs.Inside.Follows.{AreOpen, AreOpened, EndsChain, FeedsFrom, IsVerdict}
 use Rattle.feed_map.specs.Inside.Risks.{AreAtRisk, IsAgain, IsSure}
-use Rattle.feed_map.proofs.Members.{none-there}
+use Rattle.feed_sources.proofs.Members.{none-there}
 use Rattle.feed_map.proofs.Counts.{within-counts}
 use Rattle.feed_map.proofs.ChainFacts.{fed-next, fed-from-stored, fed-ends}
 use Rattle.feed_map.proofs.FedFacts.{entry-stored, stored-entry, listed-has, listed-is, from-fed, all-found}

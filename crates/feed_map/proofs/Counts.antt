@@ -4,7 +4,7 @@ use Rattle.std.specs.List.{Contains}
 use Rattle.std.specs.List.Sorted.{IsStrictlyIncreasing}
 use Rattle.std.proofs.lemmas.Bool.{cases_lt}
 use Rattle.cell_store.proofs.Rising.{AllAbove, Rises, Rises-from_increasing}
-use Rattle.feed_map.proofs.Members.{none-there, at-front, behind, front-or-behind}
+use Rattle.feed_sources.proofs.Members.{none-there, at-front, behind, front-or-behind}
 
 abbrev pub IsWithin : List ℕ → List ℕ → Type 0
 IsWithin xs ys = (c : ℕ) → Contains xs c → Contains ys c

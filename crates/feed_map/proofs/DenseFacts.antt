@@ -13,8 +13,8 @@ use Rattle.rule_model.specs.declared.rules.Statement.{Statement}
 use Rattle.rule_model.specs.BoundModel.{BoundModel, rules_of}
 use Rattle.rule_model.specs.System.{system_of, rule_of, cube_rules, cubes_of}
 use Rattle.feed_map.specs.Inside.Follows.{IsDenseBelow, IsDenseOf}
-use Rattle.feed_map.proofs.Members.{some-front, some-of-lists, list-of-some, some-mapped, some-unmapped}
-use Rattle.feed_map.proofs.FeederFacts.{range-has}
+use Rattle.feed_sources.proofs.Members.{some-front, some-of-lists, list-of-some, some-mapped, some-unmapped}
+use Rattle.feed_sources.proofs.FeederFacts.{range-has}
 
 module _ (m : BoundModel) (cube : ℕ) where
   abbrev Own : Rule → Type 0

@@ -20,7 +20,7 @@ use Rattle.feed_map.specs.declared.growth.Growth.{Growth}
 use Rattle.feed_map.specs.FedCells.{AreFedCells, HasFewFed, HasManyFed, most_fed, without}
 use Rattle.feed_map.specs.Inside.Gains.{HasCell, Grows, Gains, StopsBy}
 use Rattle.feed_map.specs.Inside.Follows.{FeedsFrom, EndsChain, AreFollowed, AreOpen, IsVerdict}
-use Rattle.feed_map.proofs.Members.{none-there, at-front, behind, front-or-behind}
+use Rattle.feed_sources.proofs.Members.{none-there, at-front, behind, front-or-behind}
 use Rattle.feed_map.proofs.Counts.{within-counts}
 use Rattle.feed_map.proofs.ChainFacts.{fed-next, fed-on, fed-from-stored, fed-ends}
 

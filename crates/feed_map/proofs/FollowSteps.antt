@@ -19,7 +19,7 @@ use Rattle.feed_map.specs.declared.growth.Growth.{Growth}
 use Rattle.feed_map.specs.FedCells.{most_fed}
 use Rattle.feed_map.specs.Inside.Gains.{HasCell, Grows, GainsOnly, Gains, NoCell, StopsBy}
 use Rattle.feed_map.specs.Inside.Follows.{FeedsFrom, FeedsBelow, EndsChain, AreFollowed, AreOpen}
-use Rattle.feed_map.proofs.Members.{none-there, at-front, behind, front-or-behind}
+use Rattle.feed_sources.proofs.Members.{none-there, at-front, behind, front-or-behind}
 use Rattle.feed_map.proofs.Counts.{above-has}
 use Rattle.feed_map.proofs.FedFacts.{all-followed}
 use Rattle.feed_map.proofs.GainFacts.{gains-none, gains-as, gains-then, stops-then, grows-then}

@@ -7,7 +7,7 @@ use Rattle.std.proofs.lemmas.List.Sorted.{Contains-permutation, IsPermutation-sy
 use Rattle.std.proofs.lemmas.List.Elements.{Contains-append_left, Contains-push, Contains-push_cases}
 use Rattle.cell_store.proofs.Rising.{AllAbove, Rises, Rises-from_increasing, increasing_from_Rises}
 use Rattle.feed_map.specs.Inside.Gains.{AreFresh}
-use Rattle.feed_map.proofs.Members.{none-there, at-front, behind, front-or-behind}
+use Rattle.feed_sources.proofs.Members.{none-there, at-front, behind, front-or-behind}
 
 -- a list that rises goes on rising with a greater cell
 above-all : (n x : ℕ) (xs : List ℕ) → AllAbove n xs → n < x → AllAbove n (xs ++ x ∷ [])

@@ -11,7 +11,7 @@ use Rattle.feed_map.specs.declared.fault.FedFault.TheVariants.{FedLimit, Memory}
 use Rattle.feed_map.specs.declared.growth.Growth.{Growth}
 use Rattle.feed_map.specs.FedCells.{most_fed}
 use Rattle.feed_map.specs.Inside.Gains.{Came, Grows, GainsOnly, Gains, AreFresh, NoCell, StopsBy}
-use Rattle.feed_map.proofs.Members.{none-there}
+use Rattle.feed_sources.proofs.Members.{none-there}
 use Rattle.feed_map.proofs.Counts.{apart-within}
 
 came-none : (known : List ℕ) → Came known known []

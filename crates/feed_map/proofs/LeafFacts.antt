@@ -18,67 +18,9 @@ use Rattle.cube_space.proofs.Places.{cell-place, cell_number-cell, place_number,
 use Rattle.rule_model.specs.Weights.{coef_product, weight, leaf_cells, leaves_below}
 use Rattle.model_laws.proofs.Below.{weight-counted, leaf_cells-are}
 use Rattle.feed_map.specs.Inside.Leaves.{candidates, candidate, leaf_at, IsChosen, AreChosen, GoesOn, GoesOnWithin, IsLeafCellOf}
-use Rattle.feed_map.proofs.Members.{none-there, at-front, behind, front-or-behind}
+use Rattle.feed_sources.proofs.Members.{none-there, at-front, behind, front-or-behind}
+use Rattle.feed_sources.proofs.BelowFacts.{IsAt, number-at, cell-leaves, has-nonzero, below-has, has-below, leaf_cells-has, weight-product}
 use Rattle.dim_weights.proofs.Nonzero.{both-factors as product-nonzero, first-factor, second-factor, among-in as nonzero-has}
-
--- ---- values other than 0
-
--- ---- the leaves with a value other than 0
-
-has-nonzero : (value : ℕ → ℤ) (leaves : List ℕ) (p : ℕ × ℤ) → Contains (nonzero_among value leaves) p → Contains leaves p.0 × (is_nonzero (value p.0) ≡ true)
-has-nonzero value [] p has = absurd (none-there p has)
-has-nonzero value (x ∷ leaves) p has = by (λ (more : Contains (nonzero_among value leaves) p). has-nonzero value leaves p more) (is_nonzero (value x)) refl
-  where
-    later : (Contains (nonzero_among value leaves) p → Contains leaves p.0 × (is_nonzero (value p.0) ≡ true)) → Contains (nonzero_among value leaves) p → Contains (x ∷ leaves) p.0 × (is_nonzero (value p.0) ≡ true)
-    later again more = let rest = again more in (behind x leaves p.0 rest.0, rest.1)
-
-    by : (Contains (nonzero_among value leaves) p → Contains leaves p.0 × (is_nonzero (value p.0) ≡ true)) → (b : Bool) → is_nonzero (value x) ≡ b → Contains (x ∷ leaves) p.0 × (is_nonzero (value p.0) ≡ true)
-    by again true on =
-        elim (front-or-behind (x, value x) (nonzero_among value leaves) p (rw on at has)) [
-          | inl is ↦ (let same : x ≡ p.0 = ap (λ (q : ℕ × ℤ). q.0) is in
-              (subst (Contains (x ∷ leaves)) same (at-front x leaves), ap (λ (y : ℕ). is_nonzero (value y)) (sym same) ∙ on))
-          | inr more ↦ later again more
-        ]
-    by again false off = later again (rw off at has)
-
--- the cells of the leaf cells below a cell
-below-has : (space : Layout) (t c : ℕ) → Contains (map (λ pair. pair.0) (leaves_below space t)) c → Contains (leaf_cells space) c × (is_nonzero (weight space t c) ≡ true)
-below-has space t c (k, low, is) =
-    let found = slice_get_map_at (leaves_below space t) k c (omega (arith, low)) is in
-    subst (λ (y : ℕ). Contains (leaf_cells space) y × (is_nonzero (weight space t y) ≡ true)) found.2 (has-nonzero (weight space t) (leaf_cells space) found.0 found.1)
-  where
-    slice_get_map_at : (ps : List (ℕ × ℤ)) (k c : ℕ) → k < length (map (λ (pair : ℕ × ℤ). pair.0) ps) → get_or (map (λ (pair : ℕ × ℤ). pair.0) ps) k c ≡ c → (p : ℕ × ℤ) × Contains ps p × (p.0 ≡ c)
-    slice_get_map_at [] k c low is = absurd (omega (arith, low))
-    slice_get_map_at (p ∷ ps) zero c low is = (p, at-front p ps, is)
-    slice_get_map_at (p ∷ ps) (suc k) c low is = let later = slice_get_map_at ps k c (omega (arith, low)) is in (later.0, behind p ps later.0 later.1, later.2)
-
-has-below : (space : Layout) (t c : ℕ) → Contains (leaf_cells space) c → is_nonzero (weight space t c) ≡ true → Contains (map (λ pair. pair.0) (leaves_below space t)) c
-has-below space t c leaf on = mapped (leaves_below space t) (c, weight space t c) (nonzero-has (weight space t) (leaf_cells space) c leaf on)
-  where
-    mapped : (ps : List (ℕ × ℤ)) (p : ℕ × ℤ) → Contains ps p → Contains (map (λ (pair : ℕ × ℤ). pair.0) ps) p.0
-    mapped [] p has = absurd (none-there p has)
-    mapped (q ∷ ps) p has =
-        elim (front-or-behind q ps p has) [
-          | inl is ↦ subst (λ (r : ℕ × ℤ). Contains (q.0 ∷ map (λ (pair : ℕ × ℤ). pair.0) ps) r.0) is (at-front q.0 (map (λ (pair : ℕ × ℤ). pair.0) ps))
-          | inr more ↦ behind q.0 (map (λ (pair : ℕ × ℤ). pair.0) ps) p.0 (mapped ps p more)
-        ]
-
--- all leaf cells are listed
-leaf_cells-has : (space : Layout) (c : ℕ) → IsCell space c → is_leaf_cell space c ≡ true → Contains (leaf_cells space) c
-unfolding leaf_cells
-leaf_cells-has space c cell leaf =
-    kept (range_with_len 0 (size_of space)) c (c, omega (arith, cell, length-range_with_len 0 (size_of space)), get_or-range_with_len 0 (size_of space) c c cell ∙ zero-add c) leaf
-  where
-    kept : (xs : List ℕ) (c : ℕ) → Contains xs c → is_leaf_cell space c ≡ true → Contains (filter (is_leaf_cell space) xs) c
-    kept [] c has on = absurd (none-there c has)
-    kept (x ∷ xs) c has on =
-        elim (front-or-behind x xs c has) [
-          | inl is ↦ (let here : is_leaf_cell space x ≡ true = ap (is_leaf_cell space) is ∙ on in
-              rw here (subst (Contains (x ∷ filter (is_leaf_cell space) xs)) is (at-front x (filter (is_leaf_cell space) xs))))
-          | inr more ↦ (let later = kept xs c more on in
-              cond_both (is_leaf_cell space x) (x ∷ filter (is_leaf_cell space) xs) (filter (is_leaf_cell space) xs) (λ (ys : List ℕ). Contains ys c)
-              (λ on. behind x (filter (is_leaf_cell space) xs) c later) (λ off. later))
-        ]
 
 -- ---- one dimension
 
@@ -233,28 +175,10 @@ product-counts (x ∷ ds) (e ∷ es) (y ∷ ls) on (suc k) d l own other =
 
 -- ---- cells
 
--- a cell of these elements
-record IsAt (space : Layout) (cube : ℕ) (elements : List ℕ) (c : ℕ) : Type 0 where
-  pub cell : IsCell space c
-  pub own : cube_of space c ≡ cube
-  pub its : elements_of space c ≡ elements
-
-number-at : (space : Layout) (cube : ℕ) (elements : List ℕ) (c : ℕ) → cell_number space cube elements ≡ Some c → IsAt space cube elements c
-unfolding cell_number
-number-at space cube elements c is =
-    let parts = cond_some (is_place space cube elements) (place_number space cube elements) c is in
-    let place = is_place-parts space cube elements parts.0 in
-    let same = cell_at-place space cube elements place in
-    subst (IsAt space cube elements) parts.1 (record { cell = place-within space cube elements place; own = ap (λ at. at.cube) same; its = ap (λ at. at.elements) same })
-
 -- leaves of each dimension make a leaf cell
 leaf-cell : (space : Layout) (cube : ℕ) (roots ls : List ℕ) (c : ℕ) → AreLeavesIn roots 0 (axes space cube) ls → IsAt space cube ls c → is_leaf_cell space c ≡ true
 unfolding is_leaf_cell
 leaf-cell space cube roots ls c are at = rw at.own (rw at.its are.leaves)
-
-cell-leaves : (space : Layout) (c : ℕ) → is_leaf_cell space c ≡ true → are_leaves (axes space (cube_of space c)) (elements_of space c) ≡ true
-unfolding is_leaf_cell
-cell-leaves space c leaf = leaf
 
 -- the leaf cells of a cube
 pub goes-on-cube : (space : Layout) (cube c : ℕ) → GoesOn space cube [] 0 (axes space cube) [] c → IsLeafCellOf space cube c
@@ -279,10 +203,6 @@ cube-goes-on space cube c (cell, leaf, own) =
 
 -- the leaf cells below a cell
 module _ (space : Layout) (t : ℕ) (cell : IsCell space t) where
-  weight-product : (c : ℕ) → cube_of space c ≡ cube_of space t → weight space t c ≡ coef_product (axes space (cube_of space t)) (elements_of space t) (elements_of space c)
-  unfolding weight
-  weight-product c own = rw own (rw (eq-eqb (cube_of space t) (cube_of space t) refl) refl)
-
   pub goes-on-below : (c : ℕ) → GoesOn space (cube_of space t) (elements_of space t) 0 (axes space (cube_of space t)) [] c → Contains (map (λ pair. pair.0) (leaves_below space t)) c
   goes-on-below c (ls, chosen, is) =
       let at = number-at space (cube_of space t) ls c is in
@@ -292,7 +212,7 @@ module _ (space : Layout) (t : ℕ) (cell : IsCell space t) where
       λ k d l own other. subst (λ (n : ℕ). CountsIn d (slice_get (elements_of space t) n) l) (zero-add k) (are.counts k d l own other) in
       let on = counts-product (axes space (cube_of space t)) (elements_of space t) ls place.digits are.digits counts in
       let same : weight space t c ≡ coef_product (axes space (cube_of space t)) (elements_of space t) ls =
-      weight-product c at.own ∙ ap (coef_product (axes space (cube_of space t)) (elements_of space t)) at.its in
+      weight-product space t c at.own ∙ ap (coef_product (axes space (cube_of space t)) (elements_of space t)) at.its in
       has-below space t c (leaf_cells-has space c at.cell (leaf-cell space (cube_of space t) (elements_of space t) ls c are at)) (ap is_nonzero same ∙ on)
 
   pub below-goes-on : (c : ℕ) → Contains (map (λ pair. pair.0) (leaves_below space t)) c → GoesOn space (cube_of space t) (elements_of space t) 0 (axes space (cube_of space t)) [] c
@@ -301,7 +221,7 @@ module _ (space : Layout) (t : ℕ) (cell : IsCell space t) where
       let leaf = All-contains (λ x. IsCell space x × (is_leaf_cell space x ≡ true)) (leaf_cells space) c (leaf_cells-are space) parts.0 in
       let counted = weight-counted space t c parts.1 in
       let own : cube_of space c ≡ cube_of space t = sym counted.same_cube in
-      let on : is_nonzero (coef_product (axes space (cube_of space t)) (elements_of space t) (elements_of space c)) ≡ true = ap is_nonzero (sym (weight-product c own)) ∙ parts.1 in
+      let on : is_nonzero (coef_product (axes space (cube_of space t)) (elements_of space t) (elements_of space c)) ≡ true = ap is_nonzero (sym (weight-product space t c own)) ∙ parts.1 in
       let each = product-counts (axes space (cube_of space t)) (elements_of space t) (elements_of space c) on in
       let place = (cell-place space c leaf.0).place in
       let Digits : ℕ → Type 0 = λ k. are_digits (sizes_of (axes space k)) (elements_of space c) ≡ true in

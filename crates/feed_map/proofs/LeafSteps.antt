@@ -16,18 +16,6 @@ use Rattle.feed_map.specs.Inside.Leaves.{candidates, leaf_at, AreRoots, GoesOn, 
 use Rattle.feed_map.proofs.GainFacts.{gains-none, gains-as, gains-then, stops-then}
 use Rattle.feed_map.proofs.LeafFacts.{chosen-more, chosen-before, chosen-here, goes-on-next, next-goes-on}
 
-pub shape-dims : (space : Layout) (cube : ℕ) (shape : CubeShape) → slice_get space.cubes cube ≡ Some shape → shape.dims ≡ dims_of space cube
-shape-dims space cube shape found =
-    let low = slice_get_within space.cubes cube shape found in
-    sym (get_or-map (λ (s : CubeShape). s.dims) space.cubes cube shape [] low ∙ ap (λ (s : CubeShape). s.dims) (get_or_from_slice_get space.cubes cube shape shape found))
-
-pub axes-from : (D : List Outline) (dims : List ℕ) (place : ℕ) (d : Outline) → place < length dims → slice_get D (get_or dims place 0) ≡ Some d
-    → axes_of D (drop place dims) ≡ d ∷ axes_of D (drop (place + 1) dims)
-axes-from D dims place d low found = rw (drop_more dims place 0 low) (rw found refl)
-
-pub axes-past : (D : List Outline) (dims : List ℕ) (place : ℕ) → length dims ≤ place → axes_of D (drop place dims) ≡ []
-axes-past D dims place past = ap (axes_of D) (drop_all place dims past)
-
 module _ (space : Layout) (cube : ℕ) (roots : List ℕ) (place : ℕ) (d : Outline) (ds : List Outline) (front : List ℕ) where
   abbrev Within : ℕ → ℕ → Type 0
   Within n = GoesOnWithin space cube roots place d ds front n

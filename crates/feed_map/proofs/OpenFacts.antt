@@ -16,7 +16,7 @@ use Rattle.feed_map.specs.FedCells.{HaveLeaves}
 use Rattle.feed_map.specs.Inside.Gains.{HasCell, Gains, few_leaves, most_totals}
 use Rattle.feed_map.specs.Inside.Follows.{AreOpened, IsReach, IsVerdict}
 use Rattle.feed_map.proofs.GainFacts.{grows-none, on-ok}
-use Rattle.feed_map.proofs.Members.{front-or-behind, none-there}
+use Rattle.feed_sources.proofs.Members.{front-or-behind, none-there}
 
 module _ (m : BoundModel) (totals : List ℕ) where
   -- nothing that was found is lost

@@ -18,7 +18,7 @@ use Rattle.feed_map.specs.FedCells.{most_fed}
 use Rattle.feed_map.specs.Inside.Gains.{HasCell, Grows, Gains, NoCell}
 use Rattle.feed_map.specs.Inside.Follows.{FeedsFrom}
 use Rattle.feed_map.specs.Inside.Risks.{AreAtRisk, AreOutside, HaveRisk, IsAgain, IsAgainOne, IsSure}
-use Rattle.feed_map.proofs.Members.{none-there, at-front, behind, front-or-behind}
+use Rattle.feed_sources.proofs.Members.{none-there, at-front, behind, front-or-behind}
 use Rattle.feed_map.proofs.ChainFacts.{feeds-leaf}
 use Rattle.feed_map.proofs.GainFacts.{gains-none, gains-as, gains-then, grows-then}
 use Rattle.feed_map.proofs.FollowSteps.{get-front, get-has}

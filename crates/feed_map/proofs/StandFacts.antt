@@ -7,22 +7,10 @@ use Rattle.rule_laws.specs.Feeding.{leaves_of}
 use Rattle.rule_model.specs.BoundModel.{BoundModel}
 use Rattle.rule_model.specs.System.{system_of}
 use Rattle.feed_map.specs.Inside.Leaves.{GoesOn}
-use Rattle.feed_map.proofs.Members.{none-there, at-front, front-or-behind}
+use Rattle.feed_sources.proofs.Members.{none-there, at-front, front-or-behind}
 use Rattle.feed_map.proofs.LeafFacts.{goes-on-below, below-goes-on}
 
 module _ (m : BoundModel) (t : ℕ) where
-  pub leaf-stands : is_leaf_cell m.space t ≡ true → (c : ℕ) → t ≡ c → Contains (leaves_of (system_of m) t) c
-  unfolding system_of
-  leaf-stands leaf c is = rw leaf (subst (Contains (t ∷ [])) is (at-front t []))
-
-  pub stands-leaf : is_leaf_cell m.space t ≡ true → (c : ℕ) → Contains (leaves_of (system_of m) t) c → t ≡ c
-  unfolding system_of
-  stands-leaf leaf c has =
-      elim (front-or-behind t [] c (rw leaf at has)) [
-        | inl is ↦ is
-        | inr none ↦ absurd (none-there c none)
-      ]
-
   -- a consolidated cell stands for what goes on from its elements
   pub total-stands : IsCell m.space t → is_leaf_cell m.space t ≡ false → (cube : ℕ) → cube ≡ cube_of m.space t → (es : List ℕ) → es ≡ elements_of m.space t → (c : ℕ)
       → GoesOn m.space cube es 0 (axes m.space cube) [] c → Contains (leaves_of (system_of m) t) c

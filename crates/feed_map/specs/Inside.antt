@@ -1,5 +1,4 @@
 -- What the code keeps. No public clause cites it.
-pub mod Above
 pub mod Gains
 pub mod Leaves
 pub mod Follows

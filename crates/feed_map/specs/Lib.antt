@@ -1,3 +1,2 @@
 pub mod FedCells
 pub mod Inside
-pub mod Sources

@@ -10,8 +10,8 @@ use crate::follow::{follow_cells, follow_opened, follow_stored};
 use crate::given_up::GivenUp;
 use crate::reached::Reached;
 use crate::risk::{add_again, at_risk};
-use crate::source_model::SourceModel;
 use cell_store::{CellSet, PageSet, Store};
+use feed_sources::SourceModel;
 use std::alloc::{AllocError, Global};
 
 /// The fed cells of a version: the leaf cells that may have a value other than 0 though nothing is stored in them.

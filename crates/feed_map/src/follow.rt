@@ -1,20 +1,20 @@
-ghost use Rattle.std.specs.Prelude.{◌≡◌, ℕ, ◌≤◌, [], true, false, IsTrue, IsFalse, IfErr, OnOk, length};
+ghost use Rattle.std.specs.Prelude.{◌≡◌, ℕ, ◌≤◌, [], true, false, IfErr, OnOk, length};
 ghost use Rattle.cube_space.specs.Cells.{IsCell, cube_of, elements_of, is_leaf_cell};
 ghost use Rattle.cell_store.specs.Entries.{cells_of};
 ghost use Rattle.rule_laws.specs.Feeding.{FeedsBy, Feeds};
 ghost use Rattle.rule_model.specs.Conditions.{IsFeeder};
 ghost use Rattle.rule_model.specs.System.{system_of, feed_of};
+ghost use Rattle.feed_sources.specs.Feeders.{StandsFor};
 ghost use Rattle.feed_map.specs.FedCells.{most_fed};
 ghost use Rattle.feed_map.specs.Inside.Gains.{Gains, StopsBy};
-ghost use Rattle.feed_map.specs.Inside.Follows.{FeedsFrom, EndsChain, AreOpen, AreOpened, StandsFor};
+ghost use Rattle.feed_map.specs.Inside.Follows.{FeedsFrom, EndsChain, AreOpen, AreOpened};
 
 use crate::fault::FedFault;
 use crate::leaves::add_leaves_of;
 use crate::reached::Reached;
-use crate::source::is_source;
-use crate::source_model::SourceModel;
 use cell_store::Store;
-use cube_space::{MAX_DIMENSIONS, Space};
+use cube_space::MAX_DIMENSIONS;
+use feed_sources::{SourceModel, is_leaf_cell, is_source};
 use rule_laws::Reference;
 use rule_model::{Feeder, Model, target};
 
@@ -117,15 +117,6 @@ pub fn follow(model: &SourceModel, cell: u64, reached: &mut Reached) -> Result<(
         follow_by(model, &feeders[n], cube, &at[..len], cell, reached)?;
     }
     Ok(())
-}
-
-/// Whether a number is a leaf cell's.
-pub fn is_leaf_cell(space: &Space, cell: u64) -> bool
-    ensures cell { IsTrue result → IsCell space.now cell }
-    ensures leaf { IsTrue result → is_leaf_cell space.now cell ≡ true }
-    ensures other { IsFalse result → IsCell space.now cell → is_leaf_cell space.now cell ≡ false }
-{
-    cell < space.size() && space.is_leaf(cell)
 }
 
 // Finds what a leaf cell of these elements feeds by one feeder of its cube.

@@ -1,5 +1,5 @@
 use crate::fault::FedFault;
-use crate::fed_from::OutOfSteps;
+use feed_sources::OutOfSteps;
 use std::alloc::{AllocError, AllocFailed};
 
 /// Why a change was not followed from the cells that went and came: it needed too many steps, or too much memory, or

@@ -3,9 +3,8 @@
 //! [`Fed`] is the list of them, rising, and [`Feeding`] has with them the totals that feeders name, so that none is
 //! opened twice. [`Feeding::of`] finds them anew, [`Feeding::over`] from those over nothing, and [`Feeding::grown`]
 //! from those of a version in which fewer cells were stored. Each follows a cell by the feeders of its cube whose area
-//! has it, and a fed cell once. Where no cell of an area is taken out, the fed cells stay: [`is_any_source`].
-//!
-//! [`SourceModel`] is a model in which the areas that have a cell are found fast.
+//! has it, and a fed cell once. Where no cell of an area is taken out, the fed cells stay:
+//! [`feed_sources::is_any_source`].
 //!
 //! The feeder check promises that a leaf cell that is neither stored nor fed is 0: see [`cells_off_the_map_are_zero`].
 #![tactic(auto)]
@@ -14,14 +13,10 @@ pub use fault::FedFault;
 pub use fed::{Fed, Feeding};
 pub use growth::MAX_FED;
 pub use laws::{cells_off_the_map_are_zero, fed_cells_are_leaf_cells};
-pub use source_model::SourceModel;
-pub use sources::is_any_source;
 
-mod above;
 mod dense;
 mod fault;
 mod fed;
-mod fed_from;
 mod follow;
 mod given_up;
 mod growth;
@@ -29,6 +24,3 @@ mod laws;
 mod leaves;
 mod reached;
 mod risk;
-mod source;
-mod source_model;
-mod sources;

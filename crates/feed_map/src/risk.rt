@@ -5,13 +5,12 @@ ghost use Rattle.feed_map.specs.Inside.Gains.{Gains, Grows};
 ghost use Rattle.feed_map.specs.Inside.Follows.{AreOpened, FeedsFrom};
 ghost use Rattle.feed_map.specs.Inside.Risks.{AreAtRisk, AreOutside, HaveRisk, IsAgain, IsAgainOne, IsSure};
 
-use crate::fed_from::{OutOfSteps, is_fed_from};
-use crate::follow::{follow, follow_cells, is_leaf_cell};
+use crate::follow::{follow, follow_cells};
 use crate::given_up::GivenUp;
 use crate::growth::Growth;
 use crate::reached::Reached;
-use crate::source_model::SourceModel;
 use cell_store::{CellSet, PageSet, Store};
+use feed_sources::{OutOfSteps, SourceModel, is_fed_from, is_leaf_cell};
 use std::alloc::Global;
 
 /// The cells at risk where these went: what they feed, and what a cell at risk feeds, unless it is surely fed.

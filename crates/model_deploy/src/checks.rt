@@ -16,7 +16,8 @@ use crate::file::{RuleFile, fault_in};
 use cell_store::Store;
 use check_order::{OrderFault, check_order};
 use feed_check::{FeedCheckFault, check_feeders};
-use feed_map::{FedFault, Feeding, SourceModel};
+use feed_map::{FedFault, Feeding};
+use feed_sources::SourceModel;
 use rule_model::Model;
 use std::alloc::Global;
 

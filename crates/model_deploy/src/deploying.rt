@@ -15,7 +15,7 @@ use crate::foundation::{Foundation, foundation_of};
 use crate::ordering::ordered_rules;
 use crate::texts::texts_of;
 use accepted::Accepted;
-use feed_map::SourceModel;
+use feed_sources::SourceModel;
 use lists::ListOf;
 use model_text::ModelText;
 use rule_model::{CubeRules, Model};

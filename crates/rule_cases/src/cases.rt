@@ -4,7 +4,7 @@ use crate::kind::Kind;
 use crate::models::{counts_of, model_of};
 use crate::refusal::Refusal;
 use case_lines::Texts;
-use feed_map::SourceModel;
+use feed_sources::SourceModel;
 use std::alloc::{AllocError, Global};
 
 /// The answer to a case, where it has one. The text of a case `text: NAME` gets that name.

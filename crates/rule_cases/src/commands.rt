@@ -11,7 +11,7 @@ use crate::refusal::Refusal;
 use crate::values::value_text;
 use cell_store::{Store, StoreFault};
 use cube_fixed::Money;
-use feed_map::SourceModel;
+use feed_sources::SourceModel;
 use rule_dense::{MAX_CUBE_CELLS, dense};
 use rule_model::{cell_of, is_input};
 use std::alloc::Global;

@@ -17,11 +17,6 @@ use Rattle.feed_map.specs.FedCells.{AreFedCells, HasManyFed, HaveLeaves, most_fe
 use Rattle.feed_map.specs.Inside.Gains.{HasCell}
 use Rattle.feed_map.specs.Inside.Leaves.{IsLeafCellOf}
 
--- by one of these feeders of a cube the cell is fed from this one
-abbrev pub FeedsByOne : BoundModel → ℕ → List Feeder → ℕ → ℕ → Type 0
-FeedsByOne model cube feeders x c =
-    Any (λ feeder. FeedsBy (system_of model) (feed_of model.space cube feeder) x c) feeders
-
 -- one of these cells feeds it
 abbrev pub FeedsFrom : BoundModel → List ℕ → ℕ → Type 0
 FeedsFrom model sources c = (x : ℕ) × Contains sources x × Feeds (system_of model) x c
@@ -51,11 +46,6 @@ pub record AreOpen (model : BoundModel) (growth : Growth) : Type 0 where
 abbrev pub AreOpened : BoundModel → List ℕ → Growth → Type 0
 AreOpened model totals growth =
     (total cell : ℕ) → Contains totals total → Contains (leaves_of (system_of model) total) cell → HasCell growth cell
-
--- it is among the leaf cells of the cell that the reference names from this one
-abbrev pub StandsFor : BoundModel → Reference → ℕ → ℕ → Type 0
-StandsFor model reference x c =
-    (t : ℕ) × (target model.space reference x ≡ Some t) × Contains (leaves_of (system_of model) t) c
 
 -- a leaf cell of one of the first so many cubes, where that is dense
 abbrev pub IsDenseBelow : BoundModel → ℕ → ℕ → Type 0

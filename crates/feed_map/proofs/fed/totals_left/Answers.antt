@@ -3,7 +3,7 @@ use Rattle.std.specs.Prelude.{Result, Ok, Err, IfOk}
 use Rattle.std.specs.List.{Contains}
 use Rattle.std.proofs.lemmas.List.{nil_from_length}
 use Rattle.cell_store.specs.Cells.{IsUnion}
-use Rattle.feed_map.proofs.Members.{none-there}
+use Rattle.feed_sources.proofs.Members.{none-there}
 use Rattle.feed_map.proofs.fed.totals_left.Goals as goal
 
 same-left : {E : Type 0} (r : Result (List ℕ) E) (totals risk : List ℕ) → risk ≡ [] → IfOk r (λ left. IsUnion totals [] left) → IfOk r (λ left. (t : ℕ) → Contains left t → Contains totals t × (risk ≡ []))

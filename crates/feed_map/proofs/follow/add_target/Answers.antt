@@ -3,7 +3,7 @@ use Rattle.std.specs.List.{Contains}
 use Rattle.rule_laws.specs.Feeding.{leaves_of}
 use Rattle.rule_model.specs.Targets.{target}
 use Rattle.rule_model.specs.System.{system_of}
-use Rattle.feed_map.specs.Inside.Follows.{StandsFor}
+use Rattle.feed_sources.specs.Feeders.{StandsFor}
 use Rattle.feed_map.proofs.GainFacts.{gains-result, stops-result}
 use Rattle.feed_map.proofs.follow.add_target.Goals.{After-add_leaves_of}
 use Rattle.feed_map.proofs.follow.add_target.Goals as goal

@@ -8,9 +8,9 @@ use Rattle.rule_model.specs.declared.rules.Feeder.{Feeder}
 use Rattle.rule_model.specs.BoundModel.{rules_of}
 use Rattle.rule_model.specs.System.{system_of, feed_of}
 use Rattle.feed_map.specs.Inside.Gains.{StopsBy}
-use Rattle.feed_map.specs.Inside.Follows.{FeedsByOne}
+use Rattle.feed_sources.specs.Feeders.{FeedsByOne}
 use Rattle.feed_map.proofs.GainFacts.{gains-none, gains-as, gains-then, stops-then, handed-on}
-use Rattle.feed_map.proofs.FeederFacts.{feeds-below, feeds-leaf-cell, more-parts, more-from, taken-one, whole-feeds, feeds-whole}
+use Rattle.feed_sources.proofs.FeederFacts.{feeds-below, feeds-leaf-cell, more-parts, more-from, taken-one, whole-feeds, feeds-whole}
 use Rattle.feed_map.proofs.follow.follow.Goals.{After-is_leaf_cell, After-as_slice-feeders}
 use Rattle.feed_map.proofs.follow.follow.Goals as goal
 

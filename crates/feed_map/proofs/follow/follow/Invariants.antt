@@ -1,7 +1,8 @@
 -- What the feeders so far feed.
 use Rattle.std.proofs.Common.{take}
 use Rattle.feed_map.specs.Inside.Gains.{Gains}
-use Rattle.feed_map.specs.Inside.Follows.{AreOpened, FeedsByOne}
+use Rattle.feed_map.specs.Inside.Follows.{AreOpened}
+use Rattle.feed_sources.specs.Feeders.{FeedsByOne}
 use Rattle.feed_map.proofs.follow.follow.Given as goal
 
 abbrev pub invariant-each : goal.invariant-each

@@ -5,8 +5,8 @@ use Rattle.cube_space.proofs.Places.{cell-place, is_place-from}
 use Rattle.rule_laws.specs.Feeding.{FeedsBy}
 use Rattle.rule_model.specs.Areas.{in_source_sets}
 use Rattle.rule_model.specs.System.{system_of, feed_of}
-use Rattle.feed_map.specs.Inside.Follows.{StandsFor}
-use Rattle.feed_map.proofs.FeederFacts.{by-target, target-by}
+use Rattle.feed_sources.specs.Feeders.{StandsFor}
+use Rattle.feed_sources.proofs.FeederFacts.{by-target, target-by}
 use Rattle.feed_map.proofs.GainFacts.{gains-result, stops-result}
 use Rattle.feed_map.proofs.follow.follow_by.Goals.{After-is_source}
 use Rattle.feed_map.proofs.follow.follow_by.Goals as goal

@@ -4,7 +4,7 @@ use Rattle.cube_space.specs.Cells.{size_of}
 use Rattle.feed_map.specs.Inside.Gains.{StopsBy}
 use Rattle.feed_map.specs.Inside.Follows.{FeedsFrom}
 use Rattle.feed_map.proofs.GainFacts.{gains-none, handed-on}
-use Rattle.feed_map.proofs.FeederFacts.{feeds-below}
+use Rattle.feed_sources.proofs.FeederFacts.{feeds-below}
 use Rattle.feed_map.proofs.FollowSteps.{stored-more, stored-stops, stored-past, stored-done, from-first}
 use Rattle.feed_map.proofs.follow.follow_stored.Goals as goal
 

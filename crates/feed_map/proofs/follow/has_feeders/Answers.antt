@@ -3,8 +3,8 @@ use Rattle.std.specs.List.{Contains}
 use Rattle.cube_space.specs.Layout.{Layout}
 use Rattle.cube_space.specs.Cells.{cube_of}
 use Rattle.rule_model.specs.declared.rules.Feeder.{Feeder}
-use Rattle.feed_map.proofs.Members.{none-there}
-use Rattle.feed_map.proofs.FeederFacts.{feeds-some, feeds-cube}
+use Rattle.feed_sources.proofs.Members.{none-there}
+use Rattle.feed_sources.proofs.FeederFacts.{feeds-some, feeds-cube}
 use Rattle.feed_map.proofs.follow.has_feeders.Goals as goal
 
 pub returns : goal.returns

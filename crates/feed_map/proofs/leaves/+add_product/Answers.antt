@@ -7,7 +7,8 @@ use Rattle.cube_space.specs.Cells.{cell_number}
 use Rattle.feed_map.specs.Inside.Gains.{Gains, StopsBy}
 use Rattle.feed_map.specs.Inside.Leaves.{candidates, leaf_at, GoesOn, GoesOnBy, GoesOnWithin}
 use Rattle.feed_map.proofs.GainFacts.{gains-result, stops-result, handed-on}
-use Rattle.feed_map.proofs.LeafSteps.{axes-past, front-kept, some-by, by-some, number-goes, goes-number, goes-more, goes-stops, goes-done}
+use Rattle.feed_sources.proofs.Axes.{axes-past}
+use Rattle.feed_map.proofs.LeafSteps.{front-kept, some-by, by-some, number-goes, goes-number, goes-more, goes-stops, goes-done}
 use Rattle.feed_map.proofs.leaves.+add_product.Goals.{add_choice-After-rank_of-rank, add_product-After-root_of-root}
 use Rattle.feed_map.proofs.leaves.+add_product.Goals as goal
 

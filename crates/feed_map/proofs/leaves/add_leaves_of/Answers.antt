@@ -5,7 +5,7 @@ use Rattle.cube_space.specs.Cells.{is_leaf_cell}
 use Rattle.rule_laws.specs.Feeding.{leaves_of}
 use Rattle.rule_model.specs.System.{system_of}
 use Rattle.feed_map.proofs.GainFacts.{gains-result, stops-result}
-use Rattle.feed_map.proofs.StandFacts.{leaf-stands, stands-leaf}
+use Rattle.feed_sources.proofs.BelowFacts.{leaf-stands, stands-leaf}
 use Rattle.feed_map.proofs.OpenFacts.{gains-known, opened-gains, opened-more, opened-result}
 use Rattle.feed_map.proofs.leaves.add_leaves_of.Goals.{After-add}
 use Rattle.feed_map.proofs.leaves.add_leaves_of.Goals as goal

@@ -1,8 +1,8 @@
 use Rattle.std.proofs.Common.{◌≡◌, ◌∙◌, ap, [], get_or, Some}
 use Rattle.std.specs.Prelude.{slice_get}
 use Rattle.cube_space.specs.Layout.{Layout, dims_of}
-use Rattle.feed_map.proofs.LeafSteps.{shape-dims, axes-from}
-use Rattle.feed_map.proofs.SourceFacts.{weights-there}
+use Rattle.feed_sources.proofs.Axes.{shape-dims, axes-from}
+use Rattle.feed_sources.proofs.SourceFacts.{weights-there}
 use Rattle.feed_map.proofs.leaves.axis_of.Goals.{After-dimension, After-weights}
 use Rattle.feed_map.proofs.leaves.axis_of.Goals as goal
 

@@ -1,7 +1,0 @@
--- None of the elements so far is listed.
-use Rattle.std.proofs.Common.{take}
-use Rattle.feed_map.specs.Inside.Above.{Meet}
-use Rattle.feed_map.proofs.source.is_one_listed.Given as goal
-
-abbrev pub invariant-each : goal.invariant-each
-invariant-each l = Meet (take l.place l.elements) l.listed → ⊥

@@ -1,7 +1,0 @@
--- The cell is in no area of the feeders so far.
-use Rattle.std.proofs.Common.{take}
-use Rattle.feed_map.proofs.FeederFacts.{HasOne}
-use Rattle.feed_map.proofs.sources.is_any_source.Given as goal
-
-abbrev pub invariant-each : goal.invariant-each
-invariant-each l = HasOne l.model l.cell l.cube (take l.n l.feeders) → ⊥

@@ -1,0 +1,13 @@
+pub mod Members
+pub mod Axes
+pub mod AboveFacts
+pub mod SourceFacts
+pub mod FeederFacts
+pub mod BelowFacts
+mod DigitFacts
+mod JumpFacts
+mod KeptFacts
+mod ChoiceFacts
+mod FeedFacts
+mod WalkFacts
+mod BackFacts

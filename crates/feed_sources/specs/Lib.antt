@@ -1,0 +1,3 @@
+pub mod Feeders
+pub mod Inside
+pub mod Sources
