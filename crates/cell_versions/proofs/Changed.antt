@@ -1,5 +1,5 @@
 -- What some writes have changed between stored and not stored.
-use Rattle.std.proofs.Common.{◌≡◌, refl, sym, ◌∙◌, ℕ, ℤ, Bool, true, false, true≢false, List, [], ◌∷◌, ◌++◌, map, Contains, ◌⊎◌, inl, inr, ⊎_elim, ◌↔◌}
+use Rattle.std.proofs.Common.{◌≡◌, refl, sym, ◌∙◌, ℕ, ℤ, Bool, true, false, List, [], ◌∷◌, ◌++◌, map, Contains, ◌⊎◌, inl, inr, ⊎_elim, ◌↔◌}
 use Rattle.std.specs.Prelude.{IsTrue}
 use Rattle.std.proofs.lemmas.List.Elements.{All-contains, All-nil, All-push, All-weaker}
 use Rattle.cell_store.specs.declared.entry.Entry.{Entry}

@@ -1,18 +1,17 @@
 -- What is fed after a change: what is kept, what comes again, and what grows from there.
-use Rattle.std.proofs.Common.{◌≡◌, refl, sym, ap, ◌∙◌, subst, ℕ, zero, suc, ◌≤◌, ◌⊎◌, inl, inr, Bool, true, false, List, [], ◌∷◌, ◌++◌, length, Ok, None, arith}
+use Rattle.std.proofs.Common.{◌≡◌, refl, sym, ap, ◌∙◌, subst, ℕ, zero, suc, ◌≤◌, ◌⊎◌, inl, inr, Bool, true, false, List, [], ◌++◌, length, Ok, arith}
 use Rattle.std.specs.Prelude.{IsSome, ◌==◌}
 use Rattle.std.specs.List.{Contains, list_any}
-use Rattle.std.specs.List.Sorted.{IsStrictlyIncreasing}
 use Rattle.std.proofs.lemmas.List.Elements.{Contains-append_left, Contains-append_right, Contains-append_cases}
 use Rattle.cell_store.specs.declared.entry.Entry.{Entry}
 use Rattle.cell_store.specs.Entries.{cells_of}
 use Rattle.cell_store.specs.Cells.{IsUnion, IsDifference}
-use Rattle.rule_laws.specs.Feeding.{IsDenseCell, Feeds, Leads, IsFed, leaves_of}
+use Rattle.rule_laws.specs.Feeding.{IsDenseCell, Feeds, Leads, IsFed}
 use Rattle.rule_model.specs.BoundModel.{BoundModel}
 use Rattle.rule_model.specs.System.{system_of}
 use Rattle.stored_laws.specs.Stored.{stored_in}
 use Rattle.feed_map.specs.declared.growth.Growth.{Growth}
-use Rattle.feed_map.specs.FedCells.{AreFedCells, HaveLeaves, IsFeeding, IsStoredChange, most_fed}
+use Rattle.feed_map.specs.FedCells.{AreFedCells, HaveLeaves, IsStoredChange, most_fed}
 use Rattle.feed_map.specs.Inside.Gains.{HasCell, Gains}
 use Rattle.feed_map.specs.Inside.Follows.{AreOpen, AreOpened, EndsChain, FeedsFrom, IsVerdict}
 use Rattle.feed_map.specs.Inside.Risks.{AreAtRisk, IsAgain, IsSure}

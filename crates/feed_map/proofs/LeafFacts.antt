@@ -1,24 +1,23 @@
 -- The cells whose elements are leaves that count in a cell's elements are the leaf cells below it; those of any leaves are
 -- the leaf cells of a cube.
-use Rattle.std.proofs.Common.{◌≡◌, refl, sym, ap, ◌∙◌, subst, ℕ, zero, suc, ◌+◌, ◌<◌, ◌≤◌, ◌⊎◌, inl, inr, Bool, true, false, cond, ℤ, List, [], ◌∷◌, ◌++◌, append_assoc, length, map, get_or, Option, Some, None, nat_lt, arith, zero-add}
+use Rattle.std.proofs.Common.{◌≡◌, refl, sym, ap, ◌∙◌, subst, ℕ, zero, suc, ◌+◌, ◌<◌, ◌≤◌, ◌⊎◌, inl, inr, true, cond, ℤ, List, [], ◌∷◌, ◌++◌, append_assoc, length, map, Option, Some, None, nat_lt, arith, zero-add}
 use Rattle.std.specs.Prelude.{slice_get}
-use Rattle.std.specs.List.{Contains, filter, range_with_len}
+use Rattle.std.specs.List.{Contains, range_with_len}
 use Rattle.std.specs.Option.{option_map}
-use Rattle.std.proofs.lemmas.Bool.{and_parts, and_from, ltb-true, lt-ltb, cond_both, eq-eqb}
+use Rattle.std.proofs.lemmas.Bool.{and_parts, and_from, ltb-true, lt-ltb}
 use Rattle.std.proofs.lemmas.Option.{cond_some, option_and_then_some, slice_get_within, slice_get-get_or, get_or_from_slice_get}
 use Rattle.std.proofs.lemmas.List.FromFn.{get_or-range_with_len, length-range_with_len}
 use Rattle.std.proofs.lemmas.List.Elements.{All-contains}
 use Rattle.dim_core.specs.Outline.{Outline}
 use Rattle.dim_weights.specs.Coefficients.{coef}
-use Rattle.dim_weights.specs.Table.{is_nonzero, nonzero_among, leaves_of}
+use Rattle.dim_weights.specs.Table.{is_nonzero, leaves_of}
 use Rattle.cube_space.specs.Radix.{are_digits}
 use Rattle.cube_space.specs.Layout.{Layout, axes, sizes_of}
-use Rattle.cube_space.specs.Cells.{IsCell, size_of, cube_of, elements_of, is_leaf, are_leaves, is_leaf_cell, cell_number, is_place}
-use Rattle.cube_space.proofs.Places.{cell-place, cell_number-cell, place_number, is_place-parts, place-within, cell_at-place}
+use Rattle.cube_space.specs.Cells.{IsCell, cube_of, elements_of, is_leaf, are_leaves, is_leaf_cell, cell_number}
+use Rattle.cube_space.proofs.Places.{cell-place, cell_number-cell}
 use Rattle.rule_model.specs.Weights.{coef_product, weight, leaf_cells, leaves_below}
 use Rattle.model_laws.proofs.Below.{weight-counted, leaf_cells-are}
 use Rattle.feed_map.specs.Inside.Leaves.{candidates, candidate, leaf_at, IsChosen, AreChosen, GoesOn, GoesOnWithin, IsLeafCellOf}
-use Rattle.feed_sources.proofs.Members.{none-there, at-front, behind, front-or-behind}
 use Rattle.feed_sources.proofs.BelowFacts.{IsAt, number-at, cell-leaves, has-nonzero, below-has, has-below, leaf_cells-has, weight-product}
 use Rattle.dim_weights.proofs.Nonzero.{both-factors as product-nonzero, first-factor, second-factor, among-in as nonzero-has}
 

@@ -1,11 +1,10 @@
 -- The cells of a product of leaves, leaf by leaf.
-use Rattle.std.proofs.Common.{◌≡◌, refl, sym, ap, ◌∙◌, subst, ℕ, zero, suc, ◌+◌, ◌<◌, ◌≤◌, ◌⊎◌, inl, inr, List, [], ◌∷◌, ◌++◌, append-nil, length, take, drop, set, get_or, Option, Some, None, arith, zero-add}
+use Rattle.std.proofs.Common.{◌≡◌, refl, sym, ap, ◌∙◌, subst, ℕ, zero, suc, ◌+◌, ◌<◌, ◌≤◌, ◌⊎◌, inl, inr, List, [], ◌∷◌, ◌++◌, append-nil, length, take, set, get_or, Option, Some, None, arith, zero-add}
 use Rattle.std.specs.Prelude.{slice_get, IfSome}
-use Rattle.std.proofs.lemmas.List.{drop_more, get_or-map, drop_all, take-set}
-use Rattle.std.proofs.lemmas.Option.{slice_get_within, get_or_from_slice_get, slice_get-get_or}
+use Rattle.std.proofs.lemmas.List.{take-set}
+use Rattle.std.proofs.lemmas.Option.{slice_get-get_or}
 use Rattle.dim_core.specs.Outline.{Outline}
-use Rattle.cube_space.specs.declared.shape.CubeShape.{CubeShape}
-use Rattle.cube_space.specs.Layout.{Layout, axes, axes_of, dims_of}
+use Rattle.cube_space.specs.Layout.{Layout, axes}
 use Rattle.cube_space.specs.Cells.{IsCell, cube_of, elements_of, cell_number}
 use Rattle.cube_space.proofs.Places.{cell-place}
 use Rattle.model_laws.proofs.Levels.{element-of}

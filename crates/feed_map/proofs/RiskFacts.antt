@@ -1,5 +1,5 @@
 -- Looking at the cells that may be at risk, one after another.
-use Rattle.std.proofs.Common.{◌≡◌, refl, sym, ap, true, ◌∙◌, subst, ℕ, zero, suc, ◌+◌, ◌<◌, ◌≤◌, ◌⊎◌, inl, inr, List, [], ◌∷◌, ◌++◌, length, take, get_or, Some, None, length-append, arith}
+use Rattle.std.proofs.Common.{◌≡◌, sym, ap, true, ◌∙◌, subst, ℕ, ◌+◌, ◌<◌, ◌≤◌, ◌⊎◌, inl, inr, List, [], ◌∷◌, ◌++◌, length, take, get_or, Some, None, length-append, arith}
 use Rattle.std.specs.Prelude.{slice_get}
 use Rattle.std.specs.List.{Contains}
 use Rattle.std.proofs.lemmas.Bool.{cases_lt}
@@ -7,7 +7,6 @@ use Rattle.std.proofs.lemmas.List.{take_more}
 use Rattle.std.proofs.lemmas.List.Elements.{Contains-append_left, Contains-append_right, Contains-push, Contains-push_cases}
 use Rattle.std.proofs.lemmas.Option.{slice_get_within, slice_get-get_or}
 use Rattle.cell_store.specs.declared.entry.Entry.{Entry}
-use Rattle.cell_store.specs.Entries.{cells_of}
 use Rattle.rule_laws.specs.Feeding.{Feeds}
 use Rattle.cube_space.specs.Cells.{IsCell, is_leaf_cell}
 use Rattle.rule_laws.specs.Ordered.{IsWellFormed}
@@ -18,10 +17,10 @@ use Rattle.feed_map.specs.FedCells.{most_fed}
 use Rattle.feed_map.specs.Inside.Gains.{HasCell, Grows, Gains, NoCell}
 use Rattle.feed_map.specs.Inside.Follows.{FeedsFrom}
 use Rattle.feed_map.specs.Inside.Risks.{AreAtRisk, AreOutside, HaveRisk, IsAgain, IsAgainOne, IsSure}
-use Rattle.feed_sources.proofs.Members.{none-there, at-front, behind, front-or-behind}
+use Rattle.feed_sources.proofs.Members.{none-there}
 use Rattle.feed_map.proofs.ChainFacts.{feeds-leaf}
 use Rattle.feed_map.proofs.GainFacts.{gains-none, gains-as, gains-then, grows-then}
-use Rattle.feed_map.proofs.FollowSteps.{get-front, get-has}
+use Rattle.feed_map.proofs.FollowSteps.{get-front}
 
 -- what some cell feeds is a leaf cell
 pub from-leaf : (m : BoundModel) → IsWellFormed (system_of m) → (sources : List ℕ) (c : ℕ) → FeedsFrom m sources c → IsCell m.space c × (is_leaf_cell m.space c ≡ true)

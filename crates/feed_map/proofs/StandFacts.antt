@@ -1,5 +1,5 @@
 -- The leaf cells that a cell stands for.
-use Rattle.std.proofs.Common.{◌≡◌, sym, subst, ℕ, inl, inr, true, false, List, [], ◌∷◌}
+use Rattle.std.proofs.Common.{◌≡◌, sym, subst, ℕ, false, List, []}
 use Rattle.std.specs.List.{Contains}
 use Rattle.cube_space.specs.Layout.{axes}
 use Rattle.cube_space.specs.Cells.{IsCell, cube_of, elements_of, is_leaf_cell}
@@ -7,7 +7,6 @@ use Rattle.rule_laws.specs.Feeding.{leaves_of}
 use Rattle.rule_model.specs.BoundModel.{BoundModel}
 use Rattle.rule_model.specs.System.{system_of}
 use Rattle.feed_map.specs.Inside.Leaves.{GoesOn}
-use Rattle.feed_sources.proofs.Members.{none-there, at-front, front-or-behind}
 use Rattle.feed_map.proofs.LeafFacts.{goes-on-below, below-goes-on}
 
 module _ (m : BoundModel) (t : ℕ) where

@@ -1,14 +1,11 @@
 -- Chains of feeds from the cells that are known or found.
 use Rattle.std.specs.Prelude.{◌≡◌, ℕ, suc, ◌<◌, ◌≤◌, ◌⊎◌, true, ⊤}
-use Rattle.std.specs.Prelude.{Some, Result, Ok, Err, List, length, Contains, Any, slice_get}
+use Rattle.std.specs.Prelude.{Some, Result, Ok, Err, List, length, Contains, slice_get}
 use Rattle.cube_space.specs.Cells.{cube_of}
 use Rattle.cell_store.specs.declared.entry.Entry.{Entry}
-use Rattle.rule_laws.specs.declared.reference.Reference.{Reference}
-use Rattle.rule_laws.specs.Feeding.{leaves_of, is_dense, IsDenseCell, FeedsBy, Feeds, Leads}
-use Rattle.rule_model.specs.declared.rules.Feeder.{Feeder}
+use Rattle.rule_laws.specs.Feeding.{leaves_of, is_dense, IsDenseCell, Feeds, Leads}
 use Rattle.rule_model.specs.BoundModel.{BoundModel}
-use Rattle.rule_model.specs.System.{system_of, feed_of}
-use Rattle.rule_model.specs.Targets.{target}
+use Rattle.rule_model.specs.System.{system_of}
 use Rattle.feed_map.specs.declared.fault.FedFault.{FedFault}
 use Rattle.feed_map.specs.declared.fault.FedFault.TheVariants.{FedLimit, Memory}
 use Rattle.feed_map.specs.declared.growth.Growth.{Growth}

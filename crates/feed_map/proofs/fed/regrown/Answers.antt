@@ -27,7 +27,7 @@ follow_cells-requires c =
     let again : Gains (IsAgain m kept risk) z a = rw c.deref-3.ensures.value at c.in_ok-add_again.ensures in
     let these = c.from-reached.result.totals in
     let same : (total : ℕ) → Contains these total → Contains c.args.totals.now total × (risk ≡ []) =
-        λ total has. let one = c.in_ok-totals.ensures total (subst (λ (xs : List ℕ). Contains xs total) c.from-reached.ensures.totals has) in (one.0, sym c.deref-2.ensures.value ∙ one.1) in
+    λ total has. let one = c.in_ok-totals.ensures total (subst (λ (xs : List ℕ). Contains xs total) c.from-reached.ensures.totals has) in (one.0, sym c.deref-2.ensures.value ∙ one.1) in
     let opened = left-opened m s t c.args.went.now c.args.came.now base fed risk kept c.requires.change c.requires.before.fed c.requires.base danger left c.args.totals.now these z c.requires.before.opened same union in
     record { totals = opened-gains m these (IsAgain m kept risk) z a again opened }
 
@@ -90,8 +90,7 @@ returns c =
     let again : Gains (IsAgain m kept risk) z a = rw c.deref-3.ensures.value at c.in_ok-add_again.ensures in
     let few : length fed ≤ most_fed = c.requires.few in
     let b = c.follow_cells.new.reached.growth in
-    let came = c.in_ok-follow_cells.ensures.gains in
-    (
+    let came = c.in_ok-follow_cells.ensures.gains in (
       all-regrown m s t c.args.went.now c.args.came.now base fed risk kept c.requires.change c.requires.before.fed c.requires.base danger left
           z a b few union c.from-reached.ensures.opened c.from-reached.ensures.found again came c.follow_opened.new.reached.growth c.in_ok-follow_opened.ensures.gains c.in_ok-follow_opened.ensures.none,
       opened-known m c.follow_opened.new.reached.totals c.follow_opened.new.reached.growth c.in_ok-follow_opened.ensures.totals c.in_ok-follow_opened.ensures.none,

@@ -1,4 +1,4 @@
-use Rattle.std.proofs.Common.{◌≡◌, arith, sym}
+use Rattle.std.proofs.Common.{arith, sym}
 use Rattle.feed_map.specs.Inside.Gains.{NoCell}
 use Rattle.feed_map.proofs.RiskFacts.{outside-still, looked-room, looked-grows, looked-within, looked-more, looked-end}
 use Rattle.feed_map.proofs.OpenFacts.{opened-gains}

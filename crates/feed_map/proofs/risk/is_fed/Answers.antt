@@ -1,7 +1,7 @@
 -- No other cell than a leaf cell is fed.
 use Rattle.std.proofs.Common.{rules, ◌≡◌, sym, ◌∙◌, true, false, ap}
 use Rattle.cube_space.specs.Layout.{Layout}
-use Rattle.cube_space.specs.Cells.{IsCell, is_leaf_cell}
+use Rattle.cube_space.specs.Cells.{is_leaf_cell}
 use Rattle.model_laws.proofs.Formed.{well_formed}
 use Rattle.feed_map.proofs.RiskFacts.{from-leaf}
 use Rattle.feed_map.proofs.risk.is_fed.Goals as goal

@@ -1,6 +1,6 @@
 use Rattle.std.proofs.Common.{rules, ◌≡◌, subst, map}
 use Rattle.cell_store.specs.Entries.{after_writes}
-use Rattle.feed_map.specs.FedCells.{AreFedCells, HaveLeaves, HasManyFed, IsStoredChange}
+use Rattle.feed_map.specs.FedCells.{AreFedCells, HaveLeaves, HasManyFed}
 use Rattle.cell_versions.specs.Inside.Changes.{IsChangeBy}
 use Rattle.cell_versions.proofs.Changed.{changed_is}
 use Rattle.cell_versions.proofs.version.Version.fed_changed.Goals as goal
