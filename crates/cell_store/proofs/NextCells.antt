@@ -1,19 +1,17 @@
 -- The first cell, and the first entry, at or above a cell.
-use Rattle.std.proofs.Common.{◌≡◌, ℕ, zero, suc, ◌<◌, ◌↔◌, true, false, IsTrue, None, Some, List, [], ◌∷◌, length, find, Contains, get_or, refl, ap, subst, eqb, leb, eq-eqb, inl, inr, arith}
+use Rattle.std.proofs.Common.{◌≡◌, ℕ, zero, suc, ◌<◌, ◌↔◌, true, false, IsTrue, None, Some, List, [], ◌∷◌, length, map, find, Contains, get_or, refl, ap, subst, eqb, leb, eq-eqb, inl, inr, arith}
 use Rattle.std.specs.Option.{option_map}
 use Rattle.std.proofs.lemmas.Bool.Decides.{nat_tests, leb_tells, Decides-eqb}
-use Rattle.cell_store.specs.declared.entry.Entry.{Entry}
 use Rattle.cell_store.specs.Cells.{next_from}
-use Rattle.cell_store.specs.Entries.{cells_of}
 use Rattle.cell_store.proofs.Rising.{AllAbove, Rises}
 
--- the cell of the first entry is the first cell
-pub next_of_entries : (es : List Entry) (k : ℕ) → next_from (cells_of es) k ≡ option_map (λ e. e.cell) (find (λ e. leb k e.cell) es)
-next_of_entries [] k = refl
-next_of_entries (e ∷ es) k =
-    elim (leb_tells k e.cell) [
+-- the cell of the first item is the first cell
+pub next_of_items : {X : Type 0} (cell : X → ℕ) (xs : List X) (k : ℕ) → next_from (map cell xs) k ≡ option_map cell (find (λ x. leb k (cell x)) xs)
+next_of_items cell [] k = refl
+next_of_items cell (x ∷ xs) k =
+    elim (leb_tells k (cell x)) [
       | inl t ↦ rw t.0 refl
-      | inr t ↦ rw t.0 (next_of_entries es k)
+      | inr t ↦ rw t.0 (next_of_items cell xs k)
     ]
 
 contains_next : (cells : List ℕ) (k n : ℕ) → next_from cells k ≡ Some n → Contains cells n

@@ -10,3 +10,8 @@ next_from cells cell = find (λ other. nat_le cell other) cells
 pub record IsUnion (set added union : List ℕ) : Type 0 where
   pub rising : IsStrictlyIncreasing union
   pub cells : (cell : ℕ) → Contains union cell ↔ (Contains set cell ⊎ Contains added cell)
+
+-- the cells of the set that aren't among these, each once and in their order
+pub record IsDifference (set removed left : List ℕ) : Type 0 where
+  pub rising : IsStrictlyIncreasing left
+  pub cells : (cell : ℕ) → Contains left cell ↔ (Contains set cell × (Contains removed cell → ⊥))

@@ -21,6 +21,7 @@ mod cells;
 mod entry;
 mod fault;
 mod level;
+mod member;
 mod node;
 mod order;
 mod page;

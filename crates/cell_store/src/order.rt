@@ -1,4 +1,4 @@
-ghost use Rattle.std.specs.Prelude.{◌≡◌, ℕ, Bool, pos, false};
+ghost use Rattle.std.specs.Prelude.{◌≡◌, ℕ, Bool, pos};
 ghost use Rattle.std.specs.Ordering.{int_eq};
 
 use crate::entry::Entry;
@@ -33,21 +33,5 @@ impl Stored for Entry {
 
     fn is_gone(&self) -> bool {
         self.number.millionths() == 0
-    }
-}
-
-impl Placed for u64 {
-    ghost cell = { λ cell. cell };
-
-    fn cell(&self) -> u64 {
-        *self
-    }
-}
-
-impl Stored for u64 {
-    ghost is_gone = { λ _. false };
-
-    fn is_gone(&self) -> bool {
-        false
     }
 }

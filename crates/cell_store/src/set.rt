@@ -1,8 +1,9 @@
-ghost use Rattle.std.specs.Prelude.{◌≡◌, [], length, IfOk};
-ghost use Rattle.std.specs.List.Sorted.{IsStrictlyIncreasing};
-ghost use Rattle.cell_store.specs.Cells.{IsUnion};
+ghost use Rattle.std.specs.Prelude.{◌≡◌, true, false, [], length, IfOk};
+ghost use Rattle.cell_store.specs.Cells.{IsUnion, IsDifference};
+ghost use Rattle.cell_store.specs.Inside.Sets.{members_of};
 
 use crate::cells::CellSet;
+use crate::member::Member;
 use crate::part::Part;
 use crate::tree::{Tree, changed};
 use crate::writes::last_entries;
@@ -12,18 +13,17 @@ use std::marker::Model;
 /// A set of cells, in pages that it shares with the sets that were made from it.
 #[derive(Drop)]
 pub struct PageSet {
-    tree: Tree<u64>,
+    tree: Tree<Member>,
     len: usize,
 }
 
 impl Model for PageSet {
     ghost use Rattle.std.specs.Prelude.{List, ℕ};
-    ghost use Rattle.cell_store.specs.Inside.Trees.{all_entries};
-    ghost use Rattle.cell_store.specs.Inside.Sets.{IsKept};
+    ghost use Rattle.cell_store.specs.Inside.Sets.{IsKept, tree_cells};
 
     ghost Value = { List ℕ };
 
-    ghost view = { λ s. all_entries s.tree };
+    ghost view = { λ s. tree_cells s.tree };
 
     ghost invariant = { λ s. IsKept s.tree s.len };
 }
@@ -50,17 +50,46 @@ impl PageSet {
     pub fn with(&self, alloc: Global, cells: &[u64]) -> Result<PageSet, AllocError>
         ensures { IfOk result (λ union. IsUnion self.now cells.now union) }
     {
-        let cells = last_entries(alloc, cells)?;
-        let tree = changed(alloc, &self.tree, &cells)?;
+        self.changed(alloc, cells, false)
+    }
+
+    /// The set without these cells, in whatever order they come.
+    pub fn without(&self, alloc: Global, cells: &[u64]) -> Result<PageSet, AllocError>
+        ensures { IfOk result (λ left. IsDifference self.now cells.now left) }
+    {
+        self.changed(alloc, cells, true)
+    }
+
+    // The set with these cells, or without them.
+    fn changed(&self, alloc: Global, cells: &[u64], gone: bool) -> Result<PageSet, AllocError>
+        ensures put_in { gone ≡ false → IfOk result (λ union. IsUnion self.now cells.now union) }
+        ensures taken_out { gone ≡ true → IfOk result (λ left. IsDifference self.now cells.now left) }
+    {
+        let members = members_of(alloc, cells, gone)?;
+        let last = last_entries(alloc, &members)?;
+        let tree = changed(alloc, &self.tree, &last)?;
         let len = tree.count()?;
         Ok(PageSet { tree, len })
     }
+}
+
+// These cells, each put in or each taken out.
+fn members_of(alloc: Global, cells: &[u64], gone: bool) -> Result<Vec<Member>, AllocError>
+    ensures { IfOk result (λ members. members.items ≡ members_of gone cells.now) }
+{
+    cells
+        .iter()
+        .map(|cell| Member { cell: *cell, gone })
+        .collect(alloc)
 }
 
 impl CellSet for PageSet {
     ghost cells = { λ set. set };
 
     fn next_from(&self, cell: u64) -> Option<u64> {
-        self.tree.first_from(cell)
+        match self.tree.first_from(cell) {
+            Some(member) => Some(member.cell),
+            None => None,
+        }
     }
 }

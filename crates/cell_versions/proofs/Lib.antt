@@ -3,3 +3,4 @@ pub mod Fed
 pub mod Added
 pub mod Faults
 pub mod Writes
+mod Changed

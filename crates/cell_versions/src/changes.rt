@@ -1,5 +1,5 @@
-ghost use Rattle.std.specs.Prelude.{IfOk, map, option_map};
-ghost use Rattle.cell_versions.specs.Inside.Changes.{IsAddedIf};
+ghost use Rattle.std.specs.Prelude.{◌≡◌, ℕ, ◌⊎◌, true, false, IfOk, OnOk, map, option_map, Contains};
+ghost use Rattle.cell_versions.specs.Inside.Changes.{IsAddedIf, IsChangeBy};
 
 use cell_store::{CellSet, Store};
 use cube_fixed::Money;
@@ -29,4 +29,46 @@ pub(crate) fn added_by(
         }
     }
     Ok(Some(added))
+}
+
+/// Which cells some writes have changed between stored and not stored.
+#[derive(Drop)]
+pub(crate) struct Change {
+    /// Those that were stored before, and aren't any more.
+    pub went: Vec<u64>,
+    /// Those that are stored now, and weren't before.
+    pub came: Vec<u64>,
+}
+
+/// The cells of these writes that went, and those that came.
+pub(crate) fn change_by(
+    alloc: Global,
+    before: &Store,
+    after: &Store,
+    writes: &[(u64, Money)],
+) -> Result<Change, AllocError>
+    ensures { IfOk result (λ change. IsChangeBy before.now after.now (map (λ write. write.0) writes.now)
+        change.went.items change.came.items) }
+{
+    let mut went = Vec::new(alloc);
+    let mut came = Vec::new(alloc);
+    for write in writes {
+        let (was, is) = (before.has(write.0), after.has(write.0));
+        note(&mut went, was, is, write.0)?;
+        note(&mut came, is, was, write.0)?;
+    }
+    Ok(Change { went, came })
+}
+
+// Adds a cell that is in one store, and not in the other.
+fn note(cells: &mut Vec<u64>, is_in: bool, is_other: bool, cell: u64) -> Result<(), AllocError>
+    ensures kept { OnOk result ((other : ℕ) → Contains cells.old.items other → Contains cells.new.items other) }
+    ensures there { OnOk result (is_in ≡ true → (is_other ≡ true) ⊎ Contains cells.new.items cell) }
+    ensures only { OnOk result ((other : ℕ) → Contains cells.new.items other
+        → Contains cells.old.items other ⊎ ((is_in ≡ true) × (cell ≡ other))) }
+{
+    if is_in && !is_other {
+        cells.push(cell)?;
+    }
+    Ok(())
 }

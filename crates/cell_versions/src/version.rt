@@ -6,7 +6,7 @@ ghost use Rattle.accepted.specs.Checks.{IsAccepted};
 ghost use Rattle.cell_versions.specs.LimitAnswers.{AnswersLimits};
 ghost use Rattle.cell_versions.specs.Versions.{AreLeafWrites, IsVersion, number_after};
 
-use crate::changes::added_by;
+use crate::changes::{added_by, change_by};
 use crate::fault::NextFault;
 use accepted::Accepted;
 use cell_store::Store;
@@ -89,7 +89,7 @@ impl Version {
         })
     }
 
-    // What is fed after these writes have made this store: where they took no cell out that is in the area of a feeder,
+    // What is fed after these writes have made this store. Where they took no cell out that is in the area of a feeder,
     // no more than what was added is followed.
     fn fed_over(
         &self,
@@ -106,8 +106,31 @@ impl Version {
         let model = self.accepted.sources();
         match added_by(alloc, model, &self.store, store, writes)? {
             Some(added) => self.feeding.grown(alloc, model, store, &added),
-            None => self.accepted.feeding().over(alloc, model, store),
+            None => self.fed_changed(alloc, store, writes),
         }
+    }
+
+    // The same, where these writes took out a cell that is in the area of a feeder: what that fed alone isn't fed any
+    // more.
+    fn fed_changed(
+        &self,
+        alloc: Global,
+        store: &Store,
+        writes: &[(u64, Money)],
+    ) -> Result<Feeding, FedFault>
+        requires { store.now ≡ after_writes self.now.stored writes.now }
+        ensures fed { IfOk result (λ feeding. IsFeeding self.now.model store.now feeding.fed feeding.totals) }
+        ensures within { HasFewFed self.now.model store.now → IsOkUnless result FedFault.Memory }
+        ensures past { HasManyFed self.now.model store.now →
+            (result ≡ Err (FedFault.FedLimit (suc most_fed))) ⊎ (result ≡ Err FedFault.Memory) }
+    {
+        let model = self.accepted.sources();
+        let base = self.accepted.feeding();
+        let before = &self.store;
+        let change = change_by(alloc, before, store, writes)?;
+        let (went, came) = (change.went.as_slice(), change.came.as_slice());
+        self.feeding
+            .changed(alloc, base, model, before, store, went, came)
     }
 
     /// Its number: how many versions are before it.

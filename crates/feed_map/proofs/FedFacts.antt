@@ -71,7 +71,7 @@ has-without (e ∷ entries) added c has out = by (not (list_any (λ cell. cell =
     by false off later (inr more) = rw off (later more)
 
 -- what is among these, by the test
-listed-has : (added : List ℕ) (c : ℕ) → list_any (λ cell. cell == c) added ≡ true → Contains added c
+pub listed-has : (added : List ℕ) (c : ℕ) → list_any (λ cell. cell == c) added ≡ true → Contains added c
 listed-has [] c on = absurd (cc)
 listed-has (x ∷ added) c on = by (eqb x c) refl (λ more. listed-has added c more)
   where
@@ -79,7 +79,7 @@ listed-has (x ∷ added) c on = by (eqb x c) refl (λ more. listed-has added c m
     by true same later = subst (Contains (x ∷ added)) (eqb-true x c same) (at-front x added)
     by false other later = behind x added c (later (rw other at on))
 
-listed-is : (added : List ℕ) (c : ℕ) → Contains added c → list_any (λ cell. cell == c) added ≡ true
+pub listed-is : (added : List ℕ) (c : ℕ) → Contains added c → list_any (λ cell. cell == c) added ≡ true
 listed-is [] c has = absurd (none-there c has)
 listed-is (x ∷ added) c has =
     elim (front-or-behind x added c has) [

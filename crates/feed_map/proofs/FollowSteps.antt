@@ -156,12 +156,12 @@ module _ (m : BoundModel) where
 
 -- ---- what was opened in turn
 
-get-front : (xs ys : List ℕ) (k : ℕ) → k < length xs → slice_get (xs ++ ys) k ≡ slice_get xs k
+pub get-front : (xs ys : List ℕ) (k : ℕ) → k < length xs → slice_get (xs ++ ys) k ≡ slice_get xs k
 get-front [] ys k low = absurd (omega (arith, low))
 get-front (x ∷ xs) ys zero low = refl
 get-front (x ∷ xs) ys (suc k) low = get-front xs ys k (omega (arith, low))
 
-get-has : (xs : List ℕ) (k x : ℕ) → slice_get xs k ≡ Some x → Contains xs x
+pub get-has : (xs : List ℕ) (k x : ℕ) → slice_get xs k ≡ Some x → Contains xs x
 get-has xs k x found = (k, slice_get_within xs k x found, get_or_from_slice_get xs k x x found)
 
 module _ (m : BoundModel) where

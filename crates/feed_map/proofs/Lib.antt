@@ -9,3 +9,5 @@ mod FollowSteps
 mod Fresh
 mod StandFacts
 mod OpenFacts
+mod RiskFacts
+mod ChangeFacts

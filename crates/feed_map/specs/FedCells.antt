@@ -1,8 +1,9 @@
 -- The fed cells of a model over what is stored, as a list.
-use Rattle.std.specs.Prelude.{ℕ, ◌==◌, ◌<◌, ◌≤◌, ◌↔◌, not, List, length, filter, All, Contains}
+use Rattle.std.specs.Prelude.{ℕ, ◌==◌, ◌<◌, ◌≤◌, ◌↔◌, ◌⊎◌, not, List, length, filter, All, Contains}
 use Rattle.std.specs.List.{list_any}
 use Rattle.std.specs.List.Sorted.{IsStrictlyIncreasing}
 use Rattle.cell_store.specs.declared.entry.Entry.{Entry}
+use Rattle.cell_store.specs.Entries.{cells_of}
 use Rattle.rule_laws.specs.Feeding.{IsFed, leaves_of}
 use Rattle.rule_model.specs.BoundModel.{BoundModel}
 use Rattle.rule_model.specs.System.{system_of}
@@ -41,3 +42,9 @@ HasManyFed model entries =
 -- the entries of a store whose cells aren't among these
 abbrev pub without : List Entry → List ℕ → List Entry
 without entries cells = filter (λ entry. not (list_any (λ cell. cell == entry.cell) cells)) entries
+
+-- these are the cells that went, stored before and not after, and those that came; others may be among those that went
+pub record IsStoredChange (before after : List Entry) (went came : List ℕ) : Type 0 where
+  pub gone : (cell : ℕ) → Contains (cells_of before) cell → Contains (cells_of after) cell ⊎ Contains went cell
+  pub new : (cell : ℕ) → Contains (cells_of after) cell → Contains (cells_of before) cell ⊎ Contains came cell
+  pub stored : (cell : ℕ) → Contains came cell → Contains (cells_of after) cell

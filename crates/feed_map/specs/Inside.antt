@@ -2,3 +2,4 @@
 pub mod Gains
 pub mod Leaves
 pub mod Follows
+pub mod Risks

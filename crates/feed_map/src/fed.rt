@@ -1,13 +1,15 @@
-ghost use Rattle.std.specs.Prelude.{◌≡◌, ℕ, suc, ◌≤◌, ◌⊎◌, [], Err, IfOk, IfErr, IsOkUnless, length, All, Contains};
+ghost use Rattle.std.specs.Prelude.{◌≡◌, ℕ, suc, ◌≤◌, ◌⊎◌, [], Ok, Err, IfOk, IfErr, IsOkUnless, length, All, Contains};
 ghost use Rattle.cell_store.specs.Cells.{IsUnion};
 ghost use Rattle.cell_store.specs.Entries.{cells_of};
-ghost use Rattle.feed_map.specs.FedCells.{HasFewFed, HasManyFed, IsFeeding, most_fed, without};
+ghost use Rattle.feed_map.specs.FedCells.{AreFedCells, HasFewFed, HasManyFed, IsFeeding, IsStoredChange, most_fed, without};
 ghost use Rattle.feed_map.specs.Inside.Follows.{IsReach};
 
 use crate::dense::add_dense;
 use crate::fault::FedFault;
 use crate::follow::{follow_cells, follow_opened, follow_stored};
+use crate::given_up::GivenUp;
 use crate::reached::Reached;
+use crate::risk::{add_again, at_risk};
 use cell_store::{CellSet, PageSet, Store};
 use feed_sources::SourceModel;
 use std::alloc::{AllocError, Global};
@@ -112,6 +114,46 @@ impl Feeding {
         Ok(Feeding::from(reached))
     }
 
+    /// What is fed after a change of what is stored, where this is what was fed before it, and `base` what is fed over
+    /// nothing. It answers what [`Feeding::of`] answers of the later store. Where that is little, it looks just at what
+    /// the cells that went and came feed.
+    pub fn changed(
+        &self,
+        alloc: Global,
+        base: &Feeding,
+        model: &SourceModel,
+        before: &Store,
+        after: &Store,
+        went: &[u64],
+        came: &[u64],
+    ) -> Result<Feeding, FedFault>
+        requires change { IsStoredChange before.now after.now went.now came.now }
+        requires before { IsFeeding model.now before.now self.now.fed self.now.totals }
+        requires base { IsFeeding model.now [] base.now.fed base.now.totals }
+        ensures fed { IfOk result (λ feeding. IsFeeding model.now after.now feeding.fed feeding.totals) }
+        ensures within { HasFewFed model.now after.now → IsOkUnless result FedFault.Memory }
+        ensures past { HasManyFed model.now after.now →
+            (result ≡ Err (FedFault.FedLimit (suc most_fed))) ⊎ (result ≡ Err FedFault.Memory) }
+        ensures fault { IfErr result (λ fault. (fault ≡ FedFault.Memory)
+            ⊎ ((fault ≡ FedFault.FedLimit (suc most_fed)) × HasManyFed model.now after.now)) }
+    {
+        let (base_cells, cells) = (&base.fed.cells, &self.fed.cells);
+        match regrown(
+            alloc,
+            model,
+            base_cells,
+            cells,
+            &self.totals,
+            before,
+            after,
+            went,
+            came,
+        ) {
+            Ok(reached) => Ok(Feeding::from(reached)),
+            Err(_) => base.over(alloc, model, after),
+        }
+    }
+
     fn from(reached: Reached) -> Feeding
         requires { length reached.growth.known ≤ most_fed }
         ensures fed { result.fed ≡ reached.growth.known }
@@ -186,6 +228,47 @@ fn begun(alloc: Global, fed: &PageSet, totals: &PageSet) -> Result<Reached, Allo
     let known = fed.with(alloc, &[])?;
     let opened = totals.with(alloc, &[])?;
     Ok(Reached::from(alloc, known, opened))
+}
+
+// What is fed after a change, by what was fed before it and what is fed over nothing. It is given up where it needs
+// more steps than there are stored and fed cells.
+fn regrown(
+    alloc: Global,
+    model: &SourceModel,
+    base: &PageSet,
+    fed: &PageSet,
+    totals: &PageSet,
+    before: &Store,
+    after: &Store,
+    went: &[u64],
+    came: &[u64],
+) -> Result<Reached, GivenUp>
+    requires change { IsStoredChange before.now after.now went.now came.now }
+    requires before { IsFeeding model.now before.now fed.now totals.now }
+    requires base { AreFedCells model.now [] base.now }
+    requires few { length fed.now ≤ most_fed }
+    ensures { IfOk result (λ reached. IsReach model.now after.now (Ok reached)) }
+{
+    let mut steps = before.len().saturating_add(fed.len());
+    let risk = at_risk(alloc, model, base, after, went, &mut steps)?;
+    let kept = fed.without(alloc, &risk)?;
+    let totals = totals_left(alloc, totals, &risk)?;
+    let mut reached = Reached::from(alloc, kept.with(alloc, &[])?, totals);
+    add_again(model, &kept, &risk, &mut reached.growth, &mut steps)?;
+    follow_cells(model, came, &mut reached)?;
+    follow_opened(model, &mut reached)?;
+    Ok(reached)
+}
+
+// The totals that stay opened where these cells are taken out: all where there are none.
+fn totals_left(alloc: Global, totals: &PageSet, risk: &[u64]) -> Result<PageSet, AllocError>
+    ensures { IfOk result (λ left. (total : ℕ) → Contains left total
+        → Contains totals.now total × (risk.now ≡ [])) }
+{
+    if risk.is_empty() {
+        return totals.with(alloc, &[]);
+    }
+    Ok(PageSet::new(alloc))
 }
 
 impl CellSet for Fed {

@@ -100,8 +100,8 @@ pub fn follow_opened(model: &SourceModel, reached: &mut Reached) -> Result<(), F
     Ok(())
 }
 
-// Finds what a cell feeds. A number that is no cell's feeds none.
-fn follow(model: &SourceModel, cell: u64, reached: &mut Reached) -> Result<(), FedFault>
+/// Finds what a cell feeds. A number that is no cell's feeds none.
+pub fn follow(model: &SourceModel, cell: u64, reached: &mut Reached) -> Result<(), FedFault>
     requires totals { AreOpened model.now reached.old.totals reached.old.growth }
     ensures gains { OnOk result (Gains (Feeds (system_of model.now) cell) reached.old.growth reached.new.growth) }
     ensures stops { IfErr result (StopsBy (Feeds (system_of model.now) cell) reached.old.growth reached.new.growth) }

@@ -22,3 +22,9 @@ pub record IsAddedBy (model : BoundModel) (before after : List Entry) (cells add
 abbrev pub IsAddedIf : BoundModel → List Entry → List Entry → List ℕ → Option (List ℕ) → Type 0
 IsAddedIf model before after cells None = ⊤
 IsAddedIf model before after cells (Some added) = IsAddedBy model before after cells added
+
+-- so far: which of these cells went, stored before and not now, and which came
+pub record IsChangeBy (before after : List Entry) (cells went came : List ℕ) : Type 0 where
+  pub gone : All (λ cell. Contains (cells_of before) cell → Contains (cells_of after) cell ⊎ Contains went cell) cells
+  pub new : All (λ cell. Contains (cells_of after) cell → Contains (cells_of before) cell ⊎ Contains came cell) cells
+  pub stored : (cell : ℕ) → Contains came cell → Contains (cells_of after) cell

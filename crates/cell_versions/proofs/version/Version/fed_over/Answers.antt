@@ -29,8 +29,3 @@ pub returns-in-Some-clause-past : goal.returns-in-Some-clause-past
 returns-in-Some-clause-past c =
     let model : c.args.self.now.model ≡ c.sources-model.result.now = search rules in
     λ many. c.grown.ensures.past (subst (λ m. HasManyFed m c.args.store.now) model many)
-
-pub returns-in-None-clause-past : goal.returns-in-None-clause-past
-returns-in-None-clause-past c =
-    let model : c.args.self.now.model ≡ c.sources-model.result.now = search rules in
-    λ many. c.over.ensures.past (subst (λ m. HasManyFed m c.args.store.now) model many)
