@@ -1,7 +1,9 @@
 use Rattle.std.proofs.Common.{Result, Ok, Err, ◌∙◌, sym, subst, []}
 use Rattle.accepted.specs.Checks.{IsAccepted}
 use Rattle.feed_map.specs.FedCells.{AreFedCells}
+use Rattle.cube_space.specs.Cells.{IsSpace}
 use Rattle.rule_model.specs.BoundModel.{BoundModel}
+use Rattle.rule_model.specs.Conditions.{AreRules}
 use Rattle.model_deploy.specs.Deployment.{deployment, fed_stage}
 use Rattle.model_deploy.specs.Stages.{Comes}
 use Rattle.model_deploy.specs.Inside.Grouped.{checked}
@@ -61,6 +63,8 @@ returns-clause-comes c =
 pub new-requires-clause-accepted : goal.new-requires-clause-accepted
 new-requires-clause-accepted c =
     subst IsAccepted (sym c.in_ok-sources.ensures) (record {
+      valid = subst (λ (m : BoundModel). IsSpace m.space) c.in_ok-sources.ensures c.space.ensures.valid;
+      rules = subst (λ (m : BoundModel). AreRules m.space m.rules) c.in_ok-sources.ensures c.space.ensures.rules;
       ordered = c.in_ok-check_ordered.ensures.ordered;
       covered = c.in_ok-check_covered.ensures.covered;
       few_fed = (c.in_ok-feeding.feeding.fed, subst (λ (m : BoundModel). AreFedCells m [] c.in_ok-feeding.feeding.fed) c.in_ok-sources.ensures c.in_ok-feeding.ensures.fed.fed, c.in_ok-feeding.ensures.few);
