@@ -1,6 +1,6 @@
-use Rattle.std.proofs.Common.{rules, ◌≡◌, ◌<◌, ◌∙◌, arith, subst}
+use Rattle.std.proofs.Common.{rules, arith, subst}
 use Rattle.version_book.specs.Lists.{GoesOn}
-use Rattle.version_book.specs.Passes.{looks, numbers_of, opening_of, seen}
+use Rattle.version_book.specs.Passes.{numbers_of, opening_of, seen}
 use Rattle.version_book.proofs.Lists.{goes-on}
 use Rattle.sessions.proofs.Answered.{settles_since}
 use Rattle.sessions.proofs.answer.answer.Goals as goal
