@@ -29,7 +29,7 @@ pub(crate) fn answer<W: World, R: Wait, G: Gate>(
     ensures looks { looks pass.old ≤ looks pass.new }
 {
     let (user, number) = by;
-    let mut pin = book.pin(rt, alloc, pass)?;
+    let pin = book.pin(rt, alloc, pass)?;
     gate.at(user, number, 1);
     let TriedOf { place, effect } = pin.attempt(alloc, command)?;
     match effect {
