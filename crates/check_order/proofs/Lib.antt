@@ -4,3 +4,4 @@ pub mod Firsts
 pub mod TopFacts
 pub mod HeightFacts
 pub mod OrderedFacts
+pub mod LateFacts
