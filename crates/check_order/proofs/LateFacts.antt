@@ -27,14 +27,14 @@ use Rattle.check_order.proofs.Firsts.{option-first, option-past, no-options, lis
 
 -- ---- lists
 
-all-nothing : {X : Type 0} (P : X → Type 0) → All P []
+pub all-nothing : {X : Type 0} (P : X → Type 0) → All P []
 all-nothing P k d low = absurd (omega (arith, low))
 
-all-front : {X : Type 0} (P : X → Type 0) (x : X) (xs : List X) → P x → All P xs → All P (x ∷ xs)
+pub all-front : {X : Type 0} (P : X → Type 0) (x : X) (xs : List X) → P x → All P xs → All P (x ∷ xs)
 all-front P x xs here all zero d low = here
 all-front P x xs here all (suc k) d low = all k d (omega (arith, low))
 
-all-mapped : {X Y : Type 0} (P : Y → Type 0) (f : X → Y) (xs : List X) → All (λ x. P (f x)) xs → All P (map f xs)
+pub all-mapped : {X Y : Type 0} (P : Y → Type 0) (f : X → Y) (xs : List X) → All (λ x. P (f x)) xs → All P (map f xs)
 all-mapped P f [] all = all-nothing P
 all-mapped P f (x ∷ xs) all = all-front P (f x) (map f xs) (all 0 x (omega arith)) (all-mapped P f xs (λ k d low. all (suc k) d (omega (arith, low))))
 
@@ -43,7 +43,7 @@ all-taken P zero xs all = all-nothing P
 all-taken P (suc n) [] all = all-nothing P
 all-taken P (suc n) (x ∷ xs) all = all-front P x (take n xs) (all 0 x (omega arith)) (all-taken P n xs (λ k d low. all (suc k) d (omega (arith, low))))
 
-all-into : {X : Type 0} (P Q : X → Type 0) (xs : List X) → ((x : X) → P x → Q x) → All P xs → All Q xs
+pub all-into : {X : Type 0} (P Q : X → Type 0) (xs : List X) → ((x : X) → P x → Q x) → All P xs → All Q xs
 all-into P Q xs into all k d low = into (get_or xs k d) (all k d low)
 
 all-both : {X : Type 0} (P Q : X → Type 0) (xs : List X) → All P xs → All Q xs → All (λ x. P x × Q x) xs

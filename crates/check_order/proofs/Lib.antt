@@ -5,3 +5,4 @@ pub mod TopFacts
 pub mod HeightFacts
 pub mod OrderedFacts
 pub mod LateFacts
+pub mod Counted
