@@ -71,7 +71,7 @@ module _ (m : BoundModel) (cube : ℕ) (ss : List Statement) (n : ℕ) (s : Stat
   abbrev fault_by : Option ℕ → Option OrderFault
   fault_by late = option_map (NotEarlier cube (n + 1)) late
 
-  here : late_in m cube ss n ≡ fault_by (first_late (marks_of m cube s))
+  pub here : late_in m cube ss n ≡ fault_by (first_late (marks_of m cube s))
   here = ap (λ o. option_map_or (λ s. fault_by (first_late (marks_of m cube s))) o None) (slice_get_read ss (length ss) n s refl low is)
 
   -- a statement that has nothing late has no fault

@@ -4,3 +4,5 @@ pub mod Firsts
 pub mod TopFacts
 pub mod HeightFacts
 pub mod OrderedFacts
+pub mod LateFacts
+pub mod Counted

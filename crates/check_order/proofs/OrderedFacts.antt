@@ -61,7 +61,7 @@ form-passes ConsFirst l c none =
     let all = all-pass (c ++ l) none in
     record { leaf = all-second IsTrue c l all; cons = all-first IsTrue c l all }
 
-unmap : {X : Type 0} (test : X → Bool) (xs : List X) → All IsTrue (map test xs) → All (λ x. IsTrue (test x)) xs
+pub unmap : {X : Type 0} (test : X → Bool) (xs : List X) → All IsTrue (map test xs) → All (λ x. IsTrue (test x)) xs
 unmap test [] all k d low = absurd (omega arith)
 unmap test (x ∷ xs) all zero d low = all 0 true (omega arith)
 unmap test (x ∷ xs) all (suc k) d low = unmap test xs (λ j e l. all (suc j) e (omega arith)) k d (omega arith)
@@ -80,7 +80,7 @@ module _ (m : BoundModel) where
       by true f e = unmap (is_earlier m cube s.area true) (precedents f) (subst (λ part. All IsTrue (part_marks m cube s.area true part)) e parts.leaf)
       by false f e = unmap (is_earlier m cube s.area false) (precedents f) (subst (λ part. All IsTrue (part_marks m cube s.area false part)) e parts.cons)
 
-  own-default : (ss : List Statement) (n : ℕ) (d : Statement) → n < length ss → get_or ss n d ≡ get_or ss n (get_or ss n d)
+  pub own-default : (ss : List Statement) (n : ℕ) (d : Statement) → n < length ss → get_or ss n d ≡ get_or ss n (get_or ss n d)
   own-default [] n d low = absurd (omega arith)
   own-default (s ∷ ss) zero d low = refl
   own-default (s ∷ ss) (suc n) d low = own-default ss n d (omega arith)
@@ -101,7 +101,7 @@ module _ (m : BoundModel) where
   none-ordered_by_place valid ruled none = dimension-place m valid ruled (none-ordered none)
 
 -- where each statement is ordered, nothing is late
-no_statement : Statement
+pub no_statement : Statement
 no_statement = record { area = record { sets = [] }; leaf = None; cons = None; form = Both }
 
 none-fails : (marks : List Bool) → All IsTrue marks → position not marks ≡ None

@@ -1,4 +1,5 @@
 pub mod References
+pub mod FirstLate
 pub mod Heights
 pub mod Verdict
 pub mod Inside

@@ -1,9 +1,9 @@
-ghost use Rattle.std.specs.Prelude.{◌≡◌, ◌≤◌, Some, None, IfErr, OnErr, OnOk};
+ghost use Rattle.std.specs.Prelude.{◌≤◌, IfErr, OnErr, OnOk};
 ghost use Rattle.cube_space.specs.Radix.{product};
 ghost use Rattle.rule_laws.specs.OrderByPlace.{IsOrderedByPlace};
 ghost use Rattle.rule_model.specs.System.{system_of, positions_of};
 ghost use Rattle.rule_model.specs.Order.{most_height, position_sizes};
-ghost use Rattle.check_order.specs.Verdict.{order_fault};
+ghost use Rattle.check_order.specs.Verdict.{IsOrderFault};
 
 use crate::fault::OrderFault;
 use crate::height::too_high;
@@ -18,8 +18,7 @@ pub fn check_order(model: &Model) -> Result<(), OrderFault>
     ensures low { OnOk result (product (position_sizes model.now) ≤ most_height) }
     ensures refused { OnErr result (IsOrderedByPlace (system_of model.now) (positions_of model.now)
         → product (position_sizes model.now) ≤ most_height → ⊥) }
-    ensures accepted { OnOk result (order_fault model.now ≡ None) }
-    ensures fault { IfErr result (λ fault. order_fault model.now ≡ Some fault) }
+    ensures fault { IfErr result (IsOrderFault model.now) }
 {
     if let Some(height) = too_high(model) {
         return Err(OrderFault::TooHigh(height));

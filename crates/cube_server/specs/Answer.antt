@@ -2,6 +2,7 @@
 use Rattle.std.specs.Prelude.{◌≡◌, ℕ, ℤ, List, [], ◌∷◌, ◌++◌, Option, String}
 use Rattle.std.specs.Io.KnownBytes.{Appends}
 use Rattle.std.specs.declared.alloc.Global.{Global}
+use Rattle.accepted.specs.Checks.{IsAccepted}
 use Rattle.cube_outside.specs.Bytes.{AppendsPart}
 use Rattle.cube_outside.specs.Counts.{Rose}
 use Rattle.cube_outside.specs.Seen.{Seen}
@@ -26,9 +27,10 @@ use Rattle.user_session.specs.declared.command.PlanCommand.{PlanCommand}
 use Rattle.cube_server.specs.Sample.{IsSummary}
 use Rattle.cube_words.specs.Words.{Plan, IsPlan, texts_of}
 
--- the text is what the users were told, and the one history: a history that is legal, of which each user's replies are
--- a run, each reply on the version at its place
+-- the model is an accepted one, and the text is what the users were told, and the one history: a history that is legal,
+-- of which each user's replies are a run, each reply on the version at its place
 pub record IsServed (model : BoundModel) (users : List (List PlanCommand)) (text : List ℕ) : Type 0 where
+  pub accepted : IsAccepted model
   pub told : List (List (Told (List ℕ)))
   pub log : List (Entry (List (ℕ × ℤ)))
   pub history : IsHistoryOf effect after (opening model) users told log
@@ -37,7 +39,7 @@ pub record IsServed (model : BoundModel) (users : List (List PlanCommand)) (text
 -- the text of each job: of users, that the model is accepted, or the sample's summary
 abbrev pub IsOutput : RunJob → List ℕ → Type 0
 IsOutput (Serve model users) text = IsServed model users text
-IsOutput (Check model) text = text ≡ accepted_text model
+IsOutput (Check model) text = IsAccepted model × (text ≡ accepted_text model)
 IsOutput (Sample size) text = IsSummary size text
 
 -- just the files that were read were asked for, each once, in this order, and then these

@@ -1,5 +1,6 @@
 -- The run of the generated sample.
 use Rattle.std.specs.Prelude.{◌≡◌, ℕ, ℤ, List, [], ◌∷◌, map, Some, codes}
+use Rattle.accepted.specs.Checks.{IsAccepted}
 use Rattle.cell_versions.specs.Versions.{NumberedVersion}
 use Rattle.cube_outside.specs.declared.memory_files.MemoryFiles.{MemoryFiles}
 use Rattle.cube_outside.specs.NamedBytes.{bytes_named}
@@ -32,11 +33,12 @@ pub record IsSampleRun (size : ℕ) (model : BoundModel) (users : List (List Pla
   pub course : IsCourse (run_of sample_words) (Some (bytes_named files.pairs.items)) readings
   pub accepted : (run_of sample_words).finds readings (Serve model users)
 
--- the text sums up a version that has what a history of the sample's users leaves
+-- the model is an accepted one, and the text sums up a version that has what a history of the sample's users leaves
 pub record IsSummary (size : ℕ) (text : List ℕ) : Type 0 where
   pub model : BoundModel
   pub users : List (List PlanCommand)
   pub run : IsSampleRun size model users
+  pub accepted : IsAccepted model
   pub told : List (List (Told (List ℕ)))
   pub log : List (Entry (List (ℕ × ℤ)))
   pub history : IsHistoryOf effect after (opening model) users told log

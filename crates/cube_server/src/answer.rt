@@ -78,6 +78,8 @@ fn served<R: Threads + Wait + Sync, G: Gate + Sync>(
     ensures status { IfOk result (λ answer. answer.status ≡ Status.Done) }
     ensures text { IfOk result (λ answer. IsServed model users (joined answer.pieces.items)) }
 {
+    // an accepted model says of itself that it is one
+    let _model = model.model();
     let served = serve_users(rt, alloc, gate, model, users)?;
     let mut pieces = print_users(alloc, &served.told)?;
     pieces.push(print_history(alloc, &served.log)?)?;

@@ -17,6 +17,6 @@ mod status;
 mod tell;
 mod users;
 
-pub use laws::one_user_has_one_output;
+pub use laws::{one_user_has_one_output, served_values_are_the_only_solution};
 pub use server::run_cubes;
 pub use status::Status;

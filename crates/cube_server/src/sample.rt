@@ -25,6 +25,8 @@ pub(crate) fn sample<R: Threads + Wait + Sync, G: Gate + Sync>(
     ensures { IfOk result (λ text. IsSummary size text.items) }
 {
     let (model, users) = sample_run(alloc, size)?;
+    // an accepted model says of itself that it is one
+    let _model = model.model();
     let mut served = serve_users(rt, alloc, gate, model, users)?;
     // the state says of itself that it has just the fed cells
     let _stored = served.state.store().len();

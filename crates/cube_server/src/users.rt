@@ -21,7 +21,7 @@ pub(crate) fn serve_users<R: Threads + Wait + Sync, G: Gate + Sync>(
     gate: &G,
     model: Accepted,
     users: ListOf<ListOf<PlanCommand>>,
-) -> Result<Served<Snapshot, CellWrites, ReplyText>, AllocError>
+) -> Result<Served<PlanWorld>, AllocError>
     ensures history { IfOk result (λ served.
         IsHistoryOf effect after (opening model) users served.told.items served.log.items) }
     ensures state { IfOk result (λ served.

@@ -1,5 +1,5 @@
 -- Deployment has one answer.
-use Rattle.std.proofs.Common.{ℕ, Option, Some, None, option_map, List}
+use Rattle.std.proofs.Common.{ℕ, Option, Some, None, List}
 use Rattle.std.specs.Prelude.{slice_index_or}
 use Rattle.cube_space.specs.Layout.{Layout}
 use Rattle.model_text.specs.Contents.{Contents}
@@ -7,18 +7,17 @@ use Rattle.model_text.specs.declared.order.OrderLine.{OrderLine}
 use Rattle.rule_tree.specs.declared.rule.RuleText.{RuleText}
 use Rattle.rule_bind.specs.Rules.{rules_of}
 use Rattle.bind_order.specs.Orders.{order_of}
-use Rattle.check_order.specs.Verdict.{order_fault}
 use Rattle.rule_model.specs.BoundModel.{BoundModel}
 use Rattle.rule_model.specs.declared.rules.CubeRules.{CubeRules}
 use Rattle.model_deploy.specs.declared.file.RuleFile.{RuleFile}
 use Rattle.model_deploy.specs.Foundation.{layout_of, cube_lines, order_lines, dimensions_refusal, space_refusal, products_refusal}
 use Rattle.model_deploy.specs.Rules.{file_name, meant_in, in_order, by_line, text_stage, meaning_stage, order_stage}
 use Rattle.model_deploy.specs.Stages.{Stage, found, unless, each, ◌>>=◌}
-use Rattle.model_deploy.specs.Deployment.{order_refusal, feeders_stage, fed_stage, model_of, deployment}
+use Rattle.model_deploy.specs.Deployment.{ordered_stage, feeders_stage, fed_stage, model_of, deployment}
 use Rattle.deploy_laws.specs.OneAnswer.{HasOneAnswer}
 use Rattle.deploy_laws.proofs.Single.{single-found, single-meant, single-unless, single-then, single-each}
 use Rattle.deploy_laws.proofs.Texts.{single-text}
-use Rattle.deploy_laws.proofs.Models.{single-feeders, single-fed}
+use Rattle.deploy_laws.proofs.Models.{single-ordered, single-feeders, single-fed}
 
 single-meaning : (space : Layout) (files : List (Option RuleFile)) (cube : ℕ) (text : RuleText) → HasOneAnswer (meaning_stage space files cube text)
 single-meaning space files cube text = single-meant (meant_in (file_name files cube) (rules_of space cube text))
@@ -41,11 +40,11 @@ module _ (contents : Contents) (files : List (Option RuleFile)) where
   abbrev feeders-next : List CubeRules → Unit {0} → Stage BoundModel
   feeders-next rules _ = feeders_stage files (model_of contents rules) >>= fed-next rules
 
-  abbrev unless-late : List CubeRules → Stage (Unit {0})
-  unless-late rules = unless (option_map (order_refusal files) (order_fault (model_of contents rules)))
+  abbrev check-order : List CubeRules → Stage (Unit {0})
+  check-order rules = ordered_stage files (model_of contents rules)
 
   abbrev model-next : List CubeRules → Stage BoundModel
-  model-next rules = unless-late rules >>= feeders-next rules
+  model-next rules = check-order rules >>= feeders-next rules
 
   abbrev ordering : List CubeRules → Stage (List CubeRules)
   ordering meant = each (order_stage (layout_of contents) (order_lines contents.cubes)) 0 meant
@@ -80,7 +79,7 @@ module _ (contents : Contents) (files : List (Option RuleFile)) where
   single-model : (rules : List CubeRules) → HasOneAnswer (model-next rules)
   single-model rules =
       let model = model_of contents rules in
-      single-then (unless-late rules) (feeders-next rules) (single-unless (option_map (order_refusal files) (order_fault model)))
+      single-then (check-order rules) (feeders-next rules) (single-ordered model files)
       (λ _. single-then (feeders_stage files model) (fed-next rules) (single-feeders model files) (λ _. single-then (fed_stage model) (accepts rules) (single-fed model) (λ _. single-found model)))
 
   single-rules : HasOneAnswer (reading >>= meanings-next)

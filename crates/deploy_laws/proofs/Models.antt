@@ -1,5 +1,5 @@
 -- Of a bound model one thing is found or refused.
-use Rattle.std.proofs.Common.{◌≡◌, inl, inr, refl, sym, ap, ◌∙◌, arith, subst, ℕ, zero, suc, ◌<◌, Bool, true, false, not, Option, Some, None, List, [], ◌∷◌, map, take, All}
+use Rattle.std.proofs.Common.{◌≡◌, inl, inr, refl, sym, ap, ◌∙◌, arith, subst, ℕ, zero, suc, ◌<◌, ◌≤◌, Bool, true, false, not, Option, Some, None, List, [], ◌∷◌, map, take, All}
 use Rattle.std.specs.Prelude.{slice_get}
 use Rattle.std.proofs.lemmas.Bool.{cases_lt, and_parts}
 use Rattle.rule_laws.specs.declared.reference.Reference.{Reference}
@@ -12,8 +12,17 @@ use Rattle.rule_laws.specs.ZeroTest.{blamed}
 use Rattle.rule_laws.proofs.FindingFacts.{finding-same}
 use Rattle.rule_model.specs.declared.rules.Statement.{Statement}
 use Rattle.rule_model.specs.BoundModel.{BoundModel, rules_of}
-use Rattle.rule_model.specs.System.{system_of, rule_of, cube_rules}
+use Rattle.rule_model.specs.System.{system_of, positions_of, rule_of, cube_rules}
 use Rattle.cover_laws.proofs.Counted.{contained}
+use Rattle.cube_space.specs.Radix.{product}
+use Rattle.rule_laws.specs.OrderByPlace.{IsOrderedByPlace}
+use Rattle.rule_model.specs.Order.{most_height, position_sizes}
+use Rattle.check_order.specs.declared.fault.OrderFault.{OrderFault}
+use Rattle.check_order.specs.declared.fault.OrderFault.TheVariants.{TooHigh, NotEarlier}
+use Rattle.check_order.specs.FirstLate.{counted_of, IsEarlier, AreEarlier, IsFirstLateOf, IsFirstLate}
+use Rattle.check_order.specs.Verdict.{IsOrderFault}
+use Rattle.check_order.proofs.HeightFacts.{low-none}
+use Rattle.check_order.proofs.Counted.{ordered-statement}
 use Rattle.feed_check.specs.declared.fault.FeedCheckFault.{FeedCheckFault}
 use Rattle.feed_check.specs.declared.fault.FeedCheckFault.TheVariants.{NotFed, DenseTooLarge}
 use Rattle.feed_check.specs.Verdict.{IsBlamed, IsFirstBlamed, IsSound, IsFaultOf, IsFirstFault}
@@ -22,7 +31,7 @@ use Rattle.feed_map.specs.FedCells.{HasFewFed, HasManyFed}
 use Rattle.feed_map.proofs.Counts.{within-counts}
 use Rattle.stored_laws.specs.Stored.{stored_in}
 use Rattle.model_deploy.specs.declared.file.RuleFile.{RuleFile}
-use Rattle.model_deploy.specs.Deployment.{feeders_refusal, feeders_stage, fed_stage}
+use Rattle.model_deploy.specs.Deployment.{order_refusal, feeders_refusal, ordered_stage, feeders_stage, fed_stage}
 use Rattle.deploy_laws.specs.OneAnswer.{HasOneAnswer}
 use Rattle.lists.proofs.Found.{same_truth as both-true}
 
@@ -139,4 +148,76 @@ module _ (m : BoundModel) where
     one_found = λ a b h k. refl;
     one_refusal = λ e f h k. h.1 ∙ sym k.1;
     not_both = λ a e h k. few-or-many h k.0;
+  }
+
+-- ---- the order
+
+module _ (m : BoundModel) (cube : ℕ) where
+  -- of two first late references of a statement neither is before the other
+  late-before : (s : Statement) (r q : ℕ) (x : IsFirstLateOf m cube s r) (y : IsFirstLateOf m cube s q) → x.place < y.place → ⊥
+  late-before s r q x y less = x.late (taken-holds (IsEarlier m cube s) (counted_of s) y.place x.place x.it y.before less x.here)
+
+  one-reference : (s : Statement) (r q : ℕ) → IsFirstLateOf m cube s r → IsFirstLateOf m cube s q → r ≡ q
+  one-reference s r q x y = elim (cases_lt x.place y.place) [
+    | inl less ↦ absurd (late-before s r q x y less)
+    | inr high ↦ elim (cases_lt y.place x.place) [
+      | inl less ↦ absurd (late-before s q r y x less)
+      | inr also ↦ (let same : x.place ≡ y.place = omega (arith, high, also) in x.number ∙ ap suc same ∙ sym y.number)
+    ]
+  ]
+
+  late-earlier : (s : Statement) (r : ℕ) → IsFirstLateOf m cube s r → AreEarlier m cube s → ⊥
+  late-earlier s r x all = x.late (there-holds (IsEarlier m cube s) (counted_of s) x.place x.it all x.here)
+
+module _ (m : BoundModel) where
+  statement-before : (cube st r tt q : ℕ) (x : IsFirstLate m cube st r) (y : IsFirstLate m cube tt q) → x.place < y.place → ⊥
+  statement-before cube st r tt q x y less =
+      late-earlier m cube x.it r x.late (taken-holds (AreEarlier m cube) (rules_of m cube).statements y.place x.place x.it y.before less x.here)
+
+  cube-before : (cube other st r tt q : ℕ) → IsFirstLate m cube st r → IsFirstLate m other tt q → cube < other → ⊥
+  cube-before cube other st r tt q x y less =
+      late-earlier m cube x.it r x.late (there-holds (AreEarlier m cube) (rules_of m cube).statements x.place x.it (y.cubes_before cube less) x.here)
+
+  same-statement : (cube st r tt q : ℕ) (x : IsFirstLate m cube st r) (y : IsFirstLate m cube tt q) → x.place ≡ y.place → NotEarlier cube st r ≡ NotEarlier cube tt q
+  same-statement cube st r tt q x y same =
+      let its : Some x.it ≡ Some y.it = sym x.here ∙ ap (slice_get (rules_of m cube).statements) same ∙ y.here in
+      let it : x.it ≡ y.it = cc in
+      let reference : r ≡ q = one-reference m cube y.it r q (subst (λ s. IsFirstLateOf m cube s r) it x.late) y.late in
+      ap (λ n. NotEarlier cube n r) (x.number ∙ ap suc same ∙ sym y.number) ∙ ap (NotEarlier cube tt) reference
+
+  one-in-cube : (cube st r tt q : ℕ) → IsFirstLate m cube st r → IsFirstLate m cube tt q → NotEarlier cube st r ≡ NotEarlier cube tt q
+  one-in-cube cube st r tt q x y = elim (cases_lt x.place y.place) [
+    | inl less ↦ absurd (statement-before cube st r tt q x y less)
+    | inr high ↦ elim (cases_lt y.place x.place) [
+      | inl less ↦ absurd (statement-before cube tt q st r y x less)
+      | inr also ↦ same-statement cube st r tt q x y (omega (arith, high, also))
+    ]
+  ]
+
+  one-late : (cube other st r tt q : ℕ) → IsFirstLate m cube st r → IsFirstLate m other tt q → NotEarlier cube st r ≡ NotEarlier other tt q
+  one-late cube other st r tt q x y = elim (cases_lt cube other) [
+    | inl less ↦ absurd (cube-before cube other st r tt q x y less)
+    | inr high ↦ elim (cases_lt other cube) [
+      | inl less ↦ absurd (cube-before other cube tt q st r y x less)
+      | inr also ↦ (let same : cube ≡ other = omega (arith, high, also) in
+          ap (λ k. NotEarlier k st r) same ∙ one-in-cube other st r tt q (subst (λ k. IsFirstLate m k st r) same x) y)
+    ]
+  ]
+
+  one-order-fault : (a b : OrderFault) → IsOrderFault m a → IsOrderFault m b → a ≡ b
+  one-order-fault (TooHigh height) (TooHigh other) x y = let same : Some height ≡ Some other = sym x ∙ y in ap TooHigh (cc same)
+  one-order-fault (TooHigh height) (NotEarlier cube st r) x y = absurd (let wrong : Some height ≡ None = sym x ∙ y.0 in cc wrong)
+  one-order-fault (NotEarlier cube st r) (TooHigh height) x y = absurd (let wrong : None ≡ Some height = sym x.0 ∙ y in cc wrong)
+  one-order-fault (NotEarlier cube st r) (NotEarlier other tt q) x y = one-late cube other st r tt q x.1 y.1
+
+  ordered-not-late : IsOrderedByPlace (system_of m) (positions_of m) → product (position_sizes m) ≤ most_height → (a : OrderFault) → IsOrderFault m a → ⊥
+  ordered-not-late ordered low (TooHigh height) x = let wrong : Some height ≡ None = sym x ∙ low-none m low in absurd (cc wrong)
+  ordered-not-late ordered low (NotEarlier cube st r) x =
+      late-earlier m cube x.1.it r x.1.late (ordered-statement m ordered cube x.1.inside x.1.place x.1.it x.1.here)
+
+  pub single-ordered : (files : List (Option RuleFile)) → HasOneAnswer (ordered_stage files m)
+  single-ordered files = record {
+    one_found = λ a b h k. refl;
+    one_refusal = λ e f h k. h.2 ∙ ap (order_refusal files) (one-order-fault h.0 k.0 h.1 k.1) ∙ sym k.2;
+    not_both = λ a e h k. ordered-not-late h.0 h.1 k.0 k.1;
   }

@@ -1,11 +1,11 @@
 -- The stages of deployment, put together.
-use Rattle.std.proofs.Common.{◌≡◌, ◌⊎◌, inl, inr, ℕ, suc, [], Option, Some, None, option_map, Result, Ok, Err, List, length, ap, sym, ◌∙◌, subst, IsErrAnd}
+use Rattle.std.proofs.Common.{◌≡◌, ◌⊎◌, inl, inr, ℕ, suc, [], Option, Some, None, Result, Ok, Err, List, length, ap, sym, ◌∙◌, subst, IsErrAnd}
 use Rattle.std.specs.Option.{option_or}
 use Rattle.std.proofs.lemmas.List.{length-map}
 use Rattle.cube_space.specs.Layout.{Layout}
 use Rattle.model_text.specs.Contents.{Contents}
 use Rattle.model_text.specs.declared.order.OrderLine.{OrderLine}
-use Rattle.check_order.specs.Verdict.{order_fault}
+use Rattle.check_order.specs.Verdict.{IsOrderFault}
 use Rattle.check_order.specs.declared.fault.OrderFault.{OrderFault}
 use Rattle.cell_store.specs.declared.entry.Entry.{Entry}
 use Rattle.feed_map.specs.FedCells.{HasManyFed, most_fed}
@@ -26,7 +26,7 @@ use Rattle.bind_areas.specs.declared.cause.BindCause.TheVariants.{Memory}
 use Rattle.rule_bind.specs.declared.fault.BindFault.{BindFault}
 use Rattle.rule_bind.specs.Rules.{IsBound}
 use Rattle.model_deploy.specs.Rules.{text_stage, place_of, cause_of, meant_in, meaning_stage, order_stage, rules_stage}
-use Rattle.model_deploy.specs.Deployment.{order_refusal, feeders_refusal, feeders_stage, fed_stage, deployment}
+use Rattle.model_deploy.specs.Deployment.{order_refusal, feeders_refusal, ordered_stage, feeders_stage, fed_stage, deployment}
 use Rattle.model_deploy.specs.Inside.Grouped.{checked, grouped}
 use Rattle.model_deploy.proofs.Stages.{stopped, goes-on, as-many, in-turn, behind, one-by-one}
 
@@ -145,8 +145,8 @@ module _ (space : Layout) (lines : Lines) (files : List (Option RuleFile)) where
     as-many-texts = as-many (λ _. text_stage) 0 files texts read
 
 module _ (files : List (Option RuleFile)) (model : BoundModel) where
-  abbrev unless-late : Stage (Unit {0})
-  unless-late = unless (option_map (order_refusal files) (order_fault model))
+  abbrev order-first : Stage (Unit {0})
+  order-first = ordered_stage files model
 
   abbrev fed-last : Unit {0} → Stage BoundModel
   fed-last _ = fed_stage model >>= (λ _. found model)
@@ -154,28 +154,28 @@ module _ (files : List (Option RuleFile)) (model : BoundModel) where
   abbrev feeders-next : Unit {0} → Stage BoundModel
   feeders-next _ = feeders_stage files model >>= fed-last
 
-  pub unordered : (fault : OrderFault) (told : DeployFault) → order_fault model ≡ Some fault → (told ≡ memory) ⊎ (told ≡ order_refusal files fault) → Comes unless-late (Err told)
-  unordered fault told some (inl want) = inl want
-  unordered fault told some (inr is) = inr (ap (option_map (order_refusal files)) some ∙ ap Some (sym is))
+  pub unordered : (fault : OrderFault) (told : DeployFault) → IsOrderFault model fault → (told ≡ memory) ⊎ (told ≡ order_refusal files fault) → Comes (ordered_stage files model) (Err told)
+  unordered fault told first (inl want) = inl want
+  unordered fault told first (inr is) = inr (fault, first, is)
 
   pub uncovered : (fault : FeedCheckFault) (told : DeployFault) → IsFirstFault model fault → (told ≡ memory) ⊎ (told ≡ feeders_refusal files fault) → Comes (feeders_stage files model) (Err told)
   uncovered fault told first (inl want) = inl want
   uncovered fault told first (inr is) = inr (fault, first, is)
 
   module _ (fault : DeployFault) (answer : Result BoundModel DeployFault) (is : IsErrAnd answer (λ e. e ≡ fault)) where
-    pub late : Comes unless-late (Err fault) → Comes (checked files model) answer
-    late came = stopped (Unit {0}) BoundModel unless-late feeders-next fault answer is came
+    pub late : Comes order-first (Err fault) → Comes (checked files model) answer
+    late came = stopped (Unit {0}) BoundModel order-first feeders-next fault answer is came
 
-    module _ (ordered : Comes unless-late (Ok tt)) where
+    module _ (ordered : Comes order-first (Ok tt)) where
       pub late-fed : Comes (feeders_stage files model) (Err fault) → Comes (checked files model) answer
-      late-fed came = goes-on (Unit {0}) BoundModel unless-late feeders-next tt answer ordered (stopped (Unit {0}) BoundModel (feeders_stage files model) fed-last fault answer is came)
+      late-fed came = goes-on (Unit {0}) BoundModel order-first feeders-next tt answer ordered (stopped (Unit {0}) BoundModel (feeders_stage files model) fed-last fault answer is came)
 
       pub overfed : Comes (feeders_stage files model) (Ok tt) → Comes (fed_stage model) (Err fault) → Comes (checked files model) answer
       overfed fed came =
           let last = stopped (Unit {0}) BoundModel (fed_stage model) (λ _. found model) fault answer is came in
-          goes-on (Unit {0}) BoundModel unless-late feeders-next tt answer ordered (goes-on (Unit {0}) BoundModel (feeders_stage files model) fed-last tt answer fed last)
+          goes-on (Unit {0}) BoundModel order-first feeders-next tt answer ordered (goes-on (Unit {0}) BoundModel (feeders_stage files model) fed-last tt answer fed last)
 
-  pub passes : (accepted : BoundModel) → accepted ≡ model → Comes unless-late (Ok tt) → Comes (feeders_stage files model) (Ok tt) → Comes (fed_stage model) (Ok tt) → Comes (checked files model) (Ok accepted)
+  pub passes : (accepted : BoundModel) → accepted ≡ model → Comes order-first (Ok tt) → Comes (feeders_stage files model) (Ok tt) → Comes (fed_stage model) (Ok tt) → Comes (checked files model) (Ok accepted)
   passes accepted is ordered fed few = (tt, ordered, (tt, fed, (tt, few, is)))
 
 -- more cells are fed than may be

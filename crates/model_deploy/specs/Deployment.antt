@@ -1,11 +1,14 @@
 -- Deployment: the checks of a model text and its rule files, in order, and the model that passes them.
-use Rattle.std.specs.Prelude.{◌≡◌, suc, List, [], Option, option_map}
+use Rattle.std.specs.Prelude.{◌≡◌, ◌≤◌, suc, List, [], Option}
 use Rattle.model_text.specs.Contents.{Contents}
+use Rattle.cube_space.specs.Radix.{product}
 use Rattle.rule_laws.specs.Cover.{IsCovered}
+use Rattle.rule_laws.specs.OrderByPlace.{IsOrderedByPlace}
 use Rattle.rule_model.specs.BoundModel.{BoundModel}
 use Rattle.rule_model.specs.declared.rules.CubeRules.{CubeRules}
-use Rattle.rule_model.specs.System.{system_of}
-use Rattle.check_order.specs.Verdict.{order_fault}
+use Rattle.rule_model.specs.Order.{most_height, position_sizes}
+use Rattle.rule_model.specs.System.{system_of, positions_of}
+use Rattle.check_order.specs.Verdict.{IsOrderFault}
 use Rattle.check_order.specs.declared.fault.OrderFault.{OrderFault}
 use Rattle.check_order.specs.declared.fault.OrderFault.TheVariants as orders
 use Rattle.feed_check.specs.Sizes.{AreSmall}
@@ -32,6 +35,14 @@ abbrev pub feeders_refusal : List (Option RuleFile) → FeedCheckFault → Deplo
 feeders_refusal files (feeders.NotFed cube statement operand) =
     refused_at files cube statement (causes.NotFed operand)
 feeders_refusal files (feeders.DenseTooLarge cube count) = refused_at files cube 1 (causes.DenseTooLarge count)
+
+-- what formulas read stands before their cells in the declared order, cell by cell, and the order isn't too high
+abbrev pub ordered_stage : List (Option RuleFile) → BoundModel → Stage (Unit {0})
+ordered_stage files model = record {
+  finds = λ _. IsOrderedByPlace (system_of model) (positions_of model)
+      × (product (position_sizes model) ≤ most_height);
+  refuses = λ fault. (first : OrderFault) × IsOrderFault model first × (fault ≡ order_refusal files first);
+}
 
 -- feeders cover the rules of the cubes that say SKIPCHECK, and no dense cube is too large
 abbrev pub feeders_stage : List (Option RuleFile) → BoundModel → Stage (Unit {0})
@@ -62,7 +73,7 @@ deployment contents files = do
   texts ← each (λ _. text_stage) 0 files
   meant ← each (meaning_stage (layout_of contents) files) 0 texts
   rules ← each (order_stage (layout_of contents) (order_lines contents.cubes)) 0 meant
-  _ ← unless (option_map (order_refusal files) (order_fault (model_of contents rules)))
+  _ ← ordered_stage files (model_of contents rules)
   _ ← feeders_stage files (model_of contents rules)
   _ ← fed_stage (model_of contents rules)
   found (model_of contents rules)

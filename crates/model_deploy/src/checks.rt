@@ -1,15 +1,14 @@
-ghost use Rattle.std.specs.Prelude.{◌≡◌, ◌⊎◌, ◌≤◌, [], length, Err, IfErr, IfOk, OnOk, option_map};
+ghost use Rattle.std.specs.Prelude.{◌≡◌, ◌⊎◌, ◌≤◌, [], length, Err, IfErr, IfOk, OnOk};
 ghost use Rattle.cube_space.specs.Radix.{product};
-ghost use Rattle.check_order.specs.Verdict.{order_fault};
 ghost use Rattle.feed_map.specs.FedCells.{IsFeeding, most_fed};
 ghost use Rattle.rule_laws.specs.Cover.{IsCovered};
 ghost use Rattle.rule_laws.specs.OrderByPlace.{IsOrderedByPlace};
 ghost use Rattle.rule_model.specs.Order.{most_height, position_sizes};
 ghost use Rattle.rule_model.specs.System.{system_of, positions_of};
 ghost use Rattle.model_deploy.specs.Foundation.{memory};
-ghost use Rattle.model_deploy.specs.Stages.{unless, Comes};
+ghost use Rattle.model_deploy.specs.Stages.{Comes};
 ghost use Rattle.model_deploy.specs.Deployment.{order_refusal, feeders_refusal};
-ghost use Rattle.model_deploy.specs.Deployment.{feeders_stage, fed_stage};
+ghost use Rattle.model_deploy.specs.Deployment.{ordered_stage, feeders_stage, fed_stage};
 
 use crate::fault::{At, DeployCause, DeployFault};
 use crate::file::{RuleFile, fault_in};
@@ -27,7 +26,7 @@ pub fn check_ordered(
     files: &[Option<RuleFile>],
     model: &Model,
 ) -> Result<(), DeployFault>
-    ensures comes { Comes (unless (option_map (order_refusal files.now) (order_fault model.now))) result }
+    ensures comes { Comes (ordered_stage files.now model.now) result }
     ensures ordered { OnOk result (IsOrderedByPlace (system_of model.now) (positions_of model.now)) }
     ensures low { OnOk result (product (position_sizes model.now) ≤ most_height) }
 {

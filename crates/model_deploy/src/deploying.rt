@@ -44,6 +44,8 @@ pub fn deploy(
     check_ordered(alloc, &rules, &model)?;
     check_covered(alloc, &rules, &model)?;
     let sources = SourceModel::of(alloc, model)?;
+    // a model says of itself that its space is one, and its rules are those of its cubes
+    let _space = sources.space();
     let feeding = fed_over_nothing(alloc, &sources)?;
     Ok(Accepted::new(sources, feeding))
 }

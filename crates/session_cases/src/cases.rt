@@ -23,7 +23,7 @@ pub fn users_of(alloc: Global, text: &str) -> Result<Vec<ListOf<Order>>, AllocEr
 
 /// How a run ended, in words that no order of the users changes: the total, and of each user how many orders were told
 /// what, and whether each speaks of the version of its place.
-pub fn ending(alloc: Global, served: &Served<u64, u64, Answer>) -> Result<String, AllocError> {
+pub fn ending(alloc: Global, served: &Served<Adding>) -> Result<String, AllocError> {
     let mut text = String::new(alloc);
     writeln!(
         text,

@@ -11,9 +11,10 @@ use Rattle.version_book.specs.declared.book.Settled.{Settled}
 use Rattle.version_book.specs.Numbers.{has}
 use Rattle.version_book.specs.Commits.{Decides, Settles}
 use Rattle.version_book.specs.Lists.{GoesOn}
-use Rattle.version_book.proofs.Lists.{has-first, goes-on}
+use Rattle.version_book.specs.Passes.{looks, seen}
+use Rattle.version_book.proofs.Lists.{has-first, goes-on, same-goes}
 use Rattle.sessions.specs.declared.session.SessionOf.{SessionOf}
-use Rattle.sessions.specs.Answers.{Sight, sight, IsAnswered, AreAnswered, HasAnsweredNext, HasAnsweredMore}
+use Rattle.sessions.specs.Answers.{Sight, sight, IsAnswered, AreAnswered, HasAnsweredNext, HasAnsweredMore, HasGoneOn, HasLooked}
 
 get_dropped : {A : Type 0} (n : ℕ) (xs : List A) (k : ℕ) (y : A) → slice_get xs (n + k) ≡ Some y → slice_get (drop n xs) k ≡ Some y
 get_dropped zero xs k y is = let same : zero + k ≡ k = omega arith in rw same at is
@@ -103,6 +104,65 @@ module _ {C K T R : Type 0} (effect : C → K → Effect T R) (after : C → T �
       let shift : length (earlier ∷ told) + number ≡ length told + (number + 1) = omega arith in
       (are.0, are.1, answered_more are.0 between later user (number + 1) told commands command one are.2 is (answered_as between later user _ _ command one shift answered))
 
+  decides_adds : (found : Effect T R) (accepted : Bool) (log later : List (Entry T)) (user number : ℕ) → Decides found accepted log later user number
+      → (more : List (Entry T)) × (later ≡ log ++ more)
+  decides_adds (Commit writes reply) accepted log later user number is = (record { user = user; command = number; writes = writes } ∷ [], is.1)
+  decides_adds (Rejected reply) accepted log later user number is = ([], is.1 ∙ sym (append-nil log))
+  decides_adds (Read reply) accepted log later user number is = ([], is.1 ∙ sym (append-nil log))
+
+  -- a settled command adds to what was seen
+  pub settles_adds : (before later : List (Entry T)) (users : List ℕ) (user number : ℕ) (command : K) (settled : Settled R)
+      → Settles effect after first before later users user number command settled → (more : List (Entry T)) × (later ≡ before ++ more)
+  settles_adds before later users user number command settled settles =
+      let more = decides_adds (effect (content_after after first settles.log) command) settled.accepted settles.log later user number settles.settles.decides in
+      (settles.others.added ++ more.0, more.1 ∙ ap (λ log. log ++ more.0) settles.others.is ∙ append_assoc before settles.others.added more.0)
+
+  -- what a later sight answers was answered since an earlier one, where only others went on between them
+  answered_since : (before between later : Sight T) (user number : ℕ) (command : K) (one : Told R) → GoesOn before.seen between.seen (user ∷ []) → before.looks ≤ between.looks
+      → IsAnswered effect after first between later user number command one → IsAnswered effect after first before later user number command one
+  answered_since before between later user number command one goes fewer answered = record {
+    accepted = answered.accepted;
+    settles = record {
+      log = answered.settles.log;
+      others = goes-on before.seen between.seen answered.settles.log (user ∷ []) goes answered.settles.others;
+      settles = answered.settles.settles;
+    };
+    looked = omega (arith, fewer, answered.looked);
+  }
+
+  -- no command is answered yet
+  pub looked_first : (user : ℕ) (told : List (Told R)) (commands : List K) (now : Sight T) → told ≡ [] → now.seen ≡ [] → HasLooked effect after first user told commands now
+  looked_first user told commands now none blind =
+      subst (λ (ts : List (Told R)). HasLooked effect after first user ts commands now) (sym none) (record {
+        last = record { seen = []; looks = 0 };
+        answered = refl;
+        others = subst (λ (log : List (Entry T)). GoesOn [] log (user ∷ [])) (sym blind) (same-goes [] (user ∷ []));
+        looks = omega arith;
+      })
+
+  -- the pass went on
+  pub looked_on : (user : ℕ) (told : List (Told R)) (commands : List K) (now later : Sight T) (ns : List ℕ) → HasLooked effect after first user told commands now
+      → GoesOn now.seen later.seen ns → ns ≡ user ∷ [] → now.looks ≤ later.looks → HasLooked effect after first user told commands later
+  looked_on user told commands now later ns has goes own fewer = record {
+    last = has.last;
+    answered = has.answered;
+    others = goes-on has.last.seen now.seen later.seen (user ∷ []) has.others (subst (λ (ms : List ℕ). GoesOn now.seen later.seen ms) own goes);
+    looks = omega (arith, has.looks, fewer);
+  }
+
+  -- and one command more is answered
+  pub looked_more : (user : ℕ) (told : List (Told R)) (commands : List K) (command : K) (one : Told R) (now later : Sight T) → HasLooked effect after first user told commands now
+      → slice_get commands (length told) ≡ Some command → IsAnswered effect after first now later user (length told + 1) command one
+      → HasLooked effect after first user (told ++ one ∷ []) commands later
+  looked_more user told commands command one now later has is answered = record {
+    last = later;
+    answered =
+        answered_more (record { seen = []; looks = 0 }) has.last later user 1 told commands command one has.answered is
+        (answered_since has.last now later user (length told + 1) command one has.others has.looks answered);
+    others = same-goes later.seen (user ∷ []);
+    looks = omega arith;
+  }
+
   module _ {L S : Type 0} where
     -- none yet
     pub more_none : (session : SessionOf L S T K R) → HasAnsweredMore effect after first session session
@@ -132,3 +192,29 @@ module _ {C K T R : Type 0} (effect : C → K → Effect T R) (after : C → T �
         → HasAnsweredNext effect after first before later
     next_left before later true left told = told
     next_left before later false left told = absurd (omega (arith, left, told.0))
+
+module _ {L S T K R : Type 0} where
+  -- the session as it was
+  pub gone_nowhere : (session : SessionOf L S T K R) → HasGoneOn session session
+  gone_nowhere session = record {
+    told = ([], sym (append-nil session.told.items));
+    seen = ([], sym (append-nil (seen session.pass)));
+    looks = omega arith;
+  }
+
+  -- no reply came, and the pass went on
+  pub gone_on_by : (before later : SessionOf L S T K R) (ns : List ℕ) → later.told.items ≡ before.told.items → GoesOn (seen before.pass) (seen later.pass) ns
+      → looks before.pass ≤ looks later.pass → HasGoneOn before later
+  gone_on_by before later ns same goes fewer = record {
+    told = ([], same ∙ sym (append-nil before.told.items));
+    seen = (goes.added, goes.is);
+    looks = fewer;
+  }
+
+  -- further and further
+  pub gone_on_then : (before between later : SessionOf L S T K R) → HasGoneOn before between → HasGoneOn between later → HasGoneOn before later
+  gone_on_then before between later one two = record {
+    told = (one.told.0 ++ two.told.0, two.told.1 ∙ ap (λ ts. ts ++ two.told.0) one.told.1 ∙ append_assoc before.told.items one.told.0 two.told.0);
+    seen = (one.seen.0 ++ two.seen.0, two.seen.1 ∙ ap (λ log. log ++ two.seen.0) one.seen.1 ∙ append_assoc (seen before.pass) one.seen.0 two.seen.0);
+    looks = omega (arith, one.looks, two.looks);
+  }

@@ -1,3 +1,4 @@
 mod Answered
 mod Opened
 mod Gathered
+mod Looked

@@ -16,9 +16,11 @@ use Rattle.version_book.specs.declared.book.BookOf.{BookOf}
 use Rattle.version_book.specs.declared.book.PassOf.{PassOf}
 use Rattle.version_book.specs.Passes.{IsOf, numbers_of, opening_of, seen}
 use Rattle.sessions.specs.declared.session.SessionOf.{SessionOf}
+use Rattle.sessions.specs.Answers.{sight}
 use Rattle.sessions.specs.Sessions.{IsRunning}
 use Rattle.sessions.specs.Inside.AllSessions.{AreRunning, commands_of}
 use Rattle.sessions.specs.Inside.Gathered.{IsFurther}
+use Rattle.sessions.proofs.Answered.{looked_first}
 pub use Rattle.std.proofs.lemmas.Option.{same_Some as same_number}
 
 pub one_there : {A : Type 0} (x y : A) (place : ℕ) → slice_get (x ∷ []) place ≡ Some y → (place ≡ 0) × (x ≡ y)
@@ -37,6 +39,7 @@ module _ {L S C T K R Q : Type 0} (effect : C → K → Effect T R) (after : C �
         subst (λ (ts : List (Told R)). RunSoFar effect after F (seen session.pass) session.user ts session.commands) (sym told)
         (subst (λ (log : List (Entry T)). RunSoFar effect after F log session.user [] session.commands) (sym none)
         (run_starts effect after F [] session.user session.commands (none_in_nothing 0 session.user)));
+    looked = looked_first effect after (content (opening_of book)) session.user session.told.items session.commands (sight session.pass) told none;
   }
 
   -- at a pass that has seen nothing

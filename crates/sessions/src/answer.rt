@@ -1,6 +1,6 @@
-ghost use Rattle.std.specs.Prelude.{◌≡◌, ◌+◌, [], ◌∷◌, IfOk, OnErr};
+ghost use Rattle.std.specs.Prelude.{◌≡◌, ◌+◌, ◌≤◌, [], ◌∷◌, IfOk, OnErr};
 ghost use Rattle.version_book.specs.Lists.{GoesOn};
-ghost use Rattle.version_book.specs.Passes.{IsOf, IsSame, numbers_of, opening_of, seen};
+ghost use Rattle.version_book.specs.Passes.{IsOf, IsSame, looks, numbers_of, opening_of, seen};
 ghost use Rattle.sessions.specs.Answers.{IsAnswered, sight};
 
 use cube_outside::Gate;
@@ -26,9 +26,10 @@ pub(crate) fn answer<W: World, R: Wait, G: Gate>(
     ensures answered { IfOk result (λ told. IsAnswered W.effect W.after (W.content (opening_of book.now))
         (sight pass.old) (sight pass.new) by.0 by.1 command.now told) }
     ensures err { OnErr result (GoesOn (seen pass.old) (seen pass.new) (numbers_of pass.old)) }
+    ensures looks { looks pass.old ≤ looks pass.new }
 {
     let (user, number) = by;
-    let mut pin = book.pin(rt, alloc, pass)?;
+    let pin = book.pin(rt, alloc, pass)?;
     gate.at(user, number, 1);
     let TriedOf { place, effect } = pin.attempt(alloc, command)?;
     match effect {

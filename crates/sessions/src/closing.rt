@@ -1,15 +1,17 @@
-ghost use Rattle.std.specs.Prelude.{◌≡◌, ◌+◌, ◌≤◌, [], length, vec_len, vec_capacity, IfOk, IsTrue, All};
+ghost use Rattle.std.specs.Prelude.{◌≡◌, ◌+◌, ◌≤◌, [], length, map, vec_len, vec_capacity, IfOk, IsTrue, All};
 ghost use Rattle.history.specs.LegalHistory.{IsHistoryOf};
 ghost use Rattle.history.specs.Version.{content_after};
 ghost use Rattle.version_book.specs.Passes.{IsOf, next_of, numbers_of, opening_of, seen};
+ghost use Rattle.sessions.specs.Answers.{EachHasLooked};
 ghost use Rattle.sessions.specs.Inside.AllSessions.{AreRunning, HasAnsweredAll, commands_of};
 ghost use Rattle.sessions.specs.Inside.Gathered.{IsGathered, IsGiver};
 
-use crate::serving::Served;
+use crate::serving::{Served, ServedOf};
 use crate::session::Session;
 use history::{Told, World};
 use lists::ListOf;
 use std::alloc::{AllocError, Global};
+use std::snapshot::Snapshot;
 use std::sync::Wait;
 use version_book::{Book, ClosedOf, Pass};
 
@@ -21,7 +23,7 @@ pub(crate) fn close_all<W: World, R: Wait>(
     book: Book<W>,
     first: Pass<W>,
     sessions: Vec<Session<W>>,
-) -> Result<Served<W::State, W::Writes, W::Reply>, AllocError>
+) -> Result<Served<W>, AllocError>
     requires of { IsOf book first }
     requires giver { IsGiver first (vec_len sessions + 1) }
     requires running { AreRunning W.effect W.after W.content book sessions.items }
@@ -29,9 +31,18 @@ pub(crate) fn close_all<W: World, R: Wait>(
         (commands_of sessions.items) served.told.items served.log.items) }
     ensures state { IfOk result (λ served.
         W.content served.state ≡ content_after W.after (W.content (opening_of book)) served.log.items) }
+    ensures looks { IfOk result (λ served. EachHasLooked W.effect W.after W.content (opening_of book)
+        (commands_of sessions.items) served.told.items served.passes.items) }
+    ensures passes { IfOk result (λ served. length served.passes.items ≡ length sessions.items) }
 {
     let mut told = Vec::new(alloc);
     let room = told.reserve(sessions.len());
+    let Ok(passes) = passes_of::<W>(alloc, sessions.as_slice()) else {
+        drop(sessions);
+        drop(first);
+        drop(book);
+        return Err(AllocError);
+    };
     if room.is_err() || !all_answered::<W>(sessions.as_slice()) {
         drop(sessions);
         drop(first);
@@ -40,11 +51,27 @@ pub(crate) fn close_all<W: World, R: Wait>(
     }
     let all = meet_all(rt, &book, first, sessions, &mut told);
     let ClosedOf { history, state } = book.close(all);
-    Ok(Served {
+    Ok(ServedOf {
         told,
         log: history,
         state,
+        passes,
     })
+}
+
+// What the pass of each session is.
+fn passes_of<W: World>(
+    alloc: Global,
+    sessions: &[Session<W>],
+) -> Result<Vec<Snapshot<Pass<W>>>, AllocError>
+    ensures { IfOk result (λ passes. map (λ pass. pass.value) passes.items
+        ≡ map (λ session. session.pass) sessions.now) }
+{
+    let mut passes = Vec::with_capacity(alloc, sessions.len())?;
+    'each: for place in 0..sessions.len() {
+        passes.push(Snapshot::of(&sessions[place].pass))?;
+    }
+    Ok(passes)
 }
 
 // One pass of all sessions' passes and the first one, and the replies of each session.
@@ -65,6 +92,7 @@ fn meet_all<W: World, R: Wait>(
     ensures next { next_of result ≡ next_of first }
     ensures gathered { IsGathered W.effect W.after (W.content (opening_of book.now)) (commands_of sessions.items)
         told.new.items (numbers_of result) (seen result) }
+    ensures told { told.new.items ≡ map (λ session. session.told.items) sessions.items }
 {
     let mut all = first;
     for session in sessions {

@@ -15,6 +15,6 @@ mod serving;
 mod session;
 mod threads;
 
-pub use serving::{Served, serve};
+pub use serving::{Served, ServedOf, serve};
 pub use session::{Session, SessionOf};
 pub use threads::MAX_THREADS;

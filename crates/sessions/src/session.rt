@@ -1,7 +1,7 @@
 ghost use Rattle.std.specs.Prelude.{◌≡◌, ◌<◌, [], length, MatchBool, IfOk, OnOk, OnErr};
 ghost use Rattle.version_book.specs.Passes.{opening_of};
 ghost use Rattle.sessions.specs.Sessions.{IsRunning};
-ghost use Rattle.sessions.specs.Answers.{HasAnsweredNext, HasAnsweredMore};
+ghost use Rattle.sessions.specs.Answers.{HasAnsweredNext, HasAnsweredMore, HasGoneOn};
 
 use crate::answer::{answer, number_after};
 use cube_outside::Gate;
@@ -64,6 +64,7 @@ impl<W: World> Session<W> {
             × (self.new.told.items ≡ self.old.told.items))) }
         ensures err { OnErr result ((length self.old.told.items < length self.old.commands)
             × (self.new.told.items ≡ self.old.told.items)) }
+        ensures gone_on { HasGoneOn self.old self.new }
     {
         let Some(command) = self.commands.as_slice().get(self.told.len()) else {
             return Ok(false);
@@ -100,6 +101,8 @@ impl<W: World> Session<W> {
         ensures told { OnOk result
             (HasAnsweredMore W.effect W.after (W.content (opening_of book.now)) self.old self.new) }
         ensures all { OnOk result (length self.new.told.items ≡ length self.new.commands) }
+        // out of memory, too, nothing that was told is taken away
+        ensures gone_on { HasGoneOn self.old self.new }
     {
         while self.told.len() < self.commands.as_slice().len() {
             self.step(rt, alloc, book, gate)?;

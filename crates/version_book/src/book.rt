@@ -45,8 +45,8 @@ pub(crate) type PassSeat<W> = Seat<
 /// A state of the whole history as it was when the pass looked.
 #[derive(Drop)]
 pub struct Pin<W: World> {
-    pub place: u64,
-    pub state: W::State,
+    pub(crate) place: u64,
+    pub(crate) state: W::State,
 }
 
 /// What a command did on a pin's state: the number of the version, and the effect.

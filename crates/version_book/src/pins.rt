@@ -44,17 +44,13 @@ impl<W: World> Pin<W> {
         self.place
     }
 
-    /// What the command does on the pin's version. Nothing is committed.
-    pub fn attempt(&mut self, alloc: Global, command: &W::Command) -> Result<Tried<W>, AllocError>
-        ensures tried { IfOk result (λ tried. (tried.place ≡ self.old.place)
-            × (tried.effect ≡ W.effect (W.content self.old.state) command.now)) }
-        ensures place { self.new.place ≡ self.old.place }
-        ensures content { W.content self.new.state ≡ W.content self.old.state }
+    /// What the command does on the pin's version. Nothing is committed. A pin answers one command.
+    pub fn attempt(self, alloc: Global, command: &W::Command) -> Result<Tried<W>, AllocError>
+        ensures { IfOk result (λ tried. (tried.place ≡ self.place)
+            × (tried.effect ≡ W.effect (W.content self.state) command.now)) }
     {
-        let effect = W::attempt(alloc, &mut self.state, command)?;
-        Ok(TriedOf {
-            place: self.place,
-            effect,
-        })
+        let Pin { place, mut state } = self;
+        let effect = W::attempt(alloc, &mut state, command)?;
+        Ok(TriedOf { place, effect })
     }
 }

@@ -1,18 +1,17 @@
 -- The checks that one function makes.
-use Rattle.std.specs.Prelude.{List, Option, option_map}
+use Rattle.std.specs.Prelude.{List, Option}
 use Rattle.model_text.specs.Contents.{Contents}
-use Rattle.check_order.specs.Verdict.{order_fault}
 use Rattle.rule_model.specs.BoundModel.{BoundModel}
 use Rattle.model_deploy.specs.declared.file.RuleFile.{RuleFile}
 use Rattle.model_deploy.specs.Foundation.{layout_of, order_lines, foundation_refusal}
 use Rattle.model_deploy.specs.Rules.{rules_stage}
 use Rattle.model_deploy.specs.Stages.{Stage, found, unless, ◌>>=◌}
-use Rattle.model_deploy.specs.Deployment.{order_refusal, feeders_stage, fed_stage, model_of}
+use Rattle.model_deploy.specs.Deployment.{ordered_stage, feeders_stage, fed_stage, model_of}
 
 -- a bound model that passes the checks of the whole model
 abbrev pub checked : List (Option RuleFile) → BoundModel → Stage BoundModel
 checked files model = do
-  _ ← unless (option_map (order_refusal files) (order_fault model))
+  _ ← ordered_stage files model
   _ ← feeders_stage files model
   _ ← fed_stage model
   found model

@@ -1,4 +1,6 @@
-use Rattle.std.proofs.Common.{◌≡◌, ◌∙◌, sym, Some, None}
+use Rattle.std.proofs.Common.{◌≡◌, ◌∙◌, sym, subst, Some, None}
+use Rattle.check_order.specs.Verdict.{IsOrderFault}
+use Rattle.check_order.proofs.LateFacts.{first-late-is}
 use Rattle.check_order.proofs.HeightFacts.{none-low, low-none}
 use Rattle.check_order.proofs.OrderedFacts.{none-ordered_by_place, place-none}
 use Rattle.check_order.proofs.check.check_order.Goals as goal
@@ -18,3 +20,12 @@ pub returns-in-Some-first_late-clause-refused : goal.returns-in-Some-first_late-
 returns-in-Some-first_late-clause-refused c = λ ordered low.
     absurd (let wrong : Some c.in-Some-first_late.fault ≡ None =
     sym c.in-Some-first_late.is ∙ c.first_late.ensures.value ∙ place-none c.args.model.now c.first_late.ensures.valid c.first_late.ensures.rules ordered in cc)
+
+pub returns-in-Some-clause-fault : goal.returns-in-Some-clause-fault
+returns-in-Some-clause-fault c = sym c.too_high.ensures ∙ c.in-Some.is
+
+pub returns-in-Some-first_late-clause-fault : goal.returns-in-Some-first_late-clause-fault
+returns-in-Some-first_late-clause-fault c =
+    let m = c.args.model.now in
+    let late = first-late-is m c.first_late.ensures.valid c.first_late.ensures.rules c.in-Some-first_late.fault (sym c.first_late.ensures.value ∙ c.in-Some-first_late.is) in
+    subst (IsOrderFault m) (sym late.is) (sym c.too_high.ensures ∙ c.in_default.is, late.first)

@@ -1,7 +1,9 @@
 use Rattle.std.proofs.Common.{Result, Ok, Err, ◌∙◌, sym, subst, []}
 use Rattle.accepted.specs.Checks.{IsAccepted}
 use Rattle.feed_map.specs.FedCells.{AreFedCells}
+use Rattle.cube_space.specs.Cells.{IsSpace}
 use Rattle.rule_model.specs.BoundModel.{BoundModel}
+use Rattle.rule_model.specs.Conditions.{AreRules}
 use Rattle.model_deploy.specs.Deployment.{deployment, fed_stage}
 use Rattle.model_deploy.specs.Stages.{Comes}
 use Rattle.model_deploy.specs.Inside.Grouped.{checked}
@@ -43,24 +45,26 @@ returns-in_err-check_covered-clause-comes c =
     let answer = c.from_residual-in_err-check_covered.result in
     checks (goal.at.returns-in_err-check_covered-clause-comes c).In_ok-model answer
     (late-fed c.args.rules.items c.in_ok-model.model c.in_err-check_covered.field-0.0 answer c.from_residual-in_err-check_covered.ensures.1
-    (rw c.deref-2.ensures.value at c.in_ok-check_ordered.ensures.comes) (rw c.deref-3.ensures.value at c.in_err-check_covered.ensures.comes))
+    c.in_ok-check_ordered.ensures.comes (rw c.deref-3.ensures.value at c.in_err-check_covered.ensures.comes))
 
 pub returns-in_err-feeding-clause-comes : goal.returns-in_err-feeding-clause-comes
 returns-in_err-feeding-clause-comes c =
     let answer = c.from_residual-in_err-feeding.result in
     checks (goal.at.returns-in_err-feeding-clause-comes c).In_ok-model answer
     (overfed c.args.rules.items c.in_ok-model.model c.in_err-feeding.field-0.0 answer c.from_residual-in_err-feeding.ensures.1
-    (rw c.deref-2.ensures.value at c.in_ok-check_ordered.ensures.comes) c.in_ok-check_covered.ensures.comes (subst (λ (m : BoundModel). Comes (fed_stage m) (Err c.in_err-feeding.field-0.0)) c.in_ok-sources.ensures c.in_err-feeding.ensures.refused))
+    c.in_ok-check_ordered.ensures.comes c.in_ok-check_covered.ensures.comes (subst (λ (m : BoundModel). Comes (fed_stage m) (Err c.in_err-feeding.field-0.0)) c.in_ok-sources.ensures c.in_err-feeding.ensures.refused))
 
 pub returns-clause-comes : goal.returns-clause-comes
 returns-clause-comes c =
     checks (goal.at.returns-clause-comes c).In_ok-model (Ok c.new.result)
-    (passes c.args.rules.items c.in_ok-model.model c.new.result (c.new.ensures ∙ c.in_ok-sources.ensures) (rw c.deref-2.ensures.value at c.in_ok-check_ordered.ensures.comes)
+    (passes c.args.rules.items c.in_ok-model.model c.new.result (c.new.ensures ∙ c.in_ok-sources.ensures) c.in_ok-check_ordered.ensures.comes
     c.in_ok-check_covered.ensures.comes (c.in_ok-feeding.feeding.fed, (subst (λ (m : BoundModel). AreFedCells m [] c.in_ok-feeding.feeding.fed) c.in_ok-sources.ensures c.in_ok-feeding.ensures.fed.fed), c.in_ok-feeding.ensures.few))
 
 pub new-requires-clause-accepted : goal.new-requires-clause-accepted
 new-requires-clause-accepted c =
     subst IsAccepted (sym c.in_ok-sources.ensures) (record {
+      valid = subst (λ (m : BoundModel). IsSpace m.space) c.in_ok-sources.ensures c.space-space.ensures.valid;
+      rules = subst (λ (m : BoundModel). AreRules m.space m.rules) c.in_ok-sources.ensures c.space-space.ensures.rules;
       ordered = c.in_ok-check_ordered.ensures.ordered;
       covered = c.in_ok-check_covered.ensures.covered;
       few_fed = (c.in_ok-feeding.feeding.fed, subst (λ (m : BoundModel). AreFedCells m [] c.in_ok-feeding.feeding.fed) c.in_ok-sources.ensures c.in_ok-feeding.ensures.fed.fed, c.in_ok-feeding.ensures.few);

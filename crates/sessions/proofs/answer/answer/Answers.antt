@@ -1,6 +1,6 @@
-use Rattle.std.proofs.Common.{rules, ◌≡◌, ◌<◌, ◌∙◌, arith, subst}
+use Rattle.std.proofs.Common.{rules, arith, subst}
 use Rattle.version_book.specs.Lists.{GoesOn}
-use Rattle.version_book.specs.Passes.{looks, numbers_of, opening_of, seen}
+use Rattle.version_book.specs.Passes.{numbers_of, opening_of, seen}
 use Rattle.version_book.proofs.Lists.{goes-on}
 use Rattle.sessions.proofs.Answered.{settles_since}
 use Rattle.sessions.proofs.answer.answer.Goals as goal
@@ -11,8 +11,8 @@ returns-in_err-settled-in-Commit-clause-err g c =
     goes-on _ _ _ _ c.pin.ensures.seen (subst (λ ns. GoesOn (seen c.pin.new.pass) (seen c.commit.new.pass) ns) c.pin.ensures.same.all c.in_err-settled-in-Commit.ensures.err) in
     search rules
 
-pub returns-clause-answered : goal.returns-clause-answered
-returns-clause-answered g c =
+pub returns-in_ok-settled-in-Commit-clause-answered : goal.returns-in_ok-settled-in-Commit-clause-answered
+returns-in_ok-settled-in-Commit-clause-answered g c =
     let w = g.W.World in
     let settled = c.in_ok-settled-in-Commit.ensures.settled in
     record {

@@ -1,7 +1,7 @@
-use Rattle.std.proofs.Common.{rules, ◌≡◌, ◌<◌, ◌∙◌, ◌++◌, ◌∷◌, [], length, get_or, sym, subst, arith}
+use Rattle.std.proofs.Common.{◌≡◌, ◌<◌, ◌∙◌, ◌++◌, ◌∷◌, [], length, map, get_or, ap, sym, subst, arith}
 use Rattle.std.proofs.lemmas.Iterator.Adapters.{YieldsList-from_vec}
 use Rattle.std.proofs.lemmas.Iterator.Consumers.{YieldsList-turn}
-use Rattle.std.proofs.lemmas.List.{length-map}
+use Rattle.std.proofs.lemmas.List.{length-map, map_push}
 use Rattle.version_book.specs.Passes.{next_of, numbers_of, opening_of, seen}
 use Rattle.sessions.specs.Inside.AllSessions.{commands_of}
 use Rattle.sessions.specs.Inside.Gathered.{IsGathered}
@@ -48,4 +48,9 @@ loop-session-preserved g c =
           subst (λ ts. IsGathered w.effect w.after first (commands_of (sessions ++ session ∷ [])) ts (numbers_of later) (seen later)) (sym c.push_reserved.ensures.items)
           (met_more w.effect w.after first sessions session c.loop-session.told.items c.finish-pass.result.1 before c.finish-pass.result.0 later c.loop-session.invariant.gathered
           c.finish-pass.ensures.pass c.finish-pass.ensures.told has.1 has.0.number has.2 has.0.run c.meet-all.ensures.numbers c.meet-all.ensures.one c.meet-all.ensures.other);
+      told =
+          c.push_reserved.ensures.items
+          ∙ ap (λ ts. ts ++ c.finish-pass.result.1 ∷ []) c.loop-session.invariant.told
+          ∙ ap (λ one. map (λ s. s.told.items) sessions ++ one ∷ []) c.finish-pass.ensures.told
+          ∙ sym (map_push (λ s. s.told.items) sessions session);
     }

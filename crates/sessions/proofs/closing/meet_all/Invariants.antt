@@ -1,4 +1,4 @@
-use Rattle.std.proofs.Common.{◌≡◌, ◌≤◌, length, vec_len, vec_capacity}
+use Rattle.std.proofs.Common.{◌≡◌, ◌≤◌, map, vec_len, vec_capacity}
 use Rattle.version_book.specs.Passes.{IsOf, next_of, numbers_of, opening_of, seen}
 use Rattle.sessions.specs.Inside.AllSessions.{commands_of}
 use Rattle.sessions.specs.Inside.Gathered.{IsGathered}
@@ -13,4 +13,5 @@ invariant-loop-session g l = record {
   next : next_of l.all ≡ next_of l.fn.first;
   room : vec_len l.fn.sessions ≤ vec_capacity l.told;
   gathered : IsGathered g.W.World.effect g.W.World.after (g.W.World.content (opening_of l.book)) (commands_of l.yielded) l.told.items (numbers_of l.all) (seen l.all);
+  told : l.told.items ≡ map (λ session. session.told.items) l.yielded;
 }

@@ -1,5 +1,8 @@
-use Rattle.std.proofs.Common.{◌≡◌, ◌++◌, ◌∙◌, ap, arith, drop, length, slice_get, sym, take}
+use Rattle.std.proofs.Common.{◌≡◌, ◌++◌, ◌∙◌, ap, arith, drop, length, slice_get, subst, sym, take}
+use Rattle.std.specs.Prelude.{IfOk}
 use Rattle.std.proofs.Math.Seq.{take-append_seam}
+use Rattle.sessions.specs.Answers.{EachHasLooked}
+use Rattle.sessions.specs.Inside.AllSessions.{commands_of}
 use Rattle.sessions.proofs.serving.serve.Goals as goal
 
 pub run_all-requires-clause-running : goal.run_all-requires-clause-running
@@ -13,3 +16,16 @@ close_all-requires-clause-running g c =
     let len : c.in-Ok.sessions.len ≡ length c.run_all.new.sessions = omega (arith, c.run_all.ensures.len, ap length c.as_mut_slice.ensures.value, c.in-Ok.sessions.ok.0) in
     let whole : take c.in-Ok.sessions.len (ran ++ rest) ≡ ran = ap (λ n. take n (ran ++ rest)) len ∙ take-append_seam ran rest in
     λ index session is. c.run_all.ensures.running index session (ap (λ xs. slice_get xs index) (sym whole) ∙ is)
+
+pub returns-clause-looks : goal.returns-clause-looks
+returns-clause-looks g c =
+    let w = g.W.World in
+    let ran = c.run_all.new.sessions in
+    let rest = drop (length c.run_all.new.sessions) c.in-Ok.sessions.items in
+    let len : c.in-Ok.sessions.len ≡ length c.run_all.new.sessions = omega (arith, c.run_all.ensures.len, ap length c.as_mut_slice.ensures.value, c.in-Ok.sessions.ok.0) in
+    let whole : take c.in-Ok.sessions.len (ran ++ rest) ≡ ran = ap (λ n. take n (ran ++ rest)) len ∙ take-append_seam ran rest in
+    let same : commands_of (take c.in-Ok.sessions.len (ran ++ rest)) ≡ c.args.users.items =
+    ap commands_of whole ∙ c.run_all.ensures.commands ∙ ap commands_of c.as_mut_slice.ensures.value ∙ c.in-Ok.ensures.commands in
+    subst (λ users. IfOk c.close_all.result (λ served. EachHasLooked w.effect w.after w.content c.args.state users served.told.items served.passes.items)) same
+    (subst (λ state. IfOk c.close_all.result (λ served. EachHasLooked w.effect w.after w.content state (commands_of (take c.in-Ok.sessions.len (ran ++ rest))) served.told.items served.passes.items))
+    c.in_ok-book.ensures.opening c.close_all.ensures.looks)

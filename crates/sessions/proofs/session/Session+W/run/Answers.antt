@@ -1,6 +1,6 @@
-use Rattle.std.proofs.Common.{◌≡◌, ◌<◌, ◌≤◌, ◌∙◌, length, refl, ap, arith}
+use Rattle.std.proofs.Common.{◌<◌, ◌≤◌, ◌∙◌, length, refl, ap, arith}
 use Rattle.version_book.specs.Passes.{opening_of, seen}
-use Rattle.sessions.proofs.Answered.{told_few, more_none, more_next, next_left}
+use Rattle.sessions.proofs.Answered.{told_few, more_none, more_next, next_left, gone_nowhere, gone_on_then}
 use Rattle.sessions.proofs.session.Session+W.run.Goals as goal
 
 pub loop-alloc-init : goal.loop-alloc-init
@@ -11,6 +11,7 @@ loop-alloc-init g c =
       user = refl;
       commands = refl;
       more = more_none w.effect w.after (w.content (opening_of c.args.book.now)) c.args.self.now;
+      gone_on = gone_nowhere c.args.self.now;
     }
 
 pub loop-alloc-preserved : goal.loop-alloc-preserved
@@ -25,6 +26,7 @@ loop-alloc-preserved g c =
       more =
           more_next w.effect w.after (w.content (opening_of c.args.book.now)) c.args.self.now s c.step.new.self c.loop-alloc.invariant.more
           (next_left w.effect w.after (w.content (opening_of c.args.book.now)) s c.step.new.self c.in_ok-step.field-0 left c.in_ok-step.ensures.told) c.loop-alloc.invariant.user c.loop-alloc.invariant.commands;
+      gone_on = gone_on_then c.args.self.now s c.step.new.self c.loop-alloc.invariant.gone_on c.step.ensures.gone_on;
     }
 
 pub returns-clause-all : goal.returns-clause-all

@@ -1,7 +1,7 @@
 use Rattle.std.proofs.Common.{◌≡◌, ◌-◌, length}
 use Rattle.version_book.specs.Passes.{opening_of}
 use Rattle.sessions.specs.Sessions.{IsRunning}
-use Rattle.sessions.specs.Answers.{HasAnsweredMore}
+use Rattle.sessions.specs.Answers.{HasAnsweredMore, HasGoneOn}
 use Rattle.sessions.proofs.session.Session+W.run.Given as goal
 
 abbrev pub invariant-loop-alloc : goal.invariant-loop-alloc
@@ -10,6 +10,7 @@ invariant-loop-alloc g l = record {
   user : l.self.user ≡ l.fn.self.user;
   commands : l.self.commands ≡ l.fn.self.commands;
   more : HasAnsweredMore g.W.World.effect g.W.World.after (g.W.World.content (opening_of l.book)) l.fn.self l.self;
+  gone_on : HasGoneOn l.fn.self l.self;
 }
 
 abbrev pub decreases-loop-alloc : goal.decreases-loop-alloc

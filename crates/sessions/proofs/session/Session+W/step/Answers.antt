@@ -1,9 +1,10 @@
-use Rattle.std.proofs.Common.{rules, ◌≡◌, ◌+◌, ◌<◌, ◌≤◌, ◌∙◌, ◌++◌, ◌∷◌, [], Some, length, slice_get, refl, ap, sym, subst, arith}
+use Rattle.std.proofs.Common.{rules, ◌≡◌, ◌+◌, ◌≤◌, ◌∙◌, ◌++◌, ◌∷◌, [], Some, length, slice_get, refl, ap, sym, subst, arith}
 use Rattle.std.proofs.lemmas.Option.{slice_get_read}
 use Rattle.history.specs.UserRun.{RunSoFar}
 use Rattle.version_book.specs.Passes.{numbers_of, opening_of, seen}
-use Rattle.sessions.specs.Answers.{IsAnswered, sight}
-use Rattle.sessions.proofs.Answered.{told_few, run_seen, run_settled, answered_as}
+use Rattle.sessions.specs.Answers.{IsAnswered, HasLooked, sight}
+use Rattle.sessions.proofs.Answered.{told_few, run_seen, run_settled, answered_as, looked_on, looked_more, gone_nowhere, gone_on_by, settles_adds}
+use Rattle.version_book.proofs.Lists.{same-goes}
 use Rattle.sessions.proofs.session.Session+W.step.Goals as goal
 
 pub returns-in_default-clause-told : goal.returns-in_default-clause-told
@@ -25,6 +26,10 @@ returns-in_err-told-clause-running g c =
       run =
           subst (λ ts. RunSoFar w.effect w.after (w.content (opening_of c.args.book.now)) (seen c.answer.new.pass) s.user ts s.commands) (sym same)
           (run_seen w.effect w.after (w.content (opening_of c.args.book.now)) (seen s.pass) (seen c.answer.new.pass) s.user (numbers_of s.pass) s.told.items s.commands c.requires.running.run c.in_err-told.ensures.err c.requires.running.number);
+      looked =
+          subst (λ ts. HasLooked w.effect w.after (w.content (opening_of c.args.book.now)) s.user ts s.commands (sight c.answer.new.pass)) (sym same)
+          (looked_on w.effect w.after (w.content (opening_of c.args.book.now)) s.user s.told.items s.commands (sight s.pass) (sight c.answer.new.pass) (numbers_of s.pass) c.requires.running.looked c.in_err-told.ensures.err c.requires.running.number
+          c.answer.ensures.looks);
     }
 
 pub returns-clause-running : goal.returns-clause-running
@@ -45,6 +50,9 @@ returns-clause-running g c =
       run =
           subst (λ ts. RunSoFar w.effect w.after (w.content (opening_of c.args.book.now)) (seen c.answer.new.pass) s.user ts s.commands) (sym items)
           (run_settled w.effect w.after (w.content (opening_of c.args.book.now)) (seen s.pass) (seen c.answer.new.pass) s.user s.told.items s.commands c.in-Some.command.now one _ c.requires.running.run is refl refl answered.settles);
+      looked =
+          subst (λ ts. HasLooked w.effect w.after (w.content (opening_of c.args.book.now)) s.user ts s.commands (sight c.answer.new.pass)) (sym items)
+          (looked_more w.effect w.after (w.content (opening_of c.args.book.now)) s.user s.told.items s.commands c.in-Some.command.now one (sight s.pass) (sight c.answer.new.pass) c.requires.running.looked is answered);
     }
 
 pub returns-clause-told : goal.returns-clause-told
@@ -62,4 +70,34 @@ returns-clause-told g c =
       is_next = is;
       is_told = search rules;
       is_answered = answered_as _ _ _ _ _ _ _ _ _ _ number c.in_ok-told.ensures.answered;
+    }
+
+pub returns-in_default-clause-gone_on : goal.returns-in_default-clause-gone_on
+returns-in_default-clause-gone_on g c = gone_nowhere c.args.self.now
+
+pub returns-in_err-reserve-clause-gone_on : goal.returns-in_err-reserve-clause-gone_on
+returns-in_err-reserve-clause-gone_on g c =
+    let s = c.args.self.now in
+    gone_on_by s _ (numbers_of s.pass) (search rules) (same-goes (seen s.pass) (numbers_of s.pass)) (omega arith)
+
+pub returns-in_err-number-clause-gone_on : goal.returns-in_err-number-clause-gone_on
+returns-in_err-number-clause-gone_on g c =
+    let s = c.args.self.now in
+    gone_on_by s _ (numbers_of s.pass) (search rules) (same-goes (seen s.pass) (numbers_of s.pass)) (omega arith)
+
+pub returns-in_err-told-clause-gone_on : goal.returns-in_err-told-clause-gone_on
+returns-in_err-told-clause-gone_on g c =
+    let s = c.args.self.now in
+    gone_on_by s _ (numbers_of s.pass) (search rules) c.in_err-told.ensures.err c.answer.ensures.looks
+
+pub returns-clause-gone_on : goal.returns-clause-gone_on
+returns-clause-gone_on g c =
+    let w = g.W.World in
+    let s = c.args.self.now in
+    let one = c.in_ok-told.told in
+    let items : c.push_reserved.new.self.items ≡ s.told.items ++ one ∷ [] = search rules in
+    record {
+      told = (one ∷ [], items);
+      seen = settles_adds w.effect w.after (w.content (opening_of c.args.book.now)) _ _ _ _ _ _ _ c.in_ok-told.ensures.answered.settles;
+      looks = c.answer.ensures.looks;
     }
