@@ -7,10 +7,12 @@
 
 pub use covered::is_covered;
 
+mod back;
 mod covered;
 mod each;
 mod named;
 mod narrow;
+mod overs;
 mod possible;
 mod reach;
 mod reference_view;

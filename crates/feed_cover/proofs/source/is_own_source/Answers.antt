@@ -1,4 +1,4 @@
-use Rattle.std.proofs.Common.{rules, ◌∙◌, sym}
+use Rattle.std.proofs.Common.{rules}
 use Rattle.std.proofs.lemmas.List.Folds.{list_any_at}
 use Rattle.cube_space.specs.Layout.{axes}
 use Rattle.cover_laws.specs.Covered.{counts_in}
