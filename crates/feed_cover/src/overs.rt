@@ -1,4 +1,5 @@
-ghost use Rattle.std.specs.Prelude.{◌≡◌, ◌<◌, ◌⊎◌, ℕ, Bool, List, Option, Some, IfSome, IsTrue, length, slice_get, slice_index_or};
+ghost use Rattle.std.specs.Prelude.{◌≡◌, ◌<◌, ◌⊎◌, ℕ, Bool, List, Option, Some, IfSome, IsTrue, length};
+ghost use Rattle.std.specs.Prelude.{slice_get, slice_index_or};
 ghost use Rattle.cube_space.specs.Layout.{axes, sizes};
 ghost use Rattle.rule_model.specs.BoundModel.{BoundModel};
 ghost use Rattle.cover_laws.specs.Looking.{sent};
