@@ -1,10 +1,8 @@
-ghost use Rattle.std.specs.Prelude.{◌≡◌, ◌<◌, ℕ, Some, IfSome, true, not, ◌||◌, slice_index_or};
-ghost use Rattle.std.specs.Option.{option_map_or};
-ghost use Rattle.cube_space.specs.Layout.{axes, sizes};
-ghost use Rattle.cover_laws.specs.Looking.{sent, is_narrow, each_narrow};
-ghost use Rattle.cover_laws.specs.Covered.{counts_in, each_sent};
+ghost use Rattle.std.specs.Prelude.{◌≡◌, ◌<◌, IfSome, not, ◌||◌, slice_index_or};
+ghost use Rattle.cube_space.specs.Layout.{sizes};
+ghost use Rattle.cover_laws.specs.Looking.{is_narrow, each_narrow};
 ghost use Rattle.feed_cover.specs.Views.{look_of};
-ghost use Rattle.feed_cover.specs.Tests.{AreOvers, IsBack, IsOneOver};
+ghost use Rattle.feed_cover.specs.Tests.{AreOvers, IsBack, IsOneOver, is_sent_back};
 
 use crate::each::each_sent;
 use crate::narrow::is_narrow;
@@ -33,10 +31,7 @@ pub struct Back<'a> {
 pub fn reaches_back(back: Back) -> bool
     requires back { IsBack back }
     ensures { result ≡ each_narrow (look_of back.entry.model.now back.entry.view) back.entry.dim
-        (λ element. option_map_or (each_sent (axes back.entry.model.now.space back.entry.view.reference.now.cube)
-        back.entry.place back.entry.to.now
-        (λ over. counts_in (axes back.entry.model.now.space back.entry.view.cube) back.entry.dim over element))
-        (sent back.entry.by.now element) true) }
+        (is_sent_back back.entry) }
 {
     let Back {
         model,
@@ -58,10 +53,7 @@ pub fn reaches_back(back: Back) -> bool
 fn each_back(back: Back) -> bool
     requires back { IsBack back }
     ensures { result ≡ each_narrow (look_of back.entry.model.now back.entry.view) back.entry.dim
-        (λ element. option_map_or (each_sent (axes back.entry.model.now.space back.entry.view.reference.now.cube)
-        back.entry.place back.entry.to.now
-        (λ over. counts_in (axes back.entry.model.now.space back.entry.view.cube) back.entry.dim over element))
-        (sent back.entry.by.now element) true) }
+        (is_sent_back back.entry) }
 {
     let mut overs = no_overs();
     'each: for k in 0..count_in(back.model, back.view, back.dim) {
@@ -79,11 +71,7 @@ fn is_back(back: Back, overs: &mut Overs, element: u32) -> bool
     requires element { element < slice_index_or (sizes back.model.now.space back.view.cube) back.dim 0 }
     requires overs { AreOvers back.model.now back.view back.dim back.place back.to.now overs.old }
     ensures is { result ≡ (not (is_narrow (look_of back.entry.model.now back.entry.view) back.entry.dim element)
-        || option_map_or
-        (each_sent (axes back.entry.model.now.space back.entry.view.reference.now.cube) back.entry.place
-        back.entry.to.now
-        (λ over. counts_in (axes back.entry.model.now.space back.entry.view.cube) back.entry.dim over element))
-        (sent back.entry.by.now element) true) }
+        || is_sent_back back.entry element) }
     ensures overs { AreOvers back.entry.model.now back.entry.view back.entry.dim back.entry.place back.entry.to.now
         overs.new }
 {
@@ -98,11 +86,7 @@ fn sends_back(back: Back, overs: &mut Overs, element: u32) -> bool
     requires back { IsBack back }
     requires element { element < slice_index_or (sizes back.model.now.space back.view.cube) back.dim 0 }
     requires overs { AreOvers back.model.now back.view back.dim back.place back.to.now overs.old }
-    ensures sends { result ≡ option_map_or
-        (each_sent (axes back.entry.model.now.space back.entry.view.reference.now.cube) back.entry.place
-        back.entry.to.now
-        (λ over. counts_in (axes back.entry.model.now.space back.entry.view.cube) back.entry.dim over element))
-        (sent back.entry.by.now element) true }
+    ensures sends { result ≡ is_sent_back back.entry element }
     ensures overs { AreOvers back.entry.model.now back.entry.view back.entry.dim back.entry.place back.entry.to.now
         overs.new }
 {
