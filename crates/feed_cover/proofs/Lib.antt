@@ -6,3 +6,4 @@ pub mod Sources
 pub mod Ways
 pub mod Kept
 pub mod OneTests
+pub mod Wider

@@ -1,5 +1,7 @@
-ghost use Rattle.std.specs.Prelude.{◌≡◌, ◌<◌, ◌==◌, not, length, IfSome};
+ghost use Rattle.std.specs.Prelude.{◌≡◌, ◌<◌, ◌==◌, not, true, length, is_some, IfSome, IsTrue};
 ghost use Rattle.std.specs.List.{list_any};
+ghost use Rattle.rule_model.specs.declared.area.Area.{Area as AnyArea};
+ghost use Rattle.rule_model.specs.declared.rules.Statement.{Statement as AnyStatement};
 ghost use Rattle.rule_model.specs.BoundModel.{rules_of};
 ghost use Rattle.rule_model.specs.Conditions.{IsArea, IsReference, IsFeeder};
 ghost use Rattle.cover_laws.specs.Looking.{some_below};
@@ -13,7 +15,7 @@ use crate::reach::all_reach;
 use crate::reference_view::{Counted, ReferenceView};
 use crate::sourced::{Sourced, has_sources};
 use rule_laws::Reference;
-use rule_model::{Area, Feeder, Model};
+use rule_model::{Area, Feeder, Model, Statement};
 
 // Whether from no leaf cell of the area the reference names a consolidated cell of an area of its cube.
 #[tactic(auto, unfolding(cover_laws::specs::Covered::names_no_total))]
@@ -40,6 +42,42 @@ fn names_no_total<'a>(
     name_leaves(model, view, 0) || !is_possible(model, view)
 }
 
+// Whether it is known that from no leaf cell of the area the reference names a consolidated cell, since each element
+// that an argument names from a leaf is one.
+fn names_only_leaves<'a>(
+    model: &'a Model,
+    cube: u32,
+    area: &'a Area,
+    reference: &'a Reference,
+) -> bool
+    requires cube { cube < length model.now.space.cubes }
+    requires area { IsArea model.now.space cube area.now }
+    requires reference { IsReference model.now.space cube reference.now }
+    ensures { IsTrue result → (governed : AnyArea)
+        → names_no_total model.now cube area.now reference.now governed ≡ true }
+{
+    let _space = model.space();
+    let view = ReferenceView {
+        cube,
+        area,
+        reference,
+        counted: Counted::All,
+    };
+    name_leaves(model, view, 0)
+}
+
+// Whether a statement has a part for consolidated cells.
+fn have_totals(statements: &[Statement]) -> bool
+    ensures { result ≡ list_any (λ (s : AnyStatement). is_some s.cons) statements.now }
+{
+    'each: for k in 0..statements.len() {
+        if statements[k].cons.is_some() {
+            return true;
+        }
+    }
+    false
+}
+
 // Whether the reference names no consolidated cell that a statement governs.
 #[tactic(auto, unfolding(cover_laws::specs::Covered::names_no_governed))]
 fn names_no_governed<'a>(
@@ -55,6 +93,9 @@ fn names_no_governed<'a>(
 {
     let _space = model.space();
     let statements = model.rules(reference.cube).statements.as_slice();
+    if have_totals(statements) && names_only_leaves(model, cube, area, reference) {
+        return true;
+    }
     'each: for k in 0..statements.len() {
         let statement = &statements[k];
         if statement.cons.is_some()

@@ -1,4 +1,4 @@
-use Rattle.std.proofs.Common.{◌≡◌, take, length}
+use Rattle.std.proofs.Common.{◌≡◌, take}
 use Rattle.feed_cover.proofs.same.are_same.Given as goal
 
 abbrev pub invariant-each : goal.invariant-each
