@@ -31,8 +31,8 @@ pub record IsWay (model : BoundModel) (view : ReferenceView) (dim place : ℕ) (
 
 -- each leaf that counts in an element is sent to this one, so that whatever is asked of where they are sent is asked of
 -- it alone
-pub record IsOneOver (model : BoundModel) (view : ReferenceView) (dim place : ℕ) (to : List (Option ℕ)) (target over : ℕ)
-    : Type 0 where
+pub record IsOneOver (model : BoundModel) (view : ReferenceView) (dim place : ℕ) (to : List (Option ℕ))
+    (target over : ℕ) : Type 0 where
   pub asked : (test : ℕ → Bool)
       → each_sent (axes model.space view.reference.now.cube) place to test target ≡ test over
   pub within : over < slice_index_or (sizes model.space view.cube) dim 0
