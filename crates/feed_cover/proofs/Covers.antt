@@ -1,6 +1,7 @@
 -- The feeders that are asked are enough.
-use Rattle.std.proofs.Common.{◌≡◌, refl, sym, ap, ◌∙◌, arith, subst, ℕ, zero, suc, ◌+◌, ◌<◌, Bool, true, false, not, ◌&&◌, ◌||◌, List, [], ◌∷◌, length, get_or, ◌==◌, All}
+use Rattle.std.proofs.Common.{◌≡◌, refl, sym, ap, ◌∙◌, arith, subst, ℕ, suc, ◌<◌, Bool, true, false, not, ◌&&◌, ◌||◌, List, [], ◌∷◌, length, get_or, ◌==◌}
 use Rattle.std.specs.List.{list_any, range_with_len}
+use Rattle.std.proofs.Math.Bool.{and-true}
 use Rattle.std.proofs.lemmas.Bool.{ne_eqb}
 use Rattle.std.proofs.lemmas.Bool.Decides.{Decides-eqb}
 use Rattle.std.proofs.lemmas.List.Folds.{list_any_at, list_any_none, Any-from_list_any}
@@ -9,7 +10,6 @@ use Rattle.rule_laws.specs.declared.reference.Reference.{Reference}
 use Rattle.rule_model.specs.declared.area.Area.{Area}
 use Rattle.rule_model.specs.declared.rules.Feeder.{Feeder}
 use Rattle.rule_model.specs.BoundModel.{BoundModel, rules_of}
-use Rattle.rule_model.specs.System.{cubes_of}
 use Rattle.rule_model.specs.Conditions.{IsFeeder, AreRules}
 use Rattle.feed_cover.specs.declared.reference_view.ReferenceView.{ReferenceView}
 use Rattle.feed_cover.specs.declared.reference_view.Counted.TheVariants.{Leaves}
@@ -93,14 +93,15 @@ feeder-at m own k fs f ruled there same low is =
 pub look-leaves : (m : BoundModel) (view : ReferenceView) → view.counted ≡ Leaves → look_of m view ≡ look_below m view.cube view.area.now view.reference.now
 look-leaves m view is = ap (λ k. record { space = m.space; cube = view.cube; area = view.area.now; args = view.reference.now.args; counts = counts_of k m view.reference.now.cube }) is
 
-pub all-hold : (a b c d : Bool) → a ≡ true → b ≡ true → c ≡ true → d ≡ (a && b) && (c && d)
-all-hold true true true d p q s = refl
+pub all-hold : (a b c d : Bool) → a ≡ true → b ≡ true → d ≡ true → c ≡ (a && b) && (c && d)
+all-hold true true c true p q s = sym (and-true c)
 all-hold false b c d p q s = absurd (cc)
 all-hold true false c d p q s = absurd (cc)
-all-hold true true false d p q s = absurd (cc)
+all-hold true true c false p q s = absurd (cc)
 
-pub none-holds : (a b c d : Bool) → c ≡ false → c ≡ (a && b) && (c && d)
-none-holds true true false d e = refl
-none-holds true false false d e = refl
-none-holds false b false d e = refl
-none-holds a b true d e = absurd (cc)
+pub none-holds : (a b c d : Bool) → d ≡ false → d ≡ (a && b) && (c && d)
+none-holds true true true false e = refl
+none-holds true true false false e = refl
+none-holds true false c false e = refl
+none-holds false b c false e = refl
+none-holds a b c true e = absurd (cc)

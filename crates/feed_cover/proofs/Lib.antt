@@ -5,3 +5,5 @@ pub mod Listed
 pub mod Sources
 pub mod Ways
 pub mod Kept
+pub mod OneTests
+pub mod Wider

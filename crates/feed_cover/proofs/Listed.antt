@@ -1,6 +1,5 @@
 -- A binary search in a rising list tells whether an element is listed.
-use Rattle.std.proofs.Common.{◌≡◌, arith, subst, ℕ, zero, suc, ◌+◌, ◌-◌, ◌<◌, ◌≤◌, List, length, get_or, All, false}
-use Rattle.std.specs.Prelude.{◌==◌}
+use Rattle.std.proofs.Common.{◌≡◌, arith, subst, ℕ, zero, suc, ◌+◌, ◌<◌, ◌≤◌, List, length, get_or}
 use Rattle.std.specs.List.Sorted.{IsStrictlyIncreasing}
 pub use Rattle.rule_model.proofs.Statements.{listed_by as found-listed}
 

@@ -1,19 +1,19 @@
 -- The table of a dimension of a cube, by its place, and what it says.
-use Rattle.std.proofs.Common.{◌≡◌, refl, sym, ap, ◌∙◌, arith, subst, ℕ, zero, suc, ◌<◌, Bool, true, false, not, Some, None, Option, ℤ, pos, negsuc, List, [], ◌∷◌, length, get_or, All}
+use Rattle.std.proofs.Common.{◌≡◌, refl, sym, ap, ◌∙◌, arith, subst, ℕ, zero, suc, ◌<◌, false, not, Some, ℤ, pos, negsuc, List, [], ◌∷◌, length, get_or}
 use Rattle.std.specs.Prelude.{slice_get, slice_index_or}
 use Rattle.std.specs.Ordering.{int_eq}
 use Rattle.std.specs.List.{AllZip}
 use Rattle.std.proofs.lemmas.Bool.{false_from_ne_true}
 use Rattle.std.proofs.lemmas.Bool.Decides.{Decides-int_eq}
 use Rattle.std.specs.Option.{option_map_or}
-use Rattle.dim_core.specs.Outline.{Outline, IsElement}
+use Rattle.dim_core.specs.Outline.{Outline}
 use Rattle.dim_weights.specs.Coefficients.{coef}
 use Rattle.dim_weights.specs.Table.{IsWeightsOf, is_nonzero, leaves_of}
 use Rattle.cube_space.specs.declared.shape.CubeShape.{CubeShape}
-use Rattle.cube_space.specs.Layout.{Layout, axes, sizes}
+use Rattle.cube_space.specs.Layout.{Layout, axes}
 use Rattle.cube_space.specs.Cells.{IsSpace}
 use Rattle.rule_model.specs.Weights.{AreWeightsOf}
-use Rattle.ref_order.proofs.Axes.{axis-low, axis-is, size-of-axis}
+use Rattle.ref_order.proofs.Axes.{axis-low, axis-is}
 use Rattle.cover_laws.specs.Covered.{leaves_at, counts_in}
 use Rattle.cover_laws.proofs.Pairs.{arg-there}
 

@@ -1,6 +1,6 @@
 -- Where the maps of a reference and of a feeder lead.
-use Rattle.std.proofs.Common.{◌≡◌, refl, sym, ap, ◌∙◌, arith, subst, ℕ, zero, suc, ◌<◌, Option, Some, None, List, [], ◌∷◌, length}
-use Rattle.std.specs.Prelude.{slice_index_or, unwrap_or, slice_get}
+use Rattle.std.proofs.Common.{◌≡◌, refl, sym, ap, ◌∙◌, arith, subst, ℕ, zero, suc, ◌<◌, Option, Some, List, [], ◌∷◌, length}
+use Rattle.std.specs.Prelude.{slice_index_or, slice_get}
 use Rattle.cube_space.specs.Layout.{Layout, axes, sizes}
 use Rattle.rule_laws.specs.declared.reference.Reference.{Reference}
 use Rattle.rule_laws.specs.declared.reference.Arg.{Arg}

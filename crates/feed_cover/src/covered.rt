@@ -1,18 +1,21 @@
-ghost use Rattle.std.specs.Prelude.{◌≡◌, ◌<◌, ◌==◌, not, length};
+ghost use Rattle.std.specs.Prelude.{◌≡◌, ◌<◌, ◌==◌, not, true, length, is_some, IfSome, IsTrue};
 ghost use Rattle.std.specs.List.{list_any};
+ghost use Rattle.rule_model.specs.declared.area.Area.{Area as AnyArea};
+ghost use Rattle.rule_model.specs.declared.rules.Statement.{Statement as AnyStatement};
 ghost use Rattle.rule_model.specs.BoundModel.{rules_of};
 ghost use Rattle.rule_model.specs.Conditions.{IsArea, IsReference, IsFeeder};
 ghost use Rattle.cover_laws.specs.Looking.{some_below};
 ghost use Rattle.cover_laws.specs.Covered.{names_no_total, names_no_governed, feeds_all, has_cover, is_covered};
 ghost use Rattle.feed_cover.specs.declared.reference_view.Counted.TheVariants.{Leaves};
-ghost use Rattle.feed_cover.specs.Views.{IsView};
+ghost use Rattle.feed_cover.specs.Views.{IsView, IsSourced};
 
-use crate::named::{name_leaves, name_sources};
+use crate::named::name_leaves;
 use crate::possible::is_possible;
 use crate::reach::all_reach;
 use crate::reference_view::{Counted, ReferenceView};
+use crate::sourced::{Sourced, has_sources};
 use rule_laws::Reference;
-use rule_model::{Area, Feeder, Model};
+use rule_model::{Area, Feeder, Model, Statement};
 
 // Whether from no leaf cell of the area the reference names a consolidated cell of an area of its cube.
 #[tactic(auto, unfolding(cover_laws::specs::Covered::names_no_total))]
@@ -39,6 +42,42 @@ fn names_no_total<'a>(
     name_leaves(model, view, 0) || !is_possible(model, view)
 }
 
+// Whether it is known that from no leaf cell of the area the reference names a consolidated cell, since each element
+// that an argument names from a leaf is one.
+fn names_only_leaves<'a>(
+    model: &'a Model,
+    cube: u32,
+    area: &'a Area,
+    reference: &'a Reference,
+) -> bool
+    requires cube { cube < length model.now.space.cubes }
+    requires area { IsArea model.now.space cube area.now }
+    requires reference { IsReference model.now.space cube reference.now }
+    ensures { IsTrue result → (governed : AnyArea)
+        → names_no_total model.now cube area.now reference.now governed ≡ true }
+{
+    let _space = model.space();
+    let view = ReferenceView {
+        cube,
+        area,
+        reference,
+        counted: Counted::All,
+    };
+    name_leaves(model, view, 0)
+}
+
+// Whether a statement has a part for consolidated cells.
+fn have_totals(statements: &[Statement]) -> bool
+    ensures { result ≡ list_any (λ (s : AnyStatement). is_some s.cons) statements.now }
+{
+    'each: for k in 0..statements.len() {
+        if statements[k].cons.is_some() {
+            return true;
+        }
+    }
+    false
+}
+
 // Whether the reference names no consolidated cell that a statement governs.
 #[tactic(auto, unfolding(cover_laws::specs::Covered::names_no_governed))]
 fn names_no_governed<'a>(
@@ -54,6 +93,9 @@ fn names_no_governed<'a>(
 {
     let _space = model.space();
     let statements = model.rules(reference.cube).statements.as_slice();
+    if have_totals(statements) && names_only_leaves(model, cube, area, reference) {
+        return true;
+    }
     'each: for k in 0..statements.len() {
         let statement = &statements[k];
         if statement.cons.is_some()
@@ -68,16 +110,28 @@ fn names_no_governed<'a>(
 // Whether a feeder of a cube feeds the leaf cells of the area from each leaf cell at or below what the reference names,
 // where there is such a cell.
 #[tactic(auto, unfolding(cover_laws::specs::Covered::feeds_all))]
-fn feeds_all<'a>(model: &'a Model, view: ReferenceView<'a>, own: u32, feeder: &'a Feeder) -> bool
+fn feeds_all<'a>(
+    model: &'a Model,
+    view: ReferenceView<'a>,
+    own: u32,
+    feeder: &'a Feeder,
+    known: &mut Option<Sourced<'a>>,
+) -> bool
     requires view { IsView model.now view }
     requires counted { view.counted ≡ Leaves }
     requires feeder { IsFeeder model.now.space own feeder.now }
-    ensures { result ≡ feeds_all model.now view.entry.cube view.entry.area.now view.entry.reference.now own feeder.now }
+    requires known { IfSome known.old (IsSourced model.now view) }
+    ensures feeds { result ≡ feeds_all model.now view.entry.cube view.entry.area.now view.entry.reference.now own
+        feeder.now }
+    ensures known { IfSome known.new (IsSourced model.now view.entry) }
 {
     if own != view.reference.cube || feeder.target.cube != view.cube {
         return false;
     }
-    name_sources(model, view, &feeder.area, 0) && all_reach(model, view, &feeder.target, 0)
+    if !all_reach(model, view, &feeder.target, 0) {
+        return false;
+    }
+    has_sources(model, view, &feeder.area, known)
 }
 
 // Whether some feeder of a cube does.
@@ -90,8 +144,9 @@ fn feeds_from<'a>(model: &'a Model, view: ReferenceView<'a>, own: u32) -> bool
 {
     let _space = model.space();
     let feeders = model.rules(own).feeders.as_slice();
+    let mut known = None;
     'each: for k in 0..feeders.len() {
-        if feeds_all(model, view, own, &feeders[k]) {
+        if feeds_all(model, view, own, &feeders[k], &mut known) {
             return true;
         }
     }

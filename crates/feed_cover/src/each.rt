@@ -1,4 +1,4 @@
-ghost use Rattle.std.specs.Prelude.{◌≡◌, ℕ, ◌<◌, length, slice_index_or, Some, false};
+ghost use Rattle.std.specs.Prelude.{◌≡◌, ℕ, ◌<◌, length, slice_index_or, Some, IfSome, true, false};
 ghost use Rattle.std.specs.Option.{option_map_or};
 ghost use Rattle.cube_space.specs.Layout.{axes, sizes};
 ghost use Rattle.cover_laws.specs.Looking.{is_narrow, some_in, each_narrow, sent};
@@ -60,20 +60,26 @@ pub fn each_sent<T: ElementTest>(
     ensures { result ≡ each_sent (axes model.now.space cube) place to.now (T.passes test.now) element }
 {
     let pairs = leaves(model, cube, place, element);
+    let mut last = None;
     'each: for k in 0..pairs.len() {
-        if !sends_to(to, pairs[k].0, test) {
+        let over = to.get(pairs[k].0 as usize);
+        if !passes_after(last, over, test) {
             return false;
         }
+        last = over;
     }
     true
 }
 
-fn sends_to<T: ElementTest>(to: &ElementMap, leaf: u32, test: &T) -> bool
-    requires test { (over : ℕ) → sent to.now leaf ≡ Some over → T.may_ask test.now over }
-    ensures { result ≡ option_map_or (T.passes test.now) (sent to.now leaf) false }
+// Whether there is an element and it passes, where the one before did. Mostly both are the same.
+fn passes_after<T: ElementTest>(last: Option<u32>, over: Option<u32>, test: &T) -> bool
+    requires last { IfSome last (λ element. T.passes test.now element ≡ true) }
+    requires test { IfSome over (T.may_ask test.now) }
+    ensures { result ≡ option_map_or (T.passes test.now) over false }
 {
-    match to.get(leaf as usize) {
-        Some(over) => test.passes(over),
-        None => false,
+    match (over, last) {
+        (Some(over), Some(last)) if over == last => true,
+        (Some(over), _) => test.passes(over),
+        (None, _) => false,
     }
 }

@@ -7,15 +7,19 @@
 
 pub use covered::is_covered;
 
+mod back;
 mod covered;
 mod each;
 mod named;
 mod narrow;
+mod overs;
 mod possible;
 mod reach;
 mod reference_view;
+mod same;
 mod set;
 mod source;
+mod sourced;
 mod table;
 mod test;
 mod tests;

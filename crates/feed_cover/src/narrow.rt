@@ -19,6 +19,7 @@ pub fn counts(model: &Model, view: ReferenceView, place: usize, element: u32) ->
     ensures { result ≡ counts_of view.entry.counted model.now view.entry.reference.now.cube place element }
 {
     match view.counted {
+        Counted::All => true,
         Counted::Leaves => !leaves(model, view.reference.cube, place, element).is_empty(),
         Counted::Within(area) => {
             let size = axis(model, view.reference.cube, place).len();

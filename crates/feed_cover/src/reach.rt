@@ -8,47 +8,13 @@ ghost use Rattle.cover_laws.specs.Covered.{counts_in, each_sent, reaches_from, r
 ghost use Rattle.feed_cover.specs.Views.{look_of, IsView};
 ghost use Rattle.feed_cover.specs.Tests.{IsWay};
 
-use crate::each::each_narrow;
+use crate::back::{Back, reaches_back};
 use crate::named::each_named;
 use crate::reference_view::ReferenceView;
-use crate::table::is_shared;
 use crate::test::ElementTest;
-use crate::tests::{SendsBack, SendsOver, StandsOver};
+use crate::tests::{SendsOver, StandsOver};
 use rule_laws::{Arg, ElementMap, Reference};
 use rule_model::Model;
-
-// Whether each leaf that counts in what a narrow element is sent to is sent back to one over the element. Where both
-// maps keep the elements of one dimension, that is the element itself.
-fn reaches_back<'a>(
-    model: &'a Model,
-    view: ReferenceView<'a>,
-    dim: usize,
-    to: &'a ElementMap,
-    place: usize,
-    by: &'a ElementMap,
-) -> bool
-    requires way { IsWay model.now view dim place to.now }
-    requires sends { (element target : ℕ) → sent by.now element ≡ Some target
-        → target < slice_index_or (sizes model.now.space view.reference.now.cube) place 0 }
-    ensures { result ≡ each_narrow (look_of model.now view.entry) dim (λ element. option_map_or
-        (each_sent (axes model.now.space view.entry.reference.now.cube) place to.now
-        (λ over. counts_in (axes model.now.space view.entry.cube) dim over element)) (sent by.now element) true) }
-{
-    let there = by.is_identity();
-    let home = to.is_identity();
-    if there && home && is_shared(model, view.cube, dim, view.reference.cube, place) {
-        return true;
-    }
-    let back = SendsBack {
-        model,
-        view,
-        dim,
-        place,
-        to,
-        by,
-    };
-    each_narrow(model, view, dim, &back)
-}
 
 // Whether a feeder's argument for a dimension, by a map from the dimension that the reference's argument at this place
 // names elements of, names one over each narrow element from which the leaf is named.
@@ -74,7 +40,14 @@ fn reaches_from<'a>(
     };
     match &view.reference.args.as_slice()[place] {
         Arg::Moved { from, to: by } if *from as usize == dim => {
-            reaches_back(model, view, dim, to, place, by)
+            reaches_back(Back {
+                model,
+                view,
+                dim,
+                place,
+                to,
+                by,
+            })
         }
         _ => each_named(model, view, place, &over),
     }

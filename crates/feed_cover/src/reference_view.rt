@@ -4,6 +4,8 @@ use rule_model::Area;
 /// Which elements count of those that a reference names.
 #[derive(Clone, Copy)]
 pub enum Counted<'a> {
+    /// All.
+    All,
     /// Those in which some leaf counts.
     Leaves,
     /// Those of an area of the reference's cube.

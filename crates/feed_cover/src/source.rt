@@ -1,4 +1,4 @@
-ghost use Rattle.std.specs.Prelude.{◌≡◌, ◌<◌, length, slice_index_or, slice_get, None, Some, true, All};
+ghost use Rattle.std.specs.Prelude.{◌≡◌, ◌<◌, length, slice_index_or, slice_get, None, Some, true, All, IsTrue};
 ghost use Rattle.std.specs.List.{list_any, list_all};
 ghost use Rattle.dim_core.specs.Outline.{Outline};
 ghost use Rattle.cube_space.specs.Layout.{axes, sizes};
@@ -28,16 +28,32 @@ pub fn are_sources(model: &Model, cube: u32, place: usize, area: &Area, element:
     true
 }
 
-// Whether a leaf counts in one of these elements.
+// Whether a leaf counts in one of these elements. Where it is one of them, it is found at once.
 fn is_source(model: &Model, cube: u32, place: usize, listed: &[u32], leaf: u32) -> bool
     requires leaf { IsElementOf model.now cube place leaf }
     requires listed { All (λ element. element < slice_index_or (sizes model.now.space cube) place 0) listed.now }
     ensures { result ≡ list_any (λ element. counts_in (axes model.now.space cube) place element leaf) listed.now }
 {
+    if is_own_source(model, cube, place, listed, leaf) {
+        return true;
+    }
     'each: for k in 0..listed.len() {
         if counts_in(model, cube, place, listed[k], leaf) {
             return true;
         }
     }
     false
+}
+
+// Whether a leaf is found among these elements, which rise, and counts in itself.
+fn is_own_source(model: &Model, cube: u32, place: usize, listed: &[u32], leaf: u32) -> bool
+    requires leaf { IsElementOf model.now cube place leaf }
+    requires listed { All (λ element. element < slice_index_or (sizes model.now.space cube) place 0) listed.now }
+    ensures { IsTrue result
+        → list_any (λ element. counts_in (axes model.now.space cube) place element leaf) listed.now ≡ true }
+{
+    match listed.binary_search(&leaf) {
+        Ok(k) => counts_in(model, cube, place, listed[k], leaf),
+        Err(_) => false,
+    }
 }

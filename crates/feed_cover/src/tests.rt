@@ -115,48 +115,6 @@ impl ElementTest for SendsOver<'_> {
     }
 }
 
-/// Each leaf that counts in what an element is sent to is sent to one in which the element itself counts.
-#[derive(Clone, Copy)]
-pub struct SendsBack<'a> {
-    pub model: &'a Model,
-    pub view: ReferenceView<'a>,
-    pub dim: usize,
-    pub place: usize,
-    pub to: &'a ElementMap,
-    pub by: &'a ElementMap,
-}
-
-impl ElementTest for SendsBack<'_> {
-    ghost may_ask = { λ t element. IsWay t.model.now t.view t.dim t.place t.to.now
-        × IsElementOf t.model.now t.view.cube t.dim element
-        × ((target : ℕ) → sent t.by.now element ≡ Some target
-        → IsElementOf t.model.now t.view.reference.now.cube t.place target) };
-
-    ghost passes = { λ t element. option_map_or (each_sent (axes t.model.now.space t.view.reference.now.cube) t.place
-        t.to.now (λ over. counts_in (axes t.model.now.space t.view.cube) t.dim over element))
-        (sent t.by.now element) true };
-
-    fn passes(&self, element: u32) -> bool {
-        let test = Over {
-            model: self.model,
-            cube: self.view.cube,
-            dim: self.dim,
-            leaf: element,
-        };
-        match self.by.get(element as usize) {
-            Some(target) => each_sent(
-                self.model,
-                self.view.reference.cube,
-                self.place,
-                self.to,
-                &test,
-                target,
-            ),
-            None => true,
-        }
-    }
-}
-
 /// Each leaf that counts in an element is among the sources of a feeder.
 #[derive(Clone, Copy)]
 pub struct AreSources<'a> {

@@ -6,28 +6,28 @@ use Rattle.cover_laws.specs.Covered.{look_below, are_sources, all_reach, feeds_a
 use Rattle.feed_cover.proofs.Covers.{look-leaves, all-hold, none-holds}
 use Rattle.feed_cover.proofs.covered.feeds_all.Goals as goal
 
-pub returns-then-name_sources : goal.returns-then-name_sources
+pub returns-clause-feeds : goal.returns-clause-feeds
 unfolding feeds_all
-returns-then-name_sources c =
+returns-clause-feeds c =
     let r = c.args.view.reference.now in
     let ds = axes c.args.model.now.space r.cube in
     let leaves = look-leaves c.args.model.now c.args.view c.requires.counted in
     let look = look_below c.args.model.now c.args.view.cube c.args.view.area.now r in
     let own : c.args.own ≡ r.cube = search rules in
     let its : c.args.feeder.now.target.cube ≡ c.args.view.cube = search rules in
-    let on : c.name_sources.result ≡ true = search rules in
-    let sources = ap (λ l. all_named l (are_sources ds c.args.feeder.now.area.sets) 0 r.args) (sym leaves) ∙ sym c.name_sources.ensures ∙ on in
-    c.all_reach.ensures ∙ ap (λ l. all_reach l ds 0 c.args.feeder.now.target.args) leaves
+    let on : c.all_reach.result ≡ true = search rules in
+    let reach = ap (λ l. all_reach l ds 0 c.args.feeder.now.target.args) (sym leaves) ∙ sym c.all_reach.ensures ∙ on in
+    c.has_sources.ensures.sources ∙ ap (λ l. all_named l (are_sources ds c.args.feeder.now.area.sets) 0 r.args) leaves
     ∙ all-hold (c.args.own == r.cube) (c.args.feeder.now.target.cube == c.args.view.cube) (all_named look (are_sources ds c.args.feeder.now.area.sets) 0 r.args) (all_reach look ds 0 c.args.feeder.now.target.args)
-    (eq-eqb _ _ own) (eq-eqb _ _ its) sources
+    (eq-eqb _ _ own) (eq-eqb _ _ its) reach
 
-pub returns-else-name_sources : goal.returns-else-name_sources
+pub returns-then-not-all_reach-clause-feeds : goal.returns-then-not-all_reach-clause-feeds
 unfolding feeds_all
-returns-else-name_sources c =
+returns-then-not-all_reach-clause-feeds c =
     let r = c.args.view.reference.now in
     let ds = axes c.args.model.now.space r.cube in
     let leaves = look-leaves c.args.model.now c.args.view c.requires.counted in
     let look = look_below c.args.model.now c.args.view.cube c.args.view.area.now r in
-    let off : c.name_sources.result ≡ false = search rules in
-    let named = c.name_sources.ensures ∙ ap (λ l. all_named l (are_sources ds c.args.feeder.now.area.sets) 0 r.args) leaves in
-    named ∙ none-holds (c.args.own == r.cube) (c.args.feeder.now.target.cube == c.args.view.cube) (all_named look (are_sources ds c.args.feeder.now.area.sets) 0 r.args) (all_reach look ds 0 c.args.feeder.now.target.args) (sym named ∙ off)
+    let off : c.all_reach.result ≡ false = search rules in
+    let reach = c.all_reach.ensures ∙ ap (λ l. all_reach l ds 0 c.args.feeder.now.target.args) leaves in
+    sym off ∙ reach ∙ none-holds (c.args.own == r.cube) (c.args.feeder.now.target.cube == c.args.view.cube) (all_named look (are_sources ds c.args.feeder.now.area.sets) 0 r.args) (all_reach look ds 0 c.args.feeder.now.target.args) (sym reach ∙ off)

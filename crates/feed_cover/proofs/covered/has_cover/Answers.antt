@@ -1,4 +1,4 @@
-use Rattle.std.proofs.Common.{rules, ◌≡◌, ◌∙◌, sym, ap, true, false}
+use Rattle.std.proofs.Common.{rules, ◌≡◌, ◌∙◌, sym, true, false}
 use Rattle.feed_cover.proofs.Covers.{cover-possible, cover-none}
 use Rattle.feed_cover.proofs.covered.has_cover.Goals as goal
 

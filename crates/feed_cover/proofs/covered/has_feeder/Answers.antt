@@ -1,4 +1,4 @@
-use Rattle.std.proofs.Common.{rules, false, ◌≡◌, ◌∙◌, sym, ap, not, length, ◌==◌, arith, subst, ◌<◌}
+use Rattle.std.proofs.Common.{rules, false, ◌≡◌, ◌∙◌, sym, ap, not, length, ◌==◌}
 use Rattle.rule_model.specs.BoundModel.{rules_of}
 use Rattle.rule_model.specs.declared.rules.CubeRules.{CubeRules}
 use Rattle.feed_cover.proofs.Steps.{some-found}

@@ -1,4 +1,3 @@
-use Rattle.std.proofs.Common.{arith}
 use Rattle.feed_cover.proofs.Ways.{move-at, fixed-at}
 use Rattle.feed_cover.proofs.named.each_named.Goals as goal
 

@@ -1,5 +1,5 @@
 use Rattle.std.proofs.Common.{rules, ◌≡◌, ◌∙◌, sym, ap, true, length}
-use Rattle.std.specs.Prelude.{slice_get, slice_index_or}
+use Rattle.std.specs.Prelude.{slice_get}
 use Rattle.cube_space.specs.Layout.{axes}
 use Rattle.rule_laws.specs.Maps.{identity}
 use Rattle.rule_laws.specs.declared.reference.Arg.TheVariants.{Fixed, Moved}

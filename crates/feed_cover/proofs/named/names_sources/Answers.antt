@@ -1,6 +1,6 @@
 use Rattle.std.proofs.Common.{rules, ◌≡◌, ◌∙◌, ◌<◌, sym, ap, arith, length, true, not, None}
 use Rattle.std.specs.Prelude.{slice_index_or}
-use Rattle.cube_space.specs.Layout.{axes, sizes}
+use Rattle.cube_space.specs.Layout.{axes}
 use Rattle.rule_laws.specs.declared.reference.Arg.TheVariants.{Fixed}
 use Rattle.ref_order.proofs.Args.{args-long}
 use Rattle.ref_order.proofs.Sums.{sets-long, set-found}

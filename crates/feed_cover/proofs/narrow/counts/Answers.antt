@@ -1,4 +1,4 @@
-use Rattle.std.proofs.Common.{◌<◌, ◌≡◌, ◌∙◌, sym, ap, subst, arith, length, None}
+use Rattle.std.proofs.Common.{◌<◌, ◌∙◌, sym, ap, subst, arith, length}
 use Rattle.std.specs.Prelude.{slice_index_or}
 use Rattle.cube_space.specs.Layout.{sizes}
 use Rattle.rule_model.specs.Areas.{in_set}

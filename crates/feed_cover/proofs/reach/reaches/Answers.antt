@@ -1,10 +1,9 @@
-use Rattle.std.proofs.Common.{◌≡◌, ◌∙◌, ◌<◌, sym, ap, subst, arith, length, ℕ, Some, Option, false}
+use Rattle.std.proofs.Common.{◌≡◌, ◌∙◌, ◌<◌, sym, ap, subst, arith, length, Some, Option, false}
 use Rattle.std.specs.Prelude.{slice_index_or}
 use Rattle.std.specs.Option.{option_map_or}
 use Rattle.cube_space.specs.Layout.{axes, sizes}
-use Rattle.rule_laws.specs.declared.reference.Arg.TheVariants.{Fixed, Moved}
+use Rattle.rule_laws.specs.declared.reference.Arg.TheVariants.{Fixed}
 use Rattle.ref_order.proofs.Args.{args-long}
-use Rattle.cover_laws.specs.Looking.{sent}
 use Rattle.cover_laws.specs.Covered.{reaches_from, reaches}
 use Rattle.feed_cover.specs.Views.{look_of}
 use Rattle.feed_cover.proofs.Ways.{move-at, fixed-at, some-arg}

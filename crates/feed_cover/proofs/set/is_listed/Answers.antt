@@ -1,4 +1,4 @@
-use Rattle.std.proofs.Common.{◌≡◌, ◌∙◌, sym, ap, subst, Some}
+use Rattle.std.proofs.Common.{◌∙◌, sym, ap, subst, Some}
 use Rattle.feed_cover.proofs.Listed.{found-listed}
 use Rattle.rule_model.specs.Areas.{in_set}
 use Rattle.rule_model.specs.Conditions.{IsSet}

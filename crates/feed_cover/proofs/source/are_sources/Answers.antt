@@ -1,10 +1,10 @@
-use Rattle.std.proofs.Common.{rules, ◌≡◌, ◌∙◌, ◌<◌, sym, ap, subst, arith, length, Some, None, not, false}
+use Rattle.std.proofs.Common.{rules, ◌≡◌, ◌∙◌, ◌<◌, sym, ap, subst, arith, length, Some, false}
 use Rattle.std.specs.Prelude.{slice_index_or}
 use Rattle.cube_space.specs.Layout.{axes, sizes}
 use Rattle.rule_model.specs.Conditions.{IsSet}
 use Rattle.order_laws.proofs.SetFacts.{set-at}
 use Rattle.ref_order.proofs.Sums.{sets-long, set-found}
-use Rattle.feed_cover.proofs.Sources.{all-sources, sources-done, sources-fail, is_listed_source}
+use Rattle.feed_cover.proofs.Sources.{all-sources, sources-done, sources-fail}
 use Rattle.feed_cover.proofs.source.are_sources.Goals as goal
 
 pub offset_bounds-as_slice-place : goal.offset_bounds-as_slice-place
