@@ -53,6 +53,8 @@ use Rattle.user_text.proofs.command.CellText.TheSendSync as cell_text
 use Rattle.user_text.proofs.command.ViewText.TheSendSync as view_text
 use Rattle.user_text.proofs.command.ParamText.TheSendSync as param_text
 use Rattle.user_text.specs.contracts.load_job.LoadJob as LoadJob
+use Rattle.user_text.specs.contracts.load_params.LoadParams as LoadParams
+use Rattle.word_table.specs.contracts.table.WordTable as WordTable
 use Rattle.user_session.specs.contracts.command.PlanCommand as PlanCommand
 
 -- each step is a lemma, since a `search` that goes down through all of them runs out of steps
@@ -172,11 +174,23 @@ Script-send = search (parts, Block-send) depth 20
 Script-sync : IsSync Script.the_row
 Script-sync = search (parts, Block-sync) depth 20
 
+WordTable-send : IsSend WordTable.the_field.row
+WordTable-send = search (parts, BTreeMap-send) depth 20
+
+WordTable-sync : IsSync WordTable.the_field.row
+WordTable-sync = search (parts, BTreeMap-sync) depth 20
+
+LoadParams-send : IsSend LoadParams.the_field.row
+LoadParams-send = search (parts, WordTable-send, param_text.the_send) depth 20
+
+LoadParams-sync : IsSync LoadParams.the_field.row
+LoadParams-sync = search (parts, WordTable-sync, param_text.the_sync) depth 20
+
 LoadJob-send : IsSend LoadJob.the_field.row
-LoadJob-send = search (parts, param_text.the_send) depth 20
+LoadJob-send = search (parts, LoadParams-send) depth 20
 
 LoadJob-sync : IsSync LoadJob.the_field.row
-LoadJob-sync = search (parts, param_text.the_sync) depth 20
+LoadJob-sync = search (parts, LoadParams-sync) depth 20
 
 pub PlanCommand-send : IsSend PlanCommand.the_row
 PlanCommand-send = search (parts, cell_text.the_field_send, view_text.the_field_send, money.the_send, LoadJob-send, Script-send, Script-sync) depth 20

@@ -1,5 +1,5 @@
 -- What one pass after another comes to.
-use Rattle.std.proofs.Common.{◌≡◌, ℕ, List, Result, Ok, Err, refl, ◌∙◌, subst, inl, inr}
+use Rattle.std.proofs.Common.{◌≡◌, Result, Ok, Err, refl, ◌∙◌, subst, inl, inr}
 use Rattle.cube_outside.specs.Counts.{Rose}
 use Rattle.cube_outside.specs.Seen.{Seen}
 use Rattle.file_passes.specs.declared.halt.Halt.{Halt}

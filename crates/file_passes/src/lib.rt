@@ -9,6 +9,7 @@
 mod halt;
 mod name;
 mod obtaining;
+mod reading;
 mod readings;
 mod refusal;
 

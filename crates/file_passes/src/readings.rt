@@ -1,13 +1,14 @@
-ghost use Rattle.std.specs.Prelude.{◌≡◌, [], find, List, IfOk, IsSome, OnOk, OnErr, IsErrOf, ◌⊎◌, ◌∷◌};
+ghost use Rattle.std.specs.Prelude.{◌≡◌, [], List, IfOk, IsSome, OnOk, OnErr, IsErrOf, ◌⊎◌, ◌∷◌};
 ghost use Rattle.std.specs.Option.{option_copied};
-ghost use Rattle.std.specs.Str.{bytes_eq};
 ghost use Rattle.cube_outside.specs.Counts.{Rose};
 ghost use Rattle.file_passes.specs.Inside.Steps.{IsReadOnce};
 ghost use Rattle.file_passes.specs.Pass.{bytes_of, file, files, source_of, Source as SourceOf};
 ghost use Rattle.cube_words.specs.Words.{texts_of};
 
+use crate::reading::Reading;
 use cube_outside::{FileFault, Files};
 use std::alloc::{AllocError, Global};
+use std::collections::BTreeMap;
 use std::marker::Model;
 
 /// A file that was read, as it is judged: its name and its bytes.
@@ -48,25 +49,24 @@ pub fn source_of<'a, 'b>(sources: &'a [Source<'b>], name: &[u8]) -> Option<&'a S
         .find(|source| source.name().as_bytes() == name)
 }
 
-/// A file that was read.
-#[derive(Drop)]
-struct Reading {
-    name: Vec<u8>,
-    bytes: Vec<u8>,
-}
-
-/// The files that a run has read so far, the last one first.
+/// The files that a run has read so far. Contracts see the last one first.
 #[derive(Drop)]
 pub struct Readings {
+    // In the order in which they were read.
     files: Vec<Reading>,
+    // The place of each name among the files.
+    places: BTreeMap<String, usize>,
 }
 
 impl Model for Readings {
-    ghost use Rattle.std.specs.Prelude.{ℕ, List, map};
+    ghost use Rattle.std.specs.Prelude.{ℕ, List};
+    ghost use Rattle.file_passes.specs.Inside.Kept.{viewed, AreFound};
 
     ghost Value = { List (List ℕ × List ℕ) };
 
-    ghost view = { λ readings. map (λ reading. (reading.name.items, reading.bytes.items)) readings.files.items };
+    ghost view = { λ readings. viewed readings.files.items };
+
+    ghost invariant = { λ readings. AreFound readings.files.items readings.places };
 }
 
 impl Readings {
@@ -75,6 +75,7 @@ impl Readings {
     {
         Readings {
             files: Vec::new(alloc),
+            places: BTreeMap::new(alloc),
         }
     }
 
@@ -82,8 +83,8 @@ impl Readings {
     fn bytes(&self, name: &str) -> Option<&[u8]>
         ensures { option_copied result ≡ bytes_of self.now name.now }
     {
-        match find_in(&self.files, name) {
-            Some(reading) => Some(reading.bytes.as_slice()),
+        match self.places.get(name) {
+            Some(place) => Some(self.files[*place].bytes.as_slice()),
             None => None,
         }
     }
@@ -115,6 +116,19 @@ impl Readings {
         Ok(all)
     }
 
+    // Keeps a file that was read now.
+    fn keep(&mut self, alloc: Global, name: &str, bytes: Vec<u8>) -> Result<(), AllocError>
+        ensures kept { OnOk result (self.new ≡ (name.now, bytes.items) ∷ self.old) }
+        ensures err { OnErr result (self.new ≡ self.old) }
+    {
+        let key = String::from_str(alloc, name)?;
+        let name = Vec::from_slice(alloc, name.as_bytes())?;
+        self.files.reserve(1)?;
+        self.places.insert(key, self.files.len())?;
+        self.files.push_reserved(Reading { name, bytes });
+        Ok(())
+    }
+
     /// Reads the file of this name, unless it was read before.
     pub(crate) fn read<F: Files>(
         &mut self,
@@ -136,19 +150,8 @@ impl Readings {
         if self.bytes(name).is_some() {
             return Ok(());
         }
-        let kept = Vec::from_slice(alloc, name.as_bytes())?;
-        self.files.reserve(1)?;
         let bytes = files.read(alloc, name)?;
-        self.files.insert(0, Reading { name: kept, bytes })?;
+        self.keep(alloc, name, bytes)?;
         Ok(())
     }
-}
-
-// The first of these files that has this name.
-fn find_in<'a>(files: &'a [Reading], name: &str) -> Option<&'a Reading>
-    ensures { option_copied result ≡ find (λ reading. bytes_eq reading.name.items name.now) files.now }
-{
-    files
-        .iter()
-        .find(|reading| reading.name.as_slice() == name.as_bytes())
 }

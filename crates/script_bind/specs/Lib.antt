@@ -1,4 +1,3 @@
 pub mod Variables
 pub mod Binding
 pub mod Numbers
-pub mod Inside

@@ -3,11 +3,11 @@ ghost use Rattle.script_bind.specs.Binding.{section_of, bound_of};
 
 use crate::statements::statements_of;
 use crate::variables::variables;
-use crate::word_table::WordTable;
 use script_bound::{BoundScript, Statement};
 use script_tree::{Line, Script};
 use sqlite_items::Items;
 use std::alloc::{AllocError, Global};
+use word_table::WordTable;
 
 /// The statements of a section, which are numbered from 1.
 #[tactic(auto, unfolding(crate::specs::Binding::section_of))]

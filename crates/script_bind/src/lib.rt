@@ -11,7 +11,6 @@ mod operator;
 mod statements;
 mod terms;
 mod variables;
-mod word_table;
 
 pub use binding::bind;
 pub use laws::statements_are_numbered_from_1;

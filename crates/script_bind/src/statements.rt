@@ -3,11 +3,11 @@ ghost use Rattle.script_bind.specs.Binding as bound;
 ghost use Rattle.script_bind.specs.Binding.{term_of, statement_of, case_of, in_order};
 
 use crate::terms::{nothing, number_of, term_of, terms_of};
-use crate::word_table::WordTable;
 use script_bound::{Case, Statement, Term};
 use script_tree::{Arm, Expr, Line};
 use sqlite_items::Items;
 use std::alloc::{AllocError, Global};
+use word_table::WordTable;
 
 /// Takes the next number. No memory holds so many statements that there is none.
 fn take_number(next: &mut u32) -> Result<u32, AllocError>

@@ -4,7 +4,6 @@ ghost use Rattle.script_bind.specs.Binding.{term_of, call_term, function_term, o
 ghost use Rattle.script_bound.specs.declared.term.Term.TheVariants as terms;
 
 use crate::operator::{Operator, operator_of};
-use crate::word_table::WordTable;
 use grammar::is_column;
 use lists::ListOf;
 use rule_laws::{Fun, Op};
@@ -12,6 +11,7 @@ use script_bound::Term;
 use script_tree::{Expr, ScriptFun, ScriptOp};
 use sqlite_items::{Boxed, Items};
 use std::alloc::{AllocError, Global};
+use word_table::WordTable;
 
 /// The number of a variable: its place among the words.
 #[tactic(auto, unfolding(crate::specs::Binding::number_of))]

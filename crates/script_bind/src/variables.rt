@@ -2,10 +2,10 @@ ghost use Rattle.std.specs.Prelude.{◌≡◌, [], map, OnOk, IfOk};
 ghost use Rattle.script_bind.specs.Variables as named;
 ghost use Rattle.script_bind.specs.Variables.{in_turn, with_word, with_variable, words_in, words_at, words_of_arm};
 
-use crate::word_table::WordTable;
 use grammar::is_column;
 use script_tree::{Arm, Expr, Line, Script};
 use std::alloc::{AllocError, Global};
+use word_table::WordTable;
 
 /// Adds a word, where it is new.
 fn add_word(alloc: Global, words: &mut WordTable, word: &[u8]) -> Result<(), AllocError>

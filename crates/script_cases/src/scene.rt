@@ -2,7 +2,7 @@ use crate::listed::{Kind, Listed};
 use case_lines::spell;
 use cube_fixed::{Money, Value, read};
 use lists::ListOf;
-use script_run::Param;
+use script_run::{LoadParams, Param};
 use std::alloc::{AllocError, Global};
 
 /// What the lines of a case say.
@@ -11,7 +11,7 @@ pub struct Scene {
     pub cells: Vec<Listed>,
     pub stored: u64,
     pub fed: u64,
-    pub params: Vec<(ListOf<u8>, Param)>,
+    pub params: LoadParams,
     pub rows: Vec<ListOf<ListOf<u8>>>,
     pub script: Vec<u8>,
 }
@@ -40,7 +40,7 @@ impl Scene {
             cells: Vec::new(alloc),
             stored: ROOM,
             fed: ROOM,
-            params: Vec::new(alloc),
+            params: LoadParams::new(alloc),
             rows: Vec::new(alloc),
             script: Vec::new(alloc),
         }
@@ -79,7 +79,8 @@ impl Scene {
     fn add_number(&mut self, alloc: Global, rest: &str) -> Result<bool, AllocError> {
         let (word, number) = rest.split_once(' ').unwrap_or((rest, "0"));
         let word = list_of(alloc, word)?;
-        self.params.push((word, Param::Number(number_of(number))))?;
+        let param = (word, Param::Number(number_of(number)));
+        self.params.push(alloc, param)?;
         Ok(true)
     }
 
@@ -87,7 +88,7 @@ impl Scene {
         let (word, text) = rest.split_once(' ').unwrap_or((rest, ""));
         let word = list_of(alloc, word)?;
         let text = list_of(alloc, text)?;
-        self.params.push((word, Param::Text(text)))?;
+        self.params.push(alloc, (word, Param::Text(text)))?;
         Ok(true)
     }
 

@@ -1,6 +1,7 @@
 -- A load: its sections, and how it ends.
-use Rattle.std.specs.Prelude.{ℕ, ◌+◌, List, [], ◌∷◌, map, Option, Some, None, bytes_eq, if◌then◌else◌}
+use Rattle.std.specs.Prelude.{ℕ, ◌+◌, List, [], ◌∷◌, map, Option, option_map}
 use Rattle.cube_fixed.specs.declared.value.Value.TheVariants.{Num}
+use Rattle.user_text.specs.UserText.{set_to}
 use Rattle.user_text.specs.declared.command.ParamText.{ParamText}
 use Rattle.user_text.specs.declared.command.ParamText.TheVariants as params_of
 use Rattle.script_tree.specs.declared.script.Section.{Section}
@@ -57,8 +58,7 @@ param_value (params_of.Text bytes) = kept.Text bytes
 
 -- the parameter of this word, if there is one
 abbrev pub param_of : List (List ℕ × ParamText) → List ℕ → Option Kept
-param_of [] word = None
-param_of (param ∷ params) word = if bytes_eq param.0 word then Some (param_value param.1) else param_of params word
+param_of params word = option_map param_value (set_to params word)
 
 -- before the Prolog the parameters are set, and no other variable is
 abbrev pub start : BoundScript → List (List ℕ × ParamText) → Progress

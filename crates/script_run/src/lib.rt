@@ -19,4 +19,4 @@ pub use ran::Ran;
 pub use running::run;
 pub use script_tree::{Script, Section};
 pub use script_values::{LoadReason, Text, WorkCells};
-pub use user_text::ParamText as Param;
+pub use user_text::{LoadParams, ParamText as Param};

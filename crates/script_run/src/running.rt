@@ -16,7 +16,7 @@ use script_bound::BoundScript;
 use script_tree::{Script, Section};
 use script_values::{Kept, WorkCells};
 use std::alloc::{AllocError, Global};
-use user_text::ParamText;
+use user_text::{LoadParams, ParamText};
 
 /// The most statements that a load executes.
 const MAX_STEPS: u32 = 1_000_000;
@@ -34,27 +34,20 @@ fn param_value(alloc: Global, param: &ParamText) -> Result<Kept, AllocError>
 }
 
 /// The parameter of a word, if there is one.
-fn param_of(
-    alloc: Global,
-    params: &[(ListOf<u8>, ParamText)],
-    word: &[u8],
-) -> Result<Option<Kept>, AllocError>
+fn param_of(alloc: Global, params: &LoadParams, word: &[u8]) -> Result<Option<Kept>, AllocError>
     ensures { IfOk result (λ kept. kept ≡ loads.param_of params.now word.now) }
 {
-    'each: for param in params {
-        if param.0.as_slice() == word {
-            let value = param_value(alloc, &param.1)?;
-            return Ok(Some(value));
-        }
+    match params.get(word) {
+        Some(param) => Ok(Some(param_value(alloc, param)?)),
+        None => Ok(None),
     }
-    Ok(None)
 }
 
 /// What the variables hold before the Prolog.
 fn variables(
     alloc: Global,
     words: &[ListOf<u8>],
-    params: &[(ListOf<u8>, ParamText)],
+    params: &LoadParams,
 ) -> Result<Vec<Option<Kept>>, AllocError>
     ensures { IfOk result (λ variables. variables.items ≡ map (loads.param_of params.now) words.now) }
 {
@@ -67,11 +60,7 @@ fn variables(
 }
 
 /// Before the first execution.
-fn start(
-    alloc: Global,
-    script: &BoundScript,
-    params: &[(ListOf<u8>, ParamText)],
-) -> Result<Run, AllocError>
+fn start(alloc: Global, script: &BoundScript, params: &LoadParams) -> Result<Run, AllocError>
     ensures { IfOk result (λ run. run ≡ start script.now params.now) }
 {
     let variables = variables(alloc, script.variables.as_slice(), params)?;
@@ -108,7 +97,7 @@ pub fn run<C: WorkCells>(
     alloc: Global,
     script: &Script,
     rows: &[ListOf<ListOf<u8>>],
-    params: &[(ListOf<u8>, ParamText)],
+    params: &LoadParams,
     cells: &mut C,
 ) -> Result<Ran, AllocError>
     ensures ran { IfOk result (λ ran. ran ≡ ran_of

@@ -27,13 +27,7 @@ pub(crate) fn load(
 {
     let work = Work::over(alloc, state)?;
     let mut cells = LoadCells::new(work);
-    match run(
-        alloc,
-        script,
-        job.rows.as_slice(),
-        job.params.as_slice(),
-        &mut cells,
-    )? {
+    match run(alloc, script, job.rows.as_slice(), &job.params, &mut cells)? {
         Ran::Done => {
             let writes = cells.into_work().writes(alloc)?;
             committed(alloc, writes)

@@ -6,3 +6,4 @@ pub mod UserExact
 pub mod Settled
 pub mod Columns
 pub mod RecordTurns
+mod SetParams

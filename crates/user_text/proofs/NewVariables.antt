@@ -1,5 +1,5 @@
 -- Behind any parameters another may come: a word that is longer than all of theirs.
-use Rattle.std.proofs.Common.{◌≡◌, ◌<◌, ℕ, ◌+◌, List, [], ◌∷◌, length, Bool, true, false, not, ◌||◌, Some, None, if◌then◌else◌, refl, ap, arith, replicate}
+use Rattle.std.proofs.Common.{◌≡◌, ◌<◌, ℕ, ◌+◌, List, [], ◌∷◌, length, Bool, true, false, not, Some, None, if◌then◌else◌, refl, ap, arith, replicate}
 use Rattle.std.specs.Char.{to_ascii_uppercase}
 use Rattle.std.specs.Str.{bytes_eq}
 use Rattle.std.proofs.lemmas.Bool.{false_from_ne_true, or_from as none_of_two}

@@ -2,7 +2,8 @@
 use Rattle.std.specs.Prelude.{ℕ, ℤ, neg_ℤ, Bool, true, false, not, ◌&&◌, if◌then◌else◌, List, [], ◌∷◌, Option, Some}
 use Rattle.std.specs.Prelude.{None}
 use Rattle.std.specs.Prelude.{codes, bytes_eq}
-use Rattle.std.specs.List.{list_any}
+use Rattle.std.specs.List.{list_any, find}
+use Rattle.std.specs.Option.{option_map}
 use Rattle.cube_lex.specs.Lexeme.{Lexeme}
 use Rattle.grammar.specs.Grammar.{Grammar, done, one, either, many, ◌>>=◌, ◌>>◌}
 use Rattle.grammar.specs.After.{many_after}
@@ -66,6 +67,10 @@ source = either
 -- whether a parameter of this word is among these
 abbrev pub is_set : List (List ℕ × ParamText) → List ℕ → Bool
 is_set before variable = list_any (λ param. bytes_eq param.0 variable) before
+
+-- what the first parameter of this word is set to
+abbrev pub set_to : List (List ℕ × ParamText) → List ℕ → Option ParamText
+set_to params word = option_map (λ param. param.1) (find (λ param. bytes_eq param.0 word) params)
 
 -- whether a parameter of this word may come behind these
 abbrev pub may_come : List (List ℕ × ParamText) → List ℕ → Bool

@@ -1,3 +1,4 @@
+use crate::load_params::LoadParams;
 use cube_fixed::Money;
 use dim_name::Name;
 use lists::ListOf;
@@ -26,7 +27,7 @@ pub struct LoadText {
     /// How many records at the file's beginning are passed over.
     pub skip: u32,
     /// The variables that are set before the script's Prolog. Words are in capitals, and each stands once.
-    pub params: ListOf<(ListOf<u8>, ParamText)>,
+    pub params: LoadParams,
 }
 
 /// A set on an axis of a view.

@@ -1,7 +1,7 @@
 //! A user's commands, read from their text: `PUT`, `GET`, `LOAD` and `VIEW`.
 //!
 //! Read in this order: [`parse`], which reads a whole text; [`UserCommand`], what it gives; [`UserFault`], why it
-//! refuses. [`rows`] reads the records of a load's file (`specs/Rows.antt`), and [`LoadJob`] is a load that is to run.
+//! refuses. [`LoadParams`] are the parameters of a load. [`rows`] reads the records of a load's file (`specs/Rows.antt`), and [`LoadJob`] is a load that is to run.
 #![tactic(auto)]
 
 mod cell;
@@ -10,6 +10,7 @@ mod counted;
 mod fault;
 mod load;
 mod load_job;
+mod load_params;
 mod params;
 mod records;
 mod text;
@@ -19,5 +20,6 @@ pub use command::{CellText, LoadText, ParamText, SetText, UserBody, UserCommand,
 pub use counted::MAX_COMMANDS;
 pub use fault::UserFault;
 pub use load_job::LoadJob;
+pub use load_params::LoadParams;
 pub use records::rows;
 pub use text::parse;

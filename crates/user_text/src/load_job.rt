@@ -1,4 +1,4 @@
-use crate::command::ParamText;
+use crate::load_params::LoadParams;
 use lists::ListOf;
 
 /// A load that is to run.
@@ -9,5 +9,5 @@ pub struct LoadJob {
     /// The records, each the list of its columns.
     pub rows: ListOf<ListOf<ListOf<u8>>>,
     /// The variables that are set before the script's Prolog, each once, in capitals.
-    pub params: ListOf<(ListOf<u8>, ParamText)>,
+    pub params: LoadParams,
 }

@@ -11,30 +11,24 @@ use crate::cell::amount_at;
 use crate::command::ParamText;
 use crate::counted::Counted;
 use crate::fault::TooMany;
+use crate::load_params::LoadParams;
 use cube_lex::{Kind, Token};
 use grammar::{Cursor, Stop, is_variable, sign, sign_comes, text, text_comes, word, word_comes};
 use lists::ListOf;
 use std::alloc::{AllocError, Global};
 
-/// Whether a parameter of this word is among these.
-fn is_set(before: &[(ListOf<u8>, ParamText)], variable: &[u8]) -> bool
-    ensures { result ≡ user_text.is_set before.now variable.now }
-{
-    before.iter().any(|param| param.0.as_slice() == variable)
-}
-
 /// Whether a parameter of this word, in capitals, may come behind these.
-fn may_come(before: &[(ListOf<u8>, ParamText)], variable: &[u8]) -> bool
+fn may_come(before: &LoadParams, variable: &[u8]) -> bool
     ensures { result ≡ user_text.may_come before.now variable.now }
 {
-    is_variable(variable) && !is_set(before, variable)
+    is_variable(variable) && !before.is_set(variable)
 }
 
 /// The parameter's word that a token is, in capitals, if one may come behind these.
 fn variable_of(
     alloc: Global,
     token: &Token<'_>,
-    before: &[(ListOf<u8>, ParamText)],
+    before: &LoadParams,
 ) -> Result<Option<ListOf<u8>>, AllocError>
     ensures { IfOk result (λ variable. variable ≡ new_variable before.now (lexeme_of token.now)) }
 {
@@ -49,7 +43,7 @@ fn variable_of(
 fn new_variable(
     alloc: Global,
     cursor: &mut Cursor<'_, Counted>,
-    before: &[(ListOf<u8>, ParamText)],
+    before: &LoadParams,
 ) -> Result<ListOf<u8>, Stop<TooMany>>
     ensures { Reads (λ variable. variable) (take_one count (new_variable before.now)) cursor.old result cursor.new }
 {
@@ -84,7 +78,7 @@ fn value_at(alloc: Global, cursor: &mut Cursor<'_, Counted>) -> Result<ParamText
 fn param_at(
     alloc: Global,
     cursor: &mut Cursor<'_, Counted>,
-    before: &[(ListOf<u8>, ParamText)],
+    before: &LoadParams,
 ) -> Result<(ListOf<u8>, ParamText), Stop<TooMany>>
     ensures { Reads (λ param. param) (reading.read_param before.now) cursor.old result cursor.new }
 {
@@ -99,7 +93,7 @@ fn param_at(
 fn next_param_at(
     alloc: Global,
     cursor: &mut Cursor<'_, Counted>,
-    before: &[(ListOf<u8>, ParamText)],
+    before: &LoadParams,
 ) -> Result<(ListOf<u8>, ParamText), Stop<TooMany>>
     ensures { Reads (λ param. param) (reading.read_next_param before.now) cursor.old result cursor.new }
 {
@@ -113,19 +107,19 @@ fn further_params(
     alloc: Global,
     cursor: &mut Cursor<'_, Counted>,
     first: (ListOf<u8>, ParamText),
-) -> Result<ListOf<(ListOf<u8>, ParamText)>, Stop<TooMany>>
+) -> Result<LoadParams, Stop<TooMany>>
     ensures { Reads (λ params. params) (reading.read_further_params first) cursor.old result cursor.new }
 {
-    let mut params = Vec::new(alloc);
-    params.push(first)?;
+    let mut params = LoadParams::new(alloc);
+    params.push(alloc, first)?;
     'param: for _ in 0..cursor.tokens.len() {
         if !sign_comes(cursor, b",") {
-            return Ok(ListOf::new(params));
+            return Ok(params);
         }
         let param = next_param_at(alloc, cursor, &params)?;
-        params.push(param)?;
+        params.push(alloc, param)?;
     }
-    Ok(ListOf::new(params))
+    Ok(params)
 }
 
 /// Reads the parameters of a load, if there are any.
@@ -133,14 +127,15 @@ fn further_params(
 pub fn params_at(
     alloc: Global,
     cursor: &mut Cursor<'_, Counted>,
-) -> Result<ListOf<(ListOf<u8>, ParamText)>, Stop<TooMany>>
+) -> Result<LoadParams, Stop<TooMany>>
     ensures { Reads (λ params. params) reading.read_params cursor.old result cursor.new }
 {
     if word_comes(cursor, b"WITH") {
         word(cursor, b"WITH")?;
-        let first = param_at(alloc, cursor, &[])?;
+        let none = LoadParams::new(alloc);
+        let first = param_at(alloc, cursor, &none)?;
         further_params(alloc, cursor, first)
     } else {
-        Ok(ListOf::new(Vec::new(alloc)))
+        Ok(LoadParams::new(alloc))
     }
 }

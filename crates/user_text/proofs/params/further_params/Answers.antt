@@ -1,4 +1,4 @@
-use Rattle.std.proofs.Common.{List, [], ◌∷◌, ◌++◌, ℕ, length, Ok, codes, sym, ◌∙◌, ap, subst, arith}
+use Rattle.std.proofs.Common.{List, [], ◌∷◌, ◌++◌, ℕ, length, codes, sym, ◌∙◌, ap, subst, arith}
 use Rattle.std.proofs.lemmas.List.{length-map}
 use Rattle.std.proofs.lemmas.Result.{err_from_is_err_and}
 use Rattle.cube_lex.specs.Lexeme.{lexeme_of}
@@ -14,22 +14,21 @@ pub param-init : goal.param-init
 unfolding read_further_params
 param-init c =
     subst (λ params. Turning (is_sign (codes ",")) read_next_param params c.args.cursor.now.state (lexemes c.args.cursor.now.tokens.now) 0 (length c.args.cursor.now.tokens.now) (read_further_params c.args.first c.args.cursor.now.state (lexemes c.args.cursor.now.tokens.now)))
-    (sym (c.in_ok-push.ensures.items ∙ ap (λ params. params ++ c.args.first ∷ []) c.new-params.ensures.items))
+    (sym (c.in_ok-push.ensures.params ∙ ap (λ params. params ++ c.args.first ∷ []) c.new-params.ensures))
     (turning_from (is_sign (codes ",")) read_next_param (c.args.first ∷ []) c.args.cursor.now.state (lexemes c.args.cursor.now.tokens.now) (length c.args.cursor.now.tokens.now) (sym (length-map c.args.cursor.now.tokens.now lexeme_of)))
 
 pub param-preserved : goal.param-preserved
-param-preserved c = turning_on c.param.invariant c.param-test.true c.if-not-sign_comes.ensures
-    (ap (λ before. read_next_param before c.param.cursor.state (lexemes c.param.cursor.tokens.now)) (sym c.deref.ensures.value) ∙ c.in_ok-param.ensures) c.in_ok-push-2.ensures.items
+param-preserved c = turning_on c.param.invariant c.param-test.true c.if-not-sign_comes.ensures c.in_ok-param.ensures c.in_ok-push-2.ensures.params
 
 pub returns-then-not-sign_comes : goal.returns-then-not-sign_comes
-returns-then-not-sign_comes c = turning_ends c.param.invariant c.if-not-sign_comes.ensures ∙ ap (λ params. Ok (params, c.param.cursor.state, lexemes c.param.cursor.tokens.now)) (sym c.new.ensures)
+returns-then-not-sign_comes c = turning_ends c.param.invariant c.if-not-sign_comes.ensures
 
 pub returns : goal.returns
-returns c = turning_runs_out c.param.invariant (omega (arith, c.param-test.false)) ∙ ap (λ params. Ok (params, c.param.cursor.state, lexemes c.param.cursor.tokens.now)) (sym c.new-2.ensures)
+returns c = turning_runs_out c.param.invariant (omega (arith, c.param-test.false))
 
 pub returns-in_err-param : goal.returns-in_err-param
 returns-in_err-param c =
     let p = err_from_is_err_and c.from_residual-in_err-param.result c.from_residual-in_err-param.ensures.1 in
     rw (p.1, p.2)
     (turning_stops {Y = List ℕ × ParamText} (λ params. params) (λ param. param) c.next_param_at.new.cursor.state (lexemes c.next_param_at.new.cursor.tokens.now) c.in_err-param.field-0.0 c.param.invariant c.param-test.true c.if-not-sign_comes.ensures
-    (rw c.deref.ensures.value at c.in_err-param.ensures))
+    c.in_err-param.ensures)

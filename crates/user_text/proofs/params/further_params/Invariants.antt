@@ -7,5 +7,5 @@ use Rattle.user_text.proofs.params.further_params.Given as goal
 
 abbrev pub invariant-param : goal.invariant-param
 invariant-param l =
-    Turning (is_sign (codes ",")) read_next_param l.params.items l.cursor.state (lexemes l.cursor.tokens.now) l.counter l.end
+    Turning (is_sign (codes ",")) read_next_param l.params l.cursor.state (lexemes l.cursor.tokens.now) l.counter l.end
     (read_further_params l.fn.first l.fn.cursor.state (lexemes l.fn.cursor.tokens.now))

@@ -1,7 +1,7 @@
 ghost use Rattle.std.specs.Prelude.{◌≡◌, ◌++◌, ◌∷◌, ℕ, List, [], length, position, bytes_eq, IfOk, OnOk, OnErr};
 ghost use Rattle.std.specs.BTreeMap.{IsUnchanged};
 ghost use Rattle.std.specs.List.{list_any};
-ghost use Rattle.script_bind.specs.Inside.Places.{ArePlaces};
+ghost use Rattle.word_table.specs.Inside.Places.{ArePlaces};
 
 use lists::ListOf;
 use std::alloc::{AllocError, Global};
@@ -18,7 +18,7 @@ pub struct WordTable {
 
 impl Model for WordTable {
     ghost use Rattle.std.specs.Prelude.{ℕ, List};
-    ghost use Rattle.script_bind.specs.Inside.Places.{ArePlaces};
+    ghost use Rattle.word_table.specs.Inside.Places.{ArePlaces};
 
     ghost Value = { List (List ℕ) };
 

@@ -1,6 +1,6 @@
 use Rattle.std.proofs.Common.{sym, ◌∙◌}
-use Rattle.script_bind.proofs.Noted.{noted_before, noted_anew}
-use Rattle.script_bind.proofs.word_table.note.Goals as goal
+use Rattle.word_table.proofs.Noted.{noted_before, noted_anew}
+use Rattle.word_table.proofs.table.note.Goals as goal
 
 pub returns-then-contains_key-clause-noted : goal.returns-then-contains_key-clause-noted
 returns-then-contains_key-clause-noted c words are long =

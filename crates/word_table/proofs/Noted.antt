@@ -9,8 +9,8 @@ use Rattle.std.specs.Map.{KeepsOthers}
 use Rattle.std.proofs.lemmas.Cmp.{eq_by_cmp_equiv, nat_list_cmp_total, nat_list_eq_equiv}
 use Rattle.std.proofs.lemmas.Map.Text.{is_eq-slice_cmp}
 use Rattle.std.proofs.lemmas.Slice.Eq.{bytes_eq-Decides}
-use Rattle.script_bind.specs.Inside.Places.{ArePlaces}
-use Rattle.script_bind.proofs.Pushed.{or_else, or_none, position-push}
+use Rattle.word_table.specs.Inside.Places.{ArePlaces}
+use Rattle.word_table.proofs.Pushed.{or_else, or_none, position-push}
 
 abbrev Places : Type 0
 Places = BTreeMap (Vec ℕ Global) ℕ

@@ -1,0 +1,3 @@
+pub mod Pushed
+mod Noted
+pub mod Pairs
