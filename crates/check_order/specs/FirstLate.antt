@@ -1,4 +1,5 @@
--- The first reference of a model that isn't earlier: that doesn't stand before each cell of its statement, cell by cell.
+-- The first reference of a model that isn't earlier: what it reads doesn't stand before each cell of its statement, cell
+-- by cell.
 use Rattle.std.specs.Prelude.{◌≡◌, ℕ, suc, ◌<◌, ◌⊎◌, Bool, true, false, Option, Some, None, IfSome}
 use Rattle.std.specs.Prelude.{List, [], ◌∷◌, ◌++◌, map, take, length, slice_get, All}
 use Rattle.std.specs.Option.{option_map_or}

@@ -1,7 +1,8 @@
 //! A user's commands, read from their text: `PUT`, `GET`, `LOAD` and `VIEW`.
 //!
 //! Read in this order: [`parse`], which reads a whole text; [`UserCommand`], what it gives; [`UserFault`], why it
-//! refuses. [`LoadParams`] are the parameters of a load. [`rows`] reads the records of a load's file (`specs/Rows.antt`), and [`LoadJob`] is a load that is to run.
+//! refuses. [`LoadParams`] are the parameters of a load. [`rows`] reads the records of a load's file
+//! (`specs/Rows.antt`), and [`LoadJob`] is a load that is to run.
 #![tactic(auto)]
 
 mod cell;

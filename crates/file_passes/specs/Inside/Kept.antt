@@ -17,4 +17,5 @@ bytes_at files place = option_map (λ reading. reading.bytes.items) (slice_get f
 -- each name leads to the file that was read under it
 pub record AreFound (files : List Reading) (places : BTreeMap (String Global) ℕ) : Type 0 where
   pub within : (name : List ℕ) (place : ℕ) → get_by_text places name ≡ Some place → place < length files
-  pub bytes : (name : List ℕ) → option_and_then (bytes_at files) (get_by_text places name) ≡ bytes_of (viewed files) name
+  pub bytes : (name : List ℕ)
+      → option_and_then (bytes_at files) (get_by_text places name) ≡ bytes_of (viewed files) name
