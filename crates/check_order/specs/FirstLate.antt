@@ -1,5 +1,4 @@
--- The first reference of a model that isn't earlier: what it reads doesn't stand before each cell of its statement, cell
--- by cell.
+-- The first reference of a model that isn't earlier. Which are is said cell by cell.
 use Rattle.std.specs.Prelude.{◌≡◌, ℕ, suc, ◌<◌, ◌⊎◌, Bool, true, false, Option, Some, None, IfSome}
 use Rattle.std.specs.Prelude.{List, [], ◌∷◌, ◌++◌, map, take, length, slice_get, All}
 use Rattle.std.specs.Option.{option_map_or}
