@@ -1,6 +1,6 @@
 -- How many steps feeders take.
 use Rattle.std.proofs.Common.{◌≡◌, ap, ◌∙◌, arith, ℕ, zero, suc, ◌+◌, ◌-◌, ◌*◌, ◌<◌, ◌≤◌, [], ◌∷◌, length, append-nil}
-use Rattle.std.specs.Prelude.{Result, Ok, Err, IfOk, IfErr}
+use Rattle.std.specs.Prelude.{Result, Ok, Err, IfErr}
 use Rattle.std.specs.List.{flat_map, range_with_len}
 use Rattle.std.proofs.lemmas.List.{length-append, length-map}
 use Rattle.std.proofs.lemmas.Grind.{flat_map-append}
@@ -11,9 +11,6 @@ use Rattle.rule_model.specs.System.{system_of, feed_of, cube_feeds}
 
 pub spent-more : (begun left after n most : ℕ) → begun ≤ left + n * most → left ≤ after + most → begun ≤ after + (n + 1) * most
 spent-more begun left after n most before one = omega (arith, before, one)
-
-pub spent-all : (begun after n count most : ℕ) → n ≤ count → begun ≤ after + n * most → begun ≤ after + count * most
-spent-all begun after n count most few before = let wide = mul-le-mul_right most few in omega (arith, wide, before)
 
 pub spent-short : (begun left n count most : ℕ) → n < count → begun ≤ left + n * most → left < most → begun < count * most
 spent-short begun left n count most low before short =
@@ -66,7 +63,3 @@ short-cubes m cube begun left most low before short =
 pub where-err : {T E P : Type 0} (result : Result T E) → P → IfErr result (λ _. P)
 where-err (Ok value) holds = tt
 where-err (Err fault) holds = holds
-
-pub where-ok : {T E P : Type 0} (result : Result T E) → P → IfOk result (λ _. P)
-where-ok (Ok value) holds = holds
-where-ok (Err fault) holds = tt
