@@ -12,3 +12,4 @@ mod ReachParts
 mod ReachFacts
 mod WalkFacts
 mod BackFacts
+mod StepFacts

@@ -1,4 +1,5 @@
-ghost use Rattle.std.specs.Prelude.{◌≡◌, ℕ, ◌<◌, ◌≤◌, true, false, Ok, IfErr, length, Contains};
+ghost use Rattle.std.specs.Prelude.{◌≡◌, ℕ, ◌+◌, ◌*◌, ◌<◌, ◌≤◌, true, false, Ok, IfOk, IfErr, OnOk};
+ghost use Rattle.std.specs.Prelude.{length, Contains};
 ghost use Rattle.cube_space.specs.Cells.{IsCell, is_leaf_cell};
 ghost use Rattle.rule_laws.specs.Feeding.{Feeds};
 ghost use Rattle.rule_model.specs.BoundModel.{rules_of};
@@ -21,7 +22,8 @@ use rule_model::Feeder;
 pub struct OutOfSteps;
 
 /// Whether a cell of this set feeds this leaf cell. It takes a step for each feeder and for each cell of the set that
-/// it looks at, and answers `OutOfSteps` where it would take more than are left.
+/// it looks at, so no more than one and the number of cells for each feeder, and answers `OutOfSteps` where it would
+/// take more than are left.
 pub fn is_fed_from<W: CellSet>(
     model: &SourceModel,
     live: &W,
@@ -35,6 +37,8 @@ pub fn is_fed_from<W: CellSet>(
         → Feeds (system_of model.now) x cell → ⊥ }
     ensures steps { steps.new ≤ steps.old }
     ensures out { IfErr result (λ _. steps.new ≡ 0) }
+    ensures enough { IfErr result (λ _.
+        steps.old < length (system_of model.now).feeds * (1 + length (W.cells live.now))) }
 {
     is_reached(model, live, Aim::Fed(cell), steps)
 }
@@ -52,6 +56,8 @@ pub fn is_named_from<W: CellSet>(
         → Names (system_of model.now) x cell → ⊥ }
     ensures steps { steps.new ≤ steps.old }
     ensures out { IfErr result (λ _. steps.new ≡ 0) }
+    ensures enough { IfErr result (λ _.
+        steps.old < length (system_of model.now).feeds * (1 + length (W.cells live.now))) }
 {
     is_reached(model, live, Aim::Named(cell), steps)
 }
@@ -70,6 +76,8 @@ fn is_reached<W: CellSet>(
         → ReachesSome (system_of model.now) x aim → ⊥ }
     ensures steps { steps.new ≤ steps.old }
     ensures out { IfErr result (λ _. steps.new ≡ 0) }
+    ensures enough { IfErr result (λ _.
+        steps.old < length (system_of model.now).feeds * (1 + length (W.cells live.now))) }
 {
     'each: for cube in 0..model.space().cubes() {
         if is_reached_from_cube(model, live, cube, aim, steps)? {
@@ -96,6 +104,10 @@ fn is_reached_from_cube<W: CellSet>(
         → ReachesByOne model.now cube (rules_of model.now cube).feeders x aim → ⊥ }
     ensures steps { steps.new ≤ steps.old }
     ensures out { IfErr result (λ _. steps.new ≡ 0) }
+    ensures spent { IfOk result (λ _. steps.old
+        ≤ steps.new + length (rules_of model.now cube).feeders * (1 + length (W.cells live.now))) }
+    ensures enough { IfErr result (λ _.
+        steps.old < length (rules_of model.now cube).feeders * (1 + length (W.cells live.now))) }
 {
     let feeders = model.rules(cube).feeders.as_slice();
     'each: for n in 0..feeders.len() {
@@ -125,6 +137,8 @@ fn is_reached_by<W: CellSet>(
         → ReachesBy (system_of model.now) (feed_of model.now.space cube feeder.now) x aim → ⊥ }
     ensures steps { steps.new ≤ steps.old }
     ensures out { IfErr result (λ _. steps.new ≡ 0) }
+    ensures spent { IfOk result (λ _. steps.old ≤ steps.new + (1 + length (W.cells live.now))) }
+    ensures enough { IfErr result (λ _. steps.old < 1 + length (W.cells live.now)) }
 {
     take_step(steps)?;
     if misses(model, cube, &feeder.target, aim) {
@@ -157,6 +171,8 @@ fn is_reached_by<W: CellSet>(
 fn take_step(steps: &mut u64) -> Result<(), OutOfSteps>
     ensures steps { steps.new ≤ steps.old }
     ensures out { IfErr result (λ _. steps.new ≡ 0) }
+    ensures one { OnOk result (steps.old ≡ steps.new + 1) }
+    ensures none { IfErr result (λ _. steps.old ≡ 0) }
 {
     match steps.checked_sub(1) {
         Some(left) => {

@@ -7,9 +7,10 @@ use Rattle.cube_space.specs.Cells.{IsSpace, first_cell, cell_count}
 use Rattle.cube_space.proofs.Places.{run_within}
 use Rattle.rule_model.proofs.Shapes.{dims_few, dims_within, shape_dims}
 use Rattle.feed_sources.specs.Inside.Choices.{AreChosen}
-use Rattle.feed_sources.proofs.WalkFacts.{IsLeast, next-least, run-at}
+use Rattle.feed_sources.proofs.WalkFacts.{IsLeast, next-least, run-at, next-below, few-below, last-below}
 use Rattle.feed_sources.proofs.BackFacts.{none-begun, none-ended, none-outside, none-jumped, none-passed}
 use Rattle.feed_sources.proofs.ReachParts.{reach-parts}
+use Rattle.feed_sources.proofs.StepFacts.{where-err}
 use Rattle.feed_sources.proofs.fed_from.is_reached_by.Goals.{After-cells-cells, In-Some}
 use Rattle.feed_sources.proofs.fed_from.is_reached_by.Goals as goal
 
@@ -35,6 +36,7 @@ jumps-init g c = record {
   begun = omega arith;
   none = λ x has low. none-begun c.args.model.now c.args.cube c.args.feeder.now c.args.aim (g.W.CellSet.cells c.args.live.now) x has (let is = first-is g (goal.at.jumps-init g c).After-cells-cells in omega (arith, low, is));
   steps = c.take_step.ensures.steps;
+  spent = (let one = c.in_ok-take_step.ensures.one in omega (arith, one));
 }
 
 -- the next cell of the set
@@ -107,6 +109,12 @@ jumps-preserved-in-Some-jump_from g c =
       none = none-jumped m c.args.cube c.args.feeder.now c.args.aim (g.W.CellSet.cells c.args.live.now) c.jumps.from c.in-Some.next c.jumps.invariant.none (least g a.In-Some)
           choices number later c.saturating_add-from.result (omega (arith, low, first)) c.choices_of-choices.ensures passed (omega (arith, c.saturating_add-from.ensures, first));
       steps = (let s = c.take_step-in-Some.ensures.steps in omega (arith, s, c.jumps.invariant.steps));
+      spent = (let one = c.in_ok-take_step-2.ensures.one in
+          let l = least g a.In-Some in
+          let on = c.in-Some-jump_from.ensures.later in
+          let past : c.in-Some.next < c.saturating_add-from.result = omega (arith, low, few, on, c.if-next-first.false, c.saturating_add-from.ensures) in
+          let more = next-below c.jumps.from c.saturating_add-from.result c.in-Some.next (g.W.CellSet.cells c.args.live.now) l.has l.from past in
+          omega (arith, one, more, c.jumps.invariant.spent));
     }
 
 pub reaches_by-requires-clause-source : goal.reaches_by-requires-clause-source
@@ -142,8 +150,33 @@ jumps-preserved g c =
       none = none-passed c.args.model.now c.args.cube c.args.feeder.now c.args.aim (g.W.CellSet.cells c.args.live.now) c.jumps.from c.in-Some.next c.jumps.invariant.none (least g a.In-Some)
           (λ by. (let on = c.reaches_by.ensures.1 by in let clash : true ≡ false = sym on ∙ c.if-reaches_by.false in cc));
       steps = (let s = c.take_step-in-Some.ensures.steps in omega (arith, s, c.jumps.invariant.steps));
+      spent = (let one = c.in_ok-take_step-2.ensures.one in
+          let l = least g a.In-Some in
+          let more = next-below c.jumps.from (c.in-Some.next + 1) c.in-Some.next (g.W.CellSet.cells c.args.live.now) l.has l.from (omega arith) in
+          omega (arith, one, more, c.jumps.invariant.spent));
     }
 
 pub returns-clause-none : goal.returns-clause-none
 returns-clause-none g c = λ _.
     none-ended c.args.model.now c.args.cube c.args.feeder.now c.args.aim (g.W.CellSet.cells c.args.live.now) c.jumps.from c.jumps.invariant.none (sym c.in_default.ensures.next)
+
+pub returns-then-next-first-clause-spent : goal.returns-then-next-first-clause-spent
+returns-then-next-first-clause-spent g c = let few = few-below c.jumps.from (g.W.CellSet.cells c.args.live.now) in omega (arith, few, c.jumps.invariant.spent)
+
+pub returns-in_err-take_step-2-clause-enough : goal.returns-in_err-take_step-2-clause-enough
+returns-in_err-take_step-2-clause-enough g c =
+    let l = least g (goal.at.returns-in_err-take_step-2-clause-enough g c).In-Some in
+    let last = last-below c.jumps.from c.in-Some.next (g.W.CellSet.cells c.args.live.now) l.has l.from in
+    let none = c.in_err-take_step-2.ensures.none in
+    let short : c.args.steps.now < 1 + length (g.W.CellSet.cells c.args.live.now) = omega (arith, last, none, c.jumps.invariant.spent) in
+    where-err _ short
+
+pub returns-then-reaches_by-clause-spent : goal.returns-then-reaches_by-clause-spent
+returns-then-reaches_by-clause-spent g c =
+    let l = least g (goal.at.returns-then-reaches_by-clause-spent g c).In-Some in
+    let last = last-below c.jumps.from c.in-Some.next (g.W.CellSet.cells c.args.live.now) l.has l.from in
+    let one = c.in_ok-take_step-2.ensures.one in
+    omega (arith, last, one, c.jumps.invariant.spent)
+
+pub returns-clause-spent : goal.returns-clause-spent
+returns-clause-spent g c = let few = few-below c.jumps.from (g.W.CellSet.cells c.args.live.now) in omega (arith, few, c.jumps.invariant.spent)
