@@ -3,8 +3,8 @@ use Rattle.std.proofs.Common.{◌≡◌, refl, sym, ap, ◌∙◌, subst, arith,
 use Rattle.std.specs.Prelude.{slice_get, option_and_then, unwrap_or}
 use Rattle.std.specs.List.{AllZip}
 use Rattle.std.proofs.lemmas.Bool.{and_parts, cases_eq, cases_lt}
-use Rattle.std.proofs.lemmas.List.{get_or-set_same, get_or-set_other, get_or-take, length-take, length-set, length-map}
-use Rattle.std.proofs.lemmas.Option.{slice_get_within, get_or_from_slice_get}
+use Rattle.std.proofs.lemmas.List.{get_or-set_same, get_or-set_other, get_or-take, length-take, length-set, length-map, get_or-map}
+use Rattle.std.proofs.lemmas.Option.{slice_get-get_or, slice_get_within, get_or_from_slice_get}
 use Rattle.dim_core.specs.Outline.{Outline, IsDimension, IsElement, components_of}
 use Rattle.dim_weights.specs.Coefficients.{coef}
 use Rattle.dim_weights.specs.Table.{is_nonzero}
@@ -15,19 +15,20 @@ use Rattle.cube_space.proofs.Places.{cell-place}
 use Rattle.cube_space.proofs.Radix.{digits-length}
 use Rattle.rule_laws.specs.declared.reference.Reference.{Reference}
 use Rattle.rule_laws.specs.declared.reference.Arg.{Arg}
-use Rattle.rule_laws.specs.declared.reference.Arg.TheVariants.{Moved}
+use Rattle.rule_laws.specs.declared.reference.Arg.TheVariants.{Fixed, Moved}
 use Rattle.rule_laws.specs.Maps.{identity}
 use Rattle.rule_laws.proofs.MapFacts.{inside, outside}
 use Rattle.rule_model.specs.BoundModel.{BoundModel}
 use Rattle.rule_model.specs.Areas.{in_source_set, in_source_sets}
 use Rattle.rule_model.specs.Targets.{element_by}
 use Rattle.rule_model.specs.Conditions.{IsArg, IsReference}
-use Rattle.rule_model.proofs.Shapes.{shape_dims, axes_length, dims_within}
-use Rattle.feed_sources.proofs.SourceFacts.{axis-at, dimension-there, zip-length}
-use Rattle.feed_sources.specs.Feeders.{StandsFor}
+use Rattle.rule_model.proofs.Shapes.{shape_dims, axes_length, dims_within, dims_few}
+use Rattle.feed_sources.proofs.SourceFacts.{axis-at, dimension-there, zip-length, zip-at}
+use Rattle.feed_sources.specs.declared.aim.Aim.{Aim}
+use Rattle.feed_sources.specs.Inside.Aims.{cell_of, Reaches}
 use Rattle.feed_sources.specs.Inside.Choices.{AreChosen}
 use Rattle.feed_sources.proofs.BelowFacts.{cell-leaves}
-use Rattle.feed_sources.proofs.KeptFacts.{alone, below-kept, argument-names, target-parts}
+use Rattle.feed_sources.proofs.KeptFacts.{alone, meets-kept, argument-names, target-parts}
 
 -- one choice more
 pub chosen-set : (choices after : List (Option ℕ)) (place leaf : ℕ) (elements : List ℕ) → place < length after → after ≡ set choices place (Some leaf)
@@ -77,11 +78,11 @@ leaves-at (x ∷ ds) (e ∷ elements) (suc place) d are own low =
     leaves-at ds elements place d (and_parts (is_leaf x e) (are_leaves ds elements) are).1 own (omega (arith, low))
 
 -- where a reference keeps an element, each source of a cell has the cell's
-pub kept-is : (m : BoundModel) → IsSpace m.space → (r : Reference) (x c place from : ℕ) (arg : Arg) (d : Outline) → is_leaf_cell m.space x ≡ true → StandsFor m r x c → slice_get r.args place ≡ Some arg
+pub kept-is : (m : BoundModel) → IsSpace m.space → (r : Reference) (x place from : ℕ) (aim : Aim) (arg : Arg) (d : Outline) → is_leaf_cell m.space x ≡ true → Reaches m r x aim → slice_get r.args place ≡ Some arg
     → ((elements : List ℕ) (element : ℕ) → element_by elements arg ≡ Some element → slice_get elements from ≡ Some element)
     → slice_get (axes m.space (cube_of m.space x)) from ≡ Some d → slice_get (axes m.space r.cube) place ≡ Some d
-    → get_or (elements_of m.space x) from 0 ≡ get_or (elements_of m.space c) place 0
-kept-is m valid r x c place from arg d leaf (t, names, has) own keeps source_axis target_axis =
+    → get_or (elements_of m.space x) from 0 ≡ get_or (elements_of m.space (cell_of aim)) place 0
+kept-is m valid r x place from aim arg d leaf (t, names, has) own keeps source_axis target_axis =
     let parts = target-parts m.space r x t names in
     let found = parts.0 in
     let at = parts.2 in
@@ -90,8 +91,8 @@ kept-is m valid r x c place from arg d leaf (t, names, has) own keeps source_axi
     let low = slice_get_within (elements_of m.space x) from (get_or found place 0) kept in
     let is = leaves-at (axes m.space (cube_of m.space x)) (elements_of m.space x) from d (cell-leaves m.space x leaf) source_axis low in
     let its : get_or (elements_of m.space t) place 0 ≡ get_or found place 0 = ap (λ es. get_or es place 0) at.its in
-    let below : get_or (elements_of m.space t) place 0 ≡ get_or (elements_of m.space c) place 0 =
-    below-kept m valid t c at.cell has place d (ap (λ k. slice_get (axes m.space k) place) at.own ∙ target_axis) (ap (is_leaf d) (its ∙ sym element) ∙ is) in
+    let below : get_or (elements_of m.space t) place 0 ≡ get_or (elements_of m.space (cell_of aim)) place 0 =
+    meets-kept m valid t aim at.cell has place d (ap (λ k. slice_get (axes m.space k) place) at.own ∙ target_axis) (ap (is_leaf d) (its ∙ sym element) ∙ is) in
     element ∙ sym its ∙ below
 
 -- an identity keeps the element
@@ -110,6 +111,14 @@ identity-keeps elements from element to same is = by (slice_get elements from) r
 
 -- ---- by the dimensions of both cubes
 
+-- the dimension of a cube at a place
+pub record IsAxis (m : BoundModel) (into : ℕ) (dims : List ℕ) (place : ℕ) : Type 0 where
+  pub low : place < length dims
+  pub few : place < 16
+  pub d : Outline
+  pub own : slice_get m.space.dimensions (get_or dims place 0) ≡ Some d
+  pub axis : slice_get (axes m.space into) place ≡ Some d
+
 module _ (m : BoundModel) (valid : IsSpace m.space) where
   pub args-long : (cube into : ℕ) (r : Reference) (shape : CubeShape) → IsReference m.space cube r → r.cube ≡ into → slice_get m.space.cubes into ≡ Some shape → length r.args ≡ length shape.dims
   args-long cube into r shape is same found =
@@ -127,16 +136,31 @@ module _ (m : BoundModel) (valid : IsSpace m.space) where
       ap (λ ds. slice_get ds place) (shape_dims m.space cube shape found)
       ∙ axis-at m.space.dimensions shape.dims place d (dims_within m.space cube shape valid found) low (ap (slice_get m.space.dimensions) here ∙ axis)
 
-  pub kept-element : (r : Reference) (x c cube into place from dim : ℕ) (arg : Arg) (shape own : CubeShape) → slice_get m.space.cubes cube ≡ Some shape → slice_get m.space.cubes into ≡ Some own
+  -- an argument that names one element names one of the dimension
+  pub fixed-low : (cube into : ℕ) (r : Reference) (place element : ℕ) (arg : Arg) (d : Outline) → IsReference m.space cube r → r.cube ≡ into
+      → slice_get r.args place ≡ Some arg → arg ≡ Fixed element → slice_get (axes m.space into) place ≡ Some d → element < length d.elements
+  fixed-low cube into r place element arg d is same arg_is fixed own =
+      let zip : AllZip (IsArg (sizes m.space cube)) (sizes m.space into) r.args = subst (λ (k : ℕ). AllZip (IsArg (sizes m.space cube)) (sizes m.space k) r.args) same is.1 in
+      let low = slice_get_within (axes m.space into) place d own in
+      let many : place < length (sizes m.space into) = omega (arith, low, length-map (axes m.space into) (λ (o : Outline). length o.elements)) in
+      let size : get_or (sizes m.space into) place 0 ≡ length d.elements =
+      get_or-map (λ (o : Outline). length o.elements) (axes m.space into) place d 0 low ∙ ap (λ (o : Outline). length o.elements) (get_or_from_slice_get (axes m.space into) place d d own) in
+      let here : IsArg (sizes m.space cube) (get_or (sizes m.space into) place 0) (get_or r.args place arg) = zip-at (IsArg (sizes m.space cube)) (sizes m.space into) r.args place 0 arg zip many in
+      let fits : IsArg (sizes m.space cube) (length d.elements) (Fixed element) =
+      subst (λ (n : ℕ). IsArg (sizes m.space cube) n (Fixed element)) size
+      (subst (IsArg (sizes m.space cube) (get_or (sizes m.space into) place 0)) (get_or_from_slice_get r.args place arg arg arg_is ∙ fixed) here) in
+      fits
+
+  pub kept-element : (r : Reference) (x cube into place from dim : ℕ) (aim : Aim) (arg : Arg) (shape own : CubeShape) → slice_get m.space.cubes cube ≡ Some shape → slice_get m.space.cubes into ≡ Some own
       → r.cube ≡ into → slice_get shape.dims from ≡ Some dim → slice_get own.dims place ≡ Some dim → slice_get r.args place ≡ Some arg
       → ((elements : List ℕ) (element : ℕ) → element_by elements arg ≡ Some element → slice_get elements from ≡ Some element)
-      → cube_of m.space x ≡ cube → is_leaf_cell m.space x ≡ true → StandsFor m r x c
-      → get_or (elements_of m.space x) from 0 ≡ get_or (elements_of m.space c) place 0
-  kept-element r x c cube into place from dim arg shape own found own_found same from_is place_is arg_is keeps here leaf stands =
+      → cube_of m.space x ≡ cube → is_leaf_cell m.space x ≡ true → Reaches m r x aim
+      → get_or (elements_of m.space x) from 0 ≡ get_or (elements_of m.space (cell_of aim)) place 0
+  kept-element r x cube into place from dim aim arg shape own found own_found same from_is place_is arg_is keeps here leaf stands =
       let low : dim < length m.space.dimensions = subst (λ (k : ℕ). k < length m.space.dimensions) (get_or_from_slice_get own.dims place dim 0 place_is)
       (dims_within m.space into own valid own_found place 0 (slice_get_within own.dims place dim place_is)) in
       let d = dimension-there m.space.dimensions dim low in
-      kept-is m valid r x c place from arg d.0 leaf stands arg_is keeps
+      kept-is m valid r x place from aim arg d.0 leaf stands arg_is keeps
       (ap (λ k. slice_get (axes m.space k) from) here ∙ axis-there cube shape from dim d.0 found from_is d.1)
       (ap (λ k. slice_get (axes m.space k) place) same ∙ axis-there into own place dim d.0 own_found place_is d.1)
 
@@ -146,6 +170,18 @@ module _ (m : BoundModel) (valid : IsSpace m.space) where
       digits-length (sizes m.space (cube_of m.space cell)) (elements_of m.space cell) (cell-place m.space cell is).place.digits
       ∙ ap (λ k. length (sizes m.space k)) (sym own) ∙ length-map (axes m.space into) (λ (o : Outline). length o.elements)
       ∙ ap length (shape_dims m.space into shape found) ∙ axes_length m.space.dimensions shape.dims (dims_within m.space into shape valid found)
+
+  -- the dimension that an argument is for
+  pub argument-axis : (cube into : ℕ) (r : Reference) (shape : CubeShape) (dims : List ℕ) (args : List Arg) (place : ℕ) → IsReference m.space cube r → r.cube ≡ into → slice_get m.space.cubes into ≡ Some shape
+      → dims ≡ shape.dims → args ≡ r.args → place < length args → IsAxis m into dims place
+  argument-axis cube into r shape dims args place is same found dims_are args_are low =
+      let long = args-long cube into r shape is same found in
+      let within : place < length dims = omega (arith, low, long, ap length args_are, ap length dims_are) in
+      let few = dims_few m.space into shape valid found in
+      let dim = get_or dims place 0 in
+      let at : slice_get shape.dims place ≡ Some dim = ap (λ ds. slice_get ds place) (sym dims_are) ∙ slice_get-get_or dims place 0 within in
+      let d = dimension-there m.space.dimensions dim (subst (λ ds. get_or ds place 0 < length m.space.dimensions) (sym dims_are) (dims_within m.space into shape valid found place 0 (omega (arith, within, ap length dims_are)))) in
+      record { low = within; few = omega (arith, within, few, ap length dims_are); d = d.0; own = d.1; axis = axis-there into shape place dim d.0 found at d.1 }
 
 -- nothing is chosen yet
 pub none-chosen : (count : ℕ) (elements : List ℕ) → AreChosen (replicate count None) elements

@@ -1,5 +1,5 @@
 -- What a cell has of the elements of a cell that feeds it.
-use Rattle.std.proofs.Common.{◌≡◌, refl, sym, ap, ◌∙◌, subst, ℕ, zero, suc, Bool, true, false, ℤ, pos, List, [], ◌∷◌, length, get_or, Option, Some, None, eqb, nat_lt, arith}
+use Rattle.std.proofs.Common.{◌≡◌, ◌⊎◌, inl, inr, refl, sym, ap, ◌∙◌, subst, ℕ, zero, suc, Bool, true, false, ℤ, pos, List, [], ◌∷◌, length, get_or, Option, Some, None, eqb, nat_lt, arith}
 use Rattle.std.specs.Prelude.{slice_get, if◌then◌else◌}
 use Rattle.std.specs.List.{Contains, All}
 use Rattle.std.proofs.lemmas.Bool.{and_parts, ltb-true, eqb-true}
@@ -24,6 +24,9 @@ use Rattle.rule_model.specs.Targets.{element_by, elements_by, target}
 use Rattle.rule_model.specs.Weights.{coef_product, weight}
 use Rattle.model_laws.proofs.Levels.{axes-are}
 use Rattle.model_laws.proofs.Below.{weight-counted}
+use Rattle.feed_sources.specs.declared.aim.Aim.{Aim}
+use Rattle.feed_sources.specs.declared.aim.Aim.TheVariants.{Fed, Named}
+use Rattle.feed_sources.specs.Inside.Aims.{cell_of, Meets}
 use Rattle.feed_sources.proofs.BelowFacts.{IsAt, number-at, below-has, stands-leaf, weight-product}
 
 -- a leaf counts in itself alone
@@ -59,6 +62,17 @@ counted-leaf (x ∷ ds) (e ∷ es) (l ∷ ls) (suc k) d dims are on own leaf =
     counted-leaf ds es ls k d (All-tail IsDimension x ds dims) (and_parts (nat_lt e (length x.elements)) (are_digits (sizes_of ds) es) are).1
     (second-factor (coef x e l) (coef_product ds es ls) on) own leaf
 
+-- each element of a leaf cell below counts
+counted-at : (ds : List Outline) (es ls : List ℕ) (k : ℕ) (d : Outline) → is_nonzero (coef_product ds es ls) ≡ true → slice_get ds k ≡ Some d
+    → is_nonzero (coef d (get_or es k 0) (get_or ls k 0)) ≡ true
+counted-at [] es ls k d on own = absurd (cc)
+counted-at (x ∷ ds) [] ls k d on own = absurd (cc)
+counted-at (x ∷ ds) (e ∷ es) [] k d on own = absurd (cc)
+counted-at (x ∷ ds) (e ∷ es) (l ∷ ls) zero d on own =
+    let same : x ≡ d = cc in
+    ap (λ (o : Outline). is_nonzero (coef o e l)) (sym same) ∙ first-factor (coef x e l) (coef_product ds es ls) on
+counted-at (x ∷ ds) (e ∷ es) (l ∷ ls) (suc k) d on own = counted-at ds es ls k d (second-factor (coef x e l) (coef_product ds es ls) on) own
+
 module _ (m : BoundModel) (valid : IsSpace m.space) (t c : ℕ) (cell : IsCell m.space t) (has : Contains (leaves_of (system_of m) t) c) where
   below-weight : is_leaf_cell m.space t ≡ false → is_nonzero (weight m.space t c) ≡ true
   unfolding system_of
@@ -81,6 +95,35 @@ module _ (m : BoundModel) (valid : IsSpace m.space) (t c : ℕ) (cell : IsCell m
           counted-leaf (axes m.space (cube_of m.space t)) (elements_of m.space t) (elements_of m.space c) k d (axes-are m.space valid (cube_of m.space t))
           (cell-place m.space t cell).place.digits
           (ap is_nonzero (sym (weight-product m.space t c below-cube)) ∙ below-weight total) own leaf
+
+  -- each element of the cell is that of a leaf cell below it, or the leaf cell's counts in it
+  pub below-counts : (k : ℕ) (d : Outline) → slice_get (axes m.space (cube_of m.space t)) k ≡ Some d
+      → (get_or (elements_of m.space t) k 0 ≡ get_or (elements_of m.space c) k 0) ⊎ (is_nonzero (coef d (get_or (elements_of m.space t) k 0) (get_or (elements_of m.space c) k 0)) ≡ true)
+  below-counts k d own = by (is_leaf_cell m.space t) refl
+    where
+      by : (b : Bool) → is_leaf_cell m.space t ≡ b
+          → (get_or (elements_of m.space t) k 0 ≡ get_or (elements_of m.space c) k 0) ⊎ (is_nonzero (coef d (get_or (elements_of m.space t) k 0) (get_or (elements_of m.space c) k 0)) ≡ true)
+      by true same = inl (ap (λ x. get_or (elements_of m.space x) k 0) (stands-leaf m t same c has))
+      by false total =
+          inr (counted-at (axes m.space (cube_of m.space t)) (elements_of m.space t) (elements_of m.space c) k d (ap is_nonzero (sym (weight-product m.space t c below-cube)) ∙ below-weight total) own)
+
+-- ---- what meets an aim
+
+module _ (m : BoundModel) (valid : IsSpace m.space) (t : ℕ) where
+  pub meets-cube : (aim : Aim) → IsCell m.space t → Meets (system_of m) aim t → cube_of m.space (cell_of aim) ≡ cube_of m.space t
+  meets-cube (Fed c) cell meets = below-cube m valid t c cell meets
+  meets-cube (Named c) cell meets = ap (cube_of m.space) (sym meets)
+
+  pub meets-kept : (aim : Aim) → IsCell m.space t → Meets (system_of m) aim t → (k : ℕ) (d : Outline) → slice_get (axes m.space (cube_of m.space t)) k ≡ Some d
+      → is_leaf d (get_or (elements_of m.space t) k 0) ≡ true → get_or (elements_of m.space t) k 0 ≡ get_or (elements_of m.space (cell_of aim)) k 0
+  meets-kept (Fed c) cell meets k d own leaf = below-kept m valid t c cell meets k d own leaf
+  meets-kept (Named c) cell meets k d own leaf = ap (λ x. get_or (elements_of m.space x) k 0) meets
+
+  pub meets-counts : (aim : Aim) → IsCell m.space t → Meets (system_of m) aim t → (k : ℕ) (d : Outline) → slice_get (axes m.space (cube_of m.space t)) k ≡ Some d
+      → (get_or (elements_of m.space t) k 0 ≡ get_or (elements_of m.space (cell_of aim)) k 0)
+      ⊎ (is_nonzero (coef d (get_or (elements_of m.space t) k 0) (get_or (elements_of m.space (cell_of aim)) k 0)) ≡ true)
+  meets-counts (Fed c) cell meets k d own = below-counts m valid t c cell meets k d own
+  meets-counts (Named c) cell meets k d own = inl (ap (λ x. get_or (elements_of m.space x) k 0) meets)
 
 -- ---- what a reference names
 

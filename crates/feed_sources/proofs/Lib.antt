@@ -8,6 +8,8 @@ mod DigitFacts
 mod JumpFacts
 mod KeptFacts
 mod ChoiceFacts
-mod FeedFacts
+mod ReachParts
+mod ReachFacts
 mod WalkFacts
 mod BackFacts
+mod StepFacts

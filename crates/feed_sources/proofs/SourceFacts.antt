@@ -24,7 +24,7 @@ zip-length R [] (y ∷ ys) zip = absurd zip
 zip-length R (x ∷ xs) [] zip = absurd zip
 zip-length R (x ∷ xs) (y ∷ ys) zip = ap suc (zip-length R xs ys zip.1)
 
-zip-at : {A B : Type 0} (R : A → B → Type 0) (xs : List A) (ys : List B) (k : ℕ) (d : A) (e : B) → AllZip R xs ys → k < length xs → R (get_or xs k d) (get_or ys k e)
+pub zip-at : {A B : Type 0} (R : A → B → Type 0) (xs : List A) (ys : List B) (k : ℕ) (d : A) (e : B) → AllZip R xs ys → k < length xs → R (get_or xs k d) (get_or ys k e)
 zip-at R [] ys k d e zip low = absurd (omega (arith, low))
 zip-at R (x ∷ xs) [] k d e zip low = absurd zip
 zip-at R (x ∷ xs) (y ∷ ys) zero d e zip low = zip.0

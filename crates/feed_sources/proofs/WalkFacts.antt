@@ -1,5 +1,5 @@
 -- A walk through the cells of a set, in the run of a cube.
-use Rattle.std.proofs.Common.{◌≡◌, ap, subst, arith, ℕ, ◌+◌, ◌-◌, ◌<◌, ◌≤◌, inl, inr, true, List, [], ◌∷◌, length, Some, None}
+use Rattle.std.proofs.Common.{suc, cond, ◌≡◌, ap, subst, arith, ℕ, ◌+◌, ◌-◌, ◌<◌, ◌≤◌, inl, inr, true, List, [], ◌∷◌, length, Some, None, leb}
 use Rattle.std.specs.List.{Contains}
 use Rattle.std.proofs.lemmas.Bool.Decides.{leb_tells}
 use Rattle.cell_store.specs.Cells.{next_from}
@@ -63,6 +63,68 @@ next-least (y ∷ cells) k next rises is = elim (leb_tells k y) [
         | inr more ↦ (let less = above-least y cells x rises.0 more in omega (arith, less))
       ];
     }
+
+-- ---- how many cells were passed
+
+abbrev pub count_below : ℕ → List ℕ → ℕ
+count_below from [] = 0
+count_below from (x ∷ cells) = cond (leb from x) (count_below from cells) (suc (count_below from cells))
+
+pub few-below : (from : ℕ) (cells : List ℕ) → count_below from cells ≤ length cells
+few-below from [] = omega arith
+few-below from (x ∷ cells) =
+    let rest = few-below from cells in
+    elim (leb_tells from x) [
+      | inl t ↦ rw t.0 (omega (arith, rest))
+      | inr t ↦ rw t.0 (omega (arith, rest))
+    ]
+
+more-below : (from after : ℕ) (cells : List ℕ) → from ≤ after → count_below from cells ≤ count_below after cells
+more-below from after [] upto = omega arith
+more-below from after (x ∷ cells) upto =
+    let rest = more-below from after cells upto in
+    elim (leb_tells from x) [
+      | inl t ↦ elim (leb_tells after x) [
+        | inl u ↦ rw (t.0, u.0) rest
+        | inr u ↦ rw (t.0, u.0) (omega (arith, rest))
+      ]
+      | inr t ↦ elim (leb_tells after x) [
+        | inl u ↦ absurd (omega (arith, upto, t.1, u.1))
+        | inr u ↦ rw (t.0, u.0) (omega (arith, rest))
+      ]
+    ]
+
+-- a cell that is passed counts
+pub next-below : (from after next : ℕ) (cells : List ℕ) → Contains cells next → from ≤ next → next < after → count_below from cells + 1 ≤ count_below after cells
+next-below from after next [] has low less = absurd (none-there next has)
+next-below from after next (x ∷ cells) has low less =
+    elim (front-or-behind x cells next has) [
+      | inl is ↦ (let rest = more-below from after cells (omega (arith, low, less)) in
+          elim (leb_tells from x) [
+            | inl t ↦ elim (leb_tells after x) [
+              | inl u ↦ absurd (omega (arith, is, less, u.1))
+              | inr u ↦ rw (t.0, u.0) (omega (arith, rest))
+            ]
+            | inr t ↦ absurd (omega (arith, is, low, t.1))
+          ])
+      | inr more ↦ (let rest = next-below from after next cells more low less in
+          elim (leb_tells from x) [
+            | inl t ↦ elim (leb_tells after x) [
+              | inl u ↦ rw (t.0, u.0) rest
+              | inr u ↦ rw (t.0, u.0) (omega (arith, rest))
+            ]
+            | inr t ↦ elim (leb_tells after x) [
+              | inl u ↦ absurd (omega (arith, low, less, t.1, u.1))
+              | inr u ↦ rw (t.0, u.0) (omega (arith, rest))
+            ]
+          ])
+    ]
+
+pub last-below : (from next : ℕ) (cells : List ℕ) → Contains cells next → from ≤ next → count_below from cells + 1 ≤ length cells
+last-below from next cells has low =
+    let one = next-below from (next + 1) next cells has low (omega arith) in
+    let few = few-below (next + 1) cells in
+    omega (arith, one, few)
 
 -- ---- the run of a cube
 

@@ -1,3 +1,4 @@
 pub mod Feeders
 pub mod Inside
+pub mod Names
 pub mod Sources
