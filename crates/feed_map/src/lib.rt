@@ -4,7 +4,8 @@
 //! opened twice. [`Feeding::of`] finds them anew, [`Feeding::over`] from those over nothing, and [`Feeding::grown`]
 //! from those of a version in which fewer cells were stored. Each follows a cell by the feeders of its cube whose area
 //! has it, and a fed cell once. Where no cell of an area is taken out, the fed cells stay:
-//! [`feed_sources::is_any_source`].
+//! [`feed_sources::is_any_source`]. Else [`Feeding::changed`] takes out what is at risk, and finds what of it is fed
+//! still.
 //!
 //! The feeder check promises that a leaf cell that is neither stored nor fed is 0: see [`cells_off_the_map_are_zero`].
 #![tactic(auto)]
