@@ -7,3 +7,4 @@ pub mod Ways
 pub mod Kept
 pub mod OneTests
 pub mod Wider
+pub mod Reaching

@@ -1,10 +1,13 @@
 -- What may be asked about by the tests of elements.
-use Rattle.std.specs.Prelude.{◌≡◌, ℕ, ◌<◌, Bool, true, Some, length, List, Option, slice_get, slice_index_or}
+use Rattle.std.specs.Prelude.{◌≡◌, ℕ, ◌<◌, Bool, true, Some, length, List, Option, slice_get, slice_index_or, suc}
+use Rattle.std.specs.Prelude.{◌&&◌, [], ◌∷◌}
 use Rattle.std.specs.Option.{option_map_or}
 use Rattle.cube_space.specs.Layout.{axes, sizes}
+use Rattle.rule_laws.specs.declared.reference.Arg.{Arg}
+use Rattle.rule_laws.specs.declared.reference.Arg.TheVariants.{Fixed, Moved}
 use Rattle.rule_model.specs.BoundModel.{BoundModel}
-use Rattle.cover_laws.specs.Looking.{sent}
-use Rattle.cover_laws.specs.Covered.{counts_in, each_sent}
+use Rattle.cover_laws.specs.Looking.{Look, sent}
+use Rattle.cover_laws.specs.Covered.{counts_in, each_sent, stands_over}
 use Rattle.feed_cover.specs.declared.back.Back.{Back}
 use Rattle.feed_cover.specs.declared.overs.OneOver.{OneOver}
 use Rattle.feed_cover.specs.declared.reference_view.ReferenceView.{ReferenceView}
@@ -58,3 +61,10 @@ abbrev pub is_sent_back : Back → ℕ → Bool
 is_sent_back back element =
     option_map_or (each_sent (axes back.model.now.space back.view.reference.now.cube) back.place back.to.now
     (counts_over back element)) (sent back.by.now element) true
+
+-- each of these arguments of a feeder, which begin at this dimension, that names one element names one over each narrow
+-- element of the dimension
+abbrev pub fixed_reach : Look → ℕ → List Arg → Bool
+fixed_reach look i [] = true
+fixed_reach look i (Fixed over ∷ args) = stands_over look i over && fixed_reach look (suc i) args
+fixed_reach look i (Moved j to ∷ args) = fixed_reach look (suc i) args

@@ -11,7 +11,7 @@ ghost use Rattle.feed_cover.specs.Views.{IsView, IsSourced};
 
 use crate::named::name_leaves;
 use crate::possible::is_possible;
-use crate::reach::all_reach;
+use crate::reach::reaches_all;
 use crate::reference_view::{Counted, ReferenceView};
 use crate::sourced::{Sourced, has_sources};
 use rule_laws::Reference;
@@ -128,7 +128,7 @@ fn feeds_all<'a>(
     if own != view.reference.cube || feeder.target.cube != view.cube {
         return false;
     }
-    if !all_reach(model, view, &feeder.target, 0) {
+    if !reaches_all(model, view, &feeder.target) {
         return false;
     }
     has_sources(model, view, &feeder.area, known)

@@ -6,7 +6,7 @@ ghost use Rattle.rule_model.specs.Conditions.{IsReference};
 ghost use Rattle.cover_laws.specs.Looking.{sent, each_narrow};
 ghost use Rattle.cover_laws.specs.Covered.{counts_in, each_sent, reaches_from, reaches, all_reach};
 ghost use Rattle.feed_cover.specs.Views.{look_of, IsView};
-ghost use Rattle.feed_cover.specs.Tests.{IsWay};
+ghost use Rattle.feed_cover.specs.Tests.{IsWay, fixed_reach};
 
 use crate::back::{Back, reaches_back};
 use crate::named::each_named;
@@ -68,9 +68,50 @@ fn reaches<'a>(model: &'a Model, view: ReferenceView<'a>, target: &'a Reference,
     }
 }
 
-/// Whether each argument of a feeder from this dimension on does.
+// Whether each argument of a feeder from this dimension on that names one element names one over each narrow element of
+// the dimension.
+#[cycle(fixed_reach)]
+fn fixed_reach<'a>(
+    model: &'a Model,
+    view: ReferenceView<'a>,
+    target: &'a Reference,
+    dim: usize,
+) -> bool
+    requires view { IsView model.now view }
+    requires target { IsReference model.now.space view.reference.now.cube target.now }
+    requires cube { target.now.cube ≡ view.cube }
+    requires dim { dim ≤ length target.now.args }
+    ensures { result ≡ fixed_reach (look_of model.now view.entry) dim (drop dim target.now.args) }
+{
+    let args = target.args.as_slice();
+    if dim == args.len() {
+        return true;
+    }
+    match &args[dim] {
+        Arg::Fixed(over) => StandsOver { model, view, dim }.passes(*over)
+            && fixed_reach(model, view, target, dim + 1),
+        Arg::Moved { .. } => fixed_reach(model, view, target, dim + 1),
+    }
+}
+
+/// Whether each argument of a feeder names an element over each narrow element of its dimension. Those that name one
+/// element come first, since they cost little and tell most feeders apart.
+pub fn reaches_all<'a>(model: &'a Model, view: ReferenceView<'a>, target: &'a Reference) -> bool
+    requires view { IsView model.now view }
+    requires target { IsReference model.now.space view.reference.now.cube target.now }
+    requires cube { target.now.cube ≡ view.cube }
+    ensures { result ≡ all_reach (look_of model.now view.entry)
+        (axes model.now.space view.entry.reference.now.cube) 0 target.now.args }
+{
+    if !fixed_reach(model, view, target, 0) {
+        return false;
+    }
+    all_reach(model, view, target, 0)
+}
+
+// Whether each argument of a feeder from this dimension on does.
 #[cycle(all_reach)]
-pub fn all_reach<'a>(
+fn all_reach<'a>(
     model: &'a Model,
     view: ReferenceView<'a>,
     target: &'a Reference,
