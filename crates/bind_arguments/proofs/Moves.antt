@@ -1,5 +1,5 @@
 -- The cell's own element of the target's dimension, moved by so many places.
-use Rattle.std.proofs.Common.{◌≡◌, ℕ, zero, suc, ◌<◌, ◌≤◌, ◌+◌, ◌-◌, ℤ, pos, negsuc, ◌+ℤ◌, List, length, map, get_or, min, unsigned_abs, Bool, true, false, ◌&&◌, Option, Some, None, All, refl, sym, ap, ◌∙◌, subst, arith, slice_get, slice_index_or, nat_lt, ltb, cond, ◌==◌}
+use Rattle.std.proofs.Common.{◌≡◌, ℕ, zero, suc, ◌<◌, ◌≤◌, ◌+◌, ◌-◌, ℤ, pos, negsuc, ◌+ℤ◌, List, length, map, get_or, min, unsigned_abs, Bool, true, false, Option, Some, None, All, refl, sym, ap, ◌∙◌, subst, arith, slice_get, slice_index_or, nat_lt, ltb, cond, ◌==◌}
 use Rattle.std.specs.Prelude.{if◌then◌else◌, ◌≤ℤ◌, ◌<ℤ◌}
 use Rattle.std.proofs.lemmas.Int.{ints}
 use Rattle.std.proofs.lemmas.Bool.{and_parts, ltb-true, ltb-false, lt-ltb, le-ltb, eqb-true}
@@ -10,7 +10,7 @@ use Rattle.std.proofs.lemmas.Option.{slice_get_past}
 use Rattle.cube_space.specs.Layout.{Layout, dims_of}
 use Rattle.dim_core.specs.Outline.{Outline, IsDimension, index_of, names_of}
 use Rattle.rule_laws.specs.Maps.{behind, before, place_behind, place_before}
-use Rattle.bind_arguments.specs.Bound.{dimension_at, name_at, index_in, followed_step, followed, given_step, name_given, element_given}
+use Rattle.bind_arguments.specs.Bound.{dimension_at, name_at, index_in, followed_step, followed, name_given, element_given}
 use Rattle.bind_arguments.specs.Argument.{size_at, table}
 use Rattle.bind_arguments.specs.Inside.Within.{is_within}
 use Rattle.bind_arguments.specs.Inside.Moves.{IsOwnMove, moved_by}

@@ -2,7 +2,6 @@
 use Rattle.std.proofs.Common.{◌≡◌, refl, sym, ap, ◌∙◌, arith, subst, ℕ, zero, suc, ◌+◌, ◌<◌, ◌≤◌, ◌⊎◌, inl, inr, Bool, true, false, Option, Some, None, ℤ, pos, List, [], ◌∷◌, length, map, drop}
 use Rattle.std.proofs.Math.ListN.{replicate}
 use Rattle.std.specs.Prelude.{slice_get, slice_index_or, ◌==◌, if◌then◌else◌, option_map, unwrap_or, neg_ℤ}
-use Rattle.std.proofs.lemmas.Bool.Decides.{Decides-eqb}
 use Rattle.cube_space.specs.Layout.{Layout, axes, sizes}
 use Rattle.rule_laws.specs.declared.reference.Arg.{Arg}
 use Rattle.rule_laws.specs.declared.reference.Arg.TheVariants.{Fixed, Moved}
@@ -10,14 +9,14 @@ use Rattle.rule_laws.specs.declared.reference.Reference.{Reference}
 use Rattle.rule_laws.specs.Meaning.{Named}
 use Rattle.rule_model.specs.declared.area.Area.{Area}
 use Rattle.rule_model.specs.BoundModel.{BoundModel}
-use Rattle.rule_model.specs.Conditions.{IsArg, IsReference}
+use Rattle.rule_model.specs.Conditions.{IsReference}
 use Rattle.order_laws.specs.Greatest.{plus, larger, greatest, only}
 use Rattle.order_laws.specs.Earlier.{scale_of, moved_sum, excess, greatest_in, set_count, set_element}
 use Rattle.ref_order.specs.declared.question.Question.{Question}
 use Rattle.ref_order.specs.declared.question.Answer.{Answer}
 use Rattle.ref_order.specs.Reads.{precedent_of, test_of}
 use Rattle.ref_order.specs.Known.{followed_by, answer_of, IsRight, AreRight}
-use Rattle.ref_order.proofs.Args.{args-long, arg-at}
+use Rattle.ref_order.proofs.Args.{args-long}
 
 -- ---- arguments
 

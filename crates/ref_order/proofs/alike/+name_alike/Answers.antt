@@ -1,4 +1,4 @@
-use Rattle.std.proofs.Common.{rules, ◌≡◌, ◌∙◌, sym, ap, arith, true, ◌<◌, length}
+use Rattle.std.proofs.Common.{rules, ◌≡◌, ap, arith, true, ◌<◌, length}
 use Rattle.ref_order.proofs.Args.{arg-low}
 use Rattle.ref_order.proofs.Likeness.{as-long, alike-end, alike-more}
 use Rattle.ref_order.proofs.alike.+name_alike.Goals as goal

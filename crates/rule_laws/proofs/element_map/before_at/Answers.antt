@@ -1,6 +1,6 @@
-use Rattle.std.proofs.Common.{rules, arith, ◌<◌, ◌≤◌}
-use Rattle.rule_laws.specs.Maps.{place_behind, place_before}
-use Rattle.rule_laws.proofs.MapFacts.{mapped_past, behind_in, behind_out, before_in, before_out}
+use Rattle.std.proofs.Common.{arith}
+use Rattle.rule_laws.specs.Maps.{place_before}
+use Rattle.rule_laws.proofs.MapFacts.{mapped_past, before_in, before_out}
 use Rattle.rule_laws.proofs.element_map.before_at.Goals as goal
 
 pub returns-then-element-len : goal.returns-then-element-len
