@@ -5,4 +5,5 @@ mod Around
 mod Cubes
 mod NamesGiven
 mod Tables
+mod Moves
 pub mod ArgumentFacts

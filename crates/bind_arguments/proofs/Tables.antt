@@ -133,11 +133,11 @@ module _ (space : Layout) (cube : ℕ) where
 
 -- The cell's own element of the target's dimension.
 
-map_same : {X : Type 0} (f g : ℕ → X) (a n : ℕ) → ((e : ℕ) → e < a + n → f e ≡ g e) → map f (range_with_len a n) ≡ map g (range_with_len a n)
+pub map_same : {X : Type 0} (f g : ℕ → X) (a n : ℕ) → ((e : ℕ) → e < a + n → f e ≡ g e) → map f (range_with_len a n) ≡ map g (range_with_len a n)
 map_same f g a zero h = refl
 map_same f g a (suc n) h = ap (λ x. x ∷ map f (range_with_len (a + 1) n)) (h a (omega arith)) ∙ ap (λ l. g a ∷ l) (map_same f g (a + 1) n (λ e low. h e (omega arith)))
 
-element_is : (d : Outline) (e : ℕ) → IsDimension d → e < length d.elements → option_and_then (index_of d) (slice_get (names_of d.elements) e) ≡ Some e
+pub element_is : (d : Outline) (e : ℕ) → IsDimension d → e < length d.elements → option_and_then (index_of d) (slice_get (names_of d.elements) e) ≡ Some e
 element_is d e valid low =
     let within : e < length (names_of d.elements) = omega (arith, length-map d.elements (λ x. x.name)) in
     ap (option_and_then (index_of d)) (slice_get-get_or (names_of d.elements) e [] within) ∙ place_at (names_of d.elements) valid.distinct e within

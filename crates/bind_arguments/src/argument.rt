@@ -1,4 +1,4 @@
-ghost use Rattle.std.specs.Prelude.{◌≡◌, ◌<◌, ℕ, length, Some, IfOk, IsTrue};
+ghost use Rattle.std.specs.Prelude.{◌≡◌, ◌<◌, ℕ, length, Some, IfOk, IfSome, IsTrue};
 ghost use Rattle.std.specs.Option.{option_map, option_and_then, ok_or};
 ghost use Rattle.cube_space.specs.Cells.{IsSpace};
 ghost use Rattle.cube_space.specs.Layout.{dims_of, sizes};
@@ -11,6 +11,7 @@ ghost use Rattle.bind_arguments.specs.declared.bound_argument.BoundArgument.TheV
 ghost use Rattle.bind_arguments.specs.Argument as bindings;
 ghost use Rattle.bind_arguments.specs.Argument.{argument_of, size_at, table, IsAnsweredBy};
 ghost use Rattle.bind_arguments.specs.Inside.Within.{is_within};
+ghost use Rattle.bind_arguments.specs.Inside.Moves.{IsOwnMove, moved_by};
 ghost use Rattle.bind_arguments.specs.declared.fault.ArgumentFault.TheVariants.{UnknownName};
 
 use crate::binding::bind_element;
@@ -107,9 +108,11 @@ fn elements_from(
 {
     let len = axis_len(space, cube, place);
     if is_own(argument, dim) {
-        Ok(ElementMap::identity(len))
-    } else {
-        elements_given(alloc, space, space.dimension(dim), argument, len)
+        return Ok(ElementMap::identity(len));
+    }
+    match own_move(argument, dim) {
+        Some(shift) => Ok(moved_by(len, shift)),
+        None => elements_given(alloc, space, space.dimension(dim), argument, len),
     }
 }
 
@@ -120,6 +123,39 @@ fn is_own(argument: &BoundArgument, dim: u32) -> bool
     match argument {
         BoundArgument::Current { dim: own, .. } => *own == dim,
         _ => false,
+    }
+}
+
+// By how many places an argument moves the cell's own element of this dimension, if it does only that.
+fn own_move(argument: &BoundArgument, dim: u32) -> Option<i64>
+    ensures { IfSome result (λ shift. IsOwnMove dim shift argument.now) }
+{
+    match argument {
+        BoundArgument::AtPlace {
+            dim: own,
+            source,
+            of,
+            shift,
+        } => {
+            if *own == dim && *source == dim && is_own(of.get(), dim) {
+                Some(*shift)
+            } else {
+                None
+            }
+        }
+        _ => None,
+    }
+}
+
+// Each of so many elements goes to the one so many places behind it, or before it by a number below 0.
+fn moved_by(len: u32, shift: i64) -> ElementMap
+    ensures { result ≡ moved_by len shift }
+{
+    let places = shift.unsigned_abs().min(u64::from(u32::MAX)) as u32;
+    if shift < 0 {
+        ElementMap::before(len, places)
+    } else {
+        ElementMap::behind(len, places)
     }
 }
 

@@ -2,7 +2,6 @@
 use Rattle.std.proofs.Common.{◌≡◌, refl, sym, ap, ◌∙◌, arith, subst, ℕ, zero, suc, ◌+◌, ◌<◌, ◌≤◌, ◌⊎◌, inl, inr, Bool, true, false, Option, Some, None, ℤ, pos, List, [], ◌∷◌, length, map, drop}
 use Rattle.std.proofs.Math.ListN.{replicate}
 use Rattle.std.specs.Prelude.{slice_get, slice_index_or, ◌==◌, if◌then◌else◌, option_map, unwrap_or, neg_ℤ}
-use Rattle.std.proofs.lemmas.Bool.Decides.{Decides-eqb}
 use Rattle.cube_space.specs.Layout.{Layout, axes, sizes}
 use Rattle.rule_laws.specs.declared.reference.Arg.{Arg}
 use Rattle.rule_laws.specs.declared.reference.Arg.TheVariants.{Fixed, Moved}
@@ -10,31 +9,16 @@ use Rattle.rule_laws.specs.declared.reference.Reference.{Reference}
 use Rattle.rule_laws.specs.Meaning.{Named}
 use Rattle.rule_model.specs.declared.area.Area.{Area}
 use Rattle.rule_model.specs.BoundModel.{BoundModel}
-use Rattle.rule_model.specs.Conditions.{IsArg, IsReference}
+use Rattle.rule_model.specs.Conditions.{IsReference}
 use Rattle.order_laws.specs.Greatest.{plus, larger, greatest, only}
 use Rattle.order_laws.specs.Earlier.{scale_of, moved_sum, excess, greatest_in, set_count, set_element}
 use Rattle.ref_order.specs.declared.question.Question.{Question}
 use Rattle.ref_order.specs.declared.question.Answer.{Answer}
 use Rattle.ref_order.specs.Reads.{precedent_of, test_of}
 use Rattle.ref_order.specs.Known.{followed_by, answer_of, IsRight, AreRight}
-use Rattle.ref_order.proofs.Args.{args-long, arg-at}
+use Rattle.ref_order.proofs.Args.{args-long}
 
 -- ---- arguments
-
-followed-long : (source : List ℕ) (size dim : ℕ) (arg : Arg) (to : List (Option ℕ)) → IsArg source size arg → followed_by dim arg ≡ Some to → length to ≡ slice_index_or source dim 0
-followed-long source size dim (Fixed e) to is h = absurd (cc)
-followed-long source size dim (Moved from own) to is h = by (dim == from) refl h
-  where
-    by : (b : Bool) → (dim == from) ≡ b → (if b then Some own else None) ≡ Some to → length to ≡ slice_index_or source dim 0
-    by true e h = let same : own ≡ to = cc in subst (λ (m : List (Option ℕ)). length m ≡ slice_index_or source dim 0) same (is.1 ∙ ap (λ k. slice_index_or source k 0) (sym ((Decides-eqb dim from).0 e)))
-    by false e h = absurd (cc)
-
-pub map-long : (space : Layout) (cube dim : ℕ) (r : Reference) (args : List Arg) (j : ℕ) (arg : Arg) (to : List (Option ℕ)) → IsReference space cube r → args ≡ r.args → j < length r.args → arg ≡ slice_index_or args j arg
-    → followed_by dim arg ≡ Some to → length to ≡ slice_index_or (sizes space cube) dim 0
-map-long space cube dim r args j arg to is same low at h =
-    let here = arg-at (IsArg (sizes space cube)) (sizes space r.cube) r.args j arg is.1 low in
-    let found : slice_index_or r.args j arg ≡ arg = ap (λ xs. slice_index_or xs j arg) (sym same) ∙ sym at in
-    followed-long (sizes space cube) (slice_index_or (sizes space r.cube) j 0) dim arg to (subst (IsArg (sizes space cube) (slice_index_or (sizes space r.cube) j 0)) found here) h
 
 -- two references to one cube have as many arguments
 pub as-long : (space : Layout) (cube : ℕ) (one other : Reference) → IsReference space cube one → IsReference space cube other → one.cube ≡ other.cube → length one.args ≡ length other.args

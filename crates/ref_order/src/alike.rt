@@ -1,4 +1,4 @@
-ghost use Rattle.std.specs.Prelude.{◌≡◌, ℕ, ◌≤◌, IsTrue, List, Option, Some, None, MatchOption, length, map, drop};
+ghost use Rattle.std.specs.Prelude.{◌≡◌, ℕ, ◌≤◌, IsTrue, Some, None, MatchOption, length, map, drop};
 ghost use Rattle.rule_model.specs.declared.area.Area.{Area as AnyArea};
 ghost use Rattle.rule_model.specs.Conditions.{IsReference, IsPrecedent};
 ghost use Rattle.order_laws.specs.Earlier.{excess};
@@ -76,14 +76,12 @@ fn name_alike(
             && name_alike(model, cube, dim, one, other, from + 1))
 }
 
-// Whether two arguments follow a dimension by maps of which it is known at once that they are the same, or both don't.
+// Whether two arguments follow a dimension by maps of which it is known that they are the same, or both don't.
 fn follow_alike(dim: usize, one: &Arg, other: &Arg) -> bool
-    requires { (to by : List (Option ℕ)) → followed_by dim one.now ≡ Some to → followed_by dim other.now ≡ Some by
-        → length to ≡ length by }
     ensures { IsTrue result → followed_by dim one.now ≡ followed_by dim other.now }
 {
     match (map_by(dim, one), map_by(dim, other)) {
-        (Some(to), Some(by)) => to.is_identity() && by.is_identity(),
+        (Some(to), Some(by)) => to.is_same(by),
         (None, None) => true,
         _ => false,
     }

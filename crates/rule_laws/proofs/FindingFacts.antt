@@ -1,5 +1,5 @@
 -- What is found of a formula rests on its references alone, and its operands are counted right.
-use Rattle.std.proofs.Common.{◌≡◌, refl, sym, ◌∙◌, ap, subst, inl, inr, arith, ℕ, zero, suc, ◌+◌, ◌≤◌, Bool, true, false, ◌&&◌, List, [], ◌∷◌, ◌++◌, Option, None, Some}
+use Rattle.std.proofs.Common.{◌≡◌, refl, ◌∙◌, ap, subst, inl, inr, arith, ℕ, zero, suc, ◌+◌, ◌≤◌, Bool, true, false, ◌&&◌, List, [], ◌∷◌, ◌++◌, Option, None, Some}
 use Rattle.std.specs.List.{Contains}
 use Rattle.std.specs.Prelude.{IsTrue, ◌↔◌}
 use Rattle.std.proofs.lemmas.List.Elements.{Contains-push, Contains-append_left, Contains-append_right, Contains-append_cases}
@@ -12,8 +12,8 @@ use Rattle.rule_laws.specs.declared.formula.Formula.{Formula}
 use Rattle.rule_laws.specs.declared.formula.Truth.{Truth}
 use Rattle.rule_laws.specs.declared.formula.Formula.TheOpen.{Formula-F, Truth-F}
 use Rattle.rule_laws.specs.Meaning.{Precedent, Named, Components, precedents_step, truth_precedents_step, precedents, truth_precedents, each_reference_step, each_reference_truth_step, each_reference}
-use Rattle.rule_laws.specs.ZeroTest.{of_operation, of_function, of_choice, is_divisor, first_blamed, blamed_side, blamed_branch, finding_step, truth_finding_step, finding, truth_finding, operands_step, truth_operands_step, operands}
-use Rattle.rule_laws.proofs.Folds.{Given, GivenTruth, Layers, TruthLayers, by_layers, by_layers_truth}
+use Rattle.rule_laws.specs.ZeroTest.{of_function, of_choice, is_divisor, first_blamed, blamed_side, blamed_branch, finding_step, truth_finding_step, finding, truth_finding, operands_step, truth_operands_step, operands}
+use Rattle.rule_laws.proofs.Folds.{Layers, TruthLayers, by_layers, by_layers_truth}
 use Rattle.rule_laws.proofs.FormulaFacts.{each_left, each_right}
 use Rattle.rule_laws.proofs.SystemFacts.{both}
 use Rattle.std.proofs.lemmas.Bool.{and_from as and_true}

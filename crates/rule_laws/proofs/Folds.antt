@@ -1,5 +1,5 @@
 -- Three folds over formulas give what stands in a relation, where each layer keeps it.
-use Rattle.std.proofs.Common.{◌≡◌, subst}
+use Rattle.std.proofs.Common.{subst}
 use Rattle.rule_laws.specs.declared.formula.Formula.{Formula}
 use Rattle.rule_laws.specs.declared.formula.Formula.TheFolds.{fold-Formula, fold-Truth, fold-roll-Formula, fold-roll-Truth, ind-Formula, ind-Truth, map-Formula, map-Truth}
 use Rattle.rule_laws.specs.declared.formula.Formula.TheOpen.{Formula-F, Truth-F}

@@ -8,7 +8,7 @@ use Rattle.rule_laws.specs.declared.formula.Formula.{Formula}
 use Rattle.rule_laws.specs.declared.formula.Formula.TheOpen.{Formula-F, Truth-F}
 use Rattle.rule_laws.specs.Operation.{function_of}
 use Rattle.rule_laws.specs.Meaning.{Others, value_step, truth_step, formula_value, Precedent, Named, Components, precedents_step, truth_precedents_step, precedents}
-use Rattle.rule_laws.proofs.Folds.{Given, GivenTruth, Layers, TruthLayers, by_layers}
+use Rattle.rule_laws.proofs.Folds.{Layers, TruthLayers, by_layers}
 
 -- a test of precedents that holds of all of two lists holds of each
 pub each_left : {X : Type 0} (P : X → Type 0) (xs ys : List X) → ((x : X) → Contains (xs ++ ys) x → P x) → (x : X) → Contains xs x → P x

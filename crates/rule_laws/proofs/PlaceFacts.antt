@@ -1,11 +1,11 @@
 -- What is ordered by position and level reads less deep cells alone.
-use Rattle.std.proofs.Common.{◌≡◌, refl, arith, ℕ, ◌+◌, ◌*◌, ◌<◌, ◌≤◌, Bool, Some, inl, inr, ◌⊎◌}
+use Rattle.std.proofs.Common.{◌≡◌, arith, ℕ, ◌+◌, ◌*◌, ◌<◌, ◌≤◌, Bool, Some, inl, inr, ◌⊎◌}
 use Rattle.std.specs.List.{All}
 use Rattle.std.proofs.lemmas.List.Elements.{All-weaker}
 use Rattle.rule_laws.specs.declared.formula.Formula.{Formula}
 use Rattle.rule_laws.specs.Meaning.{Precedent, Named, Components, precedents}
 use Rattle.rule_laws.specs.RuleSystem.{RuleSystem, Rule, IsCell, part_of, depth}
-use Rattle.rule_laws.specs.Ordered.{IsWellFormed, IsCellOf, HasPrecedent, Throughout, IsOrderedRule, IsOrdered}
+use Rattle.rule_laws.specs.Ordered.{IsWellFormed, HasPrecedent, Throughout, IsOrderedRule, IsOrdered}
 use Rattle.rule_laws.specs.OrderByPlace.{Positions, IsDecidedByPosition, IsDecidedByLevel, IsOrderedByPlace, IsRankedBy}
 use Rattle.std.proofs.lemmas.List.Elements.{All-contains}
 

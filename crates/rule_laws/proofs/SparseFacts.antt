@@ -17,7 +17,6 @@ use Rattle.rule_laws.specs.Meaning.{Named, precedents}
 use Rattle.rule_laws.specs.RuleSystem.{RuleSystem, Rule, Stored, IsCell, IsLeafCell, applies, part_of, part_at, governing, weighted_sum, base, named, others, value_at, value_by, depth, dense_value}
 use Rattle.rule_laws.specs.Ordered.{IsWellFormed, IsCellOf, Throughout, IsOrderedRule, IsOrdered}
 use Rattle.rule_laws.specs.Feeding.{leaves_of, IsDenseCell, Feeds, IsStart, IsFed}
-use Rattle.rule_laws.specs.ZeroTest.{zero_test}
 use Rattle.rule_laws.specs.Cover.{IsCoveredReference, IsCoveredRule, IsCovered}
 use Rattle.rule_laws.proofs.SystemFacts.{each, both, weighted_sum-agree, add_pair, CountsAlike, part_at-given, below-depth, dense_value-solves}
 use Rattle.rule_laws.proofs.StatementFacts.{value_by-ungoverned}

@@ -1,6 +1,6 @@
 -- The right sides of an ordered system are grounded.
-use Rattle.std.proofs.Common.{◌≡◌, refl, sym, ◌∙◌, ap, arith, ℕ, suc, ◌+◌, ◌*◌, ◌<◌, ◌≤◌, ℤ, pos, Bool, true, false, ◌&&◌, List, [], ◌∷◌, get_or, Option, None, Some, inl, inr, ◌⊎◌, ◌+ℤ◌, ◌*ℤ◌}
-use Rattle.std.specs.Prelude.{find, fold}
+use Rattle.std.proofs.Common.{◌≡◌, refl, sym, ◌∙◌, ap, arith, ℕ, ◌+◌, ◌*◌, ◌<◌, ◌≤◌, ℤ, pos, Bool, true, false, List, [], ◌∷◌, get_or, Option, None, Some, inl, inr, ◌⊎◌, ◌+ℤ◌, ◌*ℤ◌}
+use Rattle.std.specs.Prelude.{fold}
 use Rattle.std.specs.Ordering.{int_eq}
 use Rattle.std.specs.List.{All, Contains}
 use Rattle.std.proofs.lemmas.Bool.Decides.{Decides-int_eq}
@@ -14,8 +14,8 @@ use Rattle.cube_fixed.specs.Arithmetic.{zero_value}
 use Rattle.cube_fixed.specs.Total.{Total, no_terms, with_term, value_of}
 use Rattle.rule_laws.specs.declared.reference.Reference.{Reference}
 use Rattle.rule_laws.specs.declared.formula.Formula.{Formula}
-use Rattle.rule_laws.specs.Meaning.{Others, formula_value, Precedent, Named, Components, precedents}
-use Rattle.rule_laws.specs.RuleSystem.{RuleSystem, Rule, Stored, IsCell, IsLeafCell, part_of, applies, part_at, weighted_sum, base, children_value, named, others, value_at, value_by, right_side, SolvesRules, depth, dense_value}
+use Rattle.rule_laws.specs.Meaning.{Others, Precedent, Named, Components, precedents}
+use Rattle.rule_laws.specs.RuleSystem.{RuleSystem, Rule, Stored, IsCell, IsLeafCell, part_of, applies, part_at, weighted_sum, base, children_value, named, others, value_by, right_side, SolvesRules, depth, dense_value}
 use Rattle.rule_laws.specs.Ordered.{IsWellFormed, IsCellOf, HasPrecedent, Throughout, IsOrderedRule, IsOrdered}
 use Rattle.rule_laws.proofs.FormulaFacts.{Alike, formula_value-agree}
 pub use Rattle.std.proofs.lemmas.Bool.{and_parts as both}

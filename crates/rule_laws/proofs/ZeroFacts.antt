@@ -22,7 +22,7 @@ use Rattle.rule_laws.specs.declared.operation.Rel.{Rel}
 use Rattle.rule_laws.specs.Operation.{operation_of, function_of, comparison_of}
 use Rattle.rule_laws.specs.Meaning.{Others, value_step, truth_step, formula_value, Precedent, Named, precedents_step, truth_precedents_step, precedents}
 use Rattle.rule_laws.specs.ZeroTest.{written_as, is_other_than_zero, is_divisor, known_value, sure_comparison, sure_and, sure_or, zero_operation, zero_choice, finding_step, truth_finding_step, zero_test}
-use Rattle.rule_laws.proofs.Folds.{Given, GivenTruth, Layers, TruthLayers, by_layers}
+use Rattle.rule_laws.proofs.Folds.{Layers, TruthLayers, by_layers}
 use Rattle.rule_laws.proofs.SystemFacts.{both}
 
 -- each of the references that is covered is 0

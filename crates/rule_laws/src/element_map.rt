@@ -1,12 +1,12 @@
-ghost use Rattle.std.specs.Prelude.{◌≡◌, None, unwrap_or, slice_get};
-ghost use Rattle.rule_laws.specs.Maps.{identity};
+ghost use Rattle.std.specs.Prelude.{◌≡◌, None, unwrap_or, slice_get, IsTrue};
+ghost use Rattle.rule_laws.specs.Maps.{identity, behind, before};
 
 use lists::ListOf;
 use std::marker::Model;
 
 /// For each element of a dimension, by index, an element of another one, or none.
 ///
-/// Most references keep an element or move to one of the same index, so the identity takes no memory.
+/// Most references keep an element or move by so many places, so these maps take no memory.
 #[derive(Drop)]
 pub struct ElementMap {
     form: Form,
@@ -18,6 +18,10 @@ pub(crate) enum Form {
     Identity(u32),
     /// None of so many elements goes anywhere.
     Nowhere(u32),
+    /// Each of so many elements goes to the one so many places behind it, where there is one.
+    Behind(u32, u32),
+    /// Each of so many elements goes to the one so many places before it, where there is one.
+    Before(u32, u32),
     Listed(ListOf<Option<u32>>),
 }
 
@@ -32,7 +36,7 @@ impl Model for ElementMap {
 
 impl ElementMap {
     ghost use Rattle.std.specs.Prelude.{◌≡◌, Some, None, length, unwrap_or, slice_get, IsTrue};
-    ghost use Rattle.rule_laws.specs.Maps.{identity, nowhere};
+    ghost use Rattle.rule_laws.specs.Maps.{identity, nowhere, behind, before};
 
     /// Each of so many elements goes to the one of the same index.
     pub fn identity(len: u32) -> ElementMap
@@ -49,6 +53,24 @@ impl ElementMap {
     {
         ElementMap {
             form: Form::Nowhere(len),
+        }
+    }
+
+    /// Each of so many elements goes to the one so many places behind it, where there is one.
+    pub fn behind(len: u32, places: u32) -> ElementMap
+        ensures { result ≡ behind len places }
+    {
+        ElementMap {
+            form: Form::Behind(len, places),
+        }
+    }
+
+    /// Each of so many elements goes to the one so many places before it, where there is one.
+    pub fn before(len: u32, places: u32) -> ElementMap
+        ensures { result ≡ before len places }
+    {
+        ElementMap {
+            form: Form::Before(len, places),
         }
     }
 
@@ -69,6 +91,8 @@ impl ElementMap {
         match &self.form {
             Form::Identity(len) => same_below(*len, element),
             Form::Nowhere(_) => None,
+            Form::Behind(len, places) => behind_at(*len, *places, element),
+            Form::Before(len, places) => before_at(*len, *places, element),
             Form::Listed(targets) => listed_at(targets.as_slice(), element),
         }
     }
@@ -80,6 +104,22 @@ impl ElementMap {
     {
         matches!(self.form, Form::Identity(_))
     }
+
+    /// Whether both are the same, as far as it is known by how they were made, or by what they list.
+    pub fn is_same(&self, other: &ElementMap) -> bool
+        ensures { IsTrue result → self.now ≡ other.now }
+    {
+        match (&self.form, &other.form) {
+            (Form::Identity(len), Form::Identity(its)) => len == its,
+            (Form::Nowhere(len), Form::Nowhere(its)) => len == its,
+            (Form::Behind(len, places), Form::Behind(its, other)) => len == its && places == other,
+            (Form::Before(len, places), Form::Before(its, other)) => len == its && places == other,
+            (Form::Listed(targets), Form::Listed(its)) => {
+                are_equal(targets.as_slice(), its.as_slice())
+            }
+            _ => false,
+        }
+    }
 }
 
 fn same_below(len: u32, element: usize) -> Option<u32>
@@ -90,6 +130,40 @@ fn same_below(len: u32, element: usize) -> Option<u32>
     } else {
         None
     }
+}
+
+fn behind_at(len: u32, places: u32, element: usize) -> Option<u32>
+    ensures { result ≡ unwrap_or (slice_get (behind len places) element) None }
+{
+    if element >= len as usize {
+        return None;
+    }
+    let element = element as u32;
+    if places < len - element {
+        Some(element + places)
+    } else {
+        None
+    }
+}
+
+fn before_at(len: u32, places: u32, element: usize) -> Option<u32>
+    ensures { result ≡ unwrap_or (slice_get (before len places) element) None }
+{
+    if element >= len as usize {
+        return None;
+    }
+    let element = element as u32;
+    if element < places {
+        None
+    } else {
+        Some(element - places)
+    }
+}
+
+fn are_equal(targets: &[Option<u32>], its: &[Option<u32>]) -> bool
+    ensures { IsTrue result → targets.now ≡ its.now }
+{
+    targets == its
 }
 
 fn listed_at(targets: &[Option<u32>], element: usize) -> Option<u32>

@@ -1,6 +1,6 @@
-use Rattle.std.proofs.Common.{rules, ◌≡◌, ◌∙◌, sym, ap, arith, true, ◌<◌, length}
+use Rattle.std.proofs.Common.{rules, ◌≡◌, ap, arith, true, ◌<◌, length}
 use Rattle.ref_order.proofs.Args.{arg-low}
-use Rattle.ref_order.proofs.Likeness.{map-long, as-long, alike-end, alike-more}
+use Rattle.ref_order.proofs.Likeness.{as-long, alike-end, alike-more}
 use Rattle.ref_order.proofs.alike.+name_alike.Goals as goal
 
 pub bounds-its-from : goal.bounds-its-from
@@ -8,15 +8,6 @@ bounds-its-from t c =
     let long = as-long c.args.model.now.space c.args.cube c.args.one.now c.args.other.now c.requires.one c.requires.other c.requires.cube in
     let low : c.args.from < length c.args.one.now.args = arg-low c.args.from c.as_slice-own.result.now c.args.one.now.args c.as_slice-own.ensures c.if-from-own.false c.requires.from in
     omega (arith, long, low, ap length c.as_slice-its.ensures)
-
-pub follow_alike-requires : goal.follow_alike-requires
-follow_alike-requires t c =
-    λ to by own its.
-    let long = as-long c.args.model.now.space c.args.cube c.args.one.now c.args.other.now c.requires.one c.requires.other c.requires.cube in
-    let low : c.args.from < length c.args.one.now.args = arg-low c.args.from c.as_slice-own.result.now c.args.one.now.args c.as_slice-own.ensures c.if-from-own.false c.requires.from in
-    let less : c.args.from < length c.args.other.now.args = omega (arith, long, low) in
-    map-long c.args.model.now.space c.args.cube c.args.dim c.args.one.now c.as_slice-own.result.now c.args.from c.index-own-from.result to c.requires.one c.as_slice-own.ensures low c.index-own-from.is own
-    ∙ sym (map-long c.args.model.now.space c.args.cube c.args.dim c.args.other.now c.as_slice-its.result.now c.args.from c.index-its-from.result by c.requires.other c.as_slice-its.ensures less c.index-its-from.is its)
 
 pub returns-then-from-own : goal.returns-then-from-own
 returns-then-from-own t c =

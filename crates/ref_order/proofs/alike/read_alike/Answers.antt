@@ -1,4 +1,4 @@
-use Rattle.std.proofs.Common.{rules, ◌≡◌, ◌∙◌, sym, ap}
+use Rattle.std.proofs.Common.{◌∙◌, sym, ap}
 use Rattle.order_laws.specs.Earlier.{excess}
 use Rattle.ref_order.specs.declared.reads.Read.{Read}
 use Rattle.ref_order.specs.Reads.{precedent_of}

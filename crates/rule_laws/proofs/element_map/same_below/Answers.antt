@@ -1,4 +1,4 @@
-use Rattle.std.proofs.Common.{rules, arith, ◌<◌, ◌≤◌}
+use Rattle.std.proofs.Common.{arith}
 use Rattle.rule_laws.proofs.MapFacts.{inside, outside}
 use Rattle.rule_laws.proofs.element_map.same_below.Goals as goal
 
