@@ -1,7 +1,8 @@
 ghost use Rattle.std.specs.Prelude.{◌≡◌, ℕ, suc, ◌≤◌, ◌⊎◌, [], Ok, Err, IfOk, IfErr, IsOkUnless, length, All, Contains};
 ghost use Rattle.cell_store.specs.Cells.{IsUnion};
 ghost use Rattle.cell_store.specs.Entries.{cells_of};
-ghost use Rattle.feed_map.specs.FedCells.{AreFedCells, HasFewFed, HasManyFed, IsFeeding, IsStoredChange, most_fed, without};
+ghost use Rattle.feed_map.specs.FedCells.{AreFedCells, HasFewFed, HasManyFed, IsFeeding, IsStoredChange};
+ghost use Rattle.feed_map.specs.FedCells.{most_fed, without};
 ghost use Rattle.feed_map.specs.Inside.Follows.{IsReach};
 
 use crate::dense::add_dense;

@@ -39,7 +39,8 @@ fn find_risk(
     reached: &mut Reached,
     steps: &mut u64,
 ) -> Result<Vec<u64>, GivenUp>
-    requires open { (cell : ℕ) → Contains reached.old.growth.known cell → Contains reached.old.growth.opened.items cell }
+    requires open { (cell : ℕ) → Contains reached.old.growth.known cell
+        → Contains reached.old.growth.opened.items cell }
     requires few { length reached.old.growth.known ≤ most_fed }
     requires totals { AreOpened model.now reached.old.totals reached.old.growth }
     ensures { IfOk result (λ risk. HaveRisk model.now base.now store.now reached.old.growth risk.items) }
