@@ -21,12 +21,12 @@ pair_of reading = (reading.name.items, reading.bytes.items)
 pub viewed-push : (files : List Reading) (reading : Reading) → viewed (files ++ reading ∷ []) ≡ (reading.name.items, reading.bytes.items) ∷ viewed files
 viewed-push files reading = ap reverse (map-append pair_of files (reading ∷ [])) ∙ reverse-append (map pair_of files) (pair_of reading ∷ [])
 
-got-before : {A : Type 0} (xs : List A) (x : A) (i : ℕ) → i < length xs → slice_get (xs ++ x ∷ []) i ≡ slice_get xs i
+pub got-before : {A : Type 0} (xs : List A) (x : A) (i : ℕ) → i < length xs → slice_get (xs ++ x ∷ []) i ≡ slice_get xs i
 got-before [] x i below = absurd (omega arith)
 got-before (y ∷ ys) x zero below = refl
 got-before (y ∷ ys) x (suc i) below = got-before ys x i (omega arith)
 
-got-last : {A : Type 0} (xs : List A) (x : A) → slice_get (xs ++ x ∷ []) (length xs) ≡ Some x
+pub got-last : {A : Type 0} (xs : List A) (x : A) → slice_get (xs ++ x ∷ []) (length xs) ≡ Some x
 got-last [] x = refl
 got-last (y ∷ ys) x = got-last ys x
 

@@ -4,3 +4,4 @@ pub mod ScriptFacts
 pub mod UserFacts
 pub mod Judgements
 pub mod ReadyFacts
+mod RecordFacts

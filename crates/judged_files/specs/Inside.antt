@@ -1,2 +1,3 @@
 -- What the functions that judge promise one another.
 pub mod Judging
+pub mod Kept

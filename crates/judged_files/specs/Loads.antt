@@ -8,6 +8,7 @@ use Rattle.std.specs.declared.sync.Arc.{Arc}
 use Rattle.dim_name.specs.Name.{has_name, place_of}
 use Rattle.file_passes.specs.Pass.{Source, source_of, Judgement}
 use Rattle.user_text.specs.Rows.{rows_of}
+use Rattle.user_text.specs.Jobs.{rows_in}
 use Rattle.user_text.specs.declared.load_job.LoadJob.{LoadJob}
 use Rattle.script_bound.specs.declared.script.BoundScript.{BoundScript}
 use Rattle.user_session.specs.declared.command.PlanCommand.{PlanCommand}
@@ -58,7 +59,7 @@ pub record IsLoad (scripts : Scripts) (sources : List Source) (load : LoadText) 
     : Type 0 where
   pub place : place_of scripts.names load.script ≡ Some job.script
   pub script : slice_get scripts.bound job.script ≡ Some bound
-  pub records : records_of sources load.file load.skip ≡ Some job.rows
+  pub records : records_of sources load.file load.skip ≡ Some (rows_in job)
   pub params : job.params ≡ load.params
 
 abbrev pub IsLoadCommand : Scripts → List Source → LoadText → PlanCommand → Type 0

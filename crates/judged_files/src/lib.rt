@@ -5,6 +5,7 @@
 //! `specs/Refusals.antt`, and which commands are run in `specs/Loads.antt`.
 #![tactic(auto)]
 
+mod file_records;
 mod loads;
 mod models;
 mod refusing;

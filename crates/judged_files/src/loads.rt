@@ -1,17 +1,19 @@
-ghost use Rattle.std.specs.Prelude.{◌≡◌, ◌++◌, All, IfOk, IfSome, IsSome, Some};
+ghost use Rattle.std.specs.Prelude.{◌≡◌, ◌++◌, ℕ, All, IfOk, IfSome, IsSome, Some, drop};
 ghost use Rattle.std.specs.List.{AllZip};
 ghost use Rattle.cube_words.specs.Words.{texts_of};
 ghost use Rattle.file_passes.specs.Pass.{source_of};
 ghost use Rattle.judged_files.specs.Loads.{user_files, record_files, records_of, IsLoadCommand, IsCommand};
+ghost use Rattle.user_text.specs.Jobs.{shared_records};
 ghost use Rattle.judged_files.specs.Loads.{AreCommands, IsReady, IsReadyLoad, AreReady};
 
+use crate::file_records::{FileRecords, SharedRecords};
 use crate::scripts::Scripts;
-use file_passes::{Source, file_name, source_of};
+use file_passes::{Source, file_name};
 use lists::ListOf;
 use std::alloc::{AllocError, Global};
 use std::sync::Arc;
 use user_session::PlanCommand;
-use user_text::{LoadJob, LoadText, UserBody, UserCommand, rows};
+use user_text::{LoadJob, LoadText, UserBody, UserCommand};
 
 /// The names of the files of all records, in the order of users and commands.
 pub fn record_files(alloc: Global, users: &[ListOf<UserCommand>]) -> Result<Vec<String>, AllocError>
@@ -47,11 +49,26 @@ fn add_files(
     Ok(())
 }
 
-/// The commands of all users as they are run. The scripts and the files of their loads are there.
+/// The commands of all users as they are run. The scripts and the files of their loads are there. Each file of records
+/// is read as records once, for all loads of it.
 pub fn commands_of(
     alloc: Global,
     scripts: &Scripts,
     sources: &[Source<'_>],
+    users: ListOf<ListOf<UserCommand>>,
+) -> Result<ListOf<ListOf<PlanCommand>>, AllocError>
+    requires { All (AreReady scripts.now sources.now) users }
+    ensures { IfOk result (λ commands. AllZip (AreCommands scripts.now sources.now) users commands) }
+{
+    let sources = FileRecords::new(alloc, sources)?;
+    all_commands(alloc, scripts, &sources, users)
+}
+
+// The commands of all users.
+fn all_commands(
+    alloc: Global,
+    scripts: &Scripts,
+    sources: &FileRecords<'_, '_>,
     users: ListOf<ListOf<UserCommand>>,
 ) -> Result<ListOf<ListOf<PlanCommand>>, AllocError>
     requires { All (AreReady scripts.now sources.now) users }
@@ -69,7 +86,7 @@ pub fn commands_of(
 fn user_commands(
     alloc: Global,
     scripts: &Scripts,
-    sources: &[Source<'_>],
+    sources: &FileRecords<'_, '_>,
     texts: ListOf<UserCommand>,
 ) -> Result<ListOf<PlanCommand>, AllocError>
     requires { AreReady scripts.now sources.now texts }
@@ -86,7 +103,7 @@ fn user_commands(
 fn command_of(
     alloc: Global,
     scripts: &Scripts,
-    sources: &[Source<'_>],
+    sources: &FileRecords<'_, '_>,
     body: UserBody,
 ) -> Result<PlanCommand, AllocError>
     requires { IsReady scripts.now sources.now body }
@@ -104,17 +121,17 @@ fn command_of(
 fn load_command(
     alloc: Global,
     scripts: &Scripts,
-    sources: &[Source<'_>],
+    sources: &FileRecords<'_, '_>,
     load: LoadText,
 ) -> Result<PlanCommand, AllocError>
     requires { IsReadyLoad scripts.now sources.now load }
     ensures { IfOk result (λ command. IsLoadCommand scripts.now sources.now load command) }
 {
     let (script, bound) = scripts.named(&load.script);
-    let rows = records_of(alloc, sources, &load.file, load.skip)?;
     let job = LoadJob {
         script,
-        rows: ListOf::new(rows),
+        records: records_of(sources, &load.file)?,
+        skip: load.skip,
         params: load.params,
     };
     Ok(PlanCommand::Load(job, Arc::try_clone(bound)?))
@@ -122,19 +139,18 @@ fn load_command(
 
 // The records of a load's file, which is among those that were read.
 fn records_of(
-    alloc: Global,
-    sources: &[Source<'_>],
+    sources: &FileRecords<'_, '_>,
     file: &Option<ListOf<u8>>,
-    skip: u32,
-) -> Result<Vec<ListOf<ListOf<u8>>>, AllocError>
+) -> Result<Option<SharedRecords>, AllocError>
     requires { IfSome file.now (λ name. IsSome (source_of sources.now name)) }
-    ensures { IfOk result (λ records. records_of sources.now file.now skip ≡ Some records.items) }
+    ensures { IfOk result (λ records. (skip : ℕ)
+        → records_of sources.now file.now skip ≡ Some (drop skip (shared_records records))) }
 {
     match file {
         Some(name) => {
-            let source = source_of(sources, name.as_slice()).unwrap();
-            rows(alloc, source.bytes(), skip)
+            let records = sources.records(name.as_slice())?;
+            Ok(Some(records))
         }
-        None => Ok(Vec::new(alloc)),
+        None => Ok(None),
     }
 }

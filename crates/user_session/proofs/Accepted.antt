@@ -13,6 +13,7 @@ use Rattle.cell_writes.specs.Writes.{last_writes}
 use Rattle.cube_space.specs.Cells.{IsCell, is_leaf_cell}
 use Rattle.feed_map.specs.FedCells.{most_fed}
 use Rattle.load_cells.specs.Loads.{store_of}
+use Rattle.user_text.specs.Jobs.{rows_in}
 use Rattle.user_text.specs.declared.load_job.LoadJob.{LoadJob}
 use Rattle.history.specs.declared.effect.Effect.TheVariants.{Commit}
 use Rattle.rule_model.specs.BoundModel.{BoundModel}
@@ -75,9 +76,9 @@ load-within : (content : Content) (job : LoadJob) (script : BoundScript) (writes
     → AreWithin content writes
 load-within content job script writes reply is =
     let store = store_of content.model content.stored in
-    let outcome = load script job.params job.rows store [] in
+    let outcome = load script job.params (rows_in job) store [] in
     let kept : AreWithin content (writes_of outcome) =
-    load_keeps store (AreWithin content) (λ before after cube elements value within written. write-kept content before after within cube elements value written) script job.params job.rows [] (before-writes content) in
+    load_keeps store (AreWithin content) (λ before after cube elements value within written. write-kept content before after within cube elements value written) script job.params (rows_in job) [] (before-writes content) in
     ended-within content (ran_of outcome) (writes_of outcome) writes reply kept is
 
 -- ---- questions write nothing

@@ -18,6 +18,7 @@ use Rattle.feed_map.specs.FedCells.{most_fed}
 use Rattle.history.specs.declared.effect.Effect.{Effect}
 use Rattle.history.specs.declared.effect.Effect.TheVariants as effects
 use Rattle.load_cells.specs.Loads.{store_of}
+use Rattle.user_text.specs.Jobs.{rows_in}
 use Rattle.user_text.specs.declared.load_job.LoadJob.{LoadJob}
 use Rattle.rule_laws.specs.RuleSystem.{dense_value}
 use Rattle.rule_model.specs.BoundModel.{BoundModel}
@@ -108,7 +109,7 @@ ended_effect (Stopped section row statement reason) writes =
 -- a load of a script over records, from no writes
 abbrev pub load_effect : Content → LoadJob → BoundScript → PlanEffect
 load_effect content job script =
-    let outcome = load script job.params job.rows (store_of content.model content.stored) [] in
+    let outcome = load script job.params (rows_in job) (store_of content.model content.stored) [] in
     ended_effect (ran_of outcome) (writes_of outcome)
 
 -- a question for a table: the table that its text means, or why it means none

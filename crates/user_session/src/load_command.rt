@@ -28,7 +28,7 @@ pub(crate) fn load(
 {
     let work = Work::over(alloc, state)?;
     let mut cells = LoadCells::new(work);
-    match run(alloc, script, job.rows.as_slice(), &job.params, &mut cells)? {
+    match run(alloc, script, job.rows(), &job.params, &mut cells)? {
         Ran::Done => {
             let writes = cells.into_work().writes(alloc)?;
             committed(alloc, writes)

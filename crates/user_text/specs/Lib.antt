@@ -3,3 +3,4 @@ pub mod Counting
 pub mod Answers
 pub mod Readers
 pub mod Rows
+pub mod Jobs

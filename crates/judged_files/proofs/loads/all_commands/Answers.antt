@@ -3,7 +3,7 @@ use Rattle.std.specs.Vec.Iter.{into_iter_items}
 use Rattle.dim_core.proofs.BadAttributes.{taken_front, nothing_left}
 use Rattle.judged_files.specs.Loads.{AreReady}
 use Rattle.judged_files.proofs.ReadyFacts.{all-here}
-use Rattle.judged_files.proofs.loads.commands_of.Goals as goal
+use Rattle.judged_files.proofs.loads.all_commands.Goals as goal
 
 pub user_commands-requires : goal.user_commands-requires
 user_commands-requires c =

@@ -2,7 +2,7 @@ use Rattle.std.proofs.Common.{List, ◌++◌}
 use Rattle.std.specs.List.{AllZip}
 use Rattle.user_session.specs.declared.command.PlanCommand.{PlanCommand}
 use Rattle.judged_files.specs.Loads.{AreCommands}
-use Rattle.judged_files.proofs.loads.commands_of.Given as goal
+use Rattle.judged_files.proofs.loads.all_commands.Given as goal
 
 -- whatever the rest comes to comes behind the users so far
 abbrev pub invariant-loop-texts : goal.invariant-loop-texts
