@@ -140,8 +140,8 @@ pub place-there : (sources : List Source) (names : List (List ℕ)) (kept : Kept
 place-there sources names kept name are there_is = by (position (λ other. bytes_eq other name) names) refl (source_of sources name) refl there_is
   where
     by : (o : Option ℕ) → position (λ other. bytes_eq other name) names ≡ o → (found : Option Source) → source_of sources name ≡ found → IsSome found → IsSome (position (λ other. bytes_eq other name) names)
-    by (Some i) at found is has = subst IsSome (sym at) tt
-    by None at None is has = absurd has
+    by (Some i) at found is has = subst IsSome (sym at) refl
+    by None at None is has = absurd (cc has)
     by None at (Some source) is has =
         let none : None ≡ Some (rows_of 0 source.1) =
         sym (ap (option_and_then (λ place. slice_get (values kept) place)) at) ∙ are.found name ∙ ap (option_map (λ source. rows_of 0 source.1)) is in

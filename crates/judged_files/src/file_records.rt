@@ -85,5 +85,6 @@ fn add(
     }
     let records = rows(alloc, source.bytes(), 0)?;
     kept.push(Arc::new(alloc, ListOf::new(records))?)?;
-    names.push(alloc, name)
+    names.push(alloc, name)?;
+    Ok(())
 }

@@ -60,7 +60,9 @@ pub fn commands_of(
     requires { All (AreReady scripts.now sources.now) users }
     ensures { IfOk result (λ commands. AllZip (AreCommands scripts.now sources.now) users commands) }
 {
-    let sources = FileRecords::new(alloc, sources)?;
+    let Ok(sources) = FileRecords::new(alloc, sources) else {
+        return Err(AllocError);
+    };
     all_commands(alloc, scripts, &sources, users)
 }
 
