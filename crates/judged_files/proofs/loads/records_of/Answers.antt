@@ -1,11 +1,17 @@
-use Rattle.std.proofs.Common.{◌≡◌, ◌∙◌, Some, ap, sym, subst}
+use Rattle.std.proofs.Common.{◌≡◌, ℕ, List, Some, option_map, ap, sym, subst}
 use Rattle.std.specs.Arc.{arc_value}
 use Rattle.file_passes.specs.Pass.{source_of}
+use Rattle.user_text.specs.Rows.{rows_of}
 use Rattle.judged_files.proofs.RecordFacts.{records-behind, nothing-behind}
 use Rattle.judged_files.proofs.loads.records_of.Goals as goal
 
 pub returns-in_ok-records-in-Some : goal.returns-in_ok-records-in-Some
-returns-in_ok-records-in-Some c skip = records-behind (source_of c.args.sources.now c.in-Some.name.now) (arc_value c.in_ok-records-in-Some.records) skip c.in_ok-records-in-Some.ensures
+returns-in_ok-records-in-Some c skip =
+    let sources = c.args.sources.now in
+    let records = arc_value c.in_ok-records-in-Some.records in
+    let here : option_map (λ source. rows_of 0 source.1) (source_of sources c.in-Some.name) ≡ Some records =
+    subst (λ (n : List ℕ). option_map (λ source. rows_of 0 source.1) (source_of sources n) ≡ Some records) c.as_slice.ensures c.in_ok-records-in-Some.ensures in
+    rw c.in-Some.is (records-behind (source_of sources c.in-Some.name) records skip here)
 
 pub returns-in-None : goal.returns-in-None
-returns-in-None c skip = ap Some (sym (nothing-behind skip))
+returns-in-None c skip = rw c.in-None.is (ap Some (sym (nothing-behind skip)))
