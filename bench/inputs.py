@@ -186,6 +186,41 @@ def overfed_total(folder, n):
     return write(folder, m_txt=m, r_rux=r, x_csv=csv, put_ti="DATA:\nCellPutN(V4, 'C', V1, V2, V3);\n", u_txt=u)
 
 
+def priced_plan(n, puts):
+    """A plan in which n / 2 Units and as many prices are stored, and as many Sales are fed, and then 1,000 puts."""
+    k = max(100, n // 20)
+    m = model(dimension("P", leaves("p", k) + total("All", "p", k)), dimension("M", leaves("m", 10) + total("Year", "m", 10)))
+    m += dimension("K", "N 'Units'; N 'Price'; N 'Sales';\n")
+    m += "CUBE 'C' ('P', 'M', 'K'); RULES 'r.rux'; ORDER 'K' ('Sales' 1); END;\nSCRIPT 'put' 'put.ti';\n"
+    r = "SKIPCHECK;\n['Sales'] = N: ['Units'] * ['Price'];\nFEEDERS;\n['Units'] => ['Sales'];\n"
+    csv = "".join(f"p{i % k + 1},m{i // k + 1},{w},{i % 90 + 1}\n" for w in ("Units", "Price") for i in range(k * 10))
+    u = "LOAD 'put' FROM 'x.csv';\n"
+    u += "".join(f"PUT 'C' ('p{i * 37 % k + 1}', 'm{i % 10 + 1}', 'Units') = {puts(i)};\n" for i in range(1000))
+    return dict(m_txt=m, r_rux=r, x_csv=csv, put_ti="DATA:\nCellPutN(V4, 'C', V1, V2, V3);\n", u_txt=u)
+
+
+def puts(folder, n):
+    """1,000 stored cells are put to other numbers, where n cells are stored and n / 2 fed."""
+    return write(folder, **priced_plan(n, lambda i: i + 7))
+
+
+def zeros(folder, n):
+    """1,000 stored cells are put to 0, where n cells are stored and n / 2 fed."""
+    return write(folder, **priced_plan(n, lambda i: 0))
+
+
+def opened_total(folder, n):
+    """n stored cells feed one total of 4,000,000 leaf cells."""
+    k = 2000
+    m = model(dimension("P", leaves("p", k) + total("All", "p", k)), dimension("Q", leaves("q", k) + total("Any", "q", k)))
+    m += dimension("K", "N 'Units'; N 'Sales';\n")
+    m += "CUBE 'C' ('P', 'Q', 'K'); RULES 'r.rux'; ORDER 'K' ('Sales' 1); END;\nSCRIPT 'put' 'put.ti';\n"
+    r = "SKIPCHECK;\n['Sales'] = N: ['Units'] * 2;\nFEEDERS;\n['Units'] => ['Sales'];\n['Units'] => ['Sales', 'P': 'All', 'Q': 'Any'];\n"
+    csv = "".join(f"p{i % k + 1},q{i // k + 1},Units,1\n" for i in range(n))
+    u = "LOAD 'put' FROM 'x.csv';\n"
+    return write(folder, m_txt=m, r_rux=r, x_csv=csv, put_ti="DATA:\nCellPutN(V4, 'C', V1, V2, V3);\n", u_txt=u)
+
+
 # Loads.
 
 
@@ -314,7 +349,7 @@ SHAPES = [
     (equal_moves, 100000), (unmarked_moves, 100000), (wide_area, 90000), (shared_rule_file, 100000), (attributes, 100000),
     (listed_source, 90000), (climbing_target, 90000), (many_feeders, 1000),
     (long_order, 900), (totals_above_loop, 90000), (cancelling_weights, 50000), (dense_leaves, 90000),
-    (continued, 900), (puts_of_0, 30000), (overfed_total, 1000000),
+    (continued, 900), (puts_of_0, 30000), (puts, 800000), (zeros, 800000), (opened_total, 100000), (overfed_total, 1000000),
     (clearing_load, 100000), (adding_load, 100000), (paired_load, 100000), (plain_increments, 1000000), (equal_loads, 2000),
     (variables, 100000), (parameters, 100000), (joins, 40),
     (recurrence, 240), (stock, 20000), (wide_formula, 900), (ruled_total, 800000), (empty_axis, 90000), (many_views, 2000),

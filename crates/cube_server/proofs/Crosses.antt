@@ -41,14 +41,11 @@ use Rattle.cell_reader.specs.contracts.snapshot.Snapshot as Snapshot
 use Rattle.user_session.specs.contracts.content.Content as Content
 use Rattle.sqlite_items.proofs.items.Items.TheSendSync as items
 use Rattle.dim_name.proofs.name.Name.TheSendSync as name
-use Rattle.script_tree.proofs.expr.Expr.TheLaws.TheKnot as expr
-use Rattle.script_tree.proofs.expr.ScriptFun.TheSendSync as script_fun
-use Rattle.script_tree.proofs.expr.ScriptOp.TheSendSync as script_op
-use Rattle.script_tree.proofs.line.Arm.TheLaws.TheKnot as lines
-use Rattle.script_tree.specs.contracts.expr.Expr as Expr
-use Rattle.script_tree.specs.contracts.line.Line as Line
-use Rattle.script_tree.specs.contracts.script.Block as Block
-use Rattle.script_tree.specs.contracts.script.Script as Script
+use Rattle.script_bound.proofs.term.Term.TheLaws.TheKnot as term
+use Rattle.script_bound.proofs.statement.Case.TheLaws.TheKnot as statements
+use Rattle.script_bound.specs.contracts.term.Term as Term
+use Rattle.script_bound.specs.contracts.statement.Statement as ScriptStatement
+use Rattle.script_bound.specs.contracts.script.BoundScript as BoundScript
 use Rattle.user_text.proofs.command.CellText.TheSendSync as cell_text
 use Rattle.user_text.proofs.command.ViewText.TheSendSync as view_text
 use Rattle.user_text.proofs.command.ParamText.TheSendSync as param_text
@@ -134,45 +131,37 @@ Snapshot-sync = search (parts, Version-send, Version-sync, SharedMemo-sync) dept
 
 -- ---- commands
 
-Expr-send : IsSend Expr.the_row
-Expr-send = search (parts, expr.send-Expr, money.the_send, script_fun.the_field_send, script_op.the_field_send, items.the_send, boxed.the_send) depth 20
+Term-send : IsSend Term.the_row
+Term-send = search (parts, term.send-Term, money.the_send, fun.the_field_send, op.the_field_send, rel.the_field_send, items.the_send, boxed.the_send) depth 20
 
-Expr-sync : IsSync Expr.the_row
-Expr-sync = search (parts, expr.sync-Expr, money.the_sync, script_fun.the_field_sync, script_op.the_field_sync, items.the_sync, boxed.the_sync) depth 20
+Term-sync : IsSync Term.the_row
+Term-sync = search (parts, term.sync-Term, money.the_sync, fun.the_field_sync, op.the_field_sync, rel.the_field_sync, items.the_sync, boxed.the_sync) depth 20
 
-Expr-field-send : IsSend Expr.the_field.row
-Expr-field-send =
-    search (parts, expr.send-Expr, money.the_send, script_fun.the_field_send, script_op.the_field_send, items.the_send, boxed.the_send) depth 20
+Term-field-send : IsSend Term.the_field.row
+Term-field-send = search (parts, term.send-Term, money.the_send, fun.the_field_send, op.the_field_send, rel.the_field_send, items.the_send, boxed.the_send) depth 20
 
-Line-field-send : IsSend Line.the_field.row
-Line-field-send =
-    lines.send-Line Expr-field-send (λ h s. search (parts, items.the_send)) (search parts) (search (parts, Expr-send, items.the_send))
+Term-field-sync : IsSync Term.the_field.row
+Term-field-sync = search (parts, term.sync-Term, money.the_sync, fun.the_field_sync, op.the_field_sync, rel.the_field_sync, items.the_sync, boxed.the_sync) depth 20
 
-Line-send : IsSend Line.the_row
-Line-send = search (parts, Line-field-send) depth 20
+ScriptStatement-field-send : IsSend ScriptStatement.the_field.row
+ScriptStatement-field-send =
+    statements.send-Statement Term-field-send (λ h s. search (parts, items.the_send)) (search parts) (search (parts, Term-send, items.the_send))
 
-Expr-field-sync : IsSync Expr.the_field.row
-Expr-field-sync =
-    search (parts, expr.sync-Expr, money.the_sync, script_fun.the_field_sync, script_op.the_field_sync, items.the_sync, boxed.the_sync) depth 20
+ScriptStatement-send : IsSend ScriptStatement.the_row
+ScriptStatement-send = search (parts, ScriptStatement-field-send) depth 20
 
-Line-field-sync : IsSync Line.the_field.row
-Line-field-sync =
-    lines.sync-Line Expr-field-sync (λ h s. search (parts, items.the_sync)) (search parts) (search (parts, Expr-sync, items.the_sync))
+ScriptStatement-field-sync : IsSync ScriptStatement.the_field.row
+ScriptStatement-field-sync =
+    statements.sync-Statement Term-field-sync (λ h s. search (parts, items.the_sync)) (search parts) (search (parts, Term-sync, items.the_sync))
 
-Line-sync : IsSync Line.the_row
-Line-sync = search (parts, Line-field-sync) depth 20
+ScriptStatement-sync : IsSync ScriptStatement.the_row
+ScriptStatement-sync = search (parts, ScriptStatement-field-sync) depth 20
 
-Block-send : IsSend Block.the_field.row
-Block-send = search (parts, Line-send, items.the_send) depth 20
+BoundScript-send : IsSend BoundScript.the_row
+BoundScript-send = search (parts, ScriptStatement-send, items.the_send) depth 20
 
-Block-sync : IsSync Block.the_field.row
-Block-sync = search (parts, Line-sync, items.the_sync) depth 20
-
-Script-send : IsSend Script.the_row
-Script-send = search (parts, Block-send) depth 20
-
-Script-sync : IsSync Script.the_row
-Script-sync = search (parts, Block-sync) depth 20
+BoundScript-sync : IsSync BoundScript.the_row
+BoundScript-sync = search (parts, ScriptStatement-sync, items.the_sync) depth 20
 
 WordTable-send : IsSend WordTable.the_field.row
 WordTable-send = search (parts, BTreeMap-send) depth 20
@@ -193,7 +182,7 @@ LoadJob-sync : IsSync LoadJob.the_field.row
 LoadJob-sync = search (parts, LoadParams-sync) depth 20
 
 pub PlanCommand-send : IsSend PlanCommand.the_row
-PlanCommand-send = search (parts, cell_text.the_field_send, view_text.the_field_send, money.the_send, LoadJob-send, Script-send, Script-sync) depth 20
+PlanCommand-send = search (parts, cell_text.the_field_send, view_text.the_field_send, money.the_send, LoadJob-send, BoundScript-send, BoundScript-sync) depth 20
 
 pub PlanCommand-sync : IsSync PlanCommand.the_row
-PlanCommand-sync = search (parts, cell_text.the_field_sync, view_text.the_field_sync, money.the_sync, LoadJob-sync, Script-send, Script-sync) depth 20
+PlanCommand-sync = search (parts, cell_text.the_field_sync, view_text.the_field_sync, money.the_sync, LoadJob-sync, BoundScript-send, BoundScript-sync) depth 20

@@ -15,6 +15,9 @@ use cell_store::{CellSet, PageSet, Store};
 use feed_sources::SourceModel;
 use std::alloc::{AllocError, Global};
 
+// How many steps a change may take however few cells are stored.
+const FREE_STEPS: u64 = 1_000;
+
 /// The fed cells of a version: the leaf cells that may have a value other than 0 though nothing is stored in them.
 ///
 /// They are the leaf cells of dense cubes, and the ends of the chains of feeds that begin at a stored cell or at a leaf
@@ -232,7 +235,7 @@ fn begun(alloc: Global, fed: &PageSet, totals: &PageSet) -> Result<Reached, Allo
 }
 
 // What is fed after a change, by what was fed before it and what is fed over nothing. It is given up where it needs
-// more steps than there are stored and fed cells.
+// more steps than [`FREE_STEPS`] and one for each stored and each fed cell.
 fn regrown(
     alloc: Global,
     model: &SourceModel,
@@ -250,7 +253,9 @@ fn regrown(
     requires few { length fed.now ≤ most_fed }
     ensures { IfOk result (λ reached. IsReach model.now after.now (Ok reached)) }
 {
-    let mut steps = before.len().saturating_add(fed.len());
+    let mut steps = FREE_STEPS
+        .saturating_add(before.len())
+        .saturating_add(fed.len());
     let risk = at_risk(alloc, model, base, after, went, &mut steps)?;
     let kept = fed.without(alloc, &risk)?;
     let totals = totals_left(alloc, totals, &risk)?;

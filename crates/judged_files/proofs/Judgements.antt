@@ -18,7 +18,7 @@ use Rattle.judged_files.specs.Users.{IsUserText, AreUserTexts, IsUserFault, IsFi
 use Rattle.file_passes.proofs.PassFacts.{IsOneJudgement}
 use Rattle.script_reader.specs.declared.fault.ScriptFault.{ScriptFault}
 use Rattle.script_reader.specs.declared.fault.ScriptFault.TheVariants as script_faults
-use Rattle.script_tree.specs.declared.script.Script.{Script}
+use Rattle.script_bound.specs.declared.script.BoundScript.{BoundScript}
 use Rattle.judged_files.proofs.ScriptTexts.{no_fault_of_script}
 use Rattle.deploy_laws.proofs.Deployments.{single-deployment}
 
@@ -82,16 +82,16 @@ one_text_judgement source = record {
 no_script_memory : (file : List ℕ) (fault : ScriptFault) (refusal : Refusal) → script_refusal file fault ≡ Some refusal → fault ≢ script_faults.Memory
 no_script_memory file fault refusal is memory = (let clash : None ≡ Some refusal = rw memory at is in cc)
 
-no_first_script : (sources : List Source) (trees : List Script) (r : Refusal) → AreScripts sources trees → IsFirstScriptFault sources r → ⊥
-no_first_script [] trees r p q = q
+no_first_script : (sources : List Source) (scripts : List BoundScript) (r : Refusal) → AreScripts sources scripts → IsFirstScriptFault sources r → ⊥
+no_first_script [] scripts r p q = q
 no_first_script (source ∷ more) [] r p q = p
-no_first_script (source ∷ more) (tree ∷ trees) r p (inl q) = no_fault_of_script source.1 tree q.fault (no_script_memory source.0 q.fault r q.is) p.0 q.first
-no_first_script (source ∷ more) (tree ∷ trees) r p (inr (other, is, q)) = no_first_script more trees r p.1 q
+no_first_script (source ∷ more) (script ∷ scripts) r p (inl q) = no_fault_of_script source.1 p.0.tree q.fault (no_script_memory source.0 q.fault r q.is) p.0.text q.first
+no_first_script (source ∷ more) (script ∷ scripts) r p (inr (other, is, q)) = no_first_script more scripts r p.1 q
 
 -- no files are both scripts and refused
-pub no_scripts_refused : (sources : List Source) (trees : List Script) (r : Refusal)
-    → (scripts_judgement sources).stands_for trees → (scripts_judgement sources).refused_for r → ⊥
-no_scripts_refused sources trees r p q = no_first_script sources trees r p q
+pub no_scripts_refused : (sources : List Source) (scripts : List BoundScript) (r : Refusal)
+    → (scripts_judgement sources).stands_for scripts → (scripts_judgement sources).refused_for r → ⊥
+no_scripts_refused sources scripts r p q = no_first_script sources scripts r p q
 
 -- ---- the rule files
 

@@ -9,7 +9,7 @@ use Rattle.file_passes.specs.declared.refusal.Refusal.{Refusal}
 use Rattle.grammar.proofs.Tokens.{bytes_eq_self}
 use Rattle.dim_name.specs.Name.{has_name, place_of}
 use Rattle.dim_core.proofs.Keys.{not_among}
-use Rattle.script_tree.specs.declared.script.Script.{Script}
+use Rattle.script_bound.specs.declared.script.BoundScript.{BoundScript}
 use Rattle.user_text.specs.declared.command.UserBody.{UserBody}
 use Rattle.user_text.specs.declared.command.UserBody.TheVariants as bodies
 use Rattle.user_text.specs.declared.command.UserCommand.{UserCommand}
@@ -156,8 +156,8 @@ as-many-files readings (name ∷ more) sources (first, read, (rest, others, is))
     let same = as-many-files readings more rest others in
     rw is (omega (arith, same))
 
-pub as-many-scripts : (sources : List Source) (trees : List Script) → AreScripts sources trees → length trees ≡ length sources
+pub as-many-scripts : (sources : List Source) (scripts : List BoundScript) → AreScripts sources scripts → length scripts ≡ length sources
 as-many-scripts [] [] are = refl
-as-many-scripts [] (tree ∷ trees) are = absurd are
+as-many-scripts [] (script ∷ scripts) are = absurd are
 as-many-scripts (source ∷ more) [] are = absurd are
-as-many-scripts (source ∷ more) (tree ∷ trees) are = (let same = as-many-scripts more trees are.1 in omega (arith, same))
+as-many-scripts (source ∷ more) (script ∷ scripts) are = (let same = as-many-scripts more scripts are.1 in omega (arith, same))

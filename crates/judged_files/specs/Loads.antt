@@ -9,7 +9,7 @@ use Rattle.dim_name.specs.Name.{has_name, place_of}
 use Rattle.file_passes.specs.Pass.{Source, source_of, Judgement}
 use Rattle.user_text.specs.Rows.{rows_of}
 use Rattle.user_text.specs.declared.load_job.LoadJob.{LoadJob}
-use Rattle.script_tree.specs.declared.script.Script.{Script}
+use Rattle.script_bound.specs.declared.script.BoundScript.{BoundScript}
 use Rattle.user_session.specs.declared.command.PlanCommand.{PlanCommand}
 use Rattle.user_session.specs.declared.command.PlanCommand.TheVariants as plans
 use Rattle.user_text.specs.declared.command.LoadText.{LoadText}
@@ -54,15 +54,15 @@ abbrev pub AreReady : Scripts → List Source → List UserCommand → Type 0
 AreReady scripts sources commands = All (λ command. IsReady scripts sources command.body) commands
 
 -- a load as it is run: by the place of its script in the model, with its records and what is set
-pub record IsLoad (scripts : Scripts) (sources : List Source) (load : LoadText) (job : LoadJob) (tree : Script)
+pub record IsLoad (scripts : Scripts) (sources : List Source) (load : LoadText) (job : LoadJob) (bound : BoundScript)
     : Type 0 where
   pub place : place_of scripts.names load.script ≡ Some job.script
-  pub script : slice_get scripts.trees job.script ≡ Some tree
+  pub script : slice_get scripts.bound job.script ≡ Some bound
   pub records : records_of sources load.file load.skip ≡ Some job.rows
   pub params : job.params ≡ load.params
 
 abbrev pub IsLoadCommand : Scripts → List Source → LoadText → PlanCommand → Type 0
-IsLoadCommand scripts sources load command = (job : LoadJob) × (script : Arc Script Global)
+IsLoadCommand scripts sources load command = (job : LoadJob) × (script : Arc BoundScript Global)
     × (command ≡ plans.Load job script) × IsLoad scripts sources load job (arc_value script)
 
 -- a command as it is run

@@ -5,6 +5,8 @@ use Rattle.model_text.specs.declared.parts.ScriptText.{ScriptText}
 use Rattle.rule_model.specs.BoundModel.{BoundModel}
 use Rattle.script_reader.specs.Answers.{Answers}
 use Rattle.script_reader.specs.declared.fault.ScriptFault.{ScriptFault}
+use Rattle.script_bind.specs.Binding.{bound_of}
+use Rattle.script_bound.specs.declared.script.BoundScript.{BoundScript}
 use Rattle.script_tree.specs.declared.script.Script.{Script}
 use Rattle.file_passes.specs.declared.refusal.Refusal.{Refusal}
 use Rattle.file_passes.specs.Pass.{Source, Judgement}
@@ -13,11 +15,11 @@ use Rattle.judged_files.specs.Refusals.{script_refusal}
 -- the scripts of a model, in its order: their names, and what their files mean
 pub record Scripts : Type 0 where
   pub names : List (List ℕ)
-  pub trees : List Script
+  pub bound : List BoundScript
 
 -- each name has its script, and there are no more than a model may have
-pub record AreNamed (names : List (List ℕ)) (trees : List Script) : Type 0 where
-  pub each : length trees ≡ length names
+pub record AreNamed (names : List (List ℕ)) (scripts : List BoundScript) : Type 0 where
+  pub each : length scripts ≡ length names
   pub few : length names ≤ most_scripts
 
 -- a model that was accepted, with its scripts
@@ -29,12 +31,18 @@ pub record Checked : Type 0 where
 abbrev pub script_files : List ScriptText → List (List ℕ)
 script_files scripts = map (λ script. script.file) scripts
 
+-- the file is a text of a script, and this is the script as it is run
+pub record IsScript (source : Source) (script : BoundScript) : Type 0 where
+  pub tree : Script
+  pub text : Answers source.1 (Ok tree)
+  pub bound : script ≡ bound_of tree
+
 -- each of the files is a text of this script
-abbrev pub AreScripts : List Source → List Script → Type 0
+abbrev pub AreScripts : List Source → List BoundScript → Type 0
 AreScripts [] [] = Unit {0}
 AreScripts [] (script ∷ rest) = ⊥
 AreScripts (source ∷ more) [] = ⊥
-AreScripts (source ∷ more) (script ∷ rest) = Answers source.1 (Ok script) × AreScripts more rest
+AreScripts (source ∷ more) (script ∷ rest) = IsScript source script × AreScripts more rest
 
 -- the file is no script, and this is the first fault
 pub record IsScriptFault (source : Source) (refusal : Refusal) : Type 0 where
@@ -49,5 +57,5 @@ IsFirstScriptFault (source ∷ more) refusal =
     IsScriptFault source refusal
     ⊎ ((script : Script) × Answers source.1 (Ok script) × IsFirstScriptFault more refusal)
 
-abbrev pub scripts_judgement : List Source → Judgement (List Script)
+abbrev pub scripts_judgement : List Source → Judgement (List BoundScript)
 scripts_judgement sources = record { stands_for = AreScripts sources; refused_for = IsFirstScriptFault sources }

@@ -110,14 +110,14 @@ fn load_command(
     requires { IsReadyLoad scripts.now sources.now load }
     ensures { IfOk result (λ command. IsLoadCommand scripts.now sources.now load command) }
 {
-    let (script, tree) = scripts.named(&load.script);
+    let (script, bound) = scripts.named(&load.script);
     let rows = records_of(alloc, sources, &load.file, load.skip)?;
     let job = LoadJob {
         script,
         rows: ListOf::new(rows),
         params: load.params,
     };
-    Ok(PlanCommand::Load(job, Arc::try_clone(tree)?))
+    Ok(PlanCommand::Load(job, Arc::try_clone(bound)?))
 }
 
 // The records of a load's file, which is among those that were read.

@@ -13,8 +13,9 @@ use dim_name::Name;
 use file_passes::{Cause, Halt, Source, file_name};
 use lists::ListOf;
 use model_text::ScriptText;
+use script_bind::bind;
+use script_bound::BoundScript;
 use script_reader::{ScriptFault, parse};
-use script_tree::Script;
 use std::alloc::{AllocError, Global};
 use std::marker::Model;
 use std::sync::Arc;
@@ -23,23 +24,23 @@ use std::sync::Arc;
 #[derive(Drop)]
 pub struct Scripts {
     pub names: ListOf<Name>,
-    trees: Vec<Arc<Script, Global>>,
+    bound: Vec<Arc<BoundScript, Global>>,
 }
 
 impl Model for Scripts {
     ghost use Rattle.std.specs.Arc.{arc_value};
     ghost use Rattle.std.specs.Coded.{codes};
     ghost use Rattle.std.specs.Prelude.{map};
-    ghost use Rattle.script_tree.specs.contracts.script.Script as script;
+    ghost use Rattle.script_bound.specs.contracts.script.BoundScript as script;
     ghost use Rattle.judged_files.specs.Scripts.{AreNamed, Scripts as ScriptsOf};
 
     ghost Value = { ScriptsOf };
 
     ghost coded = { Prim.hlevel (codes, script.the_row.coded) };
 
-    ghost view = { λ scripts. record { names = scripts.names; trees = map arc_value scripts.trees.items } };
+    ghost view = { λ scripts. record { names = scripts.names; bound = map arc_value scripts.bound.items } };
 
-    ghost invariant = { λ scripts. AreNamed scripts.names (map arc_value scripts.trees.items) };
+    ghost invariant = { λ scripts. AreNamed scripts.names (map arc_value scripts.bound.items) };
 }
 
 impl Scripts {
@@ -47,35 +48,38 @@ impl Scripts {
     pub fn new(
         alloc: Global,
         names: ListOf<Name>,
-        trees: ListOf<Script>,
+        bound: ListOf<BoundScript>,
     ) -> Result<Scripts, AllocError>
-        requires { AreNamed names trees }
+        requires { AreNamed names bound }
         ensures names { IfOk result (λ scripts. scripts.names ≡ names) }
-        ensures trees { IfOk result (λ scripts. scripts.trees ≡ trees) }
+        ensures bound { IfOk result (λ scripts. scripts.bound ≡ bound) }
     {
         Ok(Scripts {
             names,
-            trees: kept(alloc, trees.into_vec())?,
+            bound: kept(alloc, bound.into_vec())?,
         })
     }
 
     /// The script of this name, which is one of them, and its place.
-    pub fn named(&self, name: &Name) -> (u32, &Arc<Script, Global>)
+    pub fn named(&self, name: &Name) -> (u32, &Arc<BoundScript, Global>)
         requires { IsTrue (has_name self.now.names name.now) }
         ensures place { place_of self.now.names name.now ≡ Some result.0 }
-        ensures script { slice_get self.now.trees result.0 ≡ Some (arc_value result.1.now) }
+        ensures script { slice_get self.now.bound result.0 ≡ Some (arc_value result.1.now) }
     {
         let place = place_of(self.names.as_slice(), name).unwrap();
-        (place as u32, &self.trees[place])
+        (place as u32, &self.bound[place])
     }
 }
 
-fn kept(alloc: Global, trees: Vec<Script>) -> Result<Vec<Arc<Script, Global>>, AllocError>
-    ensures { IfOk result (λ kept. map arc_value kept.items ≡ trees.items) }
+fn kept(
+    alloc: Global,
+    scripts: Vec<BoundScript>,
+) -> Result<Vec<Arc<BoundScript, Global>>, AllocError>
+    ensures { IfOk result (λ kept. map arc_value kept.items ≡ scripts.items) }
 {
-    let mut kept = Vec::with_capacity(alloc, trees.len())?;
-    for tree in trees {
-        kept.push(Arc::new(alloc, tree)?)?;
+    let mut kept = Vec::with_capacity(alloc, scripts.len())?;
+    for script in scripts {
+        kept.push(Arc::new(alloc, script)?)?;
     }
     Ok(kept)
 }
@@ -117,8 +121,8 @@ pub fn script_files(alloc: Global, scripts: &[ScriptText]) -> Result<Vec<String>
     Ok(names)
 }
 
-/// The scripts that the bytes of all script files mean.
-pub fn scripts_of(alloc: Global, sources: &[Source<'_>]) -> Result<ListOf<Script>, Halt>
+/// The scripts that the bytes of all script files mean, each bound once for all loads of it.
+pub fn scripts_of(alloc: Global, sources: &[Source<'_>]) -> Result<ListOf<BoundScript>, Halt>
     ensures { Judges (scripts_judgement sources.now) result }
 {
     let mut all = Vec::new(alloc);
@@ -127,7 +131,8 @@ pub fn scripts_of(alloc: Global, sources: &[Source<'_>]) -> Result<ListOf<Script
             Ok(script) => script,
             Err(fault) => return Err(script_halt(alloc, source.name(), &fault)),
         };
-        all.push(script)?;
+        let bound = bind(alloc, &script)?;
+        all.push(bound)?;
     }
     let scripts = ListOf::new(all);
     Ok(scripts)

@@ -4,7 +4,7 @@ use Rattle.cube_words.specs.Words.{Plan, Run, Check, Sample, IsPlan}
 use Rattle.file_passes.specs.Pass.{Pass, NotWords, found, the, file, files, judged, ◌>>=◌}
 use Rattle.model_text.specs.Contents.{Contents, script_names}
 use Rattle.rule_model.specs.BoundModel.{BoundModel}
-use Rattle.script_tree.specs.declared.script.Script.{Script}
+use Rattle.script_bound.specs.declared.script.BoundScript.{BoundScript}
 use Rattle.user_session.specs.declared.command.PlanCommand.{PlanCommand}
 use Rattle.user_text.specs.declared.command.UserCommand.{UserCommand}
 use Rattle.run_passes.specs.declared.run_job.RunJob.{RunJob}
@@ -28,7 +28,7 @@ deploy_pass name contents = do
   judged (deployment_judgement name contents sources)
 
 -- all script files are read, and are scripts
-abbrev pub scripts_pass : List (List ℕ) → Pass (List Script)
+abbrev pub scripts_pass : List (List ℕ) → Pass (List BoundScript)
 scripts_pass names = do
   sources ← files names
   judged (scripts_judgement sources)
@@ -38,8 +38,8 @@ abbrev pub model_pass : List ℕ → Pass Checked
 model_pass name = do
   contents ← text_pass name
   bound ← deploy_pass name contents
-  trees ← scripts_pass (script_files contents.scripts)
-  found (record { model = bound; scripts = record { names = script_names contents.scripts; trees = trees } })
+  scripts ← scripts_pass (script_files contents.scripts)
+  found (record { model = bound; scripts = record { names = script_names contents.scripts; bound = scripts } })
 
 -- all user files are read, and are users' texts, in which each load is one of a script of these names
 abbrev pub users_pass : List (List ℕ) → List (List ℕ) → Pass (List (List UserCommand))

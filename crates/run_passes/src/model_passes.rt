@@ -15,7 +15,7 @@ use judged_files::{
 };
 use lists::ListOf;
 use model_text::ModelText;
-use script_tree::Script;
+use script_bound::BoundScript;
 use std::alloc::Global;
 use std::marker::Model;
 
@@ -30,7 +30,7 @@ impl Model for Checked {
     ghost use Rattle.std.specs.Coded.{codes};
     ghost use Rattle.judged_files.specs.Scripts.{Checked as CheckedOf};
     ghost use Rattle.rule_laws.specs.contracts.formula.Formula as formula;
-    ghost use Rattle.script_tree.specs.contracts.script.Script as script;
+    ghost use Rattle.script_bound.specs.contracts.script.BoundScript as script;
 
     ghost Value = { CheckedOf };
 
@@ -87,7 +87,7 @@ fn scripts_pass<F: Files>(
     files: &mut F,
     readings: &mut Readings,
     names: &[String],
-) -> Result<ListOf<Script>, Halt>
+) -> Result<ListOf<BoundScript>, Halt>
     ensures known { (F.seen files.new).known ≡ (F.seen files.old).known }
     ensures comes { Comes (scripts_pass (texts_of names.now))
         (outside F.seen files.old files.new) readings.old readings.new result }
@@ -112,10 +112,8 @@ pub(crate) fn model_pass<F: Files>(
     ensures comes { Comes (model_pass name.now) (outside F.seen files.old files.new)
         readings.old readings.new result }
 {
-    match text_pass(alloc, files, readings, name) {
-        Ok(text) => behind_text(alloc, files, readings, name, text),
-        Err(halt) => Err(halt),
-    }
+    let text = text_pass(alloc, files, readings, name)?;
+    behind_text(alloc, files, readings, name, text)
 }
 
 // The passes behind that of the model file.

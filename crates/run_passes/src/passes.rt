@@ -96,10 +96,8 @@ fn check_pass<F: Files>(
     ensures { Comes (plan_pass (Check model.now)) (outside F.seen files.old files.new)
         readings.old readings.new result }
 {
-    match model_pass(alloc, files, readings, model) {
-        Ok(checked) => Ok(RunJob::Check(checked.model)),
-        Err(halt) => Err(halt),
-    }
+    let checked = model_pass(alloc, files, readings, model)?;
+    Ok(RunJob::Check(checked.model))
 }
 
 // The passes of a run for its users.
@@ -113,10 +111,8 @@ fn run_pass<F: Files>(
     ensures { Comes (plan_pass (Run model.now (texts_of users.now)))
         (outside F.seen files.old files.new) readings.old readings.new result }
 {
-    match model_pass(alloc, files, readings, model) {
-        Ok(checked) => behind_model(alloc, files, readings, users, checked),
-        Err(halt) => Err(halt),
-    }
+    let checked = model_pass(alloc, files, readings, model)?;
+    behind_model(alloc, files, readings, users, checked)
 }
 
 // The passes behind those of the model.
@@ -132,10 +128,8 @@ fn behind_model<F: Files>(
 {
     let whole = &checked;
     let scripts = whole.scripts.names.as_slice();
-    match users_pass(alloc, files, readings, scripts, users) {
-        Ok(texts) => behind_users(alloc, files, readings, checked, texts),
-        Err(halt) => Err(halt),
-    }
+    let texts = users_pass(alloc, files, readings, scripts, users)?;
+    behind_users(alloc, files, readings, checked, texts)
 }
 
 // The pass behind that of the user files, in which each load is one of a script of the model.
@@ -150,10 +144,8 @@ fn behind_users<F: Files>(
     ensures { Comes (behind_users checked texts) (outside F.seen files.old files.new)
         readings.old readings.new result }
 {
-    match records_pass(alloc, files, readings, &checked.scripts, texts) {
-        Ok(commands) => Ok(RunJob::Serve(checked.model, commands)),
-        Err(halt) => Err(halt),
-    }
+    let commands = records_pass(alloc, files, readings, &checked.scripts, texts)?;
+    Ok(RunJob::Serve(checked.model, commands))
 }
 
 /// All passes of a run.

@@ -3,8 +3,9 @@ use crate::scene::Scene;
 use case_lines::write_answer;
 use cube_fixed::{Value, print};
 use lists::ListOf;
+use script_bind::bind;
 use script_reader::parse;
-use script_run::{Ran, Script, run};
+use script_run::{BoundScript, Ran, run};
 use std::alloc::{AllocError, Global};
 
 /// Writes the answer to a case of these lines.
@@ -20,7 +21,7 @@ pub fn answer_load(alloc: Global, lines: &str, out: &mut Vec<u8>) -> Result<(), 
 
 fn answer_scene(alloc: Global, scene: Scene, out: &mut Vec<u8>) -> Result<(), AllocError> {
     match parse(alloc, &scene.script) {
-        Ok(script) => answer_script(alloc, &script, scene, out),
+        Ok(script) => answer_script(alloc, &bind(alloc, &script)?, scene, out),
         Err(fault) => {
             let line = format!(in alloc; "{fault:?}")?;
             write_answer(out, line.as_bytes())
@@ -30,7 +31,7 @@ fn answer_scene(alloc: Global, scene: Scene, out: &mut Vec<u8>) -> Result<(), Al
 
 fn answer_script(
     alloc: Global,
-    script: &Script,
+    script: &BoundScript,
     scene: Scene,
     out: &mut Vec<u8>,
 ) -> Result<(), AllocError> {

@@ -17,6 +17,7 @@ mod statements;
 
 pub use ran::Ran;
 pub use running::run;
-pub use script_tree::{Script, Section};
+pub use script_bound::BoundScript;
+pub use script_tree::Section;
 pub use script_values::{LoadReason, Text, WorkCells};
 pub use user_text::{LoadParams, ParamText as Param};

@@ -1,5 +1,4 @@
 ghost use Rattle.std.specs.Prelude.{◌≡◌, map, IfOk};
-ghost use Rattle.script_bind.specs.Binding.{bound_of};
 ghost use Rattle.script_run.specs.Load as loads;
 ghost use Rattle.script_run.specs.Load.{load, ran_of, writes_of, start};
 ghost use Rattle.script_run.specs.Meaning.{Ended};
@@ -11,9 +10,8 @@ use crate::ran::Ran;
 use crate::sections::run_sections;
 use cube_fixed::Value;
 use lists::ListOf;
-use script_bind::bind;
 use script_bound::BoundScript;
-use script_tree::{Script, Section};
+use script_tree::Section;
 use script_values::{Kept, WorkCells};
 use std::alloc::{AllocError, Global};
 use user_text::{LoadParams, ParamText};
@@ -89,25 +87,24 @@ fn ran_at(ending: Ending, last: ExecutionPlace) -> Ran
     }
 }
 
-/// Runs a script: the Prolog, Data once for each record, and the Epilog. The parameters are variables, by their words
-/// in capitals, that are set before. The first reason ends the load, and what was written is then to be dropped.
+/// Runs a bound script: the Prolog, Data once for each record, and the Epilog. The parameters are variables, by their
+/// words in capitals, that are set before. The first reason ends the load, and what was written is then to be dropped.
 ///
 /// Records are lists of columns. Out of memory, nothing is said of the writes.
 pub fn run<C: WorkCells>(
     alloc: Global,
-    script: &Script,
+    script: &BoundScript,
     rows: &[ListOf<ListOf<u8>>],
     params: &LoadParams,
     cells: &mut C,
 ) -> Result<Ran, AllocError>
     ensures ran { IfOk result (λ ran. ran ≡ ran_of
-        (load (bound_of script.now) params.now rows.now (C.store cells.old) (C.writes cells.old))) }
+        (load script.now params.now rows.now (C.store cells.old) (C.writes cells.old))) }
     ensures writes { IfOk result (λ _. C.writes cells.new ≡ writes_of
-        (load (bound_of script.now) params.now rows.now (C.store cells.old) (C.writes cells.old))) }
+        (load script.now params.now rows.now (C.store cells.old) (C.writes cells.old))) }
     ensures store { C.store cells.new ≡ C.store cells.old }
 {
-    let script = bind(alloc, script)?;
-    let mut run = start(alloc, &script, params)?;
-    let ending = run_sections(alloc, &script, rows, &mut run, cells)?;
+    let mut run = start(alloc, script, params)?;
+    let ending = run_sections(alloc, script, rows, &mut run, cells)?;
     Ok(ran_at(ending, run.last()))
 }

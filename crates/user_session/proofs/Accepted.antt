@@ -16,12 +16,11 @@ use Rattle.load_cells.specs.Loads.{store_of}
 use Rattle.user_text.specs.declared.load_job.LoadJob.{LoadJob}
 use Rattle.history.specs.declared.effect.Effect.TheVariants.{Commit}
 use Rattle.rule_model.specs.BoundModel.{BoundModel}
-use Rattle.script_bind.specs.Binding.{bound_of}
 use Rattle.script_laws.proofs.Kept.{load_keeps}
 use Rattle.script_run.specs.Load.{load, ran_of, writes_of}
 use Rattle.script_run.specs.declared.ran.Ran.{Ran}
 use Rattle.script_run.specs.declared.ran.Ran.TheVariants.{Done, Rejected as Stopped}
-use Rattle.script_tree.specs.declared.script.Script.{Script}
+use Rattle.script_bound.specs.declared.script.BoundScript.{BoundScript}
 use Rattle.std.specs.Arc.{arc_value}
 use Rattle.user_session.specs.declared.content.Content.{Content}
 use Rattle.user_session.specs.declared.command.PlanCommand.{PlanCommand}
@@ -72,13 +71,13 @@ ended-within content Done written writes reply within is =
     subst (AreWithin content) same (last-within content written within)
 ended-within content (Stopped section row statement reason) written writes reply within is = absurd (cc)
 
-load-within : (content : Content) (job : LoadJob) (script : Script) (writes : List (ℕ × ℤ)) (reply : List ℕ) → load_effect content job script ≡ Commit writes reply
+load-within : (content : Content) (job : LoadJob) (script : BoundScript) (writes : List (ℕ × ℤ)) (reply : List ℕ) → load_effect content job script ≡ Commit writes reply
     → AreWithin content writes
 load-within content job script writes reply is =
     let store = store_of content.model content.stored in
-    let outcome = load (bound_of script) job.params job.rows store [] in
+    let outcome = load script job.params job.rows store [] in
     let kept : AreWithin content (writes_of outcome) =
-    load_keeps store (AreWithin content) (λ before after cube elements value within written. write-kept content before after within cube elements value written) (bound_of script) job.params job.rows [] (before-writes content) in
+    load_keeps store (AreWithin content) (λ before after cube elements value within written. write-kept content before after within cube elements value written) script job.params job.rows [] (before-writes content) in
     ended-within content (ran_of outcome) (writes_of outcome) writes reply kept is
 
 -- ---- questions write nothing

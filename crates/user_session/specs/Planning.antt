@@ -23,11 +23,10 @@ use Rattle.rule_laws.specs.RuleSystem.{dense_value}
 use Rattle.rule_model.specs.BoundModel.{BoundModel}
 use Rattle.rule_model.specs.Named.{cell_named}
 use Rattle.rule_model.specs.System.{system_of}
-use Rattle.script_bind.specs.Binding.{bound_of}
 use Rattle.script_run.specs.Load.{load, ran_of, writes_of}
 use Rattle.script_run.specs.declared.ran.Ran.{Ran}
 use Rattle.script_run.specs.declared.ran.Ran.TheVariants.{Done, Rejected as Stopped}
-use Rattle.script_tree.specs.declared.script.Script.{Script}
+use Rattle.script_bound.specs.declared.script.BoundScript.{BoundScript}
 use Rattle.stored_laws.specs.Stored.{stored_in}
 use Rattle.user_session.specs.declared.content.Content.{Content}
 use Rattle.user_session.specs.Replies.{fault_text, reply_text}
@@ -107,9 +106,9 @@ ended_effect (Stopped section row statement reason) writes =
     effects.Rejected (stopped_text section row statement reason)
 
 -- a load of a script over records, from no writes
-abbrev pub load_effect : Content → LoadJob → Script → PlanEffect
+abbrev pub load_effect : Content → LoadJob → BoundScript → PlanEffect
 load_effect content job script =
-    let outcome = load (bound_of script) job.params job.rows (store_of content.model content.stored) [] in
+    let outcome = load script job.params job.rows (store_of content.model content.stored) [] in
     ended_effect (ran_of outcome) (writes_of outcome)
 
 -- a question for a table: the table that its text means, or why it means none

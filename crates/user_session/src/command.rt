@@ -1,5 +1,5 @@
 use cube_fixed::Money;
-use script_tree::Script;
+use script_bound::BoundScript;
 use std::alloc::Global;
 use std::sync::Arc;
 use user_text::{CellText, LoadJob, ViewText};
@@ -11,8 +11,9 @@ pub enum PlanCommand {
     Put(CellText, Money),
     /// Asks for the value of a cell.
     Get(CellText),
-    /// Runs a script over records, and stores what it writes: all of it or nothing.
-    Load(LoadJob, Arc<Script, Global>),
+    /// Runs a script over records, and stores what it writes: all of it or nothing. The script is bound once, for all
+    /// loads of it.
+    Load(LoadJob, Arc<BoundScript, Global>),
     /// Asks for a table of cells.
     View(ViewText),
 }

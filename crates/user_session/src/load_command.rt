@@ -9,8 +9,9 @@ use cell_reader::{Snapshot, Work};
 use history::Effect;
 use lists::ListOf;
 use load_cells::LoadCells;
+use script_bound::BoundScript;
 use script_run::{Ran, run};
-use script_tree::{Script, Section};
+use script_tree::Section;
 use script_values::LoadReason;
 use std::alloc::{AllocError, Global};
 use user_text::LoadJob;
@@ -20,7 +21,7 @@ pub(crate) fn load(
     alloc: Global,
     state: &mut Snapshot,
     job: &LoadJob,
-    script: &Script,
+    script: &BoundScript,
 ) -> Result<PlanEffect, AllocError>
     ensures effect { IfOk result (λ found. found ≡ load_effect (content_of state.old) job.now script.now) }
     ensures kept { content_of state.new ≡ content_of state.old }

@@ -3,7 +3,7 @@ use Rattle.std.specs.Prelude.{ℕ, List}
 use Rattle.file_passes.specs.Pass.{Pass, found, ◌>>=◌}
 use Rattle.model_text.specs.Contents.{Contents, script_names}
 use Rattle.rule_model.specs.BoundModel.{BoundModel}
-use Rattle.script_tree.specs.declared.script.Script.{Script}
+use Rattle.script_bound.specs.declared.script.BoundScript.{BoundScript}
 use Rattle.user_session.specs.declared.command.PlanCommand.{PlanCommand}
 use Rattle.user_text.specs.declared.command.UserCommand.{UserCommand}
 use Rattle.run_passes.specs.declared.run_job.RunJob.{RunJob}
@@ -13,11 +13,11 @@ use Rattle.judged_files.specs.Scripts.{Checked, script_files}
 
 -- ---- of a model
 
-abbrev pub checked_of : BoundModel → List (List ℕ) → List Script → Checked
-checked_of bound names trees = record { model = bound; scripts = record { names = names; trees = trees } }
+abbrev pub checked_of : BoundModel → List (List ℕ) → List BoundScript → Checked
+checked_of model names scripts = record { model = model; scripts = record { names = names; bound = scripts } }
 
-abbrev pub behind_scripts : List (List ℕ) → BoundModel → List Script → Pass Checked
-behind_scripts names bound trees = found (checked_of bound names trees)
+abbrev pub behind_scripts : List (List ℕ) → BoundModel → List BoundScript → Pass Checked
+behind_scripts names model scripts = found (checked_of model names scripts)
 
 abbrev pub behind_rules : List (List ℕ) → List (List ℕ) → BoundModel → Pass Checked
 behind_rules files names bound = scripts_pass files >>= behind_scripts names bound

@@ -3,5 +3,5 @@ use Rattle.std.specs.Arc.{arc_value}
 use Rattle.judged_files.proofs.scripts.kept.Given as goal
 
 -- the scripts so far, and then those that are left
-abbrev pub invariant-loop-tree : goal.invariant-loop-tree
-invariant-loop-tree l = map arc_value l.kept.items ++ l.tree-iterator.rest.items ≡ l.fn.trees.items
+abbrev pub invariant-loop-script : goal.invariant-loop-script
+invariant-loop-script l = map arc_value l.kept.items ++ l.script-iterator.rest.items ≡ l.fn.scripts.items

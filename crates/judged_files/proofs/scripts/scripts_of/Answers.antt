@@ -25,8 +25,8 @@ loop-source-preserved c =
     drop-item c.args.sources.now c.loop-source.source-index item c.loop-source-test.true c.source-item.is in
     let parsed = subst (λ l. AreParsed c.args.sources.now l c.loop-source.all.items) next c.loop-source.invariant in
     let is = subst (λ bytes. Answers bytes (Ok c.in-Ok.script)) c.bytes.ensures c.in-Ok.ensures in
-    let pushed : c.push.new.self.items ≡ c.loop-source.all.items ++ c.in-Ok.script ∷ [] = search rules in
-    rw pushed (parsed-next c.args.sources.now rest item c.loop-source.all.items c.in-Ok.script parsed is)
+    let pushed : c.push.new.self.items ≡ c.loop-source.all.items ++ c.in_ok-bound.bound ∷ [] = search rules in
+    rw pushed (parsed-next c.args.sources.now rest item c.loop-source.all.items c.in-Ok.script c.in_ok-bound.bound parsed is c.in_ok-bound.ensures)
 
 pub returns : goal.returns
 returns c =

@@ -27,7 +27,7 @@ pub returns-in-Ok-new-clause-comes : goal.returns-in-Ok-new-clause-comes
 returns-in-Ok-new-clause-comes g c =
     let o = outside g.F.Files.seen c.args.files.now c.scripts_pass.new.files in
     let whole : Checked = record { model = c.args.model; scripts = c.in-Ok-new.scripts } in
-    let same : checked_of c.args.model c.args.names c.in-Ok.trees ≡ whole = rw (← c.in-Ok-new.ensures.names, ← c.in-Ok-new.ensures.trees) refl in
+    let same : checked_of c.args.model c.args.names c.in-Ok.trees ≡ whole = rw (← c.in-Ok-new.ensures.names, ← c.in-Ok-new.ensures.bound) refl in
     let came = comes-mapped (scripts_pass (texts_of c.args.scripts.now)) (checked_of c.args.model c.args.names) o
     c.args.readings.now c.scripts_pass.new.readings c.in-Ok.trees c.in-Ok.ensures.comes in
     subst (λ x. Comes (behind_rules (texts_of c.args.scripts.now) c.args.names c.args.model) o c.args.readings.now c.scripts_pass.new.readings (Ok x)) same came

@@ -1,4 +1,5 @@
 use Rattle.std.proofs.Common.{Ok, Err, sym, subst}
+use Rattle.std.proofs.lemmas.Result.{err_from_is_err_and}
 use Rattle.file_passes.specs.Halting.{Comes}
 use Rattle.file_passes.specs.Outside.{outside}
 use Rattle.file_passes.proofs.Coming.{comes-stopped, comes-mapped}
@@ -11,17 +12,19 @@ use Rattle.run_passes.proofs.passes.behind_users.Goals as goal
 pub records_pass-requires : goal.records_pass-requires
 records_pass-requires g c = subst (λ checked. AreKnown checked.scripts.names c.args.texts) (sym c.checked.view_is) c.requires
 
-pub returns-in-Ok : goal.returns-in-Ok
-returns-in-Ok g c =
+pub returns : goal.returns
+returns g c =
     let o = outside g.F.Files.seen c.args.files.now c.records_pass.new.files in
     let came = comes-mapped (records_pass c.checked.inside.scripts c.args.texts) (Serve c.checked.inside.model) o
-    c.args.readings.now c.records_pass.new.readings c.in-Ok.commands c.in-Ok.ensures.comes in
-    subst (λ w. Comes (behind_users w c.args.texts) o c.args.readings.now c.records_pass.new.readings (Ok (Serve c.checked.inside.model c.in-Ok.commands))) c.checked.view_is came
+    c.args.readings.now c.records_pass.new.readings c.in_ok-commands.commands c.in_ok-commands.ensures.comes in
+    subst (λ w. Comes (behind_users w c.args.texts) o c.args.readings.now c.records_pass.new.readings (Ok (Serve c.checked.inside.model c.in_ok-commands.commands))) c.checked.view_is came
 
-pub returns-in-Err : goal.returns-in-Err
-returns-in-Err g c =
+pub returns-in_err-commands : goal.returns-in_err-commands
+returns-in_err-commands g c =
+    let p = err_from_is_err_and c.from_residual-in_err-commands.result c.from_residual-in_err-commands.ensures.1 in
     let o = outside g.F.Files.seen c.args.files.now c.records_pass.new.files in
-    let whole = checked_of c.checked.inside.model c.checked.inside.scripts.names c.checked.inside.scripts.trees in
+    let whole = checked_of c.checked.inside.model c.checked.inside.scripts.names c.checked.inside.scripts.bound in
     let came = comes-stopped (records_pass c.checked.inside.scripts c.args.texts) (served whole) o
-    c.args.readings.now c.records_pass.new.readings c.in-Err.halt c.in-Err.ensures.comes in
-    subst (λ w. Comes (behind_users w c.args.texts) o c.args.readings.now c.records_pass.new.readings (Err c.in-Err.halt)) c.checked.view_is came
+    c.args.readings.now c.records_pass.new.readings c.in_err-commands.field-0.0 c.in_err-commands.ensures.comes in
+    rw (p.1, p.2)
+    (subst (λ w. Comes (behind_users w c.args.texts) o c.args.readings.now c.records_pass.new.readings (Err c.in_err-commands.field-0.0)) c.checked.view_is came)

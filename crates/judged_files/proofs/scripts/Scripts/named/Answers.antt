@@ -17,11 +17,11 @@ unwrap-place-requires c =
 pub returns-clause-script : goal.returns-clause-script
 returns-clause-script c =
     let names = c.self.inside.names in
-    let trees = c.self.inside.trees.items in
+    let bound = c.self.inside.bound.items in
     let place = c.unwrap-place.result in
     let is : c.place_of.result ≡ place_of names c.args.name.now = search rules in
     let at : place_of names c.args.name.now ≡ Some place = sym is ∙ c.unwrap-place.ensures in
     let low = (position-Some (is_same_name c.args.name.now) names place [] at).0 in
-    let below : place < length trees = omega (arith, low, c.self.invariant.each, length-map trees arc_value) in
-    let read = slice_get_read trees (length trees) place c.index.result.now refl below c.index.ensures in
-    rw (sym c.self.view_is) (slice_get-map arc_value trees place ∙ ap (option_map arc_value) read)
+    let below : place < length bound = omega (arith, low, c.self.invariant.each, length-map bound arc_value) in
+    let read = slice_get_read bound (length bound) place c.index.result.now refl below c.index.ensures in
+    rw (sym c.self.view_is) (slice_get-map arc_value bound place ∙ ap (option_map arc_value) read)
