@@ -1,5 +1,5 @@
 -- The scripts and the files of all loads are there, once the users' texts were judged and the files were read.
-use Rattle.std.proofs.Common.{◌≡◌, ℕ, ◌+◌, ◌<◌, Bool, true, false, cond, not, IsTrue, List, [], ◌∷◌, ◌++◌, length, slice_index_or, Option, Some, None, option_map, IsSome, IfSome, zero, suc, refl, sym, ◌∙◌, subst, arith}
+use Rattle.std.proofs.Common.{◌≡◌, ℕ, ◌+◌, Bool, true, false, cond, not, IsTrue, List, [], ◌∷◌, ◌++◌, length, slice_index_or, Option, Some, None, option_map, IsSome, IfSome, zero, suc, refl, sym, ◌∙◌, subst, arith}
 use Rattle.std.specs.List.{All, cons_option, find}
 use Rattle.std.specs.Option.{option_or}
 use Rattle.std.specs.Str.{bytes_eq}

@@ -1,8 +1,7 @@
-use Rattle.std.proofs.Common.{rules, ◌≡◌, ◌∙◌, ◌∷◌, [], ◌++◌, ℕ, Bool, true, bytes_eq, sym, subst}
+use Rattle.std.proofs.Common.{rules, ◌≡◌, ◌∙◌, ◌∷◌, [], ◌++◌, true, bytes_eq, sym, subst}
 use Rattle.std.specs.Arc.{arc_value}
 use Rattle.std.specs.List.{list_any}
 use Rattle.user_text.specs.Rows.{rows_of}
-use Rattle.judged_files.specs.Inside.Kept.{AreRecordsSoFar}
 use Rattle.judged_files.proofs.RecordFacts.{records-added, records-known}
 use Rattle.judged_files.proofs.file_records.add.Goals as goal
 

@@ -1,7 +1,7 @@
-use Rattle.std.proofs.Common.{◌≡◌, ◌+◌, ◌∷◌, [], drop, subst}
-use Rattle.file_passes.proofs.WordFacts.{drop-item, drop-end}
+use Rattle.std.proofs.Common.{◌≡◌, ◌+◌, ◌∷◌, drop, subst}
+use Rattle.file_passes.proofs.WordFacts.{drop-item}
 use Rattle.judged_files.specs.Inside.Kept.{AreRecordsSoFar}
-use Rattle.judged_files.proofs.RecordFacts.{records-none, records-all}
+use Rattle.judged_files.proofs.RecordFacts.{records-none}
 use Rattle.judged_files.proofs.file_records.FileRecords.new.Goals as goal
 
 pub loop-source-init : goal.loop-source-init

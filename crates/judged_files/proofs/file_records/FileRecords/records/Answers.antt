@@ -1,8 +1,6 @@
-use Rattle.std.proofs.Common.{rules, ◌≡◌, ◌<◌, ◌∙◌, IsSome, Some, length, position, bytes_eq, refl, sym, subst}
-use Rattle.std.proofs.lemmas.Option.{slice_get_read}
+use Rattle.std.proofs.Common.{IsSome, sym, subst}
 use Rattle.file_passes.specs.Pass.{source_of}
-use Rattle.judged_files.specs.Inside.Kept.{file_records}
-use Rattle.judged_files.proofs.RecordFacts.{place-there, place-low, records-there}
+use Rattle.judged_files.proofs.RecordFacts.{place-there}
 use Rattle.judged_files.proofs.file_records.FileRecords.records.Goals as goal
 
 pub unwrap-place-requires : goal.unwrap-place-requires
