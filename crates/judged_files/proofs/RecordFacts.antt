@@ -1,5 +1,5 @@
 -- The records of files, as they are kept.
-use Rattle.std.proofs.Common.{◌≡◌, ◌<◌, ◌∙◌, ℕ, zero, suc, drop, Bool, true, false, List, [], ◌∷◌, ◌++◌, length, length-append, map, cond, Option, Some, None, option_map, slice_get, position, bytes_eq, IsSome, refl, sym, ap, subst, arith}
+use Rattle.std.proofs.Common.{◌≡◌, ◌∙◌, ℕ, zero, suc, drop, Bool, true, false, List, [], ◌∷◌, ◌++◌, length, length-append, map, cond, Option, Some, None, option_map, slice_get, position, bytes_eq, IsSome, refl, sym, ap, subst, arith}
 use Rattle.std.specs.Arc.{arc_value}
 use Rattle.std.specs.List.{list_any}
 use Rattle.std.specs.Option.{option_and_then}
@@ -7,7 +7,6 @@ use Rattle.std.specs.declared.alloc.Global.{Global}
 use Rattle.std.specs.declared.sync.Arc.{Arc}
 use Rattle.std.proofs.lemmas.List.{length-map, map-append}
 use Rattle.std.proofs.lemmas.List.Quantifiers.{position-Some}
-use Rattle.std.proofs.lemmas.Option.{slice_get-map}
 use Rattle.std.proofs.lemmas.Slice.Eq.{bytes_eq-Decides}
 use Rattle.lists.proofs.Found.{there, some_same}
 use Rattle.lists.proofs.NumberedFacts.{none_there}
@@ -146,16 +145,3 @@ place-there sources names kept name are there_is = by (position (λ other. bytes
         let none : None ≡ Some (rows_of 0 source.1) =
         sym (ap (option_and_then (λ place. slice_get (values kept) place)) at) ∙ are.found name ∙ ap (option_map (λ source. rows_of 0 source.1)) is in
         absurd (cc none)
-
--- the records at the place of a file
-pub records-there : (sources : List Source) (names : List (List ℕ)) (kept : Kept) (name : List ℕ) (i : ℕ) (records : Arc Records Global) → AreRecords sources names kept
-    → position (λ other. bytes_eq other name) names ≡ Some i → slice_get kept i ≡ Some records → file_records sources name ≡ Some (arc_value records)
-records-there sources names kept name i records are at here =
-    sym (are.found name) ∙ ap (option_and_then (λ place. slice_get (values kept) place)) at ∙ slice_get-map arc_value kept i ∙ ap (option_map arc_value) here
-
-pub place-low : (sources : List Source) (names : List (List ℕ)) (kept : Kept) (name : List ℕ) (i : ℕ) → AreRecords sources names kept
-    → position (λ other. bytes_eq other name) names ≡ Some i → i < length kept
-place-low sources names kept name i are at =
-    let low = (position-Some (λ other. bytes_eq other name) names i name at).0 in
-    let long = are.each in
-    omega (arith, low, long)
