@@ -1,5 +1,5 @@
 -- Scripts, judged one after another.
-use Rattle.std.proofs.Common.{List, [], ◌∷◌, ◌++◌, append_assoc, append-nil, Ok, Err, inl, inr}
+use Rattle.std.proofs.Common.{◌≡◌, List, [], ◌∷◌, ◌++◌, append_assoc, append-nil, Ok, Err, inl, inr}
 use Rattle.script_reader.specs.Answers.{Answers}
 use Rattle.script_reader.specs.declared.fault.ScriptFault.{ScriptFault}
 use Rattle.script_bind.specs.Binding.{bound_of}

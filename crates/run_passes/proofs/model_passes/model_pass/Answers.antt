@@ -14,7 +14,7 @@ returns-clause-comes g c =
 
 pub returns-in_err-text-clause-comes : goal.returns-in_err-text-clause-comes
 returns-in_err-text-clause-comes g c =
-    let p = err_from_is_err_and c.from_residual-in_err-text.result c.from_residual-in_err-text.ensures.1 in
+    let p = err_from_is_err_and c.from_residual.result c.from_residual.ensures.1 in
     rw (p.1, p.2) (comes-stopped (text_pass c.args.name.now) (behind_text c.args.name.now)
     (outside g.F.Files.seen c.args.files.now c.text_pass.new.files)
     c.args.readings.now c.text_pass.new.readings c.in_err-text.field-0.0 c.in_err-text.ensures.comes)

@@ -28,7 +28,7 @@ returns g c =
 
 pub returns-in_err-texts : goal.returns-in_err-texts
 returns-in_err-texts g c =
-    let p = err_from_is_err_and c.from_residual-in_err-texts.result c.from_residual-in_err-texts.ensures.1 in
+    let p = err_from_is_err_and c.from_residual.result c.from_residual.ensures.1 in
     let o = outside g.F.Files.seen c.args.files.now c.users_pass.new.files in
     let names : c.as_slice-scripts.result.now ≡ c.args.checked.scripts.names = search rules in
     let came = subst (λ l. Comes (users_pass l (texts_of c.args.users.now)) o c.args.readings.now c.users_pass.new.readings (Err c.in_err-texts.field-0.0)) names c.in_err-texts.ensures.comes in

@@ -21,7 +21,7 @@ returns g c =
 
 pub returns-in_err-commands : goal.returns-in_err-commands
 returns-in_err-commands g c =
-    let p = err_from_is_err_and c.from_residual-in_err-commands.result c.from_residual-in_err-commands.ensures.1 in
+    let p = err_from_is_err_and c.from_residual.result c.from_residual.ensures.1 in
     let o = outside g.F.Files.seen c.args.files.now c.records_pass.new.files in
     let whole = checked_of c.checked.inside.model c.checked.inside.scripts.names c.checked.inside.scripts.bound in
     let came = comes-stopped (records_pass c.checked.inside.scripts c.args.texts) (served whole) o

@@ -15,7 +15,7 @@ returns g c =
 
 pub returns-in_err-checked : goal.returns-in_err-checked
 returns-in_err-checked g c =
-    let p = err_from_is_err_and c.from_residual-in_err-checked.result c.from_residual-in_err-checked.ensures.1 in
+    let p = err_from_is_err_and c.from_residual.result c.from_residual.ensures.1 in
     rw (p.1, p.2) (comes-stopped (model_pass c.args.model.now) (behind_model (texts_of c.args.users.now))
     (outside g.F.Files.seen c.args.files.now c.model_pass.new.files)
     c.args.readings.now c.model_pass.new.readings c.in_err-checked.field-0.0 c.in_err-checked.ensures.comes)
