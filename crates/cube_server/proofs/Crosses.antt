@@ -25,7 +25,6 @@ use Rattle.rule_model.specs.contracts.model.Model as Model
 use Rattle.cube_space.proofs.space.Space.TheSendSync as space
 use Rattle.dim_weights.proofs.weights.Weights.TheSendSync as weights
 use Rattle.cell_store.proofs.store.Store.TheSendSync as store
-use Rattle.cell_store.proofs.set.PageSet.TheSendSync as pages
 use Rattle.feed_map.proofs.fed.Feeding.TheSendSync as feeding
 use Rattle.feed_sources.proofs.above.Above.TheSendSync as above
 use Rattle.feed_sources.specs.contracts.source_model.SourceModel as SourceModel
@@ -40,7 +39,6 @@ use Rattle.memo_cells.specs.contracts.shared.SharedMemo as SharedMemo
 use Rattle.cell_reader.specs.contracts.snapshot.Snapshot as Snapshot
 use Rattle.user_session.specs.contracts.content.Content as Content
 use Rattle.sqlite_items.proofs.items.Items.TheSendSync as items
-use Rattle.dim_name.proofs.name.Name.TheSendSync as name
 use Rattle.script_bound.proofs.term.Term.TheLaws.TheKnot as term
 use Rattle.script_bound.proofs.statement.Case.TheLaws.TheKnot as statements
 use Rattle.script_bound.specs.contracts.term.Term as Term
@@ -145,14 +143,14 @@ Term-field-sync = search (parts, term.sync-Term, money.the_sync, fun.the_field_s
 
 ScriptStatement-field-send : IsSend ScriptStatement.the_field.row
 ScriptStatement-field-send =
-    statements.send-Statement Term-field-send (λ h s. search (parts, items.the_send)) (search parts) (search (parts, Term-send, items.the_send))
+    statements.send-Statement Term-field-send (λ h s. search (parts, items.the_send)) (search parts) (search parts) (search (parts, Term-send, items.the_send))
 
 ScriptStatement-send : IsSend ScriptStatement.the_row
 ScriptStatement-send = search (parts, ScriptStatement-field-send) depth 20
 
 ScriptStatement-field-sync : IsSync ScriptStatement.the_field.row
 ScriptStatement-field-sync =
-    statements.sync-Statement Term-field-sync (λ h s. search (parts, items.the_sync)) (search parts) (search (parts, Term-sync, items.the_sync))
+    statements.sync-Statement Term-field-sync (λ h s. search (parts, items.the_sync)) (search parts) (search parts) (search (parts, Term-sync, items.the_sync))
 
 ScriptStatement-sync : IsSync ScriptStatement.the_row
 ScriptStatement-sync = search (parts, ScriptStatement-field-sync) depth 20

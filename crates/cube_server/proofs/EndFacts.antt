@@ -1,5 +1,5 @@
 -- How a run ends whose text was written whole.
-use Rattle.std.proofs.Common.{◌≡◌, ℕ, List, [], ◌∷◌, ◌++◌, Option, Result, Ok, Err, IfOk, IfErr, inl, inr, refl, subst}
+use Rattle.std.proofs.Common.{◌≡◌, ℕ, List, [], ◌∷◌, Option, Result, Ok, Err, IfOk, inl, inr, refl, subst}
 use Rattle.std.specs.Io.KnownBytes.{Appends}
 use Rattle.cube_outside.specs.Bytes.{AppendsPart}
 use Rattle.cube_server.specs.declared.answer.Answer.{Answer}
@@ -12,7 +12,7 @@ use Rattle.cube_server.specs.Answer.{Allows, IsOutput, WritesPart}
 use Rattle.file_passes.specs.Course.{IsCourse}
 use Rattle.file_passes.specs.Outside.{Outside}
 use Rattle.file_passes.specs.Pass.{Readings, NotWords, Reads}
-use Rattle.run_passes.specs.RefusalOrder.{plan_pass, run_of}
+use Rattle.run_passes.specs.RefusalOrder.{run_of}
 use Rattle.cube_words.specs.Words.{Plan, IsPlan}
 use Rattle.cube_server.specs.Inside.Ending.{Answers, Ends, joined}
 use Rattle.file_passes.specs.Halting.{Comes}

@@ -1,6 +1,5 @@
-use Rattle.std.proofs.Common.{rules, ◌≡◌, ◌+◌, ◌++◌, ◌∷◌, [], append_assoc, append-nil, drop, sym, ◌∙◌, ap, List, ℕ}
-use Rattle.cube_server.specs.Inside.Ending.{joined}
-use Rattle.cube_server.specs.Output.{numbered, user_text, users_text}
+use Rattle.std.proofs.Common.{rules, ◌≡◌, ◌+◌, ◌++◌, ◌∷◌, []}
+use Rattle.cube_server.specs.Output.{user_text}
 use Rattle.file_passes.proofs.WordFacts.{drop-item}
 use Rattle.cube_server.proofs.Pieces.{numbered-piece}
 use Rattle.cube_server.proofs.answer.print_users.Goals as goal

@@ -16,7 +16,7 @@ returns-clause-text g c =
     let history : c.in_ok-print_history.field-0.items ≡ history_text log = search rules in
     let served : IsHistoryOf effect after (opening c.args.model) c.args.users told log = c.in_ok-served.ensures.history in
     record {
-      accepted = c.model.ensures.accepted;
+      accepted = c.model-model.ensures.accepted;
       told = told;
       log = log;
       history = served;
