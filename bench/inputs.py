@@ -221,6 +221,14 @@ def opened_total(folder, n):
     return write(folder, m_txt=m, r_rux=r, x_csv=csv, put_ti="DATA:\nCellPutN(V4, 'C', V1, V2, V3);\n", u_txt=u)
 
 
+def opened_zeros(folder, n):
+    """Ten of n stored cells that feed one total of 4,000,000 leaf cells are put to 0, so that all fed cells are found anew."""
+    words = opened_total(folder, n)
+    with open(f"{folder}/u.txt", "a") as file:
+        file.write("".join(f"PUT 'C' ('p{i + 1}', 'q1', 'Units') = 0;\n" for i in range(10)))
+    return words
+
+
 # Loads.
 
 
@@ -349,7 +357,7 @@ SHAPES = [
     (equal_moves, 100000), (unmarked_moves, 100000), (wide_area, 90000), (shared_rule_file, 100000), (attributes, 100000),
     (listed_source, 90000), (climbing_target, 90000), (many_feeders, 1000),
     (long_order, 900), (totals_above_loop, 90000), (cancelling_weights, 50000), (dense_leaves, 90000),
-    (continued, 900), (puts_of_0, 30000), (puts, 800000), (zeros, 800000), (opened_total, 100000), (overfed_total, 1000000),
+    (continued, 900), (puts_of_0, 30000), (puts, 800000), (zeros, 800000), (opened_total, 100000), (opened_zeros, 100000), (overfed_total, 1000000),
     (clearing_load, 100000), (adding_load, 100000), (paired_load, 100000), (plain_increments, 1000000), (equal_loads, 2000),
     (variables, 100000), (parameters, 100000), (joins, 40),
     (recurrence, 240), (stock, 20000), (wide_formula, 900), (ruled_total, 800000), (empty_axis, 90000), (many_views, 2000),
