@@ -30,6 +30,8 @@ pub record AreRecords (sources : List Source) (names : List (List ℕ)) (kept : 
   pub found : (name : List ℕ) → kept_records names kept name ≡ file_records sources name
 
 -- the same, where the rest of the files is still to be read
-pub record AreRecordsSoFar (sources rest : List Source) (names : List (List ℕ)) (kept : List (Arc Records Global)) : Type 0 where
+pub record AreRecordsSoFar (sources rest : List Source) (names : List (List ℕ)) (kept : List (Arc Records Global))
+    : Type 0 where
   pub each : length kept ≡ length names
-  pub found : (name : List ℕ) → first_of (kept_records names kept name) (file_records rest name) ≡ file_records sources name
+  pub found : (name : List ℕ)
+      → first_of (kept_records names kept name) (file_records rest name) ≡ file_records sources name
