@@ -35,6 +35,7 @@ use Rattle.user_session.specs.declared.command.PlanCommand.TheVariants.{Put, Get
 use Rattle.user_session.specs.declared.content.Content.{Content}
 use Rattle.user_session.specs.declared.reply.CommandReason.{CommandReason}
 use Rattle.user_session.specs.declared.reply.CommandReason.TheVariants as reasons
+use Rattle.user_text.specs.Jobs.{rows_in}
 use Rattle.user_text.specs.declared.command.ViewText.{ViewText}
 use Rattle.user_text.specs.declared.load_job.LoadJob.{LoadJob}
 use Rattle.view_query.specs.Binding.{bound}
@@ -121,7 +122,7 @@ ended_plain (Stopped section row statement reason) writes = stopped_plain sectio
 
 load_plain : (content : Content) (job : LoadJob) (script : BoundScript) → IsPlain (load_effect content job script)
 load_plain content job script =
-    let outcome = load script job.params job.rows (store_of content.model content.stored) [] in
+    let outcome = load script job.params (rows_in job) (store_of content.model content.stored) [] in
     ended_plain (ran_of outcome) (writes_of outcome)
 
 -- ---- tables
