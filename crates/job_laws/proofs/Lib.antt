@@ -1,0 +1,3 @@
+pub mod OneScripts
+pub mod OneCommands
+pub mod OneJob

@@ -1,0 +1,62 @@
+-- The commands of users' texts are the same.
+use Rattle.std.proofs.Common.{List, [], ◌∷◌, sym, ◌∙◌, ap}
+use Rattle.std.specs.Arc.{arc_value}
+use Rattle.std.specs.List.{AllZip, slice_get}
+use Rattle.file_passes.specs.Pass.{Source}
+use Rattle.judged_files.specs.Loads.{IsLoad, IsCommand, AreCommands}
+use Rattle.judged_files.specs.Scripts.{Scripts}
+use Rattle.lists.proofs.Found.{some_same}
+use Rattle.script_bound.specs.declared.script.BoundScript.{BoundScript}
+use Rattle.user_session.specs.declared.command.PlanCommand.{PlanCommand}
+use Rattle.user_text.specs.declared.command.LoadText.{LoadText}
+use Rattle.user_text.specs.declared.command.UserBody.{UserBody}
+use Rattle.user_text.specs.declared.command.UserBody.TheVariants as bodies
+use Rattle.user_text.specs.declared.command.UserCommand.{UserCommand}
+use Rattle.user_text.specs.declared.load_job.LoadJob.{LoadJob}
+use Rattle.job_laws.specs.Same.{IsSameLoad, IsSameCommand}
+
+-- what belongs to one text each is alike
+zip_alike : {A B : Type 0} (R : A → B → Type 0) (Same : B → B → Type 0)
+    → ((a : A) (x y : B) → R a x → R a y → Same x y)
+    → (texts : List A) (xs ys : List B) → AllZip R texts xs → AllZip R texts ys → AllZip Same xs ys
+zip_alike R Same one [] [] [] p q = tt
+zip_alike R Same one [] [] (y ∷ ys) p q = absurd q
+zip_alike R Same one [] (x ∷ xs) ys p q = absurd p
+zip_alike R Same one (a ∷ texts) [] ys p q = absurd p
+zip_alike R Same one (a ∷ texts) (x ∷ xs) [] p q = absurd q
+zip_alike R Same one (a ∷ texts) (x ∷ xs) (y ∷ ys) p q =
+    (one a x y p.0 q.0, zip_alike R Same one texts xs ys p.1 q.1)
+
+module _ (scripts : Scripts) (sources : List Source) where
+  same_load : (load : LoadText) (job other : LoadJob) (bound again : BoundScript)
+      → IsLoad scripts sources load job bound → IsLoad scripts sources load other again
+      → IsSameLoad job other bound again
+  same_load load job other bound again p q =
+      let place = some_same (sym p.place ∙ q.place) in
+      record {
+        place = place;
+        script = some_same (sym p.script ∙ ap (slice_get scripts.bound) place ∙ q.script);
+        records = some_same (sym p.records ∙ q.records);
+        params = p.params ∙ sym q.params;
+      }
+
+  same_command : (body : UserBody) (x y : PlanCommand)
+      → IsCommand scripts sources body x → IsCommand scripts sources body y → IsSameCommand x y
+  same_command (bodies.Put cell number) x y p q = rw p q
+  same_command (bodies.Get cell) x y p q = rw p q
+  same_command (bodies.View view) x y p q = rw p q
+  same_command (bodies.Load load) x y (job, script, is, loads) (other, again, too, runs) =
+      rw (is, too) (same_load load job other (arc_value script) (arc_value again) loads runs)
+
+  same_commands : (texts : List UserCommand) (xs ys : List PlanCommand)
+      → AreCommands scripts sources texts xs → AreCommands scripts sources texts ys
+      → AllZip IsSameCommand xs ys
+  same_commands texts xs ys p q =
+      zip_alike (λ text command. IsCommand scripts sources text.body command) IsSameCommand
+      (λ text x y. same_command text.body x y) texts xs ys p q
+
+  pub same_users : (users : List (List UserCommand)) (xs ys : List (List PlanCommand))
+      → AllZip (AreCommands scripts sources) users xs → AllZip (AreCommands scripts sources) users ys
+      → AllZip (AllZip IsSameCommand) xs ys
+  same_users users xs ys p q =
+      zip_alike (AreCommands scripts sources) (AllZip IsSameCommand) same_commands users xs ys p q

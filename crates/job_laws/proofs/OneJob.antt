@@ -1,0 +1,110 @@
+-- The passes of a run find one job.
+use Rattle.std.proofs.Common.{◌≡◌, ℕ, List, refl, sym, ◌∙◌, subst}
+use Rattle.std.specs.List.{AllZip}
+use Rattle.cube_words.specs.Words.{Plan, Run, Check, Sample, IsPlan}
+use Rattle.file_passes.specs.Pass.{Readings, NotWords, Pass, the, files, judged, ◌>>=◌}
+use Rattle.file_passes.proofs.PassFacts.{one-files}
+use Rattle.judged_files.specs.Loads.{record_files, commands_judgement}
+use Rattle.judged_files.specs.Scripts.{Scripts, Checked, script_files, scripts_judgement}
+use Rattle.model_text.specs.Contents.{script_names, Contents as Text}
+use Rattle.rule_model.specs.BoundModel.{BoundModel}
+use Rattle.run_passes.specs.Inside.Plans.{behind_scripts, behind_rules, behind_text, behind_users, behind_model}
+use Rattle.run_passes.specs.RefusalOrder.{text_pass, deploy_pass, scripts_pass, model_pass}
+use Rattle.run_passes.specs.RefusalOrder.{users_pass, records_pass, plan_pass, run_of}
+use Rattle.run_passes.specs.declared.run_job.RunJob.{RunJob}
+use Rattle.run_passes.specs.declared.run_job.RunJob.TheVariants as jobs
+use Rattle.run_passes.proofs.PlanFacts.{steady-text, steady-deploy, steady-users, accept}
+use Rattle.run_passes.proofs.PlanWords.{one_plan}
+use Rattle.script_text_laws.specs.ScriptAnswers.{OneScriptAnswer}
+use Rattle.user_session.specs.declared.command.PlanCommand.{PlanCommand}
+use Rattle.user_text.specs.declared.command.UserCommand.{UserCommand}
+use Rattle.job_laws.specs.Same.{IsSameCommand, IsSameJob}
+use Rattle.job_laws.proofs.OneScripts.{one_list}
+use Rattle.job_laws.proofs.OneCommands.{same_users}
+
+-- what a pass finds over one list of files is the same
+abbrev FindsSame : {A : Type 0} → (A → A → Type 0) → Pass A → Type 0
+FindsSame {A} Same P = (readings : Readings) (a b : A) → P.finds readings a → P.finds readings b → Same a b
+
+-- what a pass finds over one list of files is one thing
+abbrev FindsOne : {A : Type 0} → Pass A → Type 0
+FindsOne {A} P = FindsSame (λ a b. a ≡ b) P
+
+-- a pass behind one that finds one thing
+same-behind : {A B : Type 0} (Same : B → B → Type 0) (P : Pass A) (K : A → Pass B)
+    → FindsOne P → ((a : A) → FindsSame Same (K a)) → FindsSame Same (P >>= K)
+same-behind Same P K one next readings b c (x, is, p) (y, too, q) =
+    next x readings b c p (subst (λ a. (K a).finds readings c) (sym (one readings x y is too)) q)
+
+one-behind : {A B : Type 0} (P : Pass A) (K : A → Pass B)
+    → FindsOne P → ((a : A) → FindsOne (K a)) → FindsOne (P >>= K)
+one-behind P K one next = same-behind (λ a b. a ≡ b) P K one next
+
+-- ---- of users
+
+same-records : (scripts : Scripts) (texts : List (List UserCommand))
+    → FindsSame (AllZip (AllZip IsSameCommand)) (records_pass scripts texts)
+same-records scripts texts =
+    same-behind (AllZip (AllZip IsSameCommand)) (files (record_files texts))
+    (λ sources. judged (commands_judgement scripts sources texts)) (one-files (record_files texts)).one_found
+    (λ sources readings a b. same_users scripts sources texts a b)
+
+same-served : (model : BoundModel) (xs ys : List (List PlanCommand)) (a b : RunJob)
+    → AllZip (AllZip IsSameCommand) xs ys → a ≡ jobs.Serve model xs → b ≡ jobs.Serve model ys → IsSameJob a b
+same-served model xs ys a b same p q = rw (p, q) (refl, same)
+
+same-behind_users : (checked : Checked) (texts : List (List UserCommand))
+    → FindsSame IsSameJob (behind_users checked texts)
+same-behind_users checked texts readings a b (xs, is, p) (ys, too, q) =
+    same-served checked.model xs ys a b (same-records checked.scripts texts readings xs ys is too) p q
+
+same-behind_model : (users : List (List ℕ)) (checked : Checked) → FindsSame IsSameJob (behind_model users checked)
+same-behind_model users checked =
+    same-behind IsSameJob (users_pass checked.scripts.names users) (behind_users checked)
+    (steady-users checked.scripts.names users).one.one_found (same-behind_users checked)
+
+-- ---- of each plan
+
+same-accepted : (model : BoundModel) (a b : RunJob) → a ≡ jobs.Check model → b ≡ jobs.Check model → IsSameJob a b
+same-accepted model a b p q = rw p q
+
+same-sample : (size : ℕ) (a b : RunJob) → a ≡ jobs.Sample size → b ≡ jobs.Sample size → IsSameJob a b
+same-sample size a b p q = rw p q
+
+-- ---- of a model, where the bytes of a script have one answer
+
+module _ (answers : (bytes : List ℕ) → OneScriptAnswer bytes) where
+  one-scripts : (names : List (List ℕ)) → FindsOne (scripts_pass names)
+  one-scripts names =
+      one-behind (files names) (λ sources. judged (scripts_judgement sources))
+      (one-files names).one_found (λ sources readings a b. one_list answers sources a b)
+
+  one-behind_rules : (files names : List (List ℕ)) (bound : BoundModel) → FindsOne (behind_rules files names bound)
+  one-behind_rules files names bound =
+      one-behind (scripts_pass files) (behind_scripts names bound) (one-scripts files)
+      (λ scripts readings a b p q. p ∙ sym q)
+
+  one-behind_text : (name : List ℕ) (contents : Text) → FindsOne (behind_text name contents)
+  one-behind_text name contents =
+      let files = script_files contents.scripts in
+      let names = script_names contents.scripts in
+      one-behind (deploy_pass name contents) (behind_rules files names)
+      (steady-deploy name contents).one.one_found (one-behind_rules files names)
+
+  one-model : (name : List ℕ) → FindsOne (model_pass name)
+  one-model name =
+      one-behind (text_pass name) (behind_text name) (steady-text name).one.one_found (one-behind_text name)
+
+  -- ---- of a run
+
+  same-plan : (plan : Plan) → FindsSame IsSameJob (plan_pass plan)
+  same-plan (Run model users) =
+      same-behind IsSameJob (model_pass model) (behind_model users) (one-model model) (same-behind_model users)
+  same-plan (Check model) =
+      same-behind IsSameJob (model_pass model) accept (one-model model)
+      (λ checked readings a b. same-accepted checked.model a b)
+  same-plan (Sample size) = λ readings a b p q. same-sample size a b p q
+
+  pub same_run : (words : List (List ℕ)) → FindsSame IsSameJob (run_of words)
+  same_run words =
+      same-behind IsSameJob (the (IsPlan words) NotWords) plan_pass (λ readings a b. one_plan words a b) same-plan

@@ -1,0 +1,38 @@
+-- When two jobs of a run are the same, however loads keep their scripts and records.
+use Rattle.std.specs.Prelude.{◌≡◌}
+use Rattle.std.specs.Arc.{arc_value}
+use Rattle.std.specs.List.{AllZip}
+use Rattle.user_text.specs.Jobs.{rows_in}
+use Rattle.user_text.specs.declared.load_job.LoadJob.{LoadJob}
+use Rattle.script_bound.specs.declared.script.BoundScript.{BoundScript}
+use Rattle.user_session.specs.declared.command.PlanCommand.{PlanCommand}
+use Rattle.user_session.specs.declared.command.PlanCommand.TheVariants as plans
+use Rattle.run_passes.specs.declared.run_job.RunJob.{RunJob}
+use Rattle.run_passes.specs.declared.run_job.RunJob.TheVariants as jobs
+
+-- two loads run one script, at one place in the model, over the same records, with the same variables set
+pub record IsSameLoad (job other : LoadJob) (bound again : BoundScript) : Type 0 where
+  pub place : job.script ≡ other.script
+  pub script : bound ≡ again
+  pub records : rows_in job ≡ rows_in other
+  pub params : job.params ≡ other.params
+
+-- two commands are equal; two loads run alike
+abbrev pub IsSameCommand : PlanCommand → PlanCommand → Type 0
+IsSameCommand (plans.Put cell number) command = command ≡ plans.Put cell number
+IsSameCommand (plans.Get cell) command = command ≡ plans.Get cell
+IsSameCommand (plans.Load job script) (plans.Put cell number) = ⊥
+IsSameCommand (plans.Load job script) (plans.Get cell) = ⊥
+IsSameCommand (plans.Load job script) (plans.Load other again) =
+    IsSameLoad job other (arc_value script) (arc_value again)
+IsSameCommand (plans.Load job script) (plans.View view) = ⊥
+IsSameCommand (plans.View view) command = command ≡ plans.View view
+
+-- two jobs run the same commands on one model; other jobs are equal
+abbrev pub IsSameJob : RunJob → RunJob → Type 0
+IsSameJob (jobs.Serve model users) (jobs.Serve other more) =
+    (model ≡ other) × AllZip (AllZip IsSameCommand) users more
+IsSameJob (jobs.Serve model users) (jobs.Check other) = ⊥
+IsSameJob (jobs.Serve model users) (jobs.Sample size) = ⊥
+IsSameJob (jobs.Check model) job = job ≡ jobs.Check model
+IsSameJob (jobs.Sample size) job = job ≡ jobs.Sample size
