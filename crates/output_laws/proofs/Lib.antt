@@ -6,3 +6,6 @@ pub mod Names
 pub mod Tables
 pub mod Replies
 pub mod Histories
+pub mod Alike
+pub mod SameJobs
+pub mod OneText

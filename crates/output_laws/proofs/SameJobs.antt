@@ -1,0 +1,61 @@
+-- Commands that are one but for pointers do the same, so jobs of them have the same texts.
+use Rattle.std.proofs.Common.{◌≡◌, ℕ, List, [], ◌∷◌, ap, sym, ◌∙◌, subst, arith}
+use Rattle.std.specs.Arc.{arc_value}
+use Rattle.std.specs.List.{AllZip}
+use Rattle.cube_server.specs.Answer.{IsServed}
+use Rattle.cube_server.specs.Laws.{OneUserHasOneOutput}
+use Rattle.load_cells.specs.Loads.{store_of}
+use Rattle.rule_model.specs.BoundModel.{BoundModel}
+use Rattle.run_passes.specs.declared.run_job.RunJob.TheVariants.{Serve, Check, Sample}
+use Rattle.script_run.specs.Load.{load, ran_of, writes_of}
+use Rattle.user_session.specs.Content.{opening, after}
+use Rattle.user_session.specs.Planning.{effect, ended_effect}
+use Rattle.user_session.specs.declared.command.PlanCommand.{PlanCommand}
+use Rattle.user_session.specs.declared.command.PlanCommand.TheVariants.{Put, Get, Load, View}
+use Rattle.user_session.specs.declared.content.Content.{Content}
+use Rattle.user_text.specs.Jobs.{rows_in}
+use Rattle.job_laws.specs.Same.{IsSameCommand}
+use Rattle.output_laws.specs.Same.{SameJobsPrintTheSame}
+use Rattle.output_laws.proofs.Alike.{DoTheSame, zip_map, run_of_alike}
+
+pub same_effect : (a b : PlanCommand) → IsSameCommand a b → (content : Content) → effect content a ≡ effect content b
+same_effect (Put text number) b same content = ap (λ command. effect content command) (sym same)
+same_effect (Get text) b same content = ap (λ command. effect content command) (sym same)
+same_effect (View text) b same content = ap (λ command. effect content command) (sym same)
+same_effect (Load job script) (Put text number) same content = absurd same
+same_effect (Load job script) (Get text) same content = absurd same
+same_effect (Load job script) (View text) same content = absurd same
+same_effect (Load job script) (Load other again) same content =
+    let store = store_of content.model content.stored in
+    ap (λ rows. ended_effect (ran_of (load (arc_value script) job.params rows store [])) (writes_of (load (arc_value script) job.params rows store []))) same.records
+    ∙ ap (λ params. ended_effect (ran_of (load (arc_value script) params (rows_in other) store [])) (writes_of (load (arc_value script) params (rows_in other) store []))) same.params
+    ∙ ap (λ bound. ended_effect (ran_of (load bound other.params (rows_in other) store [])) (writes_of (load bound other.params (rows_in other) store []))) same.script
+
+same_users : (users others : List (List PlanCommand)) → AllZip (AllZip IsSameCommand) users others
+    → AllZip (AllZip (DoTheSame effect)) users others
+same_users users others same =
+    zip_map (AllZip IsSameCommand) (AllZip (DoTheSame effect))
+    (λ commands more alike. zip_map IsSameCommand (DoTheSame effect) same_effect commands more alike) users others same
+
+served_alike : (model : BoundModel) (users others : List (List PlanCommand)) (text : List ℕ) → AllZip (AllZip IsSameCommand) users others
+    → IsServed model users text → IsServed model others text
+served_alike model users others text same served = record {
+  accepted = served.accepted;
+  told = served.told;
+  log = served.log;
+  history = run_of_alike effect after (opening model) users others served.told served.log (same_users users others same) served.history;
+  is_text = served.is_text;
+}
+
+pub same_text : OneUserHasOneOutput → SameJobsPrintTheSame
+same_text one (Check model) b text other few same p q = absurd few
+same_text one (Sample size) b text other few same p q = absurd few
+same_text one (Serve model users) (Check again) text other few same p q = absurd same
+same_text one (Serve model users) (Sample size) text other few same p q = absurd same
+same_text one (Serve model []) (Serve again more) text other few same p q = absurd (omega (arith, few))
+same_text one (Serve model (commands ∷ next ∷ users)) (Serve again more) text other few same p q = absurd (omega (arith, few))
+same_text one (Serve model (commands ∷ [])) (Serve again []) text other few same p q = absurd same.1
+same_text one (Serve model (commands ∷ [])) (Serve again (more ∷ next ∷ rest)) text other few same p q = absurd same.1.1
+same_text one (Serve model (commands ∷ [])) (Serve again (more ∷ [])) text other few same p q =
+    let alike = served_alike model (commands ∷ []) (more ∷ []) text same.1 p in
+    one again more text other (subst (λ m. IsServed m (more ∷ []) text) same.0 alike) q
