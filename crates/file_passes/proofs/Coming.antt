@@ -17,7 +17,8 @@ pub halts-later : {A B : Type 0} (P : Pass A) (K : A → Pass B) (o : Outside) (
 halts-later P K o old new halts.NotWords h = (inl h.0, h.1, h.2)
 halts-later P K o old new halts.Unread h = (inl h.0, h.1, h.2)
 halts-later P K o old new (halts.Refused refusal) h = (inl h.0, h.1, h.2)
-halts-later P K o old new halts.Memory h = tt
+halts-later P K o old new halts.Memory (inl asks) = inl asks
+halts-later P K o old new halts.Memory (inr (name, stops, asks)) = inr (name, inl stops, asks)
 
 pub comes-stopped : {A B : Type 0} (P : Pass A) (K : A → Pass B) (o : Outside) (old new : Readings) (h : Halt)
     → IsReadOn P o.known old new × Halts P o old new h → IsReadOn (P >>= K) o.known old new × Halts (P >>= K) o old new h
@@ -40,7 +41,8 @@ comes-judged R judge o old new s (Err halts.NotWords) went is judges = absurd ju
 comes-judged R judge o old new s (Err halts.Unread) went is judges = absurd judges
 comes-judged R judge o old new s (Err (halts.Refused refusal)) went is judges =
     (on-later R (λ s. judged (judge s)) o.known old new went.0, (inr (s, is, (refusal, judges, refl)), went.1, went.2))
-comes-judged R judge o old new s (Err halts.Memory) went is judges = (on-later R (λ s. judged (judge s)) o.known old new went.0, tt)
+comes-judged R judge o old new s (Err halts.Memory) went is judges =
+    (on-later R (λ s. judged (judge s)) o.known old new went.0, inl went.2)
 
 -- what was found goes into what is found behind it
 pub comes-mapped : {A B : Type 0} (P : Pass A) (f : A → B) (o : Outside) (old new : Readings) (a : A)
@@ -69,7 +71,8 @@ module _ {F : Type 0} (seen : F → Seen) where
     halts_on halts.NotWords is h = (inr (x, is, h.0), h.1 ∙ went.1, λ base begun. h.2 base (went.2 base begun))
     halts_on halts.Unread is h = (inr (x, is, h.0), subst (λ n. Rose n (seen c).faults) went.1 h.1, λ base begun. h.2 base (went.2 base begun))
     halts_on (halts.Refused refusal) is h = (inr (x, is, h.0), h.1 ∙ went.1, λ base begun. h.2 base (went.2 base begun))
-    halts_on halts.Memory is h = tt
+    halts_on halts.Memory is (inl asks) = inl (λ base begun. asks base (went.2 base begun))
+    halts_on halts.Memory is (inr (name, stops, asks)) = inr (name, inr (x, is, stops), λ base begun. asks base (went.2 base begun))
 
     pub comes-next : (r : Result B Halt) → Comes (K x) (from b c) mid new r → Comes (P >>= K) (from a c) old new r
     comes-next (Ok y) then = (goes then.0, (x, kept then.0.0, then.1))

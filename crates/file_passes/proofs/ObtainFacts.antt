@@ -1,5 +1,5 @@
 -- Reading one file, and all files of a list.
-use Rattle.std.proofs.Common.{◌≡◌, ℕ, List, [], ◌∷◌, ◌++◌, Option, Some, None, IsSome, Result, Ok, Err, true, refl, sym, ◌∙◌, ap, inl, inr}
+use Rattle.std.proofs.Common.{◌≡◌, ℕ, List, [], ◌∷◌, ◌++◌, Option, Some, None, IsSome, Result, Ok, Err, true, refl, sym, ◌∙◌, ap, inl, inr, ◌⊎◌}
 use Rattle.std.specs.Str.{bytes_eq}
 use Rattle.std.proofs.lemmas.Slice.Eq.{bytes_eq-Decides}
 use Rattle.cube_outside.specs.Counts.{Rose}
@@ -45,13 +45,17 @@ module _ {F : Type 0} (seen : F → Seen) where
   pub unobtained : (a b : F) (name : List ℕ) (old new : Readings) (f : FileFault) (h : Halt)
       → bytes_of old name ≡ None → new ≡ old → h ≡ unread f
       → (f ≡ fault.Failed → Rose (seen a).faults (seen b).faults) → (f ≡ fault.Failed → (seen b).missed ≡ name) → (f ≡ fault.Failed → (seen b).asked ≡ name ∷ (seen a).asked)
+      → ((seen b).asked ≡ name ∷ (seen a).asked) ⊎ ((seen b).asked ≡ (seen a).asked)
       → ComesThrough (file name) (from a b) old new (Err h)
-  unobtained a b name old new fault.Failed h none same is rose name_is more =
+  unobtained a b name old new fault.Failed h none same is rose name_is more most =
       rw (same, is) (
         on-refl (file name) (seen a).known old,
         ((rw (name_is refl) (none, refl)), rose refl, λ base begun. more refl ∙ ap (λ l. name ∷ l) begun ∙ ap (λ n. n ∷ (names_of old ++ base)) (sym (name_is refl))),
       )
-  unobtained a b name old new fault.Memory h none same is rose name_is more = rw (same, is) (on-refl (file name) (seen a).known old, tt)
+  unobtained a b name old new fault.Memory h none same is rose name_is more (inl asked) =
+      rw (same, is) (on-refl (file name) (seen a).known old, inr (name, (none, refl), λ base begun. asked ∙ ap (λ l. name ∷ l) begun))
+  unobtained a b name old new fault.Memory h none same is rose name_is more (inr asked) =
+      rw (same, is) (on-refl (file name) (seen a).known old, inl (λ base begun. asked ∙ begun))
 
   -- one file, and then the rest of them
   files-next : (a b c : F) (name : List ℕ) (more : List (List ℕ)) (old mid new : Readings) (u : Unit {0}) (r : Result (Unit {0}) Halt)

@@ -1,5 +1,5 @@
 -- What a pass comes to.
-use Rattle.std.specs.Prelude.{◌≡◌, [], ◌∷◌, Result, Ok, Err}
+use Rattle.std.specs.Prelude.{◌≡◌, ℕ, List, [], ◌∷◌, ◌⊎◌, Result, Ok, Err}
 use Rattle.cube_outside.specs.Counts.{Rose}
 use Rattle.cube_outside.specs.declared.files.FileFault.{FileFault}
 use Rattle.cube_outside.specs.declared.files.FileFault.TheVariants as faults
@@ -14,14 +14,19 @@ abbrev pub unread : FileFault → Halt
 unread faults.Failed = halts.Unread
 unread faults.Memory = halts.Memory
 
--- why the pass went no further over these files, out of memory aside
+-- just the names of the files that were read were asked for, and at most that of the file whose turn it was
+abbrev pub AsksAtMost : {A : Type 0} → Pass A → Outside → Readings → Readings → Type 0
+AsksAtMost pass o old new =
+    Asks o old new [] ⊎ ((name : List ℕ) × pass.stops new (Reads name) × Asks o old new (name ∷ []))
+
+-- why the pass went no further over these files; out of memory, what was asked for at most
 abbrev pub Halts : {A : Type 0} → Pass A → Outside → Readings → Readings → Halt → Type 0
 Halts pass o old new halts.NotWords = pass.stops new NotWords × (o.after ≡ o.before) × Asks o old new []
 Halts pass o old new halts.Unread =
     pass.stops new (Reads o.missed) × Rose o.before o.after × Asks o old new (o.missed ∷ [])
 Halts pass o old new (halts.Refused refusal) =
     pass.stops new (Refuses refusal) × (o.after ≡ o.before) × Asks o old new []
-Halts pass o old new halts.Memory = Unit {0}
+Halts pass o old new halts.Memory = AsksAtMost pass o old new
 
 -- the pass found this, or went no further
 abbrev pub Comes : {A : Type 0} → Pass A → Outside → Readings → Readings → Result A Halt → Type 0

@@ -144,6 +144,8 @@ impl Readings {
         ensures missed { IsErrOf result FileFault.Failed → (F.seen files.new).missed ≡ name.now }
         ensures asked { IsErrOf result FileFault.Failed
             → (F.seen files.new).asked ≡ name.now ∷ (F.seen files.old).asked }
+        ensures at_most { OnErr result (((F.seen files.new).asked ≡ name.now ∷ (F.seen files.old).asked)
+            ⊎ ((F.seen files.new).asked ≡ (F.seen files.old).asked)) }
         ensures no_read_failed { IsErrOf result FileFault.Failed
             ⊎ ((F.seen files.new).faults ≡ (F.seen files.old).faults) }
     {

@@ -10,4 +10,4 @@ returns-in-Ok-clause-through g c =
 pub returns-in-Err-clause-through : goal.returns-in-Err-clause-through
 returns-in-Err-clause-through g c =
     unobtained g.F.Files.seen c.args.files.now c.read.new.files c.args.name.now c.args.readings.now c.read.new.self c.in-Err.fault _
-    c.in-Err.ensures.unread.0 c.in-Err.ensures.unread.1 (search rules) (search rules) (search rules) (search rules)
+    c.in-Err.ensures.unread.0 c.in-Err.ensures.unread.1 (search rules) (search rules) (search rules) (search rules) c.in-Err.ensures.at_most
