@@ -1,5 +1,5 @@
 -- How a run ends whose text was written whole.
-use Rattle.std.proofs.Common.{◌≡◌, ℕ, List, [], ◌∷◌, Option, Result, Ok, Err, IfOk, inl, inr, refl, subst}
+use Rattle.std.proofs.Common.{◌≡◌, ℕ, List, [], ◌∷◌, Option, Result, Ok, Err, IfOk, OnErr, inl, inr, refl, subst}
 use Rattle.std.specs.Io.KnownBytes.{Appends}
 use Rattle.cube_outside.specs.Bytes.{AppendsPart}
 use Rattle.cube_server.specs.declared.answer.Answer.{Answer}
@@ -8,7 +8,7 @@ use Rattle.file_passes.specs.declared.halt.Halt.TheVariants as halts
 use Rattle.run_passes.specs.declared.run_job.RunJob.{RunJob}
 use Rattle.cube_server.specs.declared.status.Status.{Status}
 use Rattle.cube_server.specs.declared.status.Status.TheVariants.{Done, Usage, Refused, ReadFault, WriteFault, NoMemory}
-use Rattle.cube_server.specs.Answer.{Allows, IsOutput, WritesPart}
+use Rattle.cube_server.specs.Answer.{Allows, AsksInTurn, IsOutput, WritesPart}
 use Rattle.file_passes.specs.Course.{IsCourse}
 use Rattle.file_passes.specs.Outside.{Outside}
 use Rattle.file_passes.specs.Pass.{Readings, NotWords, Reads}
@@ -97,6 +97,52 @@ Allows-done (Ok answer) words o first readings job none began is_done output =
       output = output;
     })
 Allows-done (Err e) words o first readings job none began is_done output = tt
+
+-- what a run had asked for where it went no further, and where it found its job
+asks-halted : (words : List (List ℕ)) (o : Outside) (readings : Readings) (halt : Halt)
+    → Comes (run_of words) o [] readings (Err halt) → AsksInTurn words o
+asks-halted words o readings halts.NotWords came = record {
+  readings = readings;
+  course = course-of (run_of words) o.known readings came.0;
+  asked = inl (came.1.2 o.asked_before refl);
+}
+asks-halted words o readings halts.Unread came = record {
+  readings = readings;
+  course = course-of (run_of words) o.known readings came.0;
+  asked = inr (o.missed, came.1.0, came.1.2 o.asked_before refl);
+}
+asks-halted words o readings (halts.Refused refusal) came = record {
+  readings = readings;
+  course = course-of (run_of words) o.known readings came.0;
+  asked = inl (came.1.2 o.asked_before refl);
+}
+asks-halted words o readings halts.Memory (on, inl asks) = record {
+  readings = readings;
+  course = course-of (run_of words) o.known readings on;
+  asked = inl (asks o.asked_before refl);
+}
+asks-halted words o readings halts.Memory (on, inr (name, stops, asks)) = record {
+  readings = readings;
+  course = course-of (run_of words) o.known readings on;
+  asked = inr (name, stops, asks o.asked_before refl);
+}
+
+pub asks-result : {E : Type 0} (result : Result Answer E) (words : List (List ℕ)) (o : Outside) (first readings : Readings) (halt : Halt)
+    → first ≡ [] → Comes (run_of words) o first readings (Err halt) → OnErr result (AsksInTurn words o)
+asks-result (Ok answer) words o first readings halt none came = tt
+asks-result (Err e) words o first readings halt none came =
+    asks-halted words o readings halt (subst (λ l. Comes (run_of words) o l readings (Err halt)) none came)
+
+pub asks-done : {E : Type 0} (result : Result Answer E) (words : List (List ℕ)) (o : Outside) (first readings : Readings) (job : RunJob)
+    → first ≡ [] → Comes (run_of words) o first readings (Ok job) → OnErr result (AsksInTurn words o)
+asks-done (Ok answer) words o first readings job none began = tt
+asks-done (Err e) words o first readings job none began =
+    let came = subst (λ l. Comes (run_of words) o l readings (Ok job)) none began in
+    record {
+      readings = readings;
+      course = course-of (run_of words) o.known readings came.0.0;
+      asked = inl (came.0.2 o.asked_before refl);
+    }
 
 -- what was written of a text that is allowed
 pub WritesPart-of : (words : List (List ℕ)) (o : Outside) (old new : Option (List ℕ)) (status : Status) (text : List ℕ)

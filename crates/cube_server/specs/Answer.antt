@@ -1,5 +1,5 @@
 -- Which text each end of a run allows, and what may have been written.
-use Rattle.std.specs.Prelude.{◌≡◌, ℕ, ℤ, List, [], ◌∷◌, ◌++◌, Option, String}
+use Rattle.std.specs.Prelude.{◌≡◌, ℕ, ℤ, List, [], ◌∷◌, ◌++◌, ◌⊎◌, Option, String}
 use Rattle.std.specs.Io.KnownBytes.{Appends}
 use Rattle.std.specs.declared.alloc.Global.{Global}
 use Rattle.accepted.specs.Checks.{IsAccepted}
@@ -45,6 +45,13 @@ IsOutput (Sample size) text = IsSummary size text
 -- just the files that were read were asked for, each once, in this order, and then these
 abbrev pub AsksJust : Outside → Readings → List (List ℕ) → Type 0
 AsksJust o readings more = o.asked_after ≡ more ++ (names_of readings ++ o.asked_before)
+
+-- the files that were read were asked for at their turns, each once, and besides them at most the one whose turn it was
+pub record AsksInTurn (words : List (List ℕ)) (o : Outside) : Type 0 where
+  pub readings : Readings
+  pub course : IsCourse (run_of words) o.known readings
+  pub asked : AsksJust o readings []
+      ⊎ ((name : List ℕ) × (run_of words).stops readings (Reads name) × AsksJust o readings (name ∷ []))
 
 -- every pass went through, and the text is the output of the job that they found
 pub record IsDone (words : List (List ℕ)) (o : Outside) (text : List ℕ) : Type 0 where
@@ -121,6 +128,8 @@ abbrev pub WrotePart : {F S : Type 0}
 WrotePart words seen files files_after written out out_after =
     WritesPart (texts_of words) (outside seen files files_after) (written out) (written out_after)
 
--- nothing was written
-abbrev pub WroteNothing : {S : Type 0} → (S → Option (List ℕ)) → S → S → Type 0
-WroteNothing written out out_after = Appends (written out) (written out_after) []
+-- such a run asked for files in turn, and wrote nothing
+abbrev pub WroteNothing : {F S : Type 0}
+    → List (String Global) → (F → Seen) → F → F → (S → Option (List ℕ)) → S → S → Type 0
+WroteNothing words seen files files_after written out out_after =
+    AsksInTurn (texts_of words) (outside seen files files_after) × Appends (written out) (written out_after) []

@@ -1,5 +1,5 @@
-ghost use Rattle.std.specs.Prelude.{◌≡◌, IfOk};
-ghost use Rattle.cube_server.specs.Answer.{IsOutput, IsServed, Allows};
+ghost use Rattle.std.specs.Prelude.{◌≡◌, IfOk, OnErr};
+ghost use Rattle.cube_server.specs.Answer.{IsOutput, IsServed, Allows, AsksInTurn};
 ghost use Rattle.cube_server.specs.Inside.Ending.{Answers, joined};
 ghost use Rattle.file_passes.specs.Outside.{outside};
 ghost use Rattle.cube_server.specs.Output.{users_text};
@@ -36,8 +36,9 @@ pub(crate) fn answer_of<R: Threads + Wait + Sync, F: Files, G: Gate + Sync>(
     files: &mut F,
     gate: &G,
 ) -> Result<Answer, AllocError>
-    ensures { IfOk result (λ answer. Allows (texts_of words.now)
+    ensures allowed { IfOk result (λ answer. Allows (texts_of words.now)
         (outside F.seen files.old files.new) answer.status (joined answer.pieces.items)) }
+    ensures asked { OnErr result (AsksInTurn (texts_of words.now) (outside F.seen files.old files.new)) }
 {
     let mut readings = Readings::new(alloc);
     match run_passes(alloc, words, files, &mut readings) {

@@ -43,7 +43,8 @@ pub fn run_cubes<R: Threads + Wait + AllocGlobal + Sync, F: Files, S: Sink, G: G
     ensures write_fault { result ≡ WriteFault →
         WrotePart words.now F.seen files.old files.new S.written out.old out.new
         × Rose (S.faults out.old) (S.faults out.new) }
-    ensures no_memory { result ≡ NoMemory → WroteNothing S.written out.old out.new
+    ensures no_memory { result ≡ NoMemory →
+        WroteNothing words.now F.seen files.old files.new S.written out.old out.new
         ⊎ WrotePart words.now F.seen files.old files.new S.written out.old out.new }
 
     // Which status each cause has, out of memory aside.

@@ -8,7 +8,7 @@ use Rattle.file_passes.specs.declared.halt.Halt.{Halt}
 use Rattle.file_passes.specs.declared.halt.Halt.TheVariants as halts
 use Rattle.cube_server.specs.declared.status.Status.{Status}
 use Rattle.cube_server.specs.declared.status.Status.TheVariants.{Done, Usage, Refused, ReadFault, WriteFault, NoMemory}
-use Rattle.cube_server.specs.Answer.{IsDone, IsUsage, IsRefused, IsReadFault, Writes, WritesPart}
+use Rattle.cube_server.specs.Answer.{IsDone, IsUsage, IsRefused, IsReadFault, AsksInTurn, Writes, WritesPart}
 use Rattle.file_passes.specs.Outside.{Outside}
 use Rattle.cube_server.specs.Output.{refused_text, unread_text, usage_text}
 
@@ -19,7 +19,8 @@ Ends words o old new before after Usage = Writes (IsUsage words o) old new × (a
 Ends words o old new before after Refused = Writes (IsRefused words o) old new × (after ≡ before)
 Ends words o old new before after ReadFault = Writes (IsReadFault words o) old new × (after ≡ before)
 Ends words o old new before after WriteFault = WritesPart words o old new × Rose before after
-Ends words o old new before after NoMemory = (Appends old new [] ⊎ WritesPart words o old new) × (after ≡ before)
+Ends words o old new before after NoMemory =
+    ((AsksInTurn words o × Appends old new []) ⊎ WritesPart words o old new) × (after ≡ before)
 
 -- the pieces of a text
 abbrev pub joined : List (Vec ℕ Global) → List ℕ

@@ -1,4 +1,4 @@
-use Rattle.std.proofs.Common.{◌≡◌, ◌∙◌, Ok, refl, subst}
+use Rattle.std.proofs.Common.{◌≡◌, ◌∙◌, Ok, refl, subst, inl}
 use Rattle.std.specs.Prelude.{string_bytes}
 use Rattle.std.proofs.lemmas.List.{length-map}
 use Rattle.cube_words.specs.Words.{texts_of}
@@ -36,5 +36,5 @@ pub returns-in-Err-new-clause-comes : goal.returns-in-Err-new-clause-comes
 returns-in-Err-new-clause-comes g c = (
   on-later (scripts_pass (texts_of c.args.scripts.now)) (behind_scripts c.args.names c.args.model) (g.F.Files.seen c.args.files.now).known
       c.args.readings.now c.scripts_pass.new.readings c.in-Ok.ensures.comes.0.0,
-  tt,
+  inl c.in-Ok.ensures.comes.0.2,
 )

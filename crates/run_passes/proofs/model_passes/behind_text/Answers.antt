@@ -1,4 +1,4 @@
-use Rattle.std.proofs.Common.{◌≡◌, ◌≤◌, ◌∙◌, ap, sym, subst, length}
+use Rattle.std.proofs.Common.{◌≡◌, ◌≤◌, ◌∙◌, ap, sym, subst, length, inl}
 use Rattle.std.specs.Prelude.{string_bytes}
 use Rattle.std.proofs.lemmas.List.{length-map}
 use Rattle.cube_words.specs.Words.{texts_of}
@@ -29,13 +29,13 @@ behind_rules-requires-clause-few g c =
 pub returns-in_default-clause-comes : goal.returns-in_default-clause-comes
 returns-in_default-clause-comes g c = (
   on-refl (behind_text c.args.name.now c.args.text) (g.F.Files.seen c.args.files.now).known c.args.readings.now,
-  tt,
+  inl (λ base begun. begun),
 )
 
 pub returns-in_default-script_names-clause-comes : goal.returns-in_default-script_names-clause-comes
 returns-in_default-script_names-clause-comes g c = (
   on-refl (behind_text c.args.name.now c.args.text) (g.F.Files.seen c.args.files.now).known c.args.readings.now,
-  tt,
+  inl (λ base begun. begun),
 )
 
 pub returns-in-Ok-deploy_pass-clause-comes : goal.returns-in-Ok-deploy_pass-clause-comes

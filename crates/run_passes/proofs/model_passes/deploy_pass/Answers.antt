@@ -1,4 +1,4 @@
-use Rattle.std.proofs.Common.{◌≡◌, ◌∙◌, ap, subst, Err}
+use Rattle.std.proofs.Common.{◌≡◌, ◌∙◌, ap, subst, Err, inl}
 use Rattle.judged_files.specs.Rules.{rule_names, deployment_judgement}
 use Rattle.file_passes.specs.Outside.{outside}
 use Rattle.file_passes.specs.Pass.{files, judged}
@@ -11,7 +11,7 @@ use Rattle.file_passes.proofs.Coming.{comes-stopped, comes-judged}
 use Rattle.run_passes.proofs.model_passes.deploy_pass.Goals as goal
 
 pub returns-in-Err-clause-comes : goal.returns-in-Err-clause-comes
-returns-in-Err-clause-comes g c = (on-refl (deploy_pass c.args.name.now c.args.text) (g.F.Files.seen c.args.files.now).known c.args.readings.now, tt)
+returns-in-Err-clause-comes g c = (on-refl (deploy_pass c.args.name.now c.args.text) (g.F.Files.seen c.args.files.now).known c.args.readings.now, inl (λ base begun. begun))
 
 pub returns-in-Err-obtain_all-clause-comes : goal.returns-in-Err-obtain_all-clause-comes
 returns-in-Err-obtain_all-clause-comes g c =
@@ -39,5 +39,5 @@ returns-in-Err-sources-clause-comes g c =
     let went = subst (λ l. Goes (files l) o c.args.readings.now c.obtain_all.new.readings) names c.in_default.ensures.through.0 in (
       on-later (files (rule_names c.args.text.cubes)) (λ sources. judged (deployment_judgement c.args.name.now c.args.text sources))
           (g.F.Files.seen c.args.files.now).known c.args.readings.now c.obtain_all.new.readings went.0,
-      tt,
+      inl went.2,
     )

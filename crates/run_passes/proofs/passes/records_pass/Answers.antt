@@ -1,4 +1,4 @@
-use Rattle.std.proofs.Common.{◌≡◌, ◌∙◌, ap, sym, subst, All, Ok, Err}
+use Rattle.std.proofs.Common.{◌≡◌, ◌∙◌, ap, sym, subst, All, Ok, Err, inl}
 use Rattle.cube_words.specs.Words.{texts_of}
 use Rattle.file_passes.specs.Halting.{ComesThrough, Judges}
 use Rattle.file_passes.specs.Outside.{outside}
@@ -19,7 +19,7 @@ commands_of-requires g c =
     (all-ready c.args.scripts.now c.in-Ok-sources.sources.items c.obtain_all.new.readings c.args.users c.requires read)
 
 pub returns-in-Err-clause-comes : goal.returns-in-Err-clause-comes
-returns-in-Err-clause-comes g c = (on-refl (records_pass c.args.scripts.now c.args.users) (g.F.Files.seen c.args.files.now).known c.args.readings.now, tt)
+returns-in-Err-clause-comes g c = (on-refl (records_pass c.args.scripts.now c.args.users) (g.F.Files.seen c.args.files.now).known c.args.readings.now, inl (λ base begun. begun))
 
 pub returns-in-Err-obtain_all-clause-comes : goal.returns-in-Err-obtain_all-clause-comes
 returns-in-Err-obtain_all-clause-comes g c =
@@ -36,7 +36,7 @@ returns-in-Err-sources-clause-comes g c =
     let went = subst (λ l. Goes (files l) o c.args.readings.now c.obtain_all.new.readings) names c.in_default.ensures.through.0 in (
       on-later (files (record_files c.args.users)) (λ sources. judged (commands_judgement c.args.scripts.now sources c.args.users))
           (g.F.Files.seen c.args.files.now).known c.args.readings.now c.obtain_all.new.readings went.0,
-      tt,
+      inl went.2,
     )
 
 pub returns-in-Ok-commands_of-clause-comes : goal.returns-in-Ok-commands_of-clause-comes
@@ -57,5 +57,5 @@ returns-clause-comes g c =
     let went = subst (λ l. Goes (files l) o c.args.readings.now c.obtain_all.new.readings) names c.in_default.ensures.through.0 in (
       on-later (files (record_files c.args.users)) (λ sources. judged (commands_judgement c.args.scripts.now sources c.args.users))
           (g.F.Files.seen c.args.files.now).known c.args.readings.now c.obtain_all.new.readings went.0,
-      tt,
+      inl went.2,
     )

@@ -11,7 +11,7 @@ returns-in-Ok g c =
     (asked c.in-Ok.plan) c.plan_pass.result c.in-Ok.ensures c.plan_pass.ensures
 
 pub returns-in-Err-OutOfMemory : goal.returns-in-Err-OutOfMemory
-returns-in-Err-OutOfMemory g c = (on-refl (run_of (texts_of c.args.words.now)) (g.F.Files.seen c.args.files.now).known c.args.readings.now, tt)
+returns-in-Err-OutOfMemory g c = (on-refl (run_of (texts_of c.args.words.now)) (g.F.Files.seen c.args.files.now).known c.args.readings.now, inl (λ base begun. begun))
 
 pub returns-in-Err-Usage : goal.returns-in-Err-Usage
 returns-in-Err-Usage g c = (

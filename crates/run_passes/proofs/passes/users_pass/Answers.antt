@@ -1,4 +1,4 @@
-use Rattle.std.proofs.Common.{subst}
+use Rattle.std.proofs.Common.{subst, inl}
 use Rattle.judged_files.specs.Users.{users_judgement}
 use Rattle.file_passes.specs.Outside.{outside}
 use Rattle.file_passes.specs.Pass.{files, judged}
@@ -25,5 +25,5 @@ pub returns-in-Err-sources-clause-comes : goal.returns-in-Err-sources-clause-com
 returns-in-Err-sources-clause-comes g c = (
   on-later (files (texts_of c.args.names.now)) (λ sources. judged (users_judgement c.args.scripts.now sources)) (g.F.Files.seen c.args.files.now).known
       c.args.readings.now c.obtain_all.new.readings c.in_default.ensures.through.0.0,
-  tt,
+  inl c.in_default.ensures.through.0.2,
 )
