@@ -55,8 +55,11 @@ impl Version {
         ensures stored { IfOk result (λ version. version.stored ≡ []) }
     {
         let store = Store::new(alloc);
-        let Ok(feeding) = accepted.feeding().over(alloc, accepted.sources(), &store) else {
-            return Err(AllocError);
+        let base = accepted.feeding();
+        let feeding = match base.over(alloc, accepted.sources(), &store) {
+            Ok(feeding) => feeding,
+            Err(FedFault::Memory) => return Err(AllocError),
+            Err(FedFault::FedLimit(_)) => unreachable!(),
         };
         Ok(Version {
             accepted,
