@@ -5,5 +5,6 @@
 
 pub use load::LoadCells;
 
+mod found;
 mod load;
 mod names;

@@ -1,7 +1,9 @@
-ghost use Rattle.std.specs.Prelude.{◌≡◌};
+ghost use Rattle.std.specs.Prelude.{◌≡◌, IfOk};
 ghost use Rattle.cell_reader.specs.Works.{opening_of, writes_of};
+ghost use Rattle.load_cells.specs.Found.{AreFound};
 ghost use Rattle.load_cells.specs.Loads.{reason_of};
 
+use crate::found::FoundNames;
 use crate::names::cell_by_texts;
 use cell_reader::{Closed, NextFault, Work, why_closed};
 use cube_fixed::Value;
@@ -12,14 +14,17 @@ use std::alloc::{AllocError, Global};
 #[derive(Drop)]
 pub struct LoadCells {
     work: Work,
+    names: FoundNames,
+    ghost found: { AreFound (opening_of work).model.space names },
 }
 
 impl LoadCells {
     /// The cells of this work, by names.
-    pub fn new(work: Work) -> LoadCells
-        ensures { result.work ≡ work }
+    pub fn new(alloc: Global, work: Work) -> Result<LoadCells, AllocError>
+        ensures { IfOk result (λ cells. cells.work ≡ work) }
     {
-        LoadCells { work }
+        let names = FoundNames::new(alloc, work.model().space())?;
+        Ok(LoadCells { work, names })
     }
 
     /// The work, with what was written.
@@ -44,7 +49,7 @@ impl WorkCells for LoadCells {
         cube: &[u8],
         elements: &[Text<'_>],
     ) -> Result<Result<Value, LoadReason>, AllocError> {
-        match cell_by_texts(alloc, self.work.model(), cube, elements)? {
+        match cell_by_texts(alloc, self.work.model(), &mut self.names, cube, elements)? {
             Some(cell) => {
                 let value = self.work.get(alloc, cell)?;
                 Ok(Ok(value))
@@ -61,7 +66,7 @@ impl WorkCells for LoadCells {
         value: Value,
     ) -> Result<Option<LoadReason>, AllocError> {
         let model = self.work.model();
-        let Some(cell) = cell_by_texts(alloc, model, cube, elements)? else {
+        let Some(cell) = cell_by_texts(alloc, model, &mut self.names, cube, elements)? else {
             return Ok(Some(LoadReason::UnknownName));
         };
         if let Some(closed) = why_closed(model, cell) {

@@ -1,11 +1,12 @@
-ghost use Rattle.std.specs.Prelude.{◌≡◌, Some, None, IfOk, IfSome, option_map, if◌then◌else◌};
-ghost use Rattle.std.specs.List.{list_all};
+ghost use Rattle.std.specs.Prelude.{◌≡◌, ◌<◌, ◌≤◌, true, false, Some, None, IfOk, IfSome, All, length, take};
 ghost use Rattle.cube_space.specs.Cells.{IsCell};
-ghost use Rattle.dim_name.specs.Name.{is_name};
+ghost use Rattle.cube_space.specs.Layout.{axes_of, most_dimensions};
+ghost use Rattle.load_cells.specs.Found.{AreElements, AreFound, elements_by_texts};
 ghost use Rattle.load_cells.specs.Loads.{cell_by_texts};
 
-use dim_name::{Name, NameFault};
-use rule_model::{Model, cell_of};
+use crate::found::{FoundName, FoundNames, cube_by_text, element_by_text};
+use cube_space::{MAX_DIMENSIONS, Space};
+use rule_model::Model;
 use script_values::Text;
 use std::alloc::{AllocError, Global};
 
@@ -14,43 +15,58 @@ use std::alloc::{AllocError, Global};
 pub(crate) fn cell_by_texts(
     alloc: Global,
     model: &Model,
+    found: &mut FoundNames,
     cube: &[u8],
     elements: &[Text<'_>],
 ) -> Result<Option<u64>, AllocError>
+    requires { AreFound model.now.space found.old }
     ensures value { IfOk result (λ cell. cell ≡ cell_by_texts model.now.space cube.now elements.now) }
     ensures cell { IfOk result (λ cell. IfSome cell (IsCell model.now.space)) }
+    ensures found { AreFound model.now.space found.new }
 {
-    let Some(cube) = name_in(alloc, cube)? else {
+    let space = model.space();
+    let Some(cube) = cube_by_text(alloc, space, &mut found.cube, cube)? else {
         return Ok(None);
     };
-    match names_in(alloc, elements)? {
-        Some(names) => Ok(cell_of(model, &cube, &names)),
-        None => Ok(None),
+    let dims = space.shape(cube).dims.as_slice();
+    let mut at = [0u32; MAX_DIMENSIONS];
+    if !find_elements(alloc, space, dims, &mut found.elements, elements, &mut at)? {
+        return Ok(None);
     }
+    let (at, _) = at.split_at(dims.len());
+    Ok(space.number(cube, at))
 }
 
-// Texts as names, if all of them are.
-fn names_in(alloc: Global, texts: &[Text<'_>]) -> Result<Option<Vec<Name>>, AllocError>
-    ensures { IfOk result (λ names. option_map (λ names. names.items) names
-        ≡ (if list_all is_name texts.now then Some texts.now else None)) }
+// Puts the elements of these texts, one of each of the dimensions, into the first places of `at`; false where there are
+// no such elements.
+fn find_elements(
+    alloc: Global,
+    space: &Space,
+    dims: &[u32],
+    found: &mut Vec<FoundName>,
+    texts: &[Text<'_>],
+    at: &mut [u32; MAX_DIMENSIONS],
+) -> Result<bool, AllocError>
+    requires dims { All (λ dim. dim < length space.now.dimensions) dims.now }
+    requires room { length dims.now ≤ most_dimensions }
+    requires found { AreElements space.now.dimensions found.old.items }
+    ensures there { IfOk result (λ there. there ≡ true →
+        elements_by_texts (axes_of space.now.dimensions dims.now) texts.now ≡ Some (take (length dims.now) at.new)) }
+    ensures missing { IfOk result (λ there. there ≡ false →
+        elements_by_texts (axes_of space.now.dimensions dims.now) texts.now ≡ None) }
+    ensures found { AreElements space.now.dimensions found.new.items }
 {
-    let mut names = Vec::with_capacity(alloc, texts.len())?;
-    for text in texts {
-        match name_in(alloc, text.as_slice())? {
-            Some(name) => names.push(name)?,
-            None => return Ok(None),
+    if dims.len() != texts.len() {
+        return Ok(false);
+    }
+    'each: for place in 0..dims.len() {
+        let dim = dims[place];
+        let known = &mut found[dim as usize];
+        let text = texts[place].as_slice();
+        match element_by_text(alloc, space.dimension(dim), known, text)? {
+            Some(element) => at[place] = element,
+            None => return Ok(false),
         }
     }
-    Ok(Some(names))
-}
-
-// A text as a name, if it is one.
-fn name_in(alloc: Global, text: &[u8]) -> Result<Option<Name>, AllocError>
-    ensures { IfOk result (λ name. name ≡ (if is_name text.now then Some text.now else None)) }
-{
-    match Name::new(alloc, text) {
-        Ok(name) => Ok(Some(name)),
-        Err(NameFault::NotAName) => Ok(None),
-        Err(NameFault::Memory) => Err(AllocError),
-    }
+    Ok(true)
 }

@@ -27,7 +27,7 @@ pub(crate) fn load(
     ensures kept { content_of state.new ≡ content_of state.old }
 {
     let work = Work::over(alloc, state)?;
-    let mut cells = LoadCells::new(work);
+    let mut cells = LoadCells::new(alloc, work)?;
     match run(alloc, script, job.rows(), &job.params, &mut cells)? {
         Ran::Done => {
             let writes = cells.into_work().writes(alloc)?;
