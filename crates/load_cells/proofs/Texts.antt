@@ -1,5 +1,7 @@
 -- Elements by texts, found one after the other.
-use Rattle.std.proofs.Common.{◌≡◌, ℕ, Bool, true, false, List, [], ◌∷◌, ◌++◌, length, Option, Some, None, refl, ◌∙◌, ap, sym, subst, if◌then◌else◌, slice_get, ◌&&◌}
+use Rattle.std.proofs.Common.{◌≡◌, ℕ, zero, suc, ◌+◌, ◌<◌, ◌⊎◌, inl, inr, Bool, true, false, List, [], ◌∷◌, ◌++◌, length, get_or, drop, drop-cons, add-one, All, Option, Some, None, refl, ◌∙◌, ap, sym, subst, if◌then◌else◌, slice_get, slice_set, ◌&&◌}
+use Rattle.std.proofs.lemmas.List.{length-set}
+use Rattle.lists.proofs.Found.{found_holds, none_some, some_same}
 use Rattle.std.specs.Prelude.{option_and_then}
 use Rattle.std.specs.List.{list_all}
 use Rattle.cube_space.specs.Cells.{cell_number}
@@ -8,7 +10,8 @@ use Rattle.dim_core.specs.Outline.{Outline, index_of}
 use Rattle.dim_name.specs.Name.{is_name, place_of}
 use Rattle.rule_model.specs.Named.{cell_named, elements_named}
 use Rattle.rule_model.proofs.Named.{found_none, found_one, other_count, with_front}
-use Rattle.load_cells.specs.Found.{element_by_text, elements_by_texts}
+use Rattle.load_cells.specs.declared.found.FoundName.{FoundName}
+use Rattle.load_cells.specs.Found.{AreElements, IsFound, element_by_text, elements_by_texts}
 use Rattle.load_cells.specs.Loads.{cell_by_texts}
 
 -- a text that names an element is a name
@@ -41,6 +44,45 @@ module _ (D : List Outline) (k : ℕ) (ks : List ℕ) (text : List ℕ) (texts :
 
   pub text_missing : element_by_text d text ≡ None → with_front front (elements_by_texts (axes_of D (k ∷ ks)) (text ∷ texts)) ≡ None
   text_missing is = none_by (is_name text) (list_all is_name texts) (unnamed (is_name text) (index_of d text) is)
+
+  -- one text more is found
+  pub one_found : (e : ℕ) (before : Option (List ℕ)) (after : List ℕ) → element_by_text d text ≡ Some e → after ≡ front ++ e ∷ []
+      → before ≡ with_front front (elements_by_texts (axes_of D (k ∷ ks)) (text ∷ texts)) → before ≡ with_front after (elements_by_texts (axes_of D ks) texts)
+  one_found e before after is more so_far =
+      so_far ∙ text_found e is ∙ ap (λ f. with_front f (elements_by_texts (axes_of D ks) texts)) (sym more)
+
+pub item : {A : Type 0} (xs : List A) (i : ℕ) (x : A) → i < length xs → x ≡ get_or xs i x → drop i xs ≡ x ∷ drop (i + 1) xs
+item xs i x below is = rw (add-one, drop-cons xs i x below, ← is) refl
+
+-- ---- what was found
+
+after_write : (found : List FoundName) (dim : ℕ) (name : FoundName) (k : ℕ) (other : FoundName) → slice_get (slice_set found dim name) k ≡ Some other
+    → ((k ≡ dim) × (other ≡ name)) ⊎ (slice_get found k ≡ Some other)
+after_write [] dim name k other is = absurd (none_some is)
+after_write (f ∷ found) zero name zero other is = inl (refl, sym (some_same is))
+after_write (f ∷ found) zero name (suc k) other is = inr is
+after_write (f ∷ found) (suc dim) name zero other is = inr is
+after_write (f ∷ found) (suc dim) name (suc k) other is =
+    elim (after_write found dim name k other is) [ inl here ↦ inl (ap suc here.0, here.1) | inr there ↦ inr there ]
+
+pub still_found : (D : List Outline) (found : List FoundName) (dim : ℕ) (d : Outline) (name : FoundName) → AreElements D found → slice_get D dim ≡ Some d
+    → IsFound (element_by_text d) name → AreElements D (slice_set found dim name)
+still_found D found dim d name are own is = record {
+  each_dimension = length-set found dim name ∙ are.each_dimension;
+  found_there = λ k e other there at.
+      elim (after_write found dim name k other at) [
+        | inl here ↦ (
+            let same : d ≡ e = some_same (sym own ∙ subst (λ j. slice_get D j ≡ Some e) here.0 there) in
+            subst (IsFound (element_by_text e)) (sym here.1) (subst (λ o. IsFound (element_by_text o) name) same is))
+        | inr before ↦ are.found_there k e other there before
+      ];
+}
+
+pub none_yet : (D : List Outline) (found : List FoundName) → length found ≡ length D → All (λ (name : FoundName). name.text.items ≡ []) found → AreElements D found
+none_yet D found many none = record {
+  each_dimension = many;
+  found_there = λ k d name there at some. absurd (some (found_holds (λ (name : FoundName). name.text.items ≡ []) found k name none at));
+}
 
 none_if : (b : Bool) (o : Option (List ℕ)) → o ≡ None → (if b then o else None) ≡ None
 none_if true o is = is

@@ -1,5 +1,5 @@
 -- What texts name, and the names that a load has found last. Private functions cite it.
-use Rattle.std.specs.Prelude.{◌≡◌, ◌⊎◌, ℕ, List, [], length, Option, Some, None, if◌then◌else◌, slice_get}
+use Rattle.std.specs.Prelude.{◌≡◌, ℕ, List, [], length, Option, Some, None, if◌then◌else◌, slice_get}
 use Rattle.std.specs.List.{list_all}
 use Rattle.cube_space.specs.Layout.{Layout, cube_names}
 use Rattle.dim_core.specs.Outline.{Outline, index_of}
@@ -20,7 +20,7 @@ elements_by_texts dimensions texts = if list_all is_name texts then elements_nam
 
 -- the text that was found names this number, where one was found
 abbrev pub IsFound : (List ℕ → Option ℕ) → FoundName → Type 0
-IsFound named found = (found.text.items ≡ []) ⊎ (named found.text.items ≡ Some found.number)
+IsFound named found = (found.text.items ≡ [] → ⊥) → named found.text.items ≡ Some found.number
 
 -- for each dimension an element that was found
 pub record AreElements (dimensions : List Outline) (found : List FoundName) : Type 0 where

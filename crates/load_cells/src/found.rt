@@ -55,7 +55,7 @@ impl FoundNames {
         ensures { IfOk result (AreFound space.now) }
     {
         let mut elements = Vec::with_capacity(alloc, space.dimensions() as usize)?;
-        for _ in 0..space.dimensions() {
+        for dim in 0..space.dimensions() {
             elements.push(FoundName::none(alloc))?;
         }
         Ok(FoundNames {
