@@ -4,6 +4,6 @@ mod CubeFacts
 mod ReferenceFacts
 mod FormulaFacts
 mod FormulaSizes
-mod Counts
+mod CountFacts
+mod RuleSizes
 mod RuleFacts
-pub mod Lengths
