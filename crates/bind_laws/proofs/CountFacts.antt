@@ -1,5 +1,5 @@
 -- What a formula reads, and its operands, are counted so.
-use Rattle.std.proofs.Common.{◌≡◌, ◌+◌, ℕ, length, ap, ◌∙◌, length-append, ◌++◌, arith}
+use Rattle.std.proofs.Common.{◌+◌, ℕ, length, ap, ◌∙◌, length-append, ◌++◌, arith}
 use Rattle.rule_laws.specs.Meaning.{precedents, truth_precedents}
 use Rattle.rule_laws.specs.ZeroTest.{operands_step, truth_operands_step, operands, operands_of_truth}
 use Rattle.rule_laws.proofs.FormulaFolds.{of-number, of-stet, of-continue, of-children, of-ref, of-binary, of-unary, of-if, of-compare, of-and, of-or, of-not}

@@ -1,5 +1,5 @@
 -- The rules of a text that are bound meet the conditions.
-use Rattle.std.proofs.Common.{◌≡◌, ◌<◌, ◌+◌, ℕ, List, [], ◌∷◌, ◌++◌, length, Some, None, Ok, Err, IfSome, All, subst, arith}
+use Rattle.std.proofs.Common.{◌≡◌, ◌<◌, ◌+◌, ℕ, List, [], ◌∷◌, ◌++◌, length, Some, None, Ok, IfSome, All, subst, arith}
 use Rattle.std.proofs.lemmas.List.Elements.{All-nil, All-cons, All-append, All-weaker}
 use Rattle.cube_space.specs.Layout.{Layout, axes}
 use Rattle.cube_space.specs.Cells.{IsSpace}
@@ -20,7 +20,7 @@ use Rattle.rule_tree.specs.declared.rule.StatementText.{StatementText}
 use Rattle.rule_tree.specs.declared.rule.TargetText.{TargetText}
 use Rattle.rule_tree.specs.declared.rule.TargetText.TheVariants as targets
 use Rattle.rule_tree.specs.declared.tree.Tree.{Tree}
-use Rattle.bind_areas.specs.Meaning.{Meaning, ◌>>=◌}
+use Rattle.bind_areas.specs.Meaning.{◌>>=◌}
 use Rattle.bind_areas.specs.Areas.{area_of}
 use Rattle.rule_bind.specs.declared.fault.BindAt.TheVariants as places
 use Rattle.rule_bind.specs.declared.standing.Standing.TheVariants as standings

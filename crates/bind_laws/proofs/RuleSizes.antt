@@ -1,7 +1,6 @@
 -- The rules that a text within the limits means can be counted in 32 bits.
-use Rattle.std.proofs.Common.{◌≡◌, ◌≤◌, ◌<◌, ◌+◌, ◌^◌, ℕ, List, [], ◌∷◌, ◌++◌, length, Some, None, Option, Ok, All, ap, ◌∙◌, subst, length-append, arith}
+use Rattle.std.proofs.Common.{◌≡◌, ◌≤◌, ◌<◌, ◌+◌, ◌^◌, ℕ, List, [], ◌∷◌, ◌++◌, length, Some, None, Ok, All, subst, length-append, arith}
 use Rattle.std.specs.Option.{option_map_or}
-use Rattle.std.specs.List.{sum_by}
 use Rattle.std.proofs.lemmas.List.Elements.{All-nil, All-cons}
 use Rattle.std.proofs.lemmas.List.Sums.{sum_by-cons}
 use Rattle.cube_space.specs.Layout.{Layout}
@@ -21,7 +20,7 @@ use Rattle.rule_tree.specs.declared.rule.FeederText.{FeederText}
 use Rattle.rule_tree.specs.declared.rule.StatementText.{StatementText}
 use Rattle.rule_tree.specs.declared.rule.TargetText.{TargetText}
 use Rattle.rule_tree.specs.declared.tree.Tree.{Tree}
-use Rattle.bind_areas.specs.Meaning.{Meaning, ◌>>=◌}
+use Rattle.bind_areas.specs.Meaning.{◌>>=◌}
 use Rattle.bind_areas.specs.Areas.{area_of}
 use Rattle.rule_bind.specs.declared.fault.BindAt.TheVariants as places
 use Rattle.rule_bind.specs.declared.standing.Standing.TheVariants as standings

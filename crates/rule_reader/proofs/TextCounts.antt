@@ -1,18 +1,17 @@
 -- The watch counts each statement and each feeder of a text that it lets through.
-use Rattle.std.proofs.Common.{◌≡◌, ◌≤◌, ◌<◌, ◌+◌, ℕ, List, [], ◌∷◌, ◌++◌, length, Result, Ok, Err, Some, None, Option, Bool, true, false, not, ◌&&◌, ◌||◌, if◌then◌else◌, nat_lt, codes, refl, sym, ap, ◌∙◌, subst, inl, inr, arith}
+use Rattle.std.proofs.Common.{◌≡◌, ◌≤◌, ◌+◌, ℕ, List, [], ◌∷◌, ◌++◌, length, Result, Ok, Err, Some, Option, Bool, true, false, not, ◌&&◌, ◌||◌, if◌then◌else◌, nat_lt, codes, refl, sym, ap, ◌∙◌, subst, inl, inr, arith}
 use Rattle.std.proofs.lemmas.Bool.{ltb-true}
 use Rattle.std.specs.Str.{bytes_eq, str_eq_ignore_ascii_case}
 use Rattle.cube_lex.specs.Lexeme.{Lexeme}
 use Rattle.grammar.specs.Grammar.{Grammar, done, one, both, either, many}
 use Rattle.grammar.specs.Tokens.{sign, word, is_sign, is_word, is_sign_kind}
 use Rattle.grammar.specs.Watch.{AllPass, joined, Passes}
-use Rattle.grammar.proofs.Begins.{Begins}
 use Rattle.grammar.proofs.Tokens.{when_picks, sign_begins, word_begins, word_no_sign, sign_no_word}
 use Rattle.expression_grammar.specs.Limits.{begun_within}
 use Rattle.expression_grammar.specs.declared.limits.Limits.{Limits}
-use Rattle.rule_tree.specs.Counting.{most_statements, start, with_token, in_place, behind_area, behind_formula, behind_targets, behind_argument, one_more, behind_all, moved, count_at, count, counting}
+use Rattle.rule_tree.specs.Counting.{most_statements, start, with_token, in_place, behind_area, behind_formula, behind_targets, behind_argument, one_more, moved, count_at, count, counting}
 use Rattle.rule_tree.specs.Formula.{formula}
-use Rattle.rule_tree.specs.RuleText.{area, ended, part, leaf_first, cons_first, body, statement, target, feeder, skipcheck, feeders, rules}
+use Rattle.rule_tree.specs.RuleText.{area, ended, part, body, statement, feeder, skipcheck, feeders, rules}
 use Rattle.rule_tree.specs.declared.counted.Counted.{Counted}
 use Rattle.rule_tree.specs.declared.counted.RuleTextPlace.{RuleTextPlace}
 use Rattle.rule_tree.specs.declared.counted.RuleTextPlace.TheVariants as places
@@ -20,7 +19,6 @@ use Rattle.rule_tree.specs.declared.excess.Excess.{Excess}
 use Rattle.rule_tree.specs.declared.excess.Excess.TheVariants as excesses
 use Rattle.rule_tree.specs.declared.rule.EntryText.{EntryText}
 use Rattle.rule_tree.specs.declared.rule.RuleText.{RuleText}
-use Rattle.grammar.specs.Lists.{listed}
 use Rattle.rule_reader.proofs.Fits.{Fits, Lacks, taken}
 use Rattle.rule_reader.proofs.TextSizes.{ends_area, area_fits, formula_fits, targets_fit}
 use Rattle.expression_grammar.proofs.Languages.{is_sign_of}
@@ -46,19 +44,25 @@ record Leads {A : Type 0} (P : Counted → Type 0) (G : Grammar Lexeme A) (R : A
   at : (u : List Lexeme) (a : A) (r s : Counted) → G u a → Runs r u s → P r → R a s
 
 leads_done : {A : Type 0} {P : Counted → Type 0} {R : A → Counted → Type 0} {a : A} → ((c : Counted) → P c → R a c) → Leads P (done a) R
-leads_done {P = P} {R = R} tells = record { at = λ u b r s h runs p. (
-    let none : s ≡ r = subst (λ z. Runs r z s) h.0 runs in
-    subst (λ z. R z s) (sym h.1) (tells s (subst P (sym none) p))) }
+leads_done {P = P} {R = R} tells = record {
+  at = λ u b r s h runs p. (
+      let none : s ≡ r = subst (λ z. Runs r z s) h.0 runs in
+      subst (λ z. R z s) (sym h.1) (tells s (subst P (sym none) p)));
+}
 
 leads_one : {A : Type 0} {P : Counted → Type 0} {R : A → Counted → Type 0} {pick : Lexeme → Option A} → ((t : Lexeme) (a : A) (r s : Counted) → pick t ≡ Some a → count r t ≡ Ok s → P r → R a s) → Leads P (one pick) R
-leads_one {P = P} {R = R} tells = record { at = λ u a r s (t, is, picks) runs p. (
-    let (m, scans, none) = subst (λ z. Runs r z s) is runs in
-    tells t a r s picks (scans ∙ ap (λ z. Ok z) (sym none)) p) }
+leads_one {P = P} {R = R} tells = record {
+  at = λ u a r s (t, is, picks) runs p. (
+      let (m, scans, none) = subst (λ z. Runs r z s) is runs in
+      tells t a r s picks (scans ∙ ap (λ z. Ok z) (sym none)) p);
+}
 
 leads_both : {A B : Type 0} {P : Counted → Type 0} {G : Grammar Lexeme A} {K : A → Grammar Lexeme B} {R : A → Counted → Type 0} {S : B → Counted → Type 0} → Leads P G R → ((a : A) → Leads (R a) (K a) S) → Leads P (both G K) S
-leads_both g k = record { at = λ u b r s (v, w, a, parts, h, l) runs p. (
-    let (m, first, rest) = runs_both v w r s (subst (λ z. Runs r z s) parts runs) in
-    (k a).at w b m s l rest (g.at v a r m h first p)) }
+leads_both g k = record {
+  at = λ u b r s (v, w, a, parts, h, l) runs p. (
+      let (m, first, rest) = runs_both v w r s (subst (λ z. Runs r z s) parts runs) in
+      (k a).at w b m s l rest (g.at v a r m h first p));
+}
 
 either_leads : {A : Type 0} (P : Counted → Type 0) {G H : Grammar Lexeme A} (R : A → Counted → Type 0) → Leads P G R → Leads P H R → (u : List Lexeme) (a : A) (r s : Counted) → either G H u a → Runs r u s → P r → R a s
 either_leads P R g h u a r s (inl e) runs p = g.at u a r s e runs p

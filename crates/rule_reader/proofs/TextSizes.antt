@@ -1,25 +1,24 @@
 -- A rule text has a token for each node of its formulas and for each target of its feeders; and no `;` stands in a formula.
-use Rattle.std.proofs.Common.{◌≡◌, ◌≤◌, ◌+◌, ℕ, zero, suc, List, [], ◌∷◌, length, map, Option, Some, Bool, true, false, ◌&&◌, ◌||◌, refl, ap, subst, ◌∙◌, codes, arith}
-use Rattle.std.specs.List.{sum, sum_by}
+use Rattle.std.proofs.Common.{◌≡◌, ◌≤◌, ◌+◌, ℕ, zero, suc, List, [], ◌∷◌, length, Option, Bool, true, false, ◌&&◌, ◌||◌, refl, ap, subst, ◌∙◌, codes, arith}
+use Rattle.std.specs.List.{sum_by}
 use Rattle.std.specs.Str.{bytes_eq, str_eq_ignore_ascii_case}
 use Rattle.std.proofs.lemmas.List.Sums.{sum_by-cons, sum-map}
 use Rattle.cube_lex.specs.Lexeme.{Lexeme}
 use Rattle.cube_lex.specs.declared.token.Kind.{Kind}
 use Rattle.cube_lex.specs.declared.token.Kind.TheVariants as kinds
-use Rattle.dim_name.specs.Name.{is_name}
-use Rattle.grammar.specs.Grammar.{Grammar, one, both, either}
+use Rattle.grammar.specs.Grammar.{Grammar, one, either}
 use Rattle.grammar.specs.Lists.{listed, perhaps_listed}
 use Rattle.grammar.specs.Tokens.{sign, word, name, is_sign, is_word, is_sign_kind, is_word_kind}
 use Rattle.grammar.proofs.Begins.{Begins, begins_one}
 use Rattle.grammar.proofs.Tokens.{when_picks, and_is}
 use Rattle.expression_grammar.specs.Expression.{from_left, operation, chain, prefixed, enclosed, value_of, comparison, truth_of, within}
-use Rattle.expression_grammar.specs.Language.{Table, operator}
+use Rattle.expression_grammar.specs.Language.{Table}
 use Rattle.expression_grammar.specs.declared.sort.Sort.{Sort}
 use Rattle.expression_grammar.specs.declared.sort.Sort.TheVariants as sorts
 use Rattle.expression_grammar.proofs.Languages.{is_sign_of, is_apart}
 use Rattle.expression_grammar.proofs.Operators.{sign_tells, operator_apart}
 use Rattle.expression_grammar.proofs.TokenKinds.{HasKind, word_is, one_kind, word_kind, text_kind, name_kind, money_kind}
-use Rattle.rule_tree.specs.Formula.{ors, ands, relations, sums, products, rules_language, primary, formula, number, quoted, current, word_name, reference, stet, continue, bracket, simple, dimension, in_brackets, first_argument, is_if, call}
+use Rattle.rule_tree.specs.Formula.{ors, ands, relations, sums, products, rules_language, primary, formula, number, quoted, current, reference, stet, continue, bracket, simple, dimension, in_brackets, first_argument, is_if, call}
 use Rattle.rule_tree.specs.RuleText.{elements, entry, area, ended, part, leaf_first, cons_first, body, statement, database, target, feeder, skipcheck, feeders, rules}
 use Rattle.rule_tree.specs.Sizes.{nodes, body_nodes, all_nodes, all_targets}
 use Rattle.rule_tree.specs.declared.rule.StatementText.{StatementText}

@@ -1,5 +1,5 @@
 -- A text that is read has no more tokens than a text may have bytes.
-use Rattle.std.proofs.Common.{◌≡◌, ◌≤◌, ◌<◌, ◌+◌, ℕ, zero, suc, true, false, ◌&&◌, not, ◌==◌, List, [], ◌∷◌, ◌++◌, length, get_or, drop, Option, Some, None, inl, inr, refl, sym, ap, subst, leb, length-append, length-drop, arith}
+use Rattle.std.proofs.Common.{◌≡◌, ◌≤◌, ◌<◌, ◌+◌, ℕ, zero, suc, true, false, not, ◌==◌, List, [], ◌∷◌, length, get_or, drop, Option, Some, None, inl, inr, refl, ap, leb, length-append, length-drop, arith}
 use Rattle.std.proofs.lemmas.Bool.{leb-true, leb-false, and_parts}
 use Rattle.std.specs.List.{cons_option, list_all}
 use Rattle.cube_lex.specs.Lexed.{Lexed}
