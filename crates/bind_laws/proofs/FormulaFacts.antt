@@ -34,7 +34,7 @@ use Rattle.bind_laws.proofs.AreaFacts.{bracket_valid}
 use Rattle.bind_laws.proofs.ReferenceFacts.{db_valid, children_low}
 use Rattle.rule_laws.proofs.PrecedentFacts.{number_reads, stet_reads, continue_reads, children_reads, reference_reads, binary_reads, unary_reads, if_reads, compare_reads, and_reads, or_reads, not_reads}
 
-either_way : {X : Type 0} (P : X → Type 0) (b : Bool) (x y : X) → P x → P y → P (if b then x else y)
+pub either_way : {X : Type 0} (P : X → Type 0) (b : Bool) (x y : X) → P x → P y → P (if b then x else y)
 either_way P true x y first second = first
 either_way P false x y first second = second
 

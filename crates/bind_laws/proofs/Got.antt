@@ -1,6 +1,8 @@
 -- What an answer that is there was made of.
 use Rattle.std.proofs.Common.{◌≡◌, Bool, true, false, Result, Ok, Err, refl, if◌then◌else◌}
 use Rattle.bind_areas.specs.Meaning.{Meaning, ◌>>=◌}
+use Rattle.rule_bind.specs.declared.fault.BindAt.{BindAt}
+use Rattle.rule_bind.specs.Rules.{standing_at}
 
 -- what is meant
 abbrev pub answer : {A : Type 0} → A → Meaning A
@@ -15,3 +17,8 @@ got (Err e) next b is = absurd (cc is)
 pub passed : {E A : Type 0} (b : Bool) (whole : Result A E) (e : E) (a : A) → (if b then whole else Err e) ≡ Ok a → (b ≡ true) × (whole ≡ Ok a)
 passed true whole e a is = (refl, is)
 passed false whole e a is = absurd (cc is)
+
+-- what means something, means it wherever it stands
+pub unplaced : {A : Type 0} (at : BindAt) (m : Meaning A) (a : A) → standing_at at m ≡ Ok a → m ≡ Ok a
+unplaced at (Ok b) a is = cc is
+unplaced at (Err cause) a is = absurd (cc is)

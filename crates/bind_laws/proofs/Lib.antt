@@ -3,5 +3,7 @@ mod AreaFacts
 mod CubeFacts
 mod ReferenceFacts
 mod FormulaFacts
+mod FormulaSizes
+mod CountFacts
+mod RuleSizes
 mod RuleFacts
-pub mod Lengths

@@ -1,5 +1,5 @@
 -- The rules of a text that are bound meet the conditions.
-use Rattle.std.proofs.Common.{◌≡◌, ◌<◌, ◌+◌, ℕ, List, [], ◌∷◌, ◌++◌, length, Some, None, Ok, Err, IfSome, All, subst, arith}
+use Rattle.std.proofs.Common.{◌≡◌, ◌<◌, ◌+◌, ℕ, List, [], ◌∷◌, ◌++◌, length, Some, None, Ok, IfSome, All, subst, arith}
 use Rattle.std.proofs.lemmas.List.Elements.{All-nil, All-cons, All-append, All-weaker}
 use Rattle.cube_space.specs.Layout.{Layout, axes}
 use Rattle.cube_space.specs.Cells.{IsSpace}
@@ -20,21 +20,18 @@ use Rattle.rule_tree.specs.declared.rule.StatementText.{StatementText}
 use Rattle.rule_tree.specs.declared.rule.TargetText.{TargetText}
 use Rattle.rule_tree.specs.declared.rule.TargetText.TheVariants as targets
 use Rattle.rule_tree.specs.declared.tree.Tree.{Tree}
-use Rattle.bind_areas.specs.Meaning.{Meaning, ◌>>=◌}
+use Rattle.bind_areas.specs.Meaning.{◌>>=◌}
 use Rattle.bind_areas.specs.Areas.{area_of}
-use Rattle.rule_bind.specs.declared.fault.BindAt.{BindAt}
 use Rattle.rule_bind.specs.declared.fault.BindAt.TheVariants as places
 use Rattle.rule_bind.specs.declared.standing.Standing.TheVariants as standings
 use Rattle.rule_bind.specs.Rules.{part_of, consolidated_of, Parts, parts_of, form_of, statement_of, target_of, feeders_to, feeders_of, standing_at, statements_of, all_feeders_of, rules_of}
-use Rattle.bind_laws.specs.Countable.{IsCountable, AreCountable}
-use Rattle.bind_laws.proofs.Got.{got, answer}
+use Rattle.rule_tree.specs.Sizes.{IsWithinLimits}
+use Rattle.cube_lex.specs.Reading.{most_text_bytes}
+use Rattle.bind_laws.proofs.Got.{got, answer, unplaced}
 use Rattle.bind_laws.proofs.AreaFacts.{area_valid, bracket_valid}
 use Rattle.bind_laws.proofs.ReferenceFacts.{db_valid}
 use Rattle.bind_laws.proofs.FormulaFacts.{IsRead, sound}
-
-unplaced : {A : Type 0} (at : BindAt) (m : Meaning A) (a : A) → standing_at at m ≡ Ok a → m ≡ Ok a
-unplaced at (Ok b) a is = cc is
-unplaced at (Err cause) a is = absurd (cc is)
+use Rattle.bind_laws.proofs.RuleSizes.{IsCounted, statements_counted, feeders_counted}
 
 module _ (space : Layout) (cube : ℕ) (valid : IsSpace space) (low : cube < length space.cubes) where
   -- a part for leaf cells, which may be one for consolidated cells too
@@ -96,7 +93,7 @@ module _ (space : Layout) (cube : ℕ) (valid : IsSpace space) (low : cube < len
       let formed = statement_valid text one (unplaced (places.Statement (before + 1)) (statement_of space cube text) one first) in
       subst (All IsFormed) same (All-cons IsFormed one others formed (statements_valid (before + 1) texts others second))
 
-  counted : (statements : List Statement) → All IsFormed statements → All IsCountable statements → All (IsStatement space cube) statements
+  counted : (statements : List Statement) → All IsFormed statements → All (IsCounted space cube) statements → All (IsStatement space cube) statements
   counted statements formed few k d below =
       let form = formed k d below in
       let count = few k d below in
@@ -140,18 +137,18 @@ module _ (space : Layout) (cube : ℕ) (valid : IsSpace space) (low : cube < len
   unordered : IsOrderOf space cube no_order
   unordered = record { few = omega arith; each = All-nil (IsPosition (axes space cube)) }
 
-  pub rules_valid : (text : RuleText) (rules : CubeRules) → rules_of space cube text ≡ Ok rules → AreCountable rules → AreCubeRules space cube rules
-  unfolding rules_of
-  rules_valid text rules is =
+  pub rules_valid : (text : RuleText) (rules : CubeRules) → IsWithinLimits text → rules_of space cube text ≡ Ok rules → AreCubeRules space cube rules
+  unfolding rules_of most_text_bytes
+  rules_valid text rules within is =
       let (statements, first, more) = got (statements_of space cube 0 text.statements) (λ statements. all_feeders_of space cube 0 text.feeders >>= (λ feeders. Ok (record { skipcheck = text.skipcheck; statements = statements; feeders = feeders; order = no_order }))) rules is in
       let (feeders, second, rest) = got (all_feeders_of space cube 0 text.feeders) (λ feeders. Ok (record { skipcheck = text.skipcheck; statements = statements; feeders = feeders; order = no_order })) rules more in
       let made : CubeRules = record { skipcheck = text.skipcheck; statements = statements; feeders = feeders; order = no_order } in
       let same : made ≡ rules = cc rest in
-      subst (λ rules. AreCountable rules → AreCubeRules space cube rules) same
-      (λ countable. record {
-        few_statements = countable.few_statements;
-        few_feeders = countable.few_feeders;
-        statements = counted statements (statements_valid 0 text.statements statements first) countable.each;
+      let counts = statements_counted space cube 0 text.statements statements within.nodes first in
+      subst (AreCubeRules space cube) same (record {
+        few_statements = omega (arith, counts.as_many, within.statements);
+        few_feeders = omega (arith, feeders_counted space cube 0 text.feeders feeders second, within.targets);
+        statements = counted statements (statements_valid 0 text.statements statements first) counts.each;
         feeders = feeders_valid 0 text.feeders feeders second;
         order = unordered;
       })

@@ -6,3 +6,4 @@ pub mod SmallProducts
 pub mod CubeRules
 pub mod InStages
 pub mod Stages
+pub mod NoTexts

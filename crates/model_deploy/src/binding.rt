@@ -1,5 +1,6 @@
-ghost use Rattle.std.specs.Prelude.{◌≡◌, ◌⊎◌, ◌<◌, length, IfOk};
+ghost use Rattle.std.specs.Prelude.{◌≡◌, ◌⊎◌, ◌<◌, length, All, IfOk};
 ghost use Rattle.rule_model.specs.Conditions.{AreCubeRules, AreRules};
+ghost use Rattle.rule_tree.specs.Sizes.{IsWithinLimits};
 ghost use Rattle.bind_areas.specs.declared.cause.BindCause.TheVariants.{Memory};
 ghost use Rattle.model_deploy.specs.Foundation.{memory};
 ghost use Rattle.model_deploy.specs.Rules.{file_name, place_of, cause_of, meaning_stage};
@@ -7,11 +8,11 @@ ghost use Rattle.model_deploy.specs.Stages.{each, Comes};
 
 use crate::fault::{At, DeployCause, DeployFault};
 use crate::file::{RuleFile, fault_in};
-use bind_laws::{are_countable, bound_rules_meet_the_conditions};
+use bind_laws::bound_rules_meet_the_conditions;
 use cube_space::Space;
 use lists::ListOf;
 use rule_bind::{BindAt, BindCause, BindFault, CubeRules, bind};
-use rule_tree::{MAX_STATEMENTS, RuleText};
+use rule_tree::RuleText;
 use std::alloc::Global;
 
 /// The rules that the texts of all cubes mean, or the first fault of the first that has one.
@@ -21,7 +22,8 @@ pub fn meanings_of(
     files: &[Option<RuleFile>],
     texts: &[RuleText],
 ) -> Result<ListOf<CubeRules>, DeployFault>
-    requires { length texts.now ≡ length space.now.cubes }
+    requires one_each { length texts.now ≡ length space.now.cubes }
+    requires within { All IsWithinLimits texts.now }
     ensures comes { Comes (each (meaning_stage space.now files.now) 0 texts.now) result }
     ensures rules { IfOk result (AreRules space.now) }
 {
@@ -40,21 +42,16 @@ fn meaning_of(
     cube: u32,
     text: &RuleText,
 ) -> Result<CubeRules, DeployFault>
-    requires { cube < length space.now.cubes }
+    requires cube { cube < length space.now.cubes }
+    requires within { IsWithinLimits text.now }
     ensures comes { Comes (meaning_stage space.now files.now cube text.now) result }
     ensures rules { IfOk result (AreCubeRules space.now cube) }
 {
-    // a text that was read has no more statements and no more feeders
-    let most = MAX_STATEMENTS as usize;
-    if text.statements.as_slice().len() > most || text.feeders.as_slice().len() > most {
-        return Err(DeployFault::memory());
-    }
     // a space says of itself that it is one, and what is bound there meets the conditions on rules
     let _cells = space.size();
     bound_rules_meet_the_conditions();
     match bind(alloc, space, cube, text) {
-        Ok(rules) if are_countable(&rules) => Ok(rules),
-        Ok(_) => Err(DeployFault::memory()),
+        Ok(rules) => Ok(rules),
         Err(fault) => Err(meaning_fault(alloc, files, cube, fault)),
     }
 }

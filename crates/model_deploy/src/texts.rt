@@ -1,4 +1,5 @@
-ghost use Rattle.std.specs.Prelude.{◌≡◌, ◌⊎◌, IfSome, IfNone, Some};
+ghost use Rattle.std.specs.Prelude.{◌≡◌, ◌⊎◌, All, IfOk, IfSome, IfNone, Some};
+ghost use Rattle.rule_tree.specs.Sizes.{IsWithinLimits};
 ghost use Rattle.model_deploy.specs.Foundation.{memory};
 ghost use Rattle.model_deploy.specs.Rules.{no_text, text_refusal, text_stage};
 ghost use Rattle.model_deploy.specs.Stages.{each, Comes};
@@ -12,7 +13,8 @@ use std::alloc::Global;
 
 /// The texts of the cubes' rules, or the first fault of the first file that has one.
 pub fn texts_of(alloc: Global, files: &[Option<RuleFile>]) -> Result<ListOf<RuleText>, DeployFault>
-    ensures { Comes (each (λ _. text_stage) 0 files.now) result }
+    ensures comes { Comes (each (λ _. text_stage) 0 files.now) result }
+    ensures within { IfOk result (All IsWithinLimits) }
 {
     let mut texts = Vec::with_capacity(alloc, files.len())?;
     for file in files {
@@ -22,8 +24,10 @@ pub fn texts_of(alloc: Global, files: &[Option<RuleFile>]) -> Result<ListOf<Rule
     Ok(ListOf::new(texts))
 }
 
+#[tactic(auto, using(crate::proofs::NoTexts::no_text_within))]
 fn text_of(alloc: Global, file: &Option<RuleFile>) -> Result<RuleText, DeployFault>
-    ensures { Comes (text_stage file.now) result }
+    ensures comes { Comes (text_stage file.now) result }
+    ensures within { IfOk result IsWithinLimits }
 {
     let Some(file) = file else {
         return Ok(no_text(alloc));

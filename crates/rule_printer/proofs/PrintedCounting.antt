@@ -66,6 +66,10 @@ third_of false false true x y z none (inl h) = cc
 third_of false false true x y z none (inr h) = let no_sign : true ≡ false = h.0 in cc
 third_of false false false x y z none h = refl
 
+past : {A : Type 0} (a : Bool) (x y : A) → a ≡ false → (if a then x else y) ≡ y
+past true x y none = cc
+past false x y none = refl
+
 last_of : {A Q : Type 0} (e b c d : Bool) (x y z : A) → (b ≡ true) ⊎ (Q × ((e ≡ false) ⊎ ((c ≡ false) × (d ≡ false)))) → (if (e && not b) && c then x else (if (e && not b) && d then y else z)) ≡ z
 last_of false b c d x y z h = refl
 last_of true true c d x y z h = refl
@@ -88,7 +92,9 @@ pub argument_place : IsPlace places.Argument 1
 unfolding count
 argument_place = record { within = at } where
   at : (c : Counted) (l : Limits) (t : Lexeme) → is_sign (codes ";") t ≡ false → IsWithin 1 l t → count (record c { place = places.Argument l }) t ≡ moved c (in_place places.Argument (with_token l t))
-  at c l t semicolon h = ap (moved c) (last_of (l.depth == 1) l.bracketed (is_sign (codes ",") t) (is_sign (codes ")") t) (Ok (places.Argument (begun_within 1))) (Ok places.Targets) (in_place places.Argument (with_token l t)) (deeper l t h))
+  at c l t semicolon h = ap (moved c) (
+      past (is_sign (codes ";") t) (Ok places.Between) _ semicolon
+      ∙ last_of (l.depth == 1) l.bracketed (is_sign (codes ",") t) (is_sign (codes ")") t) (Ok (places.Argument (begun_within 1))) (Ok places.Targets) (in_place places.Argument (with_token l t)) (deeper l t h))
 
 -- In such a place.
 

@@ -6,3 +6,8 @@ pub mod FeederExact
 pub mod WordFirst
 pub mod StatementExact
 pub mod RulesExact
+mod Fits
+mod TokenCounts
+mod TextSizes
+mod TextCounts
+mod TextLimits

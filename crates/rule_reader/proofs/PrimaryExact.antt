@@ -24,7 +24,7 @@ use Rattle.grammar.proofs.Lists.{Closes, perhaps_listed_exact, closed_list}
 use Rattle.rule_reader.proofs.BracketExact.{bracket_exact}
 use Rattle.expression_grammar.proofs.WordsExact.{one_word, one_capital_word}
 
-word_name_kind : HasKind (one word_name) kinds.Word
+pub word_name_kind : HasKind (one word_name) kinds.Word
 word_name_kind = one_kind word_name kinds.Word (λ t a e. word_is t.kind (and_is (is_word_kind t.kind) (is_name t.piece) (when_picks (λ t. is_word_kind t.kind && is_name t.piece) (λ t. t.piece) t a e).0).0)
 
 -- Numbers, texts, the element of the cell at hand, and references.

@@ -1,5 +1,6 @@
-ghost use Rattle.std.specs.Prelude.{◌≡◌};
+ghost use Rattle.std.specs.Prelude.{◌≡◌, IfOk};
 ghost use Rattle.grammar.specs.Cursor.{Reads};
+ghost use Rattle.rule_tree.specs.Sizes.{IsWithinLimits};
 ghost use Rattle.rule_reader.specs.Answers.{Answers};
 ghost use Rattle.rule_reader.specs.Readers.TextReading as reading;
 
@@ -60,7 +61,8 @@ fn rules_at(alloc: Global, cursor: &mut Cursor<'_, Counted>) -> Result<RuleText,
 
 /// Reads the rules of a cube from their text.
 pub fn parse(alloc: Global, text: &[u8]) -> Result<RuleText, RuleFault>
-    ensures { Answers text.now result }
+    ensures answered { Answers text.now result }
+    ensures within { IfOk result IsWithinLimits }
 {
     let (tokens, fault) = tokens_until(alloc, text)?;
     let start = Counted {

@@ -1,1 +1,2 @@
 pub mod TreeFolds
+pub mod Nodes

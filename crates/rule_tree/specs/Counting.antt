@@ -51,10 +51,11 @@ behind_targets t =
     else if is_sign (codes "(") t then places.Argument (begun_within 1)
     else places.Targets
 
--- and behind each `,` that stands directly in those parentheses.
+-- and behind each `,` that stands directly in those parentheses. A `;` ends every formula, and stands in none.
 abbrev pub behind_argument : Limits → Lexeme → Result RuleTextPlace Excess
 behind_argument l t =
-    if (l.depth == 1 && not l.bracketed) && is_sign (codes ",") t then Ok (places.Argument (begun_within 1))
+    if is_sign (codes ";") t then Ok places.Between
+    else if (l.depth == 1 && not l.bracketed) && is_sign (codes ",") t then Ok (places.Argument (begun_within 1))
     else if (l.depth == 1 && not l.bracketed) && is_sign (codes ")") t then Ok places.Targets
     else in_place places.Argument (with_token l t)
 

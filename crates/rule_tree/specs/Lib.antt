@@ -1,3 +1,4 @@
 pub mod Formula
 pub mod RuleText
 pub mod Counting
+pub mod Sizes

@@ -90,7 +90,9 @@ fn behind_argument(limits: &Limits, token: &Token<'_>) -> Result<RuleTextPlace, 
     ensures { result ≡ counting.behind_argument limits.now (lexeme_of token.now) }
 {
     let outermost = limits.depth == 1 && !limits.bracketed;
-    if outermost && is_sign(token, b",") {
+    if is_sign(token, b";") {
+        Ok(RuleTextPlace::Between)
+    } else if outermost && is_sign(token, b",") {
         Ok(RuleTextPlace::Argument(Limits::within(1)))
     } else if outermost && is_sign(token, b")") {
         Ok(RuleTextPlace::Targets)

@@ -9,7 +9,7 @@ returns-in_err-rules-clause-comes c =
     let texts = c.args.texts.now in
     let i = c.loop-cube.cube in
     let text = c.index-texts-cube.result in
-    let low : i < length texts = omega (arith, c.loop-cube-test.true, c.cubes-cube-end.ensures, c.requires) in
+    let low : i < length texts = omega (arith, c.loop-cube-test.true, c.cubes-cube-end.ensures, c.requires.one_each) in
     comes-refused (meaning_stage c.args.space.now c.args.files.now) texts (take i texts) (drop (i + 1) texts) c.loop-cube.all.items text i c.in_err-rules.field-0.0 c.from_residual-in_err-rules.result
     (parts-at texts i text low c.index-texts-cube.is) (place-at texts i low) c.loop-cube.invariant.meant c.in_err-rules.ensures.comes c.from_residual-in_err-rules.ensures.1
 
@@ -19,7 +19,7 @@ loop-cube-preserved c =
     let texts = c.args.texts.now in
     let i = c.loop-cube.cube in
     let text = c.index-texts-cube.result in
-    let low : i < length texts = omega (arith, c.loop-cube-test.true, c.cubes-cube-end.ensures, c.requires) in
+    let low : i < length texts = omega (arith, c.loop-cube-test.true, c.cubes-cube-end.ensures, c.requires.one_each) in
     let more = taken-more texts i text low c.index-texts-cube.is in
     let start : i ≡ 0 + length (take i texts) = omega (arith, place-at texts i low) in
     let here = subst (λ n. (meaning_stage space c.args.files.now n text).finds c.in_ok-rules.rules) start c.in_ok-rules.ensures.comes in
@@ -31,5 +31,5 @@ loop-cube-preserved c =
 pub returns-clause-comes : goal.returns-clause-comes
 returns-clause-comes c =
     let texts = c.args.texts.now in
-    let end : length texts ≤ c.loop-cube.cube = omega (arith, c.loop-cube-test.false, c.cubes-cube-end.ensures, c.requires) in
+    let end : length texts ≤ c.loop-cube.cube = omega (arith, c.loop-cube-test.false, c.cubes-cube-end.ensures, c.requires.one_each) in
     rw c.new.ensures (whole-found (meaning_stage c.args.space.now c.args.files.now) texts c.loop-cube.all.items c.loop-cube.cube end c.loop-cube.invariant.meant)

@@ -4,8 +4,11 @@ use Rattle.model_deploy.proofs.deploying.rules_of.Goals as goal
 
 pub returns-in_err-texts-clause-comes : goal.returns-in_err-texts-clause-comes
 returns-in_err-texts-clause-comes c =
-    unread c.args.found.now.space c.args.found.now.orders c.args.files.now c.in_err-texts.field-0.0 c.from_residual.result c.from_residual.ensures.1 c.in_err-texts.ensures
+    unread c.args.found.now.space c.args.found.now.orders c.args.files.now c.in_err-texts.field-0.0 c.from_residual.result c.from_residual.ensures.1 c.in_err-texts.ensures.comes
 
-pub meanings_of-requires : goal.meanings_of-requires
-meanings_of-requires c =
-    ap length c.as_slice.ensures ∙ as-many-texts c.args.found.now.space c.args.found.now.orders c.args.files.now c.in_ok-texts.texts c.in_ok-texts.ensures ∙ c.requires.one_each
+pub meanings_of-requires-clause-one_each : goal.meanings_of-requires-clause-one_each
+meanings_of-requires-clause-one_each c =
+    ap length c.as_slice.ensures ∙ as-many-texts c.args.found.now.space c.args.found.now.orders c.args.files.now c.in_ok-texts.texts c.in_ok-texts.ensures.comes ∙ c.requires.one_each
+
+pub meanings_of-requires-clause-within : goal.meanings_of-requires-clause-within
+meanings_of-requires-clause-within c = rw c.as_slice.ensures c.in_ok-texts.ensures.within
