@@ -1,3 +1,4 @@
+pub mod Counted
 pub mod FedCount
 pub mod Limits
 pub mod RoomFacts

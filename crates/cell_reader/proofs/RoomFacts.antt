@@ -1,31 +1,30 @@
 -- How much one write more can pass a limit by.
-use Rattle.std.proofs.Common.{◌≡◌, ◌≢◌, refl, sym, ◌∙◌, ap, subst, arith, ℕ, zero, suc, ℤ, pos, Bool, true, false, cond, ◌&&◌, ◌||◌, eqb, ltb, ltb-true, ne_eqb, ◌<◌, ◌≤◌, ◌+◌, ◌-◌, List, [], ◌∷◌, ◌++◌, length, filter, inl, inr, ⊎_elim}
-use Rattle.std.specs.Prelude.{IsSome, is_some, nat_lt}
+use Rattle.std.proofs.Common.{◌≡◌, ◌≢◌, refl, sym, ◌∙◌, ap, subst, arith, ℕ, suc, ℤ, pos, Bool, true, false, cond, ◌||◌, eqb, ltb, ltb-true, ne_eqb, ◌≤◌, ◌+◌, List, [], ◌∷◌, ◌++◌, length, filter, ◌⊎◌, inl, inr, ⊎_elim}
+use Rattle.std.specs.Prelude.{Contains, IsSome, is_some, nat_lt}
 use Rattle.std.specs.Ordering.{int_eq}
-use Rattle.std.proofs.lemmas.Bool.{and_parts, eqb-true, or_cases}
+use Rattle.std.proofs.lemmas.Bool.{and_parts, cases_eq, or_cases}
 use Rattle.std.proofs.lemmas.List.{length-append, map-append}
+use Rattle.std.proofs.lemmas.List.Elements.{Contains-append_left, Contains-append_right}
 use Rattle.std.proofs.lemmas.List.Folds.{list_any-append}
 use Rattle.std.proofs.lemmas.List.FromFn.{length-range_with_len}
 use Rattle.cell_store.specs.declared.entry.Entry.{Entry}
 use Rattle.cell_store.specs.Entries.{above, below, cells_of, kept_of, with_write}
-use Rattle.cell_store.specs.StoreLimit.{most_cells}
 use Rattle.cell_versions.proofs.Cells.{filtered, has, stored_is, untouched}
-use Rattle.cube_space.specs.Cells.{IsSpace, cube_of, is_leaf_cell, size_of}
+use Rattle.cube_space.specs.Cells.{IsSpace, size_of}
 use Rattle.fed_laws.proofs.Reached.{fed_list, list_fed, list_rises}
 use Rattle.fed_laws.specs.FedCells.{cells, fed_cells, is_reached}
 use Rattle.feed_map.proofs.Counts.{within-counts}
-use Rattle.feed_sources.proofs.Members.{list-of-some, some-unmapped}
+use Rattle.feed_chains.specs.Led.{LeadsToAtMost}
 use Rattle.model_laws.proofs.Formed.{well_formed}
-use Rattle.lists.proofs.Members.{same_members}
 use Rattle.lists.proofs.Rising.{among}
-use Rattle.rule_laws.specs.Feeding.{Feeds, FeedsBy, IsFed, Leads}
-use Rattle.rule_laws.specs.Ordered.{IsWellFormed}
-use Rattle.rule_laws.specs.RuleSystem.{Feed, RuleSystem, Stored}
-use Rattle.rule_model.specs.BoundModel.{BoundModel, rules_of}
+use Rattle.rule_laws.specs.Feeding.{IsFed, Leads}
+use Rattle.rule_laws.specs.RuleSystem.{RuleSystem, Stored}
+use Rattle.rule_model.specs.BoundModel.{BoundModel}
 use Rattle.rule_model.specs.Conditions.{AreRules}
-use Rattle.rule_model.specs.System.{cube_feeds, cubes_of, feed_of, system_of}
+use Rattle.rule_model.specs.System.{system_of}
 use Rattle.stored_laws.specs.Stored.{stored_in}
 use Rattle.cell_reader.specs.FedCount.{fed_count}
+use Rattle.cell_reader.proofs.Counted.{few-in_both}
 
 -- ---- the stored cells
 
@@ -48,12 +47,9 @@ kept_one cell number = by (int_eq number (pos 0))
     by true = omega arith
     by false = omega arith
 
-one_more : (es : List Entry) (cell : ℕ) (number : ℤ) → length (with_write es cell number) ≤ length es + 1
+pub one_more : (es : List Entry) (cell : ℕ) (number : ℤ) → length (with_write es cell number) ≤ length es + 1
 one_more es cell number =
     omega (arith, apart es cell, kept_one cell number, length-append (below es cell) (kept_of cell number ++ above es cell), length-append (kept_of cell number) (above es cell))
-
-pub few_more : (es : List Entry) (cell : ℕ) (number : ℤ) (room : ℕ) → 0 < room → length es + room ≤ most_cells → length (with_write es cell number) + (room - 1) ≤ most_cells
-few_more es cell number room some few = omega (arith, some, few, one_more es cell number)
 
 -- a written 0 stores no cell more
 pub none_more : (es : List Entry) (cell : ℕ) (number : ℤ) → number ≡ pos 0 → length (with_write es cell number) ≤ length es
@@ -75,36 +71,6 @@ unfolding fed_count fed_cells system_of
 fed_of_all m es =
     let w = system_of m in
     omega (arith, filter_few (is_reached w (stored_in es) w.size) (cells w), length-range_with_len 0 w.size)
-
-pub none_there : {X : Type 0} (xs : List X) → eqb (length xs) 0 ≡ true → xs ≡ []
-none_there [] is = refl
-none_there (x ∷ xs) is = absurd (omega (arith, eqb-true (length (x ∷ xs)) 0 is))
-
--- a cube without feeders feeds nothing from its cells
-pub no_feeds : (m : BoundModel) (x c : ℕ) → (rules_of m (cube_of m.space x)).feeders ≡ [] → Feeds (system_of m) x c → ⊥
-unfolding system_of
-no_feeds m x c none feeds =
-    let By : Feed → Type 0 = λ feed. FeedsBy (system_of m) feed x c in
-    let found = list-of-some By (cube_feeds m) (cubes_of m) feeds in
-    let one = some-unmapped By (feed_of m.space found.0) (rules_of m found.0).feeders found.1 in
-    let of_cube = and_parts (eqb (cube_of m.space x) found.0) _ (and_parts (eqb (cube_of m.space x) found.0 && is_leaf_cell m.space x) _ one.4.1).0 in
-    let same : cube_of m.space x ≡ found.0 = eqb-true (cube_of m.space x) found.0 of_cube.0 in
-    let empty : (rules_of m found.0).feeders ≡ [] = subst (λ (cube : ℕ). (rules_of m cube).feeders ≡ []) same none in
-    omega (arith, one.2, ap length empty)
-
-module _ (w : RuleSystem) (cell : ℕ) (feeds_none : (fed : ℕ) → Feeds w cell fed → ⊥) where
-  -- a chain begins with a feed from its first cell
-  begins : (n a c : ℕ) → Leads w (suc n) a c → (fed : ℕ) × Feeds w a fed
-  begins zero a c led = (c, subst (λ x. Feeds w x c) (sym led.1) led.2)
-  begins (suc n) a c led = begins n a led.0 led.1
-
-  still_fed : (s t : Stored) → ((x : ℕ) → cell ≢ x → IsSome (s x) → IsSome (t x)) → (c : ℕ) → IsFed w s c → IsFed w t c
-  still_fed s t more c (inl dense) = inl dense
-  still_fed s t more c (inr (n, a, inr dense, led)) = inr (n, a, inr dense, led)
-  still_fed s t more c (inr (n, a, inl own, led)) =
-      let first = begins n a c led in
-      let other : cell ≢ a = λ same. feeds_none first.0 (subst (λ x. Feeds w x first.0) (sym same) first.1) in
-      inr (n, a, inl (own.0, more a other own.1), led)
 
 -- a write changes only whether its own cell is stored
 still_stored : (es : List Entry) (cell : ℕ) (number : ℤ) (x : ℕ) → cell ≢ x → is_some (stored_in (with_write es cell number) x) ≡ is_some (stored_in es x)
@@ -142,17 +108,18 @@ no_more_fed m es cell number valid rules none =
     within-counts (fed_cells w before) (fed_cells w now) (list_rises w before) (list_rises w now)
     (λ c has. fed_list w before (well_formed m valid rules) c (more_stored w now before (λ x some. was_stored es cell number x none some) c (list_fed w now c has)))
 
--- a write of a cell that feeds nothing leaves the fed cells as they are
-pub same_fed : (m : BoundModel) (es : List Entry) (cell : ℕ) (number : ℤ) → IsSpace m.space → AreRules m.space m.rules → ((fed : ℕ) → Feeds (system_of m) cell fed → ⊥)
-    → fed_count m (with_write es cell number) ≡ fed_count m es
+-- a write feeds at most so many cells more as chains of feeds lead to from its cell
+pub few_more_fed : (m : BoundModel) (es : List Entry) (cell : ℕ) (number : ℤ) (count : ℕ) → IsSpace m.space → AreRules m.space m.rules → LeadsToAtMost (system_of m) cell count
+    → fed_count m (with_write es cell number) ≤ fed_count m es + count
 unfolding fed_count
-same_fed m es cell number valid rules feeds_none =
-    ap length
-    (same_members (fed_cells w now) (fed_cells w before) (list_rises w now) (list_rises w before)
-    (λ c. (
-      λ has. fed_list w before formed c (still_fed w cell feeds_none now before (λ x other some. sym (still_stored es cell number x other) ∙ some) c (list_fed w now c has)),
-      λ has. fed_list w now formed c (still_fed w cell feeds_none before now (λ x other some. still_stored es cell number x other ∙ some) c (list_fed w before c has)),
-    )))
+few_more_fed m es cell number count valid rules led =
+    let few = led.1 in
+    let all = few-in_both (fed_cells w now) (fed_cells w before) led.0 (list_rises w now)
+    (λ c has. elim (parts c (list_fed w now c has)) [
+      | inl old ↦ Contains-append_left (fed_cells w before) led.0 c (fed_list w before (well_formed m valid rules) c old)
+      | inr new ↦ Contains-append_right (fed_cells w before) led.0 c new
+    ]) in
+    omega (arith, few, all)
   where
     w : RuleSystem
     w = system_of m
@@ -163,5 +130,12 @@ same_fed m es cell number valid rules feeds_none =
     now : Stored
     now = stored_in (with_write es cell number)
 
-    formed : IsWellFormed w
-    formed = well_formed m valid rules
+    -- it was fed before, or a chain leads to it from the cell
+    parts : (c : ℕ) → IsFed w now c → IsFed w before c ⊎ Contains led.0 c
+    parts c (inl dense) = inl (inl dense)
+    parts c (inr (n, a, inr dense, chain)) = inl (inr (n, a, inr dense, chain))
+    parts c (inr (n, a, inl own, chain)) =
+        elim (cases_eq cell a) [
+          | inl same ↦ inr (led.2 n c (subst (λ (x : ℕ). Leads w (suc n) x c) (sym same) chain))
+          | inr other ↦ inl (inr (n, a, inl (own.0, sym (still_stored es cell number a other) ∙ own.1), chain))
+        ]

@@ -1,5 +1,5 @@
 -- A load's work with one write more, and memories of its values.
-use Rattle.std.proofs.Common.{◌≡◌, ◌∙◌, refl, sym, ap, subst, arith, Bool, true, false, cond, ℕ, ℤ, pos, ◌-◌, ◌<◌, ◌≤◌, List, [], ◌∷◌, ◌++◌, drop, length, take, Ok}
+use Rattle.std.proofs.Common.{◌≡◌, ◌∙◌, refl, sym, ap, subst, arith, Bool, true, false, cond, ℕ, ℤ, pos, ◌+◌, ◌-◌, ◌≤◌, List, [], ◌∷◌, ◌++◌, drop, length, take, Ok}
 use Rattle.std.specs.Arc.{arc_value}
 use Rattle.std.specs.declared.alloc.Global.{Global}
 use Rattle.std.specs.declared.sync.Arc.{Arc}
@@ -13,18 +13,19 @@ use Rattle.cell_values.specs.Reading.{value_on}
 use Rattle.cell_versions.specs.Versions.{NumberedVersion}
 use Rattle.cube_space.specs.Cells.{IsCell, IsSpace, is_leaf_cell, size_of}
 use Rattle.feed_map.specs.FedCells.{most_fed}
+use Rattle.feed_chains.specs.Led.{LeadsToAtMost}
 use Rattle.memo_cells.specs.declared.version.Version.{Version}
 use Rattle.memo_cells.specs.Values.{cell_value}
-use Rattle.rule_laws.specs.Feeding.{Feeds}
 use Rattle.rule_model.specs.BoundModel.{BoundModel}
 use Rattle.rule_model.specs.Conditions.{AreRules}
 use Rattle.rule_model.specs.System.{system_of}
 use Rattle.cell_reader.specs.FedCount.{fed_count}
 use Rattle.cell_reader.specs.Limits.{IsLimitAnswer}
 use Rattle.cell_reader.specs.Inside.After.{IsAfter, IsAhead, MayWait}
+use Rattle.cell_reader.specs.declared.room.Room.{Room}
 use Rattle.cell_reader.specs.declared.work.Work.{Work}
 use Rattle.cell_reader.proofs.Limits.{within-answers}
-use Rattle.cell_reader.proofs.RoomFacts.{fed_of_all, few_more, no_more_fed, none_more, same_fed}
+use Rattle.cell_reader.proofs.RoomFacts.{fed_of_all, few_more_fed, no_more_fed, none_more, one_more}
 
 -- a memory that was made for a version has its values
 pub kept_values : (kept : Version) (version : NumberedVersion) → kept.model.value ≡ version.model → kept.stored.value ≡ version.stored → cell_value kept ≡ value_on version
@@ -45,12 +46,12 @@ more-after opening model stored ws cell number so_far own leaf =
       leaves = All-append IsLeaf ws ((cell, number) ∷ []) so_far.leaves (All-cons IsLeaf (cell, number) [] (own, leaf) (All-nil IsLeaf));
     }
 
-module _ (opening latest : Arc NumberedVersion Global) (ws : List (ℕ × ℤ)) (made room : ℕ) (ahead : IsAhead opening latest ws made room) where
+module _ (opening latest : Arc NumberedVersion Global) (ws : List (ℕ × ℤ)) (made : ℕ) (room : Room) (ahead : IsAhead opening latest ws made room) where
   abbrev now : NumberedVersion
   now = arc_value latest
 
   -- one write more waits
-  pub waits-more : (left cell : ℕ) (number : ℤ) → IsCell (arc_value opening).model.space cell → is_leaf_cell (arc_value opening).model.space cell ≡ true
+  pub waits-more : (left : Room) (cell : ℕ) (number : ℤ) → IsCell (arc_value opening).model.space cell → is_leaf_cell (arc_value opening).model.space cell ≡ true
       → MayWait now (drop made ws ++ (cell, number) ∷ []) left → IsAhead opening latest (ws ++ (cell, number) ∷ []) made left
   waits-more left cell number own leaf waiting =
       let later : drop made (ws ++ (cell, number) ∷ []) ≡ drop made ws ++ (cell, number) ∷ [] = drop-append-le made ws ((cell, number) ∷ []) ahead.made_first in
@@ -69,21 +70,21 @@ module _ (opening latest : Arc NumberedVersion Global) (ws : List (ℕ × ℤ)) 
   few_fed_after : fed_count (arc_value opening).model (after_writes (arc_value opening).stored ws) ≤ most_fed
   few_fed_after =
       subst (λ (m : BoundModel). fed_count m (after_writes (arc_value opening).stored ws) ≤ most_fed) ahead.all.same
-      (subst (λ (es : List Entry). fed_count now.model es ≤ most_fed) ahead.all.after ahead.waiting.few_fed)
+      (subst (λ (es : List Entry). fed_count now.model es ≤ most_fed) ahead.all.after (omega (arith, ahead.waiting.few_fed)))
 
   pub ahead_answers : {T : Type 0} (ok : T) → IsLimitAnswer (arc_value opening).model (after_writes (arc_value opening).stored ws) (Ok ok)
   ahead_answers ok = within-answers (arc_value opening).model (after_writes (arc_value opening).stored ws) ok few_after few_fed_after
 
   -- less room is left
-  pub less-room : (left : ℕ) → left ≤ room → IsAhead opening latest ws made left
-  less-room left less = record {
+  pub less-room : (left : Room) → left.stored ≤ room.stored → left.fed ≤ room.fed → IsAhead opening latest ws made left
+  less-room left less fewer = record {
     made_first = ahead.made_first;
-    waiting = record { few_stored = omega (arith, ahead.waiting.few_stored, less); few_fed = ahead.waiting.few_fed };
+    waiting = record { few_stored = omega (arith, ahead.waiting.few_stored, less); few_fed = omega (arith, ahead.waiting.few_fed, fewer) };
     all = ahead.all;
   }
 
 -- one write more waits behind the others, which end the writes
-pub waits-behind : (work : Work) (version : NumberedVersion) (ws : List (ℕ × ℤ)) (left cell : ℕ) (number : ℤ) → version ≡ arc_value work.latest → ws ≡ work.written.items
+pub waits-behind : (work : Work) (version : NumberedVersion) (ws : List (ℕ × ℤ)) (left : Room) (cell : ℕ) (number : ℤ) → version ≡ arc_value work.latest → ws ≡ work.written.items
     → IsCell (arc_value work.opening).model.space cell → is_leaf_cell (arc_value work.opening).model.space cell ≡ true
     → MayWait version (take (length ws - work.made) (drop work.made ws) ++ (cell, number) ∷ []) left
     → IsAhead work.opening work.latest (work.written.items ++ (cell, number) ∷ []) work.made left
@@ -95,14 +96,14 @@ waits-behind work version ws left cell number latest are own leaf may =
     (subst (λ (waiting : List (ℕ × ℤ)). MayWait version (waiting ++ one) left) end may))
 
 -- the writes, or more of them
-pub ahead_either : (opening latest : Arc NumberedVersion Global) (ws more : List (ℕ × ℤ)) (made room : ℕ) → IsAhead opening latest ws made room → IsAhead opening latest more made room
+pub ahead_either : (opening latest : Arc NumberedVersion Global) (ws more : List (ℕ × ℤ)) (made : ℕ) (room : Room) → IsAhead opening latest ws made room → IsAhead opening latest more made room
     → (b : Bool) → IsAhead opening latest (cond b more ws) made room
 ahead_either opening latest ws more made room so_far later true = later
 ahead_either opening latest ws more made room so_far later false = so_far
 
 -- ---- one write more behind those that wait
 
-module _ (version : NumberedVersion) (ws : List (ℕ × ℤ)) (room cell : ℕ) (number : ℤ) (may : MayWait version ws room) where
+module _ (version : NumberedVersion) (ws : List (ℕ × ℤ)) (room : Room) (cell : ℕ) (number : ℤ) (may : MayWait version ws room) where
   abbrev so_far : List Entry
   so_far = after_writes version.stored ws
 
@@ -120,16 +121,22 @@ module _ (version : NumberedVersion) (ws : List (ℕ × ℤ)) (room cell : ℕ) 
           few_fed = rw more-is (omega (arith, fed, may.few_fed));
         }
 
-    -- nor does a cell that feeds none feed more
-    pub other_waits : 0 < room → ((fed : ℕ) → Feeds (system_of version.model) cell fed → ⊥) → MayWait version (ws ++ (cell, number) ∷ []) (room - 1)
-    other_waits some none = record {
-      few_stored = rw more-is (few_more so_far cell number room some may.few_stored);
-      few_fed = rw more-is (subst (λ n. n ≤ most_fed) (sym (same_fed version.model so_far cell number valid rules none)) may.few_fed);
-    }
+    -- another takes room for its cell, and for those to which chains of feeds lead from it
+    pub led_waits : (left : Room) (led : ℕ) → room.stored ≡ left.stored + 1 → room.fed ≡ left.fed + led → LeadsToAtMost (system_of version.model) cell led
+        → MayWait version (ws ++ (cell, number) ∷ []) left
+    led_waits left led one few leads =
+        let stored = one_more so_far cell number in
+        let fed = few_more_fed version.model so_far cell number led valid rules leads in
+        record {
+          few_stored = rw more-is (omega (arith, stored, one, may.few_stored));
+          few_fed = rw more-is (omega (arith, fed, few, may.few_fed));
+        }
 
   -- no more cells are fed than there are
-  pub small_waits : 0 < room → size_of version.model.space ≤ most_fed → MayWait version (ws ++ (cell, number) ∷ []) (room - 1)
-  small_waits some small = record {
-    few_stored = rw more-is (few_more so_far cell number room some may.few_stored);
-    few_fed = omega (arith, fed_of_all version.model (after_writes version.stored (ws ++ (cell, number) ∷ [])), small);
-  }
+  pub small_waits : (left : Room) → room.stored ≡ left.stored + 1 → left.fed ≡ 0 → size_of version.model.space ≤ most_fed → MayWait version (ws ++ (cell, number) ∷ []) left
+  small_waits left one none small =
+      let stored = one_more so_far cell number in
+      record {
+        few_stored = rw more-is (omega (arith, stored, one, may.few_stored));
+        few_fed = omega (arith, fed_of_all version.model (after_writes version.stored (ws ++ (cell, number) ∷ [])), none, small);
+      }

@@ -1,64 +1,57 @@
-ghost use Rattle.std.specs.Prelude.{◌≡◌, ◌≤◌, ℕ, pos, [], ◌∷◌, ◌++◌, Some, IfSome, IsTrue};
-ghost use Rattle.cube_space.specs.Cells.{IsCell};
-ghost use Rattle.rule_laws.specs.Feeding.{Feeds};
-ghost use Rattle.rule_model.specs.System.{system_of};
+ghost use Rattle.std.specs.Prelude.{◌≡◌, ◌≤◌, pos, [], ◌∷◌, ◌++◌, Some, IfSome};
 ghost use Rattle.cell_reader.specs.Inside.After.{MayWait};
 
 use crate::sound::is_sound;
 use cell_store::MAX_CELLS;
 use cell_versions::Version;
 use cube_fixed::Money;
-use cube_space::MAX_DIMENSIONS;
+use feed_chains::count_led;
 use feed_map::MAX_FED;
-use rule_model::{Model, place_of};
 
-/// How many more cells may be stored by writes that wait, once this write waits behind those that do; None where it may
-/// not wait. A written 0 always may: it takes no room, and feeds nothing. Another write may where there is room, and
-/// where there are few cells in all, or the cell feeds none.
+/// How many more cells writes that wait may add to a version.
+#[derive(Clone, Copy)]
+pub(crate) struct Room {
+    /// How many more may be stored.
+    pub(crate) stored: usize,
+    /// How many more may be fed.
+    pub(crate) fed: usize,
+}
+
+/// The room behind a write that waits with those that do; None where it may not wait. A written 0 always may: it takes
+/// no room, and feeds nothing. Another write may where there is room for its cell, and for those to which chains of
+/// feeds lead from it, or where there are few cells in all.
 pub(crate) fn room_behind(
     version: &Version,
     waiting: &[(u64, Money)],
-    room: usize,
+    room: Room,
     cell: u64,
     number: Money,
-) -> Option<usize>
-    requires waiting { MayWait version.now waiting.now room }
-    requires cell { IsCell version.now.model.space cell }
+) -> Option<Room>
+    requires { MayWait version.now waiting.now room }
     ensures waits { IfSome result (MayWait version.now (waiting.now ++ (cell, number) ∷ [])) }
-    ensures less { IfSome result (λ left. left ≤ room) }
+    ensures less { IfSome result (λ left. (left.stored ≤ room.stored) × (left.fed ≤ room.fed)) }
     ensures zero { number ≡ pos 0 → result ≡ Some room }
 {
-    let model = version.model();
-    let size = model.space().size();
+    let size = version.model().space().size();
     if number.millionths() == 0 {
         return Some(room);
     }
-    if room == 0 {
-        return None;
-    }
+    let stored = room.stored.checked_sub(1)?;
     if size <= MAX_FED as u64 {
-        return Some(room - 1);
+        return Some(Room { stored, fed: 0 });
     }
-    if feeds_nothing(model, cell) {
-        return Some(room - 1);
-    }
-    None
+    let led = count_led(version.accepted().sources(), cell)?;
+    let fed = room.fed.checked_sub(led)?;
+    Some(Room { stored, fed })
 }
 
-// Whether the cube of a cell has no feeders.
-fn feeds_nothing(model: &Model, cell: u64) -> bool
-    requires { IsCell model.now.space cell }
-    ensures { IsTrue result → (fed : ℕ) → Feeds (system_of model.now) cell fed → ⊥ }
-{
-    let mut at = [0u32; MAX_DIMENSIONS];
-    let (cube, _) = place_of(model, cell, &mut at);
-    model.rules(cube).feeders.as_slice().is_empty()
-}
-
-/// How many more cells may be stored than a version stores.
-pub(crate) fn room_of(version: &Version) -> usize
+/// The room over a version behind which none waits.
+pub(crate) fn room_of(version: &Version) -> Room
     ensures { MayWait version.now [] result }
 {
     is_sound(version);
-    MAX_CELLS - version.store().len() as usize
+    Room {
+        stored: MAX_CELLS - version.store().len() as usize,
+        fed: MAX_FED - version.fed().count() as usize,
+    }
 }

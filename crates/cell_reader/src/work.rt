@@ -4,6 +4,7 @@ ghost use Rattle.memo_cells.specs.contracts.version.Version as kept;
 ghost use Rattle.rule_laws.specs.contracts.formula.Formula as formula;
 ghost use Rattle.cell_reader.specs.Inside.After.{HasValues, IsAhead};
 
+use crate::room::Room;
 use cell_versions::Version;
 use cube_fixed::Money;
 use memo_cells::SharedMemo;
@@ -27,8 +28,8 @@ pub struct Work {
     pub(crate) written: Vec<(u64, Money)>,
     /// How many of the writes the latest version has. The others wait.
     pub(crate) made: usize,
-    /// How many more cells may be stored before a version has to be made.
-    pub(crate) room: usize,
+    /// How many more cells may be added before a version has to be made.
+    pub(crate) room: Room,
     ghost ahead: { IsAhead opening latest written.items made room } by { Prim.hlevel (codes, formula.the_row.coded) },
     ghost values: { HasValues (arc_value latest) memo } by { Prim.hlevel (codes, kept.the_row.coded) },
 }

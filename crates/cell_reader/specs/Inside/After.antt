@@ -14,6 +14,7 @@ use Rattle.memo_cells.specs.Shared.{version_kept}
 use Rattle.memo_cells.specs.Values.{cell_value}
 use Rattle.rule_model.specs.BoundModel.{BoundModel}
 use Rattle.cell_reader.specs.FedCount.{fed_count}
+use Rattle.cell_reader.specs.declared.room.Room.{Room}
 
 -- what these writes have made of the version that the work began with
 pub record IsAfter (opening : NumberedVersion) (writes : List (ℕ × ℤ)) (model : BoundModel) (stored : List Entry)
@@ -22,14 +23,14 @@ pub record IsAfter (opening : NumberedVersion) (writes : List (ℕ × ℤ)) (mod
   pub after : stored ≡ after_writes opening.stored writes
   pub leaves : AreLeafWrites opening.model.space writes
 
--- writes that may wait: neither limit is passed with them, and so many cells more may be stored
-pub record MayWait (version : NumberedVersion) (writes : List (ℕ × ℤ)) (room : ℕ) : Type 0 where
-  pub few_stored : length (after_writes version.stored writes) + room ≤ most_cells
-  pub few_fed : fed_count version.model (after_writes version.stored writes) ≤ most_fed
+-- writes that may wait: neither limit is passed with them and so many cells more
+pub record MayWait (version : NumberedVersion) (writes : List (ℕ × ℤ)) (room : Room) : Type 0 where
+  pub few_stored : length (after_writes version.stored writes) + room.stored ≤ most_cells
+  pub few_fed : fed_count version.model (after_writes version.stored writes) + room.fed ≤ most_fed
 
 -- the latest version has the first so many writes, and the others wait
-pub record IsAhead (opening latest : Arc NumberedVersion Global) (writes : List (ℕ × ℤ)) (made room : ℕ)
-    : Type 0 where
+pub record IsAhead (opening latest : Arc NumberedVersion Global) (writes : List (ℕ × ℤ)) (made : ℕ)
+    (room : Room) : Type 0 where
   pub made_first : made ≤ length writes
   pub waiting : MayWait (arc_value latest) (drop made writes) room
   pub all : IsAfter (arc_value opening) writes (arc_value latest).model

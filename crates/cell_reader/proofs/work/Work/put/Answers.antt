@@ -15,11 +15,11 @@ invariant_of-self-clause-ahead c =
     let work = c.args.self.now in
     let more : IsAhead work.opening work.latest (work.written.items ++ (c.args.cell, c.args.number) ∷ []) work.made c.in-Some.room =
     waits-behind work c.deref-2.result.now c.deref.result.now c.in-Some.room c.args.cell c.args.number c.deref-2.ensures c.deref.ensures.value c.requires.cell c.requires.leaf c.in-Some.ensures.waits in
-    rw c.extend_from_slice.ensures.items (ahead_either work.opening work.latest work.written.items (work.written.items ++ (c.args.cell, c.args.number) ∷ []) work.made c.in-Some.room (less-room work.opening work.latest work.written.items work.made work.room work.ahead c.in-Some.room c.in-Some.ensures.less) more (is_ok c.extend_from_slice.result))
+    rw c.extend_from_slice.ensures.items (ahead_either work.opening work.latest work.written.items (work.written.items ++ (c.args.cell, c.args.number) ∷ []) work.made c.in-Some.room (less-room work.opening work.latest work.written.items work.made work.room work.ahead c.in-Some.room c.in-Some.ensures.less.0 c.in-Some.ensures.less.1) more (is_ok c.extend_from_slice.result))
 
 -- what waits may wait
-pub room_behind-requires-clause-waiting : goal.room_behind-requires-clause-waiting
-room_behind-requires-clause-waiting c =
+pub room_behind-requires : goal.room_behind-requires
+room_behind-requires c =
     let work = c.args.self.now in
     let slice : take (length c.deref.result.now - work.made) (drop work.made c.deref.result.now) ≡ drop work.made work.written.items = take_rest c.deref.result.now work.made ∙ ap (drop work.made) c.deref.ensures.value in
     rw (slice, c.deref-2.ensures) work.ahead.waiting

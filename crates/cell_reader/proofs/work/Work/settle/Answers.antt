@@ -15,7 +15,7 @@ version_within-requires-clause-within c =
     let waiting = drop work.made work.written.items in
     let slice : take (length c.deref.result.now - work.made) (drop work.made c.deref.result.now) ≡ waiting = take_rest c.deref.result.now work.made ∙ ap (drop work.made) c.deref.ensures.value in
     let few_stored : length (after_writes latest.stored waiting) ≤ most_cells = omega (arith, work.ahead.waiting.few_stored) in
-    let within : IsWithinLimits latest.model (after_writes latest.stored waiting) = record { few_stored = few_stored; few_fed = work.ahead.waiting.few_fed } in
+    let within : IsWithinLimits latest.model (after_writes latest.stored waiting) = record { few_stored = few_stored; few_fed = omega (arith, work.ahead.waiting.few_fed) } in
     rw (slice, c.deref-2.ensures) within
 
 -- the version with what waits comes next
