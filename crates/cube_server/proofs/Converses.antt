@@ -13,12 +13,9 @@ use Rattle.cube_server.specs.Known.{RefusesFile, FindsJob}
 use Rattle.cube_server.specs.Status.{IsOrFault}
 use Rattle.cube_server.specs.Inside.Ending.{Ends}
 use Rattle.file_passes.proofs.OneCourse.{same_course}
-use Rattle.run_passes.proofs.PlanFacts.{one_run}
+use Rattle.run_passes.proofs.PlanFacts.{found_ends, one_run}
 
 -- ---- ends of a course
-
-found_ends : (words : List (List ℕ)) (readings : Readings) (j : RunJob) → (run_of words).finds readings j → (name : List ℕ) → ¬ (run_of words).stops readings (Reads name)
-found_ends words readings j finds name stops = (one_run words).not_both readings j (Reads name) finds stops
 
 refused_ends : (words : List (List ℕ)) (readings : Readings) (refusal : Refusal)
     → (run_of words).stops readings (Refuses refusal) → (name : List ℕ) → ¬ (run_of words).stops readings (Reads name)

@@ -5,10 +5,10 @@ use Rattle.cube_words.specs.Words.{Run, IsPlan}
 use Rattle.file_passes.proofs.OneCourse.{same_course}
 use Rattle.file_passes.specs.Course.{IsCourse}
 use Rattle.file_passes.specs.Outside.{Outside}
-use Rattle.file_passes.specs.Pass.{Source, Readings, Reads, files}
+use Rattle.file_passes.specs.Pass.{Source, Readings, files}
 use Rattle.judged_files.specs.Loads.{AreCommands}
 use Rattle.judged_files.specs.Users.{AreUserTexts}
-use Rattle.run_passes.proofs.PlanFacts.{one_run}
+use Rattle.run_passes.proofs.PlanFacts.{found_ends, one_run}
 use Rattle.run_passes.proofs.PlanWords.{one_plan}
 use Rattle.run_passes.specs.RefusalOrder.{plan_pass, run_of}
 use Rattle.run_passes.specs.declared.run_job.RunJob.{RunJob}
@@ -48,10 +48,6 @@ run_serves_one words model user readings job is it =
     plan_serves_one model user readings job (subst (λ plan. (plan_pass plan).finds readings job) same it.2)
 
 -- ---- the text
-
-found_ends : (words : List (List ℕ)) (readings : Readings) (job : RunJob) → (run_of words).finds readings job
-    → (name : List ℕ) → ¬ (run_of words).stops readings (Reads name)
-found_ends words readings job finds name stops = (one_run words).not_both readings job (Reads name) finds stops
 
 -- what `job_laws` says of a run
 abbrev ARunFindsOneJob : Type 0

@@ -4,7 +4,7 @@ use Rattle.cube_outside.specs.Seen.{Seen}
 use Rattle.cube_words.specs.Words.{Plan, Run, Check, Sample, IsPlan}
 use Rattle.file_passes.specs.Halting.{Comes}
 use Rattle.file_passes.specs.Outside.{Outside, outside}
-use Rattle.file_passes.specs.Pass.{Readings, NotWords, Pass, found, the, file, files, judged, ◌>>=◌}
+use Rattle.file_passes.specs.Pass.{Readings, NotWords, Reads, Pass, found, the, file, files, judged, ◌>>=◌}
 use Rattle.file_passes.specs.declared.halt.Halt.{Halt}
 use Rattle.file_passes.proofs.Coming.{comes-next}
 use Rattle.file_passes.proofs.Going.{on-refl}
@@ -166,3 +166,8 @@ module _ {F : Type 0} (seen : F → Seen) where
   run-planned words a c old new plan r is came =
       comes-next seen (the (IsPlan words) NotWords) plan_pass (kept-the (IsPlan words) NotWords) a a c old old new plan refl
       (on-refl (the (IsPlan words) NotWords) (seen a).known old, refl, λ base begun. begun) is r came
+
+-- a run that finds a job ends at no file
+pub found_ends : (words : List (List ℕ)) (readings : Readings) (job : RunJob) → (run_of words).finds readings job
+    → (name : List ℕ) → ¬ (run_of words).stops readings (Reads name)
+found_ends words readings job finds name stops = (one_run words).not_both readings job (Reads name) finds stops
