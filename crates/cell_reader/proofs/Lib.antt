@@ -1,5 +1,7 @@
 pub mod FedCount
+pub mod LastNumbers
 pub mod Limits
 pub mod RoomFacts
 pub mod SlotFacts
 pub mod Works
+pub mod WaitingNumbers

@@ -16,11 +16,13 @@ pub use snapshot::Snapshot;
 pub use work::Work;
 pub use write_permission::{Closed, why_closed};
 
+mod last_numbers;
 mod next_snapshot;
 mod room;
 mod slots;
 mod snapshot;
 mod snapshot_read;
+mod stored_value;
 mod sound;
 mod uncounted;
 mod work;

@@ -1,13 +1,16 @@
+ghost use Rattle.std.specs.Prelude.{drop};
 ghost use Rattle.std.specs.Arc.{arc_value};
 ghost use Rattle.std.specs.Coded.{codes};
+ghost use Rattle.std.proofs.Props.{props};
 ghost use Rattle.memo_cells.specs.contracts.version.Version as kept;
 ghost use Rattle.rule_laws.specs.contracts.formula.Formula as formula;
-ghost use Rattle.cell_reader.specs.Inside.After.{HasValues, IsAhead};
+ghost use Rattle.cell_reader.specs.Inside.After.{AreLast, HasValues, IsAhead};
 
 use cell_versions::Version;
 use cube_fixed::Money;
 use memo_cells::SharedMemo;
 use std::alloc::Global;
+use std::collections::BTreeMap;
 use std::sync::Arc;
 
 /// Into how many slots the cells of a version fall that a load has made. They are few, since each write makes a new
@@ -16,8 +19,8 @@ pub(crate) const WORK_SLOTS: u32 = 256;
 
 /// A version with the writes of a load so far. It sees its own writes.
 ///
-/// Writes wait while no limit can be passed, and a written 0 always: the version with them is made when a cell is read,
-/// or a limit is near.
+/// Writes wait while no limit can be passed, and a written 0 always: the version with them is made when a cell is read
+/// that rules can give a value, or a total, or a limit is near. Other leaf cells are read without it.
 #[derive(Drop)]
 pub struct Work {
     pub(crate) opening: Arc<Version, Global>,
@@ -29,6 +32,9 @@ pub struct Work {
     pub(crate) made: usize,
     /// How many more cells may be stored before a version has to be made.
     pub(crate) room: usize,
+    /// The last number of each cell that the writes which wait are of; none before one of them is read back.
+    pub(crate) numbers: Option<BTreeMap<u64, Money>>,
     ghost ahead: { IsAhead opening latest written.items made room } by { Prim.hlevel (codes, formula.the_row.coded) },
+    ghost last: { AreLast (drop made written.items) numbers } by { Prim.hlevel (codes, props) },
     ghost values: { HasValues (arc_value latest) memo } by { Prim.hlevel (codes, kept.the_row.coded) },
 }
