@@ -1,16 +1,18 @@
 -- The number of a cell after writes: the last that they write into it, or else the one before them.
-use Rattle.std.proofs.Common.{◌≡◌, ◌≢◌, ◌∙◌, refl, sym, ap, arith, ℕ, ◌<◌, ℤ, pos, Bool, true, false, cond, eqb, ltb, List, [], ◌∷◌, ◌++◌, filter, Option, None, Some, inl, inr, append-nil, nat_cmp}
-use Rattle.std.specs.BTreeMap.{is_at}
+use Rattle.std.proofs.Common.{◌≡◌, ◌≢◌, ◌∙◌, refl, sym, ap, arith, ℕ, ◌<◌, ◌≤◌, ℤ, pos, Bool, true, false, cond, eqb, ltb, List, [], ◌∷◌, ◌++◌, drop, filter, length, Option, None, Some, inl, inr, append-nil, nat_cmp}
+use Rattle.std.specs.BTreeMap.{BTreeMap, is_at}
 use Rattle.std.specs.Map.{lookup}
 use Rattle.std.specs.Option.{unwrap_or}
 use Rattle.std.specs.Ordering.{int_eq}
 use Rattle.std.proofs.lemmas.Bool.{cases_lt}
 use Rattle.std.proofs.lemmas.Bool.Decides.{Decides-int_eq, eqb_tells, nat_tests}
+use Rattle.std.proofs.lemmas.List.{drop-append-le}
 use Rattle.cell_store.specs.declared.entry.Entry.{Entry}
 use Rattle.cell_store.specs.Entries.{above, after_writes, kept_of, number_at, with_write}
 use Rattle.cell_store.proofs.Numbers.{number_at-head, number_at-later}
 use Rattle.cell_writes.specs.Writes.{last_writes}
 use Rattle.cell_writes.proofs.Found.{found, found-put, latest}
+use Rattle.cell_reader.specs.Inside.After.{AreLast}
 
 -- ---- one write
 
@@ -113,3 +115,12 @@ pub number-told : (es : List Entry) (ws entries : List (ℕ × ℤ)) (k : ℕ) (
     → unwrap_or last (number_at es k) ≡ number_at (after_writes es ws) k
 number-told es ws entries k last are is =
     ap (λ (found : Option ℤ). unwrap_or found (number_at es k)) (is ∙ ap (lookup (is_at (nat_cmp k))) are) ∙ sym (number-after es ws k)
+
+-- ---- the last numbers that are kept
+
+-- those of the writes from a place on, with one write more
+pub last-more : (ws more : List (ℕ × ℤ)) (made cell : ℕ) (number : ℤ) (kept taken after : Option (BTreeMap ℕ ℤ)) → made ≤ length ws → more ≡ ws ++ (cell, number) ∷ [] → taken ≡ kept
+    → ((writes : List (ℕ × ℤ)) → AreLast writes taken → AreLast (writes ++ (cell, number) ∷ []) after)
+    → AreLast (drop made ws) kept → AreLast (drop made more) after
+last-more ws more made cell number kept taken after first are same then last =
+    rw (are, drop-append-le made ws ((cell, number) ∷ []) first) (then (drop made ws) (rw same last))

@@ -4,4 +4,3 @@ pub mod Limits
 pub mod RoomFacts
 pub mod SlotFacts
 pub mod Works
-pub mod WaitingNumbers

@@ -8,7 +8,7 @@ use cube_fixed::Money;
 use std::alloc::{AllocError, Global};
 use std::collections::BTreeMap;
 
-/// The last number of each cell that is written: as they are kept, or else out of the writes.
+/// The last number that these writes have for each of their cells: as kept, or else found in them.
 pub(crate) fn last_numbers(
     alloc: Global,
     kept: Option<BTreeMap<u64, Money>>,
@@ -23,10 +23,8 @@ pub(crate) fn last_numbers(
     }
 }
 
-fn found_numbers(
-    alloc: Global,
-    writes: &[(u64, Money)],
-) -> Result<BTreeMap<u64, Money>, AllocError>
+// The same, found in the writes.
+fn found_numbers(alloc: Global, writes: &[(u64, Money)]) -> Result<BTreeMap<u64, Money>, AllocError>
     ensures { IfOk result (λ numbers. numbers.entries ≡ last_writes writes.now) }
 {
     let mut numbers = BTreeMap::new(alloc);

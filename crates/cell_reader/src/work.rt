@@ -19,8 +19,8 @@ pub(crate) const WORK_SLOTS: u32 = 256;
 
 /// A version with the writes of a load so far. It sees its own writes.
 ///
-/// Writes wait while no limit can be passed, and a written 0 always: the version with them is made when a cell is read
-/// that rules can give a value, or a total, or a limit is near. Other leaf cells are read without it.
+/// Writes wait while no limit can be passed, and a written 0 always: the version with them is made when a governed cell
+/// or a total is read, or a limit is near. Any other leaf cell is read without it.
 #[derive(Drop)]
 pub struct Work {
     pub(crate) opening: Arc<Version, Global>,
@@ -32,7 +32,7 @@ pub struct Work {
     pub(crate) made: usize,
     /// How many more cells may be stored before a version has to be made.
     pub(crate) room: usize,
-    /// The last number of each cell that the writes which wait are of; none before one of them is read back.
+    /// The last number that the waiting writes have for each of their cells; none before a read has asked for one.
     pub(crate) numbers: Option<BTreeMap<u64, Money>>,
     ghost ahead: { IsAhead opening latest written.items made room } by { Prim.hlevel (codes, formula.the_row.coded) },
     ghost last: { AreLast (drop made written.items) numbers } by { Prim.hlevel (codes, props) },

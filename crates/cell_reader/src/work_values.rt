@@ -13,8 +13,8 @@ use crate::last_numbers::{last_numbers, number_after};
 use crate::next_snapshot::memory_for;
 use crate::room::room_of;
 use crate::snapshot::Snapshot;
-use crate::stored_value::is_stored_value;
 use crate::uncounted::uncounted_value;
+use crate::ungoverned::is_ungoverned_leaf;
 use crate::work::{WORK_SLOTS, Work};
 use cell_writes::last_writes;
 use cube_fixed::{Money, Value};
@@ -56,7 +56,7 @@ impl Work {
         ensures opening { opening_of self.new ≡ opening_of self.old }
         ensures writes { writes_of self.new ≡ writes_of self.old }
     {
-        if is_stored_value(&self.opening, cell) {
+        if is_ungoverned_leaf(&self.opening, cell) {
             return Ok(Value::Num(self.stored_number(alloc, cell)?));
         }
         self.settle(alloc)?;

@@ -8,7 +8,7 @@ use Rattle.cube_space.specs.Cells.{IsCell, is_leaf_cell}
 use Rattle.cell_reader.specs.Inside.After.{IsAfter, IsAhead}
 use Rattle.cell_reader.specs.Works.{opening_of}
 use Rattle.cell_reader.proofs.Works.{ahead_answers, ahead_either, less-room, more-after, waits-behind}
-use Rattle.cell_reader.proofs.WaitingNumbers.{last-more}
+use Rattle.cell_reader.proofs.LastNumbers.{last-more}
 use Rattle.cell_reader.proofs.work.Work.put.Goals as goal
 
 pub invariant_of-self-in-Some-clause-ahead : goal.invariant_of-self-in-Some-clause-ahead

@@ -14,7 +14,7 @@ use rule_model::governing;
 
 /// Whether a cell is a leaf cell that no statement governs: then its value is the number that is stored in it, whatever
 /// is stored.
-pub(crate) fn is_stored_value(version: &Version, cell: u64) -> bool
+pub(crate) fn is_ungoverned_leaf(version: &Version, cell: u64) -> bool
     requires { IsCell version.now.model.space cell }
     ensures which { result ≡ (is_leaf_cell version.now.model.space cell
         && not (is_some (governing_from version.now.model cell 0))) }

@@ -1,4 +1,4 @@
-use Rattle.std.proofs.Common.{◌≡◌, ◌∙◌, refl, sym, ap, ℕ, Bool, true, false, not, [], List, Option, None, Some, is_some}
+use Rattle.std.proofs.Common.{◌≡◌, ◌∙◌, refl, sym, ap, ℕ, true, false, not, [], Option, None, Some, is_some}
 use Rattle.cell_values.specs.Reading.{value_on}
 use Rattle.cell_values.proofs.Telling.{stored-value}
 use Rattle.cell_versions.specs.Versions.{NumberedVersion}
@@ -6,7 +6,7 @@ use Rattle.cube_space.specs.Cells.{is_leaf_cell}
 use Rattle.cube_space.specs.Layout.{Layout}
 use Rattle.rule_model.specs.BoundModel.{BoundModel}
 use Rattle.rule_model.specs.Governing.{governing_from}
-use Rattle.cell_reader.proofs.stored_value.is_stored_value.Goals as goal
+use Rattle.cell_reader.proofs.ungoverned.is_ungoverned_leaf.Goals as goal
 
 no_more : (found : Option ℕ) → is_some found ≡ false → found ≡ None
 no_more None none = refl
