@@ -1,5 +1,6 @@
 pub mod Counted
 pub mod FedCount
+pub mod LastNumbers
 pub mod Limits
 pub mod RoomFacts
 pub mod SlotFacts

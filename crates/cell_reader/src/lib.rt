@@ -16,6 +16,7 @@ pub use snapshot::Snapshot;
 pub use work::Work;
 pub use write_permission::{Closed, why_closed};
 
+mod last_numbers;
 mod next_snapshot;
 mod room;
 mod slots;
@@ -23,6 +24,7 @@ mod snapshot;
 mod snapshot_read;
 mod sound;
 mod uncounted;
+mod ungoverned;
 mod work;
 mod work_values;
 mod work_writes;

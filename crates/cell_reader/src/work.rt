@@ -1,14 +1,17 @@
+ghost use Rattle.std.specs.Prelude.{drop};
 ghost use Rattle.std.specs.Arc.{arc_value};
 ghost use Rattle.std.specs.Coded.{codes};
+ghost use Rattle.std.proofs.Props.{props};
 ghost use Rattle.memo_cells.specs.contracts.version.Version as kept;
 ghost use Rattle.rule_laws.specs.contracts.formula.Formula as formula;
-ghost use Rattle.cell_reader.specs.Inside.After.{HasValues, IsAhead};
+ghost use Rattle.cell_reader.specs.Inside.After.{AreLast, HasValues, IsAhead};
 
 use crate::room::Room;
 use cell_versions::Version;
 use cube_fixed::Money;
 use memo_cells::SharedMemo;
 use std::alloc::Global;
+use std::collections::BTreeMap;
 use std::sync::Arc;
 
 /// Into how many slots the cells of a version fall that a load has made. They are few, since each write makes a new
@@ -17,8 +20,8 @@ pub(crate) const WORK_SLOTS: u32 = 256;
 
 /// A version with the writes of a load so far. It sees its own writes.
 ///
-/// Writes wait while no limit can be passed, and a written 0 always: the version with them is made when a cell is read,
-/// or a limit is near.
+/// Writes wait while no limit can be passed, and a written 0 always: the version with them is made when a governed cell
+/// or a total is read, or a limit is near. Any other leaf cell is read without it.
 #[derive(Drop)]
 pub struct Work {
     pub(crate) opening: Arc<Version, Global>,
@@ -30,6 +33,9 @@ pub struct Work {
     pub(crate) made: usize,
     /// How many more cells may be added before a version has to be made.
     pub(crate) room: Room,
+    /// The last number that the waiting writes have for each of their cells; none before a read has asked for one.
+    pub(crate) numbers: Option<BTreeMap<u64, Money>>,
     ghost ahead: { IsAhead opening latest written.items made room } by { Prim.hlevel (codes, formula.the_row.coded) },
+    ghost last: { AreLast (drop made written.items) numbers } by { Prim.hlevel (codes, props) },
     ghost values: { HasValues (arc_value latest) memo } by { Prim.hlevel (codes, kept.the_row.coded) },
 }

@@ -1,4 +1,5 @@
 ghost use Rattle.std.specs.Prelude.{◌≡◌, [], IfOk};
+ghost use Rattle.cell_store.specs.Entries.{number_at};
 ghost use Rattle.cell_versions.specs.Versions.{AreLeafWrites};
 ghost use Rattle.cube_space.specs.Cells.{IsCell};
 ghost use Rattle.rule_laws.specs.RuleSystem.{dense_value};
@@ -8,10 +9,12 @@ ghost use Rattle.cell_reader.specs.Snapshots.{known_in, memory_of, version_of};
 ghost use Rattle.cell_reader.specs.Works.{opening_of, stored_after, writes_of};
 ghost use Rattle.cell_writes.specs.Writes.{last_writes};
 
+use crate::last_numbers::{last_numbers, number_after};
 use crate::next_snapshot::memory_for;
 use crate::room::room_of;
 use crate::snapshot::Snapshot;
 use crate::uncounted::uncounted_value;
+use crate::ungoverned::is_ungoverned_leaf;
 use crate::work::{WORK_SLOTS, Work};
 use cell_writes::last_writes;
 use cube_fixed::{Money, Value};
@@ -41,6 +44,7 @@ impl Work {
             written: Vec::new(alloc),
             made: 0,
             room,
+            numbers: None,
         })
     }
 
@@ -52,6 +56,9 @@ impl Work {
         ensures opening { opening_of self.new ≡ opening_of self.old }
         ensures writes { writes_of self.new ≡ writes_of self.old }
     {
+        if is_ungoverned_leaf(&self.opening, cell) {
+            return Ok(Value::Num(self.stored_number(alloc, cell)?));
+        }
         self.settle(alloc)?;
         let mut memo = match self.memo.take() {
             Some(memo) => memo,
@@ -60,6 +67,24 @@ impl Work {
         let value = uncounted_value::<Brand>(Blank::new(1), alloc, &self.latest, &mut memo, cell);
         self.memo = Some(memo);
         value
+    }
+
+    // What is stored in a cell after the writes so far: the last number that those which wait write into it, or else
+    // what the latest version has. No version is made.
+    fn stored_number(&mut self, alloc: Global, cell: u64) -> Result<Money, AllocError>
+        ensures number { IfOk result (λ number.
+            number ≡ number_at (stored_after self.old (writes_of self.old)) cell) }
+        ensures opening { opening_of self.new ≡ opening_of self.old }
+        ensures writes { writes_of self.new ≡ writes_of self.old }
+    {
+        if self.made == self.written.len() {
+            return Ok(self.latest.store().get(cell));
+        }
+        let kept = self.numbers.take();
+        let numbers = last_numbers(alloc, kept, &self.written[self.made..])?;
+        let number = number_after(self.latest.store(), &numbers, cell);
+        self.numbers = Some(numbers);
+        Ok(number)
     }
 
     /// The model.

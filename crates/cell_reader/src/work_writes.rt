@@ -5,6 +5,7 @@ ghost use Rattle.cell_reader.specs.Limits.{IsLimitAnswer};
 ghost use Rattle.cell_reader.specs.Works.{opening_of, stored_after, writes_of};
 ghost use Rattle.cell_reader.specs.Inside.After.{IsAfter};
 
+use crate::last_numbers::with_write;
 use crate::next_snapshot::{version_after, version_within};
 use crate::room::{room_behind, room_of};
 use crate::work::Work;
@@ -28,8 +29,10 @@ impl Work {
     {
         let waiting = &self.written[self.made..];
         if let Some(room) = room_behind(&self.latest, waiting, self.room, cell, number) {
-            self.room = room;
+            let numbers = with_write(self.numbers.take(), cell, number)?;
             self.written.extend_from_slice(&[(cell, number)])?;
+            self.numbers = numbers;
+            self.room = room;
             return Ok(());
         }
         self.settle(alloc)?;
@@ -69,6 +72,7 @@ impl Work {
     {
         let room = room_of(&next);
         let latest = Arc::new(alloc, next)?;
+        self.numbers = None;
         self.written.extend_from_slice(more)?;
         self.latest = latest;
         self.made = self.written.len();

@@ -12,7 +12,7 @@ use Rattle.cell_writes.proofs.InOrder.{AllOver, InOrder, over-lower, put_in, in_
 
 -- ---- what is found at a cell
 
-abbrev found : List (ℕ × ℤ) → ℕ → Option ℤ
+abbrev pub found : List (ℕ × ℤ) → ℕ → Option ℤ
 found [] k = None
 found (w ∷ ws) k = cond (eqb w.0 k) (Some w.1) (found ws k)
 
@@ -80,10 +80,10 @@ in_order-put last [] order = order
 in_order-put last (w ∷ writes) order = in_order-put (insert_entry nat_cmp last w.0 w.1) writes (in_order-inserted w.0 w.1 last order)
 
 -- the last number that is written at a cell, where `before` stood there before
-abbrev latest : Option ℤ → List (ℕ × ℤ) → ℕ → Option ℤ
+abbrev pub latest : Option ℤ → List (ℕ × ℤ) → ℕ → Option ℤ
 latest before writes k = fold (λ now write. cond (eqb write.0 k) (Some write.1) now) before writes
 
-found-put : (last writes : List (ℕ × ℤ)) (k : ℕ) → found (put_all last writes) k ≡ latest (found last k) writes k
+pub found-put : (last writes : List (ℕ × ℤ)) (k : ℕ) → found (put_all last writes) k ≡ latest (found last k) writes k
 found-put last [] k = refl
 found-put last (w ∷ writes) k =
     found-put (insert_entry nat_cmp last w.0 w.1) writes k

@@ -1,3 +1,3 @@
 pub mod InOrder
-mod Found
+pub mod Found
 mod Runs

@@ -1,6 +1,7 @@
 -- What a load's work keeps of its versions.
-use Rattle.std.specs.Prelude.{◌≡◌, ◌≤◌, ◌+◌, ℕ, ℤ, List, length, drop, Option, Some}
+use Rattle.std.specs.Prelude.{◌≡◌, ◌≤◌, ◌+◌, ℕ, ℤ, List, length, drop, Option, Some, IfSome}
 use Rattle.std.specs.Arc.{arc_value}
+use Rattle.std.specs.BTreeMap.{BTreeMap}
 use Rattle.std.specs.declared.alloc.Global.{Global}
 use Rattle.std.specs.declared.sync.Arc.{Arc}
 use Rattle.cell_store.specs.Entries.{after_writes}
@@ -8,6 +9,7 @@ use Rattle.cell_store.specs.StoreLimit.{most_cells}
 use Rattle.cell_store.specs.declared.entry.Entry.{Entry}
 use Rattle.cell_values.specs.Reading.{AreValuesOn}
 use Rattle.cell_versions.specs.Versions.{AreLeafWrites, NumberedVersion}
+use Rattle.cell_writes.specs.Writes.{last_writes}
 use Rattle.feed_map.specs.FedCells.{most_fed}
 use Rattle.memo_cells.specs.declared.shared.SharedMemo.{SharedMemo}
 use Rattle.memo_cells.specs.Shared.{version_kept}
@@ -35,6 +37,10 @@ pub record IsAhead (opening latest : Arc NumberedVersion Global) (writes : List 
   pub waiting : MayWait (arc_value latest) (drop made writes) room
   pub all : IsAfter (arc_value opening) writes (arc_value latest).model
       (after_writes (arc_value latest).stored (drop made writes))
+
+-- the last numbers of these writes, by cell, where they are kept
+abbrev pub AreLast : List (ℕ × ℤ) → Option (BTreeMap ℕ ℤ) → Type 0
+AreLast writes numbers = IfSome numbers (λ kept. kept.entries ≡ last_writes writes)
 
 -- a memory has the values on this version
 abbrev pub KeepsValues : NumberedVersion → SharedMemo → Type 0
