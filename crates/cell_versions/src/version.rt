@@ -56,6 +56,8 @@ impl Version {
     {
         let store = Store::new(alloc);
         let base = accepted.feeding();
+        // what is fed says of itself that it is within the limit
+        let _few = base.fed.count();
         let feeding = match base.over(alloc, accepted.sources(), &store) {
             Ok(feeding) => feeding,
             Err(FedFault::Memory) => return Err(AllocError),
