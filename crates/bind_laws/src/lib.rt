@@ -1,7 +1,8 @@
 //! The law of binding: what the text of a cube's rules means is the rules of a model.
 //!
-//! The law is the contract of [`bound_rules_meet_the_conditions`], which does nothing when it runs. `rule_bind` says what
-//! a text means, `rule_model` what holds of the rules of a model, and `rule_tree` which texts are within the limits.
+//! The law is the contract of [`bound_rules_meet_the_conditions`], which does nothing when it runs. `rule_bind` says
+//! what a text means, `rule_model` what holds of the rules of a model, and `rule_tree` which texts are within the
+//! limits.
 #![tactic(auto)]
 
 ghost use Rattle.std.specs.Prelude.{◌≡◌, ℕ, ◌<◌, length, Ok};
