@@ -10,7 +10,6 @@ use Rattle.grammar.proofs.Tokens.{when_picks, sign_begins, word_begins, word_no_
 use Rattle.expression_grammar.specs.Limits.{begun_within}
 use Rattle.expression_grammar.specs.declared.limits.Limits.{Limits}
 use Rattle.rule_tree.specs.Counting.{most_statements, start, with_token, in_place, behind_area, behind_formula, behind_targets, behind_argument, one_more, moved, count_at, count, counting}
-use Rattle.rule_tree.specs.Formula.{formula}
 use Rattle.rule_tree.specs.RuleText.{area, ended, part, body, statement, feeder, skipcheck, feeders, rules}
 use Rattle.rule_tree.specs.declared.counted.Counted.{Counted}
 use Rattle.rule_tree.specs.declared.counted.RuleTextPlace.{RuleTextPlace}
