@@ -2,8 +2,8 @@
 //! be.
 //!
 //! Read in this order: [`RuleText`], the rules of a cube; [`Tree`], a formula; [`Counted`], which goes over a text
-//! token by token and refuses the first one that is too many. `specs/RuleText.antt` has the grammar of a text, and
-//! `specs/Formula.antt` that of its formulas.
+//! token by token and refuses the first one that is too many. `specs/RuleText.antt` has the grammar of a text,
+//! `specs/Formula.antt` that of its formulas, and `specs/Sizes.antt` how large a text is at most.
 #![tactic(auto)]
 
 mod counted;
