@@ -6,28 +6,28 @@ use Rattle.cell_store.specs.Cells.{next_from}
 use Rattle.cube_space.specs.Radix.{are_digits, number_of}
 use Rattle.cube_space.specs.Layout.{sizes}
 use Rattle.cube_space.specs.Cells.{IsCell, cube_of, elements_of, cell_count, first_cell}
+use Rattle.rule_laws.specs.Feeding.{Feeds, FeedsBy}
 use Rattle.rule_model.specs.declared.rules.Feeder.{Feeder}
 use Rattle.rule_model.specs.BoundModel.{BoundModel, rules_of}
 use Rattle.rule_model.specs.System.{system_of, feed_of}
-use Rattle.feed_sources.specs.declared.aim.Aim.{Aim}
-use Rattle.feed_sources.specs.Inside.Aims.{ReachesBy, ReachesByOne, ReachesSome}
+use Rattle.feed_sources.specs.Feeders.{FeedsByOne}
 use Rattle.feed_sources.specs.Inside.Choices.{AreChosen}
-use Rattle.feed_sources.proofs.ReachFacts.{source-cube, reach-one, one-reach, reach-cube, more-parts}
-use Rattle.feed_sources.proofs.ReachParts.{reach-parts}
+use Rattle.feed_sources.proofs.FedParts.{fed-parts}
+use Rattle.feed_sources.proofs.FeederFacts.{source-cube, feeds-one, one-feeds, feeds-cube, more-parts}
 use Rattle.feed_sources.proofs.WalkFacts.{IsLeast, next-none, IsNumbered, cell-run}
 
 -- ---- by one feeder
 
-module _ (m : BoundModel) (cube : ℕ) (feeder : Feeder) (aim : Aim) (live : List ℕ) where
+module _ (m : BoundModel) (cube : ℕ) (feeder : Feeder) (c : ℕ) (live : List ℕ) where
   abbrev By : ℕ → Type 0
-  By x = ReachesBy (system_of m) (feed_of m.space cube feeder) x aim
+  By x = FeedsBy (system_of m) (feed_of m.space cube feeder) x c
 
   -- no cell of the set below a number
   abbrev NoneBelow : ℕ → Type 0
   NoneBelow from = (x : ℕ) → Contains live x → x < from → By x → ⊥
 
   placed : (x : ℕ) → By x → IsNumbered m.space cube x
-  placed x by = cell-run m.space cube x (reach-parts m cube x aim feeder by).cell (source-cube m x aim cube feeder by)
+  placed x by = cell-run m.space cube x (fed-parts m cube x c feeder by).cell (source-cube m x c cube feeder by)
 
   pub none-begun : NoneBelow (first_cell m.space cube)
   none-begun x has low by = let at = (placed x by).number in omega (arith, at, low)
@@ -63,38 +63,38 @@ module _ (m : BoundModel) (cube : ℕ) (feeder : Feeder) (aim : Aim) (live : Lis
 
 -- ---- by the feeders of a cube, and by all
 
-module _ (m : BoundModel) (aim : Aim) (live : List ℕ) where
+module _ (m : BoundModel) (c : ℕ) (live : List ℕ) where
   abbrev By_some : ℕ → List Feeder → Type 0
-  By_some cube feeders = (x : ℕ) → Contains live x → ReachesByOne m cube feeders x aim → ⊥
+  By_some cube feeders = (x : ℕ) → Contains live x → FeedsByOne m cube feeders x c → ⊥
 
   pub none-more : (cube : ℕ) (feeders : List Feeder) (n : ℕ) (feeder : Feeder) → n < length feeders → feeder ≡ get_or feeders n feeder → By_some cube (take n feeders)
-      → ((x : ℕ) → Contains live x → ReachesBy (system_of m) (feed_of m.space cube feeder) x aim → ⊥) → By_some cube (take (n + 1) feeders)
-  none-more cube feeders n feeder low is before off x has more = elim (more-parts m x aim cube feeders n feeder low is more) [
+      → ((x : ℕ) → Contains live x → FeedsBy (system_of m) (feed_of m.space cube feeder) x c → ⊥) → By_some cube (take (n + 1) feeders)
+  none-more cube feeders n feeder low is before off x has more = elim (more-parts m x c cube feeders n feeder low is more) [
     | inl one ↦ before x has one
     | inr by ↦ off x has by
   ]
 
   -- feeders of a cube feed from its cells
-  one-cube : (x cube : ℕ) (feeders : List Feeder) → ReachesByOne m cube feeders x aim → cube_of m.space x ≡ cube
-  one-cube x cube feeders (n, feeder, low, is, by) = source-cube m x aim cube feeder by
+  one-cube : (x cube : ℕ) (feeders : List Feeder) → FeedsByOne m cube feeders x c → cube_of m.space x ≡ cube
+  one-cube x cube feeders (n, feeder, low, is, by) = source-cube m x c cube feeder by
 
-  one-cell : (x cube : ℕ) (feeders : List Feeder) → ReachesByOne m cube feeders x aim → IsCell m.space x
-  one-cell x cube feeders (n, feeder, low, is, by) = (reach-parts m cube x aim feeder by).cell
+  one-cell : (x cube : ℕ) (feeders : List Feeder) → FeedsByOne m cube feeders x c → IsCell m.space x
+  one-cell x cube feeders (n, feeder, low, is, by) = (fed-parts m cube x c feeder by).cell
 
-  pub cube-reaches : (x cube : ℕ) → ReachesByOne m cube (rules_of m cube).feeders x aim → ReachesSome (system_of m) x aim
-  cube-reaches x cube one =
+  pub cube-feeds : (x cube : ℕ) → FeedsByOne m cube (rules_of m cube).feeders x c → Feeds (system_of m) x c
+  cube-feeds x cube one =
       let own = one-cube x cube (rules_of m cube).feeders one in
-      one-reach m x aim (one-cell x cube (rules_of m cube).feeders one) (subst (λ (k : ℕ). ReachesByOne m k (rules_of m k).feeders x aim) (sym own) one)
+      one-feeds m x c (one-cell x cube (rules_of m cube).feeders one) (subst (λ (k : ℕ). FeedsByOne m k (rules_of m k).feeders x c) (sym own) one)
 
-  pub none-reaches : (cubes : ℕ) → length m.space.cubes ≤ cubes → ((x k : ℕ) → Contains live x → k < cubes → ReachesByOne m k (rules_of m k).feeders x aim → ⊥)
-      → (x : ℕ) → Contains live x → ReachesSome (system_of m) x aim → ⊥
-  none-reaches cubes all none x has feeds =
-      let there = reach-cube m x aim feeds in
-      none x (cube_of m.space x) has (omega (arith, there, all)) (reach-one m x aim feeds)
+  pub none-feeds : (cubes : ℕ) → length m.space.cubes ≤ cubes → ((x k : ℕ) → Contains live x → k < cubes → FeedsByOne m k (rules_of m k).feeders x c → ⊥)
+      → (x : ℕ) → Contains live x → Feeds (system_of m) x c → ⊥
+  none-feeds cubes all none x has feeds =
+      let there = feeds-cube m x c feeds in
+      none x (cube_of m.space x) has (omega (arith, there, all)) (feeds-one m x c feeds)
 
-  pub none-next : (cube : ℕ) → ((x k : ℕ) → Contains live x → k < cube → ReachesByOne m k (rules_of m k).feeders x aim → ⊥) → By_some cube (rules_of m cube).feeders
-      → (x k : ℕ) → Contains live x → k < cube + 1 → ReachesByOne m k (rules_of m k).feeders x aim → ⊥
+  pub none-next : (cube : ℕ) → ((x k : ℕ) → Contains live x → k < cube → FeedsByOne m k (rules_of m k).feeders x c → ⊥) → By_some cube (rules_of m cube).feeders
+      → (x k : ℕ) → Contains live x → k < cube + 1 → FeedsByOne m k (rules_of m k).feeders x c → ⊥
   none-next cube none here x k has low one = elim (cases_lt k cube) [
     | inl before ↦ none x k has before one
-    | inr past ↦ (let same : k ≡ cube = omega (arith, low, past) in here x has (subst (λ (n : ℕ). ReachesByOne m n (rules_of m n).feeders x aim) same one))
+    | inr past ↦ (let same : k ≡ cube = omega (arith, low, past) in here x has (subst (λ (n : ℕ). FeedsByOne m n (rules_of m n).feeders x c) same one))
   ]

@@ -24,11 +24,10 @@ use Rattle.rule_model.specs.Targets.{element_by}
 use Rattle.rule_model.specs.Conditions.{IsArg, IsReference}
 use Rattle.rule_model.proofs.Shapes.{shape_dims, axes_length, dims_within, dims_few}
 use Rattle.feed_sources.proofs.SourceFacts.{axis-at, dimension-there, zip-length, zip-at}
-use Rattle.feed_sources.specs.declared.aim.Aim.{Aim}
-use Rattle.feed_sources.specs.Inside.Aims.{cell_of, Reaches}
+use Rattle.feed_sources.specs.Feeders.{StandsFor}
 use Rattle.feed_sources.specs.Inside.Choices.{AreChosen}
 use Rattle.feed_sources.proofs.BelowFacts.{cell-leaves}
-use Rattle.feed_sources.proofs.KeptFacts.{alone, meets-kept, argument-names, target-parts}
+use Rattle.feed_sources.proofs.KeptFacts.{alone, below-kept, argument-names, target-parts}
 
 -- one choice more
 pub chosen-set : (choices after : List (Option ℕ)) (place leaf : ℕ) (elements : List ℕ) → place < length after → after ≡ set choices place (Some leaf)
@@ -78,11 +77,11 @@ leaves-at (x ∷ ds) (e ∷ elements) (suc place) d are own low =
     leaves-at ds elements place d (and_parts (is_leaf x e) (are_leaves ds elements) are).1 own (omega (arith, low))
 
 -- where a reference keeps an element, each source of a cell has the cell's
-pub kept-is : (m : BoundModel) → IsSpace m.space → (r : Reference) (x place from : ℕ) (aim : Aim) (arg : Arg) (d : Outline) → is_leaf_cell m.space x ≡ true → Reaches m r x aim → slice_get r.args place ≡ Some arg
+pub kept-is : (m : BoundModel) → IsSpace m.space → (r : Reference) (x place from cell : ℕ) (arg : Arg) (d : Outline) → is_leaf_cell m.space x ≡ true → StandsFor m r x cell → slice_get r.args place ≡ Some arg
     → ((elements : List ℕ) (element : ℕ) → element_by elements arg ≡ Some element → slice_get elements from ≡ Some element)
     → slice_get (axes m.space (cube_of m.space x)) from ≡ Some d → slice_get (axes m.space r.cube) place ≡ Some d
-    → get_or (elements_of m.space x) from 0 ≡ get_or (elements_of m.space (cell_of aim)) place 0
-kept-is m valid r x place from aim arg d leaf (t, names, has) own keeps source_axis target_axis =
+    → get_or (elements_of m.space x) from 0 ≡ get_or (elements_of m.space cell) place 0
+kept-is m valid r x place from cell arg d leaf (t, names, has) own keeps source_axis target_axis =
     let parts = target-parts m.space r x t names in
     let found = parts.0 in
     let at = parts.2 in
@@ -91,8 +90,8 @@ kept-is m valid r x place from aim arg d leaf (t, names, has) own keeps source_a
     let low = slice_get_within (elements_of m.space x) from (get_or found place 0) kept in
     let is = leaves-at (axes m.space (cube_of m.space x)) (elements_of m.space x) from d (cell-leaves m.space x leaf) source_axis low in
     let its : get_or (elements_of m.space t) place 0 ≡ get_or found place 0 = ap (λ es. get_or es place 0) at.its in
-    let below : get_or (elements_of m.space t) place 0 ≡ get_or (elements_of m.space (cell_of aim)) place 0 =
-    meets-kept m valid t aim at.cell has place d (ap (λ k. slice_get (axes m.space k) place) at.own ∙ target_axis) (ap (is_leaf d) (its ∙ sym element) ∙ is) in
+    let below : get_or (elements_of m.space t) place 0 ≡ get_or (elements_of m.space cell) place 0 =
+    below-kept m valid t cell at.cell has place d (ap (λ k. slice_get (axes m.space k) place) at.own ∙ target_axis) (ap (is_leaf d) (its ∙ sym element) ∙ is) in
     element ∙ sym its ∙ below
 
 -- an identity keeps the element
@@ -151,16 +150,16 @@ module _ (m : BoundModel) (valid : IsSpace m.space) where
       (subst (IsArg (sizes m.space cube) (get_or (sizes m.space into) place 0)) (get_or_from_slice_get r.args place arg arg arg_is ∙ fixed) here) in
       fits
 
-  pub kept-element : (r : Reference) (x cube into place from dim : ℕ) (aim : Aim) (arg : Arg) (shape own : CubeShape) → slice_get m.space.cubes cube ≡ Some shape → slice_get m.space.cubes into ≡ Some own
+  pub kept-element : (r : Reference) (x cube into place from dim cell : ℕ) (arg : Arg) (shape own : CubeShape) → slice_get m.space.cubes cube ≡ Some shape → slice_get m.space.cubes into ≡ Some own
       → r.cube ≡ into → slice_get shape.dims from ≡ Some dim → slice_get own.dims place ≡ Some dim → slice_get r.args place ≡ Some arg
       → ((elements : List ℕ) (element : ℕ) → element_by elements arg ≡ Some element → slice_get elements from ≡ Some element)
-      → cube_of m.space x ≡ cube → is_leaf_cell m.space x ≡ true → Reaches m r x aim
-      → get_or (elements_of m.space x) from 0 ≡ get_or (elements_of m.space (cell_of aim)) place 0
-  kept-element r x cube into place from dim aim arg shape own found own_found same from_is place_is arg_is keeps here leaf stands =
+      → cube_of m.space x ≡ cube → is_leaf_cell m.space x ≡ true → StandsFor m r x cell
+      → get_or (elements_of m.space x) from 0 ≡ get_or (elements_of m.space cell) place 0
+  kept-element r x cube into place from dim cell arg shape own found own_found same from_is place_is arg_is keeps here leaf stands =
       let low : dim < length m.space.dimensions = subst (λ (k : ℕ). k < length m.space.dimensions) (get_or_from_slice_get own.dims place dim 0 place_is)
       (dims_within m.space into own valid own_found place 0 (slice_get_within own.dims place dim place_is)) in
       let d = dimension-there m.space.dimensions dim low in
-      kept-is m valid r x place from aim arg d.0 leaf stands arg_is keeps
+      kept-is m valid r x place from cell arg d.0 leaf stands arg_is keeps
       (ap (λ k. slice_get (axes m.space k) from) here ∙ axis-there cube shape from dim d.0 found from_is d.1)
       (ap (λ k. slice_get (axes m.space k) place) same ∙ axis-there into own place dim d.0 own_found place_is d.1)
 

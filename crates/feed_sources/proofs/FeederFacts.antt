@@ -15,19 +15,32 @@ use Rattle.rule_model.specs.System.{system_of, feed_of, cube_feeds, cubes_of}
 use Rattle.feed_sources.specs.Feeders.{FeedsByOne, StandsFor}
 use Rattle.feed_sources.specs.Sources.{IsSource}
 use Rattle.feed_sources.proofs.Members.{some-front, some-behind, some-cases, some-of-none, some-left, some-right, some-parts, some-of-lists, list-of-some, some-mapped, some-unmapped}
-use Rattle.feed_sources.specs.declared.aim.Aim.TheVariants.{Fed}
-use Rattle.feed_sources.proofs.ReachFacts.{reach-one, one-reach, reach-cube, more-parts as reach-parts}
 pub use Rattle.dim_weights.proofs.ByLevel.{range-contains as range-has}
 
 module _ (m : BoundModel) (x c : ℕ) where
   abbrev By : Feed → Type 0
   By feed = FeedsBy (system_of m) feed x c
 
+  -- a feeder has sources in its cube alone
+  pub source-cube : (cube : ℕ) (feeder : Feeder) → By (feed_of m.space cube feeder) → cube_of m.space x ≡ cube
+  source-cube cube feeder by =
+      let same = and_parts (eqb (cube_of m.space x) cube) _ (and_parts (eqb (cube_of m.space x) cube && is_leaf_cell m.space x) _ by.1).0 in
+      eqb-true (cube_of m.space x) cube same.0
+
   pub feeds-one : Feeds (system_of m) x c → FeedsByOne m (cube_of m.space x) (rules_of m (cube_of m.space x)).feeders x c
-  feeds-one feeds = reach-one m x (Fed c) feeds
+  unfolding system_of
+  feeds-one feeds =
+      let found = list-of-some By (cube_feeds m) (cubes_of m) feeds in
+      let one = some-unmapped By (feed_of m.space found.0) (rules_of m found.0).feeders found.1 in
+      let same : cube_of m.space x ≡ found.0 = source-cube found.0 one.1 one.4 in
+      subst (λ (cube : ℕ). FeedsByOne m cube (rules_of m cube).feeders x c) (sym same) one
 
   pub one-feeds : IsCell m.space x → FeedsByOne m (cube_of m.space x) (rules_of m (cube_of m.space x)).feeders x c → Feeds (system_of m) x c
-  one-feeds cell one = one-reach m x (Fed c) cell one
+  unfolding system_of
+  one-feeds cell one =
+      let there = (cell-place m.space x cell).place.there in
+      some-of-lists By (cube_feeds m) (cubes_of m) (cube_of m.space x) (range-has (length m.space.cubes) (cube_of m.space x) there)
+      (some-mapped By (feed_of m.space (cube_of m.space x)) (rules_of m (cube_of m.space x)).feeders one)
 
   -- no feeder feeds where there are none
   pub feeds-some : Feeds (system_of m) x c → (feeder : Feeder) × Contains (rules_of m (cube_of m.space x)).feeders feeder
@@ -37,7 +50,14 @@ module _ (m : BoundModel) (x c : ℕ) where
 
   pub more-parts : (cube : ℕ) (feeders : List Feeder) (n : ℕ) (feeder : Feeder) → n < length feeders → feeder ≡ get_or feeders n feeder
       → FeedsByOne m cube (take (n + 1) feeders) x c → FeedsByOne m cube (take n feeders) x c ⊎ By (feed_of m.space cube feeder)
-  more-parts cube feeders n feeder low is more = reach-parts m x (Fed c) cube feeders n feeder low is more
+  more-parts cube feeders n feeder low is more =
+      let split : FeedsByOne m cube (take n feeders ++ feeder ∷ []) x c =
+      subst (λ (fs : List Feeder). FeedsByOne m cube fs x c) (take_more feeders n feeder low ∙ ap (λ f. take n feeders ++ f ∷ []) (sym is)) more in
+      elim (some-parts (λ f. By (feed_of m.space cube f)) (take n feeders) (feeder ∷ []) split) [
+        | inl before ↦ inl before
+        | inr (zero, f, l, same, by) ↦ inr (subst (λ (g : Feeder). By (feed_of m.space cube g)) (sym same) by)
+        | inr (suc k, f, l, same, by) ↦ absurd (omega (arith, l))
+      ]
 
   pub more-from : (cube : ℕ) (feeders : List Feeder) (n : ℕ) (feeder : Feeder) → n < length feeders → feeder ≡ get_or feeders n feeder
       → FeedsByOne m cube (take n feeders) x c ⊎ By (feed_of m.space cube feeder) → FeedsByOne m cube (take (n + 1) feeders) x c
@@ -138,7 +158,8 @@ module _ (m : BoundModel) (x cube : ℕ) (feeders : List Feeder) (own : cube ≡
 
 -- what feeds is a cell of a cube
 pub feeds-cube : (m : BoundModel) (x c : ℕ) → Feeds (system_of m) x c → cube_of m.space x < length m.space.cubes
-feeds-cube m x c feeds = reach-cube m x (Fed c) feeds
+unfolding system_of
+feeds-cube m x c (k, feed, low, is, by) = (cell-place m.space x by.0.0).place.there
 
 pub feeds-below : (m : BoundModel) (x c : ℕ) → Feeds (system_of m) x c → IsCell m.space x
 unfolding system_of

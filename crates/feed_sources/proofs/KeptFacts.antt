@@ -24,9 +24,6 @@ use Rattle.rule_model.specs.Targets.{element_by, elements_by, target}
 use Rattle.rule_model.specs.Weights.{coef_product, weight}
 use Rattle.model_laws.proofs.Levels.{axes-are}
 use Rattle.model_laws.proofs.Below.{weight-counted}
-use Rattle.feed_sources.specs.declared.aim.Aim.{Aim}
-use Rattle.feed_sources.specs.declared.aim.Aim.TheVariants.{Fed, Named}
-use Rattle.feed_sources.specs.Inside.Aims.{cell_of, Meets}
 use Rattle.feed_sources.proofs.BelowFacts.{IsAt, number-at, below-has, stands-leaf, weight-product}
 
 -- a leaf counts in itself alone
@@ -106,24 +103,6 @@ module _ (m : BoundModel) (valid : IsSpace m.space) (t c : ℕ) (cell : IsCell m
       by true same = inl (ap (λ x. get_or (elements_of m.space x) k 0) (stands-leaf m t same c has))
       by false total =
           inr (counted-at (axes m.space (cube_of m.space t)) (elements_of m.space t) (elements_of m.space c) k d (ap is_nonzero (sym (weight-product m.space t c below-cube)) ∙ below-weight total) own)
-
--- ---- what meets an aim
-
-module _ (m : BoundModel) (valid : IsSpace m.space) (t : ℕ) where
-  pub meets-cube : (aim : Aim) → IsCell m.space t → Meets (system_of m) aim t → cube_of m.space (cell_of aim) ≡ cube_of m.space t
-  meets-cube (Fed c) cell meets = below-cube m valid t c cell meets
-  meets-cube (Named c) cell meets = ap (cube_of m.space) (sym meets)
-
-  pub meets-kept : (aim : Aim) → IsCell m.space t → Meets (system_of m) aim t → (k : ℕ) (d : Outline) → slice_get (axes m.space (cube_of m.space t)) k ≡ Some d
-      → is_leaf d (get_or (elements_of m.space t) k 0) ≡ true → get_or (elements_of m.space t) k 0 ≡ get_or (elements_of m.space (cell_of aim)) k 0
-  meets-kept (Fed c) cell meets k d own leaf = below-kept m valid t c cell meets k d own leaf
-  meets-kept (Named c) cell meets k d own leaf = ap (λ x. get_or (elements_of m.space x) k 0) meets
-
-  pub meets-counts : (aim : Aim) → IsCell m.space t → Meets (system_of m) aim t → (k : ℕ) (d : Outline) → slice_get (axes m.space (cube_of m.space t)) k ≡ Some d
-      → (get_or (elements_of m.space t) k 0 ≡ get_or (elements_of m.space (cell_of aim)) k 0)
-      ⊎ (is_nonzero (coef d (get_or (elements_of m.space t) k 0) (get_or (elements_of m.space (cell_of aim)) k 0)) ≡ true)
-  meets-counts (Fed c) cell meets k d own = below-counts m valid t c cell meets k d own
-  meets-counts (Named c) cell meets k d own = inl (ap (λ x. get_or (elements_of m.space x) k 0) meets)
 
 -- ---- what a reference names
 

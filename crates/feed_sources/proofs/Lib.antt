@@ -8,8 +8,7 @@ mod DigitFacts
 mod JumpFacts
 mod KeptFacts
 mod ChoiceFacts
-mod ReachParts
-mod ReachFacts
+mod FedParts
 mod WalkFacts
 mod BackFacts
 mod StepFacts

@@ -1,4 +1,3 @@
 -- What the code keeps. No public clause cites it.
 pub mod Above
-pub mod Aims
 pub mod Choices

@@ -1,4 +1,3 @@
 pub mod Feeders
 pub mod Inside
-pub mod Names
 pub mod Sources

@@ -3,14 +3,14 @@ ghost use Rattle.std.specs.List.{AllZip};
 ghost use Rattle.dim_core.specs.Outline.{IsElement};
 ghost use Rattle.cube_space.specs.Layout.{axes_of, sizes_of, dims_of, most_dimensions};
 ghost use Rattle.cube_space.specs.Cells.{IsCell, cube_of, elements_of, is_leaf_cell};
+ghost use Rattle.rule_laws.specs.Feeding.{FeedsBy};
 ghost use Rattle.rule_model.specs.Areas.{in_source_set, in_source_sets};
 ghost use Rattle.rule_model.specs.Conditions.{IsFeeder, IsReference, IsSet};
 ghost use Rattle.rule_model.specs.System.{system_of, feed_of};
 ghost use Rattle.rule_model.specs.Targets.{element_by};
-ghost use Rattle.feed_sources.specs.Inside.Aims.{cell_of, Reaches, ReachesBy};
+ghost use Rattle.feed_sources.specs.Feeders.{StandsFor};
 ghost use Rattle.feed_sources.specs.Inside.Choices.{AreChosen};
 
-use crate::aim::Aim;
 use crate::source_model::SourceModel;
 use cube_space::{MAX_DIMENSIONS, Space};
 use dim_core::Dimension;
@@ -18,18 +18,18 @@ use lists::ListOf;
 use rule_laws::{Arg, Reference};
 use rule_model::Feeder;
 
-/// In each dimension of a feeder's cube the element that sources of what is looked for have there; None where there may
-/// be several.
+/// In each dimension of a feeder's cube the element that sources of a leaf cell have there; None where there may be
+/// several.
 pub fn choices_of(
     model: &SourceModel,
     cube: u32,
     feeder: &Feeder,
-    aim: Aim,
+    cell: u64,
 ) -> [Option<u32>; MAX_DIMENSIONS]
     requires cube { cube < length model.now.space.cubes }
     requires feeder { IsFeeder model.now.space cube feeder.now }
-    requires cell { IsCell model.now.space (cell_of aim) }
-    ensures { (x : ℕ) → ReachesBy (system_of model.now) (feed_of model.now.space cube feeder.now) x aim
+    requires cell { IsCell model.now.space cell }
+    ensures { (x : ℕ) → FeedsBy (system_of model.now) (feed_of model.now.space cube feeder.now) x cell
         → AreChosen result (elements_of model.now.space x) }
 {
     let mut choices = [None; MAX_DIMENSIONS];
@@ -40,7 +40,7 @@ pub fn choices_of(
         feeder.area.sets.as_slice(),
         &mut choices,
     );
-    choose_kept(model, cube, &feeder.target, aim, &mut choices);
+    choose_kept(model, cube, &feeder.target, cell, &mut choices);
     choices
 }
 
@@ -88,19 +88,19 @@ fn choose_kept(
     model: &SourceModel,
     cube: u32,
     reference: &Reference,
-    aim: Aim,
+    cell: u64,
     choices: &mut [Option<u32>; MAX_DIMENSIONS],
 )
     requires cube { cube < length model.now.space.cubes }
     requires reference { IsReference model.now.space cube reference.now }
-    requires cell { IsCell model.now.space (cell_of aim) }
+    requires cell { IsCell model.now.space cell }
     ensures { (x : ℕ) → IsCell model.now.space x → cube_of model.now.space x ≡ cube
-        → is_leaf_cell model.now.space x ≡ true → Reaches model.now reference.now x aim
+        → is_leaf_cell model.now.space x ≡ true → StandsFor model.now reference.now x cell
         → AreChosen choices.old (elements_of model.now.space x)
         → AreChosen choices.new (elements_of model.now.space x) }
 {
     let mut at = [0u32; MAX_DIMENSIONS];
-    let (into, len) = model.place_of(aim.cell(), &mut at);
+    let (into, len) = model.place_of(cell, &mut at);
     if reference.cube != into {
         return;
     }

@@ -1,18 +1,16 @@
 ghost use Rattle.std.specs.Prelude.{◌≡◌, ℕ, ◌+◌, ◌*◌, ◌<◌, ◌≤◌, true, false, Ok, IfOk, IfErr, OnOk};
 ghost use Rattle.std.specs.Prelude.{length, Contains};
 ghost use Rattle.cube_space.specs.Cells.{IsCell, is_leaf_cell};
-ghost use Rattle.rule_laws.specs.Feeding.{Feeds};
+ghost use Rattle.rule_laws.specs.Feeding.{Feeds, FeedsBy};
 ghost use Rattle.rule_model.specs.BoundModel.{rules_of};
 ghost use Rattle.rule_model.specs.Conditions.{AreRules, IsFeeder};
 ghost use Rattle.rule_model.specs.System.{system_of, feed_of};
-ghost use Rattle.feed_sources.specs.Inside.Aims.{IsAim, ReachesBy, ReachesByOne, ReachesSome};
-ghost use Rattle.feed_sources.specs.Names.{Names};
+ghost use Rattle.feed_sources.specs.Feeders.{FeedsByOne};
 
-use crate::aim::Aim;
 use crate::choices::choices_of;
+use crate::feeds::feeds_by;
 use crate::jumps::jump_from;
 use crate::misses::misses;
-use crate::reaches::reaches_by;
 use crate::source_model::SourceModel;
 use cell_store::CellSet;
 use rule_model::Feeder;
@@ -40,47 +38,8 @@ pub fn is_fed_from<W: CellSet>(
     ensures enough { IfErr result (λ _.
         steps.old < length (system_of model.now).feeds * (1 + length (W.cells live.now))) }
 {
-    is_reached(model, live, Aim::Fed(cell), steps)
-}
-
-/// Whether a cell of this set names this cell, as one of its feeders' targets. It takes steps as [`is_fed_from`] does.
-pub fn is_named_from<W: CellSet>(
-    model: &SourceModel,
-    live: &W,
-    cell: u64,
-    steps: &mut u64,
-) -> Result<bool, OutOfSteps>
-    requires cell { IsCell model.now.space cell }
-    ensures named { result ≡ Ok true → (x : ℕ) × Contains (W.cells live.now) x × Names (system_of model.now) x cell }
-    ensures none { result ≡ Ok false → (x : ℕ) → Contains (W.cells live.now) x
-        → Names (system_of model.now) x cell → ⊥ }
-    ensures steps { steps.new ≤ steps.old }
-    ensures out { IfErr result (λ _. steps.new ≡ 0) }
-    ensures enough { IfErr result (λ _.
-        steps.old < length (system_of model.now).feeds * (1 + length (W.cells live.now))) }
-{
-    is_reached(model, live, Aim::Named(cell), steps)
-}
-
-// Whether a cell of this set is a source of what is looked for.
-fn is_reached<W: CellSet>(
-    model: &SourceModel,
-    live: &W,
-    aim: Aim,
-    steps: &mut u64,
-) -> Result<bool, OutOfSteps>
-    requires aim { IsAim model.now.space aim }
-    ensures reached { result ≡ Ok true → (x : ℕ) × Contains (W.cells live.now) x
-        × ReachesSome (system_of model.now) x aim }
-    ensures none { result ≡ Ok false → (x : ℕ) → Contains (W.cells live.now) x
-        → ReachesSome (system_of model.now) x aim → ⊥ }
-    ensures steps { steps.new ≤ steps.old }
-    ensures out { IfErr result (λ _. steps.new ≡ 0) }
-    ensures enough { IfErr result (λ _.
-        steps.old < length (system_of model.now).feeds * (1 + length (W.cells live.now))) }
-{
     'each: for cube in 0..model.space().cubes() {
-        if is_reached_from_cube(model, live, cube, aim, steps)? {
+        if is_fed_from_cube(model, live, cube, cell, steps)? {
             return Ok(true);
         }
     }
@@ -88,20 +47,21 @@ fn is_reached<W: CellSet>(
 }
 
 // The same by the feeders of one cube.
-fn is_reached_from_cube<W: CellSet>(
+fn is_fed_from_cube<W: CellSet>(
     model: &SourceModel,
     live: &W,
     cube: u32,
-    aim: Aim,
+    cell: u64,
     steps: &mut u64,
 ) -> Result<bool, OutOfSteps>
     requires rules { AreRules model.now.space model.now.rules }
     requires cube { cube < length model.now.space.cubes }
-    requires aim { IsAim model.now.space aim }
-    ensures reached { result ≡ Ok true → (x : ℕ) × Contains (W.cells live.now) x
-        × ReachesByOne model.now cube (rules_of model.now cube).feeders x aim }
+    requires cell { IsCell model.now.space cell }
+    requires leaf { is_leaf_cell model.now.space cell ≡ true }
+    ensures fed { result ≡ Ok true → (x : ℕ) × Contains (W.cells live.now) x
+        × FeedsByOne model.now cube (rules_of model.now cube).feeders x cell }
     ensures none { result ≡ Ok false → (x : ℕ) → Contains (W.cells live.now) x
-        → ReachesByOne model.now cube (rules_of model.now cube).feeders x aim → ⊥ }
+        → FeedsByOne model.now cube (rules_of model.now cube).feeders x cell → ⊥ }
     ensures steps { steps.new ≤ steps.old }
     ensures out { IfErr result (λ _. steps.new ≡ 0) }
     ensures spent { IfOk result (λ _. steps.old
@@ -111,7 +71,7 @@ fn is_reached_from_cube<W: CellSet>(
 {
     let feeders = model.rules(cube).feeders.as_slice();
     'each: for n in 0..feeders.len() {
-        if is_reached_by(model, live, cube, &feeders[n], aim, steps)? {
+        if is_fed_by(model, live, cube, &feeders[n], cell, steps)? {
             return Ok(true);
         }
     }
@@ -120,31 +80,32 @@ fn is_reached_from_cube<W: CellSet>(
 
 // The same by one feeder. It goes up through the cells of the set, and jumps over those that haven't the elements of a
 // source.
-fn is_reached_by<W: CellSet>(
+fn is_fed_by<W: CellSet>(
     model: &SourceModel,
     live: &W,
     cube: u32,
     feeder: &Feeder,
-    aim: Aim,
+    cell: u64,
     steps: &mut u64,
 ) -> Result<bool, OutOfSteps>
     requires cube { cube < length model.now.space.cubes }
     requires feeder { IsFeeder model.now.space cube feeder.now }
-    requires aim { IsAim model.now.space aim }
-    ensures reached { result ≡ Ok true → (x : ℕ) × Contains (W.cells live.now) x
-        × ReachesBy (system_of model.now) (feed_of model.now.space cube feeder.now) x aim }
+    requires cell { IsCell model.now.space cell }
+    requires leaf { is_leaf_cell model.now.space cell ≡ true }
+    ensures fed { result ≡ Ok true → (x : ℕ) × Contains (W.cells live.now) x
+        × FeedsBy (system_of model.now) (feed_of model.now.space cube feeder.now) x cell }
     ensures none { result ≡ Ok false → (x : ℕ) → Contains (W.cells live.now) x
-        → ReachesBy (system_of model.now) (feed_of model.now.space cube feeder.now) x aim → ⊥ }
+        → FeedsBy (system_of model.now) (feed_of model.now.space cube feeder.now) x cell → ⊥ }
     ensures steps { steps.new ≤ steps.old }
     ensures out { IfErr result (λ _. steps.new ≡ 0) }
     ensures spent { IfOk result (λ _. steps.old ≤ steps.new + (1 + length (W.cells live.now))) }
     ensures enough { IfErr result (λ _. steps.old < 1 + length (W.cells live.now)) }
 {
     take_step(steps)?;
-    if misses(model, cube, &feeder.target, aim) {
+    if misses(model, cube, &feeder.target, cell) {
         return Ok(false);
     }
-    let choices = choices_of(model, cube, feeder, aim);
+    let choices = choices_of(model, cube, feeder, cell);
     let space = model.space();
     let dims = space.shape(cube).dims.as_slice();
     let (first, cells) = (space.first(cube), space.cells(cube));
@@ -157,7 +118,7 @@ fn is_reached_by<W: CellSet>(
         match jump_from(space, dims, &choices, cells, next - first) {
             Some(later) => from = first.saturating_add(later),
             None => {
-                if reaches_by(model, cube, feeder, next, aim) {
+                if feeds_by(model, cube, feeder, next, cell) {
                     return Ok(true);
                 }
                 from = next + 1;

@@ -5,24 +5,23 @@ ghost use Rattle.dim_weights.specs.Table.{IsWeightsOf};
 ghost use Rattle.cube_space.specs.Cells.{IsCell};
 ghost use Rattle.rule_laws.specs.declared.reference.Arg.TheVariants.{Fixed};
 ghost use Rattle.rule_model.specs.Conditions.{IsReference};
-ghost use Rattle.feed_sources.specs.Inside.Aims.{cell_of, Reaches};
+ghost use Rattle.feed_sources.specs.Feeders.{StandsFor};
 
-use crate::aim::Aim;
 use crate::source_model::SourceModel;
 use cube_space::MAX_DIMENSIONS;
 use dim_weights::Weights;
 use rule_laws::{Arg, Reference};
 
-/// Whether it is clear at once that a reference from a cube reaches what is looked for from no cell: it names cells of
+/// Whether it is clear at once that a reference from a cube stands for this leaf cell from no cell: it names cells of
 /// another cube, or always names an element other than the cell's, in which that doesn't count.
-pub fn misses(model: &SourceModel, cube: u32, reference: &Reference, aim: Aim) -> bool
+pub fn misses(model: &SourceModel, cube: u32, reference: &Reference, cell: u64) -> bool
     requires reference { IsReference model.now.space cube reference.now }
-    requires cell { IsCell model.now.space (cell_of aim) }
-    ensures { IsTrue result → (x : ℕ) → Reaches model.now reference.now x aim → ⊥ }
+    requires cell { IsCell model.now.space cell }
+    ensures { IsTrue result → (x : ℕ) → StandsFor model.now reference.now x cell → ⊥ }
 {
     let space = model.space();
     let mut at = [0u32; MAX_DIMENSIONS];
-    let (into, _) = model.place_of(aim.cell(), &mut at);
+    let (into, _) = model.place_of(cell, &mut at);
     if reference.cube != into {
         return true;
     }

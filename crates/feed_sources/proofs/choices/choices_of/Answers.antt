@@ -7,17 +7,16 @@ use Rattle.rule_model.specs.Areas.{in_source_sets}
 use Rattle.rule_model.proofs.Shapes.{shape_dims}
 use Rattle.feed_sources.specs.Inside.Choices.{AreChosen}
 use Rattle.feed_sources.proofs.ChoiceFacts.{none-chosen}
-use Rattle.feed_sources.proofs.FeederFacts.{source-has}
-use Rattle.feed_sources.proofs.ReachFacts.{source-cube}
-use Rattle.feed_sources.proofs.ReachParts.{reach-parts}
+use Rattle.feed_sources.proofs.FeederFacts.{source-cube, source-has}
+use Rattle.feed_sources.proofs.FedParts.{fed-parts}
 use Rattle.feed_sources.proofs.choices.choices_of.Goals as goal
 
 pub returns : goal.returns
 returns c = λ x by.
     let m = c.args.model.now in
     let es = elements_of m.space x in
-    let parts = reach-parts m c.args.cube x c.args.aim c.args.feeder.now by in
-    let own = source-cube m x c.args.aim c.args.cube c.args.feeder.now by in
+    let parts = fed-parts m c.args.cube x c.args.cell c.args.feeder.now by in
+    let own = source-cube m x c.args.cell c.args.cube c.args.feeder.now by in
     let found : slice_get m.space.cubes c.args.cube ≡ Some c.shape.result.now = rw c.space.ensures.space at c.shape.ensures in
     let same : axes m.space c.args.cube ≡ axes_of m.space.dimensions c.as_slice-dims.result.now =
     shape_dims m.space c.args.cube c.shape.result.now found ∙ ap (axes_of m.space.dimensions) (sym c.as_slice-dims.ensures) in

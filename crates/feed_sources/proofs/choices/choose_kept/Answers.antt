@@ -1,7 +1,7 @@
 use Rattle.std.proofs.Common.{◌≡◌, ◌∙◌, sym, ap, subst, arith, ◌<◌, ◌≤◌, length, Some, get_or}
 use Rattle.std.specs.Prelude.{slice_get}
 use Rattle.std.proofs.lemmas.Option.{slice_get_within, slice_get-get_or}
-use Rattle.cube_space.specs.Cells.{IsCell, elements_of}
+use Rattle.cube_space.specs.Cells.{elements_of}
 use Rattle.rule_model.proofs.Shapes.{dims_few}
 use Rattle.feed_sources.specs.Inside.Choices.{AreChosen}
 use Rattle.feed_sources.proofs.ChoiceFacts.{args-long, chosen-set, elements-long, kept-element, read-element}
@@ -59,17 +59,16 @@ each-preserved c = λ x cell own leaf stands begun.
     let place_is : slice_get c.shape-2.result.now.dims place ≡ Some dim = ap (λ ds. slice_get ds place) (sym c.as_slice-own.ensures) ∙ slice_get-get_or c.as_slice-own.result.now place 0 low in
     let arg_is : slice_get c.args.reference.now.args place ≡ Some c.index-args-place.result =
     ap (λ args. slice_get args place) (sym c.as_slice-args.ensures) ∙ slice_get-get_or c.as_slice-args.result.now place c.index-args-place.result c.each-test.true ∙ ap Some (sym c.index-args-place.is) in
-    let many : place < length (elements_of m.space c.cell.result) =
-    (let all = elements-long m c.space-space.ensures.valid c.cell.result into c.shape-2.result.now (subst (IsCell m.space) (sym c.cell.ensures) c.requires.cell) c.place_of-into.ensures.cube (own-found a) in omega (arith, low, all, ap length c.as_slice-own.ensures)) in
+    let many : place < length (elements_of m.space c.args.cell) =
+    (let all = elements-long m c.space-space.ensures.valid c.args.cell into c.shape-2.result.now c.requires.cell c.place_of-into.ensures.cube (own-found a) in omega (arith, low, all, ap length c.as_slice-own.ensures)) in
     let after : AreChosen c.match-kept_from.choices es = elim c.match-kept_from.branch [
       | in-Some w ↦ (let from_is : slice_get c.shape.result.now.dims w.in-Some.from ≡ Some dim = ap (λ ds. slice_get ds w.in-Some.from) (sym c.as_slice-dims.ensures) ∙ w.in-Some.ensures.place in
           let from_low = slice_get_within c.shape.result.now.dims w.in-Some.from dim from_is in
           chosen-set c.each.choices c.match-kept_from.choices w.in-Some.from (get_or c.place_of-into.new.at place 0) es
           (omega (arith, from_low, few a, ap length c.as_slice-dims.ensures, c.match-kept_from.array_long)) w.choices-is before
-          (λ within. kept-element m c.space-space.ensures.valid c.args.reference.now x c.args.cube into place w.in-Some.from dim c.args.aim c.index-args-place.result c.shape.result.now c.shape-2.result.now
+          (λ within. kept-element m c.space-space.ensures.valid c.args.reference.now x c.args.cube into place w.in-Some.from dim c.args.cell c.index-args-place.result c.shape.result.now c.shape-2.result.now
           (found a) (own-found a) c.if-reference-into.false from_is place_is arg_is w.in-Some.ensures.kept own leaf stands
-          ∙ ap (λ n. get_or (elements_of m.space n) place 0) (sym c.cell.ensures)
-          ∙ read-element c.place_of-into.result.1 c.place_of-into.new.at (elements_of m.space c.cell.result) place c.place_of-into.ensures.elements many))
+          ∙ read-element c.place_of-into.result.1 c.place_of-into.new.at (elements_of m.space c.args.cell) place c.place_of-into.ensures.elements many))
       | in_default w ↦ subst (λ cs. AreChosen cs es) (sym w.choices-is) before
     ] in
     after

@@ -1,17 +1,17 @@
-use Rattle.std.proofs.Common.{◌⊎◌, ◌≡◌, ◌∙◌, sym, ap, subst, arith, ◌<◌, inl, inr, length, get_or, pos, [], Some, ℕ, true, false}
+use Rattle.std.proofs.Common.{◌≡◌, ◌∙◌, sym, ap, subst, arith, ◌<◌, inl, inr, length, get_or, pos, [], Some, ℕ, true, false}
 use Rattle.std.specs.Prelude.{slice_get}
 use Rattle.std.proofs.lemmas.Option.{slice_get-get_or}
 use Rattle.dim_core.specs.Outline.{IsElement}
 use Rattle.dim_weights.specs.Coefficients.{coef}
 use Rattle.dim_weights.specs.Table.{is_nonzero}
 use Rattle.cube_space.specs.Layout.{axes}
-use Rattle.cube_space.specs.Cells.{IsCell, elements_of, cube_of}
+use Rattle.cube_space.specs.Cells.{elements_of, cube_of}
 use Rattle.cube_space.proofs.Places.{cell-place}
 use Rattle.rule_model.specs.Targets.{element_by}
 use Rattle.model_laws.proofs.Levels.{element-of}
 use Rattle.feed_sources.proofs.SourceFacts.{weights-there}
 use Rattle.feed_sources.proofs.ChoiceFacts.{IsAxis, argument-axis, elements-long, fixed-low, read-element}
-use Rattle.feed_sources.proofs.KeptFacts.{argument-names, target-parts, meets-cube, meets-counts}
+use Rattle.feed_sources.proofs.KeptFacts.{argument-names, target-parts, below-cube, below-counts}
 use Rattle.feed_sources.proofs.misses.misses.Goals.{After-as_slice-args}
 use Rattle.feed_sources.proofs.misses.misses.Goals as goal
 
@@ -19,8 +19,8 @@ pub returns-then-reference-into : goal.returns-then-reference-into
 returns-then-reference-into c = λ _ x stands.
     let m = c.args.model.now in
     let parts = target-parts m.space c.args.reference.now x stands.0 stands.1 in
-    let same = meets-cube m c.space-space.ensures.valid stands.0 c.args.aim parts.2.cell stands.2 in
-    c.if-reference-into.true (sym parts.2.own ∙ sym same ∙ ap (cube_of m.space) (sym c.cell.ensures) ∙ sym c.place_of-into.ensures.cube)
+    let same = below-cube m c.space-space.ensures.valid stands.0 c.args.cell parts.2.cell stands.2 in
+    c.if-reference-into.true (sym parts.2.own ∙ sym same ∙ sym c.place_of-into.ensures.cube)
 
 found : (c : After-as_slice-args) → slice_get c.args.model.now.space.cubes c.place_of-into.result.0 ≡ Some c.shape.result.now
 found c = rw c.space-space.ensures.space at c.shape.ensures
@@ -56,8 +56,7 @@ returns-then-is_other c = λ _ x stands.
     let a = (goal.at.returns-then-is_other c).After-as_slice-args in
     let m = c.args.model.now in
     let place = c.each.place in
-    let cell = c.cell.result in
-    let is_cell : IsCell m.space cell = subst (IsCell m.space) (sym c.cell.ensures) c.requires.cell in
+    let cell = c.args.cell in
     let t = stands.0 in
     let d = axis a place c.each-test.true in
     let table = (weights-there m.space.dimensions c.weights.result.now (get_or c.as_slice-dims.result.now place 0) d.d c.index-weights-dims.result (rw c.model.ensures at c.weights.ensures) d.own).1 c.index-weights-dims.is in
@@ -70,13 +69,12 @@ returns-then-is_other c = λ _ x stands.
     let fixed : element ≡ get_or parts.0 place 0 = cc in
     let its : get_or (elements_of m.space t) place 0 ≡ element = ap (λ es. get_or es place 0) parts.2.its ∙ sym fixed in
     let many : place < length (elements_of m.space cell) =
-    (let all = elements-long m c.space-space.ensures.valid cell c.place_of-into.result.0 c.shape.result.now is_cell c.place_of-into.ensures.cube (found a) in omega (arith, d.low, all, ap length c.as_slice-dims.ensures)) in
+    (let all = elements-long m c.space-space.ensures.valid cell c.place_of-into.result.0 c.shape.result.now c.requires.cell c.place_of-into.ensures.cube (found a) in omega (arith, d.low, all, ap length c.as_slice-dims.ensures)) in
     let leaf : get_or (elements_of m.space cell) place 0 ≡ get_or c.place_of-into.new.at place 0 = read-element c.place_of-into.result.1 c.place_of-into.new.at (elements_of m.space cell) place c.place_of-into.ensures.elements many in
     let axis_t : slice_get (axes m.space (cube_of m.space t)) place ≡ Some d.d = ap (λ k. slice_get (axes m.space k) place) (parts.2.own ∙ c.if-reference-into.false) ∙ d.axis in
     let axis_c : slice_get (axes m.space (cube_of m.space cell)) place ≡ Some d.d = ap (λ k. slice_get (axes m.space k) place) (sym c.place_of-into.ensures.cube) ∙ d.axis in
-    let here : IsElement d.d (get_or c.place_of-into.new.at place 0) = subst (IsElement d.d) leaf (element-of (axes m.space (cube_of m.space cell)) (elements_of m.space cell) place d.d (cell-place m.space cell is_cell).place.digits axis_c).1 in
-    elim (subst (λ n. (get_or (elements_of m.space t) place 0 ≡ get_or (elements_of m.space n) place 0) ⊎ (is_nonzero (coef d.d (get_or (elements_of m.space t) place 0) (get_or (elements_of m.space n) place 0)) ≡ true)) (sym c.cell.ensures)
-    (meets-counts m c.space-space.ensures.valid t c.args.aim parts.2.cell stands.2 place d.d axis_t)) [
+    let here : IsElement d.d (get_or c.place_of-into.new.at place 0) = subst (IsElement d.d) leaf (element-of (axes m.space (cube_of m.space cell)) (elements_of m.space cell) place d.d (cell-place m.space cell c.requires.cell).place.digits axis_c).1 in
+    elim (below-counts m c.space-space.ensures.valid t cell parts.2.cell stands.2 place d.d axis_t) [
       | inl equal ↦ other.2 (sym its ∙ equal ∙ leaf)
       | inr on ↦ (let zero : coef d.d element (get_or c.place_of-into.new.at place 0) ≡ pos 0 = other.3 d.d table here in
           let one : is_nonzero (coef d.d element (get_or c.place_of-into.new.at place 0)) ≡ true =

@@ -6,8 +6,8 @@ use Rattle.rule_model.specs.System.{system_of}
 use Rattle.std.proofs.lemmas.Bool.{eqb-true, eq-eqb}
 use Rattle.cube_space.specs.Cells.{is_leaf_cell}
 use Rattle.feed_sources.proofs.BelowFacts.{leaf-stands, stands-leaf}
-use Rattle.feed_sources.proofs.ReachParts.{weighs-below, below-weighs, word-zero}
-use Rattle.feed_sources.proofs.reaches.is_leaf_of.Goals as goal
+use Rattle.feed_sources.proofs.FedParts.{weighs-below, below-weighs, word-zero}
+use Rattle.feed_sources.proofs.feeds.is_leaf_of.Goals as goal
 
 pub returns-then-is_leaf : goal.returns-then-is_leaf
 returns-then-is_leaf c =

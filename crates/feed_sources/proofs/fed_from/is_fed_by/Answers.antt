@@ -9,10 +9,10 @@ use Rattle.rule_model.proofs.Shapes.{dims_few, dims_within, shape_dims}
 use Rattle.feed_sources.specs.Inside.Choices.{AreChosen}
 use Rattle.feed_sources.proofs.WalkFacts.{IsLeast, next-least, run-at, next-below, few-below, last-below}
 use Rattle.feed_sources.proofs.BackFacts.{none-begun, none-ended, none-outside, none-jumped, none-passed}
-use Rattle.feed_sources.proofs.ReachParts.{reach-parts}
+use Rattle.feed_sources.proofs.FedParts.{fed-parts}
 use Rattle.feed_sources.proofs.StepFacts.{where-err}
-use Rattle.feed_sources.proofs.fed_from.is_reached_by.Goals.{After-cells-cells, In-Some}
-use Rattle.feed_sources.proofs.fed_from.is_reached_by.Goals as goal
+use Rattle.feed_sources.proofs.fed_from.is_fed_by.Goals.{After-cells-cells, In-Some}
+use Rattle.feed_sources.proofs.fed_from.is_fed_by.Goals as goal
 
 first-is : (g : _) (c : After-cells-cells g) → c.first-first.result ≡ first_cell c.args.model.now.space c.args.cube
 first-is g c = c.first-first.ensures ∙ ap (λ (l : Layout). first_cell l c.args.cube) c.space-space.ensures.space
@@ -29,12 +29,12 @@ few-cells g c =
 
 pub returns-then-misses-clause-none : goal.returns-then-misses-clause-none
 returns-then-misses-clause-none g c = λ _ x _ by.
-    c.misses.ensures c.if-misses.true x (reach-parts c.args.model.now c.args.cube x c.args.aim c.args.feeder.now by).stands
+    c.misses.ensures c.if-misses.true x (fed-parts c.args.model.now c.args.cube x c.args.cell c.args.feeder.now by).stands
 
 pub jumps-init : goal.jumps-init
 jumps-init g c = record {
   begun = omega arith;
-  none = λ x has low. none-begun c.args.model.now c.args.cube c.args.feeder.now c.args.aim (g.W.CellSet.cells c.args.live.now) x has (let is = first-is g (goal.at.jumps-init g c).After-cells-cells in omega (arith, low, is));
+  none = λ x has low. none-begun c.args.model.now c.args.cube c.args.feeder.now c.args.cell (g.W.CellSet.cells c.args.live.now) x has (let is = first-is g (goal.at.jumps-init g c).After-cells-cells in omega (arith, low, is));
   steps = c.take_step.ensures.steps;
   spent = (let one = c.in_ok-take_step.ensures.one in omega (arith, one));
 }
@@ -54,7 +54,7 @@ pub returns-then-next-first-clause-none : goal.returns-then-next-first-clause-no
 returns-then-next-first-clause-none g c = λ _.
     let a = goal.at.returns-then-next-first-clause-none g c in
     let low = after-first g a.In-Some in
-    none-outside c.args.model.now c.args.cube c.args.feeder.now c.args.aim (g.W.CellSet.cells c.args.live.now) c.jumps.from c.in-Some.next c.jumps.invariant.none (least g a.In-Some)
+    none-outside c.args.model.now c.args.cube c.args.feeder.now c.args.cell (g.W.CellSet.cells c.args.live.now) c.jumps.from c.in-Some.next c.jumps.invariant.none (least g a.In-Some)
     (omega (arith, c.if-next-first.true, low, first-is g a.After-cells-cells, cells-is g a.After-cells-cells))
 
 pub overflow_sub-next-in-Some : goal.overflow_sub-next-in-Some
@@ -106,7 +106,7 @@ jumps-preserved-in-Some-jump_from g c =
     let passed = subst (λ (s : List ℕ). (elements : List ℕ) → are_digits s elements ≡ true → number ≤ number_of s elements → number_of s elements < later → AreChosen choices elements → ⊥) same c.in-Some-jump_from.ensures.passed in
     record {
       begun = omega (arith, c.saturating_add-from.ensures, few);
-      none = none-jumped m c.args.cube c.args.feeder.now c.args.aim (g.W.CellSet.cells c.args.live.now) c.jumps.from c.in-Some.next c.jumps.invariant.none (least g a.In-Some)
+      none = none-jumped m c.args.cube c.args.feeder.now c.args.cell (g.W.CellSet.cells c.args.live.now) c.jumps.from c.in-Some.next c.jumps.invariant.none (least g a.In-Some)
           choices number later c.saturating_add-from.result (omega (arith, low, first)) c.choices_of-choices.ensures passed (omega (arith, c.saturating_add-from.ensures, first));
       steps = (let s = c.take_step-in-Some.ensures.steps in omega (arith, s, c.jumps.invariant.steps));
       spent = (let one = c.in_ok-take_step-2.ensures.one in
@@ -117,19 +117,19 @@ jumps-preserved-in-Some-jump_from g c =
           omega (arith, one, more, c.jumps.invariant.spent));
     }
 
-pub reaches_by-requires-clause-source : goal.reaches_by-requires-clause-source
-reaches_by-requires-clause-source g c =
-    let a = goal.at.reaches_by-requires-clause-source g c in
+pub feeds_by-requires-clause-source : goal.feeds_by-requires-clause-source
+feeds_by-requires-clause-source g c =
+    let a = goal.at.feeds_by-requires-clause-source g c in
     (run-at c.args.model.now.space c.args.cube c.first-first.result c.cells-cells.result c.in-Some.next c.requires.cube (first-is g a.After-cells-cells) (cells-is g a.After-cells-cells) (after-first g a.In-Some) c.if-next-first.false).cell
 
-pub reaches_by-requires-clause-cube : goal.reaches_by-requires-clause-cube
-reaches_by-requires-clause-cube g c =
-    let a = goal.at.reaches_by-requires-clause-cube g c in
+pub feeds_by-requires-clause-cube : goal.feeds_by-requires-clause-cube
+feeds_by-requires-clause-cube g c =
+    let a = goal.at.feeds_by-requires-clause-cube g c in
     (run-at c.args.model.now.space c.args.cube c.first-first.result c.cells-cells.result c.in-Some.next c.requires.cube (first-is g a.After-cells-cells) (cells-is g a.After-cells-cells) (after-first g a.In-Some) c.if-next-first.false).own
 
-pub returns-then-reaches_by-clause-reached : goal.returns-then-reaches_by-clause-reached
-returns-then-reaches_by-clause-reached g c = λ _.
-    (c.in-Some.next, (least g (goal.at.returns-then-reaches_by-clause-reached g c).In-Some).has, c.reaches_by.ensures.0 c.if-reaches_by.true)
+pub returns-then-feeds_by-clause-fed : goal.returns-then-feeds_by-clause-fed
+returns-then-feeds_by-clause-fed g c = λ _.
+    (c.in-Some.next, (least g (goal.at.returns-then-feeds_by-clause-fed g c).In-Some).has, c.feeds_by.ensures.0 c.if-feeds_by.true)
 
 pub overflow_add-from : goal.overflow_add-from
 overflow_add-from g c = let few = few-cells g (goal.at.overflow_add-from g c).After-cells-cells in omega (arith, few, c.if-next-first.false)
@@ -147,8 +147,8 @@ jumps-preserved g c =
     let low = after-first g a.In-Some in
     record {
       begun = omega (arith, low);
-      none = none-passed c.args.model.now c.args.cube c.args.feeder.now c.args.aim (g.W.CellSet.cells c.args.live.now) c.jumps.from c.in-Some.next c.jumps.invariant.none (least g a.In-Some)
-          (λ by. (let on = c.reaches_by.ensures.1 by in let clash : true ≡ false = sym on ∙ c.if-reaches_by.false in cc));
+      none = none-passed c.args.model.now c.args.cube c.args.feeder.now c.args.cell (g.W.CellSet.cells c.args.live.now) c.jumps.from c.in-Some.next c.jumps.invariant.none (least g a.In-Some)
+          (λ by. (let on = c.feeds_by.ensures.1 by in let clash : true ≡ false = sym on ∙ c.if-feeds_by.false in cc));
       steps = (let s = c.take_step-in-Some.ensures.steps in omega (arith, s, c.jumps.invariant.steps));
       spent = (let one = c.in_ok-take_step-2.ensures.one in
           let l = least g a.In-Some in
@@ -158,7 +158,7 @@ jumps-preserved g c =
 
 pub returns-clause-none : goal.returns-clause-none
 returns-clause-none g c = λ _.
-    none-ended c.args.model.now c.args.cube c.args.feeder.now c.args.aim (g.W.CellSet.cells c.args.live.now) c.jumps.from c.jumps.invariant.none (sym c.in_default.ensures.next)
+    none-ended c.args.model.now c.args.cube c.args.feeder.now c.args.cell (g.W.CellSet.cells c.args.live.now) c.jumps.from c.jumps.invariant.none (sym c.in_default.ensures.next)
 
 pub returns-then-next-first-clause-spent : goal.returns-then-next-first-clause-spent
 returns-then-next-first-clause-spent g c = let few = few-below c.jumps.from (g.W.CellSet.cells c.args.live.now) in omega (arith, few, c.jumps.invariant.spent)
@@ -171,9 +171,9 @@ returns-in_err-take_step-2-clause-enough g c =
     let short : c.args.steps.now < 1 + length (g.W.CellSet.cells c.args.live.now) = omega (arith, last, none, c.jumps.invariant.spent) in
     where-err _ short
 
-pub returns-then-reaches_by-clause-spent : goal.returns-then-reaches_by-clause-spent
-returns-then-reaches_by-clause-spent g c =
-    let l = least g (goal.at.returns-then-reaches_by-clause-spent g c).In-Some in
+pub returns-then-feeds_by-clause-spent : goal.returns-then-feeds_by-clause-spent
+returns-then-feeds_by-clause-spent g c =
+    let l = least g (goal.at.returns-then-feeds_by-clause-spent g c).In-Some in
     let last = last-below c.jumps.from c.in-Some.next (g.W.CellSet.cells c.args.live.now) l.has l.from in
     let one = c.in_ok-take_step-2.ensures.one in
     omega (arith, last, one, c.jumps.invariant.spent)

@@ -1,33 +1,32 @@
--- What a feeder reaches from a cell, by its parts.
+-- What a feeder feeds from a cell, by its parts.
 use Rattle.std.proofs.Common.{◌≡◌, sym, ap, ◌∙◌, ℕ, ◌≤◌, true, false, ℤ, pos, unsigned_abs, w64, to_z, of_z}
 use Rattle.std.specs.List.{Contains}
 use Rattle.dim_weights.proofs.Nonzero.{counts-nonzero, nonzero-counts}
 use Rattle.cube_space.specs.Cells.{IsCell, is_leaf_cell}
-use Rattle.rule_laws.specs.Feeding.{leaves_of}
+use Rattle.rule_laws.specs.Feeding.{FeedsBy, leaves_of}
 use Rattle.rule_model.specs.declared.rules.Feeder.{Feeder}
 use Rattle.rule_model.specs.BoundModel.{BoundModel}
 use Rattle.rule_model.specs.Weights.{weight}
 use Rattle.rule_model.specs.System.{system_of, feed_of}
 use Rattle.rule_model.proofs.Coefs.{word_of}
-use Rattle.feed_sources.specs.declared.aim.Aim.{Aim}
-use Rattle.feed_sources.specs.Inside.Aims.{Reaches, ReachesBy}
+use Rattle.feed_sources.specs.Feeders.{StandsFor}
 use Rattle.feed_sources.proofs.BelowFacts.{below-has, has-below, leaf_cells-has}
 
-module _ (m : BoundModel) (cube x : ℕ) (aim : Aim) (feeder : Feeder) where
+module _ (m : BoundModel) (cube x c : ℕ) (feeder : Feeder) where
   -- a leaf cell in the area, and what its reference means
-  pub record IsReached : Type 0 where
+  pub record AreParts : Type 0 where
     pub cell : IsCell m.space x
     pub leaf : is_leaf_cell m.space x ≡ true
     pub source : (feed_of m.space cube feeder).source x ≡ true
-    pub stands : Reaches m feeder.target x aim
+    pub stands : StandsFor m feeder.target x c
 
-  pub reach-parts : ReachesBy (system_of m) (feed_of m.space cube feeder) x aim → IsReached
+  pub fed-parts : FeedsBy (system_of m) (feed_of m.space cube feeder) x c → AreParts
   unfolding system_of
-  reach-parts by = record { cell = by.0.0; leaf = by.0.1; source = by.1; stands = by.2 }
+  fed-parts by = record { cell = by.0.0; leaf = by.0.1; source = by.1; stands = by.2 }
 
-  pub parts-reach : IsReached → ReachesBy (system_of m) (feed_of m.space cube feeder) x aim
+  pub parts-fed : AreParts → FeedsBy (system_of m) (feed_of m.space cube feeder) x c
   unfolding system_of
-  parts-reach is = ((is.cell, is.leaf), is.source, is.stands)
+  parts-fed is = ((is.cell, is.leaf), is.source, is.stands)
 
 -- a weight is 0 where its word is
 pub word-zero : (z : ℤ) → unsigned_abs z ≤ 1000000000 → of_z w64 z ≡ 0 → z ≡ pos 0

@@ -1,25 +1,25 @@
 ghost use Rattle.std.specs.Prelude.{◌≡◌, true, IsTrue, ◌↔◌, Contains};
 ghost use Rattle.cube_space.specs.Cells.{IsCell, cube_of, is_leaf_cell};
-ghost use Rattle.rule_laws.specs.Feeding.{leaves_of};
+ghost use Rattle.rule_laws.specs.Feeding.{FeedsBy, leaves_of};
 ghost use Rattle.rule_model.specs.Conditions.{IsFeeder};
 ghost use Rattle.rule_model.specs.System.{system_of, feed_of};
-ghost use Rattle.feed_sources.specs.Inside.Aims.{IsAim, Meets, Reaches, ReachesBy};
+ghost use Rattle.feed_sources.specs.Feeders.{StandsFor};
 
-use crate::aim::Aim;
 use crate::source_model::SourceModel;
 use crate::sources::is_source_of;
 use cube_space::MAX_DIMENSIONS;
 use rule_laws::Reference;
 use rule_model::{Feeder, target, weight};
 
-/// Whether a cell of a cube is a source of what is looked for by this feeder of the cube.
-pub fn reaches_by(model: &SourceModel, cube: u32, feeder: &Feeder, source: u64, aim: Aim) -> bool
+/// Whether a cell of a cube feeds a leaf cell by this feeder of the cube.
+pub fn feeds_by(model: &SourceModel, cube: u32, feeder: &Feeder, source: u64, cell: u64) -> bool
     requires feeder { IsFeeder model.now.space cube feeder.now }
     requires source { IsCell model.now.space source }
     requires cube { cube_of model.now.space source ≡ cube }
-    requires aim { IsAim model.now.space aim }
+    requires cell { IsCell model.now.space cell }
+    requires leaf { is_leaf_cell model.now.space cell ≡ true }
     ensures { IsTrue result
-        ↔ ReachesBy (system_of model.now) (feed_of model.now.space cube feeder.now) source aim }
+        ↔ FeedsBy (system_of model.now) (feed_of model.now.space cube feeder.now) source cell }
 {
     if !model.space().is_leaf(source) {
         return false;
@@ -27,30 +27,19 @@ pub fn reaches_by(model: &SourceModel, cube: u32, feeder: &Feeder, source: u64, 
     let mut at = [0u32; MAX_DIMENSIONS];
     let (_, len) = model.place_of(source, &mut at);
     is_source_of(model, feeder, cube, &at[..len], source)
-        && reaches(model, &feeder.target, source, aim)
+        && stands_for(model, &feeder.target, source, cell)
 }
 
-// Whether a reference from a cell reaches what is looked for.
-fn reaches(model: &SourceModel, reference: &Reference, source: u64, aim: Aim) -> bool
+// Whether a leaf cell is one that a reference from another cell means.
+fn stands_for(model: &SourceModel, reference: &Reference, source: u64, cell: u64) -> bool
     requires source { IsCell model.now.space source }
-    requires aim { IsAim model.now.space aim }
-    ensures { IsTrue result ↔ Reaches model.now reference.now source aim }
+    requires cell { IsCell model.now.space cell }
+    requires leaf { is_leaf_cell model.now.space cell ≡ true }
+    ensures { IsTrue result ↔ StandsFor model.now reference.now source cell }
 {
     match target(model.model(), reference, source) {
-        Some(named) => meets(model, named, aim),
+        Some(named) => is_leaf_of(model, named, cell),
         None => false,
-    }
-}
-
-// Whether a cell that is named is what is looked for, or has it among its leaf cells.
-fn meets(model: &SourceModel, named: u64, aim: Aim) -> bool
-    requires named { IsCell model.now.space named }
-    requires aim { IsAim model.now.space aim }
-    ensures { IsTrue result ↔ Meets (system_of model.now) aim named }
-{
-    match aim {
-        Aim::Fed(cell) => is_leaf_of(model, named, cell),
-        Aim::Named(cell) => named == cell,
     }
 }
 
