@@ -1,4 +1,4 @@
-ghost use Rattle.std.specs.Prelude.{◌≡◌, ◌++◌, [], drop};
+ghost use Rattle.std.specs.Prelude.{◌≡◌, ◌++◌, [], drop, IfNone};
 ghost use Rattle.std.specs.Option.{option_to_list};
 
 use crate::record::Record;
@@ -43,10 +43,11 @@ impl<'a> Rows<'a> {
         }
     }
 
-    #[tactic(auto, using(crate::proofs::Parts::drop_next, crate::proofs::Parts::none_left))]
+    #[tactic(auto, using(crate::proofs::Parts::drop_next, crate::proofs::Parts::none_left, crate::proofs::Parts::none_past))]
     /// Takes the first record, if there is one.
     pub fn next(&mut self) -> Option<Record<'a>>
-        ensures { self.old ≡ option_to_list result ++ self.new }
+        ensures first { self.old ≡ option_to_list result ++ self.new }
+        ensures none { IfNone result (self.old ≡ []) }
     {
         match self.records {
             Some(records) if self.passed < records.len() => {

@@ -1,4 +1,4 @@
-use Rattle.std.proofs.Common.{rules, ◌≡◌, ◌∙◌, sym, ap, arith}
+use Rattle.std.proofs.Common.{rules, ◌≡◌, ◌∙◌, sym, ap}
 use Rattle.std.specs.List.{slice_get, slice_range}
 use Rattle.joined_lists.proofs.PartFacts.{in_part}
 use Rattle.user_text.specs.Inside.Columns.{pointed}
