@@ -5,15 +5,14 @@ ghost use Rattle.judged_files.specs.Inside.Kept.{AreRecordsSoFar};
 ghost use Rattle.user_text.specs.Rows.{rows_of};
 
 use file_passes::Source;
-use lists::ListOf;
 use std::alloc::{AllocError, Global};
 use std::marker::Model;
 use std::sync::Arc;
-use user_text::rows;
+use user_text::{Records, rows};
 use word_table::WordTable;
 
-/// The records of a file, each the list of its columns, which all loads of the file share.
-pub(crate) type SharedRecords = Arc<ListOf<ListOf<ListOf<u8>>>, Global>;
+/// The records of a file, which all loads of the file share.
+pub(crate) type SharedRecords = Arc<Records, Global>;
 
 /// Files of records, of which each is read as records once. Contracts see the files.
 #[derive(Drop)]
@@ -84,7 +83,7 @@ fn add(
         return Ok(());
     }
     let records = rows(alloc, source.bytes(), 0)?;
-    kept.push(Arc::new(alloc, ListOf::new(records))?)?;
+    kept.push(Arc::new(alloc, records)?)?;
     names.push(alloc, name)?;
     Ok(())
 }

@@ -7,6 +7,7 @@ use script_bind::bind;
 use script_reader::parse;
 use script_run::{BoundScript, Ran, run};
 use std::alloc::{AllocError, Global};
+use user_text::rows;
 
 /// Writes the answer to a case of these lines.
 pub fn answer_load(alloc: Global, lines: &str, out: &mut Vec<u8>) -> Result<(), AllocError> {
@@ -41,7 +42,8 @@ fn answer_script(
         stored: scene.stored,
         fed: scene.fed,
     };
-    let ran = run(alloc, script, &scene.rows, &scene.params, &mut cells)?;
+    let records = rows(alloc, &scene.file, 0)?;
+    let ran = run(alloc, script, records.behind(0), &scene.params, &mut cells)?;
     let line = ran_text(alloc, &ran)?;
     write_answer(out, line.as_bytes())?;
     for (cell, number) in &cells.writes {

@@ -12,7 +12,8 @@ pub struct Scene {
     pub stored: u64,
     pub fed: u64,
     pub params: LoadParams,
-    pub rows: Vec<ListOf<ListOf<u8>>>,
+    /// The file of the records, a line for each.
+    pub file: Vec<u8>,
     pub script: Vec<u8>,
 }
 
@@ -41,7 +42,7 @@ impl Scene {
             stored: ROOM,
             fed: ROOM,
             params: LoadParams::new(alloc),
-            rows: Vec::new(alloc),
+            file: Vec::new(alloc),
             script: Vec::new(alloc),
         }
     }
@@ -55,7 +56,7 @@ impl Scene {
             "ruled" => self.add_cell(alloc, Kind::Ruled, rest),
             "number" => self.add_number(alloc, rest),
             "text" => self.add_text(alloc, rest),
-            "row" => self.add_row(alloc, rest),
+            "row" => self.add_row(rest),
             "stored" => {
                 self.stored = rest.parse::<u64>().unwrap_or(ROOM);
                 Ok(true)
@@ -92,14 +93,11 @@ impl Scene {
         Ok(true)
     }
 
-    fn add_row(&mut self, alloc: Global, rest: &str) -> Result<bool, AllocError> {
-        let mut columns = Vec::new(alloc);
-        if !rest.is_empty() {
-            for column in rest.split(',') {
-                columns.push(list_of(alloc, column)?)?;
-            }
-        }
-        self.rows.push(ListOf::new(columns))?;
+    fn add_row(&mut self, rest: &str) -> Result<bool, AllocError> {
+        // An empty line of a file is no record.
+        let columns = if rest.is_empty() { "\"\"" } else { rest };
+        self.file.extend_from_slice(columns.as_bytes())?;
+        self.file.push(b'\n')?;
         Ok(true)
     }
 }

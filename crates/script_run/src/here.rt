@@ -3,16 +3,16 @@ ghost use Rattle.std.specs.Option.{option_map};
 ghost use Rattle.script_run.specs.Meaning.{columns_in, place_of};
 
 use crate::execution_place::ExecutionPlace;
-use lists::ListOf;
 use script_tree::Section;
 use std::marker::Model;
+use user_text::Record;
 
 /// Where a statement is run.
 #[derive(Drop)]
 pub(crate) struct Here<'a> {
     section: Section,
     row: u32,
-    columns: &'a [ListOf<u8>],
+    columns: &'a Record<'a>,
 }
 
 impl<'a> Model for Here<'a> {
@@ -26,7 +26,7 @@ impl<'a> Model for Here<'a> {
 impl<'a> Here<'a> {
     ghost use Rattle.script_run.specs.Load.{setting};
 
-    pub(crate) fn new(section: Section, row: u32, columns: &'a [ListOf<u8>]) -> Here<'a>
+    pub(crate) fn new(section: Section, row: u32, columns: &'a Record<'a>) -> Here<'a>
         ensures { result ≡ setting section row columns.now }
     {
         Here {
@@ -47,7 +47,7 @@ impl<'a> Here<'a> {
     }
 
     /// The columns of the record, which there are in Data alone.
-    pub(crate) fn columns(&self) -> Option<&'a [ListOf<u8>]>
+    pub(crate) fn columns(&self) -> Option<&'a Record<'a>>
         ensures { option_map (λ columns. columns.now) result ≡ columns_in self.now.section self.now.columns }
     {
         match self.section {

@@ -14,7 +14,7 @@ use script_bound::BoundScript;
 use script_tree::Section;
 use script_values::{Kept, WorkCells};
 use std::alloc::{AllocError, Global};
-use user_text::{LoadParams, ParamText};
+use user_text::{LoadParams, ParamText, Rows};
 
 /// The most statements that a load executes.
 const MAX_STEPS: u32 = 1_000_000;
@@ -90,18 +90,18 @@ fn ran_at(ending: Ending, last: ExecutionPlace) -> Ran
 /// Runs a bound script: the Prolog, Data once for each record, and the Epilog. The parameters are variables, by their
 /// words in capitals, that are set before. The first reason ends the load, and what was written is then to be dropped.
 ///
-/// Records are lists of columns. Out of memory, nothing is said of the writes.
+/// Out of memory, nothing is said of the writes.
 pub fn run<C: WorkCells>(
     alloc: Global,
     script: &BoundScript,
-    rows: &[ListOf<ListOf<u8>>],
+    rows: Rows<'_>,
     params: &LoadParams,
     cells: &mut C,
 ) -> Result<Ran, AllocError>
     ensures ran { IfOk result (λ ran. ran ≡ ran_of
-        (load script.now params.now rows.now (C.store cells.old) (C.writes cells.old))) }
+        (load script.now params.now rows.entry (C.store cells.old) (C.writes cells.old))) }
     ensures writes { IfOk result (λ _. C.writes cells.new ≡ writes_of
-        (load script.now params.now rows.now (C.store cells.old) (C.writes cells.old))) }
+        (load script.now params.now rows.entry (C.store cells.old) (C.writes cells.old))) }
     ensures store { C.store cells.new ≡ C.store cells.old }
 {
     let mut run = start(alloc, script, params)?;

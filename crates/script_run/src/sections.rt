@@ -7,27 +7,27 @@ use crate::ending::Ending;
 use crate::here::Here;
 use crate::progress::Run;
 use crate::statements::run_block;
-use lists::ListOf;
 use script_bound::{BoundScript, Statement};
 use script_tree::Section;
 use script_values::WorkCells;
 use std::alloc::{AllocError, Global};
+use user_text::{Record, Rows};
 
 /// Runs Data, once for each record.
 fn run_records<C: WorkCells>(
     alloc: Global,
     body: &[Statement],
-    rows: &[ListOf<ListOf<u8>>],
+    mut rows: Rows<'_>,
     run: &mut Run,
     cells: &mut C,
 ) -> Result<Ending, AllocError>
     ensures ended { IfOk result (λ ending. Ended ending run.new (C.writes cells.new)
-        ≡ records (block_of body.now) (C.store cells.old) 1 rows.now run.old (C.writes cells.old)) }
+        ≡ records (block_of body.now) (C.store cells.old) 1 rows.entry run.old (C.writes cells.old)) }
     ensures store { C.store cells.new ≡ C.store cells.old }
 {
     let mut row = 1u32;
-    'each: for columns in rows {
-        let here = Here::new(Section::Body, row, columns.as_slice());
+    'each: while let Some(record) = rows.next() {
+        let here = Here::new(Section::Body, row, &record);
         match run_block(alloc, body, &here, run, cells)? {
             Ending::Next => {}
             Ending::Skipped => {}
@@ -50,16 +50,17 @@ fn next_row(row: u32) -> Result<u32, AllocError>
 fn run_records_after_prolog<C: WorkCells>(
     alloc: Global,
     script: &BoundScript,
-    rows: &[ListOf<ListOf<u8>>],
+    rows: Rows<'_>,
     run: &mut Run,
     cells: &mut C,
 ) -> Result<Ending, AllocError>
     ensures ended { IfOk result (λ ending. Ended ending run.new (C.writes cells.new)
         ≡ then_do (block_of script.now.prolog (C.store cells.old) (setting sections_of.Prolog 0 [])
-        run.old (C.writes cells.old)) (records (block_of script.now.body) (C.store cells.old) 1 rows.now)) }
+        run.old (C.writes cells.old)) (records (block_of script.now.body) (C.store cells.old) 1 rows.entry)) }
     ensures store { C.store cells.new ≡ C.store cells.old }
 {
-    let here = Here::new(Section::Prolog, 0, &[]);
+    let none = Record::empty();
+    let here = Here::new(Section::Prolog, 0, &none);
     match run_block(alloc, script.prolog.as_slice(), &here, run, cells)? {
         Ending::Next => run_records(alloc, script.body.as_slice(), rows, run, cells),
         Ending::Skipped => Ok(Ending::Skipped),
@@ -80,7 +81,8 @@ fn run_epilog<C: WorkCells>(
         run.old (C.writes cells.old)) }
     ensures store { C.store cells.new ≡ C.store cells.old }
 {
-    let here = Here::new(Section::Epilog, 0, &[]);
+    let none = Record::empty();
+    let here = Here::new(Section::Epilog, 0, &none);
     run_block(alloc, script.epilog.as_slice(), &here, run, cells)
 }
 
@@ -88,12 +90,12 @@ fn run_epilog<C: WorkCells>(
 pub(crate) fn run_sections<C: WorkCells>(
     alloc: Global,
     script: &BoundScript,
-    rows: &[ListOf<ListOf<u8>>],
+    rows: Rows<'_>,
     run: &mut Run,
     cells: &mut C,
 ) -> Result<Ending, AllocError>
     ensures ended { IfOk result (λ ending. Ended ending run.new (C.writes cells.new)
-        ≡ sections script.now (C.store cells.old) rows.now run.old (C.writes cells.old)) }
+        ≡ sections script.now (C.store cells.old) rows.entry run.old (C.writes cells.old)) }
     ensures store { C.store cells.new ≡ C.store cells.old }
 {
     match run_records_after_prolog(alloc, script, rows, run, cells)? {

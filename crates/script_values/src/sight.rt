@@ -6,16 +6,16 @@ use crate::datum::Datum;
 use crate::kept::Kept;
 use crate::load_reason::LoadReason;
 use crate::text::Text;
-use lists::ListOf;
 use sqlite_items::at;
 use std::marker::Model;
+use user_text::Record;
 
 /// What an expression sees beside the cells: the variables by their numbers, and in the Data section the columns of the
 /// record.
 #[derive(Drop)]
 pub struct Sight<'a> {
     variables: &'a [Option<Kept>],
-    columns: Option<&'a [ListOf<u8>]>,
+    columns: Option<&'a Record<'a>>,
 }
 
 impl<'a> Model for Sight<'a> {
@@ -42,17 +42,17 @@ fn held<'a>(variables: &'a [Option<Kept>], place: usize) -> Result<Datum<'a>, Lo
 }
 
 /// The column of a record, which is empty past the record's end.
-fn filled<'a>(columns: &'a [ListOf<u8>], place: usize) -> Text<'a>
+fn filled<'a>(columns: &'a Record<'a>, place: usize) -> Text<'a>
     ensures { result ≡ filled (slice_get columns.now place) }
 {
-    match at(columns, place) {
-        Some(bytes) => Text::borrowed(bytes.as_slice()),
+    match columns.column(place) {
+        Some(bytes) => Text::borrowed(bytes),
         None => Text::borrowed(&[]),
     }
 }
 
 impl<'a> Sight<'a> {
-    pub fn new(variables: &'a [Option<Kept>], columns: Option<&'a [ListOf<u8>]>) -> Sight<'a>
+    pub fn new(variables: &'a [Option<Kept>], columns: Option<&'a Record<'a>>) -> Sight<'a>
         ensures variables { result.variables ≡ variables.now }
         ensures columns { result.columns ≡ option_map (λ columns. columns.now) columns.entry }
     {

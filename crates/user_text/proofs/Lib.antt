@@ -5,5 +5,6 @@ pub mod ViewExact
 pub mod UserExact
 pub mod Settled
 pub mod Columns
+pub mod Parts
 pub mod RecordTurns
 mod SetParams

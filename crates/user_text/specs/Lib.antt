@@ -4,3 +4,4 @@ pub mod Answers
 pub mod Readers
 pub mod Rows
 pub mod Jobs
+pub mod Inside

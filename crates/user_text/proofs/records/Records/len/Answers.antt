@@ -1,0 +1,8 @@
+use Rattle.std.proofs.Common.{rules, ◌≡◌, ◌∙◌, sym, ap, length}
+use Rattle.joined_lists.proofs.PartFacts.{length-parts}
+use Rattle.user_text.proofs.records.Records.len.Goals as goal
+
+pub returns : goal.returns
+returns c =
+    let count : c.len.result ≡ length c.self.inside.ends.items = search rules in
+    count ∙ sym (length-parts c.self.inside.ends.items c.self.inside.columns) ∙ ap length c.self.view_is

@@ -1,7 +1,0 @@
-use Rattle.std.proofs.Common.{◌≡◌, take}
-use Rattle.csv.specs.Records.{fields_of}
-use Rattle.user_text.proofs.records.columns_of.Given as goal
-
-abbrev pub invariant-loop-column : goal.invariant-loop-column
-invariant-loop-column l = (l.column-iterator.row.now ≡ l.fn.taken)
-    × (l.columns.items ≡ take l.column-iterator.at (fields_of l.fn.taken))
