@@ -1,1 +1,1 @@
-pub mod PartFacts
+pub mod Ends

@@ -1,9 +1,9 @@
 ghost use Rattle.std.specs.Prelude.{◌≡◌, slice_get};
 ghost use Rattle.joined_lists.specs.Parts.{bounds_from};
 
-#[tactic(auto, using(crate::proofs::PartFacts::no_bounds, crate::proofs::PartFacts::later_bounds, crate::proofs::PartFacts::first_bounds))]
 /// Where a list of several that stand one after another begins and ends, where there is one of this place. `ends` are
 /// where the lists end.
+#[tactic(auto, using(crate::proofs::Ends::of_none, crate::proofs::Ends::of_later, crate::proofs::Ends::of_first))]
 pub fn bounds(ends: &[usize], place: usize) -> Option<(usize, usize)>
     ensures { result ≡ slice_get (bounds_from 0 ends.now) place }
 {

@@ -43,8 +43,8 @@ impl<'a> Rows<'a> {
         }
     }
 
-    #[tactic(auto, using(crate::proofs::Parts::drop_next, crate::proofs::Parts::none_left, crate::proofs::Parts::none_past))]
     /// Takes the first record, if there is one.
+    #[tactic(auto, using(crate::proofs::Parts::one_gone, crate::proofs::Parts::all_gone, crate::proofs::Parts::past))]
     pub fn next(&mut self) -> Option<Record<'a>>
         ensures first { self.old ≡ option_to_list result ++ self.new }
         ensures none { IfNone result (self.old ≡ []) }

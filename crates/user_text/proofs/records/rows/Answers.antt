@@ -2,7 +2,7 @@ use Rattle.std.proofs.Common.{◌≡◌, ◌-◌, ◌+◌, ◌++◌, ◌∙◌, 
 use Rattle.csv.specs.Reading.{reader_state, strip_bom, with_flexible, with_names_headers}
 use Rattle.csv.specs.Records.{fields_of}
 use Rattle.joined_lists.specs.Parts.{parts}
-use Rattle.joined_lists.proofs.PartFacts.{ends_pushed, parts_pushed}
+use Rattle.joined_lists.proofs.Ends.{ends_pushed, parts_pushed}
 use Rattle.user_text.proofs.RecordTurns.{keeps_it, passes_over, no_turn, nothing_left, turn_ends, turn_reads}
 use Rattle.user_text.proofs.records.rows.Goals as goal
 use Rattle.user_text.proofs.records.rows.Goals.{then-passed-skip, else-passed-skip+in_ok-add}

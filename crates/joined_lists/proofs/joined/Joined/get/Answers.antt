@@ -1,6 +1,6 @@
 use Rattle.std.proofs.Common.{rules, ◌≡◌, ◌∙◌, sym, ap, length, slice_get, Some}
 use Rattle.joined_lists.specs.Parts.{bounds_from}
-use Rattle.joined_lists.proofs.PartFacts.{bounds_within, part_at, part_there}
+use Rattle.joined_lists.proofs.Ends.{bounds_within, part_at, part_there}
 use Rattle.joined_lists.proofs.joined.Joined.get.Goals as goal
 
 pub returns : goal.returns

@@ -1,5 +1,5 @@
 use Rattle.std.proofs.Common.{rules, ◌≡◌, ◌∷◌, ◌++◌, [], ◌∙◌, ap, length}
-use Rattle.joined_lists.proofs.PartFacts.{ends_pushed, parts_pushed}
+use Rattle.joined_lists.proofs.Ends.{ends_pushed, parts_pushed}
 use Rattle.joined_lists.proofs.joined.Joined.push.Goals.{After-push_reserved}
 use Rattle.joined_lists.proofs.joined.Joined.push.Given.{Over}
 use Rattle.joined_lists.proofs.joined.Joined.push.Goals as goal

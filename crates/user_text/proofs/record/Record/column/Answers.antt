@@ -1,6 +1,6 @@
 use Rattle.std.proofs.Common.{rules, ◌≡◌, ◌∙◌, sym, ap}
 use Rattle.std.specs.List.{slice_get, slice_range}
-use Rattle.joined_lists.proofs.PartFacts.{in_part}
+use Rattle.joined_lists.proofs.Ends.{in_part}
 use Rattle.user_text.specs.Inside.Columns.{pointed}
 use Rattle.user_text.proofs.record.Record.column.Goals as goal
 

@@ -1,7 +1,7 @@
 use Rattle.std.proofs.Common.{rules, ◌≡◌, ◌∙◌, sym, ap, length, Some}
 use Rattle.std.specs.List.{slice_get}
 use Rattle.joined_lists.specs.Parts.{bounds_from}
-use Rattle.joined_lists.proofs.PartFacts.{bounds_within, part_at}
+use Rattle.joined_lists.proofs.Ends.{bounds_within, part_at}
 use Rattle.user_text.proofs.records.Records.get.Goals as goal
 
 pub new-requires-clause-start : goal.new-requires-clause-start

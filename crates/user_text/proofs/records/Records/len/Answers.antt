@@ -1,5 +1,5 @@
 use Rattle.std.proofs.Common.{rules, ◌≡◌, ◌∙◌, sym, ap, length}
-use Rattle.joined_lists.proofs.PartFacts.{length-parts}
+use Rattle.joined_lists.proofs.Ends.{length-parts}
 use Rattle.user_text.proofs.records.Records.len.Goals as goal
 
 pub returns : goal.returns

@@ -13,22 +13,22 @@ bounds_at start [] k d less = absurd (omega (arith, less))
 bounds_at start (end ∷ ends) zero d less = refl
 bounds_at start (end ∷ ends) (suc k) d less = bounds_at end ends k d (omega (arith, less))
 
-pub first_bounds : (start : ℕ) (ends : List ℕ) (k d : ℕ) → k ≡ 0 → k < length ends
+pub of_first : (start : ℕ) (ends : List ℕ) (k d : ℕ) → k ≡ 0 → k < length ends
     → slice_get (bounds_from start ends) k ≡ Some (start, get_or ends k d)
-first_bounds start ends zero d none less = bounds_at start ends 0 d less
-first_bounds start ends (suc k) d none less = absurd (omega (arith, none))
+of_first start ends zero d none less = bounds_at start ends 0 d less
+of_first start ends (suc k) d none less = absurd (omega (arith, none))
 
-pub later_bounds : (start : ℕ) (ends : List ℕ) (k d : ℕ) → 0 < k → k < length ends
+pub of_later : (start : ℕ) (ends : List ℕ) (k d : ℕ) → 0 < k → k < length ends
     → slice_get (bounds_from start ends) k ≡ Some (get_or ends (k - 1) d, get_or ends k d)
-later_bounds start ends zero d up less = absurd (omega (arith, up))
-later_bounds start ends (suc k) d up less =
+of_later start ends zero d up less = absurd (omega (arith, up))
+of_later start ends (suc k) d up less =
     let before : suc k - 1 ≡ k = omega arith in
     rw before (bounds_at start ends (suc k) d less)
 
-pub no_bounds : (start : ℕ) (ends : List ℕ) (k : ℕ) → length ends ≤ k → slice_get (bounds_from start ends) k ≡ None
-no_bounds start [] k past = refl
-no_bounds start (end ∷ ends) zero past = absurd (omega (arith, past))
-no_bounds start (end ∷ ends) (suc k) past = no_bounds end ends k (omega (arith, past))
+pub of_none : (start : ℕ) (ends : List ℕ) (k : ℕ) → length ends ≤ k → slice_get (bounds_from start ends) k ≡ None
+of_none start [] k past = refl
+of_none start (end ∷ ends) zero past = absurd (omega (arith, past))
+of_none start (end ∷ ends) (suc k) past = of_none end ends k (omega (arith, past))
 
 length-bounds : (start : ℕ) (ends : List ℕ) → length (bounds_from start ends) ≡ length ends
 length-bounds start [] = refl
