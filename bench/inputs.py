@@ -251,6 +251,18 @@ def paired_load(folder, n):
     return write(folder, u_txt=u, **plan(n, pair))
 
 
+def large_plan(folder, n):
+    """A load of n records, each of which feeds a cell, in a model of 9,600,000 cells."""
+    k = 100000
+    m = model(dimension("P", leaves("p", k)), dimension("T", leaves("t", 12)))
+    m += dimension("K", "N 'Units'; N 'Sales';\n" + leaves("k", 6))
+    m += "CUBE 'C' ('P', 'T', 'K'); RULES 'r.rux'; ORDER 'K' ('Sales' 1); END;\nSCRIPT 'put' 'put.ti';\n"
+    r = "SKIPCHECK;\n['Sales'] = N: ['Units'] * 2;\nFEEDERS;\n['Units'] => ['Sales'];\n"
+    csv = "".join(f"p{i // 8 + 1},t{i % 8 + 1},Units,{i % 97 + 1}\n" for i in range(n))
+    u = "LOAD 'put' FROM 'x.csv';\nGET 'C' ('p1', 't1', 'Sales');\n"
+    return write(folder, m_txt=m, r_rux=r, x_csv=csv, put_ti="DATA:\nCellPutN(V4, 'C', V1, V2, V3);\n", u_txt=u)
+
+
 def plain_increments(folder, n):
     """A load of n records adds to cells of a cube without rules."""
     k = max(2, n // 10)
@@ -358,7 +370,7 @@ SHAPES = [
     (listed_source, 90000), (climbing_target, 90000), (many_feeders, 1000),
     (long_order, 900), (totals_above_loop, 90000), (cancelling_weights, 50000), (dense_leaves, 90000),
     (continued, 900), (puts_of_0, 30000), (puts, 800000), (zeros, 800000), (opened_total, 100000), (opened_zeros, 100000), (overfed_total, 1000000),
-    (clearing_load, 100000), (adding_load, 100000), (paired_load, 100000), (plain_increments, 1000000), (equal_loads, 2000),
+    (clearing_load, 100000), (adding_load, 100000), (paired_load, 100000), (large_plan, 800000), (plain_increments, 1000000), (equal_loads, 2000),
     (variables, 100000), (parameters, 100000), (joins, 40),
     (recurrence, 240), (stock, 20000), (wide_formula, 900), (ruled_total, 800000), (empty_axis, 90000), (many_views, 2000),
     (semicolons, 100000000), (load_files, 65000),
