@@ -49,8 +49,8 @@ impl<'a> Record<'a> {
         }
     }
 
-    #[tactic(auto, using(joined_lists::proofs::PartFacts::past_part))]
     /// The column of this place, from 0.
+    #[tactic(auto, using(joined_lists::proofs::Ends::past_part))]
     pub fn column(&self, place: usize) -> Option<&'a [u8]>
         ensures { option_map (λ column. column.now) result ≡ slice_get self.now place }
     {
