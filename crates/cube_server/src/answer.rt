@@ -82,7 +82,7 @@ fn served<R: Threads + Wait + Sync, G: Gate + Sync>(
     // an accepted model says of itself that it is one
     let _model = model.model();
     let served = serve_users(rt, alloc, gate, model, users)?;
-    let mut pieces = print_users(alloc, served.told)?;
+    let mut pieces = print_users(alloc, &served.told)?;
     pieces.push(print_history(alloc, &served.log)?)?;
     Ok(Answer {
         status: Status::Done,
@@ -91,15 +91,12 @@ fn served<R: Threads + Wait + Sync, G: Gate + Sync>(
 }
 
 // The text of each user.
-fn print_users(
-    alloc: Global,
-    told: Vec<ListOf<Told<ReplyText>>>,
-) -> Result<Vec<Vec<u8>>, AllocError>
-    ensures { IfOk result (λ pieces. joined pieces.items ≡ users_text told.items) }
+fn print_users(alloc: Global, told: &[ListOf<Told<ReplyText>>]) -> Result<Vec<Vec<u8>>, AllocError>
+    ensures { IfOk result (λ pieces. joined pieces.items ≡ users_text told.now) }
 {
     let mut pieces = Vec::new(alloc);
-    for (index, of_user) in told.into_iter().enumerate() {
-        pieces.push(print_user(alloc, index + 1, of_user)?)?;
+    for (index, of_user) in told.iter().enumerate() {
+        pieces.push(print_user(alloc, index + 1, of_user.as_slice())?)?;
     }
     Ok(pieces)
 }

@@ -4,34 +4,22 @@ ghost use Rattle.cube_server.specs.Output.{refused_text, unread_text, usage_text
 
 use file_passes::{Cause, FilePlace, Refusal};
 use history::{Entry, Told};
-use lists::ListOf;
 use std::alloc::{AllocError, Global};
 use user_session::{CellWrites, ReplyText};
 
-/// The text of a user: the line `user U` and a line for each command. A reply is dropped as soon as its line is there,
-/// so that large replies are held once.
+/// The text of a user: the line `user U` and a line for each command.
 pub(crate) fn print_user(
     alloc: Global,
     user: usize,
-    told: ListOf<Told<ReplyText>>,
+    told: &[Told<ReplyText>],
 ) -> Result<Vec<u8>, AllocError>
-    ensures { IfOk result (λ text. text.items ≡ user_text user told) }
+    ensures { IfOk result (λ text. text.items ≡ user_text user told.now) }
 {
     let mut text = format!(in alloc; "user {user}\n")?.into_bytes();
-    text.reserve(reply_bytes(told.as_slice()))?;
-    for (index, one) in told.into_vec().into_iter().enumerate() {
-        print_told(alloc, &mut text, index + 1, &one)?;
+    for (index, one) in told.iter().enumerate() {
+        print_told(alloc, &mut text, index + 1, one)?;
     }
     Ok(text)
-}
-
-// How many bytes these replies have.
-fn reply_bytes(told: &[Told<ReplyText>]) -> usize {
-    let mut bytes: usize = 0;
-    for one in told {
-        bytes = bytes.saturating_add(one.reply.as_slice().len());
-    }
-    bytes
 }
 
 // The line `K @P REPLY`.
