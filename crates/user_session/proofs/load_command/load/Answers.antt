@@ -35,5 +35,5 @@ returns-in_ok-text-in-Rejected-clause-effect c =
     let none : works.writes_of begun ≡ [] = rw c.in_ok-cells.ensures c.in_ok-work.ensures.writes in
     let same : ran ≡ outcome = same-load c.args.script.now c.args.job.now.params c.args.job.now.params c.rows.result (rows_in c.args.job.now) (works.opening_of begun) (version_of c.args.state.now) (works.writes_of begun) refl c.rows.ensures opening none in
     let effect = stopped-effect ran outcome c.in_ok-run.field-0 c.in-Rejected.section c.in-Rejected.row c.in-Rejected.statement c.in-Rejected.reason same c.in_ok-run.ensures.ran c.in-Rejected.is in
-    let text = c.new-2.ensures ∙ c.in_ok-text-in-Rejected.ensures in
+    let text = c.new-in-Rejected.ensures ∙ c.in_ok-text-in-Rejected.ensures in
     rw (effect, text) refl
