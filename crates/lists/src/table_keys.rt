@@ -1,7 +1,7 @@
-use std::hash::{BuildHasher, DefaultHasher, Hasher, RandomState};
+use std::hash::{BuildHasher, DefaultHasher, Hasher};
 
-/// What a table hashes its keys by. Its answers don't depend on it, its speed does: where someone who knows it picks the
-/// keys, they can collide, and each look-up is then a walk over them all.
+/// What a table hashes its keys by. Its answers don't depend on it, but its speed does: who knows it can pick keys that
+/// collide, and each look-up is then a walk over them all.
 #[derive(Clone, Copy)]
 pub struct TableKeys {
     // The hasher as it starts for each key.
@@ -16,18 +16,12 @@ impl TableKeys {
         }
     }
 
-    /// By bytes that aren't known to who picks the keys, or that change in a way not to be foreseen as soon as a key does.
+    /// By a seed that who picks the keys can't choose: random bytes, or a cryptographic digest of a text that has all
+    /// the keys.
     pub fn seeded(seed: &[u8]) -> TableKeys {
         let mut start = DefaultHasher::new();
         start.write(seed);
         TableKeys { start }
-    }
-
-    /// By random numbers.
-    pub fn random(state: RandomState) -> TableKeys {
-        TableKeys {
-            start: state.build_hasher(),
-        }
     }
 }
 
