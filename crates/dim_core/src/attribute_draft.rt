@@ -8,7 +8,7 @@ use crate::attribute::Attribute;
 use crate::attributes::Attributes;
 use crate::kept_names::{copy_of, kept_names};
 use indexmap::IndexSet;
-use lists::Numbered;
+use lists::{Numbered, TableKeys};
 use std::alloc::{AllocError, Global};
 use std::marker::Model;
 
@@ -17,7 +17,7 @@ use std::marker::Model;
 pub struct AttributeDraft {
     list: Vec<Attribute>,
     // The names of the attributes, each once.
-    names: IndexSet<Name>,
+    names: IndexSet<Name, TableKeys>,
     // The element of each attribute, with the number of its name.
     keys: Numbered<(u32, usize)>,
 }
@@ -37,13 +37,13 @@ impl Model for AttributeDraft {
 
 impl AttributeDraft {
     /// None yet.
-    pub fn new(alloc: Global) -> AttributeDraft
+    pub fn new(alloc: Global, table: TableKeys) -> AttributeDraft
         ensures { result ≡ [] }
     {
         AttributeDraft {
             list: Vec::new(alloc),
-            names: IndexSet::new(alloc),
-            keys: Numbered::new(alloc),
+            names: IndexSet::with_hasher(alloc, table),
+            keys: Numbered::new(alloc, table),
         }
     }
 
@@ -79,7 +79,11 @@ impl AttributeDraft {
 }
 
 // The number of a name, which is added where it isn't there.
-fn number_of(alloc: Global, names: &mut IndexSet<Name>, name: &Name) -> Result<usize, AllocError>
+fn number_of(
+    alloc: Global,
+    names: &mut IndexSet<Name, TableKeys>,
+    name: &Name,
+) -> Result<usize, AllocError>
     ensures number { IfOk result (λ number. place_of names.new.keys name.now ≡ Some number) }
     ensures kept { (other : List ℕ) (number : ℕ) → place_of names.old.keys other ≡ Some number
         → place_of names.new.keys other ≡ Some number }

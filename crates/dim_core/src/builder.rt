@@ -14,7 +14,7 @@ use crate::resolve::{first_unknown, resolve_all, resolve_attributes};
 use crate::{DimFault, Dimension, Name};
 use dim_order::{Components, first_on_loop, levels_of, order_of};
 use indexmap::IndexSet;
-use lists::ListOf;
+use lists::{ListOf, TableKeys};
 use std::alloc::{AllocError, Global};
 use std::marker::Model;
 
@@ -32,7 +32,7 @@ pub const MAX_WEIGHT: u64 = 1_000_000;
 pub struct Builder {
     alloc: Global,
     name: Name,
-    names: IndexSet<Name>,
+    names: IndexSet<Name, TableKeys>,
     components: Vec<NamedComponents>,
     component_count: usize,
     attributes: Vec<NamedAttribute>,
@@ -56,15 +56,23 @@ impl Model for Builder {
 }
 
 impl Builder {
-    /// A dimension of this name, with no elements.
+    /// A dimension of this name, with no elements. Its tables have fixed keys: where a text picks the names, `keyed`
+    /// makes one that they can't make slow.
     pub fn new(alloc: Global, name: Name) -> Result<Builder, AllocError>
+        ensures { IfOk result (λ builder. builder ≡ empty_draft name) }
+    {
+        Builder::keyed(alloc, name, TableKeys::fixed())
+    }
+
+    /// A dimension of this name, with no elements, whose tables have these keys.
+    pub fn keyed(alloc: Global, name: Name, table: TableKeys) -> Result<Builder, AllocError>
         ensures { IfOk result (λ builder. builder ≡ empty_draft name) }
     {
         let _is_name = name.shown();
         Ok(Builder {
             alloc,
             name,
-            names: IndexSet::new(alloc),
+            names: IndexSet::with_hasher(alloc, table),
             components: Vec::new(alloc),
             component_count: 0,
             attributes: Vec::new(alloc),

@@ -14,10 +14,11 @@ use crate::components::NamedComponents;
 use crate::{DimFault, Name};
 use dim_order::Components;
 use indexmap::IndexSet;
+use lists::TableKeys;
 use std::alloc::{AllocError, Global};
 
 /// The first of these lists that has a name which isn't among the names.
-pub fn first_unknown(names: &IndexSet<Name>, lists: &[NamedComponents]) -> Option<usize>
+pub fn first_unknown(names: &IndexSet<Name, TableKeys>, lists: &[NamedComponents]) -> Option<usize>
     ensures value { result ≡ position (λ parts. not (are_known names.now.keys parts)) lists.now }
     ensures within { IfSome result (λ place. place < length lists.now) }
 {
@@ -26,7 +27,7 @@ pub fn first_unknown(names: &IndexSet<Name>, lists: &[NamedComponents]) -> Optio
         .position(|list| !are_known(names, list.as_slice()))
 }
 
-fn are_known(names: &IndexSet<Name>, parts: &[(Name, i64)]) -> bool
+fn are_known(names: &IndexSet<Name, TableKeys>, parts: &[(Name, i64)]) -> bool
     ensures { result ≡ are_known names.now.keys parts.now }
 {
     parts.iter().all(|part| names.contains(&part.0))
@@ -35,7 +36,7 @@ fn are_known(names: &IndexSet<Name>, parts: &[(Name, i64)]) -> bool
 /// The components of all elements by index, in the order of the elements.
 pub fn resolve_all(
     alloc: Global,
-    names: &IndexSet<Name>,
+    names: &IndexSet<Name, TableKeys>,
     lists: &[NamedComponents],
 ) -> Result<Vec<Components>, AllocError>
     requires few { length names.now.keys ≤ most_elements }
@@ -51,7 +52,7 @@ pub fn resolve_all(
 
 fn resolve(
     alloc: Global,
-    names: &IndexSet<Name>,
+    names: &IndexSet<Name, TableKeys>,
     parts: &[(Name, i64)],
 ) -> Result<Components, AllocError>
     requires few { length names.now.keys ≤ most_elements }
@@ -70,7 +71,7 @@ fn resolve(
 /// a call before it.
 pub fn resolve_attributes(
     alloc: Global,
-    names: &IndexSet<Name>,
+    names: &IndexSet<Name, TableKeys>,
     calls: Vec<NamedAttribute>,
 ) -> Result<Attributes, DimFault>
     requires few { length names.now.keys ≤ most_elements }
@@ -78,7 +79,7 @@ pub fn resolve_attributes(
     ensures once { IfOk result (λ resolved. IsDistinct is_same_attribute resolved) }
     ensures answered { IsAnsweredBy (option_map BadAttribute (first_bad_among names.now.keys calls.items)) result }
 {
-    let mut resolved = AttributeDraft::new(alloc);
+    let mut resolved = AttributeDraft::new(alloc, *names.hasher());
     for call in calls {
         let before = resolved.as_slice().len();
         if !add_call(alloc, names, call, &mut resolved)? {
@@ -91,7 +92,7 @@ pub fn resolve_attributes(
 // Adds the attribute of a call, unless the call is bad after those that came before it.
 fn add_call(
     alloc: Global,
-    names: &IndexSet<Name>,
+    names: &IndexSet<Name, TableKeys>,
     call: NamedAttribute,
     resolved: &mut AttributeDraft,
 ) -> Result<bool, AllocError>

@@ -7,7 +7,9 @@
 mod list;
 mod numbered;
 mod rising_lists;
+mod table_keys;
 
 pub use list::ListOf;
 pub use numbered::Numbered;
 pub use rising_lists::rising_lists_are_told_by_their_members;
+pub use table_keys::TableKeys;

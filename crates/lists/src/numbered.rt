@@ -4,6 +4,7 @@ ghost use Rattle.std.specs.List.{list_any, slice_get, IsDistinct};
 ghost use Rattle.std.specs.Option.{option_copied};
 ghost use Rattle.lists.specs.Keys.{insert_key};
 
+use crate::TableKeys;
 use std::alloc::{AllocError, Global};
 use std::collections::HashMap;
 use std::hash::Hash;
@@ -13,7 +14,7 @@ use std::marker::Model;
 #[derive(Drop)]
 pub struct Numbered<K: Eq + Hash> {
     keys: Vec<K>,
-    numbers: HashMap<K, usize>,
+    numbers: HashMap<K, usize, TableKeys>,
 }
 
 impl<K: Eq + Hash> Model for Numbered<K> {
@@ -29,12 +30,12 @@ impl<K: Eq + Hash> Model for Numbered<K> {
 
 impl<K: Eq + Hash + Drop> Numbered<K> {
     /// No keys yet.
-    pub fn new(alloc: Global) -> Self
+    pub fn new(alloc: Global, table: TableKeys) -> Self
         ensures { result ≡ [] }
     {
         Numbered {
             keys: Vec::new(alloc),
-            numbers: HashMap::new(alloc),
+            numbers: HashMap::with_hasher(alloc, table),
         }
     }
 
