@@ -94,7 +94,7 @@ pub fn read(alloc: Global, text: &[u8]) -> Result<ModelText, ModelTextFault>
     ensures { Answers text.now result }
 {
     let tokens = text_tokens(text);
-    let mut cursor = Cursor::new(tokens.left, Unwatched);
+    let mut cursor = Cursor::new(tokens.left.again(), Unwatched);
     let model = model_at(alloc, &mut cursor);
     match answer_of_text(&tokens, model, &cursor) {
         Ok((dims, partial)) => {

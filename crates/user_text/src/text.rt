@@ -80,7 +80,7 @@ pub fn parse(alloc: Global, text: &[u8], before: u32) -> Result<Vec<UserCommand>
         commands: before,
         inside: false,
     };
-    let mut cursor = Cursor::new(tokens.left, start);
+    let mut cursor = Cursor::new(tokens.left.again(), start);
     let read = commands_at(alloc, &mut cursor);
     match answer_of_text(&tokens, read, &cursor) {
         Ok(commands) => Ok(commands),
