@@ -10,6 +10,7 @@ pub mod PrintedLimits
 pub mod PrintedLevels
 pub mod PrintedExpressions
 mod OperatorComes
+mod Pairs
 mod Folding
 pub mod LookaheadExact
 pub mod WordsExact

@@ -1,6 +1,6 @@
 ghost use Rattle.std.specs.Prelude.{◌≡◌};
 ghost use Rattle.cube_lex.specs.Lexeme.{lexeme_of};
-ghost use Rattle.grammar.specs.Cursor.{Reads, lexemes};
+ghost use Rattle.grammar.specs.Cursor.{Reads};
 ghost use Rattle.grammar.specs.Reading.{starts, take_one};
 ghost use Rattle.expression_grammar.specs.Language.{operator, is_operator};
 ghost use Rattle.expression_grammar.specs.Levels.{table};
@@ -35,7 +35,7 @@ pub fn operator_comes<L: Language<C, S>, C, S: Scan<C>>(
     cursor: &Cursor<'_, S>,
     level: Level,
 ) -> bool
-    ensures { result ≡ starts (is_operator (table L.language level)) (lexemes cursor.now.tokens.now) }
+    ensures { result ≡ starts (is_operator (table L.language level)) cursor.now.tokens }
 {
     match cursor.peek() {
         Some(token) => L::operator_of(level, &token).is_some(),

@@ -1,10 +1,6 @@
 -- From an exact reader to what a parser answers.
-use Rattle.std.proofs.Common.{◌≡◌, ℕ, List, [], ◌∷◌, ◌++◌, length, Ok, Err, refl, sym, ◌∙◌, ap, subst, append-nil, append_assoc, Some, None, drop, map, ◌-◌, arith, length-append}
+use Rattle.std.proofs.Common.{◌≡◌, ℕ, List, [], ◌∷◌, ◌++◌, length, Ok, Err, refl, sym, ◌∙◌, ap, subst, append-nil, append_assoc, Some, None, drop, ◌-◌, arith, length-append}
 use Rattle.std.proofs.Math.Seq.{drop-append_seam}
-use Rattle.std.proofs.lemmas.List.{length-map, drop-map}
-use Rattle.cube_lex.specs.Lexeme.{Lexeme, lexeme_of}
-use Rattle.cube_lex.specs.declared.token.Token.{Token}
-use Rattle.grammar.specs.Cursor.{lexemes}
 use Rattle.grammar.specs.Grammar.{Grammar, done, both}
 use Rattle.grammar.specs.Watch.{Watch}
 use Rattle.grammar.specs.Fault.{IsText, Fails, line_at, IsSyntax, IsRefused}
@@ -112,7 +108,3 @@ whole_back G u a h = (u, [], a, sym (append-nil u), h, ([], [], tt, refl, (refl,
 
 pub exact_whole : {T R C A : Type 0} {W : Watch T R C} {G H : Grammar T A} {P : Reader T R C A} {S : List T → Type 0} → S [] → Exact W G H P S → Exact W G H (whole P) AtEnd
 exact_whole {W = W} {G = G} {H = H} {S = S} nothing e = exact_by (whole_into G) (whole_back H) (exact_both e (λ a. exact_both (exact_finish W) (λ _. exact_before (λ _ _. tt) (exact_gives W a)) (λ _ v b rest made stops. ap (λ x. x ++ rest) made.0 ∙ stops)) (λ a v b rest (x, y, one, tail, none, made) stops. subst S (sym (ap (λ z. z ++ rest) (tail ∙ ap (λ z. z ++ y) none.0 ∙ made.0) ∙ stops)) nothing))
-
--- the same rest, of tokens as they lie in memory
-pub rest_is : (given : List Token) (ts : List Lexeme) (left : ℕ) → map lexeme_of given ≡ ts → lexemes (drop (length given - left) given) ≡ drop (length ts - left) ts
-rest_is given ts left same = sym (drop-map lexeme_of (length given - left) given) ∙ ap (λ k. drop (k - left) (lexemes given)) (sym (length-map given lexeme_of)) ∙ ap (λ x. drop (length x - left) x) same

@@ -1,13 +1,12 @@
 -- From an exact reader to what is answered of the bytes of a whole text.
-use Rattle.std.proofs.Common.{◌≡◌, ℕ, ◌-◌, List, [], ◌∷◌, ◌++◌, length, drop, map, Option, Some, None, Result, Ok, Err, refl, sym, ◌∙◌, ap, subst}
+use Rattle.std.proofs.Common.{◌≡◌, ℕ, ◌-◌, List, [], ◌∷◌, ◌++◌, length, drop, Option, Some, None, Result, Ok, Err, refl, sym, ◌∙◌, ap, subst}
 use Rattle.cube_lex.specs.Lexed.{Lexed}
-use Rattle.cube_lex.specs.Lexeme.{Lexeme, lexeme_of}
+use Rattle.cube_lex.specs.Lexeme.{Lexeme}
 use Rattle.cube_lex.specs.Reading.{IsReading}
 use Rattle.cube_lex.specs.declared.fault.LexFault.{LexFault}
-use Rattle.cube_lex.specs.declared.token.Token.{Token}
 use Rattle.grammar.specs.Grammar.{Grammar}
 use Rattle.grammar.specs.Watch.{Watch}
-use Rattle.grammar.specs.Cursor.{lexemes, Gives, Reads}
+use Rattle.grammar.specs.Cursor.{Gives, Reads}
 use Rattle.grammar.specs.Fault.{IsText, Fails, IsSyntax}
 use Rattle.grammar.specs.Reading.{Unexpected, Refused, Reader, first}
 use Rattle.grammar.specs.Whole.{IsWholeText, FailsBefore, line_of, IsWholeSyntax, IsWholeRefused, AnswersWhole, answer_of_text}
@@ -93,11 +92,10 @@ whole_told e nothing view n bytes lexed fault (Err (stops.Unexpected left)) m re
 whole_told e nothing view n bytes lexed fault (Err (stops.Refused cause)) m rest reading given = whole_refused_told e n bytes lexed fault cause reading given
 
 -- the same of a function that was given a cursor over all tokens
-pub whole_answered : {X R C A : Type 0} {W : Watch Lexeme R C} {G : Grammar Lexeme A} {P : Reader Lexeme R C A} {S : List Lexeme → Type 0} → Exact W G G P S → S [] → (view : X → A) (bytes : List ℕ) (start : R) (lexed : Lexed) (fault : Option LexFault) (given : List Token) (read : Result X (Stop C)) (old new : Cursor R) (answer : Result X (TextFault C))
-    → IsReading bytes lexed fault → map lexeme_of given ≡ lexed.lexemes → old.tokens.now ≡ given → old.state ≡ start → Reads view P old read new → answer ≡ answer_of_text lexed fault read (lexemes new.tokens.now)
+pub whole_answered : {X R C A : Type 0} {W : Watch Lexeme R C} {G : Grammar Lexeme A} {P : Reader Lexeme R C A} {S : List Lexeme → Type 0} → Exact W G G P S → S [] → (view : X → A) (bytes : List ℕ) (start : R) (lexed : Lexed) (fault : Option LexFault) (read : Result X (Stop C)) (old new : Cursor R) (answer : Result X (TextFault C))
+    → IsReading bytes lexed fault → old.tokens ≡ lexed.lexemes → old.state ≡ start → Reads view P old read new → answer ≡ answer_of_text lexed fault read new.tokens
     → AnswersWhole view G W start bytes answer
-whole_answered {W = W} {G = G} {P = P} e nothing view bytes start lexed fault given read old new answer reading same tokens state reads is =
-    let all : lexemes old.tokens.now ≡ lexed.lexemes = ap lexemes tokens ∙ same in
-    let given_start : Gives view read new.state (lexemes new.tokens.now) (P start (lexemes old.tokens.now)) = subst (λ s. Gives view read new.state (lexemes new.tokens.now) (P s (lexemes old.tokens.now))) state reads in
-    let given_all : Gives view read new.state (lexemes new.tokens.now) (P start lexed.lexemes) = subst (λ ts. Gives view read new.state (lexemes new.tokens.now) (P start ts)) all given_start in
-    subst (AnswersWhole view G W start bytes) (sym is) (whole_told e nothing view start bytes lexed fault read new.state (lexemes new.tokens.now) reading given_all)
+whole_answered {W = W} {G = G} {P = P} e nothing view bytes start lexed fault read old new answer reading tokens state reads is =
+    let given_start : Gives view read new.state new.tokens (P start old.tokens) = subst (λ s. Gives view read new.state new.tokens (P s old.tokens)) state reads in
+    let given_all : Gives view read new.state new.tokens (P start lexed.lexemes) = subst (λ ts. Gives view read new.state new.tokens (P start ts)) tokens given_start in
+    subst (AnswersWhole view G W start bytes) (sym is) (whole_told e nothing view start bytes lexed fault read new.state new.tokens reading given_all)

@@ -1,15 +1,10 @@
 -- What private functions say of a cursor.
-use Rattle.std.specs.Prelude.{◌≡◌, ℕ, List, [], ◌∷◌, map, Option, Some, Result, Ok, Err}
-use Rattle.cube_lex.specs.Lexeme.{Lexeme, lexeme_of}
-use Rattle.cube_lex.specs.declared.token.Token.{Token}
+use Rattle.std.specs.Prelude.{◌≡◌, ℕ, List, [], ◌∷◌, Option, Some, Result, Ok, Err}
+use Rattle.cube_lex.specs.Lexeme.{Lexeme}
 use Rattle.grammar.specs.declared.stop.Stop.{Stop}
 use Rattle.grammar.specs.declared.stop.Stop.TheVariants as stops
 use Rattle.grammar.specs.declared.cursor.Cursor.{Cursor}
 use Rattle.grammar.specs.Reading.{Unexpected, Refused, Read, Reader}
-
--- the tokens without where they lie in memory
-abbrev pub lexemes : List Token → List Lexeme
-lexemes tokens = map lexeme_of tokens
 
 -- what a function returned, seen by view, and the state and the tokens that it left, are what the reader gives, unless
 -- memory ran out
@@ -22,7 +17,7 @@ Gives view (Err (stops.Refused cause)) state tokens read = read ≡ Err (Refused
 -- a function read from the cursor what the reader reads
 abbrev pub Reads : {X S C A : Type 0} → (X → A) → Reader Lexeme S C A → Cursor S → Result X (Stop C) → Cursor S → Type 0
 Reads view P old result new =
-    Gives view result new.state (lexemes new.tokens.now) (P old.state (lexemes old.tokens.now))
+    Gives view result new.state new.tokens (P old.state old.tokens)
 
 abbrev pub any_token : Lexeme → Option (Unit {0})
 any_token t = Some tt

@@ -2,7 +2,7 @@ ghost use Rattle.std.specs.Prelude.{◌≡◌, ◌<◌, ◌≤◌, length, OnOk}
 ghost use Rattle.std.specs.Str.{bytes_eq, str_eq_ignore_ascii_case};
 ghost use Rattle.cube_lex.specs.Lexeme.{lexeme_of};
 ghost use Rattle.grammar.specs.Reading.{starts, take_one, finish};
-ghost use Rattle.grammar.specs.Cursor.{lexemes, Reads};
+ghost use Rattle.grammar.specs.Cursor.{Reads};
 ghost use Rattle.grammar.specs.Lists.{read_minus};
 ghost use Rattle.grammar.specs.Tokens.{is_sign, is_word};
 ghost use Rattle.grammar.specs.Tokens as tokens;
@@ -33,7 +33,7 @@ pub fn is_word(token: &Token<'_>, word: &[u8]) -> bool
 
 /// Whether this sign comes next.
 pub fn sign_comes<S>(cursor: &Cursor<'_, S>, sign: &[u8]) -> bool
-    ensures { result ≡ starts (tokens.is_sign sign.now) (lexemes cursor.now.tokens.now) }
+    ensures { result ≡ starts (tokens.is_sign sign.now) cursor.now.tokens }
 {
     match cursor.peek() {
         Some(token) => is_sign(&token, sign),
@@ -43,7 +43,7 @@ pub fn sign_comes<S>(cursor: &Cursor<'_, S>, sign: &[u8]) -> bool
 
 /// Whether this word comes next.
 pub fn word_comes<S>(cursor: &Cursor<'_, S>, word: &[u8]) -> bool
-    ensures { result ≡ starts (tokens.is_word word.now) (lexemes cursor.now.tokens.now) }
+    ensures { result ≡ starts (tokens.is_word word.now) cursor.now.tokens }
 {
     match cursor.peek() {
         Some(token) => is_word(&token, word),
@@ -53,7 +53,7 @@ pub fn word_comes<S>(cursor: &Cursor<'_, S>, word: &[u8]) -> bool
 
 /// Whether a word comes next.
 pub fn any_word_comes<S>(cursor: &Cursor<'_, S>) -> bool
-    ensures { result ≡ starts tokens.is_any_word (lexemes cursor.now.tokens.now) }
+    ensures { result ≡ starts tokens.is_any_word cursor.now.tokens }
 {
     match cursor.peek() {
         Some(token) => match token.kind {
@@ -66,7 +66,7 @@ pub fn any_word_comes<S>(cursor: &Cursor<'_, S>) -> bool
 
 /// Whether a number comes next.
 pub fn number_comes<S>(cursor: &Cursor<'_, S>) -> bool
-    ensures { result ≡ starts tokens.is_number (lexemes cursor.now.tokens.now) }
+    ensures { result ≡ starts tokens.is_number cursor.now.tokens }
 {
     match cursor.peek() {
         Some(token) => match token.kind {
@@ -79,7 +79,7 @@ pub fn number_comes<S>(cursor: &Cursor<'_, S>) -> bool
 
 /// Whether a quoted text comes next.
 pub fn text_comes<S>(cursor: &Cursor<'_, S>) -> bool
-    ensures { result ≡ starts tokens.is_text (lexemes cursor.now.tokens.now) }
+    ensures { result ≡ starts tokens.is_text cursor.now.tokens }
 {
     match cursor.peek() {
         Some(token) => match token.kind {
@@ -93,7 +93,7 @@ pub fn text_comes<S>(cursor: &Cursor<'_, S>) -> bool
 /// Takes this sign.
 pub fn sign<C, S: Scan<C>>(cursor: &mut Cursor<'_, S>, sign: &[u8]) -> Result<(), Stop<C>>
     ensures read { Reads (λ _. tt) (take_one S.scanned (tokens.sign sign.now)) cursor.old result cursor.new }
-    ensures shorter { OnOk result (length cursor.new.tokens.now < length cursor.old.tokens.now) }
+    ensures shorter { OnOk result (length cursor.new.tokens < length cursor.old.tokens) }
 {
     if sign_comes(cursor, sign) {
         cursor.advance()
@@ -106,7 +106,7 @@ pub fn sign<C, S: Scan<C>>(cursor: &mut Cursor<'_, S>, sign: &[u8]) -> Result<()
 #[tactic(auto, unfolding(crate::specs::Lists::read_minus))]
 pub fn minus<C, S: Scan<C>>(cursor: &mut Cursor<'_, S>) -> Result<bool, Stop<C>>
     ensures read { Reads (λ negative. negative) (read_minus S.scanned) cursor.old result cursor.new }
-    ensures no_longer { OnOk result (length cursor.new.tokens.now ≤ length cursor.old.tokens.now) }
+    ensures no_longer { OnOk result (length cursor.new.tokens ≤ length cursor.old.tokens) }
 {
     if sign_comes(cursor, b"-") {
         sign(cursor, b"-")?;
@@ -119,7 +119,7 @@ pub fn minus<C, S: Scan<C>>(cursor: &mut Cursor<'_, S>) -> Result<bool, Stop<C>>
 /// Takes this word, and gives its line.
 pub fn word<C, S: Scan<C>>(cursor: &mut Cursor<'_, S>, word: &[u8]) -> Result<u32, Stop<C>>
     ensures read { Reads (λ line. line) (take_one S.scanned (tokens.word word.now)) cursor.old result cursor.new }
-    ensures shorter { OnOk result (length cursor.new.tokens.now < length cursor.old.tokens.now) }
+    ensures shorter { OnOk result (length cursor.new.tokens < length cursor.old.tokens) }
 {
     match cursor.peek() {
         Some(token) if is_word(&token, word) => {

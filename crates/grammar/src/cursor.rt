@@ -3,10 +3,10 @@ ghost use Rattle.std.specs.Option.{option_map};
 ghost use Rattle.cube_lex.specs.Lexeme.{Lexeme, lexeme_of};
 ghost use Rattle.grammar.specs.Fault.{line_at};
 ghost use Rattle.grammar.specs.Reading.{first, take_one};
-ghost use Rattle.grammar.specs.Cursor.{lexemes, Reads, any_token, next_line};
+ghost use Rattle.grammar.specs.Cursor.{Reads, any_token, next_line};
 
 use crate::stop::Stop;
-use cube_lex::Token;
+use cube_lex::{Token, TokensLeft};
 
 /// What a text is watched by, token by token: the state that its limits and further causes `C` depend on.
 pub trait Scan<C> {
@@ -21,14 +21,14 @@ pub trait Scan<C> {
 /// A place in a text: the tokens that are left, and the state of the watch.
 #[derive(Drop)]
 pub struct Cursor<'a, S> {
-    pub tokens: &'a [Token<'a>],
+    pub tokens: TokensLeft<'a>,
     pub state: S,
 }
 
 impl<'a, S> Cursor<'a, S> {
     /// The place before these tokens.
-    pub fn new(tokens: &'a [Token<'a>], state: S) -> Cursor<'a, S>
-        ensures tokens { result.tokens.now ≡ tokens.now }
+    pub fn new(tokens: TokensLeft<'a>, state: S) -> Cursor<'a, S>
+        ensures tokens { result.tokens ≡ tokens.entry }
         ensures state { result.state ≡ state }
     {
         Cursor { tokens, state }
@@ -36,14 +36,14 @@ impl<'a, S> Cursor<'a, S> {
 
     /// The next token.
     pub fn peek(&self) -> Option<Token<'a>>
-        ensures { option_map lexeme_of result ≡ first (lexemes self.now.tokens.now) }
+        ensures { option_map lexeme_of result ≡ first self.now.tokens }
     {
-        self.tokens.first().copied()
+        self.tokens.first()
     }
 
     /// The line of the next token; at the text's end, 0.
     pub fn line(&self) -> u32
-        ensures { result ≡ next_line (lexemes self.now.tokens.now) }
+        ensures { result ≡ next_line self.now.tokens }
     {
         match self.peek() {
             Some(token) => token.line,
@@ -53,7 +53,7 @@ impl<'a, S> Cursor<'a, S> {
 
     /// Why a reader stops where the next token fits nothing.
     pub fn unexpected<C>(&self) -> Stop<C>
-        ensures { result ≡ Stop.Unexpected (length self.now.tokens.now) }
+        ensures { result ≡ Stop.Unexpected (length self.now.tokens) }
     {
         Stop::Unexpected(self.tokens.len())
     }
@@ -63,7 +63,7 @@ impl<'a, S> Cursor<'a, S> {
     where
         S: Scan<C>,
         ensures read { Reads (λ _. tt) (take_one S.scanned any_token) self.old result self.new }
-        ensures shorter { OnOk result (length self.new.tokens.now < length self.old.tokens.now) }
+        ensures shorter { OnOk result (length self.new.tokens < length self.old.tokens) }
     {
         let Some(token) = self.peek() else {
             return Err(self.unexpected());
@@ -71,7 +71,7 @@ impl<'a, S> Cursor<'a, S> {
         if let Err(cause) = self.state.scan(&token) {
             return Err(Stop::Refused(cause));
         }
-        self.tokens = &self.tokens[1..];
+        self.tokens.advance();
         Ok(())
     }
 }
@@ -90,13 +90,15 @@ impl<C> Scan<C> for Unwatched {
     }
 }
 
-/// The line of the place at which so many tokens are left: that of the next token, or of the text's end.
-pub fn line_left(tokens: &[Token<'_>], end_line: u32, left: usize) -> u32
-    ensures { result ≡ line_at (λ t. t.line) end_line (lexemes (drop (length tokens.now - left) tokens.now)) }
+/// The line of the place at which so many of these tokens are left: that of the next token, or of the text's end.
+pub fn line_left(mut tokens: TokensLeft<'_>, end_line: u32, left: usize) -> u32
+    ensures { result ≡ line_at (λ t. t.line) end_line (drop (length tokens.entry - left) tokens.entry) }
 {
-    let at = tokens.len().saturating_sub(left);
-    match &tokens[at..] {
-        [token, ..] => token.line,
-        [] => end_line,
+    'token: for _ in 0..tokens.len().saturating_sub(left) {
+        tokens.advance();
+    }
+    match tokens.first() {
+        Some(token) => token.line,
+        None => end_line,
     }
 }

@@ -1,7 +1,7 @@
 //! The engine that all exact texts are read with: grammars as relations, readers of the same shape, and one proof that
 //! such a reader is exact.
 //!
-//! A parser of a whole text takes its tokens (`cube_lex::tokens_until`), reads them over a [`Cursor`] by functions that
+//! A parser of a whole text takes its tokens (`cube_lex::text_tokens`), reads them over a [`Cursor`] by functions that
 //! follow its grammar line for line, and hands what they return to [`answer_of_text`], which counts a lexical fault as
 //! a token that fits nothing. Lists are read by [`listed`] and [`repeated`], whatever their items.
 #![tactic(auto)]

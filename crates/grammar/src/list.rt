@@ -1,6 +1,6 @@
 ghost use Rattle.std.specs.Prelude.{◌≡◌, ◌∷◌, [], Bool};
 ghost use Rattle.cube_lex.specs.Lexeme.{Lexeme};
-ghost use Rattle.grammar.specs.Cursor.{lexemes, Reads};
+ghost use Rattle.grammar.specs.Cursor.{Reads};
 ghost use Rattle.grammar.specs.Reading.{Reader, starts, all_of};
 ghost use Rattle.grammar.specs.Lists.{read_behind, read_further, read_listed, read_names};
 
@@ -34,7 +34,7 @@ pub trait RepeatedItem<T, C, S: Scan<C>> {
 
     /// Whether one more comes.
     fn comes(&self, cursor: &Cursor<'_, S>) -> bool
-        ensures { result ≡ starts (begins self.now) (lexemes cursor.now.tokens.now) };
+        ensures { result ≡ starts (begins self.now) cursor.now.tokens };
 
     /// Reads one more.
     fn read_next(&self, alloc: Global, cursor: &mut Cursor<'_, S>) -> Result<T, Stop<C>>

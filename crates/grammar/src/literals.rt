@@ -13,7 +13,7 @@ use std::alloc::Global;
 /// Takes a number, as `12.5`. Decimals past the sixth are rounded. One out of range doesn't fit.
 pub fn money<C, S: Scan<C>>(cursor: &mut Cursor<'_, S>) -> Result<Money, Stop<C>>
     ensures read { Reads (λ number. number) (take_one S.scanned tokens.money) cursor.old result cursor.new }
-    ensures shorter { OnOk result (length cursor.new.tokens.now < length cursor.old.tokens.now) }
+    ensures shorter { OnOk result (length cursor.new.tokens < length cursor.old.tokens) }
 {
     let Some(token) = cursor.peek() else {
         return Err(cursor.unexpected());
@@ -49,7 +49,7 @@ fn is_file(bytes: &[u8]) -> bool
 /// Takes a quoted text that names a file, which is UTF-8 and not empty.
 pub fn file<C, S: Scan<C>>(alloc: Global, cursor: &mut Cursor<'_, S>) -> Result<Vec<u8>, Stop<C>>
     ensures read { Reads (λ bytes. bytes.items) (take_one S.scanned tokens.file) cursor.old result cursor.new }
-    ensures shorter { OnOk result (length cursor.new.tokens.now < length cursor.old.tokens.now) }
+    ensures shorter { OnOk result (length cursor.new.tokens < length cursor.old.tokens) }
 {
     let Some(token) = cursor.peek() else {
         return Err(cursor.unexpected());

@@ -18,7 +18,7 @@ pub fn located_name<C, S: Scan<C>>(
     cursor: &mut Cursor<'_, S>,
 ) -> Result<(u32, Name), Stop<C>>
     ensures read { Reads (λ pair. pair) (take_one S.scanned (located tokens.name)) cursor.old result cursor.new }
-    ensures shorter { OnOk result (length cursor.new.tokens.now < length cursor.old.tokens.now) }
+    ensures shorter { OnOk result (length cursor.new.tokens < length cursor.old.tokens) }
 {
     let line = cursor.line();
     let name = name(alloc, cursor)?;
@@ -28,7 +28,7 @@ pub fn located_name<C, S: Scan<C>>(
 /// Takes a whole number, which is below 2^31, and gives it with its line.
 pub fn located_whole<C, S: Scan<C>>(cursor: &mut Cursor<'_, S>) -> Result<(u32, u32), Stop<C>>
     ensures read { Reads (λ pair. pair) (take_one S.scanned (located tokens.whole)) cursor.old result cursor.new }
-    ensures shorter { OnOk result (length cursor.new.tokens.now < length cursor.old.tokens.now) }
+    ensures shorter { OnOk result (length cursor.new.tokens < length cursor.old.tokens) }
 {
     let line = cursor.line();
     let number = whole(cursor)?;
@@ -41,7 +41,7 @@ fn file_list<C, S: Scan<C>>(
     cursor: &mut Cursor<'_, S>,
 ) -> Result<ListOf<u8>, Stop<C>>
     ensures read { Reads (λ bytes. bytes) (take_one S.scanned tokens.file) cursor.old result cursor.new }
-    ensures shorter { OnOk result (length cursor.new.tokens.now < length cursor.old.tokens.now) }
+    ensures shorter { OnOk result (length cursor.new.tokens < length cursor.old.tokens) }
 {
     let bytes = file(alloc, cursor)?;
     Ok(ListOf::new(bytes))
@@ -53,7 +53,7 @@ pub fn located_file<C, S: Scan<C>>(
     cursor: &mut Cursor<'_, S>,
 ) -> Result<(u32, ListOf<u8>), Stop<C>>
     ensures read { Reads (λ pair. pair) (take_one S.scanned (located tokens.file)) cursor.old result cursor.new }
-    ensures shorter { OnOk result (length cursor.new.tokens.now < length cursor.old.tokens.now) }
+    ensures shorter { OnOk result (length cursor.new.tokens < length cursor.old.tokens) }
 {
     let line = cursor.line();
     let bytes = file_list(alloc, cursor)?;

@@ -20,7 +20,7 @@ const WHOLE_END: u64 = 2_147_483_648;
 /// Takes a quoted text, and gives its bytes.
 pub fn text<C, S: Scan<C>>(alloc: Global, cursor: &mut Cursor<'_, S>) -> Result<Vec<u8>, Stop<C>>
     ensures read { Reads (λ bytes. bytes.items) (take_one S.scanned tokens.text) cursor.old result cursor.new }
-    ensures shorter { OnOk result (length cursor.new.tokens.now < length cursor.old.tokens.now) }
+    ensures shorter { OnOk result (length cursor.new.tokens < length cursor.old.tokens) }
 {
     let Some(token) = cursor.peek() else {
         return Err(cursor.unexpected());
@@ -38,7 +38,7 @@ pub fn text<C, S: Scan<C>>(alloc: Global, cursor: &mut Cursor<'_, S>) -> Result<
 /// Takes a quoted text that is a name.
 pub fn name<C, S: Scan<C>>(alloc: Global, cursor: &mut Cursor<'_, S>) -> Result<Name, Stop<C>>
     ensures read { Reads (λ name. name) (take_one S.scanned tokens.name) cursor.old result cursor.new }
-    ensures shorter { OnOk result (length cursor.new.tokens.now < length cursor.old.tokens.now) }
+    ensures shorter { OnOk result (length cursor.new.tokens < length cursor.old.tokens) }
 {
     let Some(token) = cursor.peek() else {
         return Err(cursor.unexpected());
@@ -97,7 +97,7 @@ fn whole_of(piece: &[u8]) -> Option<u32>
 /// Takes a whole number, which is below 2^31.
 pub fn whole<C, S: Scan<C>>(cursor: &mut Cursor<'_, S>) -> Result<u32, Stop<C>>
     ensures read { Reads (λ n. n) (take_one S.scanned tokens.whole) cursor.old result cursor.new }
-    ensures shorter { OnOk result (length cursor.new.tokens.now < length cursor.old.tokens.now) }
+    ensures shorter { OnOk result (length cursor.new.tokens < length cursor.old.tokens) }
 {
     let Some(token) = cursor.peek() else {
         return Err(cursor.unexpected());

@@ -14,7 +14,7 @@ pub fn any_word<C, S: Scan<C>>(
     cursor: &mut Cursor<'_, S>,
 ) -> Result<Vec<u8>, Stop<C>>
     ensures read { Reads (λ bytes. bytes.items) (take_one S.scanned tokens.any_word) cursor.old result cursor.new }
-    ensures shorter { OnOk result (length cursor.new.tokens.now < length cursor.old.tokens.now) }
+    ensures shorter { OnOk result (length cursor.new.tokens < length cursor.old.tokens) }
 {
     let Some(token) = cursor.peek() else {
         return Err(cursor.unexpected());
@@ -35,7 +35,7 @@ pub fn capital_word<C, S: Scan<C>>(
     cursor: &mut Cursor<'_, S>,
 ) -> Result<Vec<u8>, Stop<C>>
     ensures read { Reads (λ bytes. bytes.items) (take_one S.scanned tokens.capital_word) cursor.old result cursor.new }
-    ensures shorter { OnOk result (length cursor.new.tokens.now < length cursor.old.tokens.now) }
+    ensures shorter { OnOk result (length cursor.new.tokens < length cursor.old.tokens) }
 {
     let Some(token) = cursor.peek() else {
         return Err(cursor.unexpected());

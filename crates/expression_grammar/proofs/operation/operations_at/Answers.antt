@@ -1,7 +1,5 @@
-use Rattle.std.proofs.Common.{refl, arith}
-use Rattle.std.proofs.lemmas.List.{length-map}
+use Rattle.std.proofs.Common.{arith}
 use Rattle.std.proofs.lemmas.Result.{err_from_is_err_and}
-use Rattle.grammar.specs.Cursor.{lexemes}
 use Rattle.expression_grammar.specs.Language.{is_operator}
 use Rattle.expression_grammar.specs.Levels.{table}
 use Rattle.expression_grammar.specs.Readers.Reading.{read_operation, read_behind}
@@ -13,7 +11,7 @@ unfolding read_behind
 operation-init g c =
     begun_folding (is_operator (table g.L.Language.language c.args.level))
     (read_operation g.S.Scan.scanned (table g.L.Language.language c.args.level) (g.O.Operand.operand (g.I.Inner.reads c.args.inner.now) c.args.want))
-    g.L.Language.language.joined c.args.head.0 c.args.head.1 c.args.cursor.now.state (lexemes c.args.cursor.now.tokens.now) _ (simp length-map refl)
+    g.L.Language.language.joined c.args.head.0 c.args.head.1 c.args.cursor.now.state c.args.cursor.now.tokens _ c.len-turns.ensures
 
 pub operation-preserved : goal.operation-preserved
 operation-preserved g c = folds_further c.operation.invariant c.operation-test.true c.if-not-operator_comes.ensures c.in_ok-op.ensures c.in_ok-tree.ensures

@@ -1,4 +1,3 @@
-use Rattle.grammar.specs.Cursor.{lexemes}
 use Rattle.expression_grammar.specs.Language.{is_operator}
 use Rattle.expression_grammar.specs.Levels.{table}
 use Rattle.expression_grammar.specs.Readers.Reading.{read_operation, read_behind}
@@ -10,5 +9,5 @@ invariant-operation g l =
     let level : _ = table g.L.Language.language l.fn.level in
     let operand : _ = g.O.Operand.operand (g.I.Inner.reads l.fn.inner) l.fn.want in
     Folding (is_operator level) (read_operation g.S.Scan.scanned level operand) g.L.Language.language.joined l.tree l.sort
-    l.cursor.state (lexemes l.cursor.tokens.now) l.counter l.turns
-    (read_behind g.S.Scan.scanned g.L.Language.language.joined level operand l.fn.head l.fn.cursor.state (lexemes l.fn.cursor.tokens.now))
+    l.cursor.state l.cursor.tokens l.counter l.turns
+    (read_behind g.S.Scan.scanned g.L.Language.language.joined level operand l.fn.head l.fn.cursor.state l.fn.cursor.tokens)
