@@ -12,3 +12,7 @@ pub mod Wholes
 pub mod WellFormed
 pub mod Spaced
 pub mod Adding
+pub mod Aheads
+pub mod Steps
+pub mod Counting
+pub mod Listing

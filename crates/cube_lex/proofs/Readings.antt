@@ -68,7 +68,7 @@ lexemes-more text at (p ∷ ps) part =
       onto (Some x) = refl
 
 -- the line behind some bytes
-line-more : (text : List ℕ) (at : ℕ) (bytes after : List ℕ) → text ≡ take at text ++ (bytes ++ after) → at ≤ length text
+pub line-more : (text : List ℕ) (at : ℕ) (bytes after : List ℕ) → text ≡ take at text ++ (bytes ++ after) → at ≤ length text
     → (take (at + length bytes) text ≡ take at text ++ bytes) × (line_at text (at + length bytes) ≡ line_at text at + count_by is_line_end bytes)
 line-more text at bytes after text-is within =
     let front_len : length (take at text) ≡ at = length-take at text ∙ omega arith in
@@ -79,7 +79,7 @@ line-more text at bytes after text-is within =
     (front, ap (λ bs. 1 + count_by is_line_end bs) front ∙ ap (λ n. 1 + n) (sum_by-append _ (take at text) bytes) ∙ omega arith)
 
 -- a mark is no more than the text, and ends no line
-mark-facts : (text : List ℕ) → (mark_len text ≤ length text) × (line_at text (mark_len text) ≡ 1)
+pub mark-facts : (text : List ℕ) → (mark_len text ≤ length text) × (line_at text (mark_len text) ≡ 1)
 mark-facts text =
     elim (starts_with nat_eq text (0xEF ∷ 0xBB ∷ 0xBF ∷ [])) as (λ b. starts_with nat_eq text (0xEF ∷ 0xBB ∷ 0xBF ∷ []) ≡ b → (cond b 3 0 ≤ length text) × (line_at text (cond b 3 0) ≡ 1)) [
       | true ↦ λ marked.

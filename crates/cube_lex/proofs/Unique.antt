@@ -148,7 +148,7 @@ long-no_part rest token k bytes after is e =
       too-short (Some l) part-is k-is len = omega (arith, part-is.1, token.long, len)
 
 -- where a text stops no part stands
-stops-no_part : (at : ℕ) (rest : List ℕ) (fault : Option LexFault) (k : Option Kind) (bytes after : List ℕ) → Stops at rest fault → IsPart k bytes after → rest ≡ bytes ++ after → ⊥
+pub stops-no_part : (at : ℕ) (rest : List ℕ) (fault : Option LexFault) (k : Option Kind) (bytes after : List ℕ) → Stops at rest fault → IsPart k bytes after → rest ≡ bytes ++ after → ⊥
 stops-no_part at rest None k bytes after stops is e =
     let part = part-stands k bytes after is in
     let first = first-tells part.0 bytes (stands-is part.0 bytes after part.2) in
@@ -238,7 +238,7 @@ stops-only at rest (Some (TooLong p)) (Some (TooLong q)) x y = ap (λ n. Some (T
 stops-only at rest (Some (TooLong p)) (Some Memory) x y = absurd y
 stops-only at rest (Some Memory) (Some g) x y = absurd x
 
-part-is : (p q : Part) → p.kind ≡ q.kind → p.bytes ≡ q.bytes → p ≡ q
+pub part-is : (p q : Part) → p.kind ≡ q.kind → p.bytes ≡ q.bytes → p ≡ q
 part-is p q kinds bytes = ap (λ k. record { kind = k; bytes = p.bytes }) kinds ∙ ap (λ bs. record { kind = q.kind; bytes = bs }) bytes
 
 -- up to where it stops, a text has one division into parts

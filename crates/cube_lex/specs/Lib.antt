@@ -1,8 +1,12 @@
+pub mod Ahead
+pub mod AheadProp
 pub mod Bytes
 pub mod Fault
 pub mod Inside
 pub mod Lexeme
 pub mod Lexed
+pub mod Listed
+pub mod Onto
 pub mod Parts
 pub mod Quoted
 pub mod Reading

@@ -1,7 +1,9 @@
-ghost use Rattle.std.specs.Prelude.{◌≡◌, ◌<◌, ◌↔◌, map, All, length, IfOk, IsTrue, IsSomeAnd, option_map, slice_get};
+ghost use Rattle.std.specs.Prelude.{◌≡◌, ◌<◌, ◌↔◌, map, All, length, drop, IfOk, IsTrue, IsSomeAnd, option_map, slice_get};
 ghost use Rattle.cube_lex.specs.Quoted.{quoted, unquoted};
 ghost use Rattle.cube_lex.specs.declared.token.Kind.TheVariants.{Text};
 
+use crate::left::TokensLeft;
+use crate::place::Place;
 use crate::quoted::unquoted;
 use crate::token::{Kind, Token};
 use std::alloc::{AllocError, Global};
@@ -10,31 +12,38 @@ use std::marker::Model;
 /// The tokens of a text up to its first fault, in order. They borrow the text.
 #[derive(Drop)]
 pub struct Tokens<'a> {
+    text: &'a [u8],
     tokens: Vec<Token<'a>>,
     end_line: u32,
 }
 
 impl<'a> Model for Tokens<'a> {
-    ghost use Rattle.std.specs.Prelude.{map, All};
+    ghost use Rattle.std.specs.Prelude.{map};
     ghost use Rattle.cube_lex.specs.Lexeme.{lexeme_of};
-    ghost use Rattle.cube_lex.specs.Lexed.{Lexed, lexed_of, IsWellFormed};
+    ghost use Rattle.cube_lex.specs.Lexed.{Lexed, lexed_of};
+    ghost use Rattle.cube_lex.specs.Listed.{AreListed};
 
     ghost Value = { Lexed };
 
     ghost view = { λ t. lexed_of t.tokens.items t.end_line };
 
-    ghost invariant = { λ t. All IsWellFormed (map lexeme_of t.tokens.items) };
+    ghost invariant = { λ t. AreListed t.text.now (map lexeme_of t.tokens.items) };
 }
 
 impl<'a> Tokens<'a> {
     ghost use Rattle.cube_lex.specs.Lexeme.{lexeme_of};
     ghost use Rattle.cube_lex.specs.Lexed.{lexed_of, IsWellFormed};
+    ghost use Rattle.cube_lex.specs.Listed.{AreListed};
 
-    pub(crate) fn new(tokens: Vec<Token<'a>>, end_line: u32) -> Self
-        requires { All IsWellFormed (map lexeme_of tokens.items) }
+    pub(crate) fn new(text: &'a [u8], tokens: Vec<Token<'a>>, end_line: u32) -> Self
+        requires { AreListed text.now (map lexeme_of tokens.items) }
         ensures { result ≡ lexed_of tokens.entry.items end_line }
     {
-        Tokens { tokens, end_line }
+        Tokens {
+            text,
+            tokens,
+            end_line,
+        }
     }
 
     /// How many tokens there are.
@@ -56,6 +65,20 @@ impl<'a> Tokens<'a> {
         ensures well_formed { All IsWellFormed self.now.lexemes }
     {
         self.tokens.as_slice()
+    }
+
+    /// The tokens from this place on, which take no memory.
+    pub fn left_from(&self, from: usize) -> TokensLeft<'a>
+        ensures tokens { result ≡ drop from self.now.lexemes }
+        ensures well_formed { All IsWellFormed self.now.lexemes }
+    {
+        match self.get(from) {
+            Some(token) => {
+                let left = self.len() - from;
+                TokensLeft::new(Place::new(self.text, token.start, token.line, left))
+            }
+            None => TokensLeft::new(Place::end()),
+        }
     }
 
     pub fn get(&self, i: usize) -> Option<Token<'a>>

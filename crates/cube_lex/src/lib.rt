@@ -2,20 +2,27 @@
 #![tactic(auto)]
 
 mod fault;
+mod found;
 mod front;
+mod left;
 mod lexed;
+mod lines;
 mod pieces;
+mod place;
 mod quoted;
 mod reading;
 mod signs;
+mod text;
 mod token;
 mod written;
 
 pub use fault::LexFault;
+pub use left::TokensLeft;
 pub use lexed::Tokens;
 pub use pieces::{Piece, write_line, write_pieces};
 pub use quoted::unquoted;
 pub use reading::{tokens, tokens_until};
+pub use text::{TextTokens, text_tokens};
 pub use token::{Kind, Token};
 pub use written::{
     what_is_written_has_a_reading, what_is_written_is_read, write_line_end, write_number,

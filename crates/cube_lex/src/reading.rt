@@ -1,33 +1,16 @@
 ghost use Rattle.std.specs.Prelude.{◌≡◌, ◌≢◌, ◌⊎◌, ℕ, ◌<◌, ◌≤◌, ◌^◌, length, IfOk, IfErr, Ok, Err, Some, None, Option};
-ghost use Rattle.std.specs.Prelude.{count_by, MatchResult, All};
-ghost use Rattle.cube_lex.specs.Bytes.{is_line_end};
+ghost use Rattle.std.specs.Prelude.{MatchResult, All};
 ghost use Rattle.cube_lex.specs.Lexed.{Lexed, IsWellFormed};
-ghost use Rattle.cube_lex.specs.Reading.{IsReading, mark_len};
+ghost use Rattle.cube_lex.specs.Reading.{IsReading};
 ghost use Rattle.cube_lex.specs.declared.fault.LexFault.{LexFault};
 ghost use Rattle.cube_lex.specs.declared.fault.LexFault.TheVariants.{Memory};
 
 use crate::fault::LexFault;
 use crate::front::front_of;
 use crate::lexed::Tokens;
+use crate::lines::{MAX_TEXT_BYTES, line_ends, mark_len};
 use crate::token::Token;
 use std::alloc::{AllocError, Global};
-
-/// How many bytes a text may have.
-const MAX_TEXT_BYTES: usize = 1 << 30;
-
-const MARK: [u8; 3] = [0xEF, 0xBB, 0xBF];
-
-fn mark_len(text: &[u8]) -> usize
-    ensures { result ≡ mark_len text.now }
-{
-    if text.starts_with(&MARK) { 3 } else { 0 }
-}
-
-fn line_ends(bytes: &[u8]) -> usize
-    ensures { result ≡ count_by is_line_end bytes.now }
-{
-    bytes.iter().filter(|byte| **byte == b'\n').count()
-}
 
 fn read(alloc: Global, text: &[u8]) -> Result<(Tokens<'_>, Option<LexFault>), AllocError>
     requires { length text.now ≤ 2 ^ 30 }
@@ -40,7 +23,7 @@ fn read(alloc: Global, text: &[u8]) -> Result<(Tokens<'_>, Option<LexFault>), Al
     'parts: while !rest.is_empty() {
         let front = match front_of(rest, at) {
             Ok(front) => front,
-            Err(fault) => return Ok((Tokens::new(tokens, line), Some(fault))),
+            Err(fault) => return Ok((Tokens::new(text, tokens, line), Some(fault))),
         };
         if let Some(kind) = front.kind {
             tokens.push(Token {
@@ -54,7 +37,7 @@ fn read(alloc: Global, text: &[u8]) -> Result<(Tokens<'_>, Option<LexFault>), Al
         at += front.bytes.len();
         rest = front.after;
     }
-    Ok((Tokens::new(tokens, line), None))
+    Ok((Tokens::new(text, tokens, line), None))
 }
 
 /// The tokens of a text up to its first fault, and that fault, which is never `Memory`; `None` where the text has none.
@@ -73,7 +56,7 @@ pub fn tokens_until(
         let (within, _) = text.split_at(MAX_TEXT_BYTES);
         let end_line = 1 + line_ends(within) as u32;
         let fault = LexFault::TooLong(MAX_TEXT_BYTES);
-        return Ok((Tokens::new(Vec::new(alloc), end_line), Some(fault)));
+        return Ok((Tokens::new(&[], Vec::new(alloc), end_line), Some(fault)));
     }
     read(alloc, text)
 }

@@ -1,5 +1,6 @@
 use Rattle.std.proofs.Common.{sym, eqb-true, length, refl}
-use Rattle.cube_lex.proofs.Readings.{going-blank, going-token, going-formed, reading-done, reading-stopped}
+use Rattle.cube_lex.proofs.Readings.{going-blank, going-token, reading-done, reading-stopped}
+use Rattle.cube_lex.proofs.Listing.{going-listed}
 use Rattle.cube_lex.proofs.reading.read.Goals as goal
 use Rattle.cube_lex.proofs.reading.read.Goals.{in-Some+in_ok-push, in_default}
 
@@ -25,7 +26,7 @@ returns c = rw c.new-2.ensures
     (reading-done c.args.text.now c.parts.tokens.items c.parts.at c.parts.line c.parts.rest.now c.parts.invariant (eqb-true (length c.parts.rest.now) 0 (sym c.parts-test.ensures)) c.requires)
 
 pub new-requires : goal.new-requires
-new-requires c = going-formed c.args.text.now c.parts.tokens.items c.parts.at c.parts.line c.parts.rest.now c.parts.invariant
+new-requires c = going-listed c.args.text.now c.parts.tokens.items c.parts.at c.parts.line c.parts.rest.now c.parts.invariant c.requires
 
 pub new-requires-2 : goal.new-requires-2
-new-requires-2 c = going-formed c.args.text.now c.parts.tokens.items c.parts.at c.parts.line c.parts.rest.now c.parts.invariant
+new-requires-2 c = going-listed c.args.text.now c.parts.tokens.items c.parts.at c.parts.line c.parts.rest.now c.parts.invariant c.requires
