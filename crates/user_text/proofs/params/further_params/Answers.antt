@@ -10,9 +10,9 @@ use Rattle.user_text.proofs.params.further_params.Goals as goal
 pub param-init : goal.param-init
 unfolding read_further_params
 param-init c =
-    subst (λ params. Turning (is_sign (codes ",")) read_next_param params c.args.cursor.now.state c.args.cursor.now.tokens 0 c.len.result (read_further_params c.args.first c.args.cursor.now.state c.args.cursor.now.tokens))
+    subst (λ params. Turning (is_sign (codes ",")) read_next_param params c.args.cursor.now.state c.args.cursor.now.tokens 0 c.len-end.result (read_further_params c.args.first c.args.cursor.now.state c.args.cursor.now.tokens))
     (sym (c.in_ok-push.ensures.params ∙ ap (λ params. params ++ c.args.first ∷ []) c.new-params.ensures))
-    (turning_from (is_sign (codes ",")) read_next_param (c.args.first ∷ []) c.args.cursor.now.state c.args.cursor.now.tokens c.len.result c.len.ensures)
+    (turning_from (is_sign (codes ",")) read_next_param (c.args.first ∷ []) c.args.cursor.now.state c.args.cursor.now.tokens c.len-end.result c.len-end.ensures)
 
 pub param-preserved : goal.param-preserved
 param-preserved c = turning_on c.param.invariant c.param-test.true c.if-not-sign_comes.ensures c.in_ok-param.ensures c.in_ok-push-2.ensures.params
