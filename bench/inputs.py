@@ -356,6 +356,22 @@ def semicolons(folder, n):
     return write(folder, m_txt=m, u_txt=";" * n)
 
 
+def semicolon_model(folder, n):
+    """A model of n bytes, wrong at its first."""
+    return write(folder, m_txt=b";" * n, u_txt="")
+
+
+def semicolon_rules(folder, n):
+    """A rule file of n bytes, wrong at its first."""
+    m = model(dimension("A", leaves("a", 3)), dimension("B", leaves("b", 3)), "CUBE 'C' ('A', 'B'); RULES 'r.rux'; END;\n")
+    return write(folder, m_txt=m, r_rux=b";" * n, u_txt="")
+
+
+def semicolon_script(folder, n):
+    """A script of n bytes, wrong at its first."""
+    return write(folder, m_txt=SMALL, s_ti=b";" * n, u_txt="")
+
+
 def load_files(folder, n):
     """n loads, each of a file of its own."""
     for i in range(n):
@@ -373,5 +389,5 @@ SHAPES = [
     (clearing_load, 100000), (adding_load, 100000), (paired_load, 100000), (large_plan, 800000), (plain_increments, 1000000), (equal_loads, 2000),
     (variables, 100000), (parameters, 100000), (joins, 40),
     (recurrence, 240), (stock, 20000), (wide_formula, 900), (ruled_total, 800000), (empty_axis, 90000), (many_views, 2000),
-    (semicolons, 100000000), (load_files, 65000),
+    (semicolons, 100000000), (semicolon_model, 2**30), (semicolon_rules, 100000000), (semicolon_script, 100000000), (load_files, 65000),
 ]

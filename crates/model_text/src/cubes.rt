@@ -77,7 +77,7 @@ fn dimension_at(
     before: &[u8],
 ) -> Result<u32, Stop<ModelTextFault>>
     ensures read { ReadsDimension partial.now dims.now before.now cursor.old result cursor.new }
-    ensures shorter { OnOk result (length cursor.new.tokens.now < length cursor.old.tokens.now) }
+    ensures shorter { OnOk result (length cursor.new.tokens < length cursor.old.tokens) }
 {
     let (line, name) = dimension_behind(alloc, cursor, before)?;
     number_of(partial, line, &name, dims)

@@ -65,7 +65,7 @@ pub fn dimension_at(
     ensures read { ReadsBlock partial.old partial.new cursor.old result cursor.new }
     ensures added { IfOk result (λ text. partial.new ≡ with_name partial.old text.dimension.name) }
     ensures rest { OnOk result (All IsWellFormed (ahead cursor.new)) }
-    ensures shorter { OnOk result (length cursor.new.tokens.now < length cursor.old.tokens.now) }
+    ensures shorter { OnOk result (length cursor.new.tokens < length cursor.old.tokens) }
 {
     let (line, name) = head_at(alloc, cursor, partial)?;
     let copy = copy_of(alloc, &name)?;

@@ -1,5 +1,5 @@
 ghost use Rattle.std.specs.Prelude.{◌≡◌, codes};
-ghost use Rattle.grammar.specs.Cursor.{lexemes, Reads};
+ghost use Rattle.grammar.specs.Cursor.{Reads};
 ghost use Rattle.model_text.specs.Gathering as gathering;
 ghost use Rattle.model_text.specs.Readers.Reading as reading;
 ghost use Rattle.model_text.specs.Statement.{CubeEnd};

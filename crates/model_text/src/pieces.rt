@@ -81,7 +81,7 @@ pub fn dimension_behind(
 ) -> Result<(u32, Name), Stop<ModelTextFault>>
     ensures read { Reads (λ x. statement.CubeDimension x.0 x.1) (reading.read_dimension_behind before.now)
         cursor.old result cursor.new }
-    ensures shorter { OnOk result (length cursor.new.tokens.now < length cursor.old.tokens.now) }
+    ensures shorter { OnOk result (length cursor.new.tokens < length cursor.old.tokens) }
 {
     sign(cursor, before)?;
     let shown = located_name(alloc, cursor)?;

@@ -14,7 +14,7 @@ use crate::model::ModelText;
 use crate::partial::PartialModel;
 use crate::pieces::{closing_at, version_at};
 use crate::statements::{LaterSection, statements_at};
-use cube_lex::tokens_until;
+use cube_lex::text_tokens;
 use dim_text::DimText;
 use grammar::{Cursor, Stop, TextFault, Unwatched, answer_of_text};
 use std::alloc::Global;
@@ -93,12 +93,10 @@ fn fault_of(fault: TextFault<ModelTextFault>) -> ModelTextFault
 pub fn read(alloc: Global, text: &[u8]) -> Result<ModelText, ModelTextFault>
     ensures { Answers text.now result }
 {
-    let Ok((tokens, fault)) = tokens_until(alloc, text) else {
-        return Err(fault_of(TextFault::Memory));
-    };
-    let mut cursor = Cursor::new(tokens.as_slice(), Unwatched);
+    let tokens = text_tokens(text);
+    let mut cursor = Cursor::new(tokens.left.again(), Unwatched);
     let model = model_at(alloc, &mut cursor);
-    match answer_of_text(&tokens, fault, model, &cursor) {
+    match answer_of_text(&tokens, model, &cursor) {
         Ok((dims, partial)) => {
             let (version, cubes, scripts) = partial.into_parts();
             Ok(ModelText::new(version, dims, cubes, scripts))

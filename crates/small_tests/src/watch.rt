@@ -1,27 +1,7 @@
-use cube_lex::{Kind, Token};
+use cube_lex::{Token, text_tokens};
 use grammar::{Cursor, Scan, Stop, end, line_left, sign, sign_comes, word, word_comes};
 
-/// `Dim ;` and, on the next line, the word `n`.
-const TOKENS: [Token<'static>; 3] = [
-    Token {
-        kind: Kind::Word,
-        piece: b"Dim",
-        start: 0,
-        line: 1,
-    },
-    Token {
-        kind: Kind::Sign,
-        piece: b";",
-        start: 3,
-        line: 1,
-    },
-    Token {
-        kind: Kind::Word,
-        piece: b"n",
-        start: 5,
-        line: 2,
-    },
-];
+const BLOCK: &[u8] = b"Dim ;\nn";
 
 #[derive(Debug, Drop, PartialEq)]
 enum Cause {
@@ -61,15 +41,14 @@ fn block(cursor: &mut Cursor<'_, AtMost>) -> Result<u32, Stop<Cause>> {
 
 #[test]
 fn a_reader_takes_a_block_or_stops(rt: HostRuntime) {
-    let mut cursor = Cursor::new(&TOKENS, AtMost { tokens: 3 });
+    let mut cursor = Cursor::new(text_tokens(BLOCK).left, AtMost { tokens: 3 });
     assert!(rt; word_comes(&cursor, b"DIM") && !sign_comes(&cursor, b";"));
     assert!(rt; matches!(block(&mut cursor), Ok(2)));
-    let mut cursor = Cursor::new(&TOKENS[1..], AtMost { tokens: 3 });
+    let mut cursor = Cursor::new(text_tokens(b";\nn").left, AtMost { tokens: 3 });
     assert!(rt; matches!(block(&mut cursor), Err(Stop::Unexpected(2))));
-    let mut cursor = Cursor::new(&TOKENS, AtMost { tokens: 2 });
+    let mut cursor = Cursor::new(text_tokens(BLOCK).left, AtMost { tokens: 2 });
     assert!(rt; matches!(block(&mut cursor), Err(Stop::Refused(Cause::TooMany))));
-    assert_eq!(rt;
-        [line_left(&TOKENS, 7, 2), line_left(&TOKENS, 7, 0)],
-        [1, 7]
-    );
+    let behind_word = line_left(text_tokens(BLOCK).left, 7, 2);
+    let at_end = line_left(text_tokens(BLOCK).left, 7, 0);
+    assert_eq!(rt; [behind_word, at_end], [1, 7]);
 }

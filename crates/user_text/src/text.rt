@@ -10,7 +10,7 @@ use crate::counted::Counted;
 use crate::fault::{TooMany, UserFault};
 use crate::load::load_at;
 use crate::view::view_at;
-use cube_lex::tokens_until;
+use cube_lex::text_tokens;
 use grammar::{Cursor, RepeatedItem, Stop, TextFault, answer_of_text, repeated, word_comes};
 use std::alloc::Global;
 
@@ -75,14 +75,14 @@ pub fn parse(alloc: Global, text: &[u8], before: u32) -> Result<Vec<UserCommand>
     requires { before ≤ most_commands }
     ensures { Answers (λ commands. commands.items) text.now before result }
 {
-    let (tokens, fault) = tokens_until(alloc, text)?;
+    let tokens = text_tokens(text);
     let start = Counted {
         commands: before,
         inside: false,
     };
-    let mut cursor = Cursor::new(tokens.as_slice(), start);
+    let mut cursor = Cursor::new(tokens.left.again(), start);
     let read = commands_at(alloc, &mut cursor);
-    match answer_of_text(&tokens, fault, read, &cursor) {
+    match answer_of_text(&tokens, read, &cursor) {
         Ok(commands) => Ok(commands),
         Err(TextFault::Memory) => Err(UserFault::Memory),
         Err(TextFault::Syntax(line)) => Err(UserFault::Syntax(line)),

@@ -1,6 +1,5 @@
 use Rattle.std.specs.List.{All}
 use Rattle.cube_lex.specs.Lexed.{IsWellFormed}
-use Rattle.grammar.specs.Cursor.{lexemes}
 use Rattle.model_text.proofs.Kept.{cube_end_told, order_written}
 use Rattle.model_text.proofs.ModelExact.{cube_head_exact, cube_dimensions_exact}
 use Rattle.model_text.proofs.Stopping.{rests}
@@ -8,7 +7,7 @@ use Rattle.model_text.proofs.cubes.cube_at.Goals as goal
 
 pub add_cube-requires-clause-writable : goal.add_cube-requires-clause-writable
 add_cube-requires-clause-writable c =
-    let behind_head : All IsWellFormed (lexemes c.head_at.new.cursor.tokens.now) = rests cube_head_exact _ _ _ _ _ c.in_ok-line.ensures.read c.requires in
-    let behind : All IsWellFormed (lexemes c.dimensions_at.new.cursor.tokens.now) = rests cube_dimensions_exact _ _ _ _ _ (c.in_ok-dims.ensures.read c.in_ok-line.line c.in_ok-line.name) behind_head in
-    let (rules, order) = cube_end_told (lexemes c.dimensions_at.new.cursor.tokens.now) _ _ _ _ _ c.in_ok-rules.ensures behind in
+    let behind_head : All IsWellFormed c.head_at.new.cursor.tokens = rests cube_head_exact _ _ _ _ _ c.in_ok-line.ensures.read c.requires in
+    let behind : All IsWellFormed c.dimensions_at.new.cursor.tokens = rests cube_dimensions_exact _ _ _ _ _ (c.in_ok-dims.ensures.read c.in_ok-line.line c.in_ok-line.name) behind_head in
+    let (rules, order) = cube_end_told c.dimensions_at.new.cursor.tokens _ _ _ _ _ c.in_ok-rules.ensures behind in
     record { name = c.in_ok-line.ensures.writable c.requires; dims = rw c.new-dims.ensures c.in_ok-dims.ensures.some; rules = rules; order = rw c.order_of-order.ensures (order_written _ c.in_ok-rules.order order) }

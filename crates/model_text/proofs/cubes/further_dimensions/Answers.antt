@@ -1,6 +1,5 @@
 use Rattle.std.proofs.Common.{◌≡◌, Ok, [], ◌∷◌, ◌++◌, codes, refl, sym, ap, subst, arith, length, length-append}
 use Rattle.std.proofs.lemmas.Result.{err_from_is_err_and}
-use Rattle.grammar.specs.Cursor.{lexemes}
 use Rattle.grammar.specs.Reading.{gives, bound}
 use Rattle.grammar.specs.Tokens.{is_sign}
 use Rattle.grammar.proofs.Loops.{begun_all, goes_further, is_done}
@@ -21,7 +20,7 @@ dimension-preserved c = (
       let pushed = c.in_ok-push.ensures.items in (
         front ++ piece ∷ [],
         goes_further going c.dimension-test.ensures
-            (subst (λ ds. gather (read_dimension_behind (codes ",")) (at c.args.partial.now (CubeOpen word_line cube c.dimension.dims.items)) (lexemes c.dimension.cursor.tokens.now) ≡ Ok (piece, at c.args.partial.now (CubeOpen word_line cube ds), lexemes c.dimension_at.new.cursor.tokens.now)) (sym pushed) read)
+            (subst (λ ds. gather (read_dimension_behind (codes ",")) (at c.args.partial.now (CubeOpen word_line cube c.dimension.dims.items)) c.dimension.cursor.tokens ≡ Ok (piece, at c.args.partial.now (CubeOpen word_line cube ds), c.dimension_at.new.cursor.tokens)) (sym pushed) read)
             (next_dimension_shortens _ _ _ _ _ read) refl,
       )),
   omega (arith, c.dimension.invariant.1, ap length c.in_ok-push.ensures.items, length-append c.dimension.dims.items (c.in_ok-number.number ∷ [])),
@@ -32,7 +31,7 @@ unfolding gather_further_dimensions
 returns-in_err-number-clause-read c = λ word_line cube. (
     let (front, going) = c.dimension.invariant.0 word_line cube in
     let p = err_from_is_err_and c.from_residual.result c.from_residual.ensures.1 in
-    rw (p.1, p.2) (loop_stops (is_sign (codes ",")) (gather (read_dimension_behind (codes ","))) front _ (at c.args.partial.now (CubeOpen word_line cube c.args.dims.items)) _ (lexemes c.args.cursor.now.tokens.now) c.in_err-number.field-0.0 going c.dimension-test.ensures (rw c.deref.ensures.value at (c.in_err-number.ensures.read word_line cube))))
+    rw (p.1, p.2) (loop_stops (is_sign (codes ",")) (gather (read_dimension_behind (codes ","))) front _ (at c.args.partial.now (CubeOpen word_line cube c.args.dims.items)) _ c.args.cursor.now.tokens c.in_err-number.field-0.0 going c.dimension-test.ensures (rw c.deref.ensures.value at (c.in_err-number.ensures.read word_line cube))))
 
 pub returns-clause-read : goal.returns-clause-read
 unfolding gather_further_dimensions

@@ -2,7 +2,6 @@ use Rattle.std.proofs.Common.{◌≡◌, List, [], ◌∷◌, ◌++◌, codes, r
 use Rattle.std.proofs.lemmas.List.{map-append}
 use Rattle.std.proofs.lemmas.Result.{err_from_is_err_and}
 use Rattle.std.specs.List.{AllZip}
-use Rattle.grammar.specs.Cursor.{lexemes}
 use Rattle.model_text.specs.Gathering.{Parts}
 use Rattle.model_text.specs.Readers.Views.{seen}
 use Rattle.grammar.specs.Reading.{gives, bound}
@@ -54,7 +53,7 @@ unfolding read_dimensions
 returns-in_err-text-clause-read c =
     let (front, blocks, going, built, same, tokens) = c.dimension.invariant in
     let p = err_from_is_err_and c.from_residual.result c.from_residual.ensures.1 in
-    rw (p.1, p.2) (loop_stops (is_word (codes "DIM")) read_dimension front _ (seen [] c.args.partial.now) _ (lexemes c.args.cursor.now.tokens.now) c.in_err-text.field-0.0 going c.dimension-test.ensures (c.in_err-text.ensures.read blocks))
+    rw (p.1, p.2) (loop_stops (is_word (codes "DIM")) read_dimension front _ (seen [] c.args.partial.now) _ c.args.cursor.now.tokens c.in_err-text.field-0.0 going c.dimension-test.ensures (c.in_err-text.ensures.read blocks))
 
 pub returns-clause-read : goal.returns-clause-read
 unfolding read_dimensions

@@ -1,5 +1,4 @@
 use Rattle.std.proofs.lemmas.Result.{err_from_is_err_and}
-use Rattle.grammar.specs.Cursor.{lexemes}
 use Rattle.model_text.proofs.ModelExact.{opening_exact, dimensions_exact, cubes_exact}
 use Rattle.model_text.proofs.Stopping.{rests}
 use Rattle.model_text.proofs.Whole.{opening_stops, dimensions_stop, cubes_stop, scripts_stop, scripts_read}
@@ -8,7 +7,7 @@ use Rattle.model_text.proofs.reading.model_at.Goals as goal
 pub returns-in_err-partial-clause-read : goal.returns-in_err-partial-clause-read
 returns-in_err-partial-clause-read c =
     let p = err_from_is_err_and c.from_residual.result c.from_residual.ensures.1 in
-    rw (p.1, p.2) (opening_stops (lexemes c.args.cursor.now.tokens.now) c.in_err-partial.field-0.0 c.in_err-partial.ensures.read)
+    rw (p.1, p.2) (opening_stops c.args.cursor.now.tokens c.in_err-partial.field-0.0 c.in_err-partial.ensures.read)
 
 pub dimensions_at-requires-clause-tokens : goal.dimensions_at-requires-clause-tokens
 dimensions_at-requires-clause-tokens c = rests opening_exact _ _ _ _ _ c.in_ok-partial.ensures.read c.requires
@@ -16,24 +15,24 @@ dimensions_at-requires-clause-tokens c = rests opening_exact _ _ _ _ _ c.in_ok-p
 pub returns-in_err-dims-clause-read : goal.returns-in_err-dims-clause-read
 returns-in_err-dims-clause-read c =
     let p = err_from_is_err_and c.from_residual-in_err-dims.result c.from_residual-in_err-dims.ensures.1 in
-    rw (p.1, p.2) (dimensions_stop (lexemes c.args.cursor.now.tokens.now) (lexemes c.opening_at.new.cursor.tokens.now) c.in_ok-partial.partial c.in_err-dims.field-0.0 c.in_ok-partial.ensures.read c.in_err-dims.ensures.read)
+    rw (p.1, p.2) (dimensions_stop c.args.cursor.now.tokens c.opening_at.new.cursor.tokens c.in_ok-partial.partial c.in_err-dims.field-0.0 c.in_ok-partial.ensures.read c.in_err-dims.ensures.read)
 
 pub returns-in_err-statements_at-clause-read : goal.returns-in_err-statements_at-clause-read
 returns-in_err-statements_at-clause-read c =
     let (blocks, read, built) = c.in_ok-dims.ensures.read in
     let p = err_from_is_err_and c.from_residual-in_err-statements_at.result c.from_residual-in_err-statements_at.ensures.1 in
-    rw (p.1, p.2) (cubes_stop (lexemes c.args.cursor.now.tokens.now) (lexemes c.opening_at.new.cursor.tokens.now) (lexemes c.dimensions_at.new.cursor.tokens.now) c.in_ok-partial.partial c.dimensions_at.new.partial blocks c.in_err-statements_at.field-0.0 c.in_ok-partial.ensures.read read c.in_err-statements_at.ensures.read)
+    rw (p.1, p.2) (cubes_stop c.args.cursor.now.tokens c.opening_at.new.cursor.tokens c.dimensions_at.new.cursor.tokens c.in_ok-partial.partial c.dimensions_at.new.partial blocks c.in_err-statements_at.field-0.0 c.in_ok-partial.ensures.read read c.in_err-statements_at.ensures.read)
 
 pub returns-in_err-statements_at-2-clause-read : goal.returns-in_err-statements_at-2-clause-read
 returns-in_err-statements_at-2-clause-read c =
     let (blocks, read, built) = c.in_ok-dims.ensures.read in
     let p = err_from_is_err_and c.from_residual-in_err-statements_at-2.result c.from_residual-in_err-statements_at-2.ensures.1 in
-    rw (p.1, p.2) (scripts_stop (lexemes c.args.cursor.now.tokens.now) (lexemes c.opening_at.new.cursor.tokens.now) (lexemes c.dimensions_at.new.cursor.tokens.now) (lexemes c.statements_at.new.cursor.tokens.now) c.in_ok-partial.partial c.dimensions_at.new.partial c.statements_at.new.partial blocks c.in_err-statements_at-2.field-0.0 c.in_ok-partial.ensures.read read c.in_ok-statements_at.ensures.read c.in_err-statements_at-2.ensures.read)
+    rw (p.1, p.2) (scripts_stop c.args.cursor.now.tokens c.opening_at.new.cursor.tokens c.dimensions_at.new.cursor.tokens c.statements_at.new.cursor.tokens c.in_ok-partial.partial c.dimensions_at.new.partial c.statements_at.new.partial blocks c.in_err-statements_at-2.field-0.0 c.in_ok-partial.ensures.read read c.in_ok-statements_at.ensures.read c.in_err-statements_at-2.ensures.read)
 
 pub returns-clause-read : goal.returns-clause-read
 returns-clause-read c =
     let (blocks, read, built) = c.in_ok-dims.ensures.read in
-    (blocks, scripts_read (lexemes c.args.cursor.now.tokens.now) (lexemes c.opening_at.new.cursor.tokens.now) (lexemes c.dimensions_at.new.cursor.tokens.now) (lexemes c.statements_at.new.cursor.tokens.now) _ c.in_ok-partial.partial c.dimensions_at.new.partial c.statements_at.new.partial c.statements_at-2.new.partial blocks c.in_ok-partial.ensures.read read c.in_ok-statements_at.ensures.read c.in_ok-statements_at-2.ensures.read, built)
+    (blocks, scripts_read c.args.cursor.now.tokens c.opening_at.new.cursor.tokens c.dimensions_at.new.cursor.tokens c.statements_at.new.cursor.tokens _ c.in_ok-partial.partial c.dimensions_at.new.partial c.statements_at.new.partial c.statements_at-2.new.partial blocks c.in_ok-partial.ensures.read read c.in_ok-statements_at.ensures.read c.in_ok-statements_at-2.ensures.read, built)
 
 pub statements_at-requires : goal.statements_at-requires
 statements_at-requires c =

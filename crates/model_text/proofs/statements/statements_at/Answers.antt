@@ -1,7 +1,5 @@
 use Rattle.std.proofs.Common.{[], ◌∷◌, ◌++◌, refl, sym, ◌∙◌, ap, arith}
-use Rattle.std.proofs.lemmas.List.{length-map}
 use Rattle.std.proofs.lemmas.Result.{err_from_is_err_and}
-use Rattle.grammar.specs.Cursor.{lexemes}
 use Rattle.model_text.specs.Gathering.{Nothing, at}
 use Rattle.grammar.specs.Reading.{gives, bound}
 use Rattle.grammar.specs.Tokens.{is_word}
@@ -17,7 +15,7 @@ statement-init c = ([], begun_all (is_word (word_of c.args.section)) (read_one c
 pub statement-smaller : goal.statement-smaller
 statement-smaller c =
     let fewer = one_shortens c.args.section _ _ _ _ _ c.in_ok-statement_at.ensures.read in
-    omega (arith, simp length-map at fewer)
+    omega (arith, fewer)
 
 pub statement-preserved : goal.statement-preserved
 statement-preserved c =
@@ -32,7 +30,7 @@ pub returns-in_err-statement_at-clause-read : goal.returns-in_err-statement_at-c
 returns-in_err-statement_at-clause-read c =
     let (front, going, same, tokens) = c.statement.invariant in
     let p = err_from_is_err_and c.from_residual.result c.from_residual.ensures.1 in
-    rw (p.1, p.2, all_is c.args.section) (loop_stops (is_word (word_of c.args.section)) (read_one c.args.section) front _ (at c.args.partial.now Nothing) _ (lexemes c.args.cursor.now.tokens.now) c.in_err-statement_at.field-0.0 going (rw c.word.ensures at c.statement-test.ensures) c.in_err-statement_at.ensures.read)
+    rw (p.1, p.2, all_is c.args.section) (loop_stops (is_word (word_of c.args.section)) (read_one c.args.section) front _ (at c.args.partial.now Nothing) _ c.args.cursor.now.tokens c.in_err-statement_at.field-0.0 going (rw c.word.ensures at c.statement-test.ensures) c.in_err-statement_at.ensures.read)
 
 pub returns-clause-read : goal.returns-clause-read
 returns-clause-read c =

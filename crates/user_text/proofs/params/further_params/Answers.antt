@@ -1,8 +1,5 @@
 use Rattle.std.proofs.Common.{List, [], ◌∷◌, ◌++◌, ℕ, length, codes, sym, ◌∙◌, ap, subst, arith}
-use Rattle.std.proofs.lemmas.List.{length-map}
 use Rattle.std.proofs.lemmas.Result.{err_from_is_err_and}
-use Rattle.cube_lex.specs.Lexeme.{lexeme_of}
-use Rattle.grammar.specs.Cursor.{lexemes}
 use Rattle.grammar.specs.Tokens.{is_sign}
 use Rattle.grammar.proofs.After.{Turning, turning_from, turning_on, turning_ends, turning_runs_out}
 use Rattle.grammar.proofs.Loops.{turning_stops}
@@ -13,9 +10,9 @@ use Rattle.user_text.proofs.params.further_params.Goals as goal
 pub param-init : goal.param-init
 unfolding read_further_params
 param-init c =
-    subst (λ params. Turning (is_sign (codes ",")) read_next_param params c.args.cursor.now.state (lexemes c.args.cursor.now.tokens.now) 0 (length c.args.cursor.now.tokens.now) (read_further_params c.args.first c.args.cursor.now.state (lexemes c.args.cursor.now.tokens.now)))
+    subst (λ params. Turning (is_sign (codes ",")) read_next_param params c.args.cursor.now.state c.args.cursor.now.tokens 0 c.len-end.result (read_further_params c.args.first c.args.cursor.now.state c.args.cursor.now.tokens))
     (sym (c.in_ok-push.ensures.params ∙ ap (λ params. params ++ c.args.first ∷ []) c.new-params.ensures))
-    (turning_from (is_sign (codes ",")) read_next_param (c.args.first ∷ []) c.args.cursor.now.state (lexemes c.args.cursor.now.tokens.now) (length c.args.cursor.now.tokens.now) (sym (length-map c.args.cursor.now.tokens.now lexeme_of)))
+    (turning_from (is_sign (codes ",")) read_next_param (c.args.first ∷ []) c.args.cursor.now.state c.args.cursor.now.tokens c.len-end.result c.len-end.ensures)
 
 pub param-preserved : goal.param-preserved
 param-preserved c = turning_on c.param.invariant c.param-test.true c.if-not-sign_comes.ensures c.in_ok-param.ensures c.in_ok-push-2.ensures.params
@@ -30,5 +27,5 @@ pub returns-in_err-param : goal.returns-in_err-param
 returns-in_err-param c =
     let p = err_from_is_err_and c.from_residual-in_err-param.result c.from_residual-in_err-param.ensures.1 in
     rw (p.1, p.2)
-    (turning_stops {Y = List ℕ × ParamText} (λ params. params) (λ param. param) c.next_param_at.new.cursor.state (lexemes c.next_param_at.new.cursor.tokens.now) c.in_err-param.field-0.0 c.param.invariant c.param-test.true c.if-not-sign_comes.ensures
+    (turning_stops {Y = List ℕ × ParamText} (λ params. params) (λ param. param) c.next_param_at.new.cursor.state c.next_param_at.new.cursor.tokens c.in_err-param.field-0.0 c.param.invariant c.param-test.true c.if-not-sign_comes.ensures
     c.in_err-param.ensures)

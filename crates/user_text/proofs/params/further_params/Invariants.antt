@@ -1,5 +1,4 @@
 use Rattle.std.proofs.Common.{codes}
-use Rattle.grammar.specs.Cursor.{lexemes}
 use Rattle.grammar.specs.Tokens.{is_sign}
 use Rattle.grammar.proofs.After.{Turning}
 use Rattle.user_text.specs.Readers.Reading.{read_next_param, read_further_params}
@@ -7,5 +6,5 @@ use Rattle.user_text.proofs.params.further_params.Given as goal
 
 abbrev pub invariant-param : goal.invariant-param
 invariant-param l =
-    Turning (is_sign (codes ",")) read_next_param l.params l.cursor.state (lexemes l.cursor.tokens.now) l.counter l.end
-    (read_further_params l.fn.first l.fn.cursor.state (lexemes l.fn.cursor.tokens.now))
+    Turning (is_sign (codes ",")) read_next_param l.params l.cursor.state l.cursor.tokens l.counter l.end
+    (read_further_params l.fn.first l.fn.cursor.state l.fn.cursor.tokens)

@@ -9,17 +9,17 @@ use Rattle.user_text.proofs.text.parse.Goals as goal
 pub returns-in-Ok : goal.returns-in-Ok
 returns-in-Ok c =
     subst (AnswersWhole (λ commands. commands.items) user counting (counted_from c.args.before) c.args.text.now) c.in-Ok.is
-    (whole_answered user_exact refl (λ commands. commands.items) c.args.text.now (counted_from c.args.before) c.in_ok-tokens.tokens c.in_ok-tokens.fault c.as_slice.result.now c.commands_at-read.result c.new-cursor.result c.commands_at-read.new.cursor c.answer_of_text.result
-    c.in_ok-tokens.ensures.found c.as_slice.ensures.tokens c.new-cursor.ensures.tokens c.new-cursor.ensures.state c.commands_at-read.ensures c.answer_of_text.ensures)
+    (whole_answered user_exact refl (λ commands. commands.items) c.args.text.now (counted_from c.args.before) _ c.text_tokens-tokens.result.fault c.commands_at-read.result c.new-cursor.result c.commands_at-read.new.cursor c.answer_of_text.result
+    c.text_tokens-tokens.ensures.found (c.new-cursor.ensures.tokens ∙ c.again.ensures) c.new-cursor.ensures.state c.commands_at-read.ensures c.answer_of_text.ensures)
 
 pub returns-in-Err-Syntax : goal.returns-in-Err-Syntax
 returns-in-Err-Syntax c =
     subst (AnswersWhole (λ commands. commands.items) user counting (counted_from c.args.before) c.args.text.now) (c.in-Err-Syntax.is ∙ ap (λ fault. Err fault) c.in-Err-Syntax.field-0-is)
-    (whole_answered user_exact refl (λ commands. commands.items) c.args.text.now (counted_from c.args.before) c.in_ok-tokens.tokens c.in_ok-tokens.fault c.as_slice.result.now c.commands_at-read.result c.new-cursor.result c.commands_at-read.new.cursor c.answer_of_text.result
-    c.in_ok-tokens.ensures.found c.as_slice.ensures.tokens c.new-cursor.ensures.tokens c.new-cursor.ensures.state c.commands_at-read.ensures c.answer_of_text.ensures)
+    (whole_answered user_exact refl (λ commands. commands.items) c.args.text.now (counted_from c.args.before) _ c.text_tokens-tokens.result.fault c.commands_at-read.result c.new-cursor.result c.commands_at-read.new.cursor c.answer_of_text.result
+    c.text_tokens-tokens.ensures.found (c.new-cursor.ensures.tokens ∙ c.again.ensures) c.new-cursor.ensures.state c.commands_at-read.ensures c.answer_of_text.ensures)
 
 pub returns : goal.returns
 returns c =
     subst (AnswersWhole (λ commands. commands.items) user counting (counted_from c.args.before) c.args.text.now) (c.in-Err-Refused.is ∙ ap (λ fault. Err fault) c.in-Err-Refused.field-0-is)
-    (whole_answered user_exact refl (λ commands. commands.items) c.args.text.now (counted_from c.args.before) c.in_ok-tokens.tokens c.in_ok-tokens.fault c.as_slice.result.now c.commands_at-read.result c.new-cursor.result c.commands_at-read.new.cursor c.answer_of_text.result
-    c.in_ok-tokens.ensures.found c.as_slice.ensures.tokens c.new-cursor.ensures.tokens c.new-cursor.ensures.state c.commands_at-read.ensures c.answer_of_text.ensures)
+    (whole_answered user_exact refl (λ commands. commands.items) c.args.text.now (counted_from c.args.before) _ c.text_tokens-tokens.result.fault c.commands_at-read.result c.new-cursor.result c.commands_at-read.new.cursor c.answer_of_text.result
+    c.text_tokens-tokens.ensures.found (c.new-cursor.ensures.tokens ∙ c.again.ensures) c.new-cursor.ensures.state c.commands_at-read.ensures c.answer_of_text.ensures)
