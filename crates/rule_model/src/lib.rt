@@ -23,6 +23,7 @@ pub use order::{Order, Position};
 pub use places::place_of;
 pub use rule_laws::{Arg, ElementMap, Formula, Fun, Op, Reference, Rel, Truth};
 pub use rules::{CubeRules, Feeder, Form, Statement};
+pub use shared_area::SharedArea;
 pub use targets::{has_components, target, target_from};
 
 mod area;
@@ -34,5 +35,6 @@ mod order;
 mod parts;
 mod places;
 mod rules;
+mod shared_area;
 mod targets;
 mod words;

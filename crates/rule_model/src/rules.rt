@@ -1,5 +1,6 @@
 use crate::area::Area;
 use crate::order::Order;
+use crate::shared_area::SharedArea;
 use lists::ListOf;
 use rule_laws::{Formula, Reference};
 
@@ -39,7 +40,7 @@ pub enum Form {
 /// A feeder with one target. A feeder statement with several targets is several feeders.
 #[derive(Drop)]
 pub struct Feeder {
-    pub area: Area,
+    pub area: SharedArea,
     pub target: Reference,
     /// The feeder statement that it comes from, counted from 0.
     pub statement: u32,
