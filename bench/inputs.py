@@ -380,6 +380,27 @@ def load_files(folder, n):
     return write(folder, m_txt=SMALL, s_ti="DATA:\nItemSkip;\n", u_txt=u)
 
 
+def endless_model(folder, n):
+    write(folder, u_txt="")
+    return ["/dev/zero", "u.txt"]
+
+
+def endless_rules(folder, n):
+    return write(folder, m_txt=SMALL.replace("END;\nSCRIPT", "RULES '/dev/zero';\nEND;\nSCRIPT"), u_txt="")
+
+
+def endless_script(folder, n):
+    return write(folder, m_txt=SMALL.replace("'s.ti'", "'/dev/zero'"), u_txt="")
+
+
+def endless_commands(folder, n):
+    write(folder, m_txt=SMALL, s_ti="DATA:\nItemSkip;\n")
+    return ["m.txt", "/dev/zero"]
+
+
+# Each kind of text, where its file has no end.
+ENDLESS = {"model": endless_model, "rules": endless_rules, "script": endless_script, "commands": endless_commands}
+
 # Each shape with its full size. Half and a quarter of it are measured too.
 SHAPES = [
     (equal_moves, 100000), (unmarked_moves, 100000), (wide_area, 90000), (shared_rule_file, 100000), (attributes, 100000),

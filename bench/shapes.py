@@ -7,6 +7,9 @@ PROGRAM is the built program (`rt build` in crates/cube_program; ./run says wher
 quarter, at half and at the whole of its full size. A line has the shape, and for each size the size, the seconds of
 the processor (user and system) and the peak of memory in MB. The last field is how much dearer the whole is than
 the half. docs/SPEED.md has the figures.
+
+The last shape, `endless`, has one size: each kind of text in turn is a file without an end, of which the program is
+to refuse line 1. Its line has the seconds and the peak of each kind.
 """
 import argparse
 import os
@@ -15,7 +18,7 @@ import subprocess
 import tempfile
 import time
 
-from inputs import SHAPES
+from inputs import ENDLESS, SHAPES
 
 MEMORY = 16 << 30
 
@@ -24,11 +27,11 @@ def limited():
     resource.setrlimit(resource.RLIMIT_AS, (MEMORY, MEMORY))
 
 
-def measured(program, make, size, timeout):
+def measured(program, make, size, timeout, out=subprocess.DEVNULL):
     """The seconds of the processor, the peak in MB and the status, or None after the timeout."""
     with tempfile.TemporaryDirectory() as folder:
         words = make(folder, size)
-        process = subprocess.Popen([program, *words], cwd=folder, stdout=subprocess.DEVNULL, stderr=subprocess.DEVNULL, preexec_fn=limited)
+        process = subprocess.Popen([program, *words], cwd=folder, stdout=out, stderr=subprocess.DEVNULL, preexec_fn=limited)
         ends = time.monotonic() + timeout
         while True:
             pid, status, used = os.wait4(process.pid, os.WNOHANG)
@@ -56,6 +59,21 @@ def line_of(program, make, full, timeout):
     return f"{make.__name__} | " + " | ".join(fields) + f" | {growth}"
 
 
+def endless(program, timeout):
+    fields = []
+    for kind in ENDLESS:
+        with tempfile.TemporaryFile() as out:
+            found = measured(program, ENDLESS[kind], 0, timeout, out)
+            out.seek(0)
+            text = out.read()
+        if found is None:
+            fields.append(f"{kind}: over {timeout:.0f} s")
+        else:
+            is_refused = text == b"refused /dev/zero: line 1: Syntax\n" and found[2] == 2
+            fields.append(f"{kind}: {found[0]:.2f} s, {found[1]:.0f} MB" + ("" if is_refused else f", WRONG: status {found[2]}"))
+    return "endless | " + " | ".join(fields)
+
+
 def main():
     words = argparse.ArgumentParser(description=__doc__.splitlines()[0])
     words.add_argument("program")
@@ -66,6 +84,8 @@ def main():
     for make, full in SHAPES:
         if not words.only or make.__name__ in words.only:
             print(line_of(program, make, full, words.timeout), flush=True)
+    if not words.only or "endless" in words.only:
+        print(endless(program, words.timeout), flush=True)
 
 
 if __name__ == "__main__":

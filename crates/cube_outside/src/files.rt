@@ -1,9 +1,19 @@
-ghost use Rattle.std.specs.Prelude.{◌≡◌, ◌⊎◌, ◌∷◌, IfOk, IfSome, IsErrOf};
+ghost use Rattle.std.specs.Prelude.{◌≡◌, ◌⊎◌, ◌∷◌, IfOk, IfSome, IsErrOf, length, option_map};
 ghost use Rattle.cube_outside.specs.Counts.{Rose};
+ghost use Rattle.cube_outside.specs.Extents.{part_of, IsWithin};
 ghost use Rattle.cube_outside.specs.Seen.{Seen};
 ghost use Rattle.cube_outside.specs.declared.files.FileFault.TheVariants.{Failed, Memory};
 
 use std::alloc::{AllocError, AllocFailed, Global};
+
+/// How much of a file is read.
+#[derive(Clone, Copy, Debug, PartialEq, Eq)]
+pub enum Extent {
+    /// All its bytes.
+    Whole,
+    /// So many of its first bytes, or all where it has fewer.
+    Front(usize),
+}
 
 /// Why a read gave no bytes.
 #[derive(Clone, Copy, Debug, PartialEq, Eq)]
@@ -30,17 +40,19 @@ impl<T: Drop> From<AllocFailed<T>> for FileFault {
     }
 }
 
-/// Files that can be read whole, by name. Nothing that is called here changes what a file holds.
+/// Files that can be read by name, whole or their front. Nothing that is called here changes what a file holds.
 pub trait Files {
     /// What the files hold, where it is known; how many reads have failed, and the name of the last; and each name
     /// that was asked for.
     ghost seen: { Self → Seen };
 
-    /// All bytes of the file with this name. A missing file is `Failed`. Where memory runs out before the file is
-    /// looked for, the name isn't asked for.
-    fn read(&mut self, alloc: Global, name: &str) -> Result<Vec<u8>, FileFault>
+    /// The bytes of the file with this name: all of them, or its front. Whatever it has behind its front isn't read. A
+    /// missing file is `Failed`. Where memory runs out before the file is looked for, the name isn't asked for.
+    fn read(&mut self, alloc: Global, name: &str, extent: Extent) -> Result<Vec<u8>, FileFault>
         ensures known { (seen self.new).known ≡ (seen self.old).known }
-        ensures bytes { IfOk result (λ bytes. IfSome (seen self.old).known (λ map. map name.now ≡ Some bytes.items)) }
+        ensures bytes { IfOk result (λ bytes. IfSome (seen self.old).known
+            (λ map. option_map (part_of extent) (map name.now) ≡ Some bytes.items)) }
+        ensures within { IfOk result (λ bytes. IsWithin extent (length bytes.items)) }
         ensures failed { IsErrOf result Failed → Rose (seen self.old).faults (seen self.new).faults }
         ensures name { IsErrOf result Failed → (seen self.new).missed ≡ name.now }
         ensures no_read_failed { IsErrOf result Failed

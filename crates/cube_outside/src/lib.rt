@@ -13,7 +13,7 @@ mod memory_files;
 mod memory_sink;
 mod sink;
 
-pub use files::{FileFault, Files};
+pub use files::{Extent, FileFault, Files};
 pub use gate::{FreeGate, Gate};
 pub use host_files::HostFiles;
 pub use host_sink::HostSink;

@@ -1,12 +1,13 @@
 ghost use Rattle.std.specs.Prelude.{◌≡◌, ◌≢◌, ℕ, ◌⊎◌, List, [], ◌∷◌, ◌++◌, Some, None, OnOk, OnErr, IfOk, IsErrOf};
-ghost use Rattle.std.specs.Prelude.{Contains, find, map};
+ghost use Rattle.std.specs.Prelude.{Contains, find, length, map, option_map, reverse};
 ghost use Rattle.std.specs.Option.{option_copied};
 ghost use Rattle.std.specs.Str.{bytes_eq};
 ghost use Rattle.cube_outside.specs.Counts.{one_more, Rose};
+ghost use Rattle.cube_outside.specs.Extents.{part_of, IsWithin};
 ghost use Rattle.cube_outside.specs.NamedBytes.{bytes_named};
 ghost use Rattle.cube_outside.specs.declared.files.FileFault.TheVariants.{Failed, Memory};
 
-use crate::files::{FileFault, Files};
+use crate::files::{Extent, FileFault, Files};
 use std::alloc::{AllocError, Global};
 
 /// Files in memory: pairs of a name and its bytes, where the first pair with a name holds. A read fails at a name that
@@ -22,7 +23,7 @@ pub struct MemoryFiles {
     pub count: u64,
     /// The name of the last that failed.
     pub missed: Vec<u8>,
-    /// The name that each read asked for, the last one first.
+    /// The name that each read asked for, the last one last.
     pub asked: Vec<Vec<u8>>,
 }
 
@@ -115,17 +116,17 @@ impl Files for MemoryFiles {
       known = Some (bytes_named files.pairs.items);
       faults = files.count;
       missed = files.missed.items;
-      asked = map (λ name. name.items) files.asked.items;
+      asked = reverse (map (λ name. name.items) files.asked.items);
     } };
 
     /// Fails exactly at a name that no pair has and at a call that was given to `fail_at`, out of memory aside.
-    fn read(&mut self, alloc: Global, name: &str) -> Result<Vec<u8>, FileFault>
+    fn read(&mut self, alloc: Global, name: &str, extent: Extent) -> Result<Vec<u8>, FileFault>
         ensures pairs { self.new.pairs ≡ self.old.pairs }
         ensures failing { self.new.failing ≡ self.old.failing }
         ensures calls { self.new.calls ≡ one_more self.old.calls }
 
         ensures ok { IfOk result (λ bytes.
-            bytes_named self.old.pairs.items name.now ≡ Some bytes.items) }
+            option_map (part_of extent) (bytes_named self.old.pairs.items name.now) ≡ Some bytes.items) }
         ensures passed { OnOk result (¬ Contains self.old.failing.items self.new.calls) }
         ensures cause { IsErrOf result Failed →
             Contains self.old.failing.items self.new.calls ⊎ (bytes_named self.old.pairs.items name.now ≡ None) }
@@ -136,23 +137,25 @@ impl Files for MemoryFiles {
 
         // What the trait says.
         ensures known { Some (bytes_named self.new.pairs.items) ≡ Some (bytes_named self.old.pairs.items) }
-        ensures bytes { IfOk result (λ bytes. bytes_named self.old.pairs.items name.now ≡ Some bytes.items) }
+        ensures bytes { IfOk result (λ bytes.
+            option_map (part_of extent) (bytes_named self.old.pairs.items name.now) ≡ Some bytes.items) }
+        ensures within { IfOk result (λ bytes. IsWithin extent (length bytes.items)) }
         ensures rose { IsErrOf result Failed → Rose self.old.count self.new.count }
-        ensures asked { (map (λ name. name.items) self.new.asked.items
-            ≡ name.now ∷ map (λ name. name.items) self.old.asked.items)
-            ⊎ IsErrOf result Memory
-            × (map (λ name. name.items) self.new.asked.items ≡ map (λ name. name.items) self.old.asked.items) }
+        ensures asked { (reverse (map (λ name. name.items) self.new.asked.items)
+            ≡ name.now ∷ reverse (map (λ name. name.items) self.old.asked.items))
+            ⊎ IsErrOf result Memory × (reverse (map (λ name. name.items) self.new.asked.items)
+            ≡ reverse (map (λ name. name.items) self.old.asked.items)) }
     {
         self.calls = self.calls.saturating_add(1);
         let asked = Vec::from_slice(alloc, name.as_bytes())?;
-        self.asked.insert(0, asked)?;
+        self.asked.push(asked)?;
         if self.failing.contains(&self.calls) {
             return Err(self.fail(alloc, name));
         }
         let Some(pair) = self.find(name) else {
             return Err(self.fail(alloc, name));
         };
-        Ok(Vec::from_slice(alloc, pair.1.as_slice())?)
+        Ok(Vec::from_slice(alloc, part_of(&pair.1, extent))?)
     }
 
     fn faults(&self) -> u64 {
@@ -161,5 +164,16 @@ impl Files for MemoryFiles {
 
     fn missed(&self) -> &[u8] {
         &self.missed
+    }
+}
+
+// What is read of these bytes.
+fn part_of(bytes: &[u8], extent: Extent) -> &[u8]
+    ensures part { result.now ≡ part_of extent bytes.now }
+    ensures within { IsWithin extent (length result.now) }
+{
+    match extent {
+        Extent::Whole => bytes,
+        Extent::Front(most) => &bytes[..most.min(bytes.len())],
     }
 }

@@ -6,7 +6,7 @@ use Rattle.cube_server.specs.declared.status.Status.{Status}
 use Rattle.cube_server.specs.declared.status.Status.TheVariants.{Done, Usage, Refused, ReadFault, WriteFault, NoMemory}
 use Rattle.file_passes.specs.Course.{IsCourse}
 use Rattle.file_passes.specs.Outside.{Outside}
-use Rattle.file_passes.specs.Pass.{Readings, NotWords, Reads, Refuses}
+use Rattle.file_passes.specs.Pass.{Readings, NotWords, Reads, Refuses, IsTurnOf}
 use Rattle.run_passes.specs.RefusalOrder.{run_of}
 use Rattle.cube_server.specs.Answer.{HasNoPlan}
 use Rattle.cube_server.specs.Known.{RefusesFile, FindsJob}
@@ -18,8 +18,8 @@ use Rattle.run_passes.proofs.PlanFacts.{found_ends, one_run}
 -- ---- ends of a course
 
 refused_ends : (words : List (List ℕ)) (readings : Readings) (refusal : Refusal)
-    → (run_of words).stops readings (Refuses refusal) → (name : List ℕ) → ¬ (run_of words).stops readings (Reads name)
-refused_ends words readings refusal refuses name reads = (one_run words).one_stop readings (Refuses refusal) (Reads name) refuses reads
+    → (run_of words).stops readings (Refuses refusal) → (name : List ℕ) → ¬ IsTurnOf (run_of words) readings name
+refused_ends words readings refusal refuses name (extent, reads) = (one_run words).one_stop readings (Refuses refusal) (Reads extent name) refuses reads
 
 -- a run that refuses a file finds no job
 not_both_ends : (words : List (List ℕ)) (map : List ℕ → Option (List ℕ)) (r s : Readings) (j : RunJob) (refusal : Refusal)

@@ -9,6 +9,7 @@ use Rattle.run_passes.specs.declared.run_job.RunJob.{RunJob}
 use Rattle.cube_server.specs.declared.status.Status.{Status}
 use Rattle.cube_server.specs.declared.status.Status.TheVariants.{Done, Usage, Refused, ReadFault, WriteFault, NoMemory}
 use Rattle.cube_server.specs.Answer.{Allows, AsksInTurn, IsOutput, WritesPart}
+use Rattle.cube_outside.specs.declared.files.Extent.{Extent}
 use Rattle.file_passes.specs.Course.{IsCourse}
 use Rattle.file_passes.specs.Outside.{Outside}
 use Rattle.file_passes.specs.Pass.{Readings, NotWords, Reads}
@@ -33,13 +34,13 @@ pub misfit_words : (words : List (List ℕ)) (readings : Readings) → (run_of w
 misfit_words words readings (inl stops) = stops.0
 misfit_words words readings (inr (plan, is, stops)) = absurd ((settled-plan plan).worded readings stops)
 
-no_course : (words : List (List ℕ)) (readings : Readings) → ((plan : Plan) → ¬ IsPlan words plan) → (name : List ℕ) → (run_of words).stops readings (Reads name) → ⊥
-no_course words readings misfit name (inl stops) = (let never : Reads name ≡ NotWords = stops.1 in cc)
-no_course words readings misfit name (inr (plan, is, stops)) = misfit plan is
+no_course : (words : List (List ℕ)) (readings : Readings) → ((plan : Plan) → ¬ IsPlan words plan) → (extent : Extent) (name : List ℕ) → (run_of words).stops readings (Reads extent name) → ⊥
+no_course words readings misfit extent name (inl stops) = (let never : Reads extent name ≡ NotWords = stops.1 in cc)
+no_course words readings misfit extent name (inr (plan, is, stops)) = misfit plan is
 
 none_read : (words : List (List ℕ)) (o : Outside) (readings : Readings) → ((plan : Plan) → ¬ IsPlan words plan) → IsCourse (run_of words) o.known readings → readings ≡ []
 none_read words o [] misfit course = refl
-none_read words o (reading ∷ older) misfit course = absurd (no_course words older misfit reading.0 course.0)
+none_read words o (reading ∷ older) misfit course = absurd (no_course words older misfit course.0.0 reading.0 course.0.1)
 
 -- the answer to a run that went no further is allowed
 pub Allows-halted : (words : List (List ℕ)) (o : Outside) (readings : Readings) (halt : Halt) (status : Status) (written : List ℕ)

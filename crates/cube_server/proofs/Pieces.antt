@@ -71,13 +71,12 @@ pub joined-push : (pieces : List (Vec ℕ Global)) (piece : Vec ℕ Global) → 
 joined-push pieces piece = joined-append pieces (piece ∷ []) ∙ ap (λ l. joined pieces ++ l) (append-nil piece.items)
 
 -- the text of one user more
-pub numbered-piece : (told : List (List (Told (List ℕ)))) (i : ℕ) (one : List (Told (List ℕ))) (pieces later : List (Vec ℕ Global)) (piece : Vec ℕ Global)
-    → drop i told ≡ one ∷ drop (i + 1) told → later ≡ pieces ++ piece ∷ [] → piece.items ≡ user_text (i + 1) one
-    → joined pieces ++ numbered user_text (i + 1) (drop i told) ≡ users_text told
-    → joined later ++ numbered user_text (i + 1 + 1) (drop (i + 1) told) ≡ users_text told
-numbered-piece told i one pieces later piece next pushed is so_far =
-    let before : joined pieces ++ (user_text (i + 1) one ++ numbered user_text (i + 1 + 1) (drop (i + 1) told)) ≡ users_text told = rw next at so_far in
-    rw (pushed, joined-push pieces piece, is, append_assoc (joined pieces) (user_text (i + 1) one) (numbered user_text (i + 1 + 1) (drop (i + 1) told))) before
+pub numbered-piece : (all : List ℕ) (i : ℕ) (one : List (Told (List ℕ))) (left rest : List (List (Told (List ℕ)))) (pieces later : List (Vec ℕ Global)) (piece : Vec ℕ Global)
+    → left ≡ one ∷ rest → later ≡ pieces ++ piece ∷ [] → piece.items ≡ user_text (i + 1) one
+    → joined pieces ++ numbered user_text (i + 1) left ≡ all → joined later ++ numbered user_text (i + 1 + 1) rest ≡ all
+numbered-piece all i one left rest pieces later piece next pushed is so_far =
+    let before : joined pieces ++ (user_text (i + 1) one ++ numbered user_text (i + 1 + 1) rest) ≡ all = rw next at so_far in
+    rw (pushed, joined-push pieces piece, is, append_assoc (joined pieces) (user_text (i + 1) one) (numbered user_text (i + 1 + 1) rest)) before
 
 -- the texts of all users, and the history behind them
 pub output-joined : (told : List (List (Told (List ℕ)))) (log : List (Entry (List (ℕ × ℤ)))) (pieces later : List (Vec ℕ Global)) (piece : Vec ℕ Global)

@@ -19,7 +19,7 @@ use Rattle.cube_server.specs.declared.status.Status.TheVariants.{Done, Usage, Re
 use Rattle.file_passes.specs.Course.{IsCourse, names_of}
 use Rattle.file_passes.specs.Outside.{Outside, outside}
 use Rattle.cube_server.specs.Output.{output, refused_text, unread_text, usage_text}
-use Rattle.file_passes.specs.Pass.{Readings, Reads, Refuses}
+use Rattle.file_passes.specs.Pass.{Readings, Refuses, IsTurnOf}
 use Rattle.run_passes.specs.RefusalOrder.{run_of}
 use Rattle.model_counts.specs.Counts.{accepted_text}
 use Rattle.rule_model.specs.BoundModel.{BoundModel}
@@ -51,7 +51,7 @@ pub record AsksInTurn (words : List (List ℕ)) (o : Outside) : Type 0 where
   pub readings : Readings
   pub course : IsCourse (run_of words) o.known readings
   pub asked : AsksJust o readings []
-      ⊎ ((name : List ℕ) × (run_of words).stops readings (Reads name) × AsksJust o readings (name ∷ []))
+      ⊎ ((name : List ℕ) × IsTurnOf (run_of words) readings name × AsksJust o readings (name ∷ []))
 
 -- every pass went through, and the text is the output of the job that they found
 pub record IsDone (words : List (List ℕ)) (o : Outside) (text : List ℕ) : Type 0 where
@@ -88,7 +88,7 @@ pub record IsRefused (words : List (List ℕ)) (o : Outside) (text : List ℕ) :
 pub record IsReadFault (words : List (List ℕ)) (o : Outside) (text : List ℕ) : Type 0 where
   pub readings : Readings
   pub course : IsCourse (run_of words) o.known readings
-  pub turn : (run_of words).stops readings (Reads o.missed)
+  pub turn : IsTurnOf (run_of words) readings o.missed
   pub rose : Rose o.before o.after
   pub asked : AsksJust o readings (o.missed ∷ [])
   pub is_text : text ≡ unread_text o.missed

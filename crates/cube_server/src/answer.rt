@@ -82,7 +82,7 @@ fn served<R: Threads + Wait + Sync, G: Gate + Sync>(
     // an accepted model says of itself that it is one
     let _model = model.model();
     let served = serve_users(rt, alloc, gate, model, users)?;
-    let mut pieces = print_users(alloc, &served.told)?;
+    let mut pieces = print_users(alloc, served.told)?;
     pieces.push(print_history(alloc, &served.log)?)?;
     Ok(Answer {
         status: Status::Done,
@@ -90,13 +90,20 @@ fn served<R: Threads + Wait + Sync, G: Gate + Sync>(
     })
 }
 
-// The text of each user.
-fn print_users(alloc: Global, told: &[ListOf<Told<ReplyText>>]) -> Result<Vec<Vec<u8>>, AllocError>
-    ensures { IfOk result (λ pieces. joined pieces.items ≡ users_text told.now) }
+// The text of each user. The replies of one user are let go of before those of the next are printed.
+fn print_users(
+    alloc: Global,
+    told: Vec<ListOf<Told<ReplyText>>>,
+) -> Result<Vec<Vec<u8>>, AllocError>
+    ensures { IfOk result (λ pieces. joined pieces.items ≡ users_text told.items) }
 {
+    let count = told.len();
     let mut pieces = Vec::new(alloc);
-    for (index, of_user) in told.iter().enumerate() {
-        pieces.push(print_user(alloc, index + 1, of_user.as_slice())?)?;
+    let mut user = 0;
+    for of_user in told {
+        prove!(user < count);
+        user += 1;
+        pieces.push(print_user(alloc, user, of_user)?)?;
     }
     Ok(pieces)
 }

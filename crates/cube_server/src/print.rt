@@ -4,20 +4,26 @@ ghost use Rattle.cube_server.specs.Output.{refused_text, unread_text, usage_text
 
 use file_passes::{Cause, FilePlace, Refusal};
 use history::{Entry, Told};
+use lists::ListOf;
 use std::alloc::{AllocError, Global};
 use user_session::{CellWrites, ReplyText};
 
-/// The text of a user: the line `user U` and a line for each command.
+/// The text of a user: the line `user U` and a line for each command. Each reply is let go of once it is in the text.
 pub(crate) fn print_user(
     alloc: Global,
     user: usize,
-    told: &[Told<ReplyText>],
+    told: ListOf<Told<ReplyText>>,
 ) -> Result<Vec<u8>, AllocError>
-    ensures { IfOk result (λ text. text.items ≡ user_text user told.now) }
+    ensures { IfOk result (λ text. text.items ≡ user_text user told) }
 {
     let mut text = format!(in alloc; "user {user}\n")?.into_bytes();
-    for (index, one) in told.iter().enumerate() {
-        print_told(alloc, &mut text, index + 1, one)?;
+    let told = told.into_vec();
+    let count = told.len();
+    let mut number = 0;
+    for one in told {
+        prove!(number < count);
+        number += 1;
+        print_told(alloc, &mut text, number, &one)?;
     }
     Ok(text)
 }

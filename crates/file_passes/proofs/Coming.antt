@@ -15,10 +15,10 @@ use Rattle.file_passes.proofs.Going.{on-refl, on-later, grows-on, on-bind}
 pub halts-later : {A B : Type 0} (P : Pass A) (K : A → Pass B) (o : Outside) (old new : Readings) (h : Halt)
     → Halts P o old new h → Halts (P >>= K) o old new h
 halts-later P K o old new halts.NotWords h = (inl h.0, h.1, h.2)
-halts-later P K o old new halts.Unread h = (inl h.0, h.1, h.2)
+halts-later P K o old new halts.Unread ((extent, stops), rose, asks) = ((extent, inl stops), rose, asks)
 halts-later P K o old new (halts.Refused refusal) h = (inl h.0, h.1, h.2)
 halts-later P K o old new halts.Memory (inl asks) = inl asks
-halts-later P K o old new halts.Memory (inr (name, stops, asks)) = inr (name, inl stops, asks)
+halts-later P K o old new halts.Memory (inr (name, (extent, stops), asks)) = inr (name, (extent, inl stops), asks)
 
 pub comes-stopped : {A B : Type 0} (P : Pass A) (K : A → Pass B) (o : Outside) (old new : Readings) (h : Halt)
     → IsReadOn P o.known old new × Halts P o old new h → IsReadOn (P >>= K) o.known old new × Halts (P >>= K) o old new h
@@ -69,10 +69,11 @@ module _ {F : Type 0} (seen : F → Seen) where
 
     halts_on : (h : Halt) → P.finds new x → Halts (K x) (from b c) mid new h → Halts (P >>= K) (from a c) old new h
     halts_on halts.NotWords is h = (inr (x, is, h.0), h.1 ∙ went.1, λ base begun. h.2 base (went.2 base begun))
-    halts_on halts.Unread is h = (inr (x, is, h.0), subst (λ n. Rose n (seen c).faults) went.1 h.1, λ base begun. h.2 base (went.2 base begun))
+    halts_on halts.Unread is ((extent, stops), rose, asks) =
+        ((extent, inr (x, is, stops)), subst (λ n. Rose n (seen c).faults) went.1 rose, λ base begun. asks base (went.2 base begun))
     halts_on (halts.Refused refusal) is h = (inr (x, is, h.0), h.1 ∙ went.1, λ base begun. h.2 base (went.2 base begun))
     halts_on halts.Memory is (inl asks) = inl (λ base begun. asks base (went.2 base begun))
-    halts_on halts.Memory is (inr (name, stops, asks)) = inr (name, inr (x, is, stops), λ base begun. asks base (went.2 base begun))
+    halts_on halts.Memory is (inr (name, (extent, stops), asks)) = inr (name, (extent, inr (x, is, stops)), λ base begun. asks base (went.2 base begun))
 
     pub comes-next : (r : Result B Halt) → Comes (K x) (from b c) mid new r → Comes (P >>= K) (from a c) old new r
     comes-next (Ok y) then = (goes then.0, (x, kept then.0.0, then.1))

@@ -13,13 +13,13 @@ pub on-later : {A B : Type 0} (P : Pass A) (K : A → Pass B) (known : Contents)
     → IsReadOn P known old new → IsReadOn (P >>= K) known old new
 on-later P K known old [] on = on
 on-later P K known old (reading ∷ older) (inl same) = inl same
-on-later P K known old (reading ∷ older) (inr (turn, new, tells, on)) =
-    inr (inl turn, new, tells, on-later P K known old older on)
+on-later P K known old (reading ∷ older) (inr ((extent, turn, tells), new, on)) =
+    inr ((extent, inl turn, tells), new, on-later P K known old older on)
 
 pub grows-on : {A : Type 0} (P : Pass A) (known : Contents) (old new : Readings) → IsReadOn P known old new → Grows old new
 grows-on P known old [] on = subst (Grows old) on (λ name bytes is. is)
 grows-on P known old (reading ∷ older) (inl same) = subst (Grows old) same (λ name bytes is. is)
-grows-on P known old (reading ∷ older) (inr (turn, new, tells, on)) =
+grows-on P known old (reading ∷ older) (inr (next, new, on)) =
     let before = grows-on P known old older on in
     let now = grows_past older reading new in
     λ name bytes is. now name bytes (before name bytes is)
@@ -30,12 +30,12 @@ pub on-bind : {A B : Type 0} (P : Pass A) (K : A → Pass B) (keeps : IsKept P) 
 on-bind P K keeps known a old mid [] finds before on = subst (IsReadOn (P >>= K) known old) on (on-later P K known old mid before)
 on-bind P K keeps known a old mid (reading ∷ older) finds before (inl same) =
     subst (IsReadOn (P >>= K) known old) same (on-later P K known old mid before)
-on-bind P K keeps known a old mid (reading ∷ older) finds before (inr (turn, new, tells, on)) =
+on-bind P K keeps known a old mid (reading ∷ older) finds before (inr ((extent, turn, tells), new, on)) =
     let found = keeps mid older a (grows-on (K a) known mid older on) finds in
-    inr (inr (a, found, turn), new, tells, on-bind P K keeps known a old mid older finds before on)
+    inr ((extent, inr (a, found, turn), tells), new, on-bind P K keeps known a old mid older finds before on)
 
 -- what was read from the first file on is a course
 pub course-of : {A : Type 0} (P : Pass A) (known : Contents) (readings : Readings) → IsReadOn P known [] readings → IsCourse P known readings
 course-of P known [] on = tt
 course-of P known (reading ∷ older) (inl same) = cc
-course-of P known (reading ∷ older) (inr (turn, new, tells, on)) = (turn, tells, course-of P known older on)
+course-of P known (reading ∷ older) (inr (next, new, on)) = (next, course-of P known older on)

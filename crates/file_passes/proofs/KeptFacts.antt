@@ -3,6 +3,7 @@ use Rattle.std.proofs.Common.{◌≡◌, ℕ, List, [], ◌∷◌, Option, Some,
 use Rattle.std.specs.Option.{option_map}
 use Rattle.std.specs.Str.{bytes_eq}
 use Rattle.std.proofs.lemmas.Slice.Eq.{bytes_eq-Decides}
+use Rattle.cube_outside.specs.declared.files.Extent.{Extent}
 use Rattle.file_passes.specs.Pass.{Source, Readings, bytes_of, Obstacle, Pass, Judgement, found, file, files, the, judged, ◌>>=◌}
 
 -- every file that was read before was read with the same bytes since
@@ -32,8 +33,8 @@ kept-found a old new b grows p = p
 pub kept-the : {A : Type 0} (Is : A → Type 0) (otherwise : Obstacle) → IsKept (the Is otherwise)
 kept-the Is otherwise old new a grows p = p
 
-pub kept-file : (name : List ℕ) → IsKept (file name)
-kept-file name old new source grows p = (grows name source.1 p.0, p.1)
+pub kept-file : (extent : Extent) (name : List ℕ) → IsKept (file extent name)
+kept-file extent name old new source grows p = (grows name source.1 p.0, p.1)
 
 pub kept-judged : {A : Type 0} (J : Judgement A) → IsKept (judged J)
 kept-judged J old new a grows p = p
@@ -41,8 +42,8 @@ kept-judged J old new a grows p = p
 pub kept-bind : {A B : Type 0} (P : Pass A) (K : A → Pass B) → IsKept P → ((a : A) → IsKept (K a)) → IsKept (P >>= K)
 kept-bind P K keeps all old new b grows p = (p.0, keeps old new p.0 grows p.1, all p.0 old new b grows p.2)
 
-pub kept-files : (names : List (List ℕ)) → IsKept (files names)
-kept-files [] = kept-found []
-kept-files (name ∷ more) =
-    kept-bind (file name) (λ first. files more >>= λ rest. found (first ∷ rest)) (kept-file name)
-    (λ first. kept-bind (files more) (λ rest. found (first ∷ rest)) (kept-files more) (λ rest. kept-found (first ∷ rest)))
+pub kept-files : (extent : Extent) (names : List (List ℕ)) → IsKept (files extent names)
+kept-files extent [] = kept-found []
+kept-files extent (name ∷ more) =
+    kept-bind (file extent name) (λ first. files extent more >>= λ rest. found (first ∷ rest)) (kept-file extent name)
+    (λ first. kept-bind (files extent more) (λ rest. found (first ∷ rest)) (kept-files extent more) (λ rest. kept-found (first ∷ rest)))

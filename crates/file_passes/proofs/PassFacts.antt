@@ -1,18 +1,19 @@
 -- A pass comes to one thing over one list of files, and what it has found stays while more files are read.
 use Rattle.std.proofs.Common.{◌≡◌, ℕ, List, [], ◌∷◌, Some, None, inl, inr, refl, sym, ◌∙◌, ap, subst}
+use Rattle.cube_outside.specs.declared.files.Extent.{Extent}
 use Rattle.file_passes.specs.declared.refusal.Refusal.{Refusal}
 use Rattle.file_passes.specs.Pass.{Source, Readings, Obstacle, NotWords, Reads, Refuses, Pass, Judgement, found, file, files, the, judged, ◌>>=◌}
 
--- two stops are alike: both for the words, both for the file that is to be read first, or both for a refusal
+-- two stops are alike: both for the words, both for as much of the file that is to be read first, or both for a refusal
 abbrev pub IsAlike : Obstacle → Obstacle → Type 0
 IsAlike NotWords NotWords = Unit {0}
-IsAlike NotWords (Reads name) = ⊥
+IsAlike NotWords (Reads extent name) = ⊥
 IsAlike NotWords (Refuses refusal) = ⊥
-IsAlike (Reads name) NotWords = ⊥
-IsAlike (Reads name) (Reads other) = name ≡ other
-IsAlike (Reads name) (Refuses refusal) = ⊥
+IsAlike (Reads extent name) NotWords = ⊥
+IsAlike (Reads extent name) (Reads other_extent other) = (extent ≡ other_extent) × (name ≡ other)
+IsAlike (Reads extent name) (Refuses refusal) = ⊥
 IsAlike (Refuses refusal) NotWords = ⊥
-IsAlike (Refuses refusal) (Reads name) = ⊥
+IsAlike (Refuses refusal) (Reads extent name) = ⊥
 IsAlike (Refuses refusal) (Refuses other) = Unit {0}
 
 -- a pass finds one thing at most, or it stops in one way
@@ -35,7 +36,7 @@ alike-found a b = record { one_stop = λ readings s t p q. absurd p; not_both = 
 
 alike-self : (s : Obstacle) → IsAlike s s
 alike-self NotWords = tt
-alike-self (Reads name) = refl
+alike-self (Reads extent name) = (refl, refl)
 alike-self (Refuses refusal) = tt
 
 -- what is one of these is alike
@@ -55,13 +56,13 @@ same_source x y names bytes =
     let second : List ℕ → Source = λ l. (y.0, l) in
     ap first names ∙ ap second bytes
 
-pub one-file : (name : List ℕ) → IsOne (file name)
-one-file name = record {
+pub one-file : (extent : Extent) (name : List ℕ) → IsOne (file extent name)
+one-file extent name = record {
   one_found = λ readings b c p q.
       let told : Some b.1 ≡ Some c.1 = sym p.0 ∙ q.0 in
       let bytes : b.1 ≡ c.1 = cc in
       same_source b c (p.1 ∙ sym q.1) bytes;
-  one_stop = λ readings s t p q. alike-of s t (Reads name) p.1 q.1;
+  one_stop = λ readings s t p q. alike-of s t (Reads extent name) p.1 q.1;
   not_both = λ readings b s p q. (let e : Some b.1 ≡ None = sym p.0 ∙ q.0 in cc);
 }
 
@@ -116,11 +117,11 @@ one-judged J one = record {
   not_both = λ readings a s p (r, q, e). one.not_both a r p q;
 }
 
-pub one-files : (names : List (List ℕ)) → IsOne (files names)
-one-files [] = one-found []
-one-files (name ∷ more) =
-    one-bind (file name) (λ first. files more >>= λ rest. found (first ∷ rest)) (one-file name)
-    (λ first. one-bind (files more) (λ rest. found (first ∷ rest)) (one-files more) (λ rest. one-found (first ∷ rest)))
+pub one-files : (extent : Extent) (names : List (List ℕ)) → IsOne (files extent names)
+one-files extent [] = one-found []
+one-files extent (name ∷ more) =
+    one-bind (file extent name) (λ first. files extent more >>= λ rest. found (first ∷ rest)) (one-file extent name)
+    (λ first. one-bind (files extent more) (λ rest. found (first ∷ rest)) (one-files extent more) (λ rest. one-found (first ∷ rest)))
 
 -- ---- passes alike
 

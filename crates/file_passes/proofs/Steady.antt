@@ -1,6 +1,7 @@
 -- Passes over files: each comes to one thing at most, keeps what it has found while more files are read, and doesn't
 -- blame the words.
 use Rattle.std.proofs.Common.{◌≡◌, ℕ, List, [], ◌∷◌, inl, inr}
+use Rattle.cube_outside.specs.declared.files.Extent.{Extent}
 use Rattle.file_passes.specs.Pass.{Readings, NotWords, Reads, Pass, Judgement, found, file, files, judged, ◌>>=◌}
 use Rattle.file_passes.proofs.KeptFacts.{IsKept, kept-found, kept-file, kept-files, kept-judged, kept-bind}
 use Rattle.file_passes.proofs.PassFacts.{AreAlike, alike-one, IsOne, IsOneJudgement, one-found, one-file, one-files, one-judged, one-bind}
@@ -13,20 +14,20 @@ pub record IsSteady {A : Type 0} (P : Pass A) : Type 0 where
 pub steady-found : {A : Type 0} (a : A) → IsSteady (found a)
 steady-found a = record { one = one-found a; kept = kept-found a; worded = λ readings stops. stops }
 
-worded-file : (name : List ℕ) (readings : Readings) → (file name).stops readings NotWords → ⊥
-worded-file name readings stops = (let never : NotWords ≡ Reads name = stops.1 in cc)
+worded-file : (extent : Extent) (name : List ℕ) (readings : Readings) → (file extent name).stops readings NotWords → ⊥
+worded-file extent name readings stops = (let never : NotWords ≡ Reads extent name = stops.1 in cc)
 
-worded-files : (names : List (List ℕ)) (readings : Readings) → (files names).stops readings NotWords → ⊥
-worded-files [] readings stops = stops
-worded-files (name ∷ more) readings (inl stops) = worded-file name readings stops
-worded-files (name ∷ more) readings (inr (first, is, inl stops)) = worded-files more readings stops
-worded-files (name ∷ more) readings (inr (first, is, inr stops)) = stops.2
+worded-files : (extent : Extent) (names : List (List ℕ)) (readings : Readings) → (files extent names).stops readings NotWords → ⊥
+worded-files extent [] readings stops = stops
+worded-files extent (name ∷ more) readings (inl stops) = worded-file extent name readings stops
+worded-files extent (name ∷ more) readings (inr (first, is, inl stops)) = worded-files extent more readings stops
+worded-files extent (name ∷ more) readings (inr (first, is, inr stops)) = stops.2
 
-pub steady-file : (name : List ℕ) → IsSteady (file name)
-steady-file name = record { one = one-file name; kept = kept-file name; worded = worded-file name }
+pub steady-file : (extent : Extent) (name : List ℕ) → IsSteady (file extent name)
+steady-file extent name = record { one = one-file extent name; kept = kept-file extent name; worded = worded-file extent name }
 
-pub steady-files : (names : List (List ℕ)) → IsSteady (files names)
-steady-files names = record { one = one-files names; kept = kept-files names; worded = worded-files names }
+pub steady-files : (extent : Extent) (names : List (List ℕ)) → IsSteady (files extent names)
+steady-files extent names = record { one = one-files extent names; kept = kept-files extent names; worded = worded-files extent names }
 
 pub worded-judged : {A : Type 0} (J : Judgement A) (readings : Readings) → (judged J).stops readings NotWords → ⊥
 worded-judged J readings stops = (let never = stops.2 in cc)

@@ -6,7 +6,7 @@ use Rattle.cube_outside.specs.declared.files.FileFault.TheVariants as faults
 use Rattle.file_passes.specs.declared.halt.Halt.{Halt}
 use Rattle.file_passes.specs.declared.halt.Halt.TheVariants as halts
 use Rattle.file_passes.specs.Outside.{Outside}
-use Rattle.file_passes.specs.Pass.{Readings, Pass, Judgement, NotWords, Reads, Refuses}
+use Rattle.file_passes.specs.Pass.{Readings, Pass, Judgement, NotWords, Refuses, IsTurnOf}
 use Rattle.file_passes.specs.Reading.{IsReadOn, Asks, Goes}
 
 -- what a fault of the files makes of a run
@@ -17,13 +17,13 @@ unread faults.Memory = halts.Memory
 -- just the names of the files that were read were asked for, and at most that of the file whose turn it was
 abbrev pub AsksAtMost : {A : Type 0} → Pass A → Outside → Readings → Readings → Type 0
 AsksAtMost pass o old new =
-    Asks o old new [] ⊎ ((name : List ℕ) × pass.stops new (Reads name) × Asks o old new (name ∷ []))
+    Asks o old new [] ⊎ ((name : List ℕ) × IsTurnOf pass new name × Asks o old new (name ∷ []))
 
 -- why the pass went no further over these files; out of memory, what was asked for at most
 abbrev pub Halts : {A : Type 0} → Pass A → Outside → Readings → Readings → Halt → Type 0
 Halts pass o old new halts.NotWords = pass.stops new NotWords × (o.after ≡ o.before) × Asks o old new []
 Halts pass o old new halts.Unread =
-    pass.stops new (Reads o.missed) × Rose o.before o.after × Asks o old new (o.missed ∷ [])
+    IsTurnOf pass new o.missed × Rose o.before o.after × Asks o old new (o.missed ∷ [])
 Halts pass o old new (halts.Refused refusal) =
     pass.stops new (Refuses refusal) × (o.after ≡ o.before) × Asks o old new []
 Halts pass o old new halts.Memory = AsksAtMost pass o old new

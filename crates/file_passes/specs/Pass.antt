@@ -3,6 +3,7 @@
 use Rattle.std.specs.Prelude.{◌≡◌, ℕ, List, [], ◌∷◌, Option, Some, None, find, ◌⊎◌}
 use Rattle.std.specs.Option.{option_map}
 use Rattle.std.specs.Str.{bytes_eq}
+use Rattle.cube_outside.specs.declared.files.Extent.{Extent}
 use Rattle.file_passes.specs.declared.refusal.Refusal.{Refusal}
 
 -- a file that was read: its name and its bytes
@@ -17,11 +18,11 @@ Readings = List Source
 abbrev pub bytes_of : Readings → List ℕ → Option (List ℕ)
 bytes_of readings name = option_map (λ reading. reading.1) (find (λ reading. bytes_eq reading.0 name) readings)
 
--- why a pass goes no further: the words aren't in the grammar, the file of this name is to be read first, or a file is
--- refused
+-- why a pass goes no further: the words aren't in the grammar, so much of the file of this name is to be read first, or
+-- a file is refused
 pub data Obstacle : Type 0 where
   NotWords : Obstacle
-  Reads : List ℕ → Obstacle
+  Reads : Extent → List ℕ → Obstacle
   Refuses : Refusal → Obstacle
 
 -- a pass, by its outcome over the files read so far: it finds what the next pass needs, or it stops
@@ -48,17 +49,21 @@ abbrev pub ◌>>=◌ : {A B : Type 0} → Pass A → (A → Pass B) → Pass B
   stops = λ readings stop. P.stops readings stop ⊎ ((a : A) × P.finds readings a × (K a).stops readings stop);
 }
 
--- the file of this name is read, unless it was read already
-abbrev pub file : List ℕ → Pass Source
-file name = record {
+-- so much of the file of this name is read, unless the file was read already
+abbrev pub file : Extent → List ℕ → Pass Source
+file extent name = record {
   finds = λ readings source. (bytes_of readings name ≡ Some source.1) × (source.0 ≡ name);
-  stops = λ readings stop. (bytes_of readings name ≡ None) × (stop ≡ Reads name);
+  stops = λ readings stop. (bytes_of readings name ≡ None) × (stop ≡ Reads extent name);
 }
 
--- all these files are read, in order
-abbrev pub files : List (List ℕ) → Pass (List Source)
-files [] = found []
-files (name ∷ more) = file name >>= λ first. (files more >>= λ rest. found (first ∷ rest))
+-- so much of each of these files is read, in order
+abbrev pub files : Extent → List (List ℕ) → Pass (List Source)
+files extent [] = found []
+files extent (name ∷ more) = file extent name >>= λ first. (files extent more >>= λ rest. found (first ∷ rest))
+
+-- it is the turn of the file of this name
+abbrev pub IsTurnOf : {A : Type 0} → Pass A → Readings → List ℕ → Type 0
+IsTurnOf pass readings name = (extent : Extent) × pass.stops readings (Reads extent name)
 
 -- the file of this name among those that were read
 abbrev pub source_of : List Source → List ℕ → Option Source

@@ -1,16 +1,15 @@
 -- How a pass goes on over files: which it reads, and what was asked of the files.
 use Rattle.std.specs.Prelude.{◌≡◌, List, [], ◌∷◌, ◌++◌, ℕ, None, ◌⊎◌}
-use Rattle.file_passes.specs.Course.{Contents, Tells, names_of}
+use Rattle.file_passes.specs.Course.{Contents, IsReadNext, names_of}
 use Rattle.file_passes.specs.Outside.{Outside}
-use Rattle.file_passes.specs.Pass.{Readings, bytes_of, Reads, Pass}
+use Rattle.file_passes.specs.Pass.{Readings, bytes_of, Pass}
 
--- from the older files on, each was read at its turn, was new, and gave what the files hold
+-- from the older files on, each was read at its turn, and was new
 abbrev pub IsReadOn : {A : Type 0} → Pass A → Contents → Readings → Readings → Type 0
 IsReadOn pass known old [] = old ≡ []
 IsReadOn pass known old (reading ∷ older) =
     (old ≡ reading ∷ older)
-    ⊎ (pass.stops older (Reads reading.0) × (bytes_of older reading.0 ≡ None) × Tells known reading.0 reading.1
-    × IsReadOn pass known old older)
+    ⊎ (IsReadNext pass known older reading × (bytes_of older reading.0 ≡ None) × IsReadOn pass known old older)
 
 -- where just the names of the older files had been asked for, just those of the newer ones were at the end, and then
 -- these

@@ -6,39 +6,41 @@ ghost use Rattle.cube_words.specs.Words.{texts_of};
 
 use crate::halt::Halt;
 use crate::readings::Readings;
-use cube_outside::Files;
+use cube_outside::{Extent, Files};
 use std::alloc::Global;
 
-/// Reads the file of this name, unless it was read before.
+/// Reads so much of the file of this name, unless the file was read before.
 pub fn obtain<F: Files>(
     alloc: Global,
     files: &mut F,
     readings: &mut Readings,
+    extent: Extent,
     name: &str,
 ) -> Result<(), Halt>
     ensures known { (F.seen files.new).known ≡ (F.seen files.old).known }
-    ensures through { ComesThrough (file name.now) (outside F.seen files.old files.new)
+    ensures through { ComesThrough (file extent name.now) (outside F.seen files.old files.new)
         readings.old readings.new result }
 {
-    match readings.read(alloc, files, name) {
+    match readings.read(alloc, files, extent, name) {
         Ok(()) => Ok(()),
         Err(fault) => Err(Halt::from(fault)),
     }
 }
 
-/// Reads the files of these names, in order.
+/// Reads so much of each of the files of these names, in order.
 pub fn obtain_all<F: Files>(
     alloc: Global,
     files: &mut F,
     readings: &mut Readings,
+    extent: Extent,
     names: &[String],
 ) -> Result<(), Halt>
     ensures known { (F.seen files.new).known ≡ (F.seen files.old).known }
-    ensures through { ComesThrough (files_named (texts_of names.now))
+    ensures through { ComesThrough (files_named extent (texts_of names.now))
         (outside F.seen files.old files.new) readings.old readings.new result }
 {
     for name in names {
-        if let Err(halt) = obtain(alloc, files, readings, name.as_str()) {
+        if let Err(halt) = obtain(alloc, files, readings, extent, name.as_str()) {
             return Err(halt);
         }
     }

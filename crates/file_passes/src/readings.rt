@@ -1,17 +1,18 @@
 ghost use Rattle.std.specs.Prelude.{◌≡◌, [], List, IfOk, IsSome, OnOk, OnErr, IsErrOf, ◌⊎◌, ◌∷◌};
 ghost use Rattle.std.specs.Option.{option_copied};
 ghost use Rattle.cube_outside.specs.Counts.{Rose};
+ghost use Rattle.cube_outside.specs.declared.files.Extent.{Extent};
 ghost use Rattle.file_passes.specs.Inside.Steps.{IsReadOnce};
 ghost use Rattle.file_passes.specs.Pass.{bytes_of, file, files, source_of, Source as SourceOf};
 ghost use Rattle.cube_words.specs.Words.{texts_of};
 
 use crate::reading::Reading;
-use cube_outside::{FileFault, Files};
+use cube_outside::{Extent, FileFault, Files};
 use std::alloc::{AllocError, Global};
 use std::collections::BTreeMap;
 use std::marker::Model;
 
-/// A file that was read, as it is judged: its name and its bytes.
+/// A file that was read, as it is judged: its name and those of its bytes that were read.
 #[derive(Drop)]
 pub struct Source<'a> {
     name: &'a str,
@@ -92,7 +93,7 @@ impl Readings {
     /// The file of this name, which was read.
     pub fn source<'a>(&'a self, name: &'a str) -> Source<'a>
         requires { IsSome (bytes_of self.now name.now) }
-        ensures { (file name.now).finds self.now result }
+        ensures { (extent : Extent) → (file extent name.now).finds self.now result }
     {
         Source {
             name,
@@ -106,8 +107,10 @@ impl Readings {
         alloc: Global,
         names: &'a [String],
     ) -> Result<Vec<Source<'a>>, AllocError>
-        requires { (all : List SourceOf) × (files (texts_of names.now)).finds self.now all }
-        ensures { IfOk result (λ all. (files (texts_of names.now)).finds self.now all.items) }
+        requires { (extent : Extent) × (all : List SourceOf)
+            × (files extent (texts_of names.now)).finds self.now all }
+        ensures { IfOk result (λ all. (extent : Extent)
+            → (files extent (texts_of names.now)).finds self.now all.items) }
     {
         let mut all = Vec::new(alloc);
         for name in names {
@@ -129,15 +132,16 @@ impl Readings {
         Ok(())
     }
 
-    /// Reads the file of this name, unless it was read before.
+    /// Reads so much of the file of this name, unless the file was read before.
     pub(crate) fn read<F: Files>(
         &mut self,
         alloc: Global,
         files: &mut F,
+        extent: Extent,
         name: &str,
     ) -> Result<(), FileFault>
-        ensures once { OnOk result (IsReadOnce (F.seen files.old).known name.now self.old self.new
-            (F.seen files.old).asked (F.seen files.new).asked) }
+        ensures once { OnOk result (IsReadOnce (F.seen files.old).known extent name.now
+            self.old self.new (F.seen files.old).asked (F.seen files.new).asked) }
         ensures unread { OnErr result ((bytes_of self.old name.now ≡ None) × (self.new ≡ self.old)) }
         ensures known { (F.seen files.new).known ≡ (F.seen files.old).known }
         ensures failed { IsErrOf result FileFault.Failed → Rose (F.seen files.old).faults (F.seen files.new).faults }
@@ -152,7 +156,7 @@ impl Readings {
         if self.bytes(name).is_some() {
             return Ok(());
         }
-        let bytes = files.read(alloc, name)?;
+        let bytes = files.read(alloc, name, extent)?;
         self.keep(alloc, name, bytes)?;
         Ok(())
     }

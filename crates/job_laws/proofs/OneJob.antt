@@ -1,6 +1,7 @@
 -- The passes of a run find one job.
 use Rattle.std.proofs.Common.{◌≡◌, ℕ, List, refl, sym, ◌∙◌, subst}
 use Rattle.std.specs.List.{AllZip}
+use Rattle.cube_outside.specs.declared.files.Extent.TheVariants.{Whole}
 use Rattle.cube_words.specs.Words.{Plan, Run, Check, Sample, IsPlan}
 use Rattle.file_passes.specs.Pass.{Readings, NotWords, Pass, the, files, judged, ◌>>=◌}
 use Rattle.file_passes.proofs.PassFacts.{one-files}
@@ -9,7 +10,7 @@ use Rattle.judged_files.specs.Scripts.{Scripts, Checked, script_files, scripts_j
 use Rattle.model_text.specs.Contents.{script_names, Contents as Text}
 use Rattle.rule_model.specs.BoundModel.{BoundModel}
 use Rattle.run_passes.specs.Inside.Plans.{behind_scripts, behind_rules, behind_text, behind_users, behind_model}
-use Rattle.run_passes.specs.RefusalOrder.{text_pass, deploy_pass, scripts_pass, model_pass}
+use Rattle.run_passes.specs.RefusalOrder.{as_text, text_pass, deploy_pass, scripts_pass, model_pass}
 use Rattle.run_passes.specs.RefusalOrder.{users_pass, records_pass, plan_pass, run_of}
 use Rattle.run_passes.specs.declared.run_job.RunJob.{RunJob}
 use Rattle.run_passes.specs.declared.run_job.RunJob.TheVariants as jobs
@@ -45,8 +46,8 @@ one-behind P K one next = same-behind (λ a b. a ≡ b) P K one next
 same-records : (scripts : Scripts) (texts : List (List UserCommand))
     → FindsSame (AllZip (AllZip IsSameCommand)) (records_pass scripts texts)
 same-records scripts texts =
-    same-behind (AllZip (AllZip IsSameCommand)) (files (record_files texts))
-    (λ sources. judged (commands_judgement scripts sources texts)) (one-files (record_files texts)).one_found
+    same-behind (AllZip (AllZip IsSameCommand)) (files Whole (record_files texts))
+    (λ sources. judged (commands_judgement scripts sources texts)) (one-files Whole (record_files texts)).one_found
     (λ sources readings a b. same_users scripts sources texts a b)
 
 same-served : (model : BoundModel) (xs ys : List (List PlanCommand)) (a b : RunJob)
@@ -76,8 +77,8 @@ same-sample size a b p q = rw p q
 module _ (answers : (bytes : List ℕ) → OneScriptAnswer bytes) where
   one-scripts : (names : List (List ℕ)) → FindsOne (scripts_pass names)
   one-scripts names =
-      one-behind (files names) (λ sources. judged (scripts_judgement sources))
-      (one-files names).one_found (λ sources readings a b. one_list answers sources a b)
+      one-behind (files as_text names) (λ sources. judged (scripts_judgement sources))
+      (one-files as_text names).one_found (λ sources readings a b. one_list answers sources a b)
 
   one-behind_rules : (files names : List (List ℕ)) (bound : BoundModel) → FindsOne (behind_rules files names bound)
   one-behind_rules files names bound =

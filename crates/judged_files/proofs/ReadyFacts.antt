@@ -3,6 +3,7 @@ use Rattle.std.proofs.Common.{◌≡◌, ℕ, ◌+◌, Bool, true, false, cond, 
 use Rattle.std.specs.List.{All, cons_option, find}
 use Rattle.std.specs.Option.{option_or}
 use Rattle.std.specs.Str.{bytes_eq}
+use Rattle.cube_outside.specs.declared.files.Extent.{Extent}
 use Rattle.file_passes.specs.Pass.{Readings, Source, files, source_of}
 use Rattle.file_passes.specs.declared.refusal.Cause.TheVariants.{UnknownScript}
 use Rattle.file_passes.specs.declared.refusal.Refusal.{Refusal}
@@ -91,8 +92,8 @@ found-first : {X : Type 0} (p : X → Bool) (x : X) (xs : List X) → p x ≡ tr
 found-first p x xs is = rw is refl
 
 -- the files that were read are there under their names
-module _ (readings : Readings) where
-  files-there : (names : List (List ℕ)) (sources : List Source) → (files names).finds readings sources → All (λ name. IsSome (source_of sources name)) names
+module _ (extent : Extent) (readings : Readings) where
+  files-there : (names : List (List ℕ)) (sources : List Source) → (files extent names).finds readings sources → All (λ name. IsSome (source_of sources name)) names
   files-there [] sources finds = all-none (λ name. IsSome (source_of sources name))
   files-there (name ∷ more) sources (first, read, (rest, others, is)) =
       let Q : List Source → List ℕ → Type 0 = λ all n. IsSome (source_of all n) in
@@ -144,16 +145,16 @@ module _ (scripts : Scripts) (sources : List Source) where
       (ready-users rest (all-rest K commands rest known) (all-behind Is (user_files commands) (record_files rest) read))
 
   -- each load is ready, once its script is known and the files of all records were read
-  pub all-ready : (readings : Readings) (users : List (List UserCommand)) → AreKnown scripts.names users → (files (record_files users)).finds readings sources
+  pub all-ready : (extent : Extent) (readings : Readings) (users : List (List UserCommand)) → AreKnown scripts.names users → (files extent (record_files users)).finds readings sources
       → All (AreReady scripts sources) users
-  all-ready readings users known finds = ready-users users known (files-there readings (record_files users) sources finds)
+  all-ready extent readings users known finds = ready-users users known (files-there extent readings (record_files users) sources finds)
 
 -- ---- how many scripts there are
 
-pub as-many-files : (readings : Readings) (names : List (List ℕ)) (sources : List Source) → (files names).finds readings sources → length sources ≡ length names
-as-many-files readings [] sources finds = rw finds refl
-as-many-files readings (name ∷ more) sources (first, read, (rest, others, is)) =
-    let same = as-many-files readings more rest others in
+pub as-many-files : (extent : Extent) (readings : Readings) (names : List (List ℕ)) (sources : List Source) → (files extent names).finds readings sources → length sources ≡ length names
+as-many-files extent readings [] sources finds = rw finds refl
+as-many-files extent readings (name ∷ more) sources (first, read, (rest, others, is)) =
+    let same = as-many-files extent readings more rest others in
     rw is (omega (arith, same))
 
 pub as-many-scripts : (sources : List Source) (scripts : List BoundScript) → AreScripts sources scripts → length scripts ≡ length sources

@@ -1,6 +1,7 @@
 -- One user's run has one text over files of the same bytes.
 use Rattle.std.proofs.Common.{◌≡◌, ℕ, ◌+◌, suc, List, [], ◌∷◌, length, Option, Some, refl, ap, sym, ◌∙◌, subst}
 use Rattle.cube_server.specs.Answer.{IsDone}
+use Rattle.cube_outside.specs.declared.files.Extent.{Extent}
 use Rattle.cube_words.specs.Words.{Run, IsPlan}
 use Rattle.file_passes.proofs.OneCourse.{same_course}
 use Rattle.file_passes.specs.Course.{IsCourse}
@@ -10,7 +11,7 @@ use Rattle.judged_files.specs.Loads.{AreCommands}
 use Rattle.judged_files.specs.Users.{AreUserTexts}
 use Rattle.run_passes.proofs.PlanFacts.{found_ends, one_run}
 use Rattle.run_passes.proofs.PlanWords.{one_plan}
-use Rattle.run_passes.specs.RefusalOrder.{plan_pass, run_of}
+use Rattle.run_passes.specs.RefusalOrder.{as_text, plan_pass, run_of}
 use Rattle.run_passes.specs.declared.run_job.RunJob.{RunJob}
 use Rattle.user_text.specs.declared.command.UserCommand.{UserCommand}
 use Rattle.job_laws.specs.Same.{IsSameJob}
@@ -19,10 +20,10 @@ use Rattle.output_laws.proofs.Alike.{zip_long}
 
 -- ---- a run of one user finds a job of one user
 
-files_long : (names : List (List ℕ)) (readings : Readings) (sources : List Source) → (files names).finds readings sources
+files_long : (extent : Extent) (names : List (List ℕ)) (readings : Readings) (sources : List Source) → (files extent names).finds readings sources
     → length sources ≡ length names
-files_long [] readings sources is = ap length is
-files_long (name ∷ more) readings sources is = ap length is.2.2 ∙ ap suc (files_long more readings is.2.0 is.2.1)
+files_long extent [] readings sources is = ap length is
+files_long extent (name ∷ more) readings sources is = ap length is.2.2 ∙ ap suc (files_long extent more readings is.2.0 is.2.1)
 
 texts_long : (before : ℕ) (sources : List Source) (users : List (List UserCommand)) → AreUserTexts before sources users
     → length users ≡ length sources
@@ -39,7 +40,7 @@ plan_serves_one model user readings job it =
     let sources = texts.1 in
     let long = zip_long (AreCommands it.0.scripts commands.1.0) texts.0 commands.0 commands.1.2 in
     subst ServesOneUser (sym commands.2)
-    (sym long ∙ texts_long 0 sources.0 texts.0 sources.2.texts ∙ files_long (user ∷ []) readings sources.0 sources.1)
+    (sym long ∙ texts_long 0 sources.0 texts.0 sources.2.texts ∙ files_long as_text (user ∷ []) readings sources.0 sources.1)
 
 run_serves_one : (words : List (List ℕ)) (model user : List ℕ) (readings : Readings) (job : RunJob)
     → IsPlan words (Run model (user ∷ [])) → (run_of words).finds readings job → ServesOneUser job

@@ -1,10 +1,11 @@
 -- The passes of a plan, one after another.
 use Rattle.std.proofs.Common.{◌≡◌, ℕ, List, Result, refl, sym, ◌∙◌, ap, subst}
 use Rattle.cube_outside.specs.Seen.{Seen}
+use Rattle.cube_outside.specs.declared.files.Extent.TheVariants.{Whole}
 use Rattle.cube_words.specs.Words.{Plan, Run, Check, Sample, IsPlan}
 use Rattle.file_passes.specs.Halting.{Comes}
 use Rattle.file_passes.specs.Outside.{Outside, outside}
-use Rattle.file_passes.specs.Pass.{Readings, NotWords, Reads, Pass, found, the, file, files, judged, ◌>>=◌}
+use Rattle.file_passes.specs.Pass.{Readings, NotWords, Reads, IsTurnOf, Pass, found, the, file, files, judged, ◌>>=◌}
 use Rattle.file_passes.specs.declared.halt.Halt.{Halt}
 use Rattle.file_passes.proofs.Coming.{comes-next}
 use Rattle.file_passes.proofs.Going.{on-refl}
@@ -22,7 +23,7 @@ use Rattle.rule_model.specs.BoundModel.{BoundModel}
 use Rattle.user_text.specs.declared.command.UserCommand.{UserCommand}
 use Rattle.run_passes.specs.declared.run_job.RunJob.{RunJob}
 use Rattle.run_passes.specs.declared.run_job.RunJob.TheVariants as jobs
-use Rattle.run_passes.specs.RefusalOrder.{text_pass, deploy_pass, scripts_pass, model_pass, users_pass, records_pass, plan_pass, run_of}
+use Rattle.run_passes.specs.RefusalOrder.{as_text, text_pass, deploy_pass, scripts_pass, model_pass, users_pass, records_pass, plan_pass, run_of}
 use Rattle.run_passes.specs.Inside.Plans.{checked_of, behind_scripts, behind_rules, behind_text, served, behind_users, behind_model}
 use Rattle.run_passes.proofs.PlanWords.{one_plan}
 
@@ -30,24 +31,24 @@ use Rattle.run_passes.proofs.PlanWords.{one_plan}
 
 pub steady-text : (name : List ℕ) → IsSteady (text_pass name)
 steady-text name =
-    steady-bind (file name) (λ source. judged (text_judgement source)) (steady-file name)
+    steady-bind (file as_text name) (λ source. judged (text_judgement source)) (steady-file as_text name)
     (λ source. steady-judged (text_judgement source) (one_text_judgement source))
 
 pub steady-deploy : (name : List ℕ) (contents : Text) → IsSteady (deploy_pass name contents)
 steady-deploy name contents =
-    steady-bind (files (rule_names contents.cubes)) (λ sources. judged (deployment_judgement name contents sources))
-    (steady-files (rule_names contents.cubes))
+    steady-bind (files as_text (rule_names contents.cubes)) (λ sources. judged (deployment_judgement name contents sources))
+    (steady-files as_text (rule_names contents.cubes))
     (λ sources. steady-judged (deployment_judgement name contents sources) (one_deployment_judgement name contents sources))
 
 pub kept-scripts : (names : List (List ℕ)) → IsKept (scripts_pass names)
 kept-scripts names =
-    kept-bind (files names) (λ sources. judged (scripts_judgement sources)) (kept-files names) (λ sources. kept-judged (scripts_judgement sources))
+    kept-bind (files as_text names) (λ sources. judged (scripts_judgement sources)) (kept-files as_text names) (λ sources. kept-judged (scripts_judgement sources))
 
 settled-scripts : (names : List (List ℕ)) → IsSettled (scripts_pass names)
 settled-scripts names = record {
-  alike = alike-behind (files names) (λ sources. judged (scripts_judgement sources)) (λ sources. judged (scripts_judgement sources)) (one-files names)
+  alike = alike-behind (files as_text names) (λ sources. judged (scripts_judgement sources)) (λ sources. judged (scripts_judgement sources)) (one-files as_text names)
       (λ sources. alike-once (scripts_judgement sources) (no_scripts_refused sources));
-  worded = worded-behind (files names) (λ sources. judged (scripts_judgement sources)) (steady-files names).worded
+  worded = worded-behind (files as_text names) (λ sources. judged (scripts_judgement sources)) (steady-files as_text names).worded
       (λ sources. worded-judged (scripts_judgement sources));
 }
 
@@ -100,18 +101,18 @@ same-names name readings a b p q =
 
 pub steady-users : (scripts names : List (List ℕ)) → IsSteady (users_pass scripts names)
 steady-users scripts names =
-    steady-bind (files names) (λ sources. judged (users_judgement scripts sources)) (steady-files names)
+    steady-bind (files as_text names) (λ sources. judged (users_judgement scripts sources)) (steady-files as_text names)
     (λ sources. steady-judged (users_judgement scripts sources) (one_users_judgement scripts sources))
 
 alike-records : (a b : Scripts) (texts : List (List UserCommand)) → AreAlike (records_pass a texts) (records_pass b texts)
 alike-records a b texts =
-    alike-behind (files (record_files texts)) (λ sources. judged (commands_judgement a sources texts)) (λ sources. judged (commands_judgement b sources texts))
-    (one-files (record_files texts))
+    alike-behind (files Whole (record_files texts)) (λ sources. judged (commands_judgement a sources texts)) (λ sources. judged (commands_judgement b sources texts))
+    (one-files Whole (record_files texts))
     (λ sources. alike-judged (commands_judgement a sources texts) (commands_judgement b sources texts) (λ r never. never) (λ r never. never))
 
 worded-records : (scripts : Scripts) (texts : List (List UserCommand)) (readings : Readings) → (records_pass scripts texts).stops readings NotWords → ⊥
 worded-records scripts texts =
-    worded-behind (files (record_files texts)) (λ sources. judged (commands_judgement scripts sources texts)) (steady-files (record_files texts)).worded
+    worded-behind (files Whole (record_files texts)) (λ sources. judged (commands_judgement scripts sources texts)) (steady-files Whole (record_files texts)).worded
     (λ sources. worded-judged (commands_judgement scripts sources texts))
 
 alike-behind_users : (a b : Checked) (texts : List (List UserCommand)) → AreAlike (behind_users a texts) (behind_users b texts)
@@ -169,5 +170,5 @@ module _ {F : Type 0} (seen : F → Seen) where
 
 -- a run that finds a job ends at no file
 pub found_ends : (words : List (List ℕ)) (readings : Readings) (job : RunJob) → (run_of words).finds readings job
-    → (name : List ℕ) → ¬ (run_of words).stops readings (Reads name)
-found_ends words readings job finds name stops = (one_run words).not_both readings job (Reads name) finds stops
+    → (name : List ℕ) → ¬ IsTurnOf (run_of words) readings name
+found_ends words readings job finds name (extent, stops) = (one_run words).not_both readings job (Reads extent name) finds stops

@@ -1,5 +1,7 @@
 -- The passes of a run, in order: the first that refuses gives the refusal.
-use Rattle.std.specs.Prelude.{ℕ, List}
+use Rattle.std.specs.Prelude.{ℕ, ◌+◌, ◌^◌, List}
+use Rattle.cube_outside.specs.declared.files.Extent.{Extent}
+use Rattle.cube_outside.specs.declared.files.Extent.TheVariants.{Whole, Front}
 use Rattle.cube_words.specs.Words.{Plan, Run, Check, Sample, IsPlan}
 use Rattle.file_passes.specs.Pass.{Pass, NotWords, found, the, file, files, judged, ◌>>=◌}
 use Rattle.model_text.specs.Contents.{Contents, script_names}
@@ -15,22 +17,26 @@ use Rattle.judged_files.specs.Scripts.{Scripts, Checked, script_files, scripts_j
 use Rattle.judged_files.specs.Users.{users_judgement}
 use Rattle.judged_files.specs.Loads.{record_files, commands_judgement}
 
+-- A text may have 2^30 bytes. Of a longer one no more is read than the first byte too many, for which it is refused.
+abbrev pub as_text : Extent
+as_text = Front (2 ^ 30 + 1)
+
 -- the model file is read, and is a model text
 abbrev pub text_pass : List ℕ → Pass Contents
 text_pass name = do
-  source ← file name
+  source ← file as_text name
   judged (text_judgement source)
 
 -- the files of the cubes' rules are read, and with them the model is deployed
 abbrev pub deploy_pass : List ℕ → Contents → Pass BoundModel
 deploy_pass name contents = do
-  sources ← files (rule_names contents.cubes)
+  sources ← files as_text (rule_names contents.cubes)
   judged (deployment_judgement name contents sources)
 
 -- all script files are read, and are scripts
 abbrev pub scripts_pass : List (List ℕ) → Pass (List BoundScript)
 scripts_pass names = do
-  sources ← files names
+  sources ← files as_text names
   judged (scripts_judgement sources)
 
 -- the model with all that belongs to it
@@ -44,13 +50,13 @@ model_pass name = do
 -- all user files are read, and are users' texts, in which each load is one of a script of these names
 abbrev pub users_pass : List (List ℕ) → List (List ℕ) → Pass (List (List UserCommand))
 users_pass scripts names = do
-  sources ← files names
+  sources ← files as_text names
   judged (users_judgement scripts sources)
 
--- the files of all records are read, and with them the commands are run
+-- the files of all records are read whole, and with them the commands are run
 abbrev pub records_pass : Scripts → List (List UserCommand) → Pass (List (List PlanCommand))
 records_pass scripts users = do
-  sources ← files (record_files users)
+  sources ← files Whole (record_files users)
   judged (commands_judgement scripts sources users)
 
 -- the passes of each plan

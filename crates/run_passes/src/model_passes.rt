@@ -7,7 +7,7 @@ ghost use Rattle.run_passes.specs.Inside.Plans.{behind_text, behind_rules};
 ghost use Rattle.run_passes.specs.RefusalOrder.{text_pass, deploy_pass, scripts_pass, model_pass};
 
 use accepted::Accepted;
-use cube_outside::Files;
+use cube_outside::{Extent, Files};
 use dim_name::Name;
 use file_passes::{Halt, Readings, obtain, obtain_all};
 use judged_files::{
@@ -18,6 +18,9 @@ use model_text::ModelText;
 use script_bound::BoundScript;
 use std::alloc::Global;
 use std::marker::Model;
+
+/// How much of a text is read: one byte more than it may have, so that a longer one is seen to be too long.
+pub(crate) const AS_TEXT: Extent = Extent::Front((1 << 30) + 1);
 
 /// A model that was accepted, with its scripts.
 #[derive(Drop)]
@@ -50,7 +53,7 @@ fn text_pass<F: Files>(
     ensures comes { Comes (text_pass name.now) (outside F.seen files.old files.new)
         readings.old readings.new result }
 {
-    if let Err(halt) = obtain(alloc, files, readings, name) {
+    if let Err(halt) = obtain(alloc, files, readings, AS_TEXT, name) {
         return Err(halt);
     }
     text_of(alloc, &readings.source(name))
@@ -72,7 +75,7 @@ fn deploy_pass<F: Files>(
         Ok(names) => names,
         Err(_) => return Err(Halt::Memory),
     };
-    if let Err(halt) = obtain_all(alloc, files, readings, &names) {
+    if let Err(halt) = obtain_all(alloc, files, readings, AS_TEXT, &names) {
         return Err(halt);
     }
     match readings.sources(alloc, &names) {
@@ -92,7 +95,7 @@ fn scripts_pass<F: Files>(
     ensures comes { Comes (scripts_pass (texts_of names.now))
         (outside F.seen files.old files.new) readings.old readings.new result }
 {
-    if let Err(halt) = obtain_all(alloc, files, readings, names) {
+    if let Err(halt) = obtain_all(alloc, files, readings, AS_TEXT, names) {
         return Err(halt);
     }
     match readings.sources(alloc, names) {

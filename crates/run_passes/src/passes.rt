@@ -6,9 +6,9 @@ ghost use Rattle.judged_files.specs.Users.{AreKnown};
 ghost use Rattle.run_passes.specs.Inside.Plans.{behind_model, behind_users};
 ghost use Rattle.run_passes.specs.RefusalOrder.{users_pass, records_pass, plan_pass, run_of};
 
-use crate::model_passes::{Checked, model_pass};
+use crate::model_passes::{AS_TEXT, Checked, model_pass};
 use crate::run_job::RunJob;
-use cube_outside::Files;
+use cube_outside::{Extent, Files};
 use cube_words::{Plan, WordsFault, words as plan_of};
 use dim_name::Name;
 use file_passes::{Halt, Readings, obtain_all};
@@ -30,7 +30,7 @@ fn users_pass<F: Files>(
     ensures comes { Comes (users_pass scripts.now (texts_of names.now))
         (outside F.seen files.old files.new) readings.old readings.new result }
 {
-    if let Err(halt) = obtain_all(alloc, files, readings, names) {
+    if let Err(halt) = obtain_all(alloc, files, readings, AS_TEXT, names) {
         return Err(halt);
     }
     match readings.sources(alloc, names) {
@@ -39,7 +39,7 @@ fn users_pass<F: Files>(
     }
 }
 
-// The files of all records. The script of each load is there.
+// The files of all records, each whole. The script of each load is there.
 fn records_pass<F: Files>(
     alloc: Global,
     files: &mut F,
@@ -56,7 +56,7 @@ fn records_pass<F: Files>(
         Ok(names) => names,
         Err(_) => return Err(Halt::Memory),
     };
-    if let Err(halt) = obtain_all(alloc, files, readings, &names) {
+    if let Err(halt) = obtain_all(alloc, files, readings, Extent::Whole, &names) {
         return Err(halt);
     }
     let sources = match readings.sources(alloc, &names) {

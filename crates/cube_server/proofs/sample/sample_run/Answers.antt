@@ -1,4 +1,4 @@
-use Rattle.std.proofs.Common.{◌∙◌, ap, map, refl, Some, rules}
+use Rattle.std.proofs.Common.{◌∙◌, ap, map, refl, reverse, Some, rules}
 use Rattle.cube_outside.specs.NamedBytes.{bytes_named}
 use Rattle.cube_outside.specs.Seen.{Seen}
 use Rattle.cube_outside.specs.declared.memory_files.MemoryFiles.{MemoryFiles}
@@ -13,7 +13,7 @@ seen files = record {
   known = Some (bytes_named files.pairs.items);
   faults = files.count;
   missed = files.missed.items;
-  asked = map (λ name. name.items) files.asked.items;
+  asked = reverse (map (λ name. name.items) files.asked.items);
 }
 
 pub returns-in-Ok-Serve : goal.returns-in-Ok-Serve

@@ -7,6 +7,6 @@ use Rattle.file_passes.proofs.obtaining.obtain_all.Given as goal
 abbrev pub invariant-loop-name : goal.invariant-loop-name
 invariant-loop-name g l = record {
   known : (g.F.Files.seen l.files).known ≡ (g.F.Files.seen l.fn.files).known;
-  on : CarriesOn g.F.Files.seen (texts_of l.names) l.fn.files l.fn.readings
+  on : CarriesOn g.F.Files.seen l.extent (texts_of l.names) l.fn.files l.fn.readings
       (texts_of (drop l.name-index l.names)) l.files l.readings;
 }

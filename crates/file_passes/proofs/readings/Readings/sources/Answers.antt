@@ -10,13 +10,14 @@ loop-name-preserved c =
     let rest = texts_of (drop (c.loop-name.name-index + 1) c.args.names.now) in
     let next : texts_of (drop c.loop-name.name-index c.args.names.now) ≡ string_bytes item ∷ rest =
     texts-drop c.args.names.now c.loop-name.name-index item c.loop-name-test.true c.name-item.is in
-    let known = subst (λ l. (files l).finds c.args.self.now c.loop-name.invariant.rest.0) next c.loop-name.invariant.rest.1 in
-    let found = subst (λ n. (file n).finds c.args.self.now c.source.result) c.as_str.ensures.value c.source.ensures in
+    let before = c.loop-name.invariant.rest in
+    let known = subst (λ l. (files before.0 l).finds c.args.self.now before.1) next before.2 in
     let pushed : c.push.new.self.items ≡ c.loop-name.all.items ++ c.source.result ∷ [] = search rules in
     record {
-      rest = (known.2.0, known.2.1);
-      behind = λ more is.
-          let here = subst (λ l. (files l).finds c.args.self.now (c.source.result ∷ more)) (sym next) (c.source.result, found, (more, is, refl)) in
-          let all = c.loop-name.invariant.behind (c.source.result ∷ more) here in
+      rest = (before.0, known.2.0, known.2.1);
+      behind = λ extent more is.
+          let found = subst (λ n. (file extent n).finds c.args.self.now c.source.result) c.as_str.ensures.value (c.source.ensures extent) in
+          let here = subst (λ l. (files extent l).finds c.args.self.now (c.source.result ∷ more)) (sym next) (c.source.result, found, (more, is, refl)) in
+          let all = c.loop-name.invariant.behind extent (c.source.result ∷ more) here in
           rw (pushed, append_assoc c.loop-name.all.items (c.source.result ∷ []) more) all;
     }
