@@ -65,7 +65,7 @@ fn follow_by(
     ensures { IfSome result (λ _.
         Adds (FeedsBy (system_of model.now) (feed_of model.now.space cube feeder.now) cell) led.old led.new) }
 {
-    if !is_source(model, cube, &feeder.area, elements) {
+    if !is_source(model, cube, feeder.area.get(), elements) {
         return Some(());
     }
     let Some(named) = target(model.model(), &feeder.target, cell) else {

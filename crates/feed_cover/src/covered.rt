@@ -131,7 +131,7 @@ fn feeds_all<'a>(
     if !reaches_all(model, view, &feeder.target) {
         return false;
     }
-    has_sources(model, view, &feeder.area, known)
+    has_sources(model, view, feeder.area.get(), known)
 }
 
 // Whether some feeder of a cube does.

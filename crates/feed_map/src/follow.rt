@@ -140,7 +140,7 @@ fn follow_by(
         reached.old.growth reached.new.growth) }
     ensures totals { OnOk result (AreOpened model.now reached.new.totals reached.new.growth) }
 {
-    if !is_source(model, cube, &feeder.area, elements) {
+    if !is_source(model, cube, feeder.area.get(), elements) {
         return Ok(());
     }
     add_target(model.model(), &feeder.target, cell, reached)

@@ -37,7 +37,7 @@ pub fn choices_of(
     choose_listed(
         model.space(),
         dims,
-        feeder.area.sets.as_slice(),
+        feeder.area.get().sets.as_slice(),
         &mut choices,
     );
     choose_kept(model, cube, &feeder.target, cell, &mut choices);

@@ -53,5 +53,5 @@ pub fn is_source_of(
     requires feeder { IsFeeder model.now.space cube feeder.now }
     ensures { IsTrue result ↔ (feed_of model.now.space cube feeder.now).source cell ≡ true }
 {
-    is_source(model, cube, &feeder.area, elements)
+    is_source(model, cube, feeder.area.get(), elements)
 }

@@ -1,4 +1,4 @@
-ghost use Rattle.std.specs.Prelude.{◌≡◌, ◌<◌, length, IfOk};
+ghost use Rattle.std.specs.Prelude.{◌<◌, length};
 ghost use Rattle.bind_areas.specs.Meaning.{Answers};
 ghost use Rattle.rule_bind.specs.Rules.{target_of, feeders_to, feeders_of};
 
@@ -7,9 +7,9 @@ use bind_areas::{BindCause, bind_area, bind_bracket};
 use cube_space::Space;
 use lists::ListOf;
 use rule_laws::Reference;
-use rule_model::{Area, Feeder};
+use rule_model::{Feeder, SharedArea};
 use rule_tree::{FeederText, TargetText};
-use std::alloc::{AllocError, Global};
+use std::alloc::Global;
 
 // A cell that a feeder feeds.
 fn target_of(
@@ -27,45 +27,13 @@ fn target_of(
     }
 }
 
-fn copy_of_set(alloc: Global, set: &Option<ListOf<u32>>) -> Result<Option<ListOf<u32>>, AllocError>
-    ensures { IfOk result (λ copy. copy ≡ set.now) }
-{
-    match set {
-        None => Ok(None),
-        Some(elements) => {
-            let elements = Vec::from_slice(alloc, elements.as_slice())?;
-            Ok(Some(ListOf::new(elements)))
-        }
-    }
-}
-
-fn copies_of(
-    alloc: Global,
-    sets: &[Option<ListOf<u32>>],
-) -> Result<ListOf<Option<ListOf<u32>>>, AllocError>
-    ensures { IfOk result (λ copies. copies ≡ sets.now) }
-{
-    let mut copies = Vec::new(alloc);
-    for set in sets {
-        copies.push(copy_of_set(alloc, set)?)?;
-    }
-    Ok(ListOf::new(copies))
-}
-
-fn copy_of(alloc: Global, area: &Area) -> Result<Area, AllocError>
-    ensures { IfOk result (λ copy. copy ≡ area.now) }
-{
-    let sets = copies_of(alloc, area.sets.as_slice())?;
-    Ok(Area { sets })
-}
-
-// A feeder for each target.
+// A feeder for each target, which all share the area.
 fn feeders_to(
     alloc: Global,
     space: &Space,
     cube: u32,
     statement: u32,
-    area: &Area,
+    area: &SharedArea,
     targets: &[TargetText],
 ) -> Result<ListOf<Feeder>, BindCause>
     requires { cube < length space.now.cubes }
@@ -74,7 +42,7 @@ fn feeders_to(
     let mut feeders = Vec::new(alloc);
     for target in targets {
         let target = target_of(alloc, space, cube, target)?;
-        let area = copy_of(alloc, area)?;
+        let area = area.share()?;
         feeders.push(Feeder {
             area,
             target,
@@ -97,6 +65,7 @@ pub fn feeders_of(
     ensures { Answers (feeders_of space.now cube statement text.now) result }
 {
     let area = bind_area(alloc, space, cube, text.area.as_slice())?;
+    let area = SharedArea::new(alloc, area)?;
     feeders_to(
         alloc,
         space,

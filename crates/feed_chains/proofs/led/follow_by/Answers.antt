@@ -29,7 +29,7 @@ returns-then-not-is_source c =
     let is_in : List ℕ → Bool = in_source_sets (axes m.space c.args.cube) c.args.feeder.now.area.sets in
     adds-none (FeedsBy (system_of m) (feed_of m.space c.args.cube c.args.feeder.now) c.args.cell) c.args.led.now c.args.led.now refl
     (λ x by. let on = by-source m c.args.cell x c.args.cube c.args.feeder.now c.requires.cell c.requires.leaf c.requires.cube by in
-    let clash : true ≡ false = sym on ∙ ap is_in c.requires.elements ∙ sym c.is_source.ensures ∙ off in cc)
+    let clash : true ≡ false = sym on ∙ ap is_in c.requires.elements ∙ sym (rw c.get.ensures at c.is_source.ensures) ∙ off in cc)
 
 -- what it feeds is named
 stands : (c : After-target) (x : ℕ) → FeedsBy (system_of c.args.model.now) (feed_of c.args.model.now.space c.args.cube c.args.feeder.now) c.args.cell x → StandsFor c.args.model.now c.args.feeder.now.target c.args.cell x

@@ -17,7 +17,7 @@ returns-clause-feeds c =
     let its : c.args.feeder.now.target.cube ≡ c.args.view.cube = search rules in
     let on : c.reaches_all.result ≡ true = search rules in
     let reach = ap (λ l. all_reach l ds 0 c.args.feeder.now.target.args) (sym leaves) ∙ sym c.reaches_all.ensures ∙ on in
-    c.has_sources.ensures.sources ∙ ap (λ l. all_named l (are_sources ds c.args.feeder.now.area.sets) 0 r.args) leaves
+    (rw c.get.ensures at c.has_sources.ensures.sources) ∙ ap (λ l. all_named l (are_sources ds c.args.feeder.now.area.sets) 0 r.args) leaves
     ∙ all-hold (c.args.own == r.cube) (c.args.feeder.now.target.cube == c.args.view.cube) (all_named look (are_sources ds c.args.feeder.now.area.sets) 0 r.args) (all_reach look ds 0 c.args.feeder.now.target.args)
     (eq-eqb _ _ own) (eq-eqb _ _ its) reach
 

@@ -19,7 +19,7 @@ is_source-requires-clause-place c =
 
 -- the area stands for the cell
 on : (c : After-is_source) → c.is_source.result ≡ true → in_source_sets (axes c.args.model.now.space c.args.cube) c.args.feeder.now.area.sets (elements_of c.args.model.now.space c.args.cell) ≡ true
-on c sure = ap (λ (es : List ℕ). in_source_sets (axes c.args.model.now.space c.args.cube) c.args.feeder.now.area.sets es) c.requires.elements ∙ sym c.is_source.ensures ∙ sure
+on c sure = ap (λ (es : List ℕ). in_source_sets (axes c.args.model.now.space c.args.cube) c.args.feeder.now.area.sets es) c.requires.elements ∙ sym (rw c.get.ensures at c.is_source.ensures) ∙ sure
 
 pub returns-clause-gains : goal.returns-clause-gains
 returns-clause-gains c =

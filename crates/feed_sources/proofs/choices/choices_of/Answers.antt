@@ -3,6 +3,7 @@ use Rattle.std.specs.Prelude.{slice_get}
 use Rattle.dim_core.specs.Outline.{Outline}
 use Rattle.cube_space.specs.Layout.{Layout, axes, axes_of}
 use Rattle.cube_space.specs.Cells.{elements_of}
+use Rattle.rule_model.specs.declared.area.Area.{Area}
 use Rattle.rule_model.specs.Areas.{in_source_sets}
 use Rattle.rule_model.proofs.Shapes.{shape_dims}
 use Rattle.feed_sources.specs.Inside.Choices.{AreChosen}
@@ -24,6 +25,6 @@ returns c = λ x by.
     ap (λ (ds : List Outline). in_source_sets ds c.args.feeder.now.area.sets es) (sym same) ∙ source-has m x c.args.cube c.args.feeder.now parts.leaf own parts.source in
     let begun : in_source_sets (axes_of c.space-2.result.now.dimensions c.as_slice-dims.result.now) c.as_slice.result.now es ≡ true =
     ap (λ (l : Layout). in_source_sets (axes_of l.dimensions c.as_slice-dims.result.now) c.as_slice.result.now es) c.space-2.ensures.space
-    ∙ ap (λ (sets : List (Option (List ℕ))). in_source_sets (axes_of m.space.dimensions c.as_slice-dims.result.now) sets es) c.as_slice.ensures ∙ on in
+    ∙ ap (λ (sets : List (Option (List ℕ))). in_source_sets (axes_of m.space.dimensions c.as_slice-dims.result.now) sets es) (c.as_slice.ensures ∙ ap (λ (a : Area). a.sets) c.get.ensures) ∙ on in
     let listed : AreChosen c.choose_listed.new.choices es = c.choose_listed.ensures es begun (none-chosen 16 es) in
     c.choose_kept.ensures x parts.cell own parts.leaf parts.stands listed

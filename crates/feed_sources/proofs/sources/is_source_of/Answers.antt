@@ -14,7 +14,8 @@ is_source-requires-clause-place c =
 
 pub returns : goal.returns
 returns c =
+    let is = rw c.get.ensures at c.is_source.ensures in
     let same = ap (λ (es : List ℕ). in_source_sets (axes c.args.model.now.space c.args.cube) c.args.feeder.now.area.sets es) c.requires.elements in (
-      λ sure. has-source c.args.model.now c.args.cell c.args.cube c.args.feeder.now c.requires.leaf c.requires.cube (same ∙ sym c.is_source.ensures ∙ sure),
-      λ has. c.is_source.ensures ∙ sym same ∙ source-has c.args.model.now c.args.cell c.args.cube c.args.feeder.now c.requires.leaf c.requires.cube has,
+      λ sure. has-source c.args.model.now c.args.cell c.args.cube c.args.feeder.now c.requires.leaf c.requires.cube (same ∙ sym is ∙ sure),
+      λ has. is ∙ sym same ∙ source-has c.args.model.now c.args.cell c.args.cube c.args.feeder.now c.requires.leaf c.requires.cube has,
     )
