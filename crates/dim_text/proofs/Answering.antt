@@ -1,9 +1,6 @@
 -- From what the reader of a block gives to what is answered.
 use Rattle.std.proofs.Common.{◌≡◌, ◌≤◌, ℕ, ◌-◌, ◌+◌, List, ◌∷◌, ◌++◌, length, drop, Ok, Err, codes, true, sym, ◌∙◌, ap, subst, arith, length-append, length-drop}
-use Rattle.std.proofs.lemmas.List.{length-map, drop-map}
-use Rattle.cube_lex.specs.Lexeme.{Lexeme, lexeme_of}
-use Rattle.cube_lex.specs.declared.token.Token.{Token}
-use Rattle.grammar.specs.Cursor.{lexemes}
+use Rattle.cube_lex.specs.Lexeme.{Lexeme}
 use Rattle.grammar.specs.Fault.{line_at, IsSyntax, IsRefused}
 use Rattle.grammar.specs.Reading.{Unexpected, Refused}
 use Rattle.grammar.specs.Tokens.{is_word}
@@ -41,12 +38,9 @@ block_told all from text left p read built =
     let (fewer, place) = places all block left from t v parts some in
     (fewer, record { block = block; rest = left; parts = parts; next_is = place; built = p; text_of = is; is_built = built })
 
--- the same over the tokens as they lie in memory
-pub block_at_told : (all : List Lexeme) (from : ℕ) (given left : List Token) (text : Text) → lexemes given ≡ drop from all → GivesText (Ok text) (lexemes left) (read_block nothing (lexemes given)) → (length left ≤ length all) × IsBlock (drop from all) from text (length all - length left)
-block_at_told all from given left text same (p, read, built) =
-    let (fewer, is) = block_told all from text (lexemes left) p (subst (λ ts. read_block nothing ts ≡ Ok (tt, p, lexemes left)) same read) built in
-    let size : length (lexemes left) ≡ length left = length-map left lexeme_of in
-    (subst (λ n. n ≤ length all) size fewer, subst (λ n. IsBlock (drop from all) from text (length all - n)) size is)
+-- the same for a reader that was given these tokens
+pub block_at_told : (all : List Lexeme) (from : ℕ) (given left : List Lexeme) (text : Text) → given ≡ drop from all → GivesText (Ok text) left (read_block nothing given) → (length left ≤ length all) × IsBlock (drop from all) from text (length all - length left)
+block_at_told all from given left text same (p, read, built) = block_told all from text left p (subst (λ ts. read_block nothing ts ≡ Ok (tt, p, left)) same read) built
 
 -- tokens that begin with a block aren't stuck
 no_block : (ts : List Lexeme) (n : ℕ) → read_block nothing ts ≡ Err (Unexpected n) → BeginsNoBlock ts
@@ -55,14 +49,12 @@ no_block ts n stuck block rest parts is =
     let agreed : Agrees {R = Progress} {C = Refusal} tt rest (read_block nothing (block ++ rest)) = block_exact.complete nothing block tt rest is tt in
     subst (Agrees {R = Progress} {C = Refusal} tt rest) (ap (read_block nothing) (sym parts) ∙ stuck) agreed
 
-pub fault_told : (ts : List Lexeme) (given left : List Token) (end_line : ℕ) (stop : Stop Refusal) (fault : DimTextFault) → lexemes given ≡ ts → GivesText (Err stop) (lexemes left) (read_block nothing (lexemes given)) → Explains given end_line stop fault → IsFault ts end_line fault.line fault.cause
+pub fault_told : (ts : List Lexeme) (given left : List Lexeme) (end_line : ℕ) (stop : Stop Refusal) (fault : DimTextFault) → given ≡ ts → GivesText (Err stop) left (read_block nothing given) → Explains given end_line stop fault → IsFault ts end_line fault.line fault.cause
 fault_told ts given left end_line stops.Memory fault same read told = subst (IsFault ts end_line fault.line) (sym told.1) told.0
 fault_told ts given left end_line (stops.Unexpected n) fault same read told =
     let stuck : read_block nothing ts ≡ Err (Unexpected n) = subst (λ x. read_block nothing x ≡ Err (Unexpected n)) same read in
     let is : IsSyntax (λ t. t.line) dimension building nothing ts end_line (line_at (λ t. t.line) end_line (drop (length ts - n) ts)) = stuck_told block_exact tt (λ t. t.line) end_line nothing ts n stuck in
-    let dropped : lexemes (drop (length given - n) given) ≡ drop (length given - n) (lexemes given) = sym (drop-map lexeme_of (length given - n) given) in
-    let size : length given ≡ length (lexemes given) = sym (length-map given lexeme_of) in
-    let place : fault.line ≡ line_at (λ t. t.line) end_line (drop (length ts - n) ts) = told.0 ∙ ap (line_at (λ t. t.line) end_line) (dropped ∙ ap (λ k. drop (k - n) (lexemes given)) size ∙ ap (λ x. drop (length x - n) x) same) in
+    let place : fault.line ≡ line_at (λ t. t.line) end_line (drop (length ts - n) ts) = told.0 ∙ ap (λ x. line_at (λ t. t.line) end_line (drop (length x - n) x)) same in
     subst (IsFault ts end_line fault.line) (sym told.1) (no_block ts n stuck, subst (IsSyntax (λ t. t.line) dimension building nothing ts end_line) (sym place) is)
 fault_told ts given left end_line (stops.Refused refusal) fault same read told =
     let is : IsRefused dimension building nothing ts refusal = refused_told block_exact nothing ts refusal (subst (λ x. read_block nothing x ≡ Err (Refused refusal)) same read) in

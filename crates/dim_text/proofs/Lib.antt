@@ -12,4 +12,3 @@ pub mod PrintedBack
 pub mod PrintedParts
 pub mod Answering
 pub mod ElementLoop
-pub mod Rests

@@ -1,6 +1,5 @@
 ghost use Rattle.std.specs.Prelude.{◌≡◌, ◌<◌, length, drop, All, OnOk};
 ghost use Rattle.cube_lex.specs.Lexed.{IsWellFormed};
-ghost use Rattle.grammar.specs.Cursor.{lexemes};
 ghost use Rattle.dim_text.specs.Answers.{Answers};
 ghost use Rattle.dim_text.specs.Building.{nothing, opened};
 ghost use Rattle.dim_text.specs.Progress.{Progress, IsBuilt};
@@ -12,7 +11,7 @@ use crate::element::{element_at, element_comes, head_at};
 use crate::fault::{DimTextCause, DimTextFault, Refusal};
 use crate::partial::PartialBlock;
 use crate::text::{Block, DimText};
-use cube_lex::{Token, Tokens};
+use cube_lex::{Tokens, TokensLeft};
 use dim_core::Name;
 use grammar::{Cursor, Stop, Unwatched, line_left, sign, word};
 use std::alloc::Global;
@@ -80,7 +79,7 @@ pub fn body_at(
     requires tokens { All IsWellFormed (ahead cursor.now) }
     requires name { IsQuotable name }
     ensures read { GivesText result (ahead cursor.new) (read_body (opened head name) (ahead cursor.old)) }
-    ensures shorter { OnOk result (length cursor.new.tokens.now < length cursor.old.tokens.now) }
+    ensures shorter { OnOk result (length cursor.new.tokens < length cursor.old.tokens) }
     ensures rest { OnOk result (All IsWellFormed (ahead cursor.new)) }
 {
     match statements_at(alloc, cursor, head, name) {
@@ -100,8 +99,8 @@ fn block_at(alloc: Global, cursor: &mut Cursor<'_, Unwatched>) -> Result<DimText
 }
 
 // Why a block that begins with these tokens is refused.
-fn fault_of(tokens: &[Token<'_>], end_line: u32, stop: Stop<Refusal>) -> DimTextFault
-    ensures { Explains tokens.now end_line stop result }
+fn fault_of(tokens: TokensLeft<'_>, end_line: u32, stop: Stop<Refusal>) -> DimTextFault
+    ensures { Explains tokens.entry end_line stop result }
 {
     match stop {
         Stop::Memory => DimTextFault {
@@ -119,17 +118,6 @@ fn fault_of(tokens: &[Token<'_>], end_line: u32, stop: Stop<Refusal>) -> DimText
     }
 }
 
-// The tokens from this place on.
-#[tactic(auto, using(crate::proofs::Rests::rest_is))]
-fn rest_from<'a>(tokens: &'a Tokens<'a>, from: usize) -> &'a [Token<'a>]
-    ensures tokens { lexemes result.now ≡ drop from tokens.now.lexemes }
-    ensures well_formed { All IsWellFormed tokens.now.lexemes }
-{
-    let all = tokens.as_slice();
-    let (_, rest) = all.split_at(from.min(all.len()));
-    rest
-}
-
 /// Reads the block that begins at token `from`, and gives it with the place of the token after it.
 pub fn read(
     alloc: Global,
@@ -138,10 +126,9 @@ pub fn read(
 ) -> Result<(DimText, usize), DimTextFault>
     ensures { Answers (drop from tokens.now.lexemes) tokens.now.end_line from result }
 {
-    let rest = rest_from(tokens, from);
-    let mut cursor = Cursor::new(rest, Unwatched);
+    let mut cursor = Cursor::new(tokens.left_from(from), Unwatched);
     match block_at(alloc, &mut cursor) {
         Ok(text) => Ok((text, tokens.len() - cursor.tokens.len())),
-        Err(stop) => Err(fault_of(rest, tokens.end_line(), stop)),
+        Err(stop) => Err(fault_of(tokens.left_from(from), tokens.end_line(), stop)),
     }
 }

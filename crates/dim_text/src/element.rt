@@ -1,5 +1,5 @@
 ghost use Rattle.std.specs.Prelude.{◌≡◌, codes};
-ghost use Rattle.grammar.specs.Cursor.{lexemes, Reads};
+ghost use Rattle.grammar.specs.Cursor.{Reads};
 ghost use Rattle.grammar.specs.Reading.{starts};
 ghost use Rattle.dim_text.specs.Readers.Reading as reading;
 ghost use Rattle.dim_text.specs.Statement.{signed};
@@ -143,7 +143,7 @@ fn attribute_at(alloc: Global, cursor: &mut Cursor<'_, Unwatched>) -> Result<Ele
 
 /// Whether an element's statement comes.
 pub fn element_comes(cursor: &Cursor<'_, Unwatched>) -> bool
-    ensures { result ≡ starts reading.is_element_word (lexemes cursor.now.tokens.now) }
+    ensures { result ≡ starts reading.is_element_word cursor.now.tokens }
 {
     word_comes(cursor, b"N") || word_comes(cursor, b"C") || word_comes(cursor, b"A")
 }

@@ -3,8 +3,6 @@ use Rattle.std.specs.Prelude.{◌≡◌, ℕ, ◌-◌, List, length, drop, Optio
 use Rattle.dim_core.specs.declared.fault.DimFault.{DimFault}
 use Rattle.dim_core.specs.declared.fault.DimFault.TheVariants as faults
 use Rattle.cube_lex.specs.Lexeme.{Lexeme}
-use Rattle.cube_lex.specs.declared.token.Token.{Token}
-use Rattle.grammar.specs.Cursor.{lexemes}
 use Rattle.grammar.specs.Reading.{Unexpected, Refused, Read}
 use Rattle.grammar.specs.declared.cursor.Cursor.{Cursor}
 use Rattle.grammar.specs.declared.cursor.Unwatched.{Unwatched}
@@ -22,7 +20,7 @@ use Rattle.dim_text.specs.declared.fault.DimTextCause.TheVariants as causes
 
 -- the tokens that a cursor has before it
 abbrev pub ahead : Cursor Unwatched → List Lexeme
-ahead cursor = lexemes cursor.tokens.now
+ahead cursor = cursor.tokens
 
 abbrev pub head_view : ℕ × List ℕ → Statement
 head_view head = Head head.0 head.1
@@ -75,10 +73,10 @@ GivesEnd (Err (stops.Unexpected left)) p tokens read = read ≡ Err (Unexpected 
 GivesEnd (Err (stops.Refused cause)) p tokens read = read ≡ Err (Refused cause)
 
 -- the fault says where the reader of these tokens stopped
-abbrev pub Explains : List Token → ℕ → Stop Refusal → DimTextFault → Type 0
+abbrev pub Explains : List Lexeme → ℕ → Stop Refusal → DimTextFault → Type 0
 Explains tokens end_line stops.Memory fault = (fault.line ≡ 0) × (fault.cause ≡ causes.Memory)
 Explains tokens end_line (stops.Unexpected left) fault =
-    (fault.line ≡ line_at (λ t. t.line) end_line (lexemes (drop (length tokens - left) tokens)))
+    (fault.line ≡ line_at (λ t. t.line) end_line (drop (length tokens - left) tokens))
     × (fault.cause ≡ causes.Syntax)
 Explains tokens end_line (stops.Refused cause) fault =
     (fault.line ≡ cause.line) × (fault.cause ≡ causes.Dim cause.fault)

@@ -1,5 +1,4 @@
 use Rattle.std.proofs.Common.{[], ◌∷◌, ◌++◌, refl, sym, ap, arith}
-use Rattle.std.proofs.lemmas.List.{length-map}
 use Rattle.std.proofs.lemmas.Result.{err_from_is_err_and}
 use Rattle.grammar.specs.Reading.{gives, bound}
 use Rattle.grammar.proofs.Loops.{begun_all, goes_further, is_done}
@@ -18,7 +17,7 @@ element-init c = ([], begun_all is_element_word (built read_element) _ _)
 pub element-smaller : goal.element-smaller
 element-smaller c =
     let fewer = element_shortens _ _ _ _ _ c.in_ok-element.ensures in
-    omega (arith, simp length-map at fewer)
+    omega (arith, fewer)
 
 pub element-preserved : goal.element-preserved
 element-preserved c =
