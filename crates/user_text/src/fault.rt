@@ -1,5 +1,3 @@
-use std::alloc::AllocError;
-
 /// Why a user's text is refused. The first fault in the text is the one given.
 #[derive(Debug, Drop)]
 pub enum UserFault {
@@ -10,17 +8,6 @@ pub enum UserFault {
     TooMany(u32),
     /// Out of memory.
     Memory,
-}
-
-impl From<AllocError> for UserFault {
-    ghost use Rattle.std.specs.Prelude.{◌≡◌};
-    ghost use Rattle.user_text.specs.declared.fault.UserFault.TheVariants.{Memory};
-
-    ghost from_gives = { λ _ e. e ≡ Memory };
-
-    fn from(_: AllocError) -> UserFault {
-        UserFault::Memory
-    }
 }
 
 /// One command more than there may be, with the line of its first word.
