@@ -8,11 +8,11 @@ use Rattle.file_passes.specs.Pass.{Source, Readings, Reads, Pass}
 abbrev pub Contents : Type 0
 Contents = Option (List ℕ → Option (List ℕ))
 
--- so much of the file of this name is these bytes, where that is known
+-- as much as this of the file of this name is these bytes, where that is known
 abbrev pub Tells : Contents → Extent → List ℕ → List ℕ → Type 0
 Tells known extent name bytes = IfSome known (λ content. option_map (part_of extent) (content name) ≡ Some bytes)
 
--- after these files it was the turn of one, and as much of it as was to be read gave what the files hold
+-- after these files it was the turn of this one, and its bytes are what the files hold, as much as was to be read
 abbrev pub IsReadNext : {A : Type 0} → Pass A → Contents → Readings → Source → Type 0
 IsReadNext pass known older reading =
     (extent : Extent) × pass.stops older (Reads extent reading.0) × Tells known extent reading.0 reading.1

@@ -18,8 +18,8 @@ Readings = List Source
 abbrev pub bytes_of : Readings → List ℕ → Option (List ℕ)
 bytes_of readings name = option_map (λ reading. reading.1) (find (λ reading. bytes_eq reading.0 name) readings)
 
--- why a pass goes no further: the words aren't in the grammar, so much of the file of this name is to be read first, or
--- a file is refused
+-- why a pass goes no further: the words aren't in the grammar, as much as this of the file of this name is to be read
+-- first, or a file is refused
 pub data Obstacle : Type 0 where
   NotWords : Obstacle
   Reads : Extent → List ℕ → Obstacle
@@ -49,14 +49,14 @@ abbrev pub ◌>>=◌ : {A B : Type 0} → Pass A → (A → Pass B) → Pass B
   stops = λ readings stop. P.stops readings stop ⊎ ((a : A) × P.finds readings a × (K a).stops readings stop);
 }
 
--- so much of the file of this name is read, unless the file was read already
+-- the file of this name is read, as much of it as this, unless it was read already
 abbrev pub file : Extent → List ℕ → Pass Source
 file extent name = record {
   finds = λ readings source. (bytes_of readings name ≡ Some source.1) × (source.0 ≡ name);
   stops = λ readings stop. (bytes_of readings name ≡ None) × (stop ≡ Reads extent name);
 }
 
--- so much of each of these files is read, in order
+-- all these files are read, in order, as much of each as this
 abbrev pub files : Extent → List (List ℕ) → Pass (List Source)
 files extent [] = found []
 files extent (name ∷ more) = file extent name >>= λ first. (files extent more >>= λ rest. found (first ∷ rest))

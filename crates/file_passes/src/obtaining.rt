@@ -9,7 +9,7 @@ use crate::readings::Readings;
 use cube_outside::{Extent, Files};
 use std::alloc::Global;
 
-/// Reads so much of the file of this name, unless the file was read before.
+/// Reads the file of this name, as much of it as is asked for, unless it was read before.
 pub fn obtain<F: Files>(
     alloc: Global,
     files: &mut F,
@@ -27,7 +27,7 @@ pub fn obtain<F: Files>(
     }
 }
 
-/// Reads so much of each of the files of these names, in order.
+/// Reads the files of these names, in order, as much of each as is asked for.
 pub fn obtain_all<F: Files>(
     alloc: Global,
     files: &mut F,

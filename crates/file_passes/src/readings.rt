@@ -132,7 +132,7 @@ impl Readings {
         Ok(())
     }
 
-    /// Reads so much of the file of this name, unless the file was read before.
+    /// Reads the file of this name, as much of it as is asked for, unless it was read before.
     pub(crate) fn read<F: Files>(
         &mut self,
         alloc: Global,

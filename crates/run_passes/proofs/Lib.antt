@@ -1,3 +1,4 @@
 pub mod PlanWords
 pub mod PlanFacts
 pub mod ScriptsNamed
+mod Fronts

@@ -1,2 +1,3 @@
 pub mod RefusalOrder
+pub mod Laws
 pub mod Inside

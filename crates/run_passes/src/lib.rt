@@ -2,12 +2,15 @@
 //!
 //! Read `specs/RefusalOrder.antt` first, the passes of a run in order, made of the words of crate `file_passes`; then
 //! [`run_passes`], which goes through them. What files are judged to be stands in crate `judged_files`. Behind `passes`
-//! there is `model_passes`, of the model with all that belongs to it.
+//! there is `model_passes`, of the model with all that belongs to it. `laws` says why no text is read further than to
+//! the first byte that is one too many.
 #![tactic(auto)]
 
+mod laws;
 mod model_passes;
 mod passes;
 mod run_job;
 
+pub use laws::fronts_read_alike;
 pub use passes::run_passes;
 pub use run_job::RunJob;

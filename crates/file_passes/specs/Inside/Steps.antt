@@ -8,7 +8,7 @@ use Rattle.file_passes.specs.Outside.{outside}
 use Rattle.file_passes.specs.Pass.{Readings, bytes_of, files}
 use Rattle.file_passes.specs.Halting.{ComesThrough}
 
--- the file of this name was there already and wasn't asked for, or it was asked for and so much of it read now
+-- the file of this name was there already and wasn't asked for, or it was asked for and as much of it as this read now
 abbrev pub IsReadOnce : Contents → Extent → List ℕ → Readings → Readings → List (List ℕ) → List (List ℕ) → Type 0
 IsReadOnce known extent name old new asked_before asked_after =
     (IsSome (bytes_of old name) × (new ≡ old) × (asked_after ≡ asked_before))
