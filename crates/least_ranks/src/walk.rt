@@ -79,7 +79,7 @@ impl Walk {
         ensures some { IfSome result (λ start. EndsWith self.now.parts start) }
         ensures none { IfNone result (length self.now.parts ≡ 0) }
     {
-        self.parts.last().copied()
+        last_of(&self.parts)
     }
 
     /// The place of the last node with slots left, where it is in the last part.
@@ -89,8 +89,8 @@ impl Walk {
         ensures some { IfSome result (IsTop self.now) }
         ensures none { IfNone result (IsIdle self.now) }
     {
-        match (self.busy.last(), self.parts.last()) {
-            (Some(place), Some(start)) if *start <= *place => Some(*place),
+        match (last_of(&self.busy), last_of(&self.parts)) {
+            (Some(place), Some(start)) if start <= place => Some(place),
             _ => None,
         }
     }
@@ -161,12 +161,20 @@ impl Walk {
     }
 }
 
+// The last of these numbers.
+fn last_of(numbers: &[u32]) -> Option<u32>
+    ensures some { IfSome result (λ last. EndsWith numbers.now last) }
+    ensures none { IfNone result (length numbers.now ≡ 0) }
+{
+    numbers.last().copied()
+}
+
 // Takes away the places after this one.
 fn cut(parts: &mut Vec<u32>, place: u32)
     requires { IsRising parts.old.items }
     ensures { IsCut parts.old.items parts.new.items place }
 {
-    'parts: while let Some(last) = parts.last().copied() {
+    'parts: while let Some(last) = last_of(parts) {
         if last <= place {
             return;
         }

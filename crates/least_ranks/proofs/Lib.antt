@@ -1,0 +1,6 @@
+pub mod EnterFacts
+pub mod JoinFacts
+pub mod PassFacts
+pub mod Rises
+pub mod SettleFacts
+pub mod Trodden
