@@ -54,6 +54,10 @@ module _ (graph : Arrows) (trail : Trail) (sound : IsSound graph trail) (place s
   pub IsSound-passed_on : IsSound graph (passed_on trail place (slot + 1))
   IsSound-passed_on = record { placed = sound.placed; parts = sound.parts; busy = busy; passed = passed; joined = sound.joined; ranked = sound.ranked; small = record { few = sound.small.few; room = sound.small.room; small = sound.small.small } }
 
+  -- and it is where it was
+  pub Goes-passed_on : IsTop trail place → IsTop (passed_on trail place (slot + 1)) place × (slice_index (passed_on trail place (slot + 1)).passed place ≡ slot + 1)
+  Goes-passed_on top = (record { last = top.last; above = top.above }, here)
+
 module _ (graph : Arrows) (trail : Trail) (sound : IsSound graph trail) (place : ℕ) (last : EndsWith trail.busy place)
     (none : graph.slots (slice_index trail.path place) ≤ slice_index trail.passed place) where
   front : take (length trail.busy - 1) trail.busy ≡ last.front
