@@ -1,6 +1,7 @@
 pub mod ClosedFacts
 pub mod EnterFacts
 pub mod JoinFacts
+pub mod OverFacts
 pub mod PassFacts
 pub mod Rises
 pub mod SettleFacts
