@@ -14,6 +14,7 @@ use crate::text::{Block, DimText};
 use cube_lex::{Tokens, TokensLeft};
 use dim_core::Name;
 use grammar::{Cursor, Stop, Unwatched, line_left, sign, word};
+use lists::TableKeys;
 use std::alloc::Global;
 
 // Reads the elements.
@@ -61,20 +62,24 @@ fn statements_at(
     cursor: &mut Cursor<'_, Unwatched>,
     head: u32,
     name: Name,
+    table: TableKeys,
 ) -> Result<Block, Stop<Refusal>>
     ensures { GivesText result (ahead cursor.new) (read_body (opened head name) (ahead cursor.old)) }
 {
-    let partial = elements_at(alloc, cursor, PartialBlock::new(alloc, head, name)?)?;
+    let partial = PartialBlock::new(alloc, head, name, table)?;
+    let partial = elements_at(alloc, cursor, partial)?;
     let block = ending_at(cursor, partial)?;
     closing_at(cursor, block)
 }
 
-/// Reads what stands behind the head of a block, `{ element } END ;`, where the head has this line and this name.
+/// Reads what stands behind the head of a block, `{ element } END ;`, where the head has this line and this name. The
+/// tables of the dimension have these keys.
 pub fn body_at(
     alloc: Global,
     cursor: &mut Cursor<'_, Unwatched>,
     head: u32,
     name: Name,
+    table: TableKeys,
 ) -> Result<DimText, Stop<Refusal>>
     requires tokens { All IsWellFormed (ahead cursor.now) }
     requires name { IsQuotable name }
@@ -82,7 +87,7 @@ pub fn body_at(
     ensures shorter { OnOk result (length cursor.new.tokens < length cursor.old.tokens) }
     ensures rest { OnOk result (All IsWellFormed (ahead cursor.new)) }
 {
-    match statements_at(alloc, cursor, head, name) {
+    match statements_at(alloc, cursor, head, name, table) {
         Ok(block) => Ok(DimText::new(block)),
         Err(stop) => Err(stop),
     }
@@ -95,7 +100,7 @@ fn block_at(alloc: Global, cursor: &mut Cursor<'_, Unwatched>) -> Result<DimText
     ensures { GivesText result (ahead cursor.new) (read_block nothing (ahead cursor.old)) }
 {
     let (head, name) = head_at(alloc, cursor)?;
-    body_at(alloc, cursor, head, name)
+    body_at(alloc, cursor, head, name, TableKeys::fixed())
 }
 
 // Why a block that begins with these tokens is refused.
@@ -118,7 +123,8 @@ fn fault_of(tokens: TokensLeft<'_>, end_line: u32, stop: Stop<Refusal>) -> DimTe
     }
 }
 
-/// Reads the block that begins at token `from`, and gives it with the place of the token after it.
+/// Reads the block that begins at token `from`, and gives it with the place of the token after it. The tables of its
+/// dimension have fixed keys.
 pub fn read(
     alloc: Global,
     tokens: &Tokens<'_>,

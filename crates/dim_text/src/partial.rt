@@ -10,6 +10,7 @@ use crate::fault::Refusal;
 use crate::text::Block;
 use dim_core::{Builder, DimFault, Name};
 use grammar::Stop;
+use lists::TableKeys;
 use std::alloc::{AllocError, Global};
 use std::marker::Model;
 
@@ -49,13 +50,18 @@ fn refused(line: u32, fault: DimFault) -> Stop<Refusal>
 }
 
 impl PartialBlock {
-    /// Behind the head on this line.
-    pub fn new(alloc: Global, line: u32, name: Name) -> Result<PartialBlock, AllocError>
+    /// Behind the head on this line. The tables of the dimension have these keys.
+    pub fn new(
+        alloc: Global,
+        line: u32,
+        name: Name,
+        table: TableKeys,
+    ) -> Result<PartialBlock, AllocError>
         ensures { IfOk result (λ block. block ≡ opened line name) }
     {
         Ok(PartialBlock {
             head: line,
-            builder: Builder::new(alloc, name)?,
+            builder: Builder::keyed(alloc, name, table)?,
             lines: Vec::new(alloc),
             attribute_lines: Vec::new(alloc),
         })

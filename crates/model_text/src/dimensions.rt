@@ -14,6 +14,7 @@ use crate::section::{Section, line_at, new_name_at};
 use dim_name::Name;
 use dim_text::{DimText, Refusal, body_at};
 use grammar::{Cursor, Stop, Unwatched, word_comes};
+use lists::TableKeys;
 use std::alloc::{AllocError, Global};
 
 // Reads the head of a dimension: its line and its name.
@@ -60,6 +61,7 @@ pub fn dimension_at(
     alloc: Global,
     cursor: &mut Cursor<'_, Unwatched>,
     partial: &mut PartialModel,
+    table: TableKeys,
 ) -> Result<DimText, Stop<ModelTextFault>>
     requires { All IsWellFormed (ahead cursor.old) }
     ensures read { ReadsBlock partial.old partial.new cursor.old result cursor.new }
@@ -69,7 +71,7 @@ pub fn dimension_at(
 {
     let (line, name) = head_at(alloc, cursor, partial)?;
     let copy = copy_of(alloc, &name)?;
-    match body_at(alloc, cursor, line, name) {
+    match body_at(alloc, cursor, line, name, table) {
         Ok(text) => {
             partial.add_dimension(copy)?;
             Ok(text)
@@ -78,12 +80,13 @@ pub fn dimension_at(
     }
 }
 
-/// Reads the dimensions.
+/// Reads the dimensions, whose tables have these keys.
 #[tactic(auto, unfolding(crate::specs::Readers::Reading::read_dimensions))]
 pub fn dimensions_at(
     alloc: Global,
     cursor: &mut Cursor<'_, Unwatched>,
     partial: &mut PartialModel,
+    table: TableKeys,
 ) -> Result<Vec<DimText>, Stop<ModelTextFault>>
     requires tokens { All IsWellFormed (ahead cursor.old) }
     requires none { partial.old.names ≡ [] }
@@ -93,7 +96,7 @@ pub fn dimensions_at(
 {
     let mut dims = Vec::new(alloc);
     'dimension: while word_comes(cursor, b"DIM") {
-        let text = dimension_at(alloc, cursor, partial)?;
+        let text = dimension_at(alloc, cursor, partial, table)?;
         dims.push(text)?;
     }
     Ok(dims)

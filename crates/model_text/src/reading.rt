@@ -17,6 +17,8 @@ use crate::statements::{LaterSection, statements_at};
 use cube_lex::text_tokens;
 use dim_text::DimText;
 use grammar::{Cursor, Stop, TextFault, Unwatched, answer_of_text};
+use lists::TableKeys;
+use sha2::{Digest, Sha256};
 use std::alloc::Global;
 
 // Whether there are texts of this version.
@@ -54,10 +56,16 @@ fn opening_at(
     Ok(PartialModel::new(alloc, version))
 }
 
+// What the tables of names hash by: who picks names for a text can't foresee its digest.
+fn keys_of(text: &[u8]) -> TableKeys {
+    TableKeys::seeded(&Sha256::digest(text))
+}
+
 // Reads a model text.
 fn model_at(
     alloc: Global,
     cursor: &mut Cursor<'_, Unwatched>,
+    table: TableKeys,
 ) -> Result<(Vec<DimText>, PartialModel), Stop<ModelTextFault>>
     requires { All IsWellFormed (ahead cursor.old) }
     ensures read { GivesBlocks (λ x. x.0.items) (λ x. x.1) result (ahead cursor.new)
@@ -66,7 +74,7 @@ fn model_at(
     ensures names { IfOk result (λ x. x.1.names ≡ dimension_names x.0.items) }
 {
     let mut partial = opening_at(alloc, cursor)?;
-    let dims = dimensions_at(alloc, cursor, &mut partial)?;
+    let dims = dimensions_at(alloc, cursor, &mut partial, table)?;
     statements_at(alloc, cursor, &mut partial, LaterSection::Cube)?;
     statements_at(alloc, cursor, &mut partial, LaterSection::Script)?;
     Ok((dims, partial))
@@ -95,7 +103,7 @@ pub fn read(alloc: Global, text: &[u8]) -> Result<ModelText, ModelTextFault>
 {
     let tokens = text_tokens(text);
     let mut cursor = Cursor::new(tokens.left.again(), Unwatched);
-    let model = model_at(alloc, &mut cursor);
+    let model = model_at(alloc, &mut cursor, keys_of(text));
     match answer_of_text(&tokens, model, &cursor) {
         Ok((dims, partial)) => {
             let (version, cubes, scripts) = partial.into_parts();
