@@ -1,0 +1,10 @@
+pub mod ClosedFacts
+pub mod EnterFacts
+pub mod JoinFacts
+pub mod OverFacts
+pub mod PassFacts
+pub mod Rises
+pub mod RunFacts
+pub mod SettleFacts
+pub mod Trodden
+pub mod WayFacts

@@ -1,0 +1,5 @@
+pub mod Bounds
+pub mod Sound
+pub mod States
+pub mod Trails
+pub mod Ways
