@@ -1,4 +1,5 @@
-ghost use Rattle.std.specs.Prelude.{◌≡◌, ◌<◌, ◌↔◌, map, All, length, drop, IfOk, IsTrue, IsSomeAnd, option_map, slice_get};
+ghost use Rattle.std.specs.Prelude.{◌≡◌, ◌<◌, ◌↔◌, map, All, length, drop, IfOk, IsTrue, IsSomeAnd, option_map};
+ghost use Rattle.std.specs.Prelude.{slice_get};
 ghost use Rattle.cube_lex.specs.Quoted.{quoted, unquoted};
 ghost use Rattle.cube_lex.specs.declared.token.Kind.TheVariants.{Text};
 
