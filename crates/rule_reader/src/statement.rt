@@ -1,10 +1,11 @@
 ghost use Rattle.std.specs.Prelude.{◌≡◌};
-ghost use Rattle.grammar.specs.Cursor.{Reads, lexemes};
+ghost use Rattle.grammar.specs.Cursor.{Reads};
 ghost use Rattle.rule_reader.specs.Readers.TextReading as reading;
 
 use crate::area::area_at;
 use crate::formula::formula_at;
-use grammar::{Cursor, RepeatedItem, Stop, is_sign, is_word, sign, sign_comes, word, word_comes};
+use expression_grammar::pair_comes;
+use grammar::{Cursor, RepeatedItem, Stop, sign, sign_comes, word, word_comes};
 use rule_tree::{BodyText, Counted, Excess, StatementText, Tree};
 use std::alloc::Global;
 
@@ -95,12 +96,9 @@ fn both_at(alloc: Global, cursor: &mut Cursor<'_, Counted>) -> Result<BodyText, 
 
 /// Whether a part comes. A mark is also the word of a function, but then `(` follows.
 fn part_comes(cursor: &Cursor<'_, Counted>, mark: &[u8]) -> bool
-    ensures { result ≡ reading.starts_part mark.now (lexemes cursor.now.tokens.now) }
+    ensures { result ≡ reading.starts_part mark.now cursor.now.tokens }
 {
-    match cursor.tokens {
-        [first, second, ..] => is_word(first, mark) && is_sign(second, b":"),
-        _ => false,
-    }
+    pair_comes(cursor, mark, b":")
 }
 
 /// Reads what a statement says of its cells.

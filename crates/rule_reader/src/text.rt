@@ -7,7 +7,7 @@ ghost use Rattle.rule_reader.specs.Readers.TextReading as reading;
 use crate::fault::RuleFault;
 use crate::feeder::FeederItem;
 use crate::statement::StatementItem;
-use cube_lex::tokens_until;
+use cube_lex::text_tokens;
 use grammar::{Cursor, Stop, TextFault, answer_of_text, repeated, sign, word, word_comes};
 use lists::ListOf;
 use rule_tree::{Counted, Excess, FeederText, RuleText, RuleTextPlace};
@@ -64,16 +64,16 @@ pub fn parse(alloc: Global, text: &[u8]) -> Result<RuleText, RuleFault>
     ensures answered { Answers text.now result }
     ensures within { IfOk result IsWithinLimits }
 {
-    let (tokens, fault) = tokens_until(alloc, text)?;
+    let tokens = text_tokens(text);
     let start = Counted {
         statements: 0,
         feeders: 0,
         feeding: false,
         place: RuleTextPlace::Between,
     };
-    let mut cursor = Cursor::new(tokens.as_slice(), start);
+    let mut cursor = Cursor::new(tokens.left.again(), start);
     let read = rules_at(alloc, &mut cursor);
-    match answer_of_text(&tokens, fault, read, &cursor) {
+    match answer_of_text(&tokens, read, &cursor) {
         Ok(rules) => Ok(rules),
         Err(TextFault::Memory) => Err(RuleFault::Memory),
         Err(TextFault::Syntax(line)) => Err(RuleFault::Syntax(line)),
