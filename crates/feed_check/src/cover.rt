@@ -3,7 +3,7 @@ ghost use Rattle.rule_model.specs.Conditions.{IsArea};
 ghost use Rattle.cover_laws.specs.Covered.{is_covered};
 ghost use Rattle.feed_check.specs.Inside.References.{is_reference};
 
-use feed_cover::is_covered;
+use feed_cover::{Hints, is_covered};
 use rule_laws::Reference;
 use rule_model::{Area, Model};
 use zero_check::Cover;
@@ -14,6 +14,7 @@ pub struct Covered<'a> {
     pub model: &'a Model,
     pub cube: u32,
     pub area: &'a Area,
+    pub hints: &'a Hints,
 }
 
 impl Cover for Covered<'_> {
@@ -24,6 +25,6 @@ impl Cover for Covered<'_> {
     ghost covers = { λ s r. is_covered s.model.now s.cube s.area.now r };
 
     fn covers(&self, reference: &Reference) -> bool {
-        is_covered(self.model, self.cube, self.area, reference)
+        is_covered(self.model, self.cube, self.area, reference, self.hints)
     }
 }

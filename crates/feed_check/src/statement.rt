@@ -7,12 +7,18 @@ ghost use Rattle.feed_check.specs.Verdict.{IsBlamed};
 
 use crate::cover::Covered;
 use cover_laws::cover_is_decided_by_dimension;
+use feed_cover::Hints;
 use rule_laws::findings_rest_on_references;
 use rule_model::{Model, Statement};
 use zero_check::zero_verdict;
 
 /// The operand that the N part of a statement is blamed on, if it isn't covered.
-pub fn blamed_in<'a>(model: &'a Model, cube: u32, statement: &'a Statement) -> Option<u32>
+pub fn blamed_in<'a>(
+    model: &'a Model,
+    cube: u32,
+    statement: &'a Statement,
+    hints: &'a Hints,
+) -> Option<u32>
     requires cube { cube < length model.now.space.cubes }
     requires statement { IsStatement model.now.space cube statement.now }
     requires skips { (rules_of model.now cube).skipcheck ≡ true }
@@ -26,6 +32,7 @@ pub fn blamed_in<'a>(model: &'a Model, cube: u32, statement: &'a Statement) -> O
         model,
         cube,
         area: &statement.area,
+        hints,
     };
     match &statement.leaf {
         Some(formula) => match zero_verdict(&covered, formula) {

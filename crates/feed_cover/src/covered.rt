@@ -9,6 +9,7 @@ ghost use Rattle.cover_laws.specs.Covered.{names_no_total, names_no_governed, fe
 ghost use Rattle.feed_cover.specs.declared.reference_view.Counted.TheVariants.{Leaves};
 ghost use Rattle.feed_cover.specs.Views.{IsView, IsSourced};
 
+use crate::hints::Hints;
 use crate::named::name_leaves;
 use crate::possible::is_possible;
 use crate::reach::reaches_all;
@@ -134,19 +135,40 @@ fn feeds_all<'a>(
     has_sources(model, view, feeder.area.get(), known)
 }
 
-// Whether some feeder of a cube does.
-fn feeds_from<'a>(model: &'a Model, view: ReferenceView<'a>, own: u32) -> bool
+// Whether it is known that some feeder of a cube does, since the one at this place does.
+fn feeds_at<'a>(model: &'a Model, view: ReferenceView<'a>, own: u32, place: usize) -> bool
+    requires view { IsView model.now view }
+    requires counted { view.counted ≡ Leaves }
+    requires own { own < length model.now.space.cubes }
+    ensures { IsTrue result → list_any (feeds_all model.now view.entry.cube view.entry.area.now
+        view.entry.reference.now own) (rules_of model.now own).feeders ≡ true }
+{
+    let _space = model.space();
+    let feeders = model.rules(own).feeders.as_slice();
+    if place >= feeders.len() {
+        return false;
+    }
+    let mut known = None;
+    feeds_all(model, view, own, &feeders[place], &mut known)
+}
+
+// Whether some feeder of a cube does. The one that covered the last reference like this is asked first.
+fn feeds_from<'a>(model: &'a Model, view: ReferenceView<'a>, own: u32, hints: &Hints) -> bool
     requires view { IsView model.now view }
     requires counted { view.counted ≡ Leaves }
     requires own { own < length model.now.space.cubes }
     ensures { result ≡ list_any (feeds_all model.now view.entry.cube view.entry.area.now view.entry.reference.now own)
         (rules_of model.now own).feeders }
 {
+    if feeds_at(model, view, own, hints.feeder_for(view.reference)) {
+        return true;
+    }
     let _space = model.space();
     let feeders = model.rules(own).feeders.as_slice();
     let mut known = None;
     'each: for k in 0..feeders.len() {
         if feeds_all(model, view, own, &feeders[k], &mut known) {
+            hints.remember(view.reference, k);
             return true;
         }
     }
@@ -155,7 +177,13 @@ fn feeds_from<'a>(model: &'a Model, view: ReferenceView<'a>, own: u32) -> bool
 
 // Whether some feeder of the model covers the reference.
 #[tactic(auto, unfolding(cover_laws::specs::Covered::has_cover))]
-fn has_cover<'a>(model: &'a Model, cube: u32, area: &'a Area, reference: &'a Reference) -> bool
+fn has_cover<'a>(
+    model: &'a Model,
+    cube: u32,
+    area: &'a Area,
+    reference: &'a Reference,
+    hints: &Hints,
+) -> bool
     requires cube { cube < length model.now.space.cubes }
     requires area { IsArea model.now.space cube area.now }
     requires reference { IsReference model.now.space cube reference.now }
@@ -169,7 +197,7 @@ fn has_cover<'a>(model: &'a Model, cube: u32, area: &'a Area, reference: &'a Ref
         counted: Counted::Leaves,
     };
     if is_possible(model, view) {
-        feeds_from(model, view, reference.cube)
+        feeds_from(model, view, reference.cube, hints)
     } else {
         has_feeder(model)
     }
@@ -190,13 +218,21 @@ fn has_feeder(model: &Model) -> bool
 
 /// Whether feeders cover a reference of a statement of a cube with this area: it names no consolidated cell that a
 /// statement governs, and one feeder feeds each leaf cell of the area from each leaf cell at or below the one that it
-/// names from there. Where there is no such cell, any feeder of the model does.
+/// names from there. Where there is no such cell, any feeder of the model does. The hints say which feeder is asked
+/// first, and don't change the answer.
 #[tactic(auto, unfolding(cover_laws::specs::Covered::is_covered))]
-pub fn is_covered<'a>(model: &'a Model, cube: u32, area: &'a Area, reference: &'a Reference) -> bool
+pub fn is_covered<'a>(
+    model: &'a Model,
+    cube: u32,
+    area: &'a Area,
+    reference: &'a Reference,
+    hints: &Hints,
+) -> bool
     requires cube { cube < length model.now.space.cubes }
     requires area { IsArea model.now.space cube area.now }
     requires reference { IsReference model.now.space cube reference.now }
     ensures { result ≡ is_covered model.now cube area.now reference.now }
 {
-    names_no_governed(model, cube, area, reference) && has_cover(model, cube, area, reference)
+    names_no_governed(model, cube, area, reference)
+        && has_cover(model, cube, area, reference, hints)
 }

@@ -6,10 +6,12 @@
 #![tactic(auto)]
 
 pub use covered::is_covered;
+pub use hints::Hints;
 
 mod back;
 mod covered;
 mod each;
+mod hints;
 mod named;
 mod narrow;
 mod overs;
