@@ -1,6 +1,6 @@
 -- How deep a script may be, how long each whole expression, and which words are called that are no functions.
-use Rattle.std.specs.Prelude.{ℕ, ◌+◌, ◌-◌, ◌==◌, nat_lt, Bool, false, not, ◌&&◌, ◌||◌, if◌then◌else◌, codes}
-use Rattle.std.specs.Prelude.{List, [], ◌∷◌, length, slice_get, Option, Some, None, Result, Ok, Err}
+use Rattle.std.specs.Prelude.{ℕ, ◌+◌, ◌-◌, ◌==◌, nat_lt, Bool, not, ◌&&◌, ◌||◌, if◌then◌else◌, codes}
+use Rattle.std.specs.Prelude.{List, drop, Option, Some, None, Result, Ok, Err}
 use Rattle.std.specs.List.{list_any}
 use Rattle.cube_lex.specs.Lexeme.{Lexeme}
 use Rattle.grammar.specs.Reading.{starts}
@@ -16,18 +16,9 @@ use Rattle.script_tree.specs.declared.counted.Stage.{Stage}
 use Rattle.script_tree.specs.declared.excess.Excess.{Excess}
 use Rattle.script_tree.specs.declared.excess.Excess.TheVariants as excesses
 
--- of each token, whether a `(` stands behind it
-abbrev pub calls_in : List Lexeme → List Bool
-calls_in [] = []
-calls_in (t ∷ ts) = starts (is_sign (codes "(")) ts ∷ calls_in ts
-
 -- before the first of these tokens, which are those of the text
 abbrev pub start : List Lexeme → Counted
-start ts = record {
-  called = calls_in ts;
-  left = length ts;
-  stage = record { blocks = 0; next = 0; place = places.Between };
-}
+start ts = record { left = ts; stage = record { blocks = 0; next = 0; place = places.Between } }
 
 -- One more `(`, `IF` or `WHILE`, inside so many parentheses and blocks that are open
 abbrev pub one_more : ℕ → Lexeme → Result ℕ Excess
@@ -96,16 +87,12 @@ behind_place calls s places.Head t = behind_head s t
 behind_place calls s (places.Formula l) t = behind_formula calls s l t
 behind_place calls s (places.Argument l) t = behind_argument calls s l t
 
-abbrev pub is_true : Option Bool → Bool
-is_true (Some b) = b
-is_true None = false
-
 -- whether a `(` stands behind the next token
 abbrev pub is_called : Counted → Bool
-is_called c = is_true (slice_get c.called (length c.called - c.left))
+is_called c = starts (is_sign (codes "(")) (drop 1 c.left)
 
 abbrev pub moved : Counted → Result Stage Excess → Result Counted Excess
-moved c (Ok stage) = Ok (record c { left = c.left - 1; stage = stage })
+moved c (Ok stage) = Ok (record { left = drop 1 c.left; stage = stage })
 moved c (Err excess) = Err excess
 
 -- one more token

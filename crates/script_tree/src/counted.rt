@@ -1,18 +1,15 @@
-ghost use Rattle.std.specs.Prelude.{◌≡◌, IfOk, codes};
+ghost use Rattle.std.specs.Prelude.{◌≡◌, codes};
 ghost use Rattle.std.specs.List.{list_any};
 ghost use Rattle.cube_lex.specs.Lexeme.{lexeme_of};
-ghost use Rattle.grammar.specs.Cursor.{lexemes};
 ghost use Rattle.grammar.specs.Reading.{starts};
 ghost use Rattle.grammar.specs.Tokens as tokens;
 ghost use Rattle.grammar.specs.Variables.{function_words};
 ghost use Rattle.script_tree.specs.Counting as counting;
 
 use crate::excess::Excess;
-use cube_lex::{Kind, Token};
+use cube_lex::{Kind, Token, TokensLeft};
 use expression_grammar::Limits;
 use grammar::{Scan, is_sign, is_word};
-use lists::ListOf;
-use std::alloc::{AllocError, Global};
 
 /// How many parentheses and blocks may be open at once.
 const MAX_OPEN: u32 = 32;
@@ -42,51 +39,34 @@ pub struct Stage {
 
 /// What was counted so far.
 #[derive(Drop)]
-pub struct Counted {
-    /// Of each token of the text, whether a `(` stands behind it.
-    pub called: ListOf<bool>,
-    /// How many tokens are left.
-    pub left: usize,
+pub struct Counted<'a> {
+    /// The tokens that are left, the next one first.
+    pub left: TokensLeft<'a>,
     pub stage: Stage,
 }
 
 /// Whether a `(` is the first of these tokens.
-fn opens(behind: &[Token<'_>]) -> bool
-    ensures { result ≡ starts (tokens.is_sign (codes "(")) (lexemes behind.now) }
+fn opens(behind: &TokensLeft<'_>) -> bool
+    ensures { result ≡ starts (tokens.is_sign (codes "(")) behind.now }
 {
-    match behind {
-        [token, ..] => is_sign(token, b"("),
-        [] => false,
+    match behind.first() {
+        Some(token) => is_sign(&token, b"("),
+        None => false,
     }
 }
 
-/// Of each token, whether a `(` stands behind it.
-fn calls_in(alloc: Global, tokens: &[Token<'_>]) -> Result<ListOf<bool>, AllocError>
-    ensures { IfOk result (λ called. called ≡ counting.calls_in (lexemes tokens.now)) }
+/// Before the first of these tokens, which are those of the text.
+pub fn begun(left: TokensLeft<'_>) -> Counted<'_>
+    ensures { result ≡ counting.start left.entry }
 {
-    let mut called = Vec::new(alloc);
-    let mut rest = tokens;
-    'token: while let [_, behind @ ..] = rest {
-        called.push(opens(behind))?;
-        rest = behind;
-    }
-    Ok(ListOf::new(called))
-}
-
-/// Before the first token of a text.
-pub fn begun(alloc: Global, tokens: &[Token<'_>]) -> Result<Counted, AllocError>
-    ensures { IfOk result (λ counted. counted ≡ counting.start (lexemes tokens.now)) }
-{
-    let called = calls_in(alloc, tokens)?;
-    Ok(Counted {
-        called,
-        left: tokens.len(),
+    Counted {
+        left,
         stage: Stage {
             blocks: 0,
             next: 0,
             place: ScriptTextPlace::Between,
         },
-    })
+    }
 }
 
 /// One more `(`, `IF` or `WHILE`, inside so many parentheses and blocks that are open.
@@ -251,29 +231,17 @@ impl Stage {
     }
 }
 
-impl Counted {
-    /// Whether a `(` stands behind the next token.
-    fn is_called(&self) -> bool
-        ensures { result ≡ counting.is_called self.now }
-    {
-        let called = self.called.as_slice();
-        match called.get(called.len().saturating_sub(self.left)) {
-            Some(called) => *called,
-            None => false,
-        }
-    }
-}
-
-impl Scan<Excess> for Counted {
+impl Scan<Excess> for Counted<'_> {
     ghost use Rattle.script_tree.specs.Counting.{count};
 
     ghost scanned = { count };
 
     #[tactic(auto, unfolding(crate::specs::Counting::count))]
     fn scan(&mut self, token: &Token<'_>) -> Result<(), Excess> {
-        let calls = self.is_called();
-        self.stage = self.stage.with(token, calls)?;
-        self.left = self.left.saturating_sub(1);
+        let mut behind = self.left.again();
+        behind.advance();
+        self.stage = self.stage.with(token, opens(&behind))?;
+        self.left = behind;
         Ok(())
     }
 }
