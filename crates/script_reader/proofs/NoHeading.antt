@@ -2,7 +2,6 @@
 use Rattle.std.proofs.Common.{◌≡◌, ℕ, zero, suc, List, [], ◌∷◌, ◌++◌, true, false, codes, refl, ◌∙◌, ap, inl, inr}
 use Rattle.std.specs.Str.{str_eq_ignore_ascii_case}
 use Rattle.cube_lex.specs.Lexeme.{Lexeme}
-use Rattle.cube_lex.specs.declared.token.Kind.TheVariants as kinds
 use Rattle.grammar.specs.Grammar.{Grammar, one, many}
 use Rattle.grammar.specs.Tokens.{word, is_sign, is_word, capitals}
 use Rattle.grammar.specs.Variables.{is_variable}

@@ -1,7 +1,6 @@
 -- The readers of a script's pieces are exact: the words that begin its sections, and statements.
 use Rattle.std.proofs.Common.{◌≡◌, ℕ, List, [], ◌∷◌, ◌++◌, Option, Some, None, true, false, ◌&&◌, if◌then◌else◌, codes, refl, sym, ◌∙◌, ap, inl, inr, append-nil}
 use Rattle.cube_lex.specs.Lexeme.{Lexeme}
-use Rattle.cube_lex.specs.declared.token.Kind.TheVariants as kinds
 use Rattle.grammar.specs.After.{many_after}
 use Rattle.grammar.specs.Grammar.{Grammar, both, done, either}
 use Rattle.grammar.specs.Tokens.{is_sign, is_word, is_any_word, capitals}

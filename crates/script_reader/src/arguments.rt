@@ -28,9 +28,9 @@ fn before(alloc: Global, first: Expr, rest: ListOf<Expr>) -> Result<ListOf<Expr>
 
 /// Reads one value.
 #[tactic(auto, unfolding(crate::specs::Readers::Reading::read_one_value))]
-fn one_value<I: Item<Expr, Excess, Counted>>(
+fn one_value<'a, I: Item<Expr, Excess, Counted<'a>>>(
     alloc: Global,
-    cursor: &mut Cursor<'_, Counted>,
+    cursor: &mut Cursor<'_, Counted<'a>>,
     item: &I,
 ) -> Result<ListOf<Expr>, Stop<Excess>>
     requires { I.may_read item.now }
@@ -43,9 +43,9 @@ fn one_value<I: Item<Expr, Excess, Counted>>(
 
 /// Reads two values.
 #[tactic(auto, unfolding(crate::specs::Readers::Reading::read_two_values))]
-fn two_values<I: Item<Expr, Excess, Counted>>(
+fn two_values<'a, I: Item<Expr, Excess, Counted<'a>>>(
     alloc: Global,
-    cursor: &mut Cursor<'_, Counted>,
+    cursor: &mut Cursor<'_, Counted<'a>>,
     item: &I,
 ) -> Result<ListOf<Expr>, Stop<Excess>>
     requires { I.may_read item.now }
@@ -61,9 +61,9 @@ fn two_values<I: Item<Expr, Excess, Counted>>(
 
 /// Reads two values or more.
 #[tactic(auto, unfolding(crate::specs::Readers::Reading::read_two_or_more))]
-fn two_or_more<I: Item<Expr, Excess, Counted>>(
+fn two_or_more<'a, I: Item<Expr, Excess, Counted<'a>>>(
     alloc: Global,
-    cursor: &mut Cursor<'_, Counted>,
+    cursor: &mut Cursor<'_, Counted<'a>>,
     item: &I,
 ) -> Result<ListOf<Expr>, Stop<Excess>>
     requires { I.may_read item.now }
@@ -78,9 +78,9 @@ fn two_or_more<I: Item<Expr, Excess, Counted>>(
 
 /// Reads three values or more.
 #[tactic(auto, unfolding(crate::specs::Readers::Reading::read_three_or_more))]
-pub fn three_or_more<I: Item<Expr, Excess, Counted>>(
+pub fn three_or_more<'a, I: Item<Expr, Excess, Counted<'a>>>(
     alloc: Global,
-    cursor: &mut Cursor<'_, Counted>,
+    cursor: &mut Cursor<'_, Counted<'a>>,
     item: &I,
 ) -> Result<ListOf<Expr>, Stop<Excess>>
     requires { I.may_read item.now }
@@ -95,9 +95,9 @@ pub fn three_or_more<I: Item<Expr, Excess, Counted>>(
 
 /// Reads as many values as a function takes.
 #[tactic(auto, unfolding(crate::specs::Readers::Reading::read_arguments))]
-pub fn arguments_of<I: Item<Expr, Excess, Counted>>(
+pub fn arguments_of<'a, I: Item<Expr, Excess, Counted<'a>>>(
     alloc: Global,
-    cursor: &mut Cursor<'_, Counted>,
+    cursor: &mut Cursor<'_, Counted<'a>>,
     function: ScriptFun,
     item: &I,
 ) -> Result<ListOf<Expr>, Stop<Excess>>

@@ -1,5 +1,3 @@
-use std::alloc::AllocError;
-
 /// Why a load script is refused. The first fault in the text is the one given; of two at one token, the first of these.
 #[derive(Debug, Drop)]
 pub enum ScriptFault {
@@ -13,15 +11,4 @@ pub enum ScriptFault {
     TooDeep(u32),
     /// Out of memory.
     Memory,
-}
-
-impl From<AllocError> for ScriptFault {
-    ghost use Rattle.std.specs.Prelude.{◌≡◌};
-    ghost use Rattle.script_reader.specs.declared.fault.ScriptFault.TheVariants.{Memory};
-
-    ghost from_gives = { λ _ e. e ≡ Memory };
-
-    fn from(_: AllocError) -> ScriptFault {
-        ScriptFault::Memory
-    }
 }

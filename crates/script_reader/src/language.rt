@@ -77,7 +77,11 @@ fn only(token: &Token<'_>, sign: &[u8], op: ScriptOp) -> Option<ScriptOp>
     if is_sign(token, sign) { Some(op) } else { None }
 }
 
-impl Language<Excess, Counted> for Expressions {
+impl<'a> Language<Excess, Counted<'a>> for Expressions {
+    ghost use Rattle.std.specs.Prelude.{◌≡◌, IfOk};
+    ghost use Rattle.cube_lex.specs.Lexeme.{lexeme_of};
+    ghost use Rattle.expression_grammar.specs.Language.{operator};
+    ghost use Rattle.expression_grammar.specs.Levels.{table};
     ghost use Rattle.script_tree.specs.Expression.{scripts_language};
     ghost use Rattle.script_reader.specs.Readers.Reading as reading;
 
@@ -89,7 +93,9 @@ impl Language<Excess, Counted> for Expressions {
 
     ghost read_primary = { reading.read_primary };
 
-    fn operator_of(level: Level, token: &Token<'_>) -> Option<ScriptOp> {
+    fn operator_of(level: Level, token: &Token<'_>) -> Option<ScriptOp>
+        ensures { result ≡ operator (table scripts_language level) (lexeme_of token.now) }
+    {
         match level {
             Level::Or => only(token, b"%", ScriptOp::Or),
             Level::And => only(token, b"&", ScriptOp::And),
@@ -99,25 +105,31 @@ impl Language<Excess, Counted> for Expressions {
         }
     }
 
-    fn joined(alloc: Global, op: ScriptOp, left: Expr, right: Expr) -> Result<Expr, AllocError> {
+    fn joined(alloc: Global, op: ScriptOp, left: Expr, right: Expr) -> Result<Expr, AllocError>
+        ensures { IfOk result (λ made. made ≡ scripts_language.joined op left right) }
+    {
         let left = Boxed::new(alloc, left)?;
         let right = Boxed::new(alloc, right)?;
         Ok(Expr::Binary(op, left, right))
     }
 
-    fn negated(alloc: Global, tree: Expr) -> Result<Expr, AllocError> {
+    fn negated(alloc: Global, tree: Expr) -> Result<Expr, AllocError>
+        ensures { IfOk result (λ made. made ≡ scripts_language.negated tree) }
+    {
         let tree = Boxed::new(alloc, tree)?;
         Ok(Expr::Minus(tree))
     }
 
-    fn opposite(alloc: Global, tree: Expr) -> Result<Expr, AllocError> {
+    fn opposite(alloc: Global, tree: Expr) -> Result<Expr, AllocError>
+        ensures { IfOk result (λ made. made ≡ scripts_language.opposite tree) }
+    {
         let tree = Boxed::new(alloc, tree)?;
         Ok(Expr::Not(tree))
     }
 
-    fn primary<I: Inner<Expr, Excess, Counted>>(
+    fn primary<I: Inner<Expr, Excess, Counted<'a>>>(
         alloc: Global,
-        cursor: &mut Cursor<'_, Counted>,
+        cursor: &mut Cursor<'_, Counted<'a>>,
         inner: &I,
     ) -> Result<Expr, Stop<Excess>> {
         primary_at(alloc, cursor, inner)

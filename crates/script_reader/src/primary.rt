@@ -20,7 +20,8 @@ struct Argument<'a, I> {
     inner: &'a I,
 }
 
-impl<'a, I: Inner<Expr, Excess, Counted>> Item<Expr, Excess, Counted> for Argument<'a, I> {
+impl<'a, 't, I: Inner<Expr, Excess, Counted<'t>>> Item<Expr, Excess, Counted<'t>>
+    for Argument<'a, I> {
     ghost use Rattle.expression_grammar.specs.Readers.Reading.{tree_of};
     ghost use Rattle.expression_grammar.specs.declared.sort.Want.TheVariants as wants;
 
@@ -28,7 +29,11 @@ impl<'a, I: Inner<Expr, Excess, Counted>> Item<Expr, Excess, Counted> for Argume
 
     ghost reads = { λ argument. tree_of (I.reads argument.inner.now wants.Value) };
 
-    fn read(&self, alloc: Global, cursor: &mut Cursor<'_, Counted>) -> Result<Expr, Stop<Excess>> {
+    fn read(
+        &self,
+        alloc: Global,
+        cursor: &mut Cursor<'_, Counted<'t>>,
+    ) -> Result<Expr, Stop<Excess>> {
         let (tree, _) = self.inner.at(alloc, cursor, Want::Value)?;
         Ok(tree)
     }
@@ -36,7 +41,7 @@ impl<'a, I: Inner<Expr, Excess, Counted>> Item<Expr, Excess, Counted> for Argume
 
 /// Reads a number.
 #[tactic(auto, unfolding(crate::specs::Readers::Reading::read_number))]
-fn number_at(cursor: &mut Cursor<'_, Counted>) -> Result<Expr, Stop<Excess>>
+fn number_at(cursor: &mut Cursor<'_, Counted<'_>>) -> Result<Expr, Stop<Excess>>
     ensures { Reads (λ tree. tree) reading.read_number cursor.old result cursor.new }
 {
     let value = money(cursor)?;
@@ -45,7 +50,7 @@ fn number_at(cursor: &mut Cursor<'_, Counted>) -> Result<Expr, Stop<Excess>>
 
 /// Reads a quoted text.
 #[tactic(auto, unfolding(crate::specs::Readers::Reading::read_quoted))]
-fn quoted_at(alloc: Global, cursor: &mut Cursor<'_, Counted>) -> Result<Expr, Stop<Excess>>
+fn quoted_at(alloc: Global, cursor: &mut Cursor<'_, Counted<'_>>) -> Result<Expr, Stop<Excess>>
     ensures { Reads (λ tree. tree) reading.read_quoted cursor.old result cursor.new }
 {
     let bytes = text(alloc, cursor)?;
@@ -81,9 +86,9 @@ fn function_of(word: &[u8]) -> Option<ScriptFun>
 
 /// Reads the arguments of a function, in their parentheses.
 #[tactic(auto, unfolding(crate::specs::Readers::Reading::read_call))]
-fn call_at<I: Inner<Expr, Excess, Counted>>(
+fn call_at<'a, I: Inner<Expr, Excess, Counted<'a>>>(
     alloc: Global,
-    cursor: &mut Cursor<'_, Counted>,
+    cursor: &mut Cursor<'_, Counted<'a>>,
     function: ScriptFun,
     inner: &I,
 ) -> Result<Expr, Stop<Excess>>
@@ -99,9 +104,9 @@ fn call_at<I: Inner<Expr, Excess, Counted>>(
 
 /// Reads what stands behind a word: a function's arguments, and behind any other nothing.
 #[tactic(auto, unfolding(crate::specs::Readers::Reading::read_behind_word))]
-fn behind_word<I: Inner<Expr, Excess, Counted>>(
+fn behind_word<'a, I: Inner<Expr, Excess, Counted<'a>>>(
     alloc: Global,
-    cursor: &mut Cursor<'_, Counted>,
+    cursor: &mut Cursor<'_, Counted<'a>>,
     word: ListOf<u8>,
     inner: &I,
 ) -> Result<Expr, Stop<Excess>>
@@ -117,9 +122,9 @@ fn behind_word<I: Inner<Expr, Excess, Counted>>(
 
 /// Reads a primary that begins with a word.
 #[tactic(auto, unfolding(crate::specs::Readers::Reading::read_worded))]
-fn worded_at<I: Inner<Expr, Excess, Counted>>(
+fn worded_at<'a, I: Inner<Expr, Excess, Counted<'a>>>(
     alloc: Global,
-    cursor: &mut Cursor<'_, Counted>,
+    cursor: &mut Cursor<'_, Counted<'a>>,
     inner: &I,
 ) -> Result<Expr, Stop<Excess>>
     requires { I.may_read inner.now }
@@ -132,9 +137,9 @@ fn worded_at<I: Inner<Expr, Excess, Counted>>(
 
 /// Reads a primary but for one in parentheses.
 #[tactic(auto, unfolding(crate::specs::Readers::Reading::read_primary))]
-pub fn primary_at<I: Inner<Expr, Excess, Counted>>(
+pub fn primary_at<'a, I: Inner<Expr, Excess, Counted<'a>>>(
     alloc: Global,
-    cursor: &mut Cursor<'_, Counted>,
+    cursor: &mut Cursor<'_, Counted<'a>>,
     inner: &I,
 ) -> Result<Expr, Stop<Excess>>
     requires { I.may_read inner.now }

@@ -1,9 +1,10 @@
 ghost use Rattle.std.specs.Prelude.{◌≡◌, IfOk};
-ghost use Rattle.grammar.specs.Cursor.{Reads, lexemes};
+ghost use Rattle.grammar.specs.Cursor.{Reads};
 ghost use Rattle.script_reader.specs.Readers.TextReading as reading;
 
 use crate::within::whole_statement;
-use grammar::{Cursor, Stop, any_word_comes, is_sign, is_word, sign, word, word_comes};
+use expression_grammar::pair_comes;
+use grammar::{Cursor, Stop, any_word_comes, sign, word, word_comes};
 use script_tree::{Block, Counted, Excess, Line, Script, Section};
 use sqlite_items::Items;
 use std::alloc::{AllocError, Global};
@@ -29,7 +30,7 @@ fn behind(section: Option<Section>, piece: &Piece) -> Option<Section>
 
 /// Takes the word and `:` that begin a section.
 #[tactic(auto, unfolding(crate::specs::Readers::TextReading::read_mark))]
-fn mark_at(cursor: &mut Cursor<'_, Counted>, mark: &[u8]) -> Result<(), Stop<Excess>>
+fn mark_at(cursor: &mut Cursor<'_, Counted<'_>>, mark: &[u8]) -> Result<(), Stop<Excess>>
     ensures { Reads (λ _. tt) (reading.read_mark mark.now) cursor.old result cursor.new }
 {
     word(cursor, mark)?;
@@ -39,7 +40,7 @@ fn mark_at(cursor: &mut Cursor<'_, Counted>, mark: &[u8]) -> Result<(), Stop<Exc
 /// Reads the word and `:` that begin a section.
 #[tactic(auto, unfolding(crate::specs::Readers::TextReading::read_heading))]
 fn heading_at(
-    cursor: &mut Cursor<'_, Counted>,
+    cursor: &mut Cursor<'_, Counted<'_>>,
     mark: &[u8],
     section: Section,
 ) -> Result<Piece, Stop<Excess>>
@@ -53,7 +54,7 @@ fn heading_at(
 #[tactic(auto, unfolding(crate::specs::Readers::TextReading::read_line))]
 fn line_at(
     alloc: Global,
-    cursor: &mut Cursor<'_, Counted>,
+    cursor: &mut Cursor<'_, Counted<'_>>,
     section: Section,
 ) -> Result<Piece, Stop<Excess>>
     ensures { Reads (λ piece. piece) (reading.read_line section) cursor.old result cursor.new }
@@ -63,18 +64,15 @@ fn line_at(
 }
 
 /// Whether a section begins. Its word may also name a variable, but then `=` follows.
-fn heading_comes(cursor: &Cursor<'_, Counted>, mark: &[u8]) -> bool
-    ensures { result ≡ reading.starts_heading mark.now (lexemes cursor.now.tokens.now) }
+fn heading_comes(cursor: &Cursor<'_, Counted<'_>>, mark: &[u8]) -> bool
+    ensures { result ≡ reading.starts_heading mark.now cursor.now.tokens }
 {
-    match cursor.tokens {
-        [first, second, ..] => is_word(first, mark) && is_sign(second, b":"),
-        _ => false,
-    }
+    pair_comes(cursor, mark, b":")
 }
 
 /// Reads the first section's beginning.
 #[tactic(auto, unfolding(crate::specs::Readers::TextReading::read_first))]
-fn first_at(cursor: &mut Cursor<'_, Counted>) -> Result<Piece, Stop<Excess>>
+fn first_at(cursor: &mut Cursor<'_, Counted<'_>>) -> Result<Piece, Stop<Excess>>
     ensures { Reads (λ piece. piece) reading.read_first cursor.old result cursor.new }
 {
     if word_comes(cursor, b"PROLOG") {
@@ -88,7 +86,7 @@ fn first_at(cursor: &mut Cursor<'_, Counted>) -> Result<Piece, Stop<Excess>>
 
 /// Reads a piece in the Prolog.
 #[tactic(auto, unfolding(crate::specs::Readers::TextReading::read_in_prolog))]
-fn in_prolog(alloc: Global, cursor: &mut Cursor<'_, Counted>) -> Result<Piece, Stop<Excess>>
+fn in_prolog(alloc: Global, cursor: &mut Cursor<'_, Counted<'_>>) -> Result<Piece, Stop<Excess>>
     ensures { Reads (λ piece. piece) reading.read_in_prolog cursor.old result cursor.new }
 {
     if heading_comes(cursor, b"DATA") {
@@ -102,7 +100,7 @@ fn in_prolog(alloc: Global, cursor: &mut Cursor<'_, Counted>) -> Result<Piece, S
 
 /// Reads a piece in Data.
 #[tactic(auto, unfolding(crate::specs::Readers::TextReading::read_in_body))]
-fn in_body(alloc: Global, cursor: &mut Cursor<'_, Counted>) -> Result<Piece, Stop<Excess>>
+fn in_body(alloc: Global, cursor: &mut Cursor<'_, Counted<'_>>) -> Result<Piece, Stop<Excess>>
     ensures { Reads (λ piece. piece) reading.read_in_body cursor.old result cursor.new }
 {
     if heading_comes(cursor, b"EPILOG") {
@@ -115,7 +113,7 @@ fn in_body(alloc: Global, cursor: &mut Cursor<'_, Counted>) -> Result<Piece, Sto
 /// Reads a piece, as they may come in a section.
 fn piece_at(
     alloc: Global,
-    cursor: &mut Cursor<'_, Counted>,
+    cursor: &mut Cursor<'_, Counted<'_>>,
     section: Option<Section>,
 ) -> Result<Piece, Stop<Excess>>
     ensures { Reads (λ piece. piece) (reading.read_piece section) cursor.old result cursor.new }
@@ -130,12 +128,16 @@ fn piece_at(
 
 /// Reads pieces as long as they come.
 #[tactic(auto, unfolding(crate::specs::Readers::TextReading::read_pieces))]
-fn pieces_at(alloc: Global, cursor: &mut Cursor<'_, Counted>) -> Result<Vec<Piece>, Stop<Excess>>
+fn pieces_at(
+    alloc: Global,
+    cursor: &mut Cursor<'_, Counted<'_>>,
+) -> Result<Vec<Piece>, Stop<Excess>>
     ensures { Reads (λ pieces. pieces.items) reading.read_pieces cursor.old result cursor.new }
 {
     let mut pieces = Vec::new(alloc);
     let mut section = None;
-    'piece: for _ in 0..cursor.tokens.len() {
+    let turns = cursor.tokens.len();
+    'piece: for _ in 0..turns {
         if !any_word_comes(cursor) {
             return Ok(pieces);
         }
@@ -180,7 +182,10 @@ fn gathered(alloc: Global, pieces: Vec<Piece>) -> Result<Script, AllocError>
 
 /// Reads a whole script.
 #[tactic(auto, unfolding(crate::specs::Readers::TextReading::read_script))]
-pub fn script_at(alloc: Global, cursor: &mut Cursor<'_, Counted>) -> Result<Script, Stop<Excess>>
+pub fn script_at(
+    alloc: Global,
+    cursor: &mut Cursor<'_, Counted<'_>>,
+) -> Result<Script, Stop<Excess>>
     ensures { Reads (λ script. script) reading.read_script cursor.old result cursor.new }
 {
     let pieces = pieces_at(alloc, cursor)?;

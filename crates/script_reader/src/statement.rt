@@ -1,5 +1,5 @@
 ghost use Rattle.std.specs.Prelude.{◌≡◌};
-ghost use Rattle.grammar.specs.Cursor.{Reads, lexemes};
+ghost use Rattle.grammar.specs.Cursor.{Reads};
 ghost use Rattle.grammar.specs.Reading.{starts, all_of};
 ghost use Rattle.script_reader.specs.Readers.StatementReading as reading;
 
@@ -14,7 +14,7 @@ use std::alloc::Global;
 
 /// Reads what a variable is set to.
 #[tactic(auto, unfolding(crate::specs::Readers::StatementReading::read_assignment))]
-fn assignment_at(alloc: Global, cursor: &mut Cursor<'_, Counted>) -> Result<Line, Stop<Excess>>
+fn assignment_at(alloc: Global, cursor: &mut Cursor<'_, Counted<'_>>) -> Result<Line, Stop<Excess>>
     ensures { Reads (λ line. line) reading.read_assignment cursor.old result cursor.new }
 {
     let name = variable(alloc, cursor)?;
@@ -28,7 +28,7 @@ fn assignment_at(alloc: Global, cursor: &mut Cursor<'_, Counted>) -> Result<Line
 #[tactic(auto, unfolding(crate::specs::Readers::StatementReading::read_written))]
 fn written_at(
     alloc: Global,
-    cursor: &mut Cursor<'_, Counted>,
+    cursor: &mut Cursor<'_, Counted<'_>>,
     function: &[u8],
 ) -> Result<Items<Expr>, Stop<Excess>>
     ensures { Reads (λ given. given) (reading.read_written function.now) cursor.old result cursor.new }
@@ -43,7 +43,7 @@ fn written_at(
 
 /// Reads a statement of one word.
 #[tactic(auto, unfolding(crate::specs::Readers::StatementReading::read_leaping))]
-fn leaping_at(cursor: &mut Cursor<'_, Counted>, section: Section) -> Result<Line, Stop<Excess>>
+fn leaping_at(cursor: &mut Cursor<'_, Counted<'_>>, section: Section) -> Result<Line, Stop<Excess>>
     ensures { Reads (λ line. line) (reading.read_leaping section) cursor.old result cursor.new }
 {
     let line = leap(cursor, section)?;
@@ -53,7 +53,7 @@ fn leaping_at(cursor: &mut Cursor<'_, Counted>, section: Section) -> Result<Line
 
 /// Reads a condition, up to its `;`.
 #[tactic(auto, unfolding(crate::specs::Readers::StatementReading::read_condition))]
-fn condition_at(alloc: Global, cursor: &mut Cursor<'_, Counted>) -> Result<Expr, Stop<Excess>>
+fn condition_at(alloc: Global, cursor: &mut Cursor<'_, Counted<'_>>) -> Result<Expr, Stop<Excess>>
     ensures { Reads (λ test. test) reading.read_condition cursor.old result cursor.new }
 {
     sign(cursor, b"(")?;
@@ -64,9 +64,9 @@ fn condition_at(alloc: Global, cursor: &mut Cursor<'_, Counted>) -> Result<Expr,
 }
 
 /// Reads a block, by what reads its statements.
-fn block_at<B: RepeatedItem<Line, Excess, Counted>>(
+fn block_at<'a, B: RepeatedItem<Line, Excess, Counted<'a>>>(
     alloc: Global,
-    cursor: &mut Cursor<'_, Counted>,
+    cursor: &mut Cursor<'_, Counted<'a>>,
     inside: &B,
 ) -> Result<Items<Line>, Stop<Excess>>
     requires { B.may_repeat inside.now }
@@ -79,9 +79,9 @@ fn block_at<B: RepeatedItem<Line, Excess, Counted>>(
 
 /// Reads a word, a condition and the block behind it.
 #[tactic(auto, unfolding(crate::specs::Readers::StatementReading::read_arm))]
-fn arm_at<B: RepeatedItem<Line, Excess, Counted>>(
+fn arm_at<'a, B: RepeatedItem<Line, Excess, Counted<'a>>>(
     alloc: Global,
-    cursor: &mut Cursor<'_, Counted>,
+    cursor: &mut Cursor<'_, Counted<'a>>,
     mark: &[u8],
     inside: &B,
 ) -> Result<Arm, Stop<Excess>>
@@ -101,7 +101,7 @@ struct FurtherArm<'a, B> {
     inside: &'a B,
 }
 
-impl<'a, B: RepeatedItem<Line, Excess, Counted>> RepeatedItem<Arm, Excess, Counted>
+impl<'a, 't, B: RepeatedItem<Line, Excess, Counted<'t>>> RepeatedItem<Arm, Excess, Counted<'t>>
     for FurtherArm<'a, B> {
     ghost use Rattle.std.specs.Prelude.{codes};
     ghost use Rattle.grammar.specs.Reading.{all_of};
@@ -115,14 +115,14 @@ impl<'a, B: RepeatedItem<Line, Excess, Counted>> RepeatedItem<Arm, Excess, Count
     ghost reads_next = { λ arm. read_arm (codes "ELSEIF")
         (all_of (B.begins arm.inside.now) (B.reads_next arm.inside.now)) };
 
-    fn comes(&self, cursor: &Cursor<'_, Counted>) -> bool {
+    fn comes(&self, cursor: &Cursor<'_, Counted<'t>>) -> bool {
         word_comes(cursor, b"ELSEIF")
     }
 
     fn read_next(
         &self,
         alloc: Global,
-        cursor: &mut Cursor<'_, Counted>,
+        cursor: &mut Cursor<'_, Counted<'t>>,
     ) -> Result<Arm, Stop<Excess>> {
         arm_at(alloc, cursor, b"ELSEIF", self.inside)
     }
@@ -130,9 +130,9 @@ impl<'a, B: RepeatedItem<Line, Excess, Counted>> RepeatedItem<Arm, Excess, Count
 
 /// Reads the arms of `IF` and of each `ELSEIF`.
 #[tactic(auto, unfolding(crate::specs::Readers::StatementReading::read_arms))]
-fn arms_at<B: RepeatedItem<Line, Excess, Counted>>(
+fn arms_at<'a, B: RepeatedItem<Line, Excess, Counted<'a>>>(
     alloc: Global,
-    cursor: &mut Cursor<'_, Counted>,
+    cursor: &mut Cursor<'_, Counted<'a>>,
     inside: &B,
 ) -> Result<ListOf<Arm>, Stop<Excess>>
     requires { B.may_repeat inside.now }
@@ -145,9 +145,9 @@ fn arms_at<B: RepeatedItem<Line, Excess, Counted>>(
 
 /// Reads `ELSE ;` and its block, if they are there, and adds its arm to those before.
 #[tactic(auto, unfolding(crate::specs::Readers::StatementReading::read_otherwise))]
-fn otherwise_at<B: RepeatedItem<Line, Excess, Counted>>(
+fn otherwise_at<'a, B: RepeatedItem<Line, Excess, Counted<'a>>>(
     alloc: Global,
-    cursor: &mut Cursor<'_, Counted>,
+    cursor: &mut Cursor<'_, Counted<'a>>,
     before: ListOf<Arm>,
     inside: &B,
 ) -> Result<ListOf<Arm>, Stop<Excess>>
@@ -169,9 +169,9 @@ fn otherwise_at<B: RepeatedItem<Line, Excess, Counted>>(
 
 /// Reads an `IF` up to the `;` of its `ENDIF`.
 #[tactic(auto, unfolding(crate::specs::Readers::StatementReading::read_branching))]
-fn branching_at<B: RepeatedItem<Line, Excess, Counted>>(
+fn branching_at<'a, B: RepeatedItem<Line, Excess, Counted<'a>>>(
     alloc: Global,
-    cursor: &mut Cursor<'_, Counted>,
+    cursor: &mut Cursor<'_, Counted<'a>>,
     inside: &B,
 ) -> Result<Line, Stop<Excess>>
     requires { B.may_repeat inside.now }
@@ -187,9 +187,9 @@ fn branching_at<B: RepeatedItem<Line, Excess, Counted>>(
 
 /// Reads a `WHILE` up to the `;` of its `END`.
 #[tactic(auto, unfolding(crate::specs::Readers::StatementReading::read_looping))]
-fn looping_at<B: RepeatedItem<Line, Excess, Counted>>(
+fn looping_at<'a, B: RepeatedItem<Line, Excess, Counted<'a>>>(
     alloc: Global,
-    cursor: &mut Cursor<'_, Counted>,
+    cursor: &mut Cursor<'_, Counted<'a>>,
     inside: &B,
 ) -> Result<Line, Stop<Excess>>
     requires { B.may_repeat inside.now }
@@ -205,8 +205,8 @@ fn looping_at<B: RepeatedItem<Line, Excess, Counted>>(
 }
 
 /// Whether a statement of one word comes, in whatever section.
-fn leap_comes(cursor: &Cursor<'_, Counted>) -> bool
-    ensures { result ≡ starts reading.is_leap (lexemes cursor.now.tokens.now) }
+fn leap_comes(cursor: &Cursor<'_, Counted<'_>>) -> bool
+    ensures { result ≡ starts reading.is_leap cursor.now.tokens }
 {
     word_comes(cursor, b"ITEMSKIP")
         || word_comes(cursor, b"PROCESSBREAK")
@@ -217,7 +217,7 @@ fn leap_comes(cursor: &Cursor<'_, Counted>) -> bool
 #[tactic(auto, unfolding(crate::specs::Readers::StatementReading::read_plain))]
 fn plain_at(
     alloc: Global,
-    cursor: &mut Cursor<'_, Counted>,
+    cursor: &mut Cursor<'_, Counted<'_>>,
     section: Section,
 ) -> Result<Line, Stop<Excess>>
     ensures { Reads (λ line. line) (reading.read_plain section) cursor.old result cursor.new }
@@ -237,9 +237,9 @@ fn plain_at(
 
 /// Reads a statement of a section, by what reads those in its blocks.
 #[tactic(auto, unfolding(crate::specs::Readers::StatementReading::read_statement))]
-pub fn statement_at<B: RepeatedItem<Line, Excess, Counted>>(
+pub fn statement_at<'a, B: RepeatedItem<Line, Excess, Counted<'a>>>(
     alloc: Global,
-    cursor: &mut Cursor<'_, Counted>,
+    cursor: &mut Cursor<'_, Counted<'a>>,
     section: Section,
     inside: &B,
 ) -> Result<Line, Stop<Excess>>

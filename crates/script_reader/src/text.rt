@@ -2,7 +2,7 @@ ghost use Rattle.script_reader.specs.Answers.{Answers};
 
 use crate::fault::ScriptFault;
 use crate::section::script_at;
-use cube_lex::tokens_until;
+use cube_lex::text_tokens;
 use grammar::{Cursor, TextFault, answer_of_text};
 use script_tree::{Excess, Script, begun};
 use std::alloc::Global;
@@ -11,12 +11,11 @@ use std::alloc::Global;
 pub fn parse(alloc: Global, text: &[u8]) -> Result<Script, ScriptFault>
     ensures { Answers text.now result }
 {
-    let (tokens, fault) = tokens_until(alloc, text)?;
-    let list = tokens.as_slice();
-    let start = begun(alloc, list)?;
-    let mut cursor = Cursor::new(list, start);
+    let tokens = text_tokens(text);
+    let start = begun(tokens.left.again());
+    let mut cursor = Cursor::new(tokens.left.again(), start);
     let read = script_at(alloc, &mut cursor);
-    match answer_of_text(&tokens, fault, read, &cursor) {
+    match answer_of_text(&tokens, read, &cursor) {
         Ok(script) => Ok(script),
         Err(TextFault::Memory) => Err(ScriptFault::Memory),
         Err(TextFault::Syntax(line)) => Err(ScriptFault::Syntax(line)),

@@ -13,7 +13,7 @@ use std::marker::PhantomData;
 #[tactic(auto, unfolding(expression_grammar::specs::Readers::Reading::read_expression))]
 fn expression_inside(
     alloc: Global,
-    cursor: &mut Cursor<'_, Counted>,
+    cursor: &mut Cursor<'_, Counted<'_>>,
     left: u32,
     want: Want,
 ) -> Result<(Expr, Sort), Stop<Excess>>
@@ -28,12 +28,12 @@ fn expression_inside(
         call: expression_inside,
         language: PhantomData::<Expressions>,
     };
-    expression_at::<Expressions, Excess, Counted, _>(alloc, cursor, want, &nested)
+    expression_at::<Expressions, Excess, Counted<'_>, _>(alloc, cursor, want, &nested)
 }
 
 /// Reads a whole expression that is a value.
 #[tactic(auto, unfolding(crate::specs::Readers::Reading::read_value))]
-pub fn value_at(alloc: Global, cursor: &mut Cursor<'_, Counted>) -> Result<Expr, Stop<Excess>>
+pub fn value_at(alloc: Global, cursor: &mut Cursor<'_, Counted<'_>>) -> Result<Expr, Stop<Excess>>
     ensures { Reads (λ tree. tree) reading.read_value cursor.old result cursor.new }
 {
     let (tree, _) = expression_inside(alloc, cursor, MAX_INSIDE, Want::Value)?;
@@ -42,7 +42,7 @@ pub fn value_at(alloc: Global, cursor: &mut Cursor<'_, Counted>) -> Result<Expr,
 
 /// Reads a whole expression that is a truth.
 #[tactic(auto, unfolding(crate::specs::Readers::Reading::read_truth))]
-pub fn truth_at(alloc: Global, cursor: &mut Cursor<'_, Counted>) -> Result<Expr, Stop<Excess>>
+pub fn truth_at(alloc: Global, cursor: &mut Cursor<'_, Counted<'_>>) -> Result<Expr, Stop<Excess>>
     ensures { Reads (λ tree. tree) reading.read_truth cursor.old result cursor.new }
 {
     let (tree, _) = expression_inside(alloc, cursor, MAX_INSIDE, Want::Truth)?;
@@ -52,14 +52,18 @@ pub fn truth_at(alloc: Global, cursor: &mut Cursor<'_, Counted>) -> Result<Expr,
 /// A whole expression that is a value, as an item of a list.
 pub struct ValueItem;
 
-impl Item<Expr, Excess, Counted> for ValueItem {
+impl<'a> Item<Expr, Excess, Counted<'a>> for ValueItem {
     ghost use Rattle.script_reader.specs.Readers.Reading.{read_value};
 
     ghost may_read = { λ _. Unit {0} };
 
     ghost reads = { λ _. read_value };
 
-    fn read(&self, alloc: Global, cursor: &mut Cursor<'_, Counted>) -> Result<Expr, Stop<Excess>> {
+    fn read(
+        &self,
+        alloc: Global,
+        cursor: &mut Cursor<'_, Counted<'a>>,
+    ) -> Result<Expr, Stop<Excess>> {
         value_at(alloc, cursor)
     }
 }

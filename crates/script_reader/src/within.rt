@@ -18,8 +18,9 @@ struct Inside<F> {
 }
 
 impl<
-    F: Fn(Global, &mut Cursor<'_, Counted>, Section, u32) -> Result<Line, Stop<Excess>>,
-> RepeatedItem<Line, Excess, Counted> for Inside<F> {
+    'a,
+    F: Fn(Global, &mut Cursor<'_, Counted<'a>>, Section, u32) -> Result<Line, Stop<Excess>>,
+> RepeatedItem<Line, Excess, Counted<'a>> for Inside<F> {
     ghost use Rattle.script_reader.specs.Readers.Nests.{Nests};
     ghost use Rattle.script_reader.specs.Readers.StatementReading.{begins_statement, read_within};
 
@@ -29,7 +30,7 @@ impl<
 
     ghost reads_next = { λ lines. read_within lines.section lines.left };
 
-    fn comes(&self, cursor: &Cursor<'_, Counted>) -> bool {
+    fn comes(&self, cursor: &Cursor<'_, Counted<'a>>) -> bool {
         any_word_comes(cursor)
             && !(word_comes(cursor, b"ELSEIF")
                 || word_comes(cursor, b"ELSE")
@@ -40,7 +41,7 @@ impl<
     fn read_next(
         &self,
         alloc: Global,
-        cursor: &mut Cursor<'_, Counted>,
+        cursor: &mut Cursor<'_, Counted<'a>>,
     ) -> Result<Line, Stop<Excess>> {
         (self.call)(alloc, cursor, self.section, self.left)
     }
@@ -50,7 +51,7 @@ impl<
 #[tactic(auto, unfolding(crate::specs::Readers::StatementReading::read_within))]
 fn statement_within(
     alloc: Global,
-    cursor: &mut Cursor<'_, Counted>,
+    cursor: &mut Cursor<'_, Counted<'_>>,
     section: Section,
     left: u32,
 ) -> Result<Line, Stop<Excess>>
@@ -71,7 +72,7 @@ fn statement_within(
 /// Reads a statement of a section.
 pub fn whole_statement(
     alloc: Global,
-    cursor: &mut Cursor<'_, Counted>,
+    cursor: &mut Cursor<'_, Counted<'_>>,
     section: Section,
 ) -> Result<Line, Stop<Excess>>
     ensures { Reads (λ line. line) (reading.read_within section most_inside) cursor.old result cursor.new }

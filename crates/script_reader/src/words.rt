@@ -15,7 +15,7 @@ use std::alloc::{AllocError, Global};
 /// Takes a word that is no statement word, and gives it in capitals.
 pub fn expression_word(
     alloc: Global,
-    cursor: &mut Cursor<'_, Counted>,
+    cursor: &mut Cursor<'_, Counted<'_>>,
 ) -> Result<ListOf<u8>, Stop<Excess>>
     ensures { Reads (λ word. word) (take_one count expression.expression_word) cursor.old result cursor.new }
 {
@@ -48,7 +48,10 @@ fn variable_of(alloc: Global, token: &Token<'_>) -> Result<Option<ListOf<u8>>, A
 }
 
 /// Takes a word that may name a variable, and gives it in capitals.
-pub fn variable(alloc: Global, cursor: &mut Cursor<'_, Counted>) -> Result<ListOf<u8>, Stop<Excess>>
+pub fn variable(
+    alloc: Global,
+    cursor: &mut Cursor<'_, Counted<'_>>,
+) -> Result<ListOf<u8>, Stop<Excess>>
     ensures { Reads (λ variable. variable) (take_one count statement.variable) cursor.old result cursor.new }
 {
     let Some(token) = cursor.peek() else {
@@ -101,7 +104,7 @@ fn leap_of(section: Section, token: &Token<'_>) -> Option<Line>
 }
 
 /// Takes the word of a statement of one word.
-pub fn leap(cursor: &mut Cursor<'_, Counted>, section: Section) -> Result<Line, Stop<Excess>>
+pub fn leap(cursor: &mut Cursor<'_, Counted<'_>>, section: Section) -> Result<Line, Stop<Excess>>
     ensures { Reads (λ line. line) (take_one count (statement.leap section)) cursor.old result cursor.new }
 {
     let Some(token) = cursor.peek() else {

@@ -1,8 +1,5 @@
-use Rattle.std.proofs.Common.{◌≡◌, [], length, None, refl, sym, ◌∙◌, ap, subst, arith}
-use Rattle.std.proofs.lemmas.List.{length-map}
+use Rattle.std.proofs.Common.{◌≡◌, [], None, refl, sym, ◌∙◌, ap, subst, arith}
 use Rattle.std.proofs.lemmas.Result.{err_from_is_err_and}
-use Rattle.cube_lex.specs.Lexeme.{lexeme_of}
-use Rattle.grammar.specs.Cursor.{lexemes}
 use Rattle.grammar.specs.Tokens.{is_any_word}
 use Rattle.grammar.proofs.After.{Turning, with_nothing, turning_from, turning_on, turning_ends, turning_runs_out}
 use Rattle.grammar.proofs.Loops.{turning_stops}
@@ -14,17 +11,17 @@ use Rattle.script_reader.proofs.section.pieces_at.Goals as goal
 pub piece-init : goal.piece-init
 unfolding read_pieces
 piece-init c =
-    subst (λ pieces. Turning is_any_word read_piece_behind pieces c.args.cursor.now.state (lexemes c.args.cursor.now.tokens.now) 0 (length c.args.cursor.now.tokens.now) (read_pieces c.args.cursor.now.state (lexemes c.args.cursor.now.tokens.now)) × (None ≡ section_after None pieces))
+    subst (λ pieces. Turning is_any_word read_piece_behind pieces c.args.cursor.now.state c.args.cursor.now.tokens 0 c.len-turns.result (read_pieces c.args.cursor.now.state c.args.cursor.now.tokens) × (None ≡ section_after None pieces))
     (sym c.new-pieces.ensures.items) (
-      subst (Turning is_any_word read_piece_behind [] c.args.cursor.now.state (lexemes c.args.cursor.now.tokens.now) 0 (length c.args.cursor.now.tokens.now)) (sym (with_nothing (read_pieces c.args.cursor.now.state (lexemes c.args.cursor.now.tokens.now))))
-          (turning_from is_any_word read_piece_behind [] c.args.cursor.now.state (lexemes c.args.cursor.now.tokens.now) (length c.args.cursor.now.tokens.now) (sym (length-map c.args.cursor.now.tokens.now lexeme_of))),
+      subst (Turning is_any_word read_piece_behind [] c.args.cursor.now.state c.args.cursor.now.tokens 0 c.len-turns.result) (sym (with_nothing (read_pieces c.args.cursor.now.state c.args.cursor.now.tokens)))
+          (turning_from is_any_word read_piece_behind [] c.args.cursor.now.state c.args.cursor.now.tokens c.len-turns.result c.len-turns.ensures),
       refl,
     )
 
 pub piece-preserved : goal.piece-preserved
 piece-preserved c = (
   turning_on c.piece.invariant.0 c.piece-test.true c.if-not-any_word_comes.ensures
-      (ap (λ section. read_piece section c.piece.cursor.state (lexemes c.piece.cursor.tokens.now)) (sym c.piece.invariant.1) ∙ c.in_ok-piece.ensures) c.in_ok-push.ensures.items,
+      (ap (λ section. read_piece section c.piece.cursor.state c.piece.cursor.tokens) (sym c.piece.invariant.1) ∙ c.in_ok-piece.ensures) c.in_ok-push.ensures.items,
   c.behind-section.ensures ∙ ap (λ section. behind section c.in_ok-piece.piece) c.piece.invariant.1 ∙ sym (section_append None c.piece.pieces.items c.in_ok-piece.piece) ∙ ap (section_after None) (sym c.in_ok-push.ensures.items),
 )
 
@@ -38,5 +35,5 @@ pub returns-in_err-piece : goal.returns-in_err-piece
 returns-in_err-piece c =
     let p = err_from_is_err_and c.from_residual.result c.from_residual.ensures.1 in
     rw (p.1, p.2)
-    (turning_stops {Y = Piece} (λ pieces. pieces) (λ piece. piece) c.piece_at.new.cursor.state (lexemes c.piece_at.new.cursor.tokens.now) c.in_err-piece.field-0.0 c.piece.invariant.0 c.piece-test.true c.if-not-any_word_comes.ensures
+    (turning_stops {Y = Piece} (λ pieces. pieces) (λ piece. piece) c.piece_at.new.cursor.state c.piece_at.new.cursor.tokens c.in_err-piece.field-0.0 c.piece.invariant.0 c.piece-test.true c.if-not-any_word_comes.ensures
     (rw c.piece.invariant.1 at c.in_err-piece.ensures))
