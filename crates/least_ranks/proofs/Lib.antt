@@ -3,6 +3,7 @@ pub mod EnterFacts
 pub mod JoinFacts
 pub mod OverFacts
 pub mod PassFacts
+pub mod RankedStates
 pub mod Rises
 pub mod RunFacts
 pub mod SettleFacts

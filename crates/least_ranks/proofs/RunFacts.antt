@@ -1,20 +1,27 @@
 -- A walk that hasn't begun is sound, and one that is over has the least ranks.
-use Rattle.std.proofs.Common.{◌≡◌, ◌⊎◌, inl, inr, ℕ, ◌+◌, ◌^◌, ◌<◌, ◌≤◌, Bool, true, false, cond, List, [], ◌∷◌, All, Contains, length, map, get_or, replicate, slice_index, count_by, zero, suc, refl, sym, ◌∙◌, ap, subst, arith}
+use Rattle.std.proofs.Common.{◌≡◌, inl, inr, ℕ, ◌+◌, ◌^◌, ◌<◌, ◌≤◌, false, List, [], ◌∷◌}
+use Rattle.std.proofs.Common.{length, map, replicate, slice_index, zero, suc, refl, sym}
+use Rattle.std.proofs.Common.{◌∙◌, arith}
 use Rattle.std.proofs.lemmas.Bool.{cases_lt}
 use Rattle.std.proofs.lemmas.List.{get_or-replicate, get_or_past, length-replicate, length-map}
 use Rattle.std.proofs.lemmas.List.Elements.{All-nil}
 use Rattle.std.proofs.lemmas.List.Sums.{count_by-le-length}
-use Rattle.least_ranks.specs.declared.arrow.Arrow.{Arrow}
 use Rattle.least_ranks.specs.declared.state.State.{State}
 use Rattle.least_ranks.specs.declared.state.State.TheVariants.{New, Waiting, Ranked}
-use Rattle.least_ranks.specs.Graph.{Arrows, IsArrow, Fits, IsLeast, fall_of}
+use Rattle.least_ranks.specs.Graph.{Arrows, Fits, IsLeast, fall_of}
 use Rattle.least_ranks.specs.Inside.States.{is_new, rank_of}
-use Rattle.least_ranks.specs.Inside.Trails.{Trail, state_of, state_in, fresh, new_count}
-use Rattle.least_ranks.specs.Inside.Sound.{LetsHave, AreRanked, IsSound}
+use Rattle.least_ranks.specs.Inside.Trails.{Trail, state_of, state_in, fresh}
+use Rattle.least_ranks.specs.Inside.Sound.{LetsHave, IsSound}
 use Rattle.least_ranks.proofs.Rises.{IsRising-none}
 
 new-at-first : (n k : ℕ) → state_in (replicate n New) k ≡ New
-new-at-first n k = elim (cases_lt k n) [ inl there ↦ get_or-replicate n k New New there | inr past ↦ get_or_past (replicate n New) k New (omega (arith, past, length-replicate n New)) ]
+new-at-first n k =
+    elim
+    (cases_lt k n) [
+      | inl there ↦ get_or-replicate n k New New there
+      | inr past ↦ get_or_past (replicate n New) k New
+          (omega (arith, past, length-replicate n New))
+    ]
 
 pub IsSound-fresh : (graph : Arrows) → graph.nodes < 2 ^ 32 → IsSound graph (fresh graph.nodes)
 IsSound-fresh graph few = record {
@@ -25,7 +32,9 @@ IsSound-fresh graph few = record {
     at = λ node place is. absurd (never (Waiting place) (sym is ∙ new-at-first graph.nodes node) refl);
   };
   parts = record { rise = IsRising-none; within = All-nil (λ s. s < 0); first = λ some. absurd (omega (arith, some)) };
-  busy = record { rise = IsRising-none; within = All-nil (λ s. s < 0); done = λ place there out. absurd (omega (arith, there)) };
+  busy =
+      record
+      { rise = IsRising-none; within = All-nil (λ s. s < 0); done = λ place there out. absurd (omega (arith, there)) };
   passed = record { long = refl; met = λ place there slot arrow less is. absurd (omega (arith, there)) };
   joined = λ low high there also together. absurd (omega (arith, there));
   ranked = record {
@@ -48,7 +57,8 @@ rank-at [] k = refl
 rank-at (s ∷ states) zero = refl
 rank-at (s ∷ states) (suc k) = rank-at states k
 
-module _ (graph : Arrows) (trail : Trail) (sound : IsSound graph trail) (over : length trail.path ≡ 0) (begun : (k : ℕ) → k < graph.nodes → is_new (state_of trail k) ≡ false) where
+module _ (graph : Arrows) (trail : Trail) (sound : IsSound graph trail) (over : length trail.path ≡ 0)
+    (begun : (k : ℕ) → k < graph.nodes → is_new (state_of trail k) ≡ false) where
   ranked : (k : ℕ) → k < graph.nodes → state_of trail k ≡ Ranked (rank_of (state_of trail k))
   ranked k there = by (state_of trail k) refl (begun k there)
     where
@@ -66,8 +76,10 @@ module _ (graph : Arrows) (trail : Trail) (sound : IsSound graph trail) (over : 
   ranks-fit = record {
     whole = length-map trail.states rank_of ∙ sound.placed.whole;
     falls = λ node slot arrow there.
-    let low = lets (rank_of (state_of trail node)) (fall_of arrow) (state_of trail arrow.to) (sound.ranked.fits node (rank_of (state_of trail node)) (ranked node there.node_within) slot arrow there) in
-    omega (arith, low, rank-at trail.states node, rank-at trail.states arrow.to);
+        let low =
+        lets (rank_of (state_of trail node)) (fall_of arrow) (state_of trail arrow.to)
+        (sound.ranked.fits node (rank_of (state_of trail node)) (ranked node there.node_within) slot arrow there) in
+        omega (arith, low, rank-at trail.states node, rank-at trail.states arrow.to);
   }
 
   pub ranks-least : IsLeast graph (map rank_of trail.states)

@@ -1,8 +1,11 @@
 -- The search for a walk from a node to another one.
-use Rattle.std.proofs.Common.{◌≡◌, ◌≢◌, ◌⊎◌, inl, inr, ℕ, ◌+◌, ◌*◌, ◌<◌, ◌≤◌, Bool, true, false, cond, not, List, [], ◌∷◌, ◌++◌, Contains, length, get_or, set, replicate, count_by, zero, suc, refl, sym, ◌∙◌, ap, subst, arith}
+use Rattle.std.proofs.Common.{◌≡◌, ◌≢◌, ◌⊎◌, inl, inr, ℕ, ◌+◌, ◌<◌, ◌≤◌, Bool, true, false, cond, not, List, []}
+use Rattle.std.proofs.Common.{◌∷◌, ◌++◌, Contains, length, get_or, set, replicate, count_by, refl, sym}
+use Rattle.std.proofs.Common.{◌∙◌, ap, subst, arith}
 use Rattle.std.proofs.Math.ListN.{length-set}
 use Rattle.std.proofs.lemmas.Bool.{cases_eq, cases_lt}
-use Rattle.std.proofs.lemmas.List.{get_or-set_same, get_or-set_other, get_or-replicate, get_or_past, length_push, length-replicate}
+use Rattle.std.proofs.lemmas.List.{get_or-set_same, get_or-set_other, get_or-replicate, get_or_past}
+use Rattle.std.proofs.lemmas.List.{length-replicate}
 use Rattle.std.proofs.lemmas.List.Elements.{Contains-append_left, Contains-push, Contains-push_cases}
 use Rattle.std.proofs.lemmas.List.Sums.{sum_by-set}
 use Rattle.least_ranks.specs.declared.arrow.Arrow.{Arrow}
@@ -12,19 +15,26 @@ use Rattle.least_ranks.specs.Inside.Sound.{NeverRises, LeadsTo}
 use Rattle.least_ranks.specs.Inside.Ways.{is_seen, IsSeenUpTo, IsUnseen}
 
 -- a walk with one more step, and without its last
-pub IsWalk-push : (graph : Arrows) (steps : List Step) (step : Step) (from : ℕ) (arrow : Arrow) → IsArrow graph step.node step.slot arrow
+pub IsWalk-push : (graph : Arrows) (steps : List Step) (step : Step) (from : ℕ) (arrow : Arrow)
+    → IsArrow graph step.node step.slot arrow
     → IsWalk graph steps from step.node → IsWalk graph (steps ++ step ∷ []) from arrow.to
 IsWalk-push graph [] step from arrow there walk = (sym walk, (arrow, there, refl))
-IsWalk-push graph (first ∷ steps) step from arrow there walk = (walk.0, (walk.1.0, walk.1.1, IsWalk-push graph steps step walk.1.0.to arrow there walk.1.2))
+IsWalk-push graph (first ∷ steps) step from arrow there walk =
+    (walk.0, (walk.1.0, walk.1.1, IsWalk-push graph steps step walk.1.0.to arrow there walk.1.2))
 
-pub IsWalk-pop : (graph : Arrows) (steps : List Step) (step : Step) (from to : ℕ) → IsWalk graph (steps ++ step ∷ []) from to
+pub IsWalk-pop : (graph : Arrows) (steps : List Step) (step : Step) (from to : ℕ)
+    → IsWalk graph (steps ++ step ∷ []) from to
     → IsWalk graph steps from step.node × (step.node < graph.nodes)
 IsWalk-pop graph [] step from to walk = (sym walk.0, walk.1.1.node_within)
-IsWalk-pop graph (first ∷ steps) step from to walk = let rest = IsWalk-pop graph steps step walk.1.0.to to walk.1.2 in ((walk.0, (walk.1.0, walk.1.1, rest.0)), rest.1)
+IsWalk-pop graph (first ∷ steps) step from to walk = let rest =
+    IsWalk-pop graph steps step walk.1.0.to to walk.1.2 in ((walk.0, (walk.1.0, walk.1.1, rest.0)), rest.1)
 
--- what is known of a node that is seen: the search is at it, or comes back to it, or all its arrows lead to nodes that are seen
+-- what is known of a node that is seen: the search is at it, or comes back to it, or all its arrows lead to nodes
+-- that are seen
 abbrev pub IsKnown : Arrows → List Bool → List Step → ℕ → ℕ → Type 0
-IsKnown graph seen steps here node = (node ≡ here) ⊎ (((step : Step) × Contains steps step × (step.node ≡ node)) ⊎ IsSeenUpTo graph seen node (graph.slots node))
+IsKnown graph seen steps here node =
+    (node ≡ here)
+    ⊎ (((step : Step) × Contains steps step × (step.node ≡ node)) ⊎ IsSeenUpTo graph seen node (graph.slots node))
 
 -- what holds at each turn of the search
 pub record IsSearch (graph : Arrows) (from to : ℕ) (seen : List Bool) (steps : List Step) (here : Step) : Type 0 where
@@ -49,11 +59,15 @@ module _ (seen : List Bool) (next : ℕ) (within : next < length seen) where
   seen-elsewhere k other = get_or-set_other seen next k true false other
 
   seen-still : (k : ℕ) → is_seen seen k ≡ true → is_seen (set seen next true) k ≡ true
-  seen-still k is = elim (cases_eq k next) [ inl same ↦ ap (is_seen (set seen next true)) same ∙ seen-here | inr other ↦ seen-elsewhere k other ∙ is ]
+  seen-still k is =
+      elim
+      (cases_eq k next)
+      [ inl same ↦ ap (is_seen (set seen next true)) same ∙ seen-here | inr other ↦ seen-elsewhere k other ∙ is ]
 
   -- it is the new one, or was seen before
   seen-before : (k : ℕ) → is_seen (set seen next true) k ≡ true → (k ≡ next) ⊎ (is_seen seen k ≡ true)
-  seen-before k is = elim (cases_eq k next) [ inl same ↦ inl same | inr other ↦ inr (sym (seen-elsewhere k other) ∙ is) ]
+  seen-before k is =
+      elim (cases_eq k next) [ inl same ↦ inl same | inr other ↦ inr (sym (seen-elsewhere k other) ∙ is) ]
 
   pub unseen_count-set : is_seen seen next ≡ false → unseen_count (set seen next true) + 1 ≡ unseen_count seen
   unseen_count-set unseen =
@@ -63,9 +77,16 @@ module _ (seen : List Bool) (next : ℕ) (within : next < length seen) where
 
 -- nothing is seen at first
 none-seen : (n k : ℕ) → is_seen (replicate n false) k ≡ false
-none-seen n k = elim (cases_lt k n) [ inl there ↦ get_or-replicate n k false false there | inr past ↦ get_or_past (replicate n false) k false (omega (arith, past, length-replicate n false)) ]
+none-seen n k =
+    elim
+    (cases_lt k n) [
+      | inl there ↦ get_or-replicate n k false false there
+      | inr past ↦ get_or_past (replicate n false) k false
+          (omega (arith, past, length-replicate n false))
+    ]
 
-pub first-search : (graph : Arrows) (from to : ℕ) → from < graph.nodes → IsSearch graph from to (set (replicate graph.nodes false) from true) [] (record { node = from; slot = 0 })
+pub first-search : (graph : Arrows) (from to : ℕ) → from < graph.nodes
+    → IsSearch graph from to (set (replicate graph.nodes false) from true) [] (record { node = from; slot = 0 })
 first-search graph from to within = record {
   whole = length-set (replicate graph.nodes false) from true ∙ length-replicate graph.nodes false;
   begun = seen-here (replicate graph.nodes false) from there;
@@ -84,7 +105,8 @@ first-search graph from to within = record {
     alone k (inl same) = same
     alone k (inr is) = let no : false ≡ true = sym (none-seen graph.nodes k) ∙ is in absurd (cc)
 
-module _ (graph : Arrows) (from to : ℕ) (seen : List Bool) (steps : List Step) (here : Step) (search_ : IsSearch graph from to seen steps here) (apart : here.node ≡ to → ⊥) where
+module _ (graph : Arrows) (from to : ℕ) (seen : List Bool) (steps : List Step) (here : Step)
+    (search_ : IsSearch graph from to seen steps here) (apart : here.node ≡ to → ⊥) where
   -- on to a node that isn't seen
   module _ (slot next : ℕ) (unseen : IsUnseen graph seen here.node slot next) where
     inside : next < length seen
@@ -96,29 +118,47 @@ module _ (graph : Arrows) (from to : ℕ) (seen : List Bool) (steps : List Step)
     here-step : Step
     here-step = record { node = here.node; slot = slot }
 
-    pub on-search : IsSearch graph from to (set seen next true) (steps ++ record { node = here.node; slot = slot } ∷ []) (record { node = next; slot = 0 })
+    pub on-search : IsSearch graph from to (set seen next true)
+        (steps ++ record { node = here.node; slot = slot } ∷ []) (record { node = next; slot = 0 })
     on-search = record {
       whole = length-set seen next true ∙ search_.whole;
       begun = seen-still seen next inside from search_.begun;
       within = unseen.within;
-      walk = rw (← unseen.leads) (IsWalk-push graph steps (record { node = here.node; slot = slot }) from unseen.arrow unseen.there search_.walk);
+      walk =
+          rw (← unseen.leads)
+          (IsWalk-push graph steps
+          (record { node = here.node; slot = slot }) from unseen.arrow unseen.there search_.walk);
       passed = λ s arrow less is. absurd (omega (arith, less));
       left = λ step has. left step (Contains-push_cases steps (record { node = here.node; slot = slot }) step has);
       known = λ node is. known node (seen-before seen next inside node is);
       found = λ is. found (seen-before seen next inside to is);
     }
       where
-        left : (step : Step) → Contains steps step ⊎ (record { node = here.node; slot = slot } ≡ step) → IsSeenUpTo graph (set seen next true) step.node step.slot
+        left : (step : Step) → Contains steps step ⊎ (record { node = here.node; slot = slot } ≡ step)
+            → IsSeenUpTo graph (set seen next true) step.node step.slot
         left step (inl has) = more step.node step.slot (search_.left step has)
-        left step (inr same) = subst (λ (s : Step). IsSeenUpTo graph (set seen next true) s.node s.slot) same (more here.node slot unseen.before)
+        left step (inr same) =
+            subst (λ (s : Step). IsSeenUpTo graph (set seen next true) s.node s.slot) same
+            (more here.node slot unseen.before)
 
-        known : (node : ℕ) → (node ≡ next) ⊎ (is_seen seen node ≡ true) → IsKnown graph (set seen next true) (steps ++ record { node = here.node; slot = slot } ∷ []) next node
+        known : (node : ℕ) → (node ≡ next) ⊎ (is_seen seen node ≡ true)
+            → IsKnown graph (set seen next true) (steps ++ record { node = here.node; slot = slot } ∷ []) next node
         known node (inl same) = inl same
         known node (inr is) = by (search_.known node is)
           where
-            by : IsKnown graph seen steps here.node node → IsKnown graph (set seen next true) (steps ++ record { node = here.node; slot = slot } ∷ []) next node
-            by (inl at) = inr (inl (record { node = here.node; slot = slot }, Contains-push steps (record { node = here.node; slot = slot }), sym at))
-            by (inr (inl (step, has, at))) = inr (inl (step, Contains-append_left steps (record { node = here.node; slot = slot } ∷ []) step has, at))
+            by : IsKnown graph seen steps here.node node
+                → IsKnown graph (set seen next true) (steps ++ record { node = here.node; slot = slot } ∷ []) next node
+            by (inl at) =
+                inr
+                (inl (
+                  record { node = here.node; slot = slot },
+                  Contains-push steps
+                      (record { node = here.node; slot = slot }),
+                  sym at,
+                ))
+            by (inr (inl (step, has, at))) =
+                inr
+                (inl (step, Contains-append_left steps (record { node = here.node; slot = slot } ∷ []) step has, at))
             by (inr (inr upto)) = inr (inr (more node (graph.slots node) upto))
 
         found : (to ≡ next) ⊎ (is_seen seen to ≡ true) → next ≡ to
@@ -128,7 +168,8 @@ module _ (graph : Arrows) (from to : ℕ) (seen : List Bool) (steps : List Step)
   -- all arrows of the node lead to nodes that are seen
   module _ (all : IsSeenUpTo graph seen here.node (graph.slots here.node)) where
     -- back to the node that the search came from
-    pub back-search : (rest : List Step) (step : Step) → steps ≡ rest ++ step ∷ [] → IsSearch graph from to seen rest step
+    pub back-search : (rest : List Step) (step : Step) → steps ≡ rest ++ step ∷ []
+        → IsSearch graph from to seen rest step
     back-search rest step is = record {
       whole = search_.whole;
       begun = search_.begun;
@@ -171,7 +212,8 @@ module _ (graph : Arrows) (from to : ℕ) (seen : List Bool) (steps : List Step)
           most false = omega arith
 
           by : (b : Bool) → is_seen seen node ≡ b → height arrow.to ≤ height node
-          by true e = let there = seen-all node (search_.known node e) slot arrow is.slot_within is in rw (e, there) (omega arith)
+          by true e = let there = seen-all node (search_.known node e) slot arrow is.slot_within is in
+              rw (e, there) (omega arith)
           by false e = rw e (most (is_seen seen arrow.to))
 
       low : height from ≡ 0

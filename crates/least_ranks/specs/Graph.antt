@@ -1,5 +1,6 @@
 -- Graphs with weak and strict arrows, ranks that fit them, and walks that lead back to where they begin.
-use Rattle.std.specs.Prelude.{◌≡◌, ℕ, ◌+◌, ◌<◌, ◌≤◌, true, Option, Some, List, [], ◌∷◌, length, slice_index, Any, if◌then◌else◌}
+use Rattle.std.specs.Prelude.{◌≡◌, ℕ, ◌+◌, ◌<◌, ◌≤◌, true, Option, Some, List, [], ◌∷◌, length, slice_index, Any}
+use Rattle.std.specs.Prelude.{if◌then◌else◌}
 use Rattle.least_ranks.specs.declared.arrow.Arrow.{Arrow}
 use Rattle.least_ranks.specs.declared.arrow.Step.{Step}
 

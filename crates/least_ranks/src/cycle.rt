@@ -42,7 +42,10 @@ fn way<G: Graph>(
     let mut seen = vec![in alloc; false; graph.node_count() as usize]?;
     seen[from as usize] = true;
     let mut steps = Vec::new(alloc);
-    let mut here = Step { node: from, slot: 0 };
+    let mut here = Step {
+        node: from,
+        slot: 0,
+    };
     'steps: while here.node != to {
         match unseen_slot(graph, &seen, here) {
             Some((slot, next)) => {
@@ -71,7 +74,8 @@ fn unseen_slot<G: Graph>(graph: &G, seen: &[bool], here: Step) -> Option<(u32, u
     requires within { here.node < (G.arrows graph.now).nodes }
     requires before { IsSeenUpTo (G.arrows graph.now) seen.now here.node here.slot }
     ensures some { IfSome result (λ found. IsUnseen (G.arrows graph.now) seen.now here.node found.0 found.1) }
-    ensures none { IfNone result (IsSeenUpTo (G.arrows graph.now) seen.now here.node ((G.arrows graph.now).slots here.node)) }
+    ensures none { IfNone result (IsSeenUpTo (G.arrows graph.now) seen.now here.node
+        ((G.arrows graph.now).slots here.node)) }
 {
     for slot in here.slot..graph.slot_count(here.node) {
         if let Some(arrow) = graph.arrow(here.node, slot) {

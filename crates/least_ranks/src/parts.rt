@@ -91,7 +91,8 @@ fn rank_over_slot<G: Graph>(
     requires inside { IsInside (G.arrows graph.now) walk.now step.node }
     requires slot { step.slot < (G.arrows graph.now).slots step.node }
     ensures over { IfOk result (λ rank. (arrow : Arrow)
-        → IsArrow (G.arrows graph.now) step.node step.slot arrow → IsOverArrow rank arrow (state_of walk.now arrow.to)) }
+        → IsArrow (G.arrows graph.now) step.node step.slot arrow
+        → IsOverArrow rank arrow (state_of walk.now arrow.to)) }
     ensures lowest { IfOk result (IsLowest (G.arrows graph.now) step.node) }
     ensures small { IfOk result (IsBound (G.arrows graph.now) walk.now) }
     ensures fault { IfErr result (IsFault (G.arrows graph.now)) }

@@ -68,12 +68,7 @@ fn begin<G: Graph>(graph: &G, root: u32, walk: &mut Walk) -> Result<(), AllocErr
 }
 
 // One turn of the walk: it passes slots of the last node that has some left, or gives the last part its rank.
-fn turn<G: Graph>(
-    alloc: Global,
-    graph: &G,
-    start: u32,
-    walk: &mut Walk,
-) -> Result<(), RankFault>
+fn turn<G: Graph>(alloc: Global, graph: &G, start: u32, walk: &mut Walk) -> Result<(), RankFault>
     requires sound { IsSound (G.arrows graph.now) walk.old }
     requires last { EndsWith walk.old.parts start }
     ensures sound { OnOk result (IsSound (G.arrows graph.now) walk.new) }

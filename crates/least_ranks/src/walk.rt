@@ -28,11 +28,11 @@ impl Model for Walk {
     ghost Value = { Trail };
 
     ghost view = { λ w. record {
-        states = w.states.items;
-        path = w.path.items;
-        passed = w.passed.items;
-        busy = w.busy.items;
-        parts = w.parts.items;
+      states = w.states.items;
+      path = w.path.items;
+      passed = w.passed.items;
+      busy = w.busy.items;
+      parts = w.parts.items;
     } };
 }
 

@@ -17,7 +17,8 @@ LeadsBack graph node target (Ranked rank) = Unit {0}
 -- the node's arrows lead to nodes that have a rank, or from which arrows lead back
 pub record IsInside (graph : Arrows) (trail : Trail) (node : ℕ) : Type 0 where
   pub within : node < graph.nodes
-  pub back : (slot : ℕ) (arrow : Arrow) → IsArrow graph node slot arrow → LeadsBack graph node arrow.to (state_of trail arrow.to)
+  pub back : (slot : ℕ) (arrow : Arrow) → IsArrow graph node slot arrow
+      → LeadsBack graph node arrow.to (state_of trail arrow.to)
 
 -- an arrow lets its node have this rank, and all nodes without one too
 abbrev pub IsOverArrow : ℕ → Arrow → State → Type 0
@@ -27,7 +28,8 @@ IsOverArrow rank arrow (Ranked target) = target + fall_of arrow ≤ rank
 
 -- all arrows of a node do
 abbrev pub IsOver : Arrows → Trail → ℕ → ℕ → Type 0
-IsOver graph trail rank node = (slot : ℕ) (arrow : Arrow) → IsArrow graph node slot arrow → IsOverArrow rank arrow (state_of trail arrow.to)
+IsOver graph trail rank node = (slot : ℕ) (arrow : Arrow) → IsArrow graph node slot arrow
+    → IsOverArrow rank arrow (state_of trail arrow.to)
 
 -- a node has no smaller rank where ranks fit
 abbrev pub IsLowest : Arrows → ℕ → ℕ → Type 0

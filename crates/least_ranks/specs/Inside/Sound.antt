@@ -9,7 +9,8 @@ use Rattle.least_ranks.specs.Inside.Trails.{Trail, state_of, state_in, new_count
 
 -- numbers of nodes that rise along no arrow
 abbrev pub NeverRises : Arrows → (ℕ → ℕ) → Type 0
-NeverRises graph height = (node slot : ℕ) (arrow : Arrow) → IsArrow graph node slot arrow → height arrow.to ≤ height node
+NeverRises graph height = (node slot : ℕ) (arrow : Arrow) → IsArrow graph node slot arrow
+    → height arrow.to ≤ height node
 
 -- arrows lead from the first node to the second, one or more or none: what rises along no arrow isn't greater there
 abbrev pub LeadsTo : Arrows → ℕ → ℕ → Type 0
@@ -36,7 +37,8 @@ pub record ArePlaced (graph : Arrows) (states : List State) (path : List ℕ) : 
   pub whole : length states ≡ graph.nodes
   pub within : (place : ℕ) → place < length path → slice_index path place < graph.nodes
   pub waits : (place : ℕ) → place < length path → state_in states (slice_index path place) ≡ Waiting place
-  pub at : (node place : ℕ) → state_in states node ≡ Waiting place → (place < length path) × (slice_index path place ≡ node)
+  pub at : (node place : ℕ) → state_in states node ≡ Waiting place
+      → (place < length path) × (slice_index path place ≡ node)
 
 -- the parts of a path of this length
 pub record AreParts (long : ℕ) (parts : List ℕ) : Type 0 where
@@ -73,7 +75,8 @@ pub record AreRanked (graph : Arrows) (states : List State) : Type 0 where
 pub record AreSmall (graph : Arrows) (trail : Trail) : Type 0 where
   pub few : graph.nodes < 2 ^ 32
   pub room : new_count trail + length trail.path ≤ graph.nodes
-  pub small : (node rank : ℕ) → state_of trail node ≡ Ranked rank → rank + (new_count trail + length trail.path) < graph.nodes
+  pub small : (node rank : ℕ) → state_of trail node ≡ Ranked rank
+      → rank + (new_count trail + length trail.path) < graph.nodes
 
 pub record IsSound (graph : Arrows) (trail : Trail) : Type 0 where
   pub placed : ArePlaced graph trail.states trail.path

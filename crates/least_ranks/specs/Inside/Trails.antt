@@ -1,5 +1,6 @@
 -- What a walk over a graph holds, and how it changes.
-use Rattle.std.specs.Prelude.{◌≡◌, ℕ, ◌+◌, ◌*◌, ◌-◌, ◌<◌, ◌≤◌, List, [], ◌∷◌, ◌++◌, All, Contains, length, take, drop, replicate, slice_index, slice_index_or, slice_set, count_by}
+use Rattle.std.specs.Prelude.{◌≡◌, ℕ, ◌+◌, ◌*◌, ◌-◌, ◌<◌, ◌≤◌, List, [], ◌∷◌, ◌++◌, All, length, take, drop}
+use Rattle.std.specs.Prelude.{replicate, slice_index, slice_index_or, slice_set, count_by}
 use Rattle.least_ranks.specs.declared.state.State.{State}
 use Rattle.least_ranks.specs.declared.state.State.TheVariants.{New, Waiting, Ranked}
 use Rattle.least_ranks.specs.Inside.States.{is_new}

@@ -16,9 +16,11 @@ is_seen seen node = slice_index_or seen node false
 
 -- the arrows in the first so many slots of a node lead to nodes that are seen
 abbrev pub IsSeenUpTo : Arrows → List Bool → ℕ → ℕ → Type 0
-IsSeenUpTo graph seen node count = (slot : ℕ) (arrow : Arrow) → slot < count → IsArrow graph node slot arrow → is_seen seen arrow.to ≡ true
+IsSeenUpTo graph seen node count = (slot : ℕ) (arrow : Arrow) → slot < count → IsArrow graph node slot arrow
+    → is_seen seen arrow.to ≡ true
 
--- the arrow in this slot of a node leads to this node, which isn't seen; those in the slots before lead to nodes that are
+-- the arrow in this slot of a node leads to this node, which isn't seen; those in the slots before lead to nodes that
+-- are
 pub record IsUnseen (graph : Arrows) (seen : List Bool) (node slot to : ℕ) : Type 0 where
   pub arrow : Arrow
   pub there : IsArrow graph node slot arrow

@@ -1,4 +1,4 @@
-use Rattle.std.proofs.Common.{◌≡◌, drop, length}
+use Rattle.std.proofs.Common.{◌≡◌, drop}
 use Rattle.least_ranks.specs.Inside.Trails.{rank_all}
 use Rattle.least_ranks.proofs.walk.rank_all.Given as goal
 
