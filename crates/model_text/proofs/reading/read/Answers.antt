@@ -19,9 +19,9 @@ returns-in-Ok c =
     (subst (λ ts. GivesBlocks (λ x. x.0.items) (λ x. x.1) c.model_at-model.result c.model_at-model.new.cursor.tokens (read_model nothing_seen ts)) (c.new-cursor.ensures.tokens ∙ c.again.ensures) c.model_at-model.ensures.read)
     c.model_at-model.ensures.version c.model_at-model.ensures.names (c.into_parts-version.ensures.cube_orders, c.into_parts-version.ensures.writable_cubes, c.into_parts-version.ensures.writable_scripts) c.in-Ok.ensures).0)
 
-pub returns : goal.returns
-returns c =
-    rw c.fault_of-in-Err.ensures
+pub returns-in-Err : goal.returns-in-Err
+returns-in-Err c =
+    rw c.fault_of.ensures
     (answer_err (λ x. x.0.items) (λ x. x.1) c.args.text.now _ c.text_tokens-tokens.result.fault c.model_at-model.result c.model_at-model.new.cursor.tokens c.in-Err.fault c.text_tokens-tokens.ensures.found
     (subst (λ ts. GivesBlocks (λ x. x.0.items) (λ x. x.1) c.model_at-model.result c.model_at-model.new.cursor.tokens (read_model nothing_seen ts)) (c.new-cursor.ensures.tokens ∙ c.again.ensures) c.model_at-model.ensures.read)
     c.in-Err.ensures)
