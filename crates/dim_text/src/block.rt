@@ -66,8 +66,7 @@ fn statements_at(
 ) -> Result<Block, Stop<Refusal>>
     ensures { GivesText result (ahead cursor.new) (read_body (opened head name) (ahead cursor.old)) }
 {
-    let partial = PartialBlock::new(alloc, head, name, table)?;
-    let partial = elements_at(alloc, cursor, partial)?;
+    let partial = elements_at(alloc, cursor, PartialBlock::new(alloc, head, name, table)?)?;
     let block = ending_at(cursor, partial)?;
     closing_at(cursor, block)
 }
