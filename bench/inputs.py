@@ -75,6 +75,16 @@ def attributes(folder, n):
     return write(folder, m_txt=m, r_rux="['A'] = N: DB('C', ATTRS('T', !T, 'Next'), 'B');\n", u_txt="GET 'C' ('t1', 'A');\n")
 
 
+def attribute_moves(folder, n):
+    """n / 1,000 references by one attribute, and as many into another dimension of the same names, over n elements."""
+    named = "".join(f"A 't{i}' 'Next' = 't{i % n + 1}';\n" for i in range(1, n + 1))
+    m = model(dimension("T", leaves("t", n) + named), dimension("U", leaves("t", n)), dimension("K", "N 'A'; N 'B';\n"))
+    m += "CUBE 'C' ('T', 'K'); RULES 'r.rux'; ORDER 'K' ('A' 1); END;\nCUBE 'D' ('U', 'K'); END;\n"
+    one = "DB('C', ATTRS('T', !T, 'Next'), 'B') + DB('D', !T, 'B')"
+    r = "".join(f"['A', 't{i}'] = {one};\n" for i in range(1, max(1, n // 1000) + 1))
+    return write(folder, m_txt=m, r_rux=r, u_txt="GET 'C' ('t1', 'A');\n")
+
+
 # The cover.
 
 
@@ -105,6 +115,29 @@ def many_feeders(folder, n):
     r = "SKIPCHECK;\n" + "".join(f"['S', 'i{i}'] = N: ['U']; C: ['U'];\n" for i in range(1, n + 1))
     r += "FEEDERS;\n" + "['V'] => ['S'];\n" * (n - 1) + "['U'] => ['S'];\n"
     return write(folder, m_txt=m, r_rux=r, u_txt="GET 'C' ('i1', 'S');\n")
+
+
+def fed_by_leaf(n, words, last):
+    """n / 100 statements of a hundred references each, for a leaf of their own, and a feeder for each of the references.
+    These words are elements that no feeder names, and this stands at the end of the last formula."""
+    k = max(1, n // 100)
+    m = model(dimension("I", leaves("i", max(200, k))), dimension("K", "N 'S';\n" + leaves("u", 100) + words))
+    m += "CUBE 'C' ('K', 'I'); RULES 'r.rux'; ORDER 'K' ('S' 1); END;\n"
+    one = " + ".join(f"['u{j}']" for j in range(1, 101))
+    r = "SKIPCHECK;\n" + "".join(f"['S', 'i{i}'] = N: {one}{last if i == k else ''};\n" for i in range(1, k + 1))
+    targets = ", ".join(f"['S', 'i{i}']" for i in range(1, k + 1))
+    r += "FEEDERS;\n" + "".join(f"['u{j}'] => {targets};\n" for j in range(1, 101))
+    return dict(m_txt=m, r_rux=r, u_txt="PUT 'C' ('u1', 'i1') = 2;\nGET 'C' ('S', 'i1');\n")
+
+
+def own_feeders(folder, n):
+    """n references, each covered by a feeder of its own, whose target names the leaf of the reference's statement."""
+    return write(folder, **fed_by_leaf(n, "", ""))
+
+
+def uncovered_feeders(folder, n):
+    """The same with one reference more, the last, which no feeder covers: the model is refused after all were asked for."""
+    return write(folder, **fed_by_leaf(n, "N 'v';\n", " + ['v']"))
 
 
 # The order and deployment.
@@ -404,7 +437,8 @@ ENDLESS = {"model": endless_model, "rules": endless_rules, "script": endless_scr
 # Each shape with its full size. Half and a quarter of it are measured too.
 SHAPES = [
     (equal_moves, 100000), (unmarked_moves, 100000), (wide_area, 90000), (shared_rule_file, 100000), (attributes, 100000),
-    (listed_source, 90000), (climbing_target, 90000), (many_feeders, 1000),
+    (attribute_moves, 100000),
+    (listed_source, 90000), (climbing_target, 90000), (many_feeders, 1000), (own_feeders, 100000), (uncovered_feeders, 100000),
     (long_order, 900), (totals_above_loop, 90000), (cancelling_weights, 50000), (dense_leaves, 90000),
     (continued, 900), (puts_of_0, 30000), (puts, 800000), (zeros, 800000), (opened_total, 100000), (opened_zeros, 100000), (overfed_total, 1000000),
     (clearing_load, 100000), (adding_load, 100000), (paired_load, 100000), (large_plan, 800000), (plain_increments, 1000000), (equal_loads, 2000),

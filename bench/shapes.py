@@ -5,8 +5,8 @@
 
 PROGRAM is the built program (`rt build` in crates/cube_program; ./run says where it is). Each shape is run at a
 quarter, at half and at the whole of its full size. A line has the shape, and for each size the size, the seconds of
-the processor (user and system) and the peak of memory in MB. The last field is how much dearer the whole is than
-the half. docs/SPEED.md has the figures.
+the processor (user and system) and the peak of memory in MB. Then come the MB of the files at the full size, and how
+much dearer the whole is than the half. docs/SPEED.md has the figures.
 
 The last shape, `endless`, has one size: each kind of text in turn is a file without an end, of which the program is
 to refuse line 1. Its line has the seconds and the peak of each kind.
@@ -28,16 +28,17 @@ def limited():
 
 
 def measured(program, make, size, timeout, out=subprocess.DEVNULL):
-    """The seconds of the processor, the peak in MB and the status, or None after the timeout."""
+    """The seconds of the processor, the peak in MB, the status and the MB of the files, or None after the timeout."""
     with tempfile.TemporaryDirectory() as folder:
         words = make(folder, size)
+        given = sum(entry.stat().st_size for entry in os.scandir(folder)) / 1e6
         process = subprocess.Popen([program, *words], cwd=folder, stdout=out, stderr=subprocess.DEVNULL, preexec_fn=limited)
         ends = time.monotonic() + timeout
         while True:
             pid, status, used = os.wait4(process.pid, os.WNOHANG)
             if pid:
                 process.returncode = os.waitstatus_to_exitcode(status)
-                return used.ru_utime + used.ru_stime, used.ru_maxrss / 1024, process.returncode
+                return used.ru_utime + used.ru_stime, used.ru_maxrss / 1024, process.returncode, given
             if time.monotonic() > ends:
                 process.kill()
                 os.wait4(process.pid, 0)
@@ -55,6 +56,8 @@ def line_of(program, make, full, timeout):
             break
         seconds.append(found[0])
         fields.append(f"{size:,}: {found[0]:.2f} s, {found[1]:.0f} MB" + ("" if found[2] in (0, 2) else f", status {found[2]}"))
+    if found is not None:
+        fields.append(f"{found[3]:.1f} MB of files")
     growth = f"{seconds[2] / seconds[1]:.1f}" if len(seconds) == 3 and seconds[1] > 0.02 else "-"
     return f"{make.__name__} | " + " | ".join(fields) + f" | {growth}"
 

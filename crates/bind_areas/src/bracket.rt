@@ -51,8 +51,9 @@ fn args_at(
     requires { cube < length space.now.cubes }
     ensures { IfOk result (λ args. args ≡ args_at simples.now places.now (axes space.now cube)) }
 {
-    let mut args = Vec::new(alloc);
-    for place in 0..axis_count(space, cube) {
+    let count = axis_count(space, cube);
+    let mut args = Vec::with_capacity(alloc, count as usize)?;
+    for place in 0..count {
         let dimension = axis(space, cube, place);
         args.push(arg_at(dimension, simples, places, place))?;
     }

@@ -6,4 +6,6 @@ mod Cubes
 mod NamesGiven
 mod Tables
 mod Moves
+mod AlikeFacts
+mod MapsMade
 pub mod ArgumentFacts

@@ -24,10 +24,13 @@ abbrev pub still : Layout → ℕ → Option ℕ → Arg
 still space cube (Some element) = Fixed element
 still space cube None = Moved 0 (nowhere (size_at space cube 0))
 
+-- for each of so many elements of the dimension that an argument follows: the element of the target's dimension
+abbrev pub table_over : Layout → ℕ → BoundArgument → ℕ → List (Option ℕ)
+table_over space dim argument size = map (element_given space dim argument) (range_with_len 0 size)
+
 -- for each element of a dimension at this place of the cube: the element of the target's dimension
 abbrev pub table : Layout → ℕ → ℕ → BoundArgument → ℕ → List (Option ℕ)
-table space cube dim argument place =
-    map (element_given space dim argument) (range_with_len 0 (size_at space cube place))
+table space cube dim argument place = table_over space dim argument (size_at space cube place)
 
 abbrev pub arg_following : Layout → ℕ → ℕ → BoundArgument → Option ℕ → Arg
 arg_following space cube dim argument None = still space cube (element_given space dim argument 0)

@@ -1,7 +1,7 @@
 -- Element arguments with their names bound, and the name that one gives by the element of the dimension that it
 -- follows.
 use Rattle.std.specs.Prelude.{ℕ, suc, ℤ, pos, ◌+ℤ◌, List, [], Option, Some, None, position, slice_get, slice_index_or}
-use Rattle.std.specs.Prelude.{if◌then◌else◌}
+use Rattle.std.specs.Prelude.{◌≡◌, if◌then◌else◌}
 use Rattle.std.specs.List.{list_any}
 use Rattle.std.specs.Option.{option_map, option_map_or, option_and_then}
 use Rattle.dim_name.specs.Name.{is_name, is_same_name, place_of}
@@ -95,3 +95,8 @@ name_given space element = fold-BoundArgument (Option (List ℕ)) (given_step sp
 abbrev pub element_given : Layout → ℕ → BoundArgument → ℕ → Option ℕ
 element_given space dim argument element =
     option_and_then (index_of (dimension_at space dim)) (name_given space element argument)
+
+-- two arguments give the same names
+abbrev pub AreAlike : BoundArgument → BoundArgument → Type 0
+AreAlike argument other =
+    (space : Layout) → (element : ℕ) → name_given space element argument ≡ name_given space element other

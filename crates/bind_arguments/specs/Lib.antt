@@ -1,4 +1,5 @@
 pub mod Written
 pub mod Bound
 pub mod Argument
+pub mod Maps
 pub mod Inside

@@ -10,14 +10,16 @@ ghost use Rattle.bind_arguments.specs.Bound.{name_in, dimension_at};
 ghost use Rattle.bind_arguments.specs.declared.bound_argument.BoundArgument.TheVariants as variants;
 ghost use Rattle.bind_arguments.specs.Argument as bindings;
 ghost use Rattle.bind_arguments.specs.Argument.{argument_of, size_at, table, IsAnsweredBy};
+ghost use Rattle.bind_arguments.specs.Maps.{AreMapsIn};
 ghost use Rattle.bind_arguments.specs.Inside.Within.{is_within};
 ghost use Rattle.bind_arguments.specs.Inside.Moves.{IsOwnMove, moved_by};
 ghost use Rattle.bind_arguments.specs.declared.fault.ArgumentFault.TheVariants.{UnknownName};
 
 use crate::binding::bind_element;
 use crate::bound_argument::BoundArgument;
+use crate::bound_maps::BoundMaps;
 use crate::fault::ArgumentFault;
-use crate::giving::{element_given, element_named, elements_given, followed};
+use crate::giving::{element_given, element_named, followed};
 use cube_space::Space;
 use rule_laws::{Arg, ElementMap};
 use rule_tree::Tree;
@@ -27,18 +29,22 @@ use std::alloc::{AllocError, Global};
 /// of the target's cube at the argument's place.
 ///
 /// What depends on no dimension of the cell is one element, or goes nowhere; what depends on one is a table over that
-/// dimension, which takes no memory where each element goes to itself.
+/// dimension, which takes no memory where each element goes to itself or moves by so many places. Equal tables are
+/// one, by the maps that were made so far in this space.
 pub fn bind_argument(
     alloc: Global,
     space: &Space,
+    maps: &mut BoundMaps,
     cube: u32,
     dim: u32,
     tree: &Tree,
 ) -> Result<Arg, ArgumentFault>
     requires cube { cube < length space.now.cubes }
     requires dim { dim < length space.now.dimensions }
+    requires maps { AreMapsIn space.now maps.old }
     ensures answered { IsAnsweredBy (argument_of space.now cube dim tree.now) result }
     ensures arg { IfOk result (IsArg (sizes space.now cube) (length (dimension_at space.now dim).elements)) }
+    ensures maps { AreMapsIn space.now maps.new }
 {
     // a space says of itself that it is one
     let _cells = space.size();
@@ -46,7 +52,7 @@ pub fn bind_argument(
         Tree::Text(text) => bind_text(alloc, space, dim, text.as_slice()),
         _ => {
             let argument = bind_element(alloc, space, cube, tree)?;
-            let arg = arg_of(alloc, space, cube, dim, &argument)?;
+            let arg = arg_of(alloc, space, maps, cube, dim, argument)?;
             Ok(arg)
         }
     }
@@ -68,23 +74,26 @@ fn bind_text(alloc: Global, space: &Space, dim: u32, text: &[u8]) -> Result<Arg,
 fn arg_of(
     alloc: Global,
     space: &Space,
+    maps: &mut BoundMaps,
     cube: u32,
     dim: u32,
-    argument: &BoundArgument,
+    argument: BoundArgument,
 ) -> Result<Arg, AllocError>
     requires valid { IsSpace space.now }
     requires cube { cube < length space.now.cubes }
     requires dim { dim < length space.now.dimensions }
-    requires within { IsTrue (is_within space.now cube argument.now) }
-    ensures { IfOk result (λ arg. arg ≡ bindings.arg_of space.now cube dim argument.now) }
+    requires within { IsTrue (is_within space.now cube argument) }
+    requires maps { AreMapsIn space.now maps.old }
+    ensures arg { IfOk result (λ arg. arg ≡ bindings.arg_of space.now cube dim argument) }
+    ensures maps { AreMapsIn space.now maps.new }
 {
-    match followed(argument) {
+    match followed(&argument) {
         Some(from) => {
-            let to = elements_from(alloc, space, cube, dim, argument, from)?;
+            let to = elements_from(alloc, space, maps, cube, dim, argument, from)?;
             Ok(Arg::Moved { from, to })
         }
         None => {
-            let element = element_given(alloc, space, space.dimension(dim), argument, 0)?;
+            let element = element_given(alloc, space, space.dimension(dim), &argument, 0)?;
             Ok(still(space, cube, element))
         }
     }
@@ -94,25 +103,28 @@ fn arg_of(
 fn elements_from(
     alloc: Global,
     space: &Space,
+    maps: &mut BoundMaps,
     cube: u32,
     dim: u32,
-    argument: &BoundArgument,
+    argument: BoundArgument,
     place: u32,
 ) -> Result<ElementMap, AllocError>
     requires valid { IsSpace space.now }
     requires cube { cube < length space.now.cubes }
     requires dim { dim < length space.now.dimensions }
-    requires within { IsTrue (is_within space.now cube argument.now) }
-    requires followed { bound.followed argument.now ≡ Some place }
-    ensures { IfOk result (λ to. to ≡ table space.now cube dim argument.now place) }
+    requires within { IsTrue (is_within space.now cube argument) }
+    requires followed { bound.followed argument ≡ Some place }
+    requires maps { AreMapsIn space.now maps.old }
+    ensures to { IfOk result (λ to. to ≡ table space.now cube dim argument place) }
+    ensures maps { AreMapsIn space.now maps.new }
 {
     let len = axis_len(space, cube, place);
-    if is_own(argument, dim) {
+    if is_own(&argument, dim) {
         return Ok(ElementMap::identity(len));
     }
-    match own_move(argument, dim) {
+    match own_move(&argument, dim) {
         Some(shift) => Ok(moved_by(len, shift)),
-        None => elements_given(alloc, space, space.dimension(dim), argument, len),
+        None => maps.map_of(alloc, space, dim, argument, len),
     }
 }
 

@@ -1,7 +1,8 @@
-ghost use Rattle.std.specs.Prelude.{◌≡◌, ◌≤◌, ◌^◌, suc, unsigned_abs, pos, ℕ, IfOk, IsTrue, length, map, slice_get};
-ghost use Rattle.std.specs.List.{range_with_len};
+ghost use Rattle.std.specs.Prelude.{◌≡◌, ◌<◌, ◌≤◌, ◌^◌, ℕ, suc, pos, unsigned_abs, length, slice_get};
+ghost use Rattle.std.specs.Prelude.{IfOk, IsTrue};
 ghost use Rattle.std.specs.Option.{option_and_then, option_map_or};
 ghost use Rattle.dim_core.specs.Outline.{index_of, names_of};
+ghost use Rattle.bind_arguments.specs.Argument.{table_over};
 ghost use Rattle.bind_arguments.specs.Bound as bound;
 ghost use Rattle.bind_arguments.specs.Bound.{name_in, name_at, name_given};
 ghost use Rattle.bind_arguments.specs.Inside.Within.{is_within};
@@ -126,18 +127,18 @@ pub(crate) fn element_given(
 pub(crate) fn elements_given(
     alloc: Global,
     space: &Space,
-    dimension: &Dimension,
+    dim: u32,
     argument: &BoundArgument,
     len: u32,
 ) -> Result<ElementMap, AllocError>
-    requires { (cube : ℕ) × IsTrue (is_within space.now cube argument.now) }
-    ensures { IfOk result (λ given. given ≡ map
-        (λ element. option_and_then (index_of dimension.now) (name_given space.now element argument.now))
-        (range_with_len 0 len)) }
+    requires dim { dim < length space.now.dimensions }
+    requires within { (cube : ℕ) × IsTrue (is_within space.now cube argument.now) }
+    ensures { IfOk result (λ given. given ≡ table_over space.now dim argument.now len) }
 {
+    let dimension = space.dimension(dim);
     let mut to = Vec::with_capacity(alloc, len as usize)?;
     for element in 0..len {
         to.push(element_given(alloc, space, dimension, argument, element)?)?;
     }
-    Ok(ElementMap::listed(to))
+    ElementMap::listed(alloc, to)
 }

@@ -1,17 +1,20 @@
 //! Binding of element arguments: those of a `DB`, which say for each cell of a statement's cube which element of the
 //! target's dimension is meant.
 //!
-//! Read first [`bind_argument`], which turns one into an [`Arg`](rule_laws::Arg). `specs/Written.antt` says which
-//! formulas are element arguments, `specs/Bound.antt` which of their names are unknown and which name one gives,
-//! `specs/Argument.antt` the table that comes of it.
+//! Read first [`bind_argument`], which turns one into an [`Arg`](rule_laws::Arg), and then [`BoundMaps`], by which
+//! equal arguments share a table. `specs/Written.antt` says which formulas are element arguments, `specs/Bound.antt`
+//! which of their names are unknown and which name one gives, `specs/Argument.antt` the table that comes of it.
 #![tactic(auto)]
 
 pub use argument::bind_argument;
+pub use bound_maps::BoundMaps;
 pub use fault::ArgumentFault;
 
+mod alike;
 mod argument;
 mod binding;
 mod bound_argument;
+mod bound_maps;
 mod fault;
 mod giving;
 mod naming;

@@ -42,7 +42,11 @@ pub(crate) fn answer_of<R: Threads + Wait + Sync, F: Files, G: Gate + Sync>(
 {
     let mut readings = Readings::new(alloc);
     match run_passes(alloc, words, files, &mut readings) {
-        Ok(job) => done(rt, alloc, gate, job),
+        Ok(job) => {
+            // what was read isn't held while the users run
+            drop(readings);
+            done(rt, alloc, gate, job)
+        }
         Err(halt) => halted(alloc, files.missed(), halt),
     }
 }

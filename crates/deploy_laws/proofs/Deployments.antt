@@ -9,7 +9,7 @@ use Rattle.rule_bind.specs.Rules.{rules_of}
 use Rattle.bind_order.specs.Orders.{order_of}
 use Rattle.rule_model.specs.BoundModel.{BoundModel}
 use Rattle.rule_model.specs.declared.rules.CubeRules.{CubeRules}
-use Rattle.model_deploy.specs.declared.file.RuleFile.{RuleFile}
+use Rattle.model_deploy.specs.Files.{RuleFile}
 use Rattle.model_deploy.specs.Foundation.{layout_of, cube_lines, order_lines, dimensions_refusal, space_refusal, products_refusal}
 use Rattle.model_deploy.specs.Rules.{file_name, meant_in, in_order, by_line, text_stage, meaning_stage, order_stage}
 use Rattle.model_deploy.specs.Stages.{Stage, found, unless, each, ◌>>=◌}

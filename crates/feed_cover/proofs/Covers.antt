@@ -20,7 +20,7 @@ use Rattle.cover_laws.proofs.Looks.{some-elim, some-intro}
 use Rattle.cover_laws.proofs.Covered.{range-at}
 use Rattle.lists.proofs.Found.{same_truth as true-both}
 
-at-range : (f : ℕ → Bool) (n k : ℕ) → k < n → f k ≡ true → list_any f (range_with_len 0 n) ≡ true
+pub at-range : (f : ℕ → Bool) (n k : ℕ) → k < n → f k ≡ true → list_any f (range_with_len 0 n) ≡ true
 at-range f n k low h = list_any_at f (range_with_len 0 n) k 0 (omega (arith, low, length-range_with_len 0 n)) (ap f (range-at n k 0 low) ∙ h)
 
 in-range : (f : ℕ → Bool) (n : ℕ) → list_any f (range_with_len 0 n) ≡ true → (k : ℕ) × (k < n) × (f k ≡ true)

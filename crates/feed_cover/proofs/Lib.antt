@@ -8,3 +8,4 @@ pub mod Kept
 pub mod OneTests
 pub mod Wider
 pub mod Reaching
+pub mod Asked

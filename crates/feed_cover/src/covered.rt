@@ -1,22 +1,19 @@
-ghost use Rattle.std.specs.Prelude.{◌≡◌, ◌<◌, ◌==◌, not, true, length, is_some, IfSome, IsTrue};
+ghost use Rattle.std.specs.Prelude.{◌≡◌, ◌<◌, ◌==◌, not, true, length, is_some, IsTrue};
 ghost use Rattle.std.specs.List.{list_any};
 ghost use Rattle.rule_model.specs.declared.area.Area.{Area as AnyArea};
 ghost use Rattle.rule_model.specs.declared.rules.Statement.{Statement as AnyStatement};
 ghost use Rattle.rule_model.specs.BoundModel.{rules_of};
-ghost use Rattle.rule_model.specs.Conditions.{IsArea, IsReference, IsFeeder};
+ghost use Rattle.rule_model.specs.Conditions.{IsArea, IsReference};
 ghost use Rattle.cover_laws.specs.Looking.{some_below};
-ghost use Rattle.cover_laws.specs.Covered.{names_no_total, names_no_governed, feeds_all, has_cover, is_covered};
-ghost use Rattle.feed_cover.specs.declared.reference_view.Counted.TheVariants.{Leaves};
-ghost use Rattle.feed_cover.specs.Views.{IsView, IsSourced};
+ghost use Rattle.cover_laws.specs.Covered.{names_no_total, names_no_governed, has_cover, is_covered};
 
+use crate::feeds::feeds_from;
 use crate::hints::Hints;
 use crate::named::name_leaves;
 use crate::possible::is_possible;
-use crate::reach::reaches_all;
 use crate::reference_view::{Counted, ReferenceView};
-use crate::sourced::{Sourced, has_sources};
 use rule_laws::Reference;
-use rule_model::{Area, Feeder, Model, Statement};
+use rule_model::{Area, Model, Statement};
 
 // Whether from no leaf cell of the area the reference names a consolidated cell of an area of its cube.
 #[tactic(auto, unfolding(cover_laws::specs::Covered::names_no_total))]
@@ -106,73 +103,6 @@ fn names_no_governed<'a>(
         }
     }
     true
-}
-
-// Whether a feeder of a cube feeds the leaf cells of the area from each leaf cell at or below what the reference names,
-// where there is such a cell.
-#[tactic(auto, unfolding(cover_laws::specs::Covered::feeds_all))]
-fn feeds_all<'a>(
-    model: &'a Model,
-    view: ReferenceView<'a>,
-    own: u32,
-    feeder: &'a Feeder,
-    known: &mut Option<Sourced<'a>>,
-) -> bool
-    requires view { IsView model.now view }
-    requires counted { view.counted ≡ Leaves }
-    requires feeder { IsFeeder model.now.space own feeder.now }
-    requires known { IfSome known.old (IsSourced model.now view) }
-    ensures feeds { result ≡ feeds_all model.now view.entry.cube view.entry.area.now view.entry.reference.now own
-        feeder.now }
-    ensures known { IfSome known.new (IsSourced model.now view.entry) }
-{
-    if own != view.reference.cube || feeder.target.cube != view.cube {
-        return false;
-    }
-    if !reaches_all(model, view, &feeder.target) {
-        return false;
-    }
-    has_sources(model, view, feeder.area.get(), known)
-}
-
-// Whether it is known that some feeder of a cube does, since the one at this place does.
-fn feeds_at<'a>(model: &'a Model, view: ReferenceView<'a>, own: u32, place: usize) -> bool
-    requires view { IsView model.now view }
-    requires counted { view.counted ≡ Leaves }
-    requires own { own < length model.now.space.cubes }
-    ensures { IsTrue result → list_any (feeds_all model.now view.entry.cube view.entry.area.now
-        view.entry.reference.now own) (rules_of model.now own).feeders ≡ true }
-{
-    let _space = model.space();
-    let feeders = model.rules(own).feeders.as_slice();
-    if place >= feeders.len() {
-        return false;
-    }
-    let mut known = None;
-    feeds_all(model, view, own, &feeders[place], &mut known)
-}
-
-// Whether some feeder of a cube does. The one that covered the last reference like this is asked first.
-fn feeds_from<'a>(model: &'a Model, view: ReferenceView<'a>, own: u32, hints: &Hints) -> bool
-    requires view { IsView model.now view }
-    requires counted { view.counted ≡ Leaves }
-    requires own { own < length model.now.space.cubes }
-    ensures { result ≡ list_any (feeds_all model.now view.entry.cube view.entry.area.now view.entry.reference.now own)
-        (rules_of model.now own).feeders }
-{
-    if feeds_at(model, view, own, hints.feeder_for(view.reference)) {
-        return true;
-    }
-    let _space = model.space();
-    let feeders = model.rules(own).feeders.as_slice();
-    let mut known = None;
-    'each: for k in 0..feeders.len() {
-        if feeds_all(model, view, own, &feeders[k], &mut known) {
-            hints.remember(view.reference, k);
-            return true;
-        }
-    }
-    false
 }
 
 // Whether some feeder of the model covers the reference.

@@ -1,9 +1,10 @@
-ghost use Rattle.std.specs.Prelude.{◌≡◌, ℕ, ◌<◌, length, slice_index_or, Some, IfSome, true, false};
+ghost use Rattle.std.specs.Prelude.{◌≡◌, ℕ, ◌<◌, length, slice_index_or, Some, IfSome, true, false, not, ◌==◌};
 ghost use Rattle.std.specs.Option.{option_map_or};
 ghost use Rattle.cube_space.specs.Layout.{axes, sizes};
 ghost use Rattle.cover_laws.specs.Looking.{is_narrow, some_in, each_narrow, sent};
 ghost use Rattle.cover_laws.specs.Covered.{each_sent};
 ghost use Rattle.feed_cover.specs.Views.{look_of, IsView};
+ghost use Rattle.feed_cover.specs.Asked.{IsOnlyNarrow};
 
 use crate::narrow::is_narrow;
 use crate::reference_view::ReferenceView;
@@ -25,6 +26,35 @@ pub fn some_narrow(model: &Model, view: ReferenceView, dim: usize) -> bool
         }
     }
     false
+}
+
+/// The one narrow element that the area has in a dimension, if it has one there and no other.
+pub fn only_narrow(model: &Model, view: ReferenceView, dim: usize) -> Option<u32>
+    requires view { IsView model.now view }
+    requires dim { dim < length (axes model.now.space view.cube) }
+    ensures { (element : ℕ) → IsOnlyNarrow (look_of model.now view.entry) dim element → result ≡ Some element }
+{
+    let mut only = None;
+    'each: for k in 0..count_in(model, view, dim) {
+        let element = element_in(model, view, dim, k);
+        if is_narrow(model, view, dim, element) {
+            if is_other(only, element) {
+                return None;
+            }
+            only = Some(element);
+        }
+    }
+    only
+}
+
+// Whether there is an element, and it is another one.
+fn is_other(only: Option<u32>, element: u32) -> bool
+    ensures { result ≡ option_map_or (λ e. not (e == element)) only false }
+{
+    match only {
+        Some(only) => only != element,
+        None => false,
+    }
 }
 
 /// Whether each narrow element that the area has in a dimension passes.

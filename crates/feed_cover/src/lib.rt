@@ -11,6 +11,7 @@ pub use hints::Hints;
 mod back;
 mod covered;
 mod each;
+mod feeds;
 mod hints;
 mod named;
 mod narrow;

@@ -115,7 +115,8 @@ pub fn repeated_behind<T: Drop, C, S: Scan<C>, I: RepeatedItem<T, C, S>>(
     ensures { Reads (λ items. items) (read_behind (first ∷ []) (all_of (I.begins item.now) (I.reads_next item.now)))
         cursor.old result cursor.new }
 {
-    let mut items = Vec::new(alloc);
+    // most lists have one item
+    let mut items = Vec::with_capacity(alloc, 1)?;
     items.push(first)?;
     all_behind(alloc, cursor, item, items)
 }

@@ -7,7 +7,7 @@ use Rattle.model_deploy.specs.Deployment.{deployment}
 use Rattle.model_deploy.specs.Foundation.{memory}
 use Rattle.model_deploy.specs.Stages.{Comes}
 use Rattle.model_deploy.specs.declared.fault.DeployFault.{DeployFault}
-use Rattle.model_deploy.specs.declared.file.RuleFile.{RuleFile}
+use Rattle.model_deploy.specs.Files.{RuleFile}
 use Rattle.rule_model.specs.BoundModel.{BoundModel}
 use Rattle.file_passes.specs.declared.halt.Halt.{Halt}
 use Rattle.file_passes.specs.declared.refusal.Cause.{Cause}

@@ -4,4 +4,5 @@ pub mod ScriptFacts
 pub mod UserFacts
 pub mod Judgements
 pub mod ReadyFacts
+pub mod RuleFileFacts
 mod RecordFacts

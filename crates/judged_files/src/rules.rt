@@ -1,8 +1,9 @@
-ghost use Rattle.std.specs.Prelude.{◌≡◌, IfOk};
+ghost use Rattle.std.specs.Prelude.{◌≡◌, ◌+◌, ◌<◌, length, take, IfOk, IfSome, OnOk};
 ghost use Rattle.file_passes.specs.Halting.{Judges};
 ghost use Rattle.judged_files.specs.Inside.Judging.{IsHaltFor};
+ghost use Rattle.judged_files.specs.Inside.RuleFiles.{IsEarlierWith};
 ghost use Rattle.judged_files.specs.Refusals.{deploy_refusal, file_or, place_of};
-ghost use Rattle.judged_files.specs.Rules.{rule_names, rule_file_of, rule_file, rule_files};
+ghost use Rattle.judged_files.specs.Rules.{rule_names, rule_files};
 ghost use Rattle.judged_files.specs.Rules.{deployment_judgement};
 ghost use Rattle.cube_words.specs.Words.{texts_of};
 
@@ -10,7 +11,7 @@ use crate::refusing::deploy_cause;
 use accepted::Accepted;
 use file_passes::{FilePlace, Halt, Refusal, Source, file_name, source_of};
 use lists::ListOf;
-use model_deploy::{At, DeployFault, RuleFile, deploy};
+use model_deploy::{At, DeployFault, RuleFiles, deploy};
 use model_text::{CubeText, ModelText};
 use std::alloc::{AllocError, Global};
 
@@ -39,50 +40,63 @@ pub fn model_of(
     let Ok(rules) = rule_files(alloc, text.cubes(), sources) else {
         return Err(Halt::Memory);
     };
-    match deploy(alloc, text, rules) {
+    match deploy(alloc, text, &rules) {
         Ok(model) => Ok(model),
         Err(fault) => Err(deploy_halt(alloc, file, fault)),
     }
 }
 
 // The rule file of each cube.
-fn rule_files(
+fn rule_files<'a>(
     alloc: Global,
     cubes: &[CubeText],
-    sources: &[Source<'_>],
-) -> Result<Vec<Option<RuleFile>>, AllocError>
-    ensures { IfOk result (λ files. files.items ≡ rule_files sources.now cubes.now) }
+    sources: &'a [Source<'_>],
+) -> Result<RuleFiles<'a>, AllocError>
+    ensures { IfOk result (λ files. files ≡ rule_files sources.now cubes.now) }
 {
-    let mut files = Vec::with_capacity(alloc, cubes.len())?;
-    for cube in cubes {
-        files.push(rule_file(alloc, sources, cube)?)?;
+    let mut files = RuleFiles::new(alloc);
+    for cube in 0..cubes.len() {
+        add_file(&mut files, cubes, cube, sources)?;
     }
     Ok(files)
 }
 
-fn rule_file(
-    alloc: Global,
-    sources: &[Source<'_>],
-    cube: &CubeText,
-) -> Result<Option<RuleFile>, AllocError>
-    ensures { IfOk result (λ file. file ≡ rule_file sources.now cube.now) }
+// The rule file of one more cube, which it may share with an earlier one.
+fn add_file<'a>(
+    files: &mut RuleFiles<'a>,
+    cubes: &[CubeText],
+    cube: usize,
+    sources: &'a [Source<'_>],
+) -> Result<(), AllocError>
+    requires cube { cube < length cubes.now }
+    requires so_far { files.old ≡ rule_files sources.now (take cube cubes.now) }
+    ensures { OnOk result (files.new ≡ rule_files sources.now (take (cube + 1) cubes.now)) }
 {
-    let Some((_, name)) = &cube.rules else {
-        return Ok(None);
+    let Some((_, name)) = &cubes[cube].rules else {
+        return files.push_none();
     };
+    if let Some(earlier) = earlier_with(cubes, cube, name.as_slice()) {
+        return files.push_shared(earlier);
+    }
     match source_of(sources, name.as_slice()) {
-        Some(source) => Ok(Some(rule_file_of(alloc, source)?)),
-        None => Ok(None),
+        Some(source) => files.push_file(source.name().as_bytes(), source.bytes()),
+        None => files.push_none(),
     }
 }
 
-fn rule_file_of(alloc: Global, source: &Source<'_>) -> Result<RuleFile, AllocError>
-    ensures { IfOk result (λ file. file ≡ rule_file_of source.now) }
+// An earlier cube with the rule file of this name.
+fn earlier_with(cubes: &[CubeText], cube: usize, name: &[u8]) -> Option<usize>
+    requires { cube < length cubes.now }
+    ensures { IfSome result (λ earlier. IsEarlierWith cubes.now cube name.now earlier) }
 {
-    Ok(RuleFile {
-        name: ListOf::new(Vec::from_slice(alloc, source.name().as_bytes())?),
-        bytes: ListOf::new(Vec::from_slice(alloc, source.bytes())?),
-    })
+    for earlier in 0..cube {
+        if let Some((_, file)) = &cubes[earlier].rules
+            && file.as_slice() == name
+        {
+            return Some(earlier);
+        }
+    }
+    None
 }
 
 // Why a run goes no further whose model isn't deployed.

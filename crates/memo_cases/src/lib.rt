@@ -27,7 +27,7 @@ pub fn readings<R: Threads + Sync>(
     let mut out = String::new(alloc);
     if let Ok(text) = model_text::read(alloc, model)
         && let Ok(rules) = no_rule_files(alloc, text.cubes().len())
-        && let Ok(accepted) = deploy(alloc, text, rules)
+        && let Ok(accepted) = deploy(alloc, text, &rules)
     {
         read_over(rt, alloc, accepted.model(), &mut out)?;
     }

@@ -17,7 +17,7 @@ use Rattle.feed_check.specs.declared.fault.FeedCheckFault.{FeedCheckFault}
 use Rattle.rule_tree.specs.declared.rule.RuleText.{RuleText}
 use Rattle.rule_model.specs.BoundModel.{BoundModel}
 use Rattle.rule_model.specs.declared.rules.CubeRules.{CubeRules}
-use Rattle.model_deploy.specs.declared.file.RuleFile.{RuleFile}
+use Rattle.model_deploy.specs.Files.{RuleFile}
 use Rattle.model_deploy.specs.declared.fault.DeployFault.{DeployFault}
 use Rattle.model_deploy.specs.declared.fault.DeployCause.TheVariants as causes
 use Rattle.model_deploy.specs.Foundation.{refused_on, layout_of, cube_lines, order_lines, shape_of, dimensions_refusal, space_refusal, products_refusal, foundation_refusal, memory, IsAnsweredBy}

@@ -2,6 +2,8 @@ pub mod Elements
 pub mod Firsts
 pub mod Greatest
 pub mod Layouts
+pub mod RuleTexts
+pub mod SharedFiles
 pub mod SmallProducts
 pub mod CubeRules
 pub mod InStages

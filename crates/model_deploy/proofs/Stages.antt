@@ -87,6 +87,14 @@ module _ {A B : Type 0} (stage : ℕ → A → Stage B) where
   one-refused n (a ∷ front) [] x rest fault h is = absurd h
   one-refused n (a ∷ front) (b ∷ ys) x rest fault h is = inr (b, h.0, inl (one-refused (n + 1) front ys x rest fault h.1 (subst (λ k. (stage k x).refuses fault) (omega arith) is)))
 
+  -- what was found of one of them
+  pub found-at : (n k : ℕ) (xs : List A) (ys : List B) (a : A) (b : B) → AreFound stage n xs ys → k < length xs → (stage (n + k) (slice_index_or xs k a)).finds (slice_index_or ys k b)
+  found-at n k [] ys a b h low = absurd (omega (arith, low))
+  found-at n k (x ∷ xs) [] a b h low = absurd h
+  found-at n zero (x ∷ xs) (y ∷ ys) a b h low = subst (λ i. (stage i x).finds y) (omega arith) h.0
+  found-at n (suc k) (x ∷ xs) (y ∷ ys) a b h low =
+      subst (λ i. (stage i (slice_index_or xs k a)).finds (slice_index_or ys k b)) (omega arith) (found-at (n + 1) k xs ys a b h.1 (omega (arith, low)))
+
   -- the first that doesn't go through is the answer
   pub comes-refused : (all front rest : List A) (ys : List B) (x : A) (k : ℕ) (fault : DeployFault) (answer : Result (List B) DeployFault) → all ≡ front ++ x ∷ rest → k ≡ length front
       → AreFound stage 0 front ys → Comes (stage k x) (Err fault) → IsErrAnd answer (λ e. e ≡ fault) → Comes (each stage 0 all) answer

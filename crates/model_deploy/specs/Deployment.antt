@@ -16,7 +16,7 @@ use Rattle.feed_check.specs.Verdict.{IsFirstFault}
 use Rattle.feed_check.specs.declared.fault.FeedCheckFault.{FeedCheckFault}
 use Rattle.feed_check.specs.declared.fault.FeedCheckFault.TheVariants as feeders
 use Rattle.feed_map.specs.FedCells.{HasFewFed, HasManyFed, most_fed}
-use Rattle.model_deploy.specs.declared.file.RuleFile.{RuleFile}
+use Rattle.model_deploy.specs.Files.{RuleFile}
 use Rattle.model_deploy.specs.declared.fault.DeployFault.{DeployFault}
 use Rattle.model_deploy.specs.declared.fault.DeployCause.TheVariants as causes
 use Rattle.model_deploy.specs.Foundation.{layout_of, cube_lines, order_lines, refused_on}

@@ -15,7 +15,7 @@ use Rattle.rule_bind.specs.Rules.{rules_of}
 use Rattle.bind_order.specs.Orders.{order_of}
 use Rattle.rule_model.specs.declared.rules.CubeRules.{CubeRules}
 use Rattle.rule_model.specs.declared.order.Order.{Order}
-use Rattle.model_deploy.specs.declared.file.RuleFile.{RuleFile}
+use Rattle.model_deploy.specs.Files.{RuleFile}
 use Rattle.model_deploy.specs.declared.fault.At.{At}
 use Rattle.model_deploy.specs.declared.fault.At.TheVariants.{Line, Statement, Feeder}
 use Rattle.model_deploy.specs.declared.fault.DeployFault.{DeployFault}

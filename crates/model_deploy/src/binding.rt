@@ -2,16 +2,18 @@ ghost use Rattle.std.specs.Prelude.{◌≡◌, ◌⊎◌, ◌<◌, length, All, 
 ghost use Rattle.rule_model.specs.Conditions.{AreCubeRules, AreRules};
 ghost use Rattle.rule_tree.specs.Sizes.{IsWithinLimits};
 ghost use Rattle.bind_areas.specs.declared.cause.BindCause.TheVariants.{Memory};
+ghost use Rattle.bind_arguments.specs.Maps.{AreMapsIn};
 ghost use Rattle.model_deploy.specs.Foundation.{memory};
 ghost use Rattle.model_deploy.specs.Rules.{file_name, place_of, cause_of, meaning_stage};
 ghost use Rattle.model_deploy.specs.Stages.{each, Comes};
 
 use crate::fault::{At, DeployCause, DeployFault};
-use crate::file::{RuleFile, fault_in};
+use crate::rule_files::{RuleFiles, fault_in};
+use crate::rule_texts::RuleTexts;
 use bind_laws::bound_rules_meet_the_conditions;
 use cube_space::Space;
 use lists::ListOf;
-use rule_bind::{BindAt, BindCause, BindFault, CubeRules, bind};
+use rule_bind::{BindAt, BindCause, BindFault, BoundMaps, CubeRules, bind};
 use rule_tree::RuleText;
 use std::alloc::Global;
 
@@ -19,17 +21,19 @@ use std::alloc::Global;
 pub fn meanings_of(
     alloc: Global,
     space: &Space,
-    files: &[Option<RuleFile>],
-    texts: &[RuleText],
+    files: &RuleFiles<'_>,
+    texts: &RuleTexts,
 ) -> Result<ListOf<CubeRules>, DeployFault>
     requires one_each { length texts.now ≡ length space.now.cubes }
     requires within { All IsWithinLimits texts.now }
     ensures comes { Comes (each (meaning_stage space.now files.now) 0 texts.now) result }
     ensures rules { IfOk result (AreRules space.now) }
 {
+    let mut maps = BoundMaps::new(alloc);
     let mut all = Vec::with_capacity(alloc, texts.len())?;
     for cube in 0..space.cubes() {
-        let rules = meaning_of(alloc, space, files, cube, &texts[cube as usize])?;
+        let text = texts.of_cube(cube as usize);
+        let rules = meaning_of(alloc, space, &mut maps, files, cube, text)?;
         all.push(rules)?;
     }
     Ok(ListOf::new(all))
@@ -38,30 +42,28 @@ pub fn meanings_of(
 fn meaning_of(
     alloc: Global,
     space: &Space,
-    files: &[Option<RuleFile>],
+    maps: &mut BoundMaps,
+    files: &RuleFiles<'_>,
     cube: u32,
     text: &RuleText,
 ) -> Result<CubeRules, DeployFault>
     requires cube { cube < length space.now.cubes }
     requires within { IsWithinLimits text.now }
+    requires maps { AreMapsIn space.now maps.old }
     ensures comes { Comes (meaning_stage space.now files.now cube text.now) result }
     ensures rules { IfOk result (AreCubeRules space.now cube) }
+    ensures maps { AreMapsIn space.now maps.new }
 {
     // a space says of itself that it is one, and what is bound there meets the conditions on rules
     let _cells = space.size();
     bound_rules_meet_the_conditions();
-    match bind(alloc, space, cube, text) {
+    match bind(alloc, space, maps, cube, text) {
         Ok(rules) => Ok(rules),
         Err(fault) => Err(meaning_fault(alloc, files, cube, fault)),
     }
 }
 
-fn meaning_fault(
-    alloc: Global,
-    files: &[Option<RuleFile>],
-    cube: u32,
-    fault: BindFault,
-) -> DeployFault
+fn meaning_fault(alloc: Global, files: &RuleFiles<'_>, cube: u32, fault: BindFault) -> DeployFault
     ensures told { (result ≡ memory) ⊎ (result ≡ record {
       file = file_name files.now cube;
       at = place_of fault.at;

@@ -11,7 +11,7 @@ ghost use Rattle.model_deploy.specs.Deployment.{order_refusal, feeders_refusal};
 ghost use Rattle.model_deploy.specs.Deployment.{ordered_stage, feeders_stage, fed_stage};
 
 use crate::fault::{At, DeployCause, DeployFault};
-use crate::file::{RuleFile, fault_in};
+use crate::rule_files::{RuleFiles, fault_in};
 use cell_store::Store;
 use check_order::{OrderFault, check_order};
 use feed_check::{FeedCheckFault, check_feeders};
@@ -21,11 +21,7 @@ use rule_model::Model;
 use std::alloc::Global;
 
 /// Checks that what formulas read stands before their cells.
-pub fn check_ordered(
-    alloc: Global,
-    files: &[Option<RuleFile>],
-    model: &Model,
-) -> Result<(), DeployFault>
+pub fn check_ordered(alloc: Global, files: &RuleFiles<'_>, model: &Model) -> Result<(), DeployFault>
     ensures comes { Comes (ordered_stage files.now model.now) result }
     ensures ordered { OnOk result (IsOrderedByPlace (system_of model.now) (positions_of model.now)) }
     ensures low { OnOk result (product (position_sizes model.now) ≤ most_height) }
@@ -36,7 +32,7 @@ pub fn check_ordered(
     }
 }
 
-fn order_fault(alloc: Global, files: &[Option<RuleFile>], fault: OrderFault) -> DeployFault
+fn order_fault(alloc: Global, files: &RuleFiles<'_>, fault: OrderFault) -> DeployFault
     ensures { (result ≡ memory) ⊎ (result ≡ order_refusal files.now fault) }
 {
     match fault {
@@ -53,11 +49,7 @@ fn order_fault(alloc: Global, files: &[Option<RuleFile>], fault: OrderFault) -> 
 }
 
 /// Checks that feeders cover the rules, and that no dense cube is too large.
-pub fn check_covered(
-    alloc: Global,
-    files: &[Option<RuleFile>],
-    model: &Model,
-) -> Result<(), DeployFault>
+pub fn check_covered(alloc: Global, files: &RuleFiles<'_>, model: &Model) -> Result<(), DeployFault>
     ensures comes { Comes (feeders_stage files.now model.now) result }
     ensures covered { OnOk result (IsCovered (system_of model.now)) }
 {
@@ -67,7 +59,7 @@ pub fn check_covered(
     }
 }
 
-fn feeders_fault(alloc: Global, files: &[Option<RuleFile>], fault: FeedCheckFault) -> DeployFault
+fn feeders_fault(alloc: Global, files: &RuleFiles<'_>, fault: FeedCheckFault) -> DeployFault
     ensures { (result ≡ memory) ⊎ (result ≡ feeders_refusal files.now fault) }
 {
     match fault {

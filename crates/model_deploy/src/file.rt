@@ -1,47 +1,48 @@
-ghost use Rattle.std.specs.Prelude.{◌≡◌, ◌⊎◌, replicate, None, IfOk};
-ghost use Rattle.model_deploy.specs.Foundation.{memory};
-ghost use Rattle.model_deploy.specs.Rules.{file_name};
+ghost use Rattle.std.specs.Prelude.{◌≡◌};
 
-use crate::fault::{At, DeployCause, DeployFault};
-use lists::ListOf;
-use std::alloc::{AllocError, Global};
+use std::marker::Model;
 
-/// A file of rules that was read.
+/// A file of rules that was read: its bytes, and those of its name, by which a refusal names it.
 #[derive(Drop)]
-pub struct RuleFile {
-    /// The bytes of its name, by which a refusal tells it.
-    pub name: ListOf<u8>,
-    pub bytes: ListOf<u8>,
+pub(crate) struct RuleFile<'a> {
+    name: &'a [u8],
+    bytes: &'a [u8],
 }
 
-/// The entries of so many cubes that have no rules.
-pub fn no_rule_files(alloc: Global, cubes: usize) -> Result<Vec<Option<RuleFile>>, AllocError>
-    ensures { IfOk result (λ files. files.items ≡ replicate cubes None) }
-{
-    let mut files = Vec::with_capacity(alloc, cubes)?;
-    for _ in 0..cubes {
-        files.push(None)?;
+impl<'a> Model for RuleFile<'a> {
+    ghost use Rattle.model_deploy.specs.Files.{RuleFile};
+
+    ghost Value = { RuleFile };
+
+    ghost view = { λ file. record { name = file.name.now; bytes = file.bytes.now } };
+}
+
+impl<'a> RuleFile<'a> {
+    pub(crate) fn new(name: &'a [u8], bytes: &'a [u8]) -> RuleFile<'a>
+        ensures { result ≡ record { name = name.now; bytes = bytes.now } }
+    {
+        RuleFile { name, bytes }
     }
-    Ok(files)
-}
 
-/// The fault in the rule file of a cube.
-pub(crate) fn fault_in(
-    alloc: Global,
-    files: &[Option<RuleFile>],
-    cube: u32,
-    at: At,
-    cause: DeployCause,
-) -> DeployFault
-    ensures { (result ≡ memory)
-        ⊎ (result ≡ record { file = file_name files.now cube; at = at; cause = cause }) }
-{
-    match files.get(cube as usize) {
-        Some(Some(file)) => DeployFault::within(alloc, file.name.as_slice(), at, cause),
-        _ => DeployFault {
-            file: None,
-            at,
-            cause,
-        },
+    pub(crate) fn name(&self) -> &[u8]
+        ensures { result.now ≡ self.now.name }
+    {
+        self.name
+    }
+
+    pub(crate) fn bytes(&self) -> &[u8]
+        ensures { result.now ≡ self.now.bytes }
+    {
+        self.bytes
+    }
+
+    /// The same file once more.
+    pub(crate) fn again(&self) -> RuleFile<'a>
+        ensures { result ≡ self.now }
+    {
+        RuleFile {
+            name: self.name,
+            bytes: self.bytes,
+        }
     }
 }

@@ -1,6 +1,6 @@
 //! From a model text and the files of its cubes' rules to an accepted model, or to the first refusal.
 //!
-//! Read in this order: [`deploy`], which makes the model; [`RuleFile`], what it is given beside the text;
+//! Read in this order: [`deploy`], which makes the model; [`RuleFiles`], what it is given beside the text;
 //! [`DeployFault`], why it refuses; [`foundation_of`] and [`rules_of`], the parts of it that make a model of which no
 //! check has seen the whole. `specs/Deployment.antt` has the checks in their order, `specs/Rules.antt` those of rules,
 //! and `specs/Foundation.antt` those of dimensions and cubes.
@@ -16,9 +16,11 @@ mod file;
 mod foundation;
 mod ordering;
 mod products;
+mod rule_files;
+mod rule_texts;
 mod texts;
 
 pub use deploying::{deploy, rules_of};
 pub use fault::{At, DeployCause, DeployFault};
-pub use file::{RuleFile, no_rule_files};
 pub use foundation::{Foundation, foundation_of};
+pub use rule_files::{RuleFiles, no_rule_files};

@@ -17,19 +17,19 @@ use Rattle.order_laws.proofs.CellFacts.{measure, axes-sizes}
 use Rattle.order_laws.proofs.Decided.{IsMore, reference-over, reference-least}
 use Rattle.order_laws.proofs.Components.{children-over, children-least}
 
-below-at_most : (o : Option ℤ) → is_below o ≡ true → IsAtMost o (negsuc 0)
+pub below-at_most : (o : Option ℤ) → is_below o ≡ true → IsAtMost o (negsuc 0)
 below-at_most None h = tt
 below-at_most (Some n) h = grind (arith, ints)
 
-at_most-below : (o : Option ℤ) → IsAtMost o (negsuc 0) → is_below o ≡ true
+pub at_most-below : (o : Option ℤ) → IsAtMost o (negsuc 0) → is_below o ≡ true
 at_most-below None h = refl
 at_most-below (Some n) h = grind (arith, ints)
 
-within-at_most : (o : Option ℤ) → is_within o ≡ true → IsAtMost o (pos 0)
+pub within-at_most : (o : Option ℤ) → is_within o ≡ true → IsAtMost o (pos 0)
 within-at_most None h = tt
 within-at_most (Some n) h = grind (arith, ints)
 
-at_most-within : (o : Option ℤ) → IsAtMost o (pos 0) → is_within o ≡ true
+pub at_most-within : (o : Option ℤ) → IsAtMost o (pos 0) → is_within o ≡ true
 at_most-within None h = refl
 at_most-within (Some n) h = grind (arith, ints)
 
@@ -114,27 +114,27 @@ module _ (m : BoundModel) (valid : IsSpace m.space) (ruled : AreRules m.space m.
   measure-at : (q c : ℕ) → q < most_positions → measure m q c ≡ number_at m q c
   measure-at q c h = ap (λ t. if t then number_at m q c else cell_level m.space c) (lt-ltb q most_positions h)
 
-  abbrev Rel : (ℕ → ℕ → Type 0) → Precedent → Type 0
+  abbrev pub Rel : (ℕ → ℕ → Type 0) → Precedent → Type 0
   Rel R p = Throughout (system_of m) (rule_of m.space cube statement) kind p R
 
-  smaller-at : (p : Precedent) → IsPrecedent m.space cube p → (q : ℕ) → q < most_positions → IsAtMost (most_excess m cube statement.area kind p q) (negsuc 0) → Rel (λ c t. number_at m q t < number_at m q c) p
+  pub smaller-at : (p : Precedent) → IsPrecedent m.space cube p → (q : ℕ) → q < most_positions → IsAtMost (most_excess m cube statement.area kind p q) (negsuc 0) → Rel (λ c t. number_at m q t < number_at m q c) p
   smaller-at p is q low h c t of has = subst (λ n. n < number_at m q c) (measure-at q t low) (subst (λ n. measure m q t < n) (measure-at q c low) (less (measure m q t) (measure m q c) (over p is q (negsuc 0) h c t of has)))
 
-  at_most-at : (p : Precedent) → IsPrecedent m.space cube p → (q : ℕ) → q < most_positions → IsAtMost (most_excess m cube statement.area kind p q) (pos 0) → Rel (λ c t. number_at m q t ≤ number_at m q c) p
+  pub at_most-at : (p : Precedent) → IsPrecedent m.space cube p → (q : ℕ) → q < most_positions → IsAtMost (most_excess m cube statement.area kind p q) (pos 0) → Rel (λ c t. number_at m q t ≤ number_at m q c) p
   at_most-at p is q low h c t of has = subst (λ n. n ≤ number_at m q c) (measure-at q t low) (subst (λ n. measure m q t ≤ n) (measure-at q c low) (at-most (measure m q t) (measure m q c) (over p is q (pos 0) h c t of has)))
 
-  at-smaller : (p : Precedent) → IsPrecedent m.space cube p → (q : ℕ) → q < most_positions → Rel (λ c t. number_at m q t < number_at m q c) p → IsAtMost (most_excess m cube statement.area kind p q) (negsuc 0)
+  pub at-smaller : (p : Precedent) → IsPrecedent m.space cube p → (q : ℕ) → q < most_positions → Rel (λ c t. number_at m q t < number_at m q c) p → IsAtMost (most_excess m cube statement.area kind p q) (negsuc 0)
   at-smaller p is q low h = least p is q (negsuc 0) (λ c t of has. from-less (measure m q t) (measure m q c)
       (subst (λ n. n < measure m q c) (sym (measure-at q t low)) (subst (λ n. number_at m q t < n) (sym (measure-at q c low)) (h c t of has))))
 
-  at-at_most : (p : Precedent) → IsPrecedent m.space cube p → (q : ℕ) → q < most_positions → Rel (λ c t. number_at m q t ≤ number_at m q c) p → IsAtMost (most_excess m cube statement.area kind p q) (pos 0)
+  pub at-at_most : (p : Precedent) → IsPrecedent m.space cube p → (q : ℕ) → q < most_positions → Rel (λ c t. number_at m q t ≤ number_at m q c) p → IsAtMost (most_excess m cube statement.area kind p q) (pos 0)
   at-at_most p is q low h = least p is q (pos 0) (λ c t of has. from-at-most (measure m q t) (measure m q c)
       (subst (λ n. n ≤ measure m q c) (sym (measure-at q t low)) (subst (λ n. number_at m q t ≤ n) (sym (measure-at q c low)) (h c t of has))))
 
-  level-smaller : (p : Precedent) → IsPrecedent m.space cube p → IsAtMost (most_excess m cube statement.area kind p most_positions) (negsuc 0) → Rel (λ c t. cell_level m.space t < cell_level m.space c) p
+  pub level-smaller : (p : Precedent) → IsPrecedent m.space cube p → IsAtMost (most_excess m cube statement.area kind p most_positions) (negsuc 0) → Rel (λ c t. cell_level m.space t < cell_level m.space c) p
   level-smaller p is h c t of has = less (cell_level m.space t) (cell_level m.space c) (over p is most_positions (negsuc 0) h c t of has)
 
-  smaller-level : (p : Precedent) → IsPrecedent m.space cube p → Rel (λ c t. cell_level m.space t < cell_level m.space c) p → IsAtMost (most_excess m cube statement.area kind p most_positions) (negsuc 0)
+  pub smaller-level : (p : Precedent) → IsPrecedent m.space cube p → Rel (λ c t. cell_level m.space t < cell_level m.space c) p → IsAtMost (most_excess m cube statement.area kind p most_positions) (negsuc 0)
   smaller-level p is h = least p is most_positions (negsuc 0) (λ c t of has. from-less (cell_level m.space t) (cell_level m.space c) (h c t of has))
 
   abbrev pub IsDecided : Precedent → Type 0

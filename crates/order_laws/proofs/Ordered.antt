@@ -1,19 +1,18 @@
 -- A model is ordered just where each statement is, dimension by dimension.
-use Rattle.std.proofs.Common.{◌≡◌, refl, sym, ap, ◌∙◌, arith, subst, ℕ, zero, suc, ◌+◌, ◌<◌, ◌≤◌, ◌⊎◌, Bool, true, false, Option, Some, None, IfSome, IsTrue, List, [], ◌∷◌, ◌++◌, length, map, get_or, All, inl, inr}
+use Rattle.std.proofs.Common.{◌≡◌, arith, subst, ℕ, zero, suc, ◌+◌, ◌<◌, ◌≤◌, ◌⊎◌, Bool, true, false, Some, IfSome, List, [], ◌∷◌, ◌++◌, length, map, get_or, All, inl, inr}
 use Rattle.std.specs.List.{flat_map, range_with_len}
 use Rattle.std.proofs.lemmas.Bool.{cases_lt}
-use Rattle.std.proofs.lemmas.List.Elements.{All-append, All-nil, All-head, All-tail}
-use Rattle.cube_space.specs.Layout.{Layout}
+use Rattle.std.proofs.lemmas.List.Elements.{All-append}
 use Rattle.cube_space.specs.Cells.{IsSpace}
 use Rattle.rule_laws.specs.declared.formula.Formula.{Formula}
-use Rattle.rule_laws.specs.Meaning.{Precedent, precedents}
+use Rattle.rule_laws.specs.Meaning.{precedents}
 use Rattle.rule_laws.specs.RuleSystem.{Rule, part_of}
 use Rattle.rule_laws.specs.OrderByPlace.{IsDecidedByPosition, IsDecidedByLevel, IsOrderedByPlace}
 use Rattle.rule_model.specs.declared.rules.Statement.{Statement}
-use Rattle.rule_model.specs.BoundModel.{BoundModel, rules_of, no_rules}
+use Rattle.rule_model.specs.BoundModel.{BoundModel, rules_of}
 use Rattle.rule_model.specs.System.{system_of, positions_of, rule_of, cube_rules}
 use Rattle.rule_model.specs.Conditions.{IsPrecedent, IsStatement, AreRules}
-use Rattle.order_laws.specs.Earlier.{is_earlier, IsEarlierStatement, IsOrderedByDimension}
+use Rattle.order_laws.specs.Earlier.{IsEarlierStatement, IsOrderedByDimension}
 use Rattle.order_laws.proofs.Earlier.{earlier-decided, decided-earlier}
 
 module _ {X : Type 0} (P : X → Type 0) where
@@ -54,7 +53,7 @@ module _ (m : BoundModel) (valid : IsSpace m.space) (ruled : AreRules m.space m.
   IsOrderedRule rule = (kind : Bool) (f : Formula) → part_of rule kind ≡ Some f
       → All (λ p. IsDecidedByPosition (system_of m) (positions_of m) rule kind p ⊎ IsDecidedByLevel (system_of m) (positions_of m) rule kind p) (precedents f)
 
-  part-reads : (cube : ℕ) (s : Statement) (kind : Bool) (f : Formula) → IsStatement m.space cube s → part_of (rule_of m.space cube s) kind ≡ Some f → All (IsPrecedent m.space cube) (precedents f)
+  pub part-reads : (cube : ℕ) (s : Statement) (kind : Bool) (f : Formula) → IsStatement m.space cube s → part_of (rule_of m.space cube s) kind ≡ Some f → All (IsPrecedent m.space cube) (precedents f)
   part-reads cube s true f is e = (subst (λ part. IfSome part (Rattle.rule_model.specs.Conditions.IsLeafPart m.space cube)) e is.leaf).0
   part-reads cube s false f is e = subst (λ part. IfSome part (Rattle.rule_model.specs.Conditions.IsConsolidatedPart m.space cube)) e is.consolidated
 

@@ -1,9 +1,8 @@
-ghost use Rattle.std.specs.Prelude.{◌≡◌, length, IfOk};
+ghost use Rattle.std.specs.Prelude.{◌≡◌, ◌+◌, length, IfOk, OnOk};
 
 use case_lines::Texts;
 use cell_reader::Snapshot;
-use lists::ListOf;
-use model_deploy::{RuleFile, deploy};
+use model_deploy::{RuleFiles, deploy};
 use std::alloc::{AllocError, Global};
 use std::sync::Arc;
 
@@ -29,23 +28,46 @@ pub fn snapshot_of(alloc: Global, lines: &str) -> Result<Option<Snapshot>, Alloc
     let Ok(text) = model_text::read(alloc, &file(alloc, lines, "model")?) else {
         return Ok(None);
     };
-    let rules = rule_files(alloc, lines, text.cubes().len())?;
-    match deploy(alloc, text, rules) {
+    let first = file(alloc, lines, "rules")?;
+    let others = file(alloc, lines, "rules 2")?;
+    let rules = rule_files(alloc, &first, &others, text.cubes().len())?;
+    match deploy(alloc, text, &rules) {
         Ok(accepted) => Ok(Some(Snapshot::first(alloc, Arc::new(alloc, accepted)?)?)),
         Err(_) => Ok(None),
     }
 }
 
-fn rule_files(alloc: Global, lines: &str, cubes: usize) -> Result<Vec<Option<RuleFile>>, AllocError>
-    ensures { IfOk result (λ all. length all.items ≡ cubes) }
+// The rule files of these texts: one of the first cube, and one that all others share.
+fn rule_files<'a>(
+    alloc: Global,
+    first: &'a [u8],
+    others: &'a [u8],
+    cubes: usize,
+) -> Result<RuleFiles<'a>, AllocError>
+    ensures { IfOk result (λ all. length all ≡ cubes) }
 {
-    let mut all = Vec::with_capacity(alloc, cubes)?;
+    let mut all = RuleFiles::new(alloc);
     for cube in 0..cubes {
-        let name = if cube == 0 { "rules" } else { "rules 2" };
-        all.push(Some(RuleFile {
-            name: ListOf::new(Vec::from_slice(alloc, name.as_bytes())?),
-            bytes: ListOf::new(file(alloc, lines, name)?),
-        }))?;
+        add_file(first, others, cube, &mut all)?;
     }
     Ok(all)
+}
+
+// Adds the rule file of a cube to those of the cubes before it.
+fn add_file<'a>(
+    first: &'a [u8],
+    others: &'a [u8],
+    cube: usize,
+    all: &mut RuleFiles<'a>,
+) -> Result<(), AllocError>
+    requires { length all.old ≡ cube }
+    ensures { OnOk result (length all.new ≡ length all.old + 1) }
+{
+    if cube == 0 {
+        return Ok(all.push_file(b"rules", first)?);
+    }
+    if cube == 1 {
+        return Ok(all.push_file(b"rules 2", others)?);
+    }
+    Ok(all.push_shared(1)?)
 }

@@ -1,6 +1,7 @@
 ghost use Rattle.std.specs.Prelude.{◌≡◌, ◌+◌, ◌∷◌, [], ◌++◌, ◌<◌, ◌≤◌, ◌^◌, length, OnOk, IfErr};
 ghost use Rattle.rule_tree.specs.Counting.{most_statements};
 ghost use Rattle.bind_areas.specs.declared.cause.BindCause.TheVariants.{Memory};
+ghost use Rattle.bind_arguments.specs.Maps.{AreMapsIn};
 ghost use Rattle.rule_bind.specs.declared.fault.BindAt.TheVariants as places;
 ghost use Rattle.rule_bind.specs.Rules.{statement_of, feeders_of, standing_at, statements_of, all_feeders_of};
 ghost use Rattle.rule_bind.specs.Rules.{rules_of, IsBound};
@@ -9,6 +10,7 @@ use crate::fault::{BindAt, BindFault};
 use crate::feeder::feeders_of;
 use crate::statement::statement_of;
 use bind_areas::BindCause;
+use bind_arguments::BoundMaps;
 use cube_space::Space;
 use lists::ListOf;
 use rule_model::{CubeRules, Feeder, Order, Statement};
@@ -19,15 +21,19 @@ use std::alloc::Global;
 fn next_statement(
     alloc: Global,
     space: &Space,
+    maps: &mut BoundMaps,
     cube: u32,
     before: u32,
     text: &StatementText,
 ) -> Result<Statement, BindFault>
     requires cube { cube < length space.now.cubes }
     requires few { before < most_statements }
-    ensures { IsBound (standing_at (places.Statement (before + 1)) (statement_of space.now cube text.now)) result }
+    requires maps { AreMapsIn space.now maps.old }
+    ensures bound { IsBound (standing_at (places.Statement (before + 1))
+        (statement_of space.now cube text.now)) result }
+    ensures maps { AreMapsIn space.now maps.new }
 {
-    match statement_of(alloc, space, cube, text) {
+    match statement_of(alloc, space, maps, cube, text) {
         Ok(statement) => Ok(statement),
         Err(cause) => {
             let at = BindAt::Statement(before + 1);
@@ -60,16 +66,19 @@ fn add_statement(
 fn statements_of(
     alloc: Global,
     space: &Space,
+    maps: &mut BoundMaps,
     cube: u32,
     texts: &[StatementText],
 ) -> Result<ListOf<Statement>, BindFault>
     requires cube { cube < length space.now.cubes }
     requires few { length texts.now ≤ most_statements }
-    ensures { IsBound (statements_of space.now cube 0 texts.now) result }
+    requires maps { AreMapsIn space.now maps.old }
+    ensures bound { IsBound (statements_of space.now cube 0 texts.now) result }
+    ensures maps { AreMapsIn space.now maps.new }
 {
     let mut statements = Vec::new(alloc);
     'each: for before in 0..texts.len() {
-        let statement = next_statement(alloc, space, cube, before as u32, &texts[before])?;
+        let statement = next_statement(alloc, space, maps, cube, before as u32, &texts[before])?;
         add_statement(&mut statements, before as u32, statement)?;
     }
     Ok(ListOf::new(statements))
@@ -79,15 +88,19 @@ fn statements_of(
 fn next_feeders(
     alloc: Global,
     space: &Space,
+    maps: &mut BoundMaps,
     cube: u32,
     before: u32,
     text: &FeederText,
 ) -> Result<ListOf<Feeder>, BindFault>
     requires cube { cube < length space.now.cubes }
     requires few { before < most_statements }
-    ensures { IsBound (standing_at (places.Feeder (before + 1)) (feeders_of space.now cube before text.now)) result }
+    requires maps { AreMapsIn space.now maps.old }
+    ensures bound { IsBound (standing_at (places.Feeder (before + 1))
+        (feeders_of space.now cube before text.now)) result }
+    ensures maps { AreMapsIn space.now maps.new }
 {
-    match feeders_of(alloc, space, cube, before, text) {
+    match feeders_of(alloc, space, maps, cube, before, text) {
         Ok(feeders) => Ok(feeders),
         Err(cause) => {
             let at = BindAt::Feeder(before + 1);
@@ -121,16 +134,19 @@ fn add_feeders(
 fn all_feeders_of(
     alloc: Global,
     space: &Space,
+    maps: &mut BoundMaps,
     cube: u32,
     texts: &[FeederText],
 ) -> Result<ListOf<Feeder>, BindFault>
     requires cube { cube < length space.now.cubes }
     requires few { length texts.now ≤ most_statements }
-    ensures { IsBound (all_feeders_of space.now cube 0 texts.now) result }
+    requires maps { AreMapsIn space.now maps.old }
+    ensures bound { IsBound (all_feeders_of space.now cube 0 texts.now) result }
+    ensures maps { AreMapsIn space.now maps.new }
 {
     let mut feeders = Vec::new(alloc);
     'each: for before in 0..texts.len() {
-        let more = next_feeders(alloc, space, cube, before as u32, &texts[before])?;
+        let more = next_feeders(alloc, space, maps, cube, before as u32, &texts[before])?;
         add_feeders(&mut feeders, before as u32, more)?;
     }
     Ok(ListOf::new(feeders))
@@ -139,21 +155,25 @@ fn all_feeders_of(
 /// The rules that the text of a cube's rules means, or its first fault in reading order: statements in their
 /// order, then feeders. What is bound declares no order of the cube's cells.
 ///
-/// Statements and feeder statements are at most 1,000 each, as they are in every text that `parse` takes.
+/// Statements and feeder statements are at most 1,000 each, as they are in every text that `parse` takes. Equal maps of
+/// arguments are one, by those that were made so far in this space.
 #[tactic(auto, unfolding(crate::specs::Rules::rules_of))]
 pub fn bind(
     alloc: Global,
     space: &Space,
+    maps: &mut BoundMaps,
     cube: u32,
     text: &RuleText,
 ) -> Result<CubeRules, BindFault>
     requires cube { cube < length space.now.cubes }
     requires statements { length text.now.statements ≤ most_statements }
     requires feeders { length text.now.feeders ≤ most_statements }
+    requires maps { AreMapsIn space.now maps.old }
     ensures bound { IsBound (rules_of space.now cube text.now) result }
+    ensures maps { AreMapsIn space.now maps.new }
 {
-    let statements = statements_of(alloc, space, cube, text.statements.as_slice())?;
-    let feeders = all_feeders_of(alloc, space, cube, text.feeders.as_slice())?;
+    let statements = statements_of(alloc, space, maps, cube, text.statements.as_slice())?;
+    let feeders = all_feeders_of(alloc, space, maps, cube, text.feeders.as_slice())?;
     let order = Order {
         positions: ListOf::new(Vec::new(alloc)),
     };

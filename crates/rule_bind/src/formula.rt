@@ -2,6 +2,7 @@ ghost use Rattle.std.specs.Prelude.{◌≡◌, ◌<◌, length, map, Ok};
 ghost use Rattle.bind_areas.specs.Meaning.{Answers};
 ghost use Rattle.rule_laws.specs.declared.formula.Formula.TheVariants as formulas;
 ghost use Rattle.rule_laws.specs.declared.formula.Truth.TheVariants as truths;
+ghost use Rattle.bind_arguments.specs.Maps.{AreMapsIn};
 ghost use Rattle.rule_bind.specs.Formulas.{alone, children, unary_call, binary_call, choice_call, call_value, meant};
 ghost use Rattle.rule_bind.specs.Formulas.{value_of, truth_of};
 
@@ -10,6 +11,7 @@ use crate::operator::{Operator, operator_of};
 use crate::reference::{children_of, db_of};
 use crate::standing::Standing;
 use bind_areas::{BindCause, bind_bracket};
+use bind_arguments::BoundMaps;
 use cube_space::Space;
 use rule_laws::{Formula, Fun, Op, Truth};
 use rule_tree::Tree;
@@ -96,12 +98,15 @@ fn either(alloc: Global, left: Truth, right: Truth) -> Result<Truth, BindCause>
 pub fn value_of(
     alloc: Global,
     space: &Space,
+    maps: &mut BoundMaps,
     cube: u32,
     at: Standing,
     tree: &Tree,
 ) -> Result<Formula, BindCause>
-    requires { cube < length space.now.cubes }
-    ensures { Answers (value_of space.now cube at tree.now) result }
+    requires cube { cube < length space.now.cubes }
+    requires maps { AreMapsIn space.now maps.old }
+    ensures answers { Answers (value_of space.now cube at tree.now) result }
+    ensures maps { AreMapsIn space.now maps.new }
 {
     match tree {
         Tree::Number(number) => Ok(Formula::Number(*number)),
@@ -113,16 +118,16 @@ pub fn value_of(
         Tree::Continue => alone(Formula::Continue, at),
         Tree::Call(word, arguments) => {
             let function = function_of(word.as_slice());
-            call_of(alloc, space, cube, at, function, arguments.as_slice())
+            call_of(alloc, space, maps, cube, at, function, arguments.as_slice())
         }
         Tree::Minus(inner) => {
-            let inner = value_of(alloc, space, cube, Standing::Within, inner.get())?;
+            let inner = value_of(alloc, space, maps, cube, Standing::Within, inner.get())?;
             unary(alloc, Fun::Minus, inner)
         }
         Tree::Binary(op, left, right) => match operator_of(*op) {
             Operator::Operation(op) => {
-                let left = value_of(alloc, space, cube, Standing::Within, left.get())?;
-                let right = value_of(alloc, space, cube, Standing::Within, right.get())?;
+                let left = value_of(alloc, space, maps, cube, Standing::Within, left.get())?;
+                let right = value_of(alloc, space, maps, cube, Standing::Within, right.get())?;
                 binary(alloc, op, left, right)
             }
             _ => Err(BindCause::Unsupported),
@@ -136,30 +141,38 @@ pub fn value_of(
 /// What a formula means as a truth.
 #[cycle(values)]
 #[tactic(auto, using(crate::proofs::FormulaFacts::means))]
-pub fn truth_of(alloc: Global, space: &Space, cube: u32, tree: &Tree) -> Result<Truth, BindCause>
-    requires { cube < length space.now.cubes }
-    ensures { Answers (truth_of space.now cube tree.now) result }
+pub fn truth_of(
+    alloc: Global,
+    space: &Space,
+    maps: &mut BoundMaps,
+    cube: u32,
+    tree: &Tree,
+) -> Result<Truth, BindCause>
+    requires cube { cube < length space.now.cubes }
+    requires maps { AreMapsIn space.now maps.old }
+    ensures answers { Answers (truth_of space.now cube tree.now) result }
+    ensures maps { AreMapsIn space.now maps.new }
 {
     match tree {
         Tree::Not(inner) => {
-            let inner = truth_of(alloc, space, cube, inner.get())?;
+            let inner = truth_of(alloc, space, maps, cube, inner.get())?;
             Ok(Truth::Not(Boxed::new(alloc, inner)?))
         }
         Tree::Binary(op, left, right) => match operator_of(*op) {
             Operator::Operation(_) => Err(BindCause::Unsupported),
             Operator::Comparison(rel) => {
-                let left = value_of(alloc, space, cube, Standing::Within, left.get())?;
-                let right = value_of(alloc, space, cube, Standing::Within, right.get())?;
+                let left = value_of(alloc, space, maps, cube, Standing::Within, left.get())?;
+                let right = value_of(alloc, space, maps, cube, Standing::Within, right.get())?;
                 Ok(Truth::Compare(rel, left, right))
             }
             Operator::And => {
-                let left = truth_of(alloc, space, cube, left.get())?;
-                let right = truth_of(alloc, space, cube, right.get())?;
+                let left = truth_of(alloc, space, maps, cube, left.get())?;
+                let right = truth_of(alloc, space, maps, cube, right.get())?;
                 both(alloc, left, right)
             }
             Operator::Or => {
-                let left = truth_of(alloc, space, cube, left.get())?;
-                let right = truth_of(alloc, space, cube, right.get())?;
+                let left = truth_of(alloc, space, maps, cube, left.get())?;
+                let right = truth_of(alloc, space, maps, cube, right.get())?;
                 either(alloc, left, right)
             }
         },
@@ -180,20 +193,24 @@ pub fn truth_of(alloc: Global, space: &Space, cube: u32, tree: &Tree) -> Result<
 fn call_of(
     alloc: Global,
     space: &Space,
+    maps: &mut BoundMaps,
     cube: u32,
     at: Standing,
     function: Function,
     arguments: &[Tree],
 ) -> Result<Formula, BindCause>
-    requires { cube < length space.now.cubes }
-    ensures { Answers (call_value space.now cube at function (map (meant space.now cube) arguments.now)) result }
+    requires cube { cube < length space.now.cubes }
+    requires maps { AreMapsIn space.now maps.old }
+    ensures answers { Answers (call_value space.now cube at function
+        (map (meant space.now cube) arguments.now)) result }
+    ensures maps { AreMapsIn space.now maps.new }
 {
     match function {
-        Function::If => choice_of(alloc, space, cube, at, arguments),
-        Function::One(function) => one_of(alloc, space, cube, function, arguments),
-        Function::Two(op) => two_of(alloc, space, cube, op, arguments),
+        Function::If => choice_of(alloc, space, maps, cube, at, arguments),
+        Function::One(function) => one_of(alloc, space, maps, cube, function, arguments),
+        Function::Two(op) => two_of(alloc, space, maps, cube, op, arguments),
         Function::Db => {
-            let reference = db_of(alloc, space, cube, arguments)?;
+            let reference = db_of(alloc, space, maps, cube, arguments)?;
             Ok(Formula::Ref(reference))
         }
         Function::Children => match arguments {
@@ -210,18 +227,21 @@ fn call_of(
 fn choice_of(
     alloc: Global,
     space: &Space,
+    maps: &mut BoundMaps,
     cube: u32,
     at: Standing,
     arguments: &[Tree],
 ) -> Result<Formula, BindCause>
-    requires { cube < length space.now.cubes }
-    ensures { Answers (choice_call at (map (meant space.now cube) arguments.now)) result }
+    requires cube { cube < length space.now.cubes }
+    requires maps { AreMapsIn space.now maps.old }
+    ensures answers { Answers (choice_call at (map (meant space.now cube) arguments.now)) result }
+    ensures maps { AreMapsIn space.now maps.new }
 {
     match arguments {
         [condition, left, right] => {
-            let truth = truth_of(alloc, space, cube, condition)?;
-            let left = value_of(alloc, space, cube, at, left)?;
-            let right = value_of(alloc, space, cube, at, right)?;
+            let truth = truth_of(alloc, space, maps, cube, condition)?;
+            let left = value_of(alloc, space, maps, cube, at, left)?;
+            let right = value_of(alloc, space, maps, cube, at, right)?;
             choice(alloc, truth, left, right)
         }
         _ => Err(BindCause::WrongCount),
@@ -234,16 +254,19 @@ fn choice_of(
 fn one_of(
     alloc: Global,
     space: &Space,
+    maps: &mut BoundMaps,
     cube: u32,
     function: Fun,
     arguments: &[Tree],
 ) -> Result<Formula, BindCause>
-    requires { cube < length space.now.cubes }
-    ensures { Answers (unary_call function (map (meant space.now cube) arguments.now)) result }
+    requires cube { cube < length space.now.cubes }
+    requires maps { AreMapsIn space.now maps.old }
+    ensures answers { Answers (unary_call function (map (meant space.now cube) arguments.now)) result }
+    ensures maps { AreMapsIn space.now maps.new }
 {
     match arguments {
         [inner] => {
-            let inner = value_of(alloc, space, cube, Standing::Within, inner)?;
+            let inner = value_of(alloc, space, maps, cube, Standing::Within, inner)?;
             unary(alloc, function, inner)
         }
         _ => Err(BindCause::WrongCount),
@@ -256,17 +279,20 @@ fn one_of(
 fn two_of(
     alloc: Global,
     space: &Space,
+    maps: &mut BoundMaps,
     cube: u32,
     op: Op,
     arguments: &[Tree],
 ) -> Result<Formula, BindCause>
-    requires { cube < length space.now.cubes }
-    ensures { Answers (binary_call op (map (meant space.now cube) arguments.now)) result }
+    requires cube { cube < length space.now.cubes }
+    requires maps { AreMapsIn space.now maps.old }
+    ensures answers { Answers (binary_call op (map (meant space.now cube) arguments.now)) result }
+    ensures maps { AreMapsIn space.now maps.new }
 {
     match arguments {
         [left, right] => {
-            let left = value_of(alloc, space, cube, Standing::Within, left)?;
-            let right = value_of(alloc, space, cube, Standing::Within, right)?;
+            let left = value_of(alloc, space, maps, cube, Standing::Within, left)?;
+            let right = value_of(alloc, space, maps, cube, Standing::Within, right)?;
             binary(alloc, op, left, right)
         }
         _ => Err(BindCause::WrongCount),

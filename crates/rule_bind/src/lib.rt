@@ -6,6 +6,7 @@
 #![tactic(auto)]
 
 pub use bind_areas::BindCause;
+pub use bind_arguments::BoundMaps;
 pub use binding::bind;
 pub use fault::{BindAt, BindFault};
 pub use rule_model::CubeRules;

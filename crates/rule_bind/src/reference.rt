@@ -5,11 +5,12 @@ ghost use Rattle.bind_areas.specs.declared.cause.BindCause.TheVariants.{UnknownN
 ghost use Rattle.bind_areas.specs.Meaning.{Answers};
 ghost use Rattle.bind_arguments.specs.Argument.{argument_of};
 ghost use Rattle.bind_arguments.specs.Bound.{name_in};
+ghost use Rattle.bind_arguments.specs.Maps.{AreMapsIn};
 ghost use Rattle.rule_bind.specs.References.{cause_of, caused, text_in, fixed_name, cube_of, dimension_called};
 ghost use Rattle.rule_bind.specs.References.{children_of, args_of, cell_of_target, db_of};
 
 use bind_areas::{BindCause, place_of};
-use bind_arguments::{ArgumentFault, bind_argument};
+use bind_arguments::{ArgumentFault, BoundMaps, bind_argument};
 use cube_space::Space;
 use dim_name::{Name, NameFault};
 use lists::ListOf;
@@ -29,12 +30,21 @@ fn cause_of(fault: ArgumentFault) -> BindCause
 }
 
 // An element argument.
-fn arg_of(alloc: Global, space: &Space, cube: u32, dim: u32, tree: &Tree) -> Result<Arg, BindCause>
+fn arg_of(
+    alloc: Global,
+    space: &Space,
+    maps: &mut BoundMaps,
+    cube: u32,
+    dim: u32,
+    tree: &Tree,
+) -> Result<Arg, BindCause>
     requires cube { cube < length space.now.cubes }
     requires dim { dim < length space.now.dimensions }
-    ensures { Answers (caused (argument_of space.now cube dim tree.now)) result }
+    requires maps { AreMapsIn space.now maps.old }
+    ensures answers { Answers (caused (argument_of space.now cube dim tree.now)) result }
+    ensures maps { AreMapsIn space.now maps.new }
 {
-    match bind_argument(alloc, space, cube, dim, tree) {
+    match bind_argument(alloc, space, maps, cube, dim, tree) {
         Ok(arg) => Ok(arg),
         Err(fault) => Err(cause_of(fault)),
     }
@@ -122,6 +132,7 @@ pub fn children_of(alloc: Global, space: &Space, cube: u32, tree: &Tree) -> Resu
 fn args_of(
     alloc: Global,
     space: &Space,
+    maps: &mut BoundMaps,
     cube: u32,
     dims: &[u32],
     trees: &[Tree],
@@ -129,11 +140,13 @@ fn args_of(
     requires cube { cube < length space.now.cubes }
     requires dims { All (λ dim. dim < length space.now.dimensions) dims.now }
     requires each { length trees.now ≡ length dims.now }
-    ensures { Answers (args_of space.now cube dims.now trees.now) result }
+    requires maps { AreMapsIn space.now maps.old }
+    ensures answers { Answers (args_of space.now cube dims.now trees.now) result }
+    ensures maps { AreMapsIn space.now maps.new }
 {
     let mut args = Vec::new(alloc);
     'each: for index in 0..dims.len() {
-        let arg = arg_of(alloc, space, cube, dims[index], &trees[index])?;
+        let arg = arg_of(alloc, space, maps, cube, dims[index], &trees[index])?;
         args.push(arg)?;
     }
     Ok(ListOf::new(args))
@@ -143,13 +156,16 @@ fn args_of(
 fn cell_of_target(
     alloc: Global,
     space: &Space,
+    maps: &mut BoundMaps,
     cube: u32,
     target: u32,
     trees: &[Tree],
 ) -> Result<Reference, BindCause>
     requires cube { cube < length space.now.cubes }
     requires target { target < length space.now.cubes }
-    ensures { Answers (cell_of_target space.now cube target trees.now) result }
+    requires maps { AreMapsIn space.now maps.old }
+    ensures answers { Answers (cell_of_target space.now cube target trees.now) result }
+    ensures maps { AreMapsIn space.now maps.new }
 {
     // a space says of itself that it is one
     let _cells = space.size();
@@ -157,7 +173,7 @@ fn cell_of_target(
     if trees.len() != dims.len() {
         return Err(BindCause::WrongCount);
     }
-    let args = args_of(alloc, space, cube, dims, trees)?;
+    let args = args_of(alloc, space, maps, cube, dims, trees)?;
     Ok(Reference { cube: target, args })
 }
 
@@ -166,17 +182,20 @@ fn cell_of_target(
 pub fn db_of(
     alloc: Global,
     space: &Space,
+    maps: &mut BoundMaps,
     cube: u32,
     trees: &[Tree],
 ) -> Result<Reference, BindCause>
-    requires { cube < length space.now.cubes }
-    ensures { Answers (db_of space.now cube trees.now) result }
+    requires cube { cube < length space.now.cubes }
+    requires maps { AreMapsIn space.now maps.old }
+    ensures answers { Answers (db_of space.now cube trees.now) result }
+    ensures maps { AreMapsIn space.now maps.new }
 {
     match trees {
         [] => Err(BindCause::DynamicReference),
         [first, others @ ..] => {
             let target = cube_of(alloc, space, first)?;
-            cell_of_target(alloc, space, cube, target, others)
+            cell_of_target(alloc, space, maps, cube, target, others)
         }
     }
 }

@@ -1,10 +1,12 @@
 ghost use Rattle.std.specs.Prelude.{◌≡◌, ◌<◌, length};
 ghost use Rattle.bind_areas.specs.Meaning.{Answers};
+ghost use Rattle.bind_arguments.specs.Maps.{AreMapsIn};
 ghost use Rattle.rule_bind.specs.Rules.{parts_of, form_of, statement_of};
 
 use crate::formula::value_of;
 use crate::standing::Standing;
 use bind_areas::{BindCause, bind_area};
+use bind_arguments::BoundMaps;
 use cube_space::Space;
 use rule_laws::Formula;
 use rule_model::{Form, Statement};
@@ -26,34 +28,37 @@ fn form_of(body: &BodyText) -> Form
 fn parts_of(
     alloc: Global,
     space: &Space,
+    maps: &mut BoundMaps,
     cube: u32,
     body: &BodyText,
 ) -> Result<(Option<Formula>, Option<Formula>), BindCause>
-    requires { cube < length space.now.cubes }
-    ensures { Answers (parts_of space.now cube body.now) result }
+    requires cube { cube < length space.now.cubes }
+    requires maps { AreMapsIn space.now maps.old }
+    ensures answers { Answers (parts_of space.now cube body.now) result }
+    ensures maps { AreMapsIn space.now maps.new }
 {
     match body {
         BodyText::Both(tree) => {
-            let leaf = value_of(alloc, space, cube, Standing::Part, tree)?;
-            let cons = value_of(alloc, space, cube, Standing::Part, tree)?;
+            let leaf = value_of(alloc, space, maps, cube, Standing::Part, tree)?;
+            let cons = value_of(alloc, space, maps, cube, Standing::Part, tree)?;
             Ok((Some(leaf), Some(cons)))
         }
         BodyText::Leaf(leaf) => {
-            let leaf = value_of(alloc, space, cube, Standing::Part, leaf)?;
+            let leaf = value_of(alloc, space, maps, cube, Standing::Part, leaf)?;
             Ok((Some(leaf), None))
         }
         BodyText::Cons(cons) => {
-            let cons = value_of(alloc, space, cube, Standing::ConsolidatedPart, cons)?;
+            let cons = value_of(alloc, space, maps, cube, Standing::ConsolidatedPart, cons)?;
             Ok((None, Some(cons)))
         }
         BodyText::LeafCons(leaf, cons) => {
-            let leaf = value_of(alloc, space, cube, Standing::Part, leaf)?;
-            let cons = value_of(alloc, space, cube, Standing::ConsolidatedPart, cons)?;
+            let leaf = value_of(alloc, space, maps, cube, Standing::Part, leaf)?;
+            let cons = value_of(alloc, space, maps, cube, Standing::ConsolidatedPart, cons)?;
             Ok((Some(leaf), Some(cons)))
         }
         BodyText::ConsLeaf(cons, leaf) => {
-            let cons = value_of(alloc, space, cube, Standing::ConsolidatedPart, cons)?;
-            let leaf = value_of(alloc, space, cube, Standing::Part, leaf)?;
+            let cons = value_of(alloc, space, maps, cube, Standing::ConsolidatedPart, cons)?;
+            let leaf = value_of(alloc, space, maps, cube, Standing::Part, leaf)?;
             Ok((Some(leaf), Some(cons)))
         }
     }
@@ -64,14 +69,17 @@ fn parts_of(
 pub fn statement_of(
     alloc: Global,
     space: &Space,
+    maps: &mut BoundMaps,
     cube: u32,
     text: &StatementText,
 ) -> Result<Statement, BindCause>
-    requires { cube < length space.now.cubes }
-    ensures { Answers (statement_of space.now cube text.now) result }
+    requires cube { cube < length space.now.cubes }
+    requires maps { AreMapsIn space.now maps.old }
+    ensures answers { Answers (statement_of space.now cube text.now) result }
+    ensures maps { AreMapsIn space.now maps.new }
 {
     let area = bind_area(alloc, space, cube, text.area.as_slice())?;
-    let (leaf, cons) = parts_of(alloc, space, cube, &text.body)?;
+    let (leaf, cons) = parts_of(alloc, space, maps, cube, &text.body)?;
     let form = form_of(&text.body);
     Ok(Statement {
         area,

@@ -23,14 +23,17 @@ impl Files {
 
     /// The file of this name; an empty one where there is none.
     pub fn file(&self, name: &str) -> &[u8] {
-        self.find(name).unwrap_or(&[])
+        match self.find(name) {
+            Some((_, text)) => text,
+            None => &[],
+        }
     }
 
-    /// The file of this name, where there is one.
-    pub fn find(&self, name: &str) -> Option<&[u8]> {
+    /// The name and the text of the file of this name, where there is one.
+    pub fn find(&self, name: &str) -> Option<(&str, &[u8])> {
         for (other, text) in &self.named {
             if other.as_str() == name {
-                return Some(text);
+                return Some((other.as_str(), text.as_slice()));
             }
         }
         None

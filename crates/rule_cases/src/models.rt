@@ -1,4 +1,4 @@
-ghost use Rattle.std.specs.Prelude.{◌≡◌, length, IfOk};
+ghost use Rattle.std.specs.Prelude.{◌≡◌, ◌+◌, length, IfOk, OnOk};
 ghost use Rattle.rule_laws.specs.OrderByPlace.{IsOrderedByPlace};
 ghost use Rattle.rule_model.specs.System.{system_of, positions_of};
 ghost use Rattle.rule_dense.specs.Limits.{IsLow};
@@ -6,8 +6,7 @@ ghost use Rattle.rule_dense.specs.Limits.{IsLow};
 use crate::files::Files;
 use crate::refusal::Refusal;
 use check_order::check_order;
-use lists::ListOf;
-use model_deploy::{At, DeployCause, DeployFault, Foundation, RuleFile, foundation_of, rules_of};
+use model_deploy::{At, DeployCause, DeployFault, Foundation, RuleFiles, foundation_of, rules_of};
 use rule_model::Model;
 use std::alloc::{AllocError, Global};
 
@@ -44,27 +43,30 @@ fn unordered(alloc: Global, files: &Files) -> Result<Model, Refusal> {
     Ok(Model::of(alloc, space, weights, bound.into_vec())?)
 }
 
-fn rule_files(alloc: Global, files: &Files, cubes: usize) -> Result<Vec<Option<RuleFile>>, Refusal>
-    ensures { IfOk result (λ all. length all.items ≡ cubes) }
+fn rule_files<'a>(alloc: Global, files: &'a Files, cubes: usize) -> Result<RuleFiles<'a>, Refusal>
+    ensures { IfOk result (λ all. length all ≡ cubes) }
 {
-    let mut all = Vec::with_capacity(alloc, cubes)?;
+    let mut all = RuleFiles::new(alloc);
     for cube in 0..cubes {
-        let file = rule_file(alloc, files, cube)?;
-        all.push(file)?;
+        add_file(alloc, files, cube, &mut all)?;
     }
     Ok(all)
 }
 
-// The rule file of a cube, where the case has one.
-fn rule_file(alloc: Global, files: &Files, cube: usize) -> Result<Option<RuleFile>, AllocError> {
+// Adds the rule file of a cube, where the case has one.
+fn add_file<'a>(
+    alloc: Global,
+    files: &'a Files,
+    cube: usize,
+    all: &mut RuleFiles<'a>,
+) -> Result<(), Refusal>
+    ensures { OnOk result (length all.new ≡ length all.old + 1) }
+{
     let name = Files::rules_of(alloc, cube)?;
-    let Some(text) = files.find(&name) else {
-        return Ok(None);
-    };
-    Ok(Some(RuleFile {
-        name: ListOf::new(Vec::from_slice(alloc, name.as_bytes())?),
-        bytes: ListOf::new(Vec::from_slice(alloc, text)?),
-    }))
+    match files.find(&name) {
+        Some((name, text)) => Ok(all.push_file(name.as_bytes(), text)?),
+        None => Ok(all.push_none()?),
+    }
 }
 
 fn told(alloc: Global, fault: DeployFault) -> Refusal {

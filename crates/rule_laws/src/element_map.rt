@@ -1,12 +1,16 @@
-ghost use Rattle.std.specs.Prelude.{◌≡◌, None, unwrap_or, slice_get, IsTrue};
+ghost use Rattle.std.specs.Arc.{arc_value};
+ghost use Rattle.std.specs.Prelude.{◌≡◌, None, unwrap_or, slice_get, IfOk, IsTrue};
 ghost use Rattle.rule_laws.specs.Maps.{identity, behind, before};
 
 use lists::ListOf;
+use std::alloc::{AllocError, Global};
 use std::marker::Model;
+use std::sync::Arc;
 
 /// For each element of a dimension, by index, an element of another one, or none.
 ///
-/// Most references keep an element or move by so many places, so these maps take no memory.
+/// Most references keep an element or move by so many places, so these maps take no memory. A list may be shared by
+/// the maps of many references.
 #[derive(Drop)]
 pub struct ElementMap {
     form: Form,
@@ -22,7 +26,8 @@ pub(crate) enum Form {
     Behind(u32, u32),
     /// Each of so many elements goes to the one so many places before it, where there is one.
     Before(u32, u32),
-    Listed(ListOf<Option<u32>>),
+    /// Each element goes where the list has it.
+    Listed(Arc<ListOf<Option<u32>>>),
 }
 
 impl Model for ElementMap {
@@ -75,12 +80,27 @@ impl ElementMap {
     }
 
     /// Each element goes where the list has it.
-    pub fn listed(targets: Vec<Option<u32>>) -> ElementMap
-        ensures { result ≡ targets.items }
+    pub fn listed(alloc: Global, targets: Vec<Option<u32>>) -> Result<ElementMap, AllocError>
+        ensures { IfOk result (λ map. map ≡ targets.items) }
     {
-        ElementMap {
-            form: Form::Listed(ListOf::new(targets)),
-        }
+        let targets = Arc::new(alloc, ListOf::new(targets))?;
+        Ok(ElementMap {
+            form: Form::Listed(targets),
+        })
+    }
+
+    /// The same map; a list has one more owner.
+    pub fn share(&self) -> Result<ElementMap, AllocError>
+        ensures { IfOk result (λ map. map ≡ self.now) }
+    {
+        let form = match &self.form {
+            Form::Identity(len) => Form::Identity(*len),
+            Form::Nowhere(len) => Form::Nowhere(*len),
+            Form::Behind(len, places) => Form::Behind(*len, *places),
+            Form::Before(len, places) => Form::Before(*len, *places),
+            Form::Listed(targets) => Form::Listed(Arc::try_clone(targets)?),
+        };
+        Ok(ElementMap { form })
     }
 
     /// Where an element goes; none for one that the map doesn't have.

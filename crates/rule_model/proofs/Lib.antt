@@ -6,3 +6,4 @@ pub mod Arguments
 pub mod Statements
 mod GoverningFacts
 mod OpenFacts
+pub mod Filing

@@ -95,7 +95,7 @@ place_taken space cell cube shape dims at rest valid is_cell own found named is 
     ap (λ ds. take (length ds) at) named ∙ ap (λ a. take (length shape.dims) a) is ∙ elements_taken space cube shape (elements_of space cell) rest valid found are
 
 -- no cube has more dimensions than 16
-few_sizes : (space : Layout) (cube : ℕ) → IsSpace space → length (sizes space cube) ≤ 16
+pub few_sizes : (space : Layout) (cube : ℕ) → IsSpace space → length (sizes space cube) ≤ 16
 few_sizes space cube valid = by (slice_get space.cubes cube) refl
   where
     none : (cubes : List CubeShape) (cube : ℕ) → slice_get cubes cube ≡ None → slice_index_or (map (λ s. s.dims) cubes) cube [] ≡ []

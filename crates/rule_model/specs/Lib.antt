@@ -5,6 +5,7 @@ pub mod Areas
 pub mod Targets
 pub mod Order
 pub mod Conditions
+pub mod Filed
 pub mod System
 pub mod Governing
 pub mod Input

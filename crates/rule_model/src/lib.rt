@@ -10,12 +10,14 @@
 //!   other, and [`part_of`] is the formula of one; [`is_input`] tells whether a number can be stored in a cell.
 //! - [`target_from`] and [`governing_in`] take the cell by its elements, for callers that have them already;
 //!   [`place_of`] tells these.
+//! - [`Model::feeders_filed`] finds the feeders of a cube by what their target names from every cell.
 //!
 //! None of these takes memory.
 #![tactic(auto)]
 
 pub use area::Area;
 pub use cells::{cell_of, weight};
+pub use filed::{FiledFeeder, FixedLeaf};
 pub use governed::{governing, governing_after, governing_in, part_of};
 pub use input::is_input;
 pub use model::{MAX_WEIGHT_PRODUCT, Model};
@@ -28,6 +30,7 @@ pub use targets::{has_components, target, target_from};
 
 mod area;
 mod cells;
+mod filed;
 mod governed;
 mod input;
 mod model;

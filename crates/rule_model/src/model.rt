@@ -1,10 +1,12 @@
-ghost use Rattle.std.specs.Prelude.{◌≡◌, ◌<◌, length, IfOk};
+ghost use Rattle.std.specs.Prelude.{◌≡◌, ◌<◌, length, map, IfOk};
 ghost use Rattle.cube_space.specs.Cells.{IsSpace};
 ghost use Rattle.rule_model.specs.BoundModel.{rules_of};
 ghost use Rattle.rule_model.specs.Conditions.{AreRules};
+ghost use Rattle.rule_model.specs.Filed.{filed_places};
 ghost use Rattle.rule_model.specs.Weights.{AreWeightsOf, HasSmallProducts};
 ghost use Rattle.rule_model.specs.Inside.Words.{rule_words};
 
+use crate::filed::{FiledFeeder, FixedLeaf, file_number, files_of_cubes, of_number};
 use crate::rules::CubeRules;
 use crate::words::{Words, words_of_cubes};
 use cube_space::Space;
@@ -24,6 +26,7 @@ pub struct Model {
     weights: Vec<Weights>,
     rules: Vec<CubeRules>,
     words: Vec<ListOf<Words>>,
+    files: Vec<ListOf<FiledFeeder>>,
 }
 
 impl std::marker::Model for Model {
@@ -38,7 +41,7 @@ impl std::marker::Model for Model {
 
     ghost view = { λ m. record { space = m.space; rules = m.rules.items } };
 
-    ghost invariant = { λ m. IsBound m.space m.weights.items m.rules.items m.words.items };
+    ghost invariant = { λ m. IsBound m.space m.weights.items m.rules.items m.words.items m.files.items };
 }
 
 impl Model {
@@ -57,11 +60,13 @@ impl Model {
         // a space says of itself that it is one
         let _cells = space.size();
         let words = words_of_cubes(alloc, &rules)?;
+        let files = files_of_cubes(alloc, &space, &rules)?;
         Ok(Model {
             space,
             weights,
             rules,
             words,
+            files,
         })
     }
 
@@ -96,5 +101,16 @@ impl Model {
         ensures { result.now ≡ rule_words (rules_of self.now cube) }
     {
         self.words[cube as usize].as_slice()
+    }
+
+    /// The feeders of the cube `own` that feed `cube` and are filed by this leaf: their target names it from every
+    /// cell, and no other leaf of a dimension with more elements, nor of an earlier one with as many. Without a leaf,
+    /// those whose target names no leaf from every cell. They come in their order, and are found by binary search.
+    pub fn feeders_filed(&self, own: u32, cube: u32, leaf: Option<FixedLeaf>) -> &[FiledFeeder]
+        requires { own < length self.now.space.cubes }
+        ensures { map (λ filed. filed.place) result.now
+            ≡ filed_places self.now.space (rules_of self.now own).feeders cube leaf }
+    {
+        of_number(self.files[own as usize].as_slice(), file_number(cube, leaf))
     }
 }

@@ -52,7 +52,7 @@ pub fn space(alloc: Global, text: &[u8]) -> Result<Answer, AllocError> {
 
 fn space_of(alloc: Global, model: ModelText, text: &[u8]) -> Result<Answer, AllocError> {
     let rules = no_rule_files(alloc, model.cubes().len())?;
-    match deploy(alloc, model, rules) {
+    match deploy(alloc, model, &rules) {
         Ok(accepted) => {
             let mut lines = Lines::new(alloc);
             let space = accepted.model().space();

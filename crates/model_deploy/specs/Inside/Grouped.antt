@@ -2,7 +2,7 @@
 use Rattle.std.specs.Prelude.{List, Option}
 use Rattle.model_text.specs.Contents.{Contents}
 use Rattle.rule_model.specs.BoundModel.{BoundModel}
-use Rattle.model_deploy.specs.declared.file.RuleFile.{RuleFile}
+use Rattle.model_deploy.specs.Files.{RuleFile}
 use Rattle.model_deploy.specs.Foundation.{layout_of, order_lines, foundation_refusal}
 use Rattle.model_deploy.specs.Rules.{rules_stage}
 use Rattle.model_deploy.specs.Stages.{Stage, found, unless, ◌>>=◌}

@@ -16,6 +16,7 @@ returns-in_err-argument-in_default c =
     rw (p.1, p.2) (record {
       answered = argument_refused c.args.space.now c.args.cube c.args.dim c.args.tree.now c.in_err-argument-in_default.field-0.0 (not_text c.args.tree.now c.in_default.not-Text) c.in_err-argument-in_default.ensures.answered;
       arg = tt;
+      maps = c.requires.maps;
     })
 
 pub returns-in-Text-clause-answered : goal.returns-in-Text-clause-answered
@@ -27,9 +28,10 @@ pub returns-in_ok-arg-in_default : goal.returns-in_ok-arg-in_default
 returns-in_ok-arg-in_default c =
     let known = cube_dims c.args.space.now c.args.cube c.size-cells.ensures.valid c.requires.cube in
     record {
-      answered = argument_answered c.args.space.now c.args.cube c.args.dim c.args.tree.now c.in_ok-argument-in_default.argument c.in_ok-arg-in_default.arg (not_text c.args.tree.now c.in_default.not-Text) c.in_ok-argument-in_default.ensures.answered c.in_ok-arg-in_default.ensures;
-      arg = bound_arg c.args.space.now c.args.cube c.args.dim (subst (λ n. 0 < n) (sym known.sized) known.some) c.in_ok-argument-in_default.argument c.in_ok-arg-in_default.arg c.in_ok-arg-in_default.ensures
+      answered = argument_answered c.args.space.now c.args.cube c.args.dim c.args.tree.now c.in_ok-argument-in_default.argument c.in_ok-arg-in_default.arg (not_text c.args.tree.now c.in_default.not-Text) c.in_ok-argument-in_default.ensures.answered c.in_ok-arg-in_default.ensures.arg;
+      arg = bound_arg c.args.space.now c.args.cube c.args.dim (subst (λ n. 0 < n) (sym known.sized) known.some) c.in_ok-argument-in_default.argument c.in_ok-arg-in_default.arg c.in_ok-arg-in_default.ensures.arg
           (λ place is. subst (λ n. place < n) (sym known.sized) (followed_low c.args.space.now c.args.cube c.in_ok-argument-in_default.argument place is c.in_ok-argument-in_default.ensures.within));
+      maps = c.arg_of.ensures.maps;
     }
 
 pub returns-in-Text-clause-arg : goal.returns-in-Text-clause-arg

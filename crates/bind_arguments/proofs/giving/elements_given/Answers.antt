@@ -3,7 +3,8 @@ use Rattle.std.proofs.lemmas.List.FromFn.{map-range_with_len_more}
 use Rattle.std.specs.List.{range_with_len}
 use Rattle.std.specs.Option.{option_and_then}
 use Rattle.dim_core.specs.Outline.{index_of}
-use Rattle.bind_arguments.specs.Bound.{name_given}
+use Rattle.bind_arguments.specs.Bound.{name_given, element_given}
+use Rattle.bind_arguments.proofs.Around.{found_dimension}
 use Rattle.bind_arguments.proofs.giving.elements_given.Goals as goal
 
 one_more : (f : ℕ → Option ℕ) (n : ℕ) (before after : List (Option ℕ)) (o : Option ℕ) → before ≡ map f (range_with_len 0 n) → o ≡ f n → after ≡ before ++ o ∷ [] → after ≡ map f (range_with_len 0 (n + 1))
@@ -12,5 +13,7 @@ one_more f n before after o so is pushed =
 
 pub loop-element-preserved : goal.loop-element-preserved
 loop-element-preserved c =
-    one_more (λ element. option_and_then (index_of c.args.dimension.now) (name_given c.args.space.now element c.args.argument.now)) c.loop-element.element c.loop-element.to.items c.push.new.self.items c.in_ok-element_given.field-0
-    c.loop-element.invariant c.in_ok-element_given.ensures c.in_ok-push.ensures.items
+    one_more (element_given c.args.space.now c.args.dim c.args.argument.now) c.loop-element.element c.loop-element.to.items c.push.new.self.items c.in_ok-element_given.field-0
+    c.loop-element.invariant
+    (c.in_ok-element_given.ensures ∙ ap (λ d. option_and_then (index_of d) (name_given c.args.space.now c.loop-element.element c.args.argument.now)) (sym (found_dimension c.args.space.now c.args.dim c.dimension-dimension.result.now c.dimension-dimension.ensures)))
+    c.in_ok-push.ensures.items

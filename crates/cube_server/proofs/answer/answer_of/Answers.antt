@@ -15,14 +15,14 @@ returns-in-Ok-clause-asked g c =
     (outside g.F.Files.seen c.args.files.now c.run_passes.new.files)
     c.new-readings.result c.run_passes.new.readings c.in-Ok.job c.new-readings.ensures c.in-Ok.ensures
 
-pub returns-clause-allowed : goal.returns-clause-allowed
-returns-clause-allowed g c =
+pub returns-in-Err-clause-allowed : goal.returns-in-Err-clause-allowed
+returns-in-Err-clause-allowed g c =
     Allows-result c.halted.result (texts_of c.args.words.now)
     (outside g.F.Files.seen c.args.files.now c.run_passes.new.files)
     c.new-readings.result c.run_passes.new.readings c.in-Err.halt c.missed.result.now c.new-readings.ensures c.in-Err.ensures c.missed.ensures c.halted.ensures
 
-pub returns-clause-asked : goal.returns-clause-asked
-returns-clause-asked g c =
+pub returns-in-Err-clause-asked : goal.returns-in-Err-clause-asked
+returns-in-Err-clause-asked g c =
     asks-result c.halted.result (texts_of c.args.words.now)
     (outside g.F.Files.seen c.args.files.now c.run_passes.new.files)
     c.new-readings.result c.run_passes.new.readings c.in-Err.halt c.new-readings.ensures c.in-Err.ensures

@@ -15,49 +15,49 @@ use Rattle.model_deploy.proofs.deploying.deploy.Goals as goal
 
 pub returns-in_err-found-clause-comes : goal.returns-in_err-found-clause-comes
 returns-in_err-found-clause-comes c =
-    unfounded c.args.text c.args.rules.items _ c.in_err-found.field-0.0 c.from_residual.result c.from_residual.ensures.1 c.in_err-found.ensures.answered
+    unfounded c.args.text c.args.rules.now _ c.in_err-found.field-0.0 c.from_residual.result c.from_residual.ensures.1 c.in_err-found.ensures.answered
 
 pub returns-in_err-bound-clause-comes : goal.returns-in_err-bound-clause-comes
 returns-in_err-bound-clause-comes c =
     let found = c.in_ok-found.found in
     let none = unrefused _ found c.in_ok-found.ensures.answered in
-    unruled c.args.text c.args.rules.items found.space found.orders none c.in_ok-found.ensures.space c.in_ok-found.ensures.orders c.in_err-bound.field-0.0 c.from_residual-in_err-bound.result
-    c.from_residual-in_err-bound.ensures.1 (rw c.deref.ensures.value at c.in_err-bound.ensures.comes)
+    unruled c.args.text c.args.rules.now found.space found.orders none c.in_ok-found.ensures.space c.in_ok-found.ensures.orders c.in_err-bound.field-0.0 c.from_residual-in_err-bound.result
+    c.from_residual-in_err-bound.ensures.1 c.in_err-bound.ensures.comes
 
 -- deployment of the model that is made comes to what its checks come to
 checks : (c : In_ok-model) (answer : Result BoundModel DeployFault)
-    → Comes (checked c.args.rules.items c.in_ok-model.model) answer → Comes (deployment c.args.text c.args.rules.items) answer
+    → Comes (checked c.args.rules.now c.in_ok-model.model) answer → Comes (deployment c.args.text c.args.rules.now) answer
 checks c answer came =
     let found = c.in_ok-found.found in
     let none = unrefused _ found c.in_ok-found.ensures.answered in
-    ruled c.args.text c.args.rules.items found.space found.orders none c.in_ok-found.ensures.space c.in_ok-found.ensures.orders c.in_ok-bound.bound c.in_ok-model.model answer
-    (rw c.deref.ensures.value at c.in_ok-bound.ensures.comes) (rw c.into_vec.ensures at c.in_ok-model.ensures) came
+    ruled c.args.text c.args.rules.now found.space found.orders none c.in_ok-found.ensures.space c.in_ok-found.ensures.orders c.in_ok-bound.bound c.in_ok-model.model answer
+    c.in_ok-bound.ensures.comes (rw c.into_vec.ensures at c.in_ok-model.ensures) came
 
 pub returns-in_err-check_ordered-clause-comes : goal.returns-in_err-check_ordered-clause-comes
 returns-in_err-check_ordered-clause-comes c =
     let answer = c.from_residual-in_err-check_ordered.result in
     checks (goal.at.returns-in_err-check_ordered-clause-comes c).In_ok-model answer
-    (late c.args.rules.items c.in_ok-model.model c.in_err-check_ordered.field-0.0 answer c.from_residual-in_err-check_ordered.ensures.1
-    (rw c.deref-2.ensures.value at c.in_err-check_ordered.ensures.comes))
+    (late c.args.rules.now c.in_ok-model.model c.in_err-check_ordered.field-0.0 answer c.from_residual-in_err-check_ordered.ensures.1
+    c.in_err-check_ordered.ensures.comes)
 
 pub returns-in_err-check_covered-clause-comes : goal.returns-in_err-check_covered-clause-comes
 returns-in_err-check_covered-clause-comes c =
     let answer = c.from_residual-in_err-check_covered.result in
     checks (goal.at.returns-in_err-check_covered-clause-comes c).In_ok-model answer
-    (late-fed c.args.rules.items c.in_ok-model.model c.in_err-check_covered.field-0.0 answer c.from_residual-in_err-check_covered.ensures.1
-    c.in_ok-check_ordered.ensures.comes (rw c.deref-3.ensures.value at c.in_err-check_covered.ensures.comes))
+    (late-fed c.args.rules.now c.in_ok-model.model c.in_err-check_covered.field-0.0 answer c.from_residual-in_err-check_covered.ensures.1
+    c.in_ok-check_ordered.ensures.comes c.in_err-check_covered.ensures.comes)
 
 pub returns-in_err-feeding-clause-comes : goal.returns-in_err-feeding-clause-comes
 returns-in_err-feeding-clause-comes c =
     let answer = c.from_residual-in_err-feeding.result in
     checks (goal.at.returns-in_err-feeding-clause-comes c).In_ok-model answer
-    (overfed c.args.rules.items c.in_ok-model.model c.in_err-feeding.field-0.0 answer c.from_residual-in_err-feeding.ensures.1
+    (overfed c.args.rules.now c.in_ok-model.model c.in_err-feeding.field-0.0 answer c.from_residual-in_err-feeding.ensures.1
     c.in_ok-check_ordered.ensures.comes c.in_ok-check_covered.ensures.comes (subst (λ (m : BoundModel). Comes (fed_stage m) (Err c.in_err-feeding.field-0.0)) c.in_ok-sources.ensures c.in_err-feeding.ensures.refused))
 
 pub returns-clause-comes : goal.returns-clause-comes
 returns-clause-comes c =
     checks (goal.at.returns-clause-comes c).In_ok-model (Ok c.new.result)
-    (passes c.args.rules.items c.in_ok-model.model c.new.result (c.new.ensures ∙ c.in_ok-sources.ensures) c.in_ok-check_ordered.ensures.comes
+    (passes c.args.rules.now c.in_ok-model.model c.new.result (c.new.ensures ∙ c.in_ok-sources.ensures) c.in_ok-check_ordered.ensures.comes
     c.in_ok-check_covered.ensures.comes (c.in_ok-feeding.feeding.fed, (subst (λ (m : BoundModel). AreFedCells m [] c.in_ok-feeding.feeding.fed) c.in_ok-sources.ensures c.in_ok-feeding.ensures.fed.fed), c.in_ok-feeding.ensures.few))
 
 pub new-requires-clause-accepted : goal.new-requires-clause-accepted

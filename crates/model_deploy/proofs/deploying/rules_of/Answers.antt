@@ -1,4 +1,4 @@
-use Rattle.std.proofs.Common.{◌∙◌, ap, length}
+use Rattle.std.proofs.Common.{◌∙◌}
 use Rattle.model_deploy.proofs.InStages.{unread, as-many-texts}
 use Rattle.model_deploy.proofs.deploying.rules_of.Goals as goal
 
@@ -8,7 +8,4 @@ returns-in_err-texts-clause-comes c =
 
 pub meanings_of-requires-clause-one_each : goal.meanings_of-requires-clause-one_each
 meanings_of-requires-clause-one_each c =
-    ap length c.as_slice.ensures ∙ as-many-texts c.args.found.now.space c.args.found.now.orders c.args.files.now c.in_ok-texts.texts c.in_ok-texts.ensures.comes ∙ c.requires.one_each
-
-pub meanings_of-requires-clause-within : goal.meanings_of-requires-clause-within
-meanings_of-requires-clause-within c = rw c.as_slice.ensures c.in_ok-texts.ensures.within
+    as-many-texts c.args.found.now.space c.args.found.now.orders c.args.files.now c.in_ok-texts.texts c.in_ok-texts.ensures.comes ∙ c.requires.one_each

@@ -1,31 +1,35 @@
-use Rattle.std.proofs.Common.{◌+◌, take, drop}
-use Rattle.std.proofs.lemmas.List.Elements.{All-push}
-use Rattle.rule_tree.specs.Sizes.{IsWithinLimits}
+use Rattle.std.proofs.Common.{◌<◌, length, arith}
 use Rattle.model_deploy.specs.Rules.{text_stage}
-use Rattle.model_deploy.proofs.Stages.{comes-refused, one-more, parts-at, place-at, taken-more, whole-found}
+use Rattle.model_deploy.proofs.Stages.{whole-found}
+use Rattle.model_deploy.proofs.RuleTexts.{as-many-texts, text-more, text-shared, text-refused}
+use Rattle.model_deploy.proofs.texts.texts_of.Goals.{in-Some+in_ok-push_shared-in-Some, in-None+in_ok-text_of-in-None+in_ok-push-in-None}
 use Rattle.model_deploy.proofs.texts.texts_of.Goals as goal
 
-pub returns-in_err-text-clause-comes : goal.returns-in_err-text-clause-comes
-returns-in_err-text-clause-comes c =
-    let files = c.args.files.now in
-    let i = c.loop-file.file-index in
-    let file = c.file-item.result in
-    comes-refused (λ _. text_stage) files (take i files) (drop (i + 1) files) c.loop-file.texts.items file i c.in_err-text.field-0.0 c.from_residual-in_err-text.result
-    (parts-at files i file c.loop-file-test.true c.file-item.is) (place-at files i c.loop-file-test.true) c.loop-file.invariant.found c.in_err-text.ensures.comes c.from_residual-in_err-text.ensures.1
+pub push_shared-requires : goal.push_shared-requires
+push_shared-requires c =
+    let low : c.loop-cube.cube < length c.args.files.now = omega (arith, c.loop-cube-test.true, c.len-cube-end.ensures) in
+    let before = c.in-Some.ensures.before in
+    omega (arith, before, as-many-texts c.args.files.now c.loop-cube.cube c.loop-cube.texts low c.loop-cube.invariant)
 
-pub loop-file-preserved : goal.loop-file-preserved
-loop-file-preserved c =
+pub returns-in_err-text_of-in-None-clause-comes : goal.returns-in_err-text_of-in-None-clause-comes
+returns-in_err-text_of-in-None-clause-comes c =
+    let low : c.loop-cube.cube < length c.args.files.now = omega (arith, c.loop-cube-test.true, c.len-cube-end.ensures) in
+    text-refused c.args.files.now c.loop-cube.cube c.loop-cube.texts low c.loop-cube.invariant c.in_err-text_of-in-None.field-0.0 c.from_residual-in_err-text_of-in-None.result
+    c.in_err-text_of-in-None.ensures.comes c.from_residual-in_err-text_of-in-None.ensures.1
+
+pub loop-cube-preserved : goal.loop-cube-preserved
+loop-cube-preserved c =
     let files = c.args.files.now in
-    let i = c.loop-file.file-index in
-    let file = c.file-item.result in
-    let more = taken-more files i file c.loop-file-test.true c.file-item.is in
-    record {
-      found = rw (more, c.in_ok-push.ensures.items) (one-more (λ _. text_stage) 0 (take i files) c.loop-file.texts.items file c.in_ok-text.text c.loop-file.invariant.found c.in_ok-text.ensures.comes);
-      within = rw c.in_ok-push.ensures.items (All-push IsWithinLimits c.loop-file.texts.items c.in_ok-text.text c.loop-file.invariant.within c.in_ok-text.ensures.within);
-    }
+    let texts = c.loop-cube.texts in
+    let cube = c.loop-cube.cube in
+    let low : cube < length files = omega (arith, c.loop-cube-test.true, c.len-cube-end.ensures) in
+    elim c.match-same_as.branch [
+      | in-Some+in_ok-push_shared-in-Some w ↦
+          rw w.texts-is (text-shared files cube texts low c.loop-cube.invariant w.in-Some.earlier w.push_shared.new.self w.in-Some.ensures w.in_ok-push_shared-in-Some.ensures)
+      | in-None+in_ok-text_of-in-None+in_ok-push-in-None w ↦
+          rw w.texts-is (text-more files cube texts low c.loop-cube.invariant w.in_ok-text_of-in-None.field-0 w.push.new.self w.in_ok-text_of-in-None.ensures.comes w.in_ok-text_of-in-None.ensures.within w.in_ok-push-in-None.ensures)
+    ]
 
 pub returns-clause-comes : goal.returns-clause-comes
-returns-clause-comes c = rw c.new.ensures (whole-found (λ _. text_stage) c.args.files.now c.loop-file.texts.items c.loop-file.file-index c.loop-file-test.false c.loop-file.invariant.found)
-
-pub returns-clause-within : goal.returns-clause-within
-returns-clause-within c = rw c.new.ensures c.loop-file.invariant.within
+returns-clause-comes c =
+    whole-found (λ _. text_stage) c.args.files.now c.loop-cube.texts c.loop-cube.cube (omega (arith, c.loop-cube-test.false, c.len-cube-end.ensures)) c.loop-cube.invariant.found

@@ -2,4 +2,4 @@ use Rattle.std.proofs.Common.{◌≡◌, length}
 use Rattle.read_cases.proofs.models.rule_files.Given as goal
 
 abbrev pub invariant-loop-cube : goal.invariant-loop-cube
-invariant-loop-cube l = length l.all.items ≡ l.cube
+invariant-loop-cube l = length l.all ≡ l.cube

@@ -1,0 +1,5 @@
+use Rattle.arrow_laws.proofs.Fitting.{fitting-ordered}
+use Rattle.arrow_laws.proofs.fitting_ranks_order_a_model.Goals as goal
+
+pub returns : goal.returns
+returns c m ranks valid ruled level fit = fitting-ordered m valid ranks fit ruled level

@@ -1,0 +1,4 @@
+pub mod Nodes
+pub mod Arrows
+pub mod Ranked
+pub mod ByDimension

@@ -1,0 +1,14 @@
+pub mod Complete
+pub mod Decided
+pub mod Every
+pub mod Fitting
+pub mod Held
+pub mod Lists
+pub mod Named
+pub mod Sound
+pub mod Steps
+pub mod Suiting
+pub mod Through
+pub mod Vertices
+pub mod Weighing
+pub mod Within

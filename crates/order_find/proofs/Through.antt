@@ -1,0 +1,33 @@
+-- The arrows of a plan, by themselves and through the nodes that aren't those of elements.
+use Rattle.std.proofs.Common.{◌≡◌, ℕ, ◌<◌, ◌≤◌, ◌⊎◌, Bool, false, Some, Contains}
+use Rattle.least_ranks.specs.declared.arrow.Arrow.{Arrow}
+use Rattle.arrow_laws.specs.Nodes.{Node}
+use Rattle.arrow_laws.specs.Arrows.{IsArrow}
+use Rattle.order_find.specs.declared.numbering.Place.{Place}
+use Rattle.order_find.specs.Numbers.{IsPlace, number_of}
+use Rattle.order_find.specs.Slots.{Plan, parts_from, node_count, slots_at}
+
+abbrev pub node : Place → Node
+node place = record { cube = place.cube; element = place.element }
+
+-- the arrow leads to the node of an element, and it is an arrow of the model
+pub record IsArrowOf (p : Plan) (place : Place) (arrow : Arrow) : Type 0 where
+  pub target : Place
+  pub within : IsPlace p.model.space target
+  pub to : arrow.to ≡ number_of p.numbering target.cube target.element
+  pub made : IsArrow p.model (node place) (node target) arrow.strict
+
+-- the arrow is weak and leads to another node, of which each arrow goes on so
+pub record IsVia (p : Plan) (place : Place) (arrow : Arrow) : Type 0 where
+  pub weak : arrow.strict ≡ false
+  pub behind : parts_from p ≤ arrow.to
+  pub each : (next : Arrow) → Contains (slots_at p arrow.to) (Some next) → IsArrowOf p place next
+
+-- one of the node's slots holds such an arrow
+abbrev pub Goes : Plan → ℕ → ℕ → Bool → Type 0
+Goes p n to strict = Contains (slots_at p n) (Some (record { to = to; strict = strict }))
+
+-- an arrow leads there, or a weak one leads to a node from which one leads there
+abbrev pub GoesThrough : Plan → ℕ → ℕ → Bool → Type 0
+GoesThrough p n to strict =
+    Goes p n to strict ⊎ ((v : ℕ) × (v < node_count p) × Goes p n v false × Goes p v to strict)

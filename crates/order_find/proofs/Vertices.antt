@@ -1,0 +1,53 @@
+-- Which node has a number.
+use Rattle.std.proofs.Common.{◌≡◌, ap, ◌∙◌, arith, ℕ, ◌+◌, ◌-◌, ◌<◌, true, false, nat_lt, Option, Some, [], length, option_map}
+use Rattle.std.specs.Prelude.{slice_get}
+use Rattle.std.specs.Option.{option_map_or}
+use Rattle.std.proofs.lemmas.Bool.{cond-true, cond-false, lt-ltb, le-ltb}
+use Rattle.std.proofs.lemmas.Option.{slice_get_within}
+use Rattle.order_find.specs.declared.numbering.Place.{Place}
+use Rattle.order_find.specs.declared.source.Source.{Source}
+use Rattle.order_find.specs.declared.slots.Vertex.{Vertex}
+use Rattle.order_find.specs.declared.slots.Vertex.TheVariants.{Element, Components, Reached}
+use Rattle.order_find.specs.Slots.{Plan, parts_from, all_from, totals_from, vertex_at, slots_of, slots_at}
+
+pub slots-by : (p : Plan) (n : ℕ) (v : Vertex) → vertex_at p n ≡ Some v → slots_at p n ≡ slots_of p n v
+slots-by p n v is = ap (λ (o : Option Vertex). option_map_or (slots_of p n) o []) is
+
+pub vertex-low : (p : Plan) (n : ℕ) → n < parts_from p → vertex_at p n ≡ option_map Element (slice_get p.numbering.places.items n)
+vertex-low p n low = cond-true (nat_lt n (parts_from p)) _ _ (lt-ltb n (parts_from p) low)
+
+pub vertex-parts : (p : Plan) (n k : ℕ) → n ≡ parts_from p + k → k < parts_from p → vertex_at p n ≡ option_map Components (slice_get p.numbering.places.items k)
+vertex-parts p n k is low =
+    let back : n - parts_from p ≡ k = omega arith in
+    cond-false (nat_lt n (parts_from p)) _ _ (le-ltb n (parts_from p) (omega arith))
+    ∙ cond-true (nat_lt n (all_from p)) _ _ (lt-ltb n (all_from p) (omega arith))
+    ∙ ap (λ j. option_map Components (slice_get p.numbering.places.items j)) back
+
+pub vertex-all : (p : Plan) (n k : ℕ) → n ≡ all_from p + k → k < length p.sources → vertex_at p n ≡ option_map (λ s. Reached s false) (slice_get p.sources k)
+vertex-all p n k is low =
+    let back : n - all_from p ≡ k = omega arith in
+    cond-false (nat_lt n (parts_from p)) _ _ (le-ltb n (parts_from p) (omega arith))
+    ∙ cond-false (nat_lt n (all_from p)) _ _ (le-ltb n (all_from p) (omega arith))
+    ∙ cond-true (nat_lt n (totals_from p)) _ _ (lt-ltb n (totals_from p) (omega arith))
+    ∙ ap (λ j. option_map (λ s. Reached s false) (slice_get p.sources j)) back
+
+pub vertex-totals : (p : Plan) (n k : ℕ) → n ≡ totals_from p + k → vertex_at p n ≡ option_map (λ s. Reached s true) (slice_get p.sources k)
+vertex-totals p n k is =
+    let back : n - totals_from p ≡ k = omega arith in
+    cond-false (nat_lt n (parts_from p)) _ _ (le-ltb n (parts_from p) (omega arith))
+    ∙ cond-false (nat_lt n (all_from p)) _ _ (le-ltb n (all_from p) (omega arith))
+    ∙ cond-false (nat_lt n (totals_from p)) _ _ (le-ltb n (totals_from p) (omega arith))
+    ∙ ap (λ j. option_map (λ s. Reached s true) (slice_get p.sources j)) back
+
+-- the slots of the nodes
+pub slots-element : (p : Plan) (n : ℕ) (place : Place) → slice_get p.numbering.places.items n ≡ Some place → slots_at p n ≡ slots_of p n (Element place)
+slots-element p n place is = slots-by p n (Element place) (vertex-low p n (slice_get_within p.numbering.places.items n place is) ∙ ap (option_map Element) is)
+
+pub slots-parts : (p : Plan) (n k : ℕ) (place : Place) → n ≡ parts_from p + k → slice_get p.numbering.places.items k ≡ Some place → slots_at p n ≡ slots_of p n (Components place)
+slots-parts p n k place at is = slots-by p n (Components place) (vertex-parts p n k at (slice_get_within p.numbering.places.items k place is) ∙ ap (option_map Components) is)
+
+pub slots-all : (p : Plan) (n k : ℕ) (s : Source) → n ≡ all_from p + k → slice_get p.sources k ≡ Some s → slots_at p n ≡ slots_of p n (Reached s false)
+slots-all p n k s at is = slots-by p n (Reached s false) (vertex-all p n k at (slice_get_within p.sources k s is) ∙ ap (option_map (λ (s : Source). Reached s false)) is)
+
+pub slots-totals : (p : Plan) (n k : ℕ) (s : Source) → n ≡ totals_from p + k → slice_get p.sources k ≡ Some s → slots_at p n ≡ slots_of p n (Reached s true)
+slots-totals p n k s at is = slots-by p n (Reached s true) (vertex-totals p n k at ∙ ap (option_map (λ (s : Source). Reached s true)) is)

@@ -1,0 +1,4 @@
+pub mod Numbers
+pub mod Ways
+pub mod Slots
+pub mod PlanOfAll

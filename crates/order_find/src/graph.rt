@@ -1,0 +1,153 @@
+ghost use Rattle.std.specs.Prelude.{◌≡◌, [], slice_index_or};
+
+use crate::arrows::{arrow_in, slots_in, vertex};
+use crate::numbering::{Numbering, Place};
+use crate::source::Source;
+use least_ranks::{Arrow, Graph};
+use lists::ListOf;
+use rule_model::Model;
+
+/// The graph of the arrows between the nodes of a model.
+#[derive(Drop)]
+pub struct NodeGraph<'a> {
+    model: &'a Model,
+    numbering: Numbering,
+    sources: Vec<Source<'a>>,
+    // The sources that are looked at for each element of a cube, and for one element.
+    of_cubes: Vec<ListOf<u32>>,
+    of_nodes: Vec<ListOf<u32>>,
+}
+
+impl<'a> std::marker::Model for NodeGraph<'a> {
+    ghost use Rattle.order_find.specs.Slots.{Plan, IsPlan};
+    ghost use Rattle.rule_laws.specs.contracts.formula.Formula as formula;
+    ghost use Rattle.std.specs.Coded.{codes};
+
+    ghost Value = { Plan };
+
+    ghost coded = { Prim.hlevel (codes, formula.the_row.coded) };
+
+    ghost view = { λ g. record {
+      model = g.model.now;
+      numbering = g.numbering;
+      sources = g.sources.items;
+      of_cubes = g.of_cubes.items;
+      of_nodes = g.of_nodes.items;
+    } };
+
+    ghost invariant = { λ g. IsPlan (record {
+      model = g.model.now;
+      numbering = g.numbering;
+      sources = g.sources.items;
+      of_cubes = g.of_cubes.items;
+      of_nodes = g.of_nodes.items;
+    }) };
+}
+
+impl<'a> NodeGraph<'a> {
+    ghost use Rattle.std.specs.Prelude.{◌≡◌, ◌<◌, ◌^◌, [], length, slice_get, slice_index_or};
+    ghost use Rattle.order_find.specs.Numbers.{count_of, number_of, width};
+    ghost use Rattle.order_find.specs.Slots.{IsPlan, node_count};
+
+    /// The model.
+    pub(crate) fn model(&self) -> &'a Model
+        ensures model { result.now ≡ self.now.model }
+        ensures plan { IsPlan self.now }
+    {
+        self.model
+    }
+
+    /// How many nodes of elements there are.
+    pub(crate) fn place_count(&self) -> u32
+        ensures count { result ≡ count_of self.now.numbering }
+        ensures few { node_count self.now < 2 ^ 32 }
+    {
+        self.numbering.places.len() as u32
+    }
+
+    /// How many sources there are.
+    pub(crate) fn source_count(&self) -> u32
+        ensures { result ≡ length self.now.sources }
+    {
+        self.sources.len() as u32
+    }
+
+    /// The element of a node.
+    pub(crate) fn place(&self, node: u32) -> Option<Place>
+        ensures { result ≡ slice_get self.now.numbering.places.items node }
+    {
+        self.numbering.places.get(node as usize).copied()
+    }
+
+    /// A source, by its number.
+    pub(crate) fn source(&self, k: u32) -> Option<Source<'a>>
+        ensures { result ≡ slice_get self.now.sources k }
+    {
+        self.sources.get(k as usize).copied()
+    }
+
+    /// The sources that are looked at for each element of a cube.
+    pub(crate) fn of_cube(&self, cube: u32) -> &[u32]
+        ensures { result.now ≡ slice_index_or self.now.of_cubes cube [] }
+    {
+        row(&self.of_cubes, cube)
+    }
+
+    /// The further sources that are looked at for the element of a node.
+    pub(crate) fn of_node(&self, node: u32) -> &[u32]
+        ensures { result.now ≡ slice_index_or self.now.of_nodes node [] }
+    {
+        row(&self.of_nodes, node)
+    }
+
+    /// The number of the node of an element.
+    pub(crate) fn number(&self, cube: u32, element: u32) -> u32
+        requires cube { cube < length self.now.model.space.cubes }
+        requires element { element < width self.now.model.space cube }
+        ensures number { result ≡ number_of self.now.numbering cube element }
+        ensures within { result < count_of self.now.numbering }
+    {
+        let _model = self.model();
+        self.numbering.firsts[cube as usize] + element
+    }
+}
+
+impl<'a> Graph for NodeGraph<'a> {
+    ghost use Rattle.order_find.specs.Slots.{arrows_of};
+
+    ghost arrows = { λ g. arrows_of g };
+
+    #[tactic(auto, unfolding(crate::specs::Slots::arrows_of))]
+    fn node_count(&self) -> u32 {
+        let _model = self.model();
+        let count = self.place_count();
+        let sources = self.source_count();
+        count + count + sources + sources
+    }
+
+    #[tactic(auto, unfolding(crate::specs::Slots::arrows_of))]
+    fn slot_count(&self, node: u32) -> u32 {
+        match vertex(self, node) {
+            Some(found) => slots_in(self, node, found),
+            None => 0,
+        }
+    }
+
+    #[tactic(auto, unfolding(crate::specs::Slots::arrows_of))]
+    fn arrow(&self, node: u32, slot: u32) -> Option<Arrow> {
+        match vertex(self, node) {
+            Some(found) => arrow_in(self, node, found, slot as usize),
+            None => None,
+        }
+    }
+}
+
+// One of these lists, which has nothing where there is none.
+fn row(rows: &[ListOf<u32>], k: u32) -> &[u32]
+    ensures { result.now ≡ slice_index_or rows.now k [] }
+{
+    match rows.get(k as usize) {
+        Some(row) => row.as_slice(),
+        None => &[],
+    }
+}
