@@ -12,7 +12,8 @@ use Rattle.rule_model.specs.declared.rules.Form.TheVariants.{Both, LeafFirst, Co
 use Rattle.rule_model.specs.BoundModel.{BoundModel, rules_of}
 use Rattle.rule_model.specs.System.{system_of, positions_of, rule_of, cube_rules}
 use Rattle.order_laws.proofs.Ordered.{flat-parts, map-parts}
-use Rattle.check_order.specs.FirstLate.{for_leaf, for_cons, for_both, counted_by, counted_of, reads, IsEarlierFor, IsEarlier, AreEarlier}
+use Rattle.ref_order.specs.Counted.{for_leaf, for_cons, for_both, counted_by, counted_of, reads}
+use Rattle.check_order.specs.FirstLate.{IsEarlierFor, IsEarlier, AreEarlier}
 use Rattle.check_order.proofs.LateFacts.{all-nothing, all-front, all-mapped, all-into}
 use Rattle.std.proofs.lemmas.List.Elements.{All-append}
 

@@ -20,7 +20,8 @@ use Rattle.order_laws.proofs.Earlier.{earlier-decided, decided-earlier}
 use Rattle.check_order.specs.declared.fault.OrderFault.{OrderFault}
 use Rattle.check_order.specs.declared.fault.OrderFault.TheVariants.{NotEarlier}
 use Rattle.check_order.specs.References.{both_marks, marks_by, marks_of, part_marks, first_late, late_in, late_of, late_references}
-use Rattle.check_order.specs.FirstLate.{Counted, for_leaf, for_cons, for_both, counted_by, counted_of, reads, IsEarlierFor, IsEarlier, AreEarlier, IsFirstLateOf, IsFirstLate}
+use Rattle.ref_order.specs.Counted.{Counted, for_leaf, for_cons, for_both, counted_by, counted_of, reads}
+use Rattle.check_order.specs.FirstLate.{IsEarlierFor, IsEarlier, AreEarlier, IsFirstLateOf, IsFirstLate}
 use Rattle.check_order.proofs.FirstLate.{fails-first, passes-first}
 use Rattle.check_order.proofs.OrderedFacts.{all-pass, unmap, own-default, no_statement}
 use Rattle.check_order.proofs.Firsts.{option-first, option-past, no-options, list-first, list-past, no_fault, here}
@@ -210,7 +211,7 @@ module _ (m : BoundModel) (valid : IsSpace m.space) (ruled : AreRules m.space m.
             number = cc same;
             it = found.0;
             here = found.1;
-            late = λ earlier. (let wrong : false ≡ true = sym found.2 ∙ earlier-marked found.0 own earlier in cc wrong);
+            fails = λ earlier. (let wrong : false ≡ true = sym found.2 ∙ earlier-marked found.0 own earlier in cc wrong);
             before =
                 all-into (λ r. Reads r × IsTrue (mark-of m cube s r)) (IsEarlier m cube s) (take place (counted_of s)) marked-earlier
                 (all-both Reads (λ r. IsTrue (mark-of m cube s r)) (take place (counted_of s)) (all-taken Reads place (counted_of s) all-read) (unmapped-all (mark-of m cube s) place (counted_of s) failed.before));
@@ -347,7 +348,7 @@ module _ (m : BoundModel) (valid : IsSpace m.space) (ruled : AreRules m.space m.
           number = (let e : n + 1 ≡ suc n = omega arith in e);
           it = s;
           here = slice_get-get_or ss n no_statement low;
-          late = late-of-statement m valid ruled cube there s (statement-is cube there n no_statement low) late.0 late.1;
+          first = late-of-statement m valid ruled cube there s (statement-is cube there n no_statement low) late.0 late.1;
           before =
               taken-all (AreEarlier m cube) ss n no_statement (omega (arith, low)) (λ k less. (
               at-statement-earlier cube there k (omega (arith, less, low)) (by-statement.none k (omega arith) less)));

@@ -19,7 +19,8 @@ use Rattle.rule_laws.specs.OrderByPlace.{IsOrderedByPlace}
 use Rattle.rule_model.specs.Order.{most_height, position_sizes}
 use Rattle.check_order.specs.declared.fault.OrderFault.{OrderFault}
 use Rattle.check_order.specs.declared.fault.OrderFault.TheVariants.{TooHigh, NotEarlier}
-use Rattle.check_order.specs.FirstLate.{counted_of, IsEarlier, AreEarlier, IsFirstLateOf, IsFirstLate}
+use Rattle.ref_order.specs.Counted.{counted_of}
+use Rattle.check_order.specs.FirstLate.{IsEarlier, AreEarlier, IsFirstLateOf, IsFirstLate}
 use Rattle.check_order.specs.Verdict.{IsOrderFault}
 use Rattle.check_order.proofs.HeightFacts.{low-none}
 use Rattle.check_order.proofs.Counted.{ordered-statement}
@@ -155,7 +156,7 @@ module _ (m : BoundModel) where
 module _ (m : BoundModel) (cube : ℕ) where
   -- of two first late references of a statement neither is before the other
   late-before : (s : Statement) (r q : ℕ) (x : IsFirstLateOf m cube s r) (y : IsFirstLateOf m cube s q) → x.place < y.place → ⊥
-  late-before s r q x y less = x.late (taken-holds (IsEarlier m cube s) (counted_of s) y.place x.place x.it y.before less x.here)
+  late-before s r q x y less = x.fails (taken-holds (IsEarlier m cube s) (counted_of s) y.place x.place x.it y.before less x.here)
 
   one-reference : (s : Statement) (r q : ℕ) → IsFirstLateOf m cube s r → IsFirstLateOf m cube s q → r ≡ q
   one-reference s r q x y = elim (cases_lt x.place y.place) [
@@ -167,22 +168,22 @@ module _ (m : BoundModel) (cube : ℕ) where
   ]
 
   late-earlier : (s : Statement) (r : ℕ) → IsFirstLateOf m cube s r → AreEarlier m cube s → ⊥
-  late-earlier s r x all = x.late (there-holds (IsEarlier m cube s) (counted_of s) x.place x.it all x.here)
+  late-earlier s r x all = x.fails (there-holds (IsEarlier m cube s) (counted_of s) x.place x.it all x.here)
 
 module _ (m : BoundModel) where
   statement-before : (cube st r tt q : ℕ) (x : IsFirstLate m cube st r) (y : IsFirstLate m cube tt q) → x.place < y.place → ⊥
   statement-before cube st r tt q x y less =
-      late-earlier m cube x.it r x.late (taken-holds (AreEarlier m cube) (rules_of m cube).statements y.place x.place x.it y.before less x.here)
+      late-earlier m cube x.it r x.first (taken-holds (AreEarlier m cube) (rules_of m cube).statements y.place x.place x.it y.before less x.here)
 
   cube-before : (cube other st r tt q : ℕ) → IsFirstLate m cube st r → IsFirstLate m other tt q → cube < other → ⊥
   cube-before cube other st r tt q x y less =
-      late-earlier m cube x.it r x.late (there-holds (AreEarlier m cube) (rules_of m cube).statements x.place x.it (y.cubes_before cube less) x.here)
+      late-earlier m cube x.it r x.first (there-holds (AreEarlier m cube) (rules_of m cube).statements x.place x.it (y.cubes_before cube less) x.here)
 
   same-statement : (cube st r tt q : ℕ) (x : IsFirstLate m cube st r) (y : IsFirstLate m cube tt q) → x.place ≡ y.place → NotEarlier cube st r ≡ NotEarlier cube tt q
   same-statement cube st r tt q x y same =
       let its : Some x.it ≡ Some y.it = sym x.here ∙ ap (slice_get (rules_of m cube).statements) same ∙ y.here in
       let it : x.it ≡ y.it = cc in
-      let reference : r ≡ q = one-reference m cube y.it r q (subst (λ s. IsFirstLateOf m cube s r) it x.late) y.late in
+      let reference : r ≡ q = one-reference m cube y.it r q (subst (λ s. IsFirstLateOf m cube s r) it x.first) y.first in
       ap (λ n. NotEarlier cube n r) (x.number ∙ ap suc same ∙ sym y.number) ∙ ap (NotEarlier cube tt) reference
 
   one-in-cube : (cube st r tt q : ℕ) → IsFirstLate m cube st r → IsFirstLate m cube tt q → NotEarlier cube st r ≡ NotEarlier cube tt q

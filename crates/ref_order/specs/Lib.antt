@@ -1,3 +1,5 @@
 pub mod Reads
 pub mod Known
 pub mod Areas
+pub mod Counted
+pub mod FirstReference

@@ -1,15 +1,16 @@
 //! Whether what a formula reads stands before its cells in the declared order, decided dimension by dimension over the
 //! tables of a model. Nothing here takes memory, and the cost is that of the area's elements, and not of its cells.
 //!
-//! [`is_earlier`] decides it for one [`Read`] of one part of a statement. That its answer is right for every cell of
-//! the area is the law of `order_laws`. What it has found of the elements of a dimension is [`Known`] to the references
+//! [`is_earlier`] decides it for one [`Read`] of one part of a statement, by [`most_excess`] at each position. That its
+//! answer is right for every cell of the area is the law of `order_laws`. What it has found of the elements of a dimension is [`Known`] to the references
 //! that follow, so that a reference costs what is new in it.
 #![tactic(auto)]
 
 pub use area_cells::AreaCells;
 pub use earlier::is_earlier;
 pub use known::Known;
-pub use most::{count, element_at};
+pub use most::{count, element_at, most_excess};
+pub use number::{is_below, is_within};
 pub use reads::Read;
 pub use scale::{MAX_POSITIONS, axis, axis_count};
 

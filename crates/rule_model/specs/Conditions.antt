@@ -4,7 +4,7 @@ use Rattle.std.specs.Prelude.{List, length, All, slice_get, slice_index_or}
 use Rattle.std.specs.List.{AllZip}
 use Rattle.std.specs.List.Sorted.{IsStrictlyIncreasing}
 use Rattle.std.specs.Option.{option_map_or}
-use Rattle.dim_core.specs.Outline.{Outline, IsElement, most_elements}
+use Rattle.dim_core.specs.Outline.{Outline, IsElement}
 use Rattle.dim_weights.specs.Coefficients.{coef}
 use Rattle.cube_space.specs.Layout.{Layout, axes, sizes}
 use Rattle.rule_laws.specs.declared.reference.Reference.{Reference}
@@ -80,9 +80,9 @@ pub record IsFeeder (space : Layout) (cube : ℕ) (feeder : Feeder) : Type 0 whe
   pub area : IsArea space cube feeder.area
   pub target : IsReference space cube feeder.target
 
--- the greatest number at a position of an order: an index, which counts from 1, is at most the number of elements
+-- the greatest number at a position of an order
 abbrev pub greatest_rank : ℕ
-greatest_rank = most_elements
+greatest_rank = 4294967295
 
 -- the rank of an element
 abbrev pub rank_in : List ℕ → ℕ → ℕ

@@ -70,6 +70,22 @@ impl Model {
         })
     }
 
+    /// What [`Model::of`] made it from: the space, the coefficients of each dimension and the rules of each cube.
+    pub fn into_parts(self) -> (Space, Vec<Weights>, Vec<CubeRules>)
+        ensures model { self ≡ record { space = result.0; rules = result.2.items } }
+        ensures weights { AreWeightsOf self.space.dimensions result.1.items }
+        ensures products { HasSmallProducts self.space }
+        ensures rules { AreRules self.space self.rules }
+    {
+        let Model {
+            space,
+            weights,
+            rules,
+            ..
+        } = self;
+        (space, weights, rules)
+    }
+
     /// Its dimensions and cubes, and the numbers of its cells.
     pub fn space(&self) -> &Space
         ensures space { result.now ≡ self.now.space }
