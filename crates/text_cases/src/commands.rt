@@ -36,6 +36,11 @@ fn add_command(alloc: Global, lines: &mut Lines, command: &UserCommand) -> Resul
         }
         UserBody::Load(load) => add_load(lines, line, load),
         UserBody::View(view) => return add_view(alloc, lines, line, view),
+        UserBody::Spread(cell, amount, how) => {
+            let elements = names(alloc, cell.elements.as_slice())?;
+            let cube = shown(cell.cube.shown());
+            lines.add(&(line, "SPREAD", cube, elements, amount.millionths(), how));
+        }
     }
     Ok(())
 }

@@ -2,6 +2,7 @@ pub mod CellExact
 pub mod NewVariables
 pub mod LoadExact
 pub mod ViewExact
+pub mod SpreadExact
 pub mod UserExact
 pub mod Settled
 pub mod Columns

@@ -4,7 +4,7 @@ use Rattle.grammar.specs.Tokens.{is_sign, is_word}
 use Rattle.grammar.proofs.Lists.{listed_settles, names_settle, minus_settles}
 use Rattle.grammar.proofs.Settles.{Settles, settles_one, settles_gives, settles_both, settles_choose, settles_all, settles_all_after}
 use Rattle.user_text.specs.Counting.{count}
-use Rattle.user_text.specs.Readers.Reading.{is_command_word, read_cell, read_amount, read_put, read_get, read_skip, read_source, read_value, read_param, read_next_param, read_further_params, read_params, read_load, read_elements, read_set, read_next_set, read_axis, read_point, read_points, read_nozeros, read_view, read_command, read_user}
+use Rattle.user_text.specs.Readers.Reading.{is_command_word, read_cell, read_amount, read_put, read_get, read_skip, read_source, read_value, read_param, read_next_param, read_further_params, read_params, read_load, read_elements, read_set, read_next_set, read_axis, read_point, read_points, read_nozeros, read_view, read_spread_word, read_spread, read_command, read_user}
 use Rattle.user_text.specs.declared.command.ParamText.{ParamText}
 
 cell_settles : Settles read_cell
@@ -84,9 +84,17 @@ unfolding read_view
 view_settles = settles_both (settles_one _ _) (λ line. settles_both (settles_one _ _) (λ cube. settles_both (settles_one _ _) (λ _. settles_both axis_settles (λ rows. settles_both (settles_one _ _) (λ _. settles_both axis_settles
     (λ columns. settles_both points_settle (λ at. settles_both nozeros_settles (λ without_zeros. settles_both (settles_one _ _) (λ _. settles_gives _)))))))))
 
+spread_word_settles : Settles read_spread_word
+unfolding read_spread_word
+spread_word_settles = settles_choose _ (settles_both (settles_one _ _) (λ _. settles_gives _)) (settles_both (settles_one _ _) (λ _. settles_gives _))
+
+spread_settles : Settles read_spread
+unfolding read_spread
+spread_settles = settles_both (settles_one _ _) (λ line. settles_both cell_settles (λ target. settles_both (settles_one _ _) (λ _. settles_both amount_settles (λ value. settles_both spread_word_settles (λ how. settles_both (settles_one _ _) (λ _. settles_gives _))))))
+
 command_settles : Settles read_command
 unfolding read_command
-command_settles = settles_choose _ put_settles (settles_choose _ get_settles (settles_choose _ load_settles view_settles))
+command_settles = settles_choose _ put_settles (settles_choose _ get_settles (settles_choose _ load_settles (settles_choose _ view_settles spread_settles)))
 
 pub user_settles : Settles read_user
 unfolding read_user

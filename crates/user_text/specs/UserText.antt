@@ -14,6 +14,8 @@ use Rattle.user_text.specs.declared.command.CellText.{CellText}
 use Rattle.user_text.specs.declared.command.ParamText.{ParamText}
 use Rattle.user_text.specs.declared.command.ParamText.TheVariants as params
 use Rattle.user_text.specs.declared.command.SetText.{SetText}
+use Rattle.user_text.specs.declared.command.SpreadWord.{SpreadWord}
+use Rattle.user_text.specs.declared.command.SpreadWord.TheVariants as spread_words
 use Rattle.user_text.specs.declared.command.UserBody.TheVariants as bodies
 use Rattle.user_text.specs.declared.command.UserCommand.{UserCommand}
 
@@ -180,8 +182,25 @@ view = do
   one (sign (codes ";"))
   done (viewing line cube rows columns at without_zeros)
 
+-- "EQUAL" | "PROPORTIONAL"
+abbrev pub spread_word : Grammar Lexeme SpreadWord
+spread_word = either
+    (do one (word (codes "EQUAL")); done spread_words.Equal)
+    (do one (word (codes "PROPORTIONAL")); done spread_words.Proportional)
+
+-- "SPREAD" cell "=" [ "-" ] Number ( "EQUAL" | "PROPORTIONAL" ) ";"
+abbrev pub spread : Grammar Lexeme UserCommand
+spread = do
+  line ← one (word (codes "SPREAD"))
+  target ← cell
+  one (sign (codes "="))
+  value ← amount
+  how ← spread_word
+  one (sign (codes ";"))
+  done (record { line = line; body = bodies.Spread target value how })
+
 abbrev pub command : Grammar Lexeme UserCommand
-command = either put (either get (either load view))
+command = either put (either get (either load (either view spread)))
 
 -- { command }
 abbrev pub user : Grammar Lexeme (List UserCommand)

@@ -12,7 +12,7 @@ use std::alloc::Global;
 
 /// Reads `name ( name { , name } )`.
 #[tactic(auto, unfolding(crate::specs::Readers::Reading::read_cell))]
-fn cell_at(alloc: Global, cursor: &mut Cursor<'_, Counted>) -> Result<CellText, Stop<TooMany>>
+pub fn cell_at(alloc: Global, cursor: &mut Cursor<'_, Counted>) -> Result<CellText, Stop<TooMany>>
     ensures { Reads (λ cell. cell) reading.read_cell cursor.old result cursor.new }
 {
     let cube = name(alloc, cursor)?;

@@ -52,6 +52,13 @@ pub struct ViewText {
     pub nozeros: bool,
 }
 
+/// How an amount is spread over the cells below: in equal shares, or in proportion to the numbers there.
+#[derive(Clone, Copy, Debug)]
+pub enum SpreadWord {
+    Equal,
+    Proportional,
+}
+
 /// What a command does.
 #[derive(Drop)]
 pub enum UserBody {
@@ -59,6 +66,7 @@ pub enum UserBody {
     Get(CellText),
     Load(LoadText),
     View(ViewText),
+    Spread(CellText, Money, SpreadWord),
 }
 
 /// A command, with the line of its first word, from 1.

@@ -1,4 +1,4 @@
-//! A user's commands, read from their text: `PUT`, `GET`, `LOAD` and `VIEW`.
+//! A user's commands, read from their text: `PUT`, `GET`, `LOAD`, `VIEW` and `SPREAD`.
 //!
 //! Read in this order: [`parse`], which reads a whole text; [`UserCommand`], what it gives; [`UserFault`], why it
 //! refuses. [`LoadParams`] are the parameters of a load. [`rows`] reads the [`Records`] of a load's
@@ -17,10 +17,13 @@ mod load_params;
 mod params;
 mod record;
 mod records;
+mod spread;
 mod text;
 mod view;
 
-pub use command::{CellText, LoadText, ParamText, SetText, UserBody, UserCommand, ViewText};
+pub use command::{
+    CellText, LoadText, ParamText, SetText, SpreadWord, UserBody, UserCommand, ViewText,
+};
 pub use counted::MAX_COMMANDS;
 pub use fault::UserFault;
 pub use job_rows::Rows;

@@ -9,6 +9,7 @@ use crate::command::UserCommand;
 use crate::counted::Counted;
 use crate::fault::{TooMany, UserFault};
 use crate::load::load_at;
+use crate::spread::spread_at;
 use crate::view::view_at;
 use cube_lex::text_tokens;
 use grammar::{Cursor, RepeatedItem, Stop, TextFault, answer_of_text, repeated, word_comes};
@@ -25,8 +26,10 @@ fn command_at(alloc: Global, cursor: &mut Cursor<'_, Counted>) -> Result<UserCom
         get_at(alloc, cursor)
     } else if word_comes(cursor, b"LOAD") {
         load_at(alloc, cursor)
-    } else {
+    } else if word_comes(cursor, b"VIEW") {
         view_at(alloc, cursor)
+    } else {
+        spread_at(alloc, cursor)
     }
 }
 
@@ -47,6 +50,7 @@ impl RepeatedItem<UserCommand, TooMany, Counted> for NextCommand {
             || word_comes(cursor, b"GET")
             || word_comes(cursor, b"LOAD")
             || word_comes(cursor, b"VIEW")
+            || word_comes(cursor, b"SPREAD")
     }
 
     fn read_next(

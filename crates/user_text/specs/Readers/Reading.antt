@@ -11,6 +11,8 @@ use Rattle.user_text.specs.declared.command.CellText.{CellText}
 use Rattle.user_text.specs.declared.command.ParamText.{ParamText}
 use Rattle.user_text.specs.declared.command.ParamText.TheVariants as params
 use Rattle.user_text.specs.declared.command.SetText.{SetText}
+use Rattle.user_text.specs.declared.command.SpreadWord.{SpreadWord}
+use Rattle.user_text.specs.declared.command.SpreadWord.TheVariants as spread_words
 use Rattle.user_text.specs.declared.command.UserBody.TheVariants as bodies
 use Rattle.user_text.specs.declared.command.UserCommand.{UserCommand}
 use Rattle.user_text.specs.declared.fault.TooMany.{TooMany}
@@ -141,15 +143,31 @@ read_view = do
   take_sign (codes ";")
   gives (viewing line cube rows columns at without_zeros)
 
+unfoldable pub read_spread_word : Plan SpreadWord
+read_spread_word = choose (is_word (codes "EQUAL"))
+    (do take_word (codes "EQUAL"); gives spread_words.Equal)
+    (do take_word (codes "PROPORTIONAL"); gives spread_words.Proportional)
+
+unfoldable pub read_spread : Plan UserCommand
+read_spread = do
+  line ← take_word (codes "SPREAD")
+  target ← read_cell
+  take_sign (codes "=")
+  value ← read_amount
+  how ← read_spread_word
+  take_sign (codes ";")
+  gives (record { line = line; body = bodies.Spread target value how })
+
 -- whether a command comes
 abbrev pub is_command_word : Lexeme → Bool
 is_command_word t =
-    is_word (codes "PUT") t || (is_word (codes "GET") t || (is_word (codes "LOAD") t || is_word (codes "VIEW") t))
+    is_word (codes "PUT") t || (is_word (codes "GET") t || (is_word (codes "LOAD") t || (is_word (codes "VIEW") t ||
+    is_word (codes "SPREAD") t)))
 
 unfoldable pub read_command : Plan UserCommand
 read_command =
     choose (is_word (codes "PUT")) read_put (choose (is_word (codes "GET")) read_get (choose (is_word
-    (codes "LOAD")) read_load read_view))
+    (codes "LOAD")) read_load (choose (is_word (codes "VIEW")) read_view read_spread)))
 
 unfoldable pub read_user : Plan (List UserCommand)
 read_user = all_of is_command_word read_command
