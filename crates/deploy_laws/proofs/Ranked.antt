@@ -64,10 +64,10 @@ module _ (m : BoundModel) (valid : IsSpace m.space) where
   one-order a b x y =
       let n = length m.space.cubes in
       let none : Order = record { positions = [] } in
-      x.orders
+      x.made
       ∙ fill_by_all (order_by m y.ranks) (map (order_by m x.ranks) (cubes_of m)) n none (length-map-range_with_len (order_by m x.ranks) 0 n)
       (λ k low. get_or-map-range_with_len (order_by m x.ranks) 0 n k k none low (omega arith) ∙ same k low)
-      ∙ sym y.orders
+      ∙ sym y.made
     where
       same : (k : ℕ) → k < length m.space.cubes → order_by m x.ranks k ≡ order_by m y.ranks k
       same k low = cc (one-row x.ranks y.ranks x.each y.each x.fit y.fit x.least y.least k low)

@@ -90,10 +90,10 @@ module _ (m : BoundModel) (orders : List Order) (space : IsSpace m.space) (are :
   count = length m.space.cubes
 
   pub as-many : length orders ≡ length m.rules
-  as-many = ap length found.orders ∙ length-map-range_with_len (order_by m found.ranks) 0 count ∙ sym are.each_cube
+  as-many = ap length found.made ∙ length-map-range_with_len (order_by m found.ranks) 0 count ∙ sym are.each_cube
 
   own-is : (k : ℕ) → k < count → slice_index_or orders k no_order ≡ order_by m found.ranks k
-  own-is k low = ap (λ l. slice_index_or l k no_order) found.orders ∙ get_or-map-range_with_len (order_by m found.ranks) 0 count k k no_order low (omega arith)
+  own-is k low = ap (λ l. slice_index_or l k no_order) found.made ∙ get_or-map-range_with_len (order_by m found.ranks) 0 count k k no_order low (omega arith)
 
   abbrev after : List CubeRules
   after = map (reordered m.rules orders) (range_with_len 0 (length m.rules))
