@@ -144,24 +144,14 @@ fn push_cause(alloc: Global, text: &mut Vec<u8>, cause: &Cause) -> Result<(), Al
 }
 
 // A name and a place.
-fn push_place(
-    alloc: Global,
-    text: &mut Vec<u8>,
-    name: &str,
-    place: u32,
-) -> Result<(), AllocError>
+fn push_place(alloc: Global, text: &mut Vec<u8>, name: &str, place: u32) -> Result<(), AllocError>
     ensures { OnOk result (text.new.items ≡ text.old.items ++ (name.now ++ decimal place)) }
 {
     push_number(alloc, text, name, place as u64)
 }
 
 // A name and a number.
-fn push_number(
-    alloc: Global,
-    text: &mut Vec<u8>,
-    name: &str,
-    number: u64,
-) -> Result<(), AllocError>
+fn push_number(alloc: Global, text: &mut Vec<u8>, name: &str, number: u64) -> Result<(), AllocError>
     ensures { OnOk result (text.new.items ≡ text.old.items ++ (name.now ++ decimal number)) }
 {
     text.extend_from_slice(name.as_bytes())?;

@@ -33,7 +33,7 @@ pub fn circle_fault(
                 by: LinkBy::Reference { statement, .. },
                 ..
             },
-            ..,
+            ..
         ] => {
             let cause = DeployCause::Cycle(names);
             fault_in(alloc, files, *cube, At::Statement(*statement), cause)
@@ -64,6 +64,8 @@ fn link_name(alloc: Global, space: &Space, link: Link) -> Result<ListOf<u8>, All
     requires { IsLinked space.now link }
     ensures { IfOk result (λ name. name ≡ link_name space.now link) }
 {
+    // a space says of itself that each cube has a dimension
+    let _cells = space.size();
     let last = axis_count(space, link.cube) - 1;
     let name = axis(space, link.cube, last).name_of(link.element);
     Ok(ListOf::new(Vec::from_slice(alloc, name.shown())?))

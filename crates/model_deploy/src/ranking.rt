@@ -84,12 +84,7 @@ fn in_orders(mut rules: Vec<CubeRules>, orders: Vec<Order>) -> Vec<CubeRules>
 }
 
 // Why no order is found.
-fn find_fault(
-    alloc: Global,
-    files: &RuleFiles<'_>,
-    model: &Model,
-    fault: FindFault,
-) -> DeployFault
+fn find_fault(alloc: Global, files: &RuleFiles<'_>, model: &Model, fault: FindFault) -> DeployFault
     requires { IsFindFault model.now fault }
     ensures { (result ≡ memory) ⊎ (find_refusal model.now.space files.now fault ≡ Some result) }
 {
