@@ -161,7 +161,7 @@ sign_no_text kinds.Sign e = refl
 sign_is_no_text : (bytes : List ℕ) → Begins (one (sign bytes)) is_text false
 sign_is_no_text bytes = begins_one (sign bytes) is_text false (λ t x e. sign_no_text t.kind (and_is (is_sign_kind t.kind) (bytes_eq t.piece bytes) (when_picks (is_sign bytes) (λ _. tt) t x e).0).0)
 
-line_end : Option (ℕ × List OrderWord) → Grammar Lexeme (Option (ℕ × List OrderWord))
+abbrev line_end : Option (ℕ × List OrderWord) → Grammar Lexeme (Option (ℕ × List OrderWord))
 line_end o = both (one (sign (codes ";"))) (λ _. done o)
 
 line_end_begins : (o : Option (ℕ × List OrderWord)) → Begins (line_end o) is_text false
