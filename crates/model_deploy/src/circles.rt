@@ -1,5 +1,5 @@
 ghost use Rattle.std.specs.Prelude.{◌≡◌, ◌⊎◌, All, IfOk, Some, map};
-ghost use Rattle.order_find.specs.Circles.{BeginsLeast};
+ghost use Rattle.order_find.specs.Circles.{IsCircle, BeginsLeast};
 ghost use Rattle.model_deploy.specs.Foundation.{memory};
 ghost use Rattle.model_deploy.specs.Deployment.{cycle_refusal, link_name};
 ghost use Rattle.model_deploy.specs.Inside.Linked.{IsLinked};
@@ -19,7 +19,7 @@ pub fn circle_fault(
     model: &Model,
     links: &[Link],
 ) -> DeployFault
-    requires linked { All (IsLinked model.now.space) links.now }
+    requires circle { IsCircle model.now links.now }
     requires least { BeginsLeast links.now }
     ensures { (result ≡ memory) ⊎ (cycle_refusal model.now.space files.now links.now ≡ Some result) }
 {
