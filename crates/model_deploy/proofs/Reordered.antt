@@ -1,40 +1,19 @@
 -- The rules of a model in the orders that are found.
-use Rattle.std.proofs.Common.{◌≡◌, refl, sym, ap, ◌∙◌, arith, subst, ℕ, zero, suc, ◌+◌, ◌<◌, ◌≤◌, Bool, true, false, ◌||◌, Option, Some, None, List, [], ◌∷◌, ◌++◌, map, length, get_or, set, length-append}
-use Rattle.std.specs.Prelude.{slice_get, slice_index_or}
+use Rattle.std.proofs.Common.{◌≡◌, inl, inr, refl, sym, ap, ◌∙◌, arith, subst, ℕ, ◌+◌, ◌<◌, ◌≤◌, List, [], ◌∷◌, ◌++◌, map, length, set, length-append}
+use Rattle.std.specs.Prelude.{slice_index_or}
 use Rattle.std.specs.List.{range_with_len}
 use Rattle.std.proofs.lemmas.Bool.{cases_lt}
 use Rattle.std.proofs.lemmas.List.{length-set, get_or-set_same, get_or-set_other, get_or_append_left, get_or_push}
 use Rattle.std.proofs.lemmas.List.FromFn.{fill_by_all, get_or-map-range_with_len, length-map-range_with_len}
 use Rattle.cube_space.specs.Cells.{IsSpace}
-use Rattle.model_text.specs.declared.order.OrderLine.{OrderLine}
-use Rattle.model_text.specs.Orders.{has_auto}
 use Rattle.rule_model.specs.declared.order.Order.{Order}
 use Rattle.rule_model.specs.declared.rules.CubeRules.{CubeRules}
 use Rattle.rule_model.specs.BoundModel.{BoundModel, rules_of, no_rules}
 use Rattle.rule_model.specs.Conditions.{AreRules}
 use Rattle.arrow_laws.specs.Arrows.{FitArrows}
-use Rattle.arrow_laws.specs.Ranked.{with_order, with_orders, order_by, ranked, AreNodeRanks}
+use Rattle.arrow_laws.specs.Ranked.{with_order, order_by, ranked, AreNodeRanks}
 use Rattle.order_find.specs.Found.{AreFound}
-use Rattle.model_deploy.specs.Rules.{is_automatic}
 use Rattle.model_deploy.specs.Deployment.{IsRanked}
-
--- where no line says `AUTO`, this one doesn't
-pub not-auto : (lines : List (Option (ℕ × OrderLine))) (cube : ℕ) (line : ℕ × OrderLine) → slice_get lines cube ≡ Some (Some line) → is_automatic lines ≡ false → has_auto line.1.words ≡ false
-not-auto [] cube line at none = let clash : None ≡ Some (Some line) = at in absurd (cc)
-not-auto (None ∷ lines) zero line at none = let clash : Some None ≡ Some (Some line) = at in absurd (cc)
-not-auto (Some own ∷ lines) zero line at none =
-    let same : own ≡ line = cc in
-    subst (λ (l : ℕ × OrderLine). has_auto l.1.words ≡ false) same (first (has_auto own.1.words) (is_automatic lines) none)
-  where
-    first : (a b : Bool) → (a || b) ≡ false → a ≡ false
-    first true b h = h
-    first false b h = refl
-not-auto (None ∷ lines) (suc cube) line at none = not-auto lines cube line at none
-not-auto (Some own ∷ lines) (suc cube) line at none = not-auto lines cube line at (rest (has_auto own.1.words) (is_automatic lines) none)
-  where
-    rest : (a b : Bool) → (a || b) ≡ false → b ≡ false
-    rest true b h = let clash : true ≡ false = h in absurd (cc)
-    rest false b h = h
 
 abbrev no_order : Order
 no_order = record { positions = [] }
