@@ -5,19 +5,18 @@ use Rattle.cube_lex.specs.Lexeme.{Lexeme}
 use Rattle.cube_lex.specs.declared.token.Kind.{Kind}
 use Rattle.cube_lex.specs.declared.token.Kind.TheVariants as kinds
 use Rattle.cube_lex.specs.Quoted.{unquoted}
-use Rattle.std.specs.Str.{bytes_eq}
 use Rattle.grammar.specs.Grammar.{Grammar, one, both, done}
 use Rattle.grammar.specs.Watch.{Watch, unwatched, unscanned}
 use Rattle.grammar.specs.Reading.{take_one, both_of, gives}
 use Rattle.grammar.specs.Lists.{read_listed}
 use Rattle.grammar.proofs.Lists.{BehindList, listed_exact, listed_whole_exact, behind_list}
-use Rattle.grammar.specs.Tokens.{sign, word, whole, name, file, located, is_sign, is_word, is_number, is_text, is_sign_kind, is_text_kind, is_number_kind, is_whole}
+use Rattle.grammar.specs.Tokens.{sign, word, whole, name, file, located, is_sign, is_word, is_number, is_text, is_text_kind, is_number_kind, is_whole}
 use Rattle.grammar.specs.declared.cursor.Unwatched.{Unwatched}
 use Rattle.dim_name.specs.Name.{is_name}
 use Rattle.std.specs.Str.Parse.{digits_value}
 use Rattle.grammar.proofs.Exact.{Exact, Always, Not, exact_one, exact_gives, exact_then, exact_both, exact_made, exact_choose, exact_before}
 use Rattle.grammar.proofs.Begins.{Begins, begins_one, begins_both, begins_either, begins_behind, starts_text, exact_or, exact_option, exact_before_next}
-use Rattle.grammar.proofs.Tokens.{IsValue, name_is_value, whole_is_value, value_no_word, exact_sign, exact_word, exact_name, exact_whole_number, exact_file, sign_begins, word_begins, when_picks, and_is, sample_of, one_ascii}
+use Rattle.grammar.proofs.Tokens.{IsValue, name_is_value, whole_is_value, value_no_word, sign_no_text, exact_sign, exact_word, exact_name, exact_whole_number, exact_file, sign_begins, word_begins, when_picks, and_is, sample_of, one_ascii}
 use Rattle.model_text.specs.declared.fault.ModelTextFault.{ModelTextFault}
 use Rattle.model_text.specs.declared.order.OrderWord.{OrderWord}
 use Rattle.model_text.specs.declared.order.OrderWord.TheVariants as words
@@ -152,20 +151,11 @@ order_words_exact = exact_choose (is_word (codes "AUTO")) auto_exact (listed_exa
     (λ u a rest h stops. (starts_text auto_begins u a rest h, stops.lag))
     (λ u a rest h stops. (starts_text position_list_begins u a rest h, stops.list))
 
-sign_no_text : (k : Kind) → is_sign_kind k ≡ true → is_text_kind k ≡ false
-sign_no_text kinds.Word e = refl
-sign_no_text kinds.Number e = refl
-sign_no_text kinds.Text e = cc
-sign_no_text kinds.Sign e = refl
-
-sign_is_no_text : (bytes : List ℕ) → Begins (one (sign bytes)) is_text false
-sign_is_no_text bytes = begins_one (sign bytes) is_text false (λ t x e. sign_no_text t.kind (and_is (is_sign_kind t.kind) (bytes_eq t.piece bytes) (when_picks (is_sign bytes) (λ _. tt) t x e).0).0)
-
 abbrev line_end : Option (ℕ × List OrderWord) → Grammar Lexeme (Option (ℕ × List OrderWord))
 line_end o = both (one (sign (codes ";"))) (λ _. done o)
 
 line_end_begins : (o : Option (ℕ × List OrderWord)) → Begins (line_end o) is_text false
-line_end_begins o = begins_both (sign_is_no_text (codes ";"))
+line_end_begins o = begins_both (sign_no_text (codes ";"))
 
 order_line_exact : Exact free order_line order_line (both_of (take_one unscanned (word (codes "ORDER"))) (λ line. both_of read_order_words (λ list. both_of (take_one unscanned (sign (codes ";"))) (λ _. gives (Some (line, list)))))) Always
 order_line_exact = exact_then (exact_word unscanned (codes "ORDER")) (λ line. exact_both order_words_exact
