@@ -2,7 +2,7 @@
 use Rattle.std.proofs.Common.{◌≡◌, ◌<◌, ◌≤◌, ℕ, zero, suc, max, Bool, true, false, cond, nat_le, eqb, ℤ, pos, List, [], ◌∷◌, map, length, Option, Some, None, IfSome, unwrap_or, if◌then◌else◌, refl, sym, ap, ◌∙◌, subst, arith, get_or, slice_index_or}
 use Rattle.std.specs.List.{range_with_len}
 use Rattle.std.proofs.lemmas.Bool.{leb-true, eqb-true}
-use Rattle.std.proofs.lemmas.List.FromFn.{length-range_with_len, get_or-range_with_len}
+use Rattle.std.proofs.lemmas.List.FromFn.{length-range_with_len, get_or-range_with_len, length-map-range_with_len, get_or-map-range_with_len}
 use Rattle.dim_core.specs.Outline.{Outline, IsDimension, IsElement, components_of}
 use Rattle.dim_weights.specs.Coefficients.{coef, coef_over}
 use Rattle.dim_weights.specs.Table.{is_nonzero, nonzero_among}
@@ -10,7 +10,7 @@ use Rattle.dim_weights.proofs.Equations.{coef-solves, only-leaves}
 use Rattle.rule_model.specs.Order.{greatest}
 use Rattle.rule_model.specs.Conditions.{greatest_rank, AreRanks}
 use Rattle.bind_order.specs.Inside.Given.{AreWithin}
-use Rattle.bind_order.specs.Orders.{leaf_rank, greatest_leaf, fitting, rank_of, ranks_of}
+use Rattle.bind_order.specs.Orders.{leaf_rank, greatest_leaf, fitting, rank_of, index_ranks, ranks_by_index, ranks_of}
 use Rattle.bind_order.proofs.ListFacts.{all_at, all_long}
 use Rattle.dim_weights.proofs.Nonzero.{counts-nonzero as nonzero}
 
@@ -132,3 +132,33 @@ ranks_hold d dim given ranks within is = record {
         by : (o : Option ℕ) → IfSome o (λ r. r ≤ greatest_rank) → unwrap_or o (greatest_leaf d given k) ≤ greatest_rank
         by (Some rank) low = low
         by None low = all_small (coef d k) (leaf_rank given) greatest_rank (range_with_len 0 n) (λ x some. small_leaf given within x)
+
+-- the ranks by index hold the leaves below them
+pub index_hold : (d : Outline) → IsDimension d → AreWithin (index_ranks d) → AreRanks d (ranks_by_index d)
+unfolding ranks_by_index
+index_hold d dim within = record {
+  each = length-map-range_with_len rank 0 n;
+  small = λ k x low. subst (λ r. r ≤ greatest_rank) (sym (at k x (omega (arith, low, length-map-range_with_len rank 0 n)))) (most k);
+  holds_leaves = λ element leaf here below counts.
+      let none = no_components d dim element leaf here counts in
+      let same : get_or (range_with_len 0 n) leaf 0 ≡ leaf = get_or-range_with_len 0 n leaf 0 below ∙ (omega arith) in
+      let held = counted (coef d element) (leaf_rank given) (range_with_len 0 n) leaf (omega (arith, below, length-range_with_len 0 n)) (λ z. counts (ap (coef d element) (sym same) ∙ z)) in
+      let inside : leaf_rank given leaf ≤ rank element = subst (λ x. leaf_rank given x ≤ rank element) same held in
+      let own : rank leaf ≤ leaf_rank given leaf = all_small (coef d leaf) (leaf_rank given) (leaf_rank given leaf) (range_with_len 0 n) (λ x some. subst (λ e. leaf_rank given e ≤ leaf_rank given leaf) (alone d dim leaf x below none some) (omega arith)) in
+      omega (arith, at element 0 here, at leaf 0 below, inside, own);
+}
+  where
+    n : ℕ
+    n = length d.elements
+
+    given : List (Option ℕ)
+    given = index_ranks d
+
+    rank : ℕ → ℕ
+    rank = greatest_leaf d given
+
+    at : (k x : ℕ) → k < n → get_or (map rank (range_with_len 0 n)) k x ≡ rank k
+    at k x low = get_or-map-range_with_len rank 0 n k k x low (omega arith)
+
+    most : (k : ℕ) → rank k ≤ greatest_rank
+    most k = all_small (coef d k) (leaf_rank given) greatest_rank (range_with_len 0 n) (λ x some. small_leaf given within x)

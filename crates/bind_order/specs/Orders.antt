@@ -38,7 +38,7 @@ abbrev pub listed_rank : Outline → List (List ℕ × ℕ) → ℕ → Option �
 listed_rank dimension list element =
     option_map (λ entry. entry.1) (find (λ entry. is_named dimension element entry.0) list)
 
--- the rank that a dimension without a list gives an element: to a leaf its index, counted from 1
+-- the rank that a dimension alone gives an element: to a leaf its index, counted from 1
 abbrev pub index_rank : Outline → ℕ → Option ℕ
 index_rank dimension element = if is_leaf dimension element then Some (element + 1) else None
 
@@ -70,6 +70,11 @@ rank_of dimension given element =
 -- the ranks of all elements
 unfoldable pub ranks_of : Outline → List (Option ℕ) → Option (List ℕ)
 ranks_of dimension given = all_of (map (rank_of dimension given) (range_with_len 0 (length dimension.elements)))
+
+-- the ranks of a dimension alone, by element: the greatest index, counted from 1, of a leaf that counts in the element
+unfoldable pub ranks_by_index : Outline → List ℕ
+ranks_by_index dimension =
+    map (greatest_leaf dimension (index_ranks dimension)) (range_with_len 0 (length dimension.elements))
 
 -- whether an element may be listed, where the entries before give it this rank: they don't list it, and in a text of
 -- version 1 it is a leaf
@@ -107,11 +112,12 @@ abbrev pub position_by : List Outline → (Outline → Option (List ℕ)) → �
 position_by dimensions ranks place =
     option_map (positions.Ranks place) (option_and_then ranks (slice_get dimensions place))
 
--- the position of a dimension alone, and of one with a list
-abbrev pub index_position : List Outline → Option ℕ → Option Position
+-- the position of the dimension at a place alone
+abbrev pub index_position : List Outline → ℕ → Position
 index_position dimensions place =
-    option_and_then (position_by dimensions (λ dimension. ranks_of dimension (index_ranks dimension))) place
+    positions.Ranks place (option_map_or ranks_by_index (slice_get dimensions place) [])
 
+-- the position of a dimension with a list
 abbrev pub list_position : List Outline → ℕ → List (List ℕ × ℕ) → Option ℕ → Option Position
 list_position dimensions version list place = option_and_then (position_by dimensions (list_ranks version list)) place
 
@@ -120,9 +126,10 @@ abbrev pub position_of : Layout → ℕ → ℕ → OrderWord → Option Positio
 position_of space cube version (words.Constant number) =
     if nat_le number most_written then Some (positions.Constant number) else None
 position_of space cube version (words.Index name) =
-    index_position (axes space cube) (axis_called (axes space cube) name)
+    option_map (index_position (axes space cube)) (axis_called (axes space cube) name)
 position_of space cube version (words.Ranks name list) =
     list_position (axes space cube) version list (axis_called (axes space cube) name)
+position_of space cube version (words.Auto lag) = None
 
 -- the order that a line means; None where it has too many positions or a bad one
 abbrev pub order_of : Layout → ℕ → OrderLine → Option Order

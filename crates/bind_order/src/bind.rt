@@ -1,7 +1,8 @@
-ghost use Rattle.std.specs.Prelude.{◌≡◌, ◌<◌, All, length, map, IfOk, IfSome};
+ghost use Rattle.std.specs.Prelude.{◌≡◌, ◌<◌, All, false, length, map, IfOk, IfSome};
 ghost use Rattle.cube_space.specs.Layout.{axes};
 ghost use Rattle.rule_model.specs.Conditions.{IsPosition, IsOrderOf};
 ghost use Rattle.rule_model.specs.Weights.{AreWeightsOf};
+ghost use Rattle.model_text.specs.Orders.{has_auto};
 ghost use Rattle.bind_order.specs.Orders.{position_of, order_of, all_of, IsAnsweredBy};
 
 use crate::fault::BindOrderFault;
@@ -41,7 +42,7 @@ fn positions(
     Ok(Some(ListOf::new(positions)))
 }
 
-/// The order that the order line of a cube means. The weights are those of the space's dimensions, place by place.
+/// The order that the order line of a cube means, which isn't to be found. The weights are those of the space's dimensions, place by place.
 pub fn bind_order(
     alloc: Global,
     space: &Space,
@@ -51,6 +52,7 @@ pub fn bind_order(
 ) -> Result<Order, BindOrderFault>
     requires cube { cube < length space.now.cubes }
     requires weights { AreWeightsOf space.now.dimensions weights.now }
+    requires positions { has_auto line.now.words ≡ false }
     ensures bound { IsAnsweredBy (order_of space.now cube line.now) cube result }
     ensures valid { IfOk result (IsOrderOf space.now cube) }
 {

@@ -7,7 +7,8 @@ pub enum BindOrderFault {
     /// that isn't in the dimension, it lists an element twice or, in a text of version 1, a consolidated element, a
     /// listed rank is smaller than that of a leaf which counts in the element, or the line writes a constant or a rank
     /// above 65,535. Where a dimension stands alone, a leaf's rank is its index, which counts from 1; an index is never
-    /// bad, whatever its size.
+    /// bad, whatever its size. Of a line for an order that is found: it has positions, or it names a dimension that
+    /// isn't the cube's or is its last.
     BadOrder(u32),
     /// Out of memory. It may come in place of any answer.
     Memory,

@@ -1,15 +1,17 @@
 //! Binding of order lines: the declared order of a cube that an `ORDER` line of a model text means.
 //!
-//! Read in this order: [`bind_order`]; [`BindOrderFault`], why a line means no order. `specs/Orders.antt` says
-//! what lines mean.
+//! Read in this order: [`bind_order`]; [`BindOrderFault`], why a line means no order; [`auto_lag`] and [`lag_order`],
+//! what a line for an order that is found means. `specs/Orders.antt` and `specs/Lags.antt` say what lines mean.
 #![tactic(auto)]
 
 pub use bind::bind_order;
 pub use fault::BindOrderFault;
+pub use lag::{auto_lag, lag_order};
 
 mod axes;
 mod bind;
 mod fault;
+mod lag;
 mod listed;
 mod ranks;
 mod word;

@@ -4,9 +4,10 @@ ghost use Rattle.std.specs.List.{range_with_len};
 ghost use Rattle.dim_weights.specs.Table.{IsWeightsOf};
 ghost use Rattle.rule_model.specs.Order.{greatest};
 ghost use Rattle.rule_model.specs.Conditions.{AreRanks};
-ghost use Rattle.bind_order.specs.Orders.{leaf_rank, fitting, rank_of, ranks_of};
+ghost use Rattle.bind_order.specs.Orders.{leaf_rank, greatest_leaf, fitting, rank_of, ranks_by_index, ranks_of};
 ghost use Rattle.bind_order.specs.Inside.Given.{AreWithin};
 
+use crate::listed::index_ranks;
 use dim_core::Dimension;
 use dim_weights::Weights;
 use lists::ListOf;
@@ -60,11 +61,44 @@ fn rank_of(
     requires within { element < length dimension.now.elements }
     ensures { result ≡ rank_of dimension.now given.now element }
 {
-    let least = greatest_leaf(given, weights.leaves(element));
+    let least = greatest_counted(dimension, weights, given, element);
     match given[element as usize] {
         Some(rank) => fitting(least, rank),
         None => fitting(least, least),
     }
+}
+
+/// The ranks that a dimension alone gives: the greatest index, which counts from 1, of a leaf that counts in an element.
+pub fn ranks_by_index(
+    alloc: Global,
+    dimension: &Dimension,
+    weights: &Weights,
+) -> Result<ListOf<u32>, AllocError>
+    requires { IsWeightsOf dimension.now weights.now }
+    ensures bound { IfOk result (λ ranks. ranks ≡ ranks_by_index dimension.now) }
+    ensures valid { IfOk result (AreRanks dimension.now) }
+{
+    let given = index_ranks(alloc, dimension)?;
+    let mut ranks = Vec::new(alloc);
+    for element in 0..dimension.len() {
+        ranks.push(greatest_counted(dimension, weights, &given, element))?;
+    }
+    Ok(ListOf::new(ranks))
+}
+
+// The greatest rank of the leaves that count in an element.
+fn greatest_counted(
+    dimension: &Dimension,
+    weights: &Weights,
+    given: &[Option<u32>],
+    element: u32,
+) -> u32
+    requires weights { IsWeightsOf dimension.now weights.now }
+    requires whole { length given.now ≡ length dimension.now.elements }
+    requires within { element < length dimension.now.elements }
+    ensures { result ≡ greatest_leaf dimension.now given.now element }
+{
+    greatest_leaf(given, weights.leaves(element))
 }
 
 /// The ranks of all elements, or None where one doesn't fit.

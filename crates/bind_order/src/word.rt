@@ -8,8 +8,8 @@ ghost use Rattle.cube_space.specs.Axes.{axis_called};
 ghost use Rattle.bind_order.specs.Orders.{position_of, index_position, list_position, list_ranks};
 
 use crate::axes::axis_weights;
-use crate::listed::{MAX_WRITTEN, are_writable, index_ranks, listed_ranks};
-use crate::ranks::ranks_of;
+use crate::listed::{MAX_WRITTEN, are_writable, listed_ranks};
+use crate::ranks::{ranks_by_index, ranks_of};
 use cube_space::{Space, axis, axis_called};
 use dim_core::Dimension;
 use dim_name::Name;
@@ -29,8 +29,28 @@ fn position_by(place: u32, ranks: Option<ListOf<u32>>) -> Option<Position>
     }
 }
 
+/// The position by the index of the elements of the dimension of a cube at a place.
+pub fn index_position(
+    alloc: Global,
+    space: &Space,
+    weights: &[Weights],
+    cube: u32,
+    place: u32,
+) -> Result<Position, AllocError>
+    requires cube { cube < length space.now.cubes }
+    requires weights { AreWeightsOf space.now.dimensions weights.now }
+    requires place { place < length (axes space.now cube) }
+    ensures bound { IfOk result (λ position. position ≡ index_position (axes space.now cube) place) }
+    ensures valid { IfOk result (IsPosition (axes space.now cube)) }
+{
+    let dimension = axis(space, cube, place);
+    let weights = axis_weights(space, weights, cube, place);
+    let ranks = ranks_by_index(alloc, dimension, weights)?;
+    Ok(Position::Ranks { dim: place, ranks })
+}
+
 // The position that a dimension alone means.
-fn index_position(
+fn named_position(
     alloc: Global,
     space: &Space,
     weights: &[Weights],
@@ -39,17 +59,14 @@ fn index_position(
 ) -> Result<Option<Position>, AllocError>
     requires cube { cube < length space.now.cubes }
     requires weights { AreWeightsOf space.now.dimensions weights.now }
-    ensures bound { IfOk result (λ found. found ≡ index_position (axes space.now cube)
+    ensures bound { IfOk result (λ found. found ≡ option_map (index_position (axes space.now cube))
         (axis_called (axes space.now cube) name.now)) }
     ensures valid { IfOk result (λ found. IfSome found (IsPosition (axes space.now cube))) }
 {
     match axis_called(space, cube, name) {
         Some(place) => {
-            let dimension = axis(space, cube, place);
-            let given = index_ranks(alloc, dimension)?;
-            let weights = axis_weights(space, weights, cube, place);
-            let ranks = ranks_of(alloc, dimension, weights, &given)?;
-            Ok(position_by(place, ranks))
+            let position = index_position(alloc, space, weights, cube, place)?;
+            Ok(Some(position))
         }
         None => Ok(None),
     }
@@ -125,9 +142,10 @@ pub fn position_of(
                 Ok(None)
             }
         }
-        OrderWord::Index(name) => index_position(alloc, space, weights, cube, name),
+        OrderWord::Index(name) => named_position(alloc, space, weights, cube, name),
         OrderWord::Ranks(name, list) => {
             list_position(alloc, space, weights, cube, version, name, list.as_slice())
         }
+        OrderWord::Auto(_) => Ok(None),
     }
 }

@@ -1,7 +1,8 @@
 -- What is read of cubes and scripts can be written as tokens again.
-use Rattle.std.proofs.Common.{◌≡◌, ◌<◌, ◌^◌, ℕ, List, ◌∷◌, length, true, Ok, Option, Some, None, IfSome, sym, ap, ◌∙◌, subst, ◌&&◌, arith}
+use Rattle.std.proofs.Common.{◌≡◌, ◌<◌, ◌^◌, ℕ, List, [], ◌∷◌, length, true, false, Ok, refl, Option, Some, None, IfSome, sym, ap, ◌∙◌, subst, ◌&&◌, arith}
 use Rattle.std.proofs.lemmas.Bool.{ltb-true}
-use Rattle.std.proofs.lemmas.List.Elements.{All-cons}
+use Rattle.std.proofs.lemmas.List.Elements.{All-nil, All-cons}
+use Rattle.std.proofs.lemmas.List.Folds.{list_any_none}
 use Rattle.std.specs.List.{All, list_all}
 use Rattle.std.specs.Char.{is_ascii_digit}
 use Rattle.std.specs.Str.Parse.{digits_value}
@@ -20,10 +21,12 @@ use Rattle.grammar.proofs.Top.{read_told}
 use Rattle.dim_text.proofs.Quotable.{text_quotable, name_quotable}
 use Rattle.model_text.specs.Gathering.{order_of}
 use Rattle.model_text.specs.Readers.Reading.{Plain, read_naming, read_script_file, read_cube_end}
-use Rattle.model_text.specs.Statement.{Piece, QuotedText, CubeEnd, naming, script_file, rules, rank, rank_list, position, position_list, order, cube_end}
+use Rattle.model_text.specs.Statement.{Piece, QuotedText, CubeEnd, naming, script_file, rules, rank, rank_list, position, position_list, lag, order_words, order, cube_end}
+use Rattle.model_text.specs.Orders.{is_auto}
 use Rattle.model_text.specs.Writable.{IsNameText, IsFileText, IsWritableRank, IsWritableWord, IsWritableOrder}
 use Rattle.model_text.specs.declared.fault.ModelTextFault.{ModelTextFault}
 use Rattle.model_text.specs.declared.order.OrderWord.{OrderWord}
+use Rattle.model_text.specs.declared.order.OrderWord.TheVariants as words
 use Rattle.model_text.proofs.ModelExact.{file_is_text}
 use Rattle.model_text.proofs.PieceExact.{free, located_is, naming_exact, script_file_exact, cube_end_exact}
 
@@ -67,15 +70,39 @@ some_more first rest = omega arith
 rank_list_kept : Keeps rank_list (λ list. (0 < length list) × All IsWritableRank list)
 rank_list_kept = keeps_both rank_kept (λ first is. keeps_both (keeps_many (keeps_both keeps_any (λ _ _. rank_kept))) (λ rest all. keeps_done (some_more first rest, All-cons IsWritableRank first rest is all)))
 
-position_kept : Keeps position IsWritableWord
-position_kept = keeps_either (keeps_both whole_kept (λ n small. keeps_done small))
-    (keeps_both name_kept (λ shown is. keeps_either (keeps_both keeps_any (λ _ _. keeps_both rank_list_kept (λ list all. keeps_both keeps_any (λ _ _. keeps_done (is, all.0, all.1))))) (keeps_done is)))
+-- a word that is a position
+abbrev IsWritablePosition : OrderWord → Type 0
+IsWritablePosition p = IsWritableWord p × (is_auto p ≡ false)
 
-position_list_kept : Keeps position_list (λ list. (0 < length list) × All IsWritableWord list)
-position_list_kept = keeps_both position_kept (λ first is. keeps_both (keeps_many (keeps_both keeps_any (λ _ _. position_kept))) (λ rest all. keeps_done (some_more first rest, All-cons IsWritableWord first rest is all)))
+position_kept : Keeps position IsWritablePosition
+position_kept = keeps_either (keeps_both whole_kept (λ n small. keeps_done (small, refl)))
+    (keeps_both name_kept (λ shown is. keeps_either (keeps_both keeps_any (λ _ _. keeps_both rank_list_kept (λ list all. keeps_both keeps_any (λ _ _. keeps_done ((is, all.0, all.1), refl))))) (keeps_done (is, refl))))
+
+positions_writable : (first : OrderWord) (rest : List OrderWord) → All IsWritablePosition (first ∷ rest) → IsWritableOrder (first ∷ rest)
+positions_writable first rest all = record {
+  some = some_more first rest;
+  each = λ k d here. (all k d here).0;
+  auto_alone = λ has. absurd (let e : false ≡ true = sym (list_any_none is_auto (first ∷ rest) (λ k d here. (all k d here).1)) ∙ has in cc e);
+}
+
+position_list_kept : Keeps position_list IsWritableOrder
+position_list_kept = keeps_both position_kept (λ first is. keeps_both (keeps_many (keeps_both keeps_any (λ _ _. position_kept))) (λ rest all. keeps_done (positions_writable first rest (All-cons IsWritablePosition first rest is all))))
+
+lag_kept : Keeps lag (λ l. IfSome l IsNameText)
+lag_kept = keeps_either (keeps_both name_kept (λ shown is. keeps_done is)) (keeps_done tt)
+
+auto_writable : (l : Option (List ℕ)) → IfSome l IsNameText → IsWritableOrder (words.Auto l ∷ [])
+auto_writable l is = record {
+  some = some_more (words.Auto l) [];
+  each = All-cons IsWritableWord (words.Auto l) [] is (All-nil IsWritableWord);
+  auto_alone = λ _. refl;
+}
+
+order_words_kept : Keeps order_words IsWritableOrder
+order_words_kept = keeps_either (keeps_both keeps_any (λ _ _. keeps_both lag_kept (λ l is. keeps_done (auto_writable l is)))) position_list_kept
 
 order_kept : Keeps order (λ o. IfSome o (λ x. IsWritableOrder x.1))
-order_kept = keeps_either (keeps_both keeps_any (λ line _. keeps_both position_list_kept (λ list is. keeps_both keeps_any (λ _ _. keeps_done is)))) (keeps_done tt)
+order_kept = keeps_either (keeps_both keeps_any (λ line _. keeps_both order_words_kept (λ list is. keeps_both keeps_any (λ _ _. keeps_done is)))) (keeps_done tt)
 
 abbrev IsWritableEnd : Piece → Type 0
 IsWritableEnd (CubeEnd r o) = IfSome r (λ x. IsFileText x.1) × IfSome o (λ x. IsWritableOrder x.1)

@@ -5,23 +5,23 @@ use Rattle.cube_lex.specs.Lexeme.{Lexeme}
 use Rattle.cube_lex.specs.declared.token.Kind.{Kind}
 use Rattle.cube_lex.specs.declared.token.Kind.TheVariants as kinds
 use Rattle.cube_lex.specs.Quoted.{unquoted}
-use Rattle.grammar.specs.Grammar.{one, done}
+use Rattle.grammar.specs.Grammar.{Grammar, one, both, done}
 use Rattle.grammar.specs.Watch.{Watch, unwatched, unscanned}
 use Rattle.grammar.specs.Reading.{take_one, both_of, gives}
 use Rattle.grammar.specs.Lists.{read_listed}
-use Rattle.grammar.proofs.Lists.{listed_exact, listed_whole_exact, behind_list}
-use Rattle.grammar.specs.Tokens.{sign, word, whole, name, file, located, is_sign, is_word, is_number, is_text_kind, is_number_kind, is_whole}
+use Rattle.grammar.proofs.Lists.{BehindList, listed_exact, listed_whole_exact, behind_list}
+use Rattle.grammar.specs.Tokens.{sign, word, whole, name, file, located, is_sign, is_word, is_number, is_text, is_text_kind, is_number_kind, is_whole}
 use Rattle.grammar.specs.declared.cursor.Unwatched.{Unwatched}
 use Rattle.dim_name.specs.Name.{is_name}
 use Rattle.std.specs.Str.Parse.{digits_value}
-use Rattle.grammar.proofs.Exact.{Exact, Always, Not, exact_one, exact_gives, exact_then, exact_both, exact_before}
-use Rattle.grammar.proofs.Begins.{Begins, begins_one, begins_both, begins_behind, exact_or, exact_option, exact_before_next}
-use Rattle.grammar.proofs.Tokens.{IsValue, exact_sign, exact_word, exact_name, exact_whole_number, exact_file, sign_begins, word_begins, when_picks, and_is, sample_of, one_ascii}
+use Rattle.grammar.proofs.Exact.{Exact, Always, Not, exact_one, exact_gives, exact_then, exact_both, exact_made, exact_choose, exact_before}
+use Rattle.grammar.proofs.Begins.{Begins, begins_one, begins_both, begins_either, begins_behind, starts_text, exact_or, exact_option, exact_before_next}
+use Rattle.grammar.proofs.Tokens.{IsValue, name_is_value, whole_is_value, value_no_word, sign_no_text, exact_sign, exact_word, exact_name, exact_whole_number, exact_file, sign_begins, word_begins, when_picks, and_is, sample_of, one_ascii}
 use Rattle.model_text.specs.declared.fault.ModelTextFault.{ModelTextFault}
 use Rattle.model_text.specs.declared.order.OrderWord.{OrderWord}
 use Rattle.model_text.specs.declared.order.OrderWord.TheVariants as words
-use Rattle.model_text.specs.Statement.{Version, Closing, DimensionWord, CubeWord, ScriptWord, QuotedText, CubeDimension, CubeEnd, version, closing, dimension_word, cube_word, script_word, naming, script_file, dimension_behind, rule_file, rules, rank, ranks, position, order_line, order, cube_end}
-use Rattle.model_text.specs.Readers.Reading.{read_version, read_closing, read_dimension_word, read_cube_word, read_script_word, read_naming, read_script_file, read_dimension_behind, read_rules, read_rank, read_ranks, read_position, read_order, read_cube_end}
+use Rattle.model_text.specs.Statement.{Version, Closing, DimensionWord, CubeWord, ScriptWord, QuotedText, CubeDimension, CubeEnd, version, closing, dimension_word, cube_word, script_word, naming, script_file, dimension_behind, rule_file, rules, rank, ranks, position, position_list, lag, auto, order_words, order_line, order, cube_end}
+use Rattle.model_text.specs.Readers.Reading.{read_version, read_closing, read_dimension_word, read_cube_word, read_script_word, read_naming, read_script_file, read_dimension_behind, read_rules, read_rank, read_ranks, read_position, read_lag, read_auto, read_order_words, read_order, read_cube_end}
 pub use Rattle.lists.proofs.Found.{mapped}
 
 -- nothing watches the parts of a piece
@@ -120,10 +120,50 @@ position_exact = exact_or is_number (begins_both whole_begins) (begins_both name
     (exact_before (λ _ _. tt) (exact_then (exact_whole_number unscanned) (λ n. exact_gives free (words.Constant n))))
     (exact_then (exact_name unscanned) (λ shown. ranks_exact shown))
 
-order_line_exact : Exact free order_line order_line (both_of (take_one unscanned (word (codes "ORDER"))) (λ line. both_of (read_listed unscanned read_position) (λ list. both_of (take_one unscanned (sign (codes ";"))) (λ _. gives (Some (line, list)))))) Always
-order_line_exact = exact_then (exact_word unscanned (codes "ORDER")) (λ line. exact_both (listed_exact (is_sign (codes "(")) (sign_begins (codes ",") (codes "(")) position_exact)
+name_is_text : Begins (one name) is_text true
+name_is_text = begins_one name is_text true (λ t shown e. (and_is (is_text_kind t.kind) (is_name (unquoted t.piece)) (when_picks (λ t. is_text_kind t.kind && is_name (unquoted t.piece)) (λ t. unquoted t.piece) t shown e).0).0)
+
+lag_exact : Exact free lag lag read_lag (Not is_text)
+unfolding read_lag
+lag_exact = exact_option is_text None (begins_both name_is_text) (exact_then (exact_name unscanned) (λ shown. exact_gives free (Some shown)))
+
+auto_exact : Exact free auto auto read_auto (Not is_text)
+unfolding read_auto
+auto_exact = exact_then (exact_word unscanned (codes "AUTO")) (λ _. exact_made (λ shown. words.Auto shown ∷ []) lag_exact)
+
+-- what may stand behind the words of an order line
+record BehindWords (rest : List Lexeme) : Type 0 where
+  lag : Not is_text rest
+  list : BehindList (is_sign (codes "(")) rest
+
+position_begins : Begins position (is_word (codes "AUTO")) false
+position_begins = begins_either (begins_both (value_no_word whole_is_value (codes "AUTO"))) (begins_both (value_no_word name_is_value (codes "AUTO")))
+
+position_list_begins : Begins position_list (is_word (codes "AUTO")) false
+position_list_begins = begins_both position_begins
+
+auto_begins : Begins auto (is_word (codes "AUTO")) true
+auto_begins = begins_both (word_begins (codes "AUTO") (codes "AUTO"))
+
+order_words_exact : Exact free order_words order_words read_order_words BehindWords
+unfolding read_order_words
+order_words_exact = exact_choose (is_word (codes "AUTO")) auto_exact (listed_exact (is_sign (codes "(")) (sign_begins (codes ",") (codes "(")) position_exact)
+    (λ u a rest h stops. (starts_text auto_begins u a rest h, stops.lag))
+    (λ u a rest h stops. (starts_text position_list_begins u a rest h, stops.list))
+
+abbrev line_end : Option (ℕ × List OrderWord) → Grammar Lexeme (Option (ℕ × List OrderWord))
+line_end o = both (one (sign (codes ";"))) (λ _. done o)
+
+line_end_begins : (o : Option (ℕ × List OrderWord)) → Begins (line_end o) is_text false
+line_end_begins o = begins_both (sign_no_text (codes ";"))
+
+order_line_exact : Exact free order_line order_line (both_of (take_one unscanned (word (codes "ORDER"))) (λ line. both_of read_order_words (λ list. both_of (take_one unscanned (sign (codes ";"))) (λ _. gives (Some (line, list)))))) Always
+order_line_exact = exact_then (exact_word unscanned (codes "ORDER")) (λ line. exact_both order_words_exact
     (λ list. exact_then (exact_sign unscanned (codes ";")) (λ _. exact_gives free (Some (line, list))))
-    (λ list v b rest l _. behind_list (codes ";") (done (Some (line, list))) (is_sign (codes "(")) (sign_begins (codes ";") (codes "(")) refl v b rest l))
+    (λ list v b rest l _. record {
+      lag = starts_text (line_end_begins (Some (line, list))) v b rest l;
+      list = behind_list (codes ";") (done (Some (line, list))) (is_sign (codes "(")) (sign_begins (codes ";") (codes "(")) refl v b rest l;
+    }))
 
 order_exact : Exact free order order read_order (Not (is_word (codes "ORDER")))
 unfolding read_order

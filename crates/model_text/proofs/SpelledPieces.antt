@@ -1,6 +1,6 @@
 -- Each piece as it is written is read as that piece again, on its new line.
-use Rattle.std.proofs.Common.{◌≡◌, ◌<◌, ◌^◌, ℕ, List, [], ◌∷◌, ◌++◌, true, Option, Some, None, option_map, IfSome, ◌&&◌, refl, ap, ◌∙◌, length, codes, IsTrue, arith}
-use Rattle.std.proofs.lemmas.List.Elements.{All-head, All-tail}
+use Rattle.std.proofs.Common.{◌≡◌, ◌<◌, ◌^◌, ℕ, List, [], ◌∷◌, ◌++◌, true, Option, Some, None, option_map, IfSome, ◌&&◌, refl, ap, ◌∙◌, length, codes, IsTrue, Bool, false, arith}
+use Rattle.std.proofs.lemmas.List.Elements.{All-nil, All-cons, All-head, All-tail}
 use Rattle.std.specs.List.{All, AllZip, flat_map}
 use Rattle.cube_lex.specs.Lexeme.{Lexeme}
 use Rattle.cube_lex.specs.Quoted.{unquoted}
@@ -14,12 +14,13 @@ use Rattle.grammar.proofs.Spells.{Spells, Picks, spells_done, spells_next, spell
 use Rattle.dim_text.proofs.SpelledStatements.{picks_word, picks_sign, picks_name, picks_whole}
 use Rattle.grammar.specs.Lists.{next}
 use Rattle.model_text.specs.Spelled.{dimension_spelled, rules_spelled, rank_spelled, next_rank_spelled, ranks_spelled, position_spelled, next_position_spelled, positions_spelled, order_spelled, ending_spelled, cube_end_spelled}
-use Rattle.model_text.specs.Statement.{Piece, Version, Closing, DimensionWord, CubeWord, ScriptWord, QuotedText, CubeDimension, CubeEnd, version, closing, dimension_word, cube_word, script_word, naming, script_file, dimension_behind, rules, rank, rank_list, in_parentheses, position, position_list, order, cube_end}
-use Rattle.model_text.specs.Writable.{IsFileText, IsWritableRank, IsWritableWord, IsWritableOrder}
+use Rattle.model_text.specs.Statement.{Piece, Version, Closing, DimensionWord, CubeWord, ScriptWord, QuotedText, CubeDimension, CubeEnd, version, closing, dimension_word, cube_word, script_word, naming, script_file, dimension_behind, rules, rank, rank_list, in_parentheses, position, position_list, auto, order_words, order, cube_end}
+use Rattle.model_text.specs.Orders.{is_auto, has_auto}
+use Rattle.model_text.specs.Writable.{IsNameText, IsFileText, IsWritableRank, IsWritableWord, IsWritableOrder}
 use Rattle.model_text.specs.declared.order.OrderLine.{OrderLine}
 use Rattle.model_text.specs.declared.order.OrderWord.{OrderWord}
 use Rattle.model_text.specs.declared.order.OrderWord.TheVariants as words
-use Rattle.std.proofs.lemmas.Bool.{and_from as and_both, cond-true}
+use Rattle.std.proofs.lemmas.Bool.{and_from as and_both, or_parts, cond-true}
 
 -- One token.
 
@@ -101,27 +102,61 @@ listed_spells : (shown head : List ℕ) (list : List (List ℕ × ℕ)) → head
 listed_spells shown head list same some all = spells_next (picks_sign (codes "(")) (λ _ _. spells_both {xs = ranks_spelled list} {ys = sign_token (codes ")") ∷ []} (rank_list_spells list some all)
     (λ more equal. spells_next (picks_sign (codes ")")) (λ _ _. spells_done (words.Ranks head more) (ap (λ x. words.Ranks x more) same ∙ ap (words.Ranks shown) equal))))
 
-position_spells : (p : OrderWord) → IsWritableWord p → Spells position (position_spelled p) (λ x. x ≡ p)
-position_spells (words.Constant n) is = spells_left (spells_next (picks_whole n is) (λ m same. spells_done (words.Constant m) (ap words.Constant same)))
-position_spells (words.Index shown) is = spells_right (spells_next (picks_name shown is.0) (λ head same. spells_right (spells_done (words.Index head) (ap words.Index same))))
-position_spells (words.Ranks shown list) is = spells_right (spells_next (picks_name shown is.0.0) (λ head same. spells_left (listed_spells shown head list same is.1 is.2)))
+-- a word that is a position
+abbrev IsWritablePosition : OrderWord → Type 0
+IsWritablePosition p = IsWritableWord p × (is_auto p ≡ false)
 
-next_position_spells : (p : OrderWord) → IsWritableWord p → Spells (next position) (next_position_spelled p) (λ x. x ≡ p)
+position_spells : (p : OrderWord) → IsWritablePosition p → Spells position (position_spelled p) (λ x. x ≡ p)
+position_spells (words.Constant n) (is, none) = spells_left (spells_next (picks_whole n is) (λ m same. spells_done (words.Constant m) (ap words.Constant same)))
+position_spells (words.Index shown) (is, none) = spells_right (spells_next (picks_name shown is.0) (λ head same. spells_right (spells_done (words.Index head) (ap words.Index same))))
+position_spells (words.Ranks shown list) (is, none) = spells_right (spells_next (picks_name shown is.0.0) (λ head same. spells_left (listed_spells shown head list same is.1 is.2)))
+position_spells (words.Auto lag) (is, none) = cc
+
+next_position_spells : (p : OrderWord) → IsWritablePosition p → Spells (next position) (next_position_spelled p) (λ x. x ≡ p)
 next_position_spells p is = spells_next (picks_sign (codes ",")) (λ _ _. position_spells p is)
 
-position_list_spells : (list : List OrderWord) → 0 < length list → All IsWritableWord list → Spells position_list (positions_spelled list) (λ x. x ≡ list)
+position_list_spells : (list : List OrderWord) → 0 < length list → All IsWritablePosition list → Spells position_list (positions_spelled list) (λ x. x ≡ list)
 position_list_spells [] some all = absurd (omega (arith, some))
-position_list_spells (first ∷ rest) some all = spells_both {xs = position_spelled first} {ys = flat_map next_position_spelled rest} (position_spells first (All-head IsWritableWord first rest all))
-    (λ head same. spells_made (λ more. head ∷ more) (spells_many next_position_spelled IsWritableWord (λ p x. x ≡ p) next_position_spells rest (All-tail IsWritableWord first rest all))
+position_list_spells (first ∷ rest) some all = spells_both {xs = position_spelled first} {ys = flat_map next_position_spelled rest} (position_spells first (All-head IsWritablePosition first rest all))
+    (λ head same. spells_made (λ more. head ∷ more) (spells_many next_position_spelled IsWritablePosition (λ p x. x ≡ p) next_position_spells rest (All-tail IsWritablePosition first rest all))
     (λ more zip. ap (λ x. x ∷ more) same ∙ ap (λ xs. first ∷ xs) (same_list rest more zip)))
 
--- the positions of this order line, whatever the line of its word
+-- where no word is `AUTO`, they are positions
+are_positions : (list : List OrderWord) → All IsWritableWord list → has_auto list ≡ false → All IsWritablePosition list
+are_positions [] all none = All-nil IsWritablePosition
+are_positions (x ∷ rest) all none =
+    let (first, others) = or_parts (is_auto x) (has_auto rest) none in
+    All-cons IsWritablePosition x rest (All-head IsWritableWord x rest all, first) (are_positions rest (All-tail IsWritableWord x rest all) others)
+
+auto_spells : (lag : Option (List ℕ)) → IfSome lag IsNameText → Spells auto (position_spelled (words.Auto lag)) (λ x. x ≡ words.Auto lag ∷ [])
+auto_spells None is = spells_next (picks_word (codes "AUTO")) (λ _ _. spells_made (λ l. words.Auto l ∷ []) (spells_right (spells_done None refl)) (λ l same. ap (λ m. words.Auto m ∷ []) same))
+auto_spells (Some shown) is = spells_next (picks_word (codes "AUTO")) (λ _ _. spells_made (λ l. words.Auto l ∷ []) (spells_left (spells_next (picks_name shown is.0) (λ head same. spells_done (Some head) (ap (λ x. Some x) same))))
+    (λ l same. ap (λ m. words.Auto m ∷ []) same))
+
+-- `AUTO`, the only word of its line
+alone_spells : (list : List OrderWord) → has_auto list ≡ true → length list ≡ 1 → All IsWritableWord list → Spells auto (positions_spelled list) (λ x. x ≡ list)
+alone_spells [] has one all = absurd (omega (arith, one))
+alone_spells (x ∷ y ∷ rest) has one all = absurd (omega (arith, one))
+alone_spells (words.Constant n ∷ []) has one all = cc
+alone_spells (words.Index shown ∷ []) has one all = cc
+alone_spells (words.Ranks shown list ∷ []) has one all = cc
+alone_spells (words.Auto None ∷ []) has one all = auto_spells None tt
+alone_spells (words.Auto (Some shown) ∷ []) has one all = auto_spells (Some shown) (All-head IsWritableWord (words.Auto (Some shown)) [] all)
+
+order_words_spells : (list : List OrderWord) → IsWritableOrder list → Spells order_words (positions_spelled list) (λ x. x ≡ list)
+order_words_spells list is = by (has_auto list) refl
+  where
+    by : (b : Bool) → has_auto list ≡ b → Spells order_words (positions_spelled list) (λ x. x ≡ list)
+    by true has = spells_left (alone_spells list has (is.auto_alone has) is.each)
+    by false none = spells_right (position_list_spells list is.some (are_positions list is.each none))
+
+-- the words of this order line, whatever the line of its first word
 abbrev pub HasPositions : Option (ℕ × OrderLine) → Option (ℕ × List OrderWord) → Type 0
 HasPositions o again = option_map (λ a. a.1) again ≡ option_map (λ a. a.1.words) o
 
 order_spells : (o : Option (ℕ × OrderLine)) → IfSome o (λ x. IsWritableOrder x.1.words) → Spells order (order_spelled o) (HasPositions o)
 order_spells None is = spells_right (spells_done None refl)
-order_spells (Some o) is = spells_left (spells_next (picks_word (codes "ORDER")) (λ line _. spells_both {xs = positions_spelled o.1.words} {ys = sign_token (codes ";") ∷ []} (position_list_spells o.1.words is.0 is.1)
+order_spells (Some o) is = spells_left (spells_next (picks_word (codes "ORDER")) (λ line _. spells_both {xs = positions_spelled o.1.words} {ys = sign_token (codes ";") ∷ []} (order_words_spells o.1.words is)
     (λ list same. spells_next (picks_sign (codes ";")) (λ _ _. spells_done (Some (line, list)) (ap (λ x. Some x) same)))))
 
 -- The end of a cube.

@@ -100,7 +100,7 @@ with_cube parts cube = record parts { cubes = parts.cubes ++ cube ∷ [] }
 abbrev pub with_script : Parts → ScriptText → Parts
 with_script parts script = record parts { scripts = parts.scripts ++ script ∷ [] }
 
--- an order line with these positions, in a text of this version
+-- an order line with these words, in a text of this version
 abbrev pub order_of : ℕ → Option (ℕ × List OrderWord) → Option (ℕ × OrderLine)
 order_of version None = None
 order_of version (Some order) = Some (order.0, record { version = version; words = order.1 })

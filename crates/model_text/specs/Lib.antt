@@ -1,3 +1,4 @@
+pub mod Orders
 pub mod Writable
 pub mod Contents
 pub mod Statement

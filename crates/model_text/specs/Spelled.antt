@@ -58,6 +58,8 @@ position_spelled (words.Constant n) = whole_token n ∷ []
 position_spelled (words.Index shown) = text_token shown ∷ []
 position_spelled (words.Ranks shown list) =
     text_token shown ∷ sign_token (codes "(") ∷ (ranks_spelled list ++ sign_token (codes ")") ∷ [])
+position_spelled (words.Auto None) = word_token (codes "AUTO") ∷ []
+position_spelled (words.Auto (Some shown)) = word_token (codes "AUTO") ∷ text_token shown ∷ []
 
 abbrev pub next_position_spelled : OrderWord → List Spelling
 next_position_spelled position = sign_token (codes ",") ∷ position_spelled position

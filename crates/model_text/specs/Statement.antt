@@ -1,5 +1,5 @@
 -- The grammar of a model text. Its pieces are those by which it is watched: each ends where something may be refused.
-use Rattle.std.specs.Prelude.{ℕ, List, Option, Some, None, codes}
+use Rattle.std.specs.Prelude.{ℕ, List, [], ◌∷◌, Option, Some, None, codes}
 use Rattle.cube_lex.specs.Lexeme.{Lexeme}
 use Rattle.grammar.specs.Grammar.{Grammar, done, one, either, many, ◌>>=◌, ◌>>◌}
 use Rattle.grammar.specs.Lists.{listed}
@@ -21,7 +21,7 @@ pub data Piece : Type 0 where
   QuotedText : ℕ → List ℕ → Piece
   -- the name of one more dimension of a cube, with its line
   CubeDimension : ℕ → List ℕ → Piece
-  -- the rest of a cube: its rule file and the positions of its order line, each with the line of its word
+  -- the rest of a cube: its rule file and the words of its order line, each with the line of its first word
   CubeEnd : Option (ℕ × List ℕ) → Option (ℕ × List OrderWord) → Piece
 
 -- "MODEL" whole
@@ -130,19 +130,40 @@ position = either constant index
 abbrev pub position_list : Grammar Lexeme (List OrderWord)
 position_list = listed position position
 
--- "ORDER" position { "," position } ";"
+-- name
+abbrev pub lag_name : Grammar Lexeme (Option (List ℕ))
+lag_name = do
+  shown ← one name
+  done (Some shown)
+
+-- [ name ]
+abbrev pub lag : Grammar Lexeme (Option (List ℕ))
+lag = either lag_name (done None)
+
+-- "AUTO" [ name ]
+abbrev pub auto : Grammar Lexeme (List OrderWord)
+auto = do
+  one (word (codes "AUTO"))
+  shown ← lag
+  done (words.Auto shown ∷ [])
+
+-- "AUTO" [ name ] | position { "," position }
+abbrev pub order_words : Grammar Lexeme (List OrderWord)
+order_words = either auto position_list
+
+-- "ORDER" ( "AUTO" [ name ] | position { "," position } ) ";"
 abbrev pub order_line : Grammar Lexeme (Option (ℕ × List OrderWord))
 order_line = do
   line ← one (word (codes "ORDER"))
-  list ← position_list
+  list ← order_words
   one (sign (codes ";"))
   done (Some (line, list))
 
--- [ "ORDER" position { "," position } ";" ]
+-- [ "ORDER" ( "AUTO" [ name ] | position { "," position } ) ";" ]
 abbrev pub order : Grammar Lexeme (Option (ℕ × List OrderWord))
 order = either order_line (done None)
 
--- ")" ";" [ "RULES" file ";" ] [ "ORDER" position { "," position } ";" ] "END" ";"
+-- ")" ";" [ "RULES" file ";" ] [ "ORDER" ( "AUTO" [ name ] | position { "," position } ) ";" ] "END" ";"
 abbrev pub cube_end : Grammar Lexeme Piece
 cube_end = do
   one (sign (codes ")"))
@@ -184,7 +205,8 @@ cube_dimensions = do
   unit first_dimension
   unit (many next_dimension)
 
--- "CUBE" name "(" name { "," name } ")" ";" [ "RULES" file ";" ] [ "ORDER" position { "," position } ";" ] "END" ";"
+-- "CUBE" name "(" name { "," name } ")" ";" [ "RULES" file ";" ]
+-- [ "ORDER" ( "AUTO" [ name ] | position { "," position } ) ";" ] "END" ";"
 abbrev pub cube : Grammar Lexeme (Unit {0})
 cube = do
   cube_head

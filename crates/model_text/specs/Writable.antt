@@ -1,8 +1,9 @@
 -- What can be written as tokens of a model text.
-use Rattle.std.specs.Prelude.{ℕ, ◌<◌, List, length, IfSome, IsTrue, All}
+use Rattle.std.specs.Prelude.{◌≡◌, ℕ, ◌<◌, List, length, IfSome, IsTrue, All}
 use Rattle.dim_name.specs.Name.{is_name}
 use Rattle.cube_lex.specs.Written.{IsQuotable}
 use Rattle.grammar.specs.Tokens.{is_file, whole_end}
+use Rattle.model_text.specs.Orders.{has_auto}
 use Rattle.model_text.specs.declared.order.OrderWord.{OrderWord}
 use Rattle.model_text.specs.declared.order.OrderWord.TheVariants as words
 use Rattle.model_text.specs.declared.parts.CubeText.{CubeText}
@@ -23,9 +24,13 @@ abbrev pub IsWritableWord : OrderWord → Type 0
 IsWritableWord (words.Constant n) = n < whole_end
 IsWritableWord (words.Index shown) = IsNameText shown
 IsWritableWord (words.Ranks shown list) = IsNameText shown × (0 < length list) × All IsWritableRank list
+IsWritableWord (words.Auto lag) = IfSome lag IsNameText
 
-abbrev pub IsWritableOrder : List OrderWord → Type 0
-IsWritableOrder list = (0 < length list) × All IsWritableWord list
+-- the words of an order line: `AUTO` is the only word of its line
+pub record IsWritableOrder (list : List OrderWord) : Type 0 where
+  pub some : 0 < length list
+  pub each : All IsWritableWord list
+  pub auto_alone : IsTrue (has_auto list) → length list ≡ 1
 
 pub record IsWritableCube (cube : CubeText) : Type 0 where
   pub name : IsNameText cube.name

@@ -1,3 +1,6 @@
+ghost use Rattle.std.specs.Prelude.{◌≡◌};
+ghost use Rattle.model_text.specs.Orders as orders;
+
 use dim_name::Name;
 use lists::ListOf;
 
@@ -6,11 +9,26 @@ use lists::ListOf;
 pub struct OrderLine {
     /// The version of the model text in which it stands, 1 or 2.
     pub version: u32,
-    /// Its positions in order, one at least.
+    /// Its positions in order, one at least, or `AUTO` alone.
     pub words: ListOf<OrderWord>,
 }
 
-/// One position of an order line. Numbers are below 2^31.
+impl OrderLine {
+    /// Whether the order of the cube is to be found.
+    pub fn has_auto(&self) -> bool
+        ensures { result ≡ orders.has_auto self.now.words }
+    {
+        self.words.as_slice().iter().any(|word| is_auto(word))
+    }
+}
+
+fn is_auto(word: &OrderWord) -> bool
+    ensures { result ≡ orders.is_auto word.now }
+{
+    matches!(word, OrderWord::Auto(_))
+}
+
+/// One position of an order line, or the word that stands in place of all positions. Numbers are below 2^31.
 #[derive(Drop)]
 pub enum OrderWord {
     /// The same number for every cell.
@@ -19,4 +37,7 @@ pub enum OrderWord {
     Index(Name),
     /// Ranks of elements of this dimension; those that aren't listed have rank 0.
     Ranks(Name, ListOf<(Name, u32)>),
+    /// The order of the cube is to be found, behind the element's index in this dimension where one is named. It is
+    /// the only word of its line.
+    Auto(Option<Name>),
 }

@@ -1,4 +1,4 @@
-ghost use Rattle.std.specs.Prelude.{◌≡◌, codes};
+ghost use Rattle.std.specs.Prelude.{◌≡◌, ◌∷◌, [], IfOk, codes};
 ghost use Rattle.grammar.specs.Cursor.{Reads};
 ghost use Rattle.model_text.specs.Gathering as gathering;
 ghost use Rattle.model_text.specs.Readers.Reading as reading;
@@ -8,11 +8,11 @@ use crate::fault::ModelTextFault;
 use crate::order::{OrderLine, OrderWord};
 use dim_name::Name;
 use grammar::{
-    Cursor, Item, Stop, Unwatched, file, listed, name, number_comes, sign, sign_comes, whole, word,
-    word_comes,
+    Cursor, Item, Stop, Unwatched, file, listed, name, number_comes, sign, sign_comes, text_comes,
+    whole, word, word_comes,
 };
 use lists::ListOf;
-use std::alloc::Global;
+use std::alloc::{AllocError, Global};
 
 /// Reads the rule file of a cube, if there is one: `RULES file ;`.
 #[tactic(auto, unfolding(crate::specs::Readers::Reading::read_rules))]
@@ -99,7 +99,61 @@ impl Item<OrderWord, ModelTextFault, Unwatched> for Position {
     }
 }
 
-/// Reads the order line of a cube, if there is one, and gives its positions: `ORDER position { , position } ;`.
+/// Reads the name behind `AUTO`, if there is one.
+#[tactic(auto, unfolding(crate::specs::Readers::Reading::read_lag))]
+fn lag_at(
+    alloc: Global,
+    cursor: &mut Cursor<'_, Unwatched>,
+) -> Result<Option<Name>, Stop<ModelTextFault>>
+    ensures { Reads (λ lag. lag) reading.read_lag cursor.old result cursor.new }
+{
+    if text_comes(cursor) {
+        let shown = name(alloc, cursor)?;
+        Ok(Some(shown))
+    } else {
+        Ok(None)
+    }
+}
+
+/// A list of this word alone.
+fn alone(alloc: Global, word: OrderWord) -> Result<ListOf<OrderWord>, AllocError>
+    ensures { IfOk result (λ words. words ≡ word ∷ []) }
+{
+    let mut words = Vec::new(alloc);
+    words.push(word)?;
+    Ok(ListOf::new(words))
+}
+
+/// Reads `AUTO [ name ]`.
+#[tactic(auto, unfolding(crate::specs::Readers::Reading::read_auto))]
+fn auto_at(
+    alloc: Global,
+    cursor: &mut Cursor<'_, Unwatched>,
+) -> Result<ListOf<OrderWord>, Stop<ModelTextFault>>
+    ensures { Reads (λ words. words) reading.read_auto cursor.old result cursor.new }
+{
+    word(cursor, b"AUTO")?;
+    let lag = lag_at(alloc, cursor)?;
+    let words = alone(alloc, OrderWord::Auto(lag))?;
+    Ok(words)
+}
+
+/// Reads the words of an order line: `AUTO [ name ]` or `position { , position }`.
+#[tactic(auto, unfolding(crate::specs::Readers::Reading::read_order_words))]
+fn words_at(
+    alloc: Global,
+    cursor: &mut Cursor<'_, Unwatched>,
+) -> Result<ListOf<OrderWord>, Stop<ModelTextFault>>
+    ensures { Reads (λ words. words) reading.read_order_words cursor.old result cursor.new }
+{
+    if word_comes(cursor, b"AUTO") {
+        auto_at(alloc, cursor)
+    } else {
+        listed(alloc, cursor, &Position)
+    }
+}
+
+/// Reads the order line of a cube, if there is one, and gives its words: `ORDER`, the words and `;`.
 #[tactic(auto, unfolding(crate::specs::Readers::Reading::read_order))]
 fn order_at(
     alloc: Global,
@@ -109,7 +163,7 @@ fn order_at(
 {
     if word_comes(cursor, b"ORDER") {
         let line = word(cursor, b"ORDER")?;
-        let words = listed(alloc, cursor, &Position)?;
+        let words = words_at(alloc, cursor)?;
         sign(cursor, b";")?;
         Ok(Some((line, words)))
     } else {
@@ -117,7 +171,7 @@ fn order_at(
     }
 }
 
-/// The rule file of a cube and the positions of its order line, where they are given, each with the line of its word.
+/// The rule file of a cube and the words of its order line, where they are given, each with the line of its first word.
 pub type CubeEnd = (Option<(u32, ListOf<u8>)>, Option<(u32, ListOf<OrderWord>)>);
 
 /// Reads the rest of a cube, from the `)` behind its dimensions on.
@@ -137,7 +191,7 @@ pub fn cube_end_at(
     Ok((rules, order))
 }
 
-/// The order line of a cube, where its positions are given, in a text of this version.
+/// The order line of a cube, where its words are given, in a text of this version.
 pub fn order_of(version: u32, order: Option<(u32, ListOf<OrderWord>)>) -> Option<(u32, OrderLine)>
     ensures { result ≡ gathering.order_of version order }
 {

@@ -79,7 +79,22 @@ fn write_listed(
     write_pieces(alloc, out, &[Piece::Sign(b")")])
 }
 
-// Writes a position of an order line.
+// Writes `AUTO` and the name behind it, where there is one.
+fn write_auto(alloc: Global, out: &mut Vec<u8>, lag: &Option<Name>) -> Result<(), AllocError>
+    requires { IsWritableWord (OrderWord.Auto lag.now) }
+    ensures { OnOk result (Spaces out.old.items out.new.items (position_spelled (OrderWord.Auto lag.now))) }
+{
+    match lag {
+        Some(name) => write_pieces(
+            alloc,
+            out,
+            &[Piece::Word(b"AUTO"), Piece::Quoted(name.shown())],
+        ),
+        None => write_pieces(alloc, out, &[Piece::Word(b"AUTO")]),
+    }
+}
+
+// Writes a word of an order line.
 fn write_position(alloc: Global, out: &mut Vec<u8>, position: &OrderWord) -> Result<(), AllocError>
     requires { IsWritableWord position.now }
     ensures { OnOk result (Spaces out.old.items out.new.items (position_spelled position.now)) }
@@ -90,6 +105,7 @@ fn write_position(alloc: Global, out: &mut Vec<u8>, position: &OrderWord) -> Res
         }
         OrderWord::Index(name) => write_pieces(alloc, out, &[Piece::Quoted(name.shown())]),
         OrderWord::Ranks(name, ranks) => write_listed(alloc, out, name, ranks.as_slice()),
+        OrderWord::Auto(lag) => write_auto(alloc, out, lag),
     }
 }
 

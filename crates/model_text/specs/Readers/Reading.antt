@@ -1,11 +1,11 @@
 -- The readers of a model text, in the shape of the code.
-use Rattle.std.specs.Prelude.{ℕ, List, Option, Some, None, codes, Err}
+use Rattle.std.specs.Prelude.{ℕ, List, [], ◌∷◌, Option, Some, None, codes, Err}
 use Rattle.cube_lex.specs.Lexeme.{Lexeme}
 use Rattle.grammar.specs.Watch.{unscanned}
 use Rattle.grammar.specs.Reading.{unit_of, OutOfTurns, Reader, gives, take_one, choose, all_of, checked}
 use Rattle.grammar.specs.Reading.{inside_result, inside, ◌>>=◌, ◌>>◌}
 use Rattle.grammar.specs.Lists.{read_listed}
-use Rattle.grammar.specs.Tokens.{sign, word, whole, name, file, located, is_sign, is_word, is_number}
+use Rattle.grammar.specs.Tokens.{sign, word, whole, name, file, located, is_sign, is_word, is_number, is_text}
 use Rattle.grammar.specs.declared.cursor.Unwatched.{Unwatched}
 use Rattle.dim_text.specs.Progress.{Progress}
 use Rattle.dim_text.specs.Readers.Reading.{read_body}
@@ -97,11 +97,28 @@ read_position = choose is_number
       shown ← take_one unscanned name
       read_ranks shown)
 
+-- behind `AUTO`
+unfoldable pub read_lag : Plain (Option (List ℕ))
+read_lag = choose is_text
+    (do
+      shown ← take_one unscanned name
+      gives (Some shown))
+    (gives None)
+
+unfoldable pub read_auto : Plain (List OrderWord)
+read_auto = do
+  take_one unscanned (word (codes "AUTO"))
+  shown ← read_lag
+  gives (words.Auto shown ∷ [])
+
+unfoldable pub read_order_words : Plain (List OrderWord)
+read_order_words = choose (is_word (codes "AUTO")) read_auto (read_listed unscanned read_position)
+
 unfoldable pub read_order : Plain (Option (ℕ × List OrderWord))
 read_order = choose (is_word (codes "ORDER"))
     (do
       line ← take_one unscanned (word (codes "ORDER"))
-      list ← read_listed unscanned read_position
+      list ← read_order_words
       take_one unscanned (sign (codes ";"))
       gives (Some (line, list)))
     (gives None)
