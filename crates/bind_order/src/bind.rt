@@ -42,7 +42,8 @@ fn positions(
     Ok(Some(ListOf::new(positions)))
 }
 
-/// The order that the order line of a cube means, which isn't to be found. The weights are those of the space's dimensions, place by place.
+/// The order that the order line of a cube means, where it isn't to be found. The weights are those of the space's
+/// dimensions, place by place.
 pub fn bind_order(
     alloc: Global,
     space: &Space,

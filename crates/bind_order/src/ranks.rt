@@ -68,7 +68,8 @@ fn rank_of(
     }
 }
 
-/// The ranks that a dimension alone gives: the greatest index, which counts from 1, of a leaf that counts in an element.
+/// The ranks that a dimension alone gives: of an element the greatest index of a leaf that counts in it. An index
+/// counts from 1.
 pub fn ranks_by_index(
     alloc: Global,
     dimension: &Dimension,
