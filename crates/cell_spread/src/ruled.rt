@@ -52,18 +52,19 @@ fn speaks_below(model: &Model, dims: &[u32], at: &[u32], statement: &Statement) 
 }
 
 // Whether these sets have, in each of these dimensions, a leaf that counts in the element.
-#[cycle(meets)]
 fn meets(model: &Model, dims: &[u32], at: &[u32], sets: &[Option<ListOf<u32>>]) -> bool
     requires dims { All (λ dim. dim < length model.now.space.dimensions) dims.now }
     requires at { are_digits (sizes_of (axes_of model.now.space.dimensions dims.now)) at.now ≡ true }
     requires sets { AllZip IsSet (sizes_of (axes_of model.now.space.dimensions dims.now)) sets.now }
     ensures { result ≡ meets (axes_of model.now.space.dimensions dims.now) at.now sets.now }
 {
-    if dims.is_empty() {
-        return true;
+    'each: for place in 0..dims.len() {
+        let weights = &model.weights()[dims[place] as usize];
+        if !meets_in(weights, at[place], &sets[place]) {
+            return false;
+        }
     }
-    let weights = &model.weights()[dims[0] as usize];
-    meets_in(weights, at[0], &sets[0]) && meets(model, &dims[1..], &at[1..], &sets[1..])
+    true
 }
 
 // Whether a set has a leaf that counts in an element.
