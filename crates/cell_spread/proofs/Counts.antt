@@ -1,5 +1,5 @@
 -- The product that counts the leaf cells below, dimension by dimension.
-use Rattle.std.proofs.Common.{◌≡◌, refl, sym, ap, ◌∙◌, arith, ℕ, zero, suc, ◌+◌, ◌*◌, ◌<◌, ◌≤◌, ℤ, List, [], ◌∷◌, length, map, drop, drop-cons, get_or, Some}
+use Rattle.std.proofs.Common.{◌≡◌, refl, sym, ap, ◌∙◌, arith, ℕ, zero, suc, ◌+◌, ◌*◌, ◌<◌, ◌≤◌, ℤ, List, [], ◌∷◌, length, map, drop, get_or, Some}
 use Rattle.std.specs.Prelude.{slice_get, slice_index_or}
 use Rattle.std.specs.List.{range_with_len}
 use Rattle.std.proofs.lemmas.List.{length-map}
@@ -15,10 +15,8 @@ use Rattle.rule_model.proofs.Coefs.{axes_at}
 use Rattle.cell_spread.specs.Spread.{cells_below}
 use Rattle.cell_spread.specs.Inside.Counts.{leaf_product}
 use Rattle.cell_spread.proofs.Counting.{tally, tally-all, counts, below-tally}
+use Rattle.cell_spread.proofs.Rounding.{drop-at}
 use Rattle.cell_spread.proofs.Walks.{among-few}
-
-pub drop-at : {X : Type 0} (xs : List X) (from : ℕ) (d : X) → from < length xs → drop from xs ≡ get_or xs from d ∷ drop (from + 1) xs
-drop-at xs from d low = let e : suc from ≡ from + 1 = omega arith in drop-cons xs from d low ∙ ap (λ n. get_or xs from d ∷ drop n xs) e
 
 pub product-at : (D : List Outline) (dims at : List ℕ) (from : ℕ) (d : Outline) → from < length dims → from < length at → slice_get D (slice_index_or dims from 0) ≡ Some d
     → leaf_product (axes_of D (drop from dims)) (drop from at) ≡ length (leaves_of d (slice_index_or at from 0)) * leaf_product (axes_of D (drop (from + 1) dims)) (drop (from + 1) at)

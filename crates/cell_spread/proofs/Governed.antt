@@ -1,5 +1,5 @@
 -- Which statements govern a leaf cell below a cell.
-use Rattle.std.proofs.Common.{◌≡◌, refl, sym, ap, ◌∙◌, subst, arith, ℕ, zero, suc, ◌+◌, ◌*◌, ◌<◌, ◌≤◌, ◌⊎◌, inl, inr, Bool, true, false, ◌&&◌, ◌||◌, ltb, eqb, List, [], ◌∷◌, length, map, drop, get_or, Option, Some, None, All, ℤ, if◌then◌else◌}
+use Rattle.std.proofs.Common.{◌≡◌, refl, sym, ap, ◌∙◌, subst, arith, ℕ, zero, suc, ◌+◌, ◌*◌, ◌<◌, ◌≤◌, ◌⊎◌, inl, inr, mul-pos, Bool, true, false, ◌&&◌, ◌||◌, ltb, eqb, List, [], ◌∷◌, length, map, drop, get_or, Option, Some, None, All, ℤ, if◌then◌else◌}
 use Rattle.std.specs.Prelude.{is_some, option_map}
 use Rattle.std.specs.List.{AllZip, list_any, list_all, zip, position, position_or_len}
 use Rattle.std.proofs.lemmas.Bool.{lt-ltb, cases_lt, eq-eqb}
@@ -14,7 +14,7 @@ use Rattle.rule_laws.specs.RuleSystem.{Rule, part_at}
 use Rattle.rule_model.specs.declared.rules.Statement.{Statement}
 use Rattle.rule_model.specs.BoundModel.{BoundModel, rules_of}
 use Rattle.rule_model.specs.Areas.{in_set, in_sets}
-use Rattle.rule_model.specs.Conditions.{IsSet}
+use Rattle.rule_model.specs.Conditions.{IsSet, AreRules}
 use Rattle.rule_model.specs.Governing.{governing_from, has_part}
 use Rattle.rule_model.specs.System.{system_of, rule_of}
 use Rattle.rule_model.specs.Weights.{weight, leaf_cells, leaves_below}
@@ -25,12 +25,12 @@ use Rattle.cell_spread.proofs.Counting.{tally, any-tally, tally-same, passes, co
 
 -- ---- tests of lists
 
-any-same : {X : Type 0} (p q : X → Bool) (xs : List X) → All (λ x. p x ≡ q x) xs → list_any p xs ≡ list_any q xs
+pub any-same : {X : Type 0} (p q : X → Bool) (xs : List X) → All (λ x. p x ≡ q x) xs → list_any p xs ≡ list_any q xs
 any-same p q [] each = refl
 any-same p q (x ∷ xs) each =
     ap (λ b. b || list_any p xs) (All-head (λ x. p x ≡ q x) x xs each) ∙ ap (λ b. q x || b) (any-same p q xs (All-tail (λ x. p x ≡ q x) x xs each))
 
-any-none : {X : Type 0} (xs : List X) → list_any (λ x. false) xs ≡ false
+pub any-none : {X : Type 0} (xs : List X) → list_any (λ x. false) xs ≡ false
 any-none [] = refl
 any-none (x ∷ xs) = any-none xs
 
@@ -44,12 +44,12 @@ any-or p q (x ∷ xs) = ap (λ b. (p x || q x) || b) (any-or p q xs) ∙ turn (p
     turn false true false d = refl
     turn false false c d = refl
 
-any-and : {X : Type 0} (b : Bool) (p : X → Bool) (xs : List X) → list_any (λ x. b && p x) xs ≡ (b && list_any p xs)
+pub any-and : {X : Type 0} (b : Bool) (p : X → Bool) (xs : List X) → list_any (λ x. b && p x) xs ≡ (b && list_any p xs)
 any-and true p xs = refl
 any-and false p xs = any-none xs
 
 -- the same, one statement after another or one cell after another
-any-turned : {X S : Type 0} (a : S → Bool) (p : S → X → Bool) (xs : List X) (ss : List S)
+pub any-turned : {X S : Type 0} (a : S → Bool) (p : S → X → Bool) (xs : List X) (ss : List S)
     → list_any (λ x. list_any (λ s. a s && p s x) ss) xs ≡ list_any (λ s. a s && list_any (p s) xs) ss
 any-turned a p xs [] = any-none xs
 any-turned a p xs (s ∷ ss) =
@@ -134,8 +134,16 @@ in_sets-passes (set ∷ sets) (x ∷ xs) = ap (λ b. in_set set x && b) (in_sets
 
 some-product : (m n : ℕ) → ltb 0 (m * n) ≡ (ltb 0 m && ltb 0 n)
 some-product zero n = let e : 0 * n ≡ 0 = omega arith in ap (ltb 0) e
-some-product (suc m) zero = let e : suc m * 0 ≡ 0 = omega arith in ap (ltb 0) e
-some-product (suc m) (suc n) = let e : suc m * suc n ≡ suc (n + m * suc n) = omega arith in ap (ltb 0) e
+some-product (suc m) zero =
+    let e : suc m * 0 ≡ 0 = omega arith in
+    let on : ltb 0 (suc m) ≡ true = lt-ltb 0 (suc m) (omega arith) in
+    rw (e, on) refl
+some-product (suc m) (suc n) =
+    let big : 0 < suc m * suc n = mul-pos {m = suc m} {n = suc n} (omega arith) (omega arith) in
+    let a : ltb 0 (suc m * suc n) ≡ true = lt-ltb 0 (suc m * suc n) big in
+    let b : ltb 0 (suc m) ≡ true = lt-ltb 0 (suc m) (omega arith) in
+    let c : ltb 0 (suc n) ≡ true = lt-ltb 0 (suc n) (omega arith) in
+    rw (a, b, c) refl
 
 pub counts-meets : (ds : List Outline) (es : List ℕ) (sets : List (Option (List ℕ))) → AllZip IsSet (sizes_of ds) sets → ltb 0 (counts ds es (map in_set sets)) ≡ meets ds es sets
 counts-meets [] es sets are = refl
@@ -198,3 +206,8 @@ module _ (m : BoundModel) (valid : IsSpace m.space) (cell : ℕ) (here : IsCell 
       any-same (is_governed m) (λ x. list_any (speaks_of (elements_of m.space x)) statements) (cells_below m.space cell) (λ k d less. governed-below (get_or (cells_below m.space cell) k d) (below-are k d less))
       ∙ any-turned (λ (s : Statement). is_some s.leaf) (λ (s : Statement) x. in_sets s.area.sets (elements_of m.space x)) (cells_below m.space cell) statements
       ∙ each-meets statements are
+
+-- the areas of a cube's statements
+pub statements-sets : (m : BoundModel) (cube : ℕ) → AreRules m.space m.rules → cube < length m.space.cubes
+    → All (λ (s : Statement). AllZip IsSet (sizes_of (axes m.space cube)) s.area.sets) (rules_of m cube).statements
+statements-sets m cube are there k d less = ((are.cube cube there).statements k d less).area

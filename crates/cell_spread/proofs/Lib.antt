@@ -1,4 +1,5 @@
 pub mod Answering
+pub mod Areas
 pub mod Counting
 pub mod Counts
 pub mod Governed

@@ -1,5 +1,5 @@
 -- Shares that are rounded down, but the first so many that aren't whole rounded up.
-use Rattle.std.proofs.Common.{◌≡◌, ◌≢◌, refl, sym, ap, ◌∙◌, subst, arith, ℕ, zero, suc, pred, ◌+◌, ◌-◌, ◌*◌, ◌/◌, ◌<◌, ◌≤◌, ◌⊎◌, inl, inr, mul-pos, leb, ◌++◌, length, drop, drop-cons, get_or, append_assoc, append-nil, Bool, true, false, not, ◌&&◌, ltb, ℤ, pos, negsuc, ◌+ℤ◌, ◌-ℤ◌, ◌*ℤ◌, neg_ℤ, unsigned_abs, List, [], ◌∷◌, if◌then◌else◌}
+use Rattle.std.proofs.Common.{◌≡◌, ◌≢◌, refl, sym, ap, ◌∙◌, subst, arith, ℕ, zero, suc, pred, ◌+◌, ◌-◌, ◌*◌, ◌/◌, ◌%◌, mul_comm, ◌<◌, ◌≤◌, ◌⊎◌, inl, inr, mul-pos, leb, ◌++◌, length, drop, drop-cons, get_or, append_assoc, append-nil, Bool, true, false, not, ◌&&◌, ltb, ℤ, pos, negsuc, ◌+ℤ◌, ◌-ℤ◌, ◌*ℤ◌, neg_ℤ, unsigned_abs, List, [], ◌∷◌, if◌then◌else◌}
 use Rattle.std.specs.List.{AllZip}
 use Rattle.std.proofs.Math.IntN.{*ℤ-zero, zero-*ℤ, *ℤ-negsuc}
 use Rattle.std.proofs.Math.Nat.{mul-le-mul}
@@ -14,7 +14,7 @@ use Rattle.cell_spread.specs.Spread.{are_in_range}
 use Rattle.cell_spread.specs.Inside.Remainders.{left_of, lefts_of}
 use Rattle.cell_spread.proofs.Ratios.{times-plus, plus-times, turned, turned-plus, turned-zero, turned-own, some-size, IsFloor, is-floor, whole-none, none-whole}
 
-drop-at : {X : Type 0} (xs : List X) (from : ℕ) (d : X) → from < length xs → drop from xs ≡ get_or xs from d ∷ drop (from + 1) xs
+pub drop-at : {X : Type 0} (xs : List X) (from : ℕ) (d : X) → from < length xs → drop from xs ≡ get_or xs from d ∷ drop (from + 1) xs
 drop-at xs from d low = let e : suc from ≡ from + 1 = omega arith in drop-cons xs from d low ∙ ap (λ n. get_or xs from d ∷ drop n xs) e
 
 near-above : (f n d : ℤ) (left : ℕ) → (f *ℤ pos (unsigned_abs d)) +ℤ pos left ≡ turned d n → left < unsigned_abs d → (left ≡ 0 → ⊥) → unsigned_abs (((f +ℤ pos 1) *ℤ d) -ℤ n) < unsigned_abs d
@@ -189,7 +189,7 @@ rest-size size i x left before less =
 
 pub rest-ends : (a t : ℤ) (parts : List (ℕ × ℤ)) (i left : ℕ) → length parts ≤ i → left + lefts_of a t (drop i parts) ≡ lefts_of a t parts → left ≡ lefts_of a t parts
 rest-ends a t parts i left past is =
-    let none : lefts_of a t (drop i parts) ≡ 0 = ap (lefts_of a t) (drop_all parts i past) in
+    let none : lefts_of a t (drop i parts) ≡ 0 = ap (lefts_of a t) (drop_all i parts past) in
     omega (arith, is, none)
 
 -- so the rest is what is left, by the total
@@ -248,11 +248,11 @@ pub rounded-step : (a t : ℤ) (up : ℕ) (parts front whole : List (ℕ × ℤ)
     → front ++ rounded_up a t up (drop i parts) ≡ whole
     → (front ++ ((get_or parts i d).0, share) ∷ []) ++ rounded_up a t left (drop (i + 1) parts) ≡ whole
 rounded-step a t up parts front whole i d share left low number next before =
-    append_assoc ∙ ap (λ xs. front ++ xs) (sym (rounded-at a t up parts i d share left low number next)) ∙ before
+    append_assoc front (((get_or parts i d).0, share) ∷ []) (rounded_up a t left (drop (i + 1) parts)) ∙ ap (λ xs. front ++ xs) (sym (rounded-at a t up parts i d share left low number next)) ∙ before
 
 pub rounded-ends : (a t : ℤ) (up : ℕ) (parts front whole : List (ℕ × ℤ)) (i : ℕ) → length parts ≤ i → front ++ rounded_up a t up (drop i parts) ≡ whole → front ≡ whole
 rounded-ends a t up parts front whole i past is =
-    sym (append-nil front) ∙ ap (λ xs. front ++ rounded_up a t up xs) (sym (drop_all parts i past)) ∙ is
+    sym (append-nil front) ∙ ap (λ xs. front ++ rounded_up a t up xs) (sym (drop_all i parts past)) ∙ is
 
 all-front : (xs ys : List (ℕ × ℤ)) → are_in_range (xs ++ ys) ≡ (are_in_range xs && are_in_range ys)
 all-front [] ys = refl
@@ -290,3 +290,18 @@ range-fails a t up parts front whole i d share left low number next before large
     none : (b : Bool) → (b && false) ≡ false
     none true = refl
     none false = refl
+
+pub quotient-low : (n d k : ℕ) → 0 < d → n ≤ k * d → n / d ≤ k
+quotient-low n d k some low =
+    let e : d * (n / d) + n % d ≡ n = omega arith in
+    let turn : n / d * d ≡ d * (n / d) = mul_comm (n / d) d in
+    no-more (n / d) k d some (omega (arith, e, turn, low))
+
+-- ---- the same of equal numbers
+
+pub three : {X : Type 0} (f : ℤ → ℤ → ℤ → X) {a b c x y z : ℤ} → a ≡ x → b ≡ y → c ≡ z → f a b c ≡ f x y z
+three f {a = a} {b = b} {c = c} {x = x} {y = y} {z = z} p q r = ap (λ k. f k b c) p ∙ ap (λ k. f x k c) q ∙ ap (λ k. f x y k) r
+
+pub rounded-same : (parts : List (ℕ × ℤ)) {a t x y : ℤ} {u v : ℕ} → a ≡ x → t ≡ y → u ≡ v → rounded_up a t u parts ≡ rounded_up x y v parts
+rounded-same parts {a = a} {t = t} {x = x} {y = y} {u = u} {v = v} p q r =
+    ap (λ k. rounded_up k t u parts) p ∙ ap (λ k. rounded_up x k u parts) q ∙ ap (λ n. rounded_up x y n parts) r

@@ -1,9 +1,8 @@
 -- Where an amount is spread, the cell has it.
-use Rattle.std.proofs.Common.{◌≡◌, ◌≢◌, refl, sym, ap, ◌∙◌, subst, arith, ℕ, zero, suc, ◌≤◌, Bool, true, false, not, ◌||◌, leb, ℤ, pos, ◌+ℤ◌, ◌*ℤ◌, List, [], ◌∷◌, length, map, get_or, Option, Some, None, All, if◌then◌else◌}
+use Rattle.std.proofs.Common.{◌≡◌, ◌≢◌, refl, sym, ap, ◌∙◌, subst, arith, ℕ, zero, suc, ◌*◌, ◌≤◌, Bool, true, false, not, ◌||◌, leb, ℤ, pos, negsuc, neg_ℤ, ◌+ℤ◌, ◌*ℤ◌, List, [], ◌∷◌, length, map, get_or, Option, Some, None, All, if◌then◌else◌}
 use Rattle.std.specs.Prelude.{is_some, nat_lt}
 use Rattle.std.specs.List.{AllZip, list_any}
 use Rattle.std.specs.Ordering.{int_eq}
-use Rattle.std.proofs.Math.IntN.{*ℤ_comm, *ℤ-one}
 use Rattle.std.proofs.lemmas.Bool.Decides.{Decides-int_eq, not_from_Decides, nat_tests}
 use Rattle.std.proofs.lemmas.Int.{ints}
 use Rattle.std.proofs.lemmas.List.Elements.{All-head, All-tail, All-nil, All-cons}
@@ -71,12 +70,12 @@ module _ (m : BoundModel) (entries : List Entry) (cell : ℕ) (amount : ℤ) (ho
       by (is_leaf_cell m.space cell) (nat_lt most_spread n) (is_weighted m.space cell) (is_ruled m cell) (int_eq (sum_of (parts_of m.space entries how cell)) (pos 0)) refl refl refl refl
       (sym refusal-is ∙ none)
     where
-      by : (leaf many weighted ruled zero : Bool) → is_leaf_cell m.space cell ≡ leaf → is_weighted m.space cell ≡ weighted → is_ruled m cell ≡ ruled → int_eq (sum_of (parts_of m.space entries how cell)) (pos 0) ≡ zero
-          → cause leaf many n weighted ruled zero (are_in_range (writes_of m.space entries cell amount how)) ≡ None → IsSpread m entries cell how
-      by true many weighted ruled zero a b c d is = absurd (cc)
-      by false true weighted ruled zero a b c d is = absurd (cc)
-      by false false true ruled zero a b c d is = absurd (cc)
-      by false false false true zero a b c d is = absurd (cc)
+      by : (leaf many weighted ruled nothing : Bool) → is_leaf_cell m.space cell ≡ leaf → is_weighted m.space cell ≡ weighted → is_ruled m cell ≡ ruled → int_eq (sum_of (parts_of m.space entries how cell)) (pos 0) ≡ nothing
+          → cause leaf many n weighted ruled nothing (are_in_range (writes_of m.space entries cell amount how)) ≡ None → IsSpread m entries cell how
+      by true many weighted ruled nothing a b c d is = absurd (cc)
+      by false true weighted ruled nothing a b c d is = absurd (cc)
+      by false false true ruled nothing a b c d is = absurd (cc)
+      by false false false true nothing a b c d is = absurd (cc)
       by false false false false true a b c d is = absurd (cc)
       by false false false false false a b c d is = record { total = a; plain = b; unruled = c; some = d }
 
@@ -104,7 +103,8 @@ ungoverned m x cell none =
 -- ---- sums
 
 one-times : (z : ℤ) → pos 1 *ℤ z ≡ z
-one-times z = *ℤ_comm (pos 1) z ∙ *ℤ-one z
+one-times (pos n) = let e : 1 * n ≡ n = omega arith in ap pos e
+one-times (negsuc n) = let e : 1 * suc n ≡ suc n = omega arith in ap (λ (k : ℕ). neg_ℤ (pos k)) e
 
 plain-weight : (w : ℤ) → not (int_eq w (pos 1)) ≡ false → w ≡ pos 1
 plain-weight w none = by (int_eq w (pos 1)) refl none

@@ -69,7 +69,7 @@ module _ (c : ℕ) (n : ℤ) (more : List Entry) where
   own-kept none = by (int_eq n (pos 0)) refl
     where
       by : (b : Bool) → int_eq n (pos 0) ≡ b → number_at (cond b [] (record { cell = c; number = n } ∷ []) ++ more) c ≡ n
-      by true zero = none ∙ sym ((Decides-int_eq n (pos 0)).0 zero)
+      by true same = none ∙ sym ((Decides-int_eq n (pos 0)).0 same)
       by false other = number_at-head (record { cell = c; number = n }) more
 
   other-kept : (k : ℕ) → c ≢ k → number_at (kept_of c n ++ more) k ≡ number_at more k
@@ -129,15 +129,13 @@ module _ (f : ℕ → ℤ) where
   above-others : (k : ℕ) (xs : List ℕ) (ws : List (ℕ × ℤ)) → AllAbove k xs → OfCells (nonzero_among f xs) ws → AreOthers k ws
   above-others k [] [] high of = tt
   above-others k [] (w ∷ ws) high of = absurd of
-  above-others k (x ∷ xs) ws high of = by (is_nonzero (f x)) refl ws of
+  above-others k (x ∷ xs) ws high of = by (is_nonzero (f x)) refl ws of (λ ws of. above-others k xs ws high.1 of)
     where
-      later : (ws : List (ℕ × ℤ)) → OfCells (nonzero_among f xs) ws → AreOthers k ws
-      later ws of = above-others k xs ws high.1 of
-
-      by : (b : Bool) → is_nonzero (f x) ≡ b → (ws : List (ℕ × ℤ)) → OfCells (nonzero_among f (x ∷ xs)) ws → AreOthers k ws
-      by false off ws of = later ws (rw off at of)
-      by true on [] of = let some : OfCells ((x, f x) ∷ nonzero_among f xs) [] = rw on at of in absurd some
-      by true on (w ∷ ws) of =
+      by : (b : Bool) → is_nonzero (f x) ≡ b → (ws : List (ℕ × ℤ)) → OfCells (nonzero_among f (x ∷ xs)) ws
+          → ((ws : List (ℕ × ℤ)) → OfCells (nonzero_among f xs) ws → AreOthers k ws) → AreOthers k ws
+      by false off ws of later = later ws (rw off at of)
+      by true on [] of later = let some : OfCells ((x, f x) ∷ nonzero_among f xs) [] = rw on at of in absurd some
+      by true on (w ∷ ws) of later =
           let some : OfCells ((x, f x) ∷ nonzero_among f xs) (w ∷ ws) = rw on at of in
           let low : k < x = high.0 in
           let same : w.0 ≡ x = some.0 in
@@ -158,20 +156,23 @@ module _ (f : ℕ → ℤ) where
   pub total-after : (xs : List ℕ) (es : List Entry) (ws : List (ℕ × ℤ)) → Rises xs → OfCells (nonzero_among f xs) ws → AreZeros es xs → total_at (after_writes es ws) xs ≡ sum_of ws
   total-after [] es [] rises of zeros = refl
   total-after [] es (w ∷ ws) rises of zeros = absurd of
-  total-after (x ∷ xs) es ws rises of zeros = by (is_nonzero (f x)) refl ws of
+  total-after (x ∷ xs) es ws rises of zeros =
+      by (is_nonzero (f x)) refl ws of (λ es ws of zeros. total-after xs es ws rises.1 of zeros)
     where
-      by : (b : Bool) → is_nonzero (f x) ≡ b → (ws : List (ℕ × ℤ)) → OfCells (nonzero_among f (x ∷ xs)) ws → total_at (after_writes es ws) (x ∷ xs) ≡ sum_of ws
-      by false off ws of =
+      by : (b : Bool) → is_nonzero (f x) ≡ b → (ws : List (ℕ × ℤ)) → OfCells (nonzero_among f (x ∷ xs)) ws
+          → ((es : List Entry) (ws : List (ℕ × ℤ)) → OfCells (nonzero_among f xs) ws → AreZeros es xs → total_at (after_writes es ws) xs ≡ sum_of ws)
+          → total_at (after_writes es ws) (x ∷ xs) ≡ sum_of ws
+      by false off ws of later =
           let mine : OfCells (nonzero_among f xs) ws = rw off at of in
-          let rest = total-after xs es ws rises.1 mine zeros.1 in
+          let rest = later es ws mine zeros.1 in
           let here = number-kept es ws x (above-others x xs ws rises.0 mine) ∙ zeros.0 off in
           omega (arith, ints, rest, here)
-      by true on [] of = let some : OfCells ((x, f x) ∷ nonzero_among f xs) [] = rw on at of in absurd some
-      by true on (w ∷ ws) of =
+      by true on [] of later = let some : OfCells ((x, f x) ∷ nonzero_among f xs) [] = rw on at of in absurd some
+      by true on (w ∷ ws) of later =
           let some : OfCells ((x, f x) ∷ nonzero_among f xs) (w ∷ ws) = rw on at of in
           let same : w.0 ≡ x = some.0 in
           let high : AllAbove w.0 xs = subst (λ k. AllAbove k xs) (sym same) rises.0 in
-          let rest = total-after xs (with_write es w.0 w.1) ws rises.1 some.1 (zeros-kept es w.0 w.1 xs high zeros.1) in
+          let rest = later (with_write es w.0 w.1) ws some.1 (zeros-kept es w.0 w.1 xs high zeros.1) in
           let here : number_at (after_writes (with_write es w.0 w.1) ws) x ≡ w.1 =
           number-kept (with_write es w.0 w.1) ws x (above-others x xs ws rises.0 some.1) ∙ ap (number_at (with_write es w.0 w.1)) (sym same) ∙ number-written es w.0 w.1 in
           omega (arith, ints, rest, here)

@@ -14,7 +14,6 @@ pub fn leaf_count(model: &Model, cell: u64) -> u64
     ensures { result ≡ length (leaves_below model.now.space cell) }
 {
     let space = model.space();
-    let _cells = space.size();
     let mut at = [0u32; MAX_DIMENSIONS];
     let cube = space.place(cell, &mut at);
     let dims = space.shape(cube).dims.as_slice();
