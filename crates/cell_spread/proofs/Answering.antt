@@ -61,7 +61,7 @@ module _ (T : Type 0) (m : BoundModel) (entries : List Entry) (cell : ℕ) (amou
 
       module _ (free : is_ruled m cell ≡ false) where
         pub shared : (r : Result T SpreadFault) → IfOk r (λ _. sum_of (parts_of m.space entries how cell) ≢ pos 0) → IfOk r (λ _. are_in_range (shared_out amount (parts_of m.space entries how cell)) ≡ true)
-            → IfErr r (λ f. (f ≡ Memory) ⊎ (((f ≡ NothingThere) × (sum_of (parts_of m.space entries how cell) ≡ pos 0)) ⊎ ((f ≡ OverWrite) × ((sum_of (parts_of m.space entries how cell) ≢ pos 0) × (are_in_range (shared_out amount (parts_of m.space entries how cell)) ≡ false)))))
+            → IfErr r (λ f. (f ≡ Memory) ⊎ (((f ≡ NothingThere) × (sum_of (parts_of m.space entries how cell) ≡ pos 0)) ⊎ ((f ≡ OverWrite) × (sum_of (parts_of m.space entries how cell) ≢ pos 0) × (are_in_range (shared_out amount (parts_of m.space entries how cell)) ≡ false))))
             → IsAnsweredBy (refusal_of m entries cell amount how) r
         unfolding writes_of
         shared (Ok value) some in_range fault =
@@ -73,8 +73,8 @@ module _ (T : Type 0) (m : BoundModel) (entries : List Entry) (cell : ℕ) (amou
             let on : int_eq (sum_of (parts_of m.space entries how cell)) (pos 0) ≡ true = (Decides-int_eq (sum_of (parts_of m.space entries how cell)) (pos 0)).1 is.1 in
             refused T (refusal_of m entries cell amount how) f (refusal-is m entries cell amount how ∙ rw (total, fewer, plain, free, on) (ap Some (sym is.0)))
         shared (Err f) some in_range (inr (inr is)) =
-            let off = int-none (sum_of (parts_of m.space entries how cell)) is.1.0 in
-            let out = is.1.1 in
+            let off = int-none (sum_of (parts_of m.space entries how cell)) is.1 in
+            let out = is.2 in
             refused T (refusal_of m entries cell amount how) f (refusal-is m entries cell amount how ∙ rw (total, fewer, plain, free, off, out) (ap Some (sym is.0)))
 
 pub parts-few : (m : BoundModel) (entries : List Entry) (cell : ℕ) (how : How) (count : ℕ) → count ≡ length (leaves_below m.space cell) → count ≤ most_spread → length (parts_of m.space entries how cell) ≤ most_spread

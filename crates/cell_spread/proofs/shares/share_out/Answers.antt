@@ -18,11 +18,11 @@ same c =
     let t = to_z-of_z w128 c.sum_of-total.result ft ∙ c.sum_of-total.ensures.sum in
     rounded-same c.args.parts.now a t (c.rest_of-up.ensures ∙ ap (λ (z : ℤ). rest_of z c.args.parts.now) a)
 
-with-sum : {T Z S B : Type 0} → S → (r : Result T SpreadFault) → IfErr r (λ f. (f ≡ Memory) ⊎ ((f ≡ OverWrite) × B))
-    → IfErr r (λ f. (f ≡ Memory) ⊎ (((f ≡ NothingThere) × Z) ⊎ ((f ≡ OverWrite) × (S × B))))
-with-sum some (Ok value) fault = tt
-with-sum some (Err f) (inl memory) = inl memory
-with-sum some (Err f) (inr is) = inr (inr (is.0, (some, is.1)))
+with-sum : (T Z S B : Type 0) → S → (r : Result T SpreadFault) → IfErr r (λ f. (f ≡ Memory) ⊎ ((f ≡ OverWrite) × B))
+    → IfErr r (λ f. (f ≡ Memory) ⊎ (((f ≡ NothingThere) × Z) ⊎ ((f ≡ OverWrite) × S × B)))
+with-sum T Z S B some (Ok value) fault = tt
+with-sum T Z S B some (Err f) (inl memory) = inl memory
+with-sum T Z S B some (Err f) (inr is) = inr (inr (is.0, some, is.1))
 
 pub returns-clause-shares : goal.returns-clause-shares
 returns-clause-shares c =
@@ -35,5 +35,5 @@ returns-clause-within c =
 pub returns-clause-fault : goal.returns-clause-fault
 returns-clause-fault c =
     let some : sum_of c.args.parts.now ≢ pos 0 = λ none. c.if-total-eq0.false (ap (of_z w128) (c.sum_of-total.ensures.sum ∙ none)) in
-    with-sum some c.rounded_up.result
+    with-sum _ _ _ _ some c.rounded_up.result
     (subst (λ (xs : List (ℕ × ℤ)). IfErr c.rounded_up.result (λ f. (f ≡ Memory) ⊎ ((f ≡ OverWrite) × (are_in_range xs ≡ false)))) (same (goal.at.returns-clause-fault c).After-rounded_up) c.rounded_up.ensures.fault)
