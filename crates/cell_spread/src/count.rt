@@ -27,7 +27,8 @@ fn leaf_product(model: &Model, dims: &[u32], at: &[u32], from: usize) -> u64
     requires at { are_digits (sizes_of (axes_of model.now.space.dimensions dims.now)) at.now ≡ true }
     requires from { from ≤ length dims.now }
     requires room { product (sizes_of (axes_of model.now.space.dimensions (drop from dims.now))) ≤ most_model_cells }
-    ensures value { result ≡ leaf_product (axes_of model.now.space.dimensions (drop from dims.now)) (drop from at.now) }
+    ensures value { result
+        ≡ leaf_product (axes_of model.now.space.dimensions (drop from dims.now)) (drop from at.now) }
     ensures size { result ≤ product (sizes_of (axes_of model.now.space.dimensions (drop from dims.now))) }
 {
     if from == dims.len() {

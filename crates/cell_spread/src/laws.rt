@@ -15,7 +15,8 @@ ghost use Rattle.cell_spread.specs.Spread.{refusal_of, writes_of};
 
 /// What cells get is just the amount together.
 pub fn shares_are_the_amount()
-    ensures { (amount : ℤ) (parts : List (ℕ × ℤ)) → sum_of parts ≢ pos 0 → sum_of (shared_out amount parts) ≡ amount }
+    ensures { (amount : ℤ) (parts : List (ℕ × ℤ)) → sum_of parts ≢ pos 0
+        → sum_of (shared_out amount parts) ≡ amount }
 {}
 
 /// Each cell gets what is less than a millionth from its share, which is amount * part / total.
