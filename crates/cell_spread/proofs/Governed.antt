@@ -158,8 +158,6 @@ counts-meets (d ∷ ds) (e ∷ es) (set ∷ sets) are =
 -- ---- all leaf cells below
 
 module _ (m : BoundModel) (valid : IsSpace m.space) (cell : ℕ) (here : IsCell m.space cell) where
-
-
   -- what is below is a leaf cell of the same cube
   abbrev IsBelow : ℕ → Type 0
   IsBelow x = (is_leaf_cell m.space x ≡ true) × (cube_of m.space cell ≡ cube_of m.space x)

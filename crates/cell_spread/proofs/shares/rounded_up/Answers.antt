@@ -36,9 +36,12 @@ pub returns-in_default-clause-fault : goal.returns-in_default-clause-fault
 returns-in_default-clause-fault c =
     let n = next-is (goal.at.returns-in_default-clause-fault c).After-next_share-share in
     let own = rounded-same c.args.parts.now {u = c.args.up} (to_z-of_z w64 c.args.amount c.ranges.amount) (to_z-of_z w128 c.args.total c.ranges.total) refl in
-    inr (refl, ap are_in_range (sym own)
-    ∙ range-fails (to_z w64 (of_z w64 c.args.amount)) (to_z w128 (of_z w128 c.args.total)) c.loop-cell.up c.args.parts.now c.loop-cell.shares.items _ c.loop-cell.cell-index (0, pos 0) c.next_share-share.result.0 c.next_share-share.result.1
-    c.loop-cell-test.true n.number n.next c.loop-cell.invariant.front (λ small. c.in_default.ensures (subst IsInRange (sym n.word) small)))
+    inr (
+      refl,
+      ap are_in_range (sym own)
+          ∙ range-fails (to_z w64 (of_z w64 c.args.amount)) (to_z w128 (of_z w128 c.args.total)) c.loop-cell.up c.args.parts.now c.loop-cell.shares.items _ c.loop-cell.cell-index (0, pos 0) c.next_share-share.result.0 c.next_share-share.result.1
+          c.loop-cell-test.true n.number n.next c.loop-cell.invariant.front (λ small. c.in_default.ensures (subst IsInRange (sym n.word) small)),
+    )
 
 pub loop-cell-preserved : goal.loop-cell-preserved
 loop-cell-preserved c =
