@@ -1,5 +1,5 @@
 -- Areas and the leaves that count, dimension by dimension.
-use Rattle.std.proofs.Common.{◌≡◌, refl, sym, ap, ◌∙◌, subst, arith, ℕ, zero, suc, ◌+◌, ◌<◌, ◌≤◌, ◌⊎◌, inl, inr, Bool, true, false, not, ◌&&◌, ◌||◌, ◌==◌, ℤ, List, [], ◌∷◌, length, map, filter, drop, get_or, Option, Some, None, All}
+use Rattle.std.proofs.Common.{◌≡◌, refl, sym, ap, ◌∙◌, subst, arith, ℕ, zero, suc, ◌+◌, ◌<◌, ◌≤◌, inl, inr, Bool, true, false, not, ◌&&◌, ◌||◌, ◌==◌, ℤ, List, [], ◌∷◌, length, drop, get_or, Option, Some, All}
 use Rattle.std.specs.Prelude.{slice_get, slice_index_or}
 use Rattle.std.specs.List.{AllZip, list_any, range_with_len}
 use Rattle.std.proofs.lemmas.Bool.{cases_eq, eq-eqb, ne_eqb}
@@ -8,14 +8,13 @@ use Rattle.dim_weights.specs.Coefficients.{coef}
 use Rattle.dim_weights.specs.Table.{IsWeightsOf, is_nonzero, nonzero_among, leaves_of, share}
 use Rattle.dim_weights.proofs.Pairs.{share-range}
 use Rattle.cube_space.specs.Layout.{axes_of, sizes_of}
-use Rattle.rule_model.specs.Areas.{in_set}
 use Rattle.rule_model.specs.Conditions.{IsSet}
 use Rattle.cube_space.proofs.AxisSizes.{length-axes_of}
 use Rattle.cube_space.specs.Radix.{are_digits}
 use Rattle.rule_model.proofs.Coefs.{axes_at, dimension_at, is_at}
 use Rattle.rule_model.proofs.Named.{axes_cons}
 use Rattle.cell_spread.specs.Inside.Meets.{meets_in, meets}
-use Rattle.cell_spread.proofs.Governed.{any-same, any-none, any-and, any-turned}
+use Rattle.cell_spread.proofs.Governed.{any-same, any-and, any-turned}
 use Rattle.cell_spread.proofs.Rounding.{drop-at}
 
 -- ---- one dimension

@@ -1,6 +1,6 @@
 -- How many of the leaf cells below a cell pass tests of their elements: the product, over the dimensions, of how many
 -- leaves that count there pass.
-use Rattle.std.proofs.Common.{◌≡◌, ◌≢◌, refl, sym, ap, ◌∙◌, arith, ℕ, zero, suc, ◌+◌, ◌*◌, ◌<◌, ◌≤◌, ◌⊎◌, inl, inr, Bool, true, false, ◌&&◌, ◌||◌, cond, ltb, ◌==◌, ℤ, pos, ◌*ℤ◌, List, [], ◌∷◌, ◌++◌, length, map, filter, get_or, Some, zero-mul, add-mul, if◌then◌else◌}
+use Rattle.std.proofs.Common.{◌≡◌, refl, sym, ap, ◌∙◌, arith, ℕ, zero, suc, ◌+◌, ◌*◌, ◌<◌, ◌≤◌, ◌⊎◌, inl, inr, Bool, true, false, ◌&&◌, cond, ltb, ◌==◌, ℤ, pos, ◌*ℤ◌, List, [], ◌∷◌, ◌++◌, length, map, filter, get_or, Some, zero-mul, if◌then◌else◌}
 use Rattle.std.specs.Prelude.{slice_get}
 use Rattle.std.specs.List.{flat_map, range_with_len, list_any}
 use Rattle.std.proofs.lemmas.Bool.{and_parts, and_from, lt-ltb, ltb-true, cases_lt, eq-eqb, ne_eqb}
@@ -8,7 +8,7 @@ use Rattle.std.proofs.lemmas.Bool.Decides.{same_from_decides}
 use Rattle.std.proofs.lemmas.List.FromFn.{fill_by_all}
 use Rattle.dim_core.specs.Outline.{Outline, IsDimension, IsElement, components_of}
 use Rattle.dim_weights.specs.Coefficients.{coef}
-use Rattle.dim_weights.specs.Table.{is_nonzero, nonzero_among, leaves_of}
+use Rattle.dim_weights.specs.Table.{is_nonzero, leaves_of}
 use Rattle.dim_weights.proofs.Equations.{only-leaves}
 use Rattle.dim_weights.proofs.Nonzero.{both-factors, first-factor, second-factor, nonzero-counts}
 use Rattle.cube_space.specs.Radix.{are_digits, all_digits}

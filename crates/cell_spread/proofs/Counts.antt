@@ -1,5 +1,5 @@
 -- The product that counts the leaf cells below, dimension by dimension.
-use Rattle.std.proofs.Common.{◌≡◌, refl, sym, ap, ◌∙◌, arith, ℕ, zero, suc, ◌+◌, ◌*◌, ◌<◌, ◌≤◌, ℤ, List, [], ◌∷◌, length, map, drop, get_or, Some}
+use Rattle.std.proofs.Common.{◌≡◌, refl, sym, ap, ◌∙◌, arith, ℕ, ◌+◌, ◌*◌, ◌<◌, ◌≤◌, ℤ, List, [], ◌∷◌, length, drop, Some}
 use Rattle.std.specs.Prelude.{slice_get, slice_index_or}
 use Rattle.std.specs.List.{range_with_len}
 use Rattle.std.proofs.lemmas.List.{length-map}
@@ -14,7 +14,7 @@ use Rattle.rule_model.specs.Weights.{leaves_below}
 use Rattle.rule_model.proofs.Coefs.{axes_at}
 use Rattle.cell_spread.specs.Spread.{cells_below}
 use Rattle.cell_spread.specs.Inside.Counts.{leaf_product}
-use Rattle.cell_spread.proofs.Counting.{tally, tally-all, counts, below-tally}
+use Rattle.cell_spread.proofs.Counting.{tally-all, counts, below-tally}
 use Rattle.cell_spread.proofs.Rounding.{drop-at}
 use Rattle.cell_spread.proofs.Walks.{among-few}
 

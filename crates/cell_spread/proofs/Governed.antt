@@ -1,15 +1,14 @@
 -- Which statements govern a leaf cell below a cell.
-use Rattle.std.proofs.Common.{◌≡◌, refl, sym, ap, ◌∙◌, subst, arith, ℕ, zero, suc, ◌+◌, ◌*◌, ◌<◌, ◌≤◌, ◌⊎◌, inl, inr, mul-pos, Bool, true, false, ◌&&◌, ◌||◌, ltb, eqb, List, [], ◌∷◌, length, map, drop, get_or, Option, Some, None, All, ℤ, if◌then◌else◌}
+use Rattle.std.proofs.Common.{◌≡◌, refl, sym, ap, ◌∙◌, arith, ℕ, zero, suc, ◌+◌, ◌*◌, ◌<◌, ◌≤◌, ◌⊎◌, inl, inr, mul-pos, Bool, true, false, ◌&&◌, ◌||◌, ltb, eqb, List, [], ◌∷◌, length, map, get_or, Option, Some, None, All, ℤ}
 use Rattle.std.specs.Prelude.{is_some, option_map}
-use Rattle.std.specs.List.{AllZip, list_any, list_all, zip, position, position_or_len}
+use Rattle.std.specs.List.{AllZip, list_any, position, position_or_len}
 use Rattle.std.proofs.lemmas.Bool.{lt-ltb, cases_lt, eq-eqb}
 use Rattle.std.proofs.lemmas.Bool.Decides.{nat_tests}
 use Rattle.std.proofs.lemmas.List.Elements.{All-head, All-tail}
-use Rattle.dim_core.specs.Outline.{Outline, IsDimension}
+use Rattle.dim_core.specs.Outline.{Outline}
 use Rattle.dim_weights.specs.Table.{leaves_of}
 use Rattle.cube_space.specs.Layout.{axes, sizes_of}
 use Rattle.cube_space.specs.Cells.{IsSpace, IsCell, cube_of, elements_of, is_leaf_cell}
-use Rattle.rule_laws.specs.declared.formula.Formula.{Formula}
 use Rattle.rule_laws.specs.RuleSystem.{Rule, part_at}
 use Rattle.rule_model.specs.declared.rules.Statement.{Statement}
 use Rattle.rule_model.specs.BoundModel.{BoundModel, rules_of}

@@ -1,9 +1,8 @@
 -- Ratios rounded down, and what is left of them.
-use Rattle.std.proofs.Common.{◌≡◌, ◌≢◌, refl, sym, ap, ◌∙◌, arith, ℕ, zero, suc, ◌+◌, ◌-◌, ◌*◌, ◌/◌, ◌%◌, ◌<◌, ◌≤◌, Bool, true, false, ℤ, pos, negsuc, ◌+ℤ◌, ◌-ℤ◌, ◌*ℤ◌, neg_ℤ, unsigned_abs, List, [], ◌∷◌}
+use Rattle.std.proofs.Common.{◌≡◌, ◌≢◌, refl, sym, ap, ◌∙◌, arith, ℕ, zero, suc, ◌+◌, ◌-◌, ◌*◌, ◌/◌, ◌%◌, ◌<◌, ◌≤◌, true, ℤ, pos, negsuc, ◌+ℤ◌, ◌-ℤ◌, ◌*ℤ◌, neg_ℤ, unsigned_abs}
 use Rattle.std.specs.Prelude.{◌<ℤ◌, ◌≤ℤ◌}
 use Rattle.std.specs.Int.{int_div_euclid, int_rem_euclid}
-use Rattle.std.specs.Ordering.{int_eq}
-use Rattle.std.proofs.Math.IntN.{*ℤ-negsuc, *ℤ-zero, zero-*ℤ}
+use Rattle.std.proofs.Math.IntN.{*ℤ-negsuc}
 use Rattle.std.proofs.lemmas.Bool.Decides.{Decides-int_eq}
 use Rattle.std.proofs.lemmas.Int.{ints}
 use borrow.Author.Differences.{up, down}

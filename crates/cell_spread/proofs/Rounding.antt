@@ -1,5 +1,5 @@
 -- Shares that are rounded down, but the first so many that aren't whole rounded up.
-use Rattle.std.proofs.Common.{◌≡◌, ◌≢◌, refl, sym, ap, ◌∙◌, subst, arith, ℕ, zero, suc, pred, ◌+◌, ◌-◌, ◌*◌, ◌/◌, ◌%◌, mul_comm, ◌<◌, ◌≤◌, ◌⊎◌, inl, inr, mul-pos, leb, ◌++◌, length, drop, drop-cons, get_or, append_assoc, append-nil, Bool, true, false, not, ◌&&◌, ltb, ℤ, pos, negsuc, ◌+ℤ◌, ◌-ℤ◌, ◌*ℤ◌, neg_ℤ, unsigned_abs, List, [], ◌∷◌, if◌then◌else◌}
+use Rattle.std.proofs.Common.{◌≡◌, ◌≢◌, refl, sym, ap, ◌∙◌, arith, ℕ, zero, suc, pred, ◌+◌, ◌-◌, ◌*◌, ◌/◌, ◌%◌, mul_comm, ◌<◌, ◌≤◌, ◌⊎◌, inl, inr, mul-pos, leb, ◌++◌, length, drop, drop-cons, get_or, append_assoc, append-nil, Bool, true, false, not, ◌&&◌, ltb, ℤ, pos, negsuc, ◌+ℤ◌, ◌-ℤ◌, ◌*ℤ◌, unsigned_abs, List, [], ◌∷◌, if◌then◌else◌}
 use Rattle.std.specs.List.{AllZip}
 use Rattle.std.proofs.Math.IntN.{*ℤ-zero, zero-*ℤ, *ℤ-negsuc}
 use Rattle.std.proofs.Math.Nat.{mul-le-mul}
@@ -12,7 +12,7 @@ use Rattle.std.proofs.lemmas.List.{drop_all}
 use Rattle.std.proofs.lemmas.Bool.Decides.{nat_tests}
 use Rattle.cell_spread.specs.Spread.{are_in_range}
 use Rattle.cell_spread.specs.Inside.Remainders.{left_of, lefts_of}
-use Rattle.cell_spread.proofs.Ratios.{times-plus, plus-times, turned, turned-plus, turned-zero, turned-own, some-size, IsFloor, is-floor, whole-none, none-whole}
+use Rattle.cell_spread.proofs.Ratios.{times-plus, plus-times, turned, turned-plus, turned-zero, turned-own, some-size, is-floor, whole-none, none-whole}
 
 pub drop-at : {X : Type 0} (xs : List X) (from : ℕ) (d : X) → from < length xs → drop from xs ≡ get_or xs from d ∷ drop (from + 1) xs
 drop-at xs from d low = let e : suc from ≡ from + 1 = omega arith in drop-cons xs from d low ∙ ap (λ n. get_or xs from d ∷ drop n xs) e

@@ -14,7 +14,7 @@ use Rattle.cube_space.specs.Cells.{IsSpace, is_leaf_cell}
 use Rattle.cube_space.specs.Cells as cells
 use Rattle.cell_store.specs.declared.entry.Entry.{Entry}
 use Rattle.cell_store.specs.Entries.{number_at, after_writes}
-use Rattle.dim_weights.specs.Table.{is_nonzero, nonzero_among}
+use Rattle.dim_weights.specs.Table.{is_nonzero}
 use Rattle.dim_weights.proofs.Nonzero.{zero-is}
 use Rattle.rule_laws.specs.RuleSystem.{IsCell, SolvesRules, governing, weighted_sum}
 use Rattle.rule_laws.proofs.StatementFacts.{value_by-ungoverned}

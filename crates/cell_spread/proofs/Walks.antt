@@ -1,6 +1,6 @@
 -- A walk over stored cells and all others passes every leaf cell below a cell.
-use Rattle.std.proofs.Common.{◌≡◌, refl, sym, ap, ◌∙◌, subst, arith, ℕ, zero, suc, ◌+◌, ◌<◌, ◌≤◌, ◌⊎◌, inl, inr, Bool, true, false, not, ◌||◌, leb, eqb, ℤ, pos, List, [], ◌∷◌, ◌++◌, length, map, filter, get_or, find, Option, Some, None, All}
-use Rattle.std.specs.List.{range_with_len, list_any}
+use Rattle.std.proofs.Common.{◌≡◌, refl, sym, ap, ◌∙◌, subst, arith, ℕ, zero, suc, ◌+◌, ◌<◌, ◌≤◌, inl, inr, Bool, true, false, not, ◌||◌, leb, eqb, ℤ, pos, List, [], ◌∷◌, ◌++◌, length, filter, get_or, find, Some, None, All}
+use Rattle.std.specs.List.{range_with_len}
 use Rattle.std.specs.List.Sorted.{IsStrictlyIncreasing}
 use Rattle.std.specs.Option.{option_map_or}
 use Rattle.std.specs.Ordering.{int_eq}
@@ -9,10 +9,9 @@ use Rattle.std.proofs.lemmas.Bool.Decides.{nat_tests, Decides-int_eq}
 use Rattle.std.proofs.lemmas.List.Elements.{All-head, All-tail}
 use Rattle.std.proofs.lemmas.List.FromFn.{length-range_with_len, get_or-range_with_len}
 use Rattle.cube_space.specs.Layout.{Layout}
-use Rattle.cube_space.specs.Cells.{IsCell, size_of, is_leaf_cell}
+use Rattle.cube_space.specs.Cells.{size_of}
 use Rattle.cell_store.specs.declared.entry.Entry.{Entry}
 use Rattle.cell_store.specs.Entries.{number_at}
-use Rattle.cell_store.specs.Cells.{next_from}
 use Rattle.dim_order.specs.Members.{is_among}
 use Rattle.dim_order.proofs.Depths.{among-at}
 use Rattle.dim_weights.specs.Table.{is_nonzero, nonzero_among}
@@ -22,7 +21,6 @@ use Rattle.stored_laws.specs.Stored.{stored_in}
 use Rattle.sparse_sum.specs.Live.{is_live, live_below}
 use Rattle.sparse_sum.specs.Walking.{left, begun}
 use Rattle.sparse_sum.proofs.Totals.{all-left}
-use Rattle.cell_spread.specs.Spread.{cells_below}
 
 -- ---- all numbers below a size
 

@@ -1,28 +1,19 @@
 -- What cells have after an amount was spread.
-use Rattle.std.proofs.Common.{◌≡◌, ◌≢◌, refl, sym, ap, ◌∙◌, subst, arith, ℕ, zero, suc, ◌+◌, ◌<◌, ◌≤◌, ◌⊎◌, inl, inr, Bool, true, false, not, ◌||◌, cond, eqb, ltb, leb, ℤ, pos, negsuc, ◌+ℤ◌, ◌*ℤ◌, List, [], ◌∷◌, ◌++◌, length, map, filter, get_or, Option, Some, None, All, Contains, unsigned_abs, append-nil, if◌then◌else◌}
-use Rattle.std.specs.Prelude.{is_some, option_map, nat_lt}
-use Rattle.std.specs.List.{AllZip, range_with_len, list_any, list_all}
+use Rattle.std.proofs.Common.{◌≡◌, ◌≢◌, refl, sym, ap, ◌∙◌, subst, arith, ℕ, suc, ◌<◌, inl, inr, Bool, true, false, cond, eqb, ltb, ℤ, pos, ◌+ℤ◌, List, [], ◌∷◌, ◌++◌, map, filter, Contains, append-nil}
+use Rattle.std.specs.List.{AllZip, range_with_len}
 use Rattle.std.specs.Ordering.{int_eq}
-use Rattle.std.proofs.Math.IntN.{*ℤ_comm, *ℤ-one}
-use Rattle.std.proofs.lemmas.Bool.{cases_lt, cases_eq, ltb-true}
+use Rattle.std.proofs.lemmas.Bool.{cases_lt}
 use Rattle.std.proofs.lemmas.Bool.Decides.{Decides-int_eq, eqb_tells, nat_tests}
 use Rattle.std.proofs.lemmas.Int.{ints}
-use Rattle.std.proofs.lemmas.List.Elements.{All-head, All-tail, All-nil, All-cons, All-append}
-use Rattle.std.proofs.lemmas.List.Elements as elements
 use Rattle.std.proofs.lemmas.List.Kept.{IsStrictlyIncreasing-filter}
-use Rattle.cube_fixed.specs.Range.{IsInRange, most_millionths}
-use Rattle.cube_fixed.specs.Arithmetic.{fit}
-use Rattle.cube_fixed.specs.declared.value.Value.{Value}
-use Rattle.cube_fixed.specs.declared.value.Value.TheVariants.{Num}
 use Rattle.cube_space.specs.Layout.{Layout}
-use Rattle.cube_space.specs.Cells.{IsCell, size_of, is_leaf_cell}
+use Rattle.cube_space.specs.Cells.{size_of, is_leaf_cell}
 use Rattle.cell_store.specs.declared.entry.Entry.{Entry}
-use Rattle.cell_store.specs.Entries.{IsStore, below, above, kept_of, number_at, with_write, after_writes}
+use Rattle.cell_store.specs.Entries.{above, kept_of, number_at, with_write, after_writes}
 use Rattle.cell_store.proofs.Numbers.{number_at-head, number_at-later}
 use Rattle.cell_store.proofs.Rising.{AllAbove, Rises, Rises-from_increasing}
 use Rattle.dim_weights.specs.Table.{is_nonzero, nonzero_among}
-use Rattle.dim_weights.proofs.Nonzero.{zero-is}
-use Rattle.rule_model.specs.Weights.{weight, leaf_cells, leaves_below}
+use Rattle.rule_model.specs.Weights.{weight, leaf_cells}
 use Rattle.cell_spread.specs.Shares.{sum_of}
 use Rattle.cell_spread.specs.Spread.{cells_below}
 use Rattle.cell_spread.proofs.Walks.{range-rises}

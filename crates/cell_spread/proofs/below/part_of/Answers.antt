@@ -1,4 +1,4 @@
-use Rattle.std.proofs.Common.{rules, ◌≡◌, ◌∙◌, sym, ap, pos, ℕ, w64, to_z, of_z}
+use Rattle.std.proofs.Common.{rules, ◌∙◌, sym, ap, pos, w64}
 use Rattle.std.specs.Option.{option_map_or}
 use Rattle.std.proofs.lemmas.Int.{to_z-of_z}
 use mir.Val.{SFits}

@@ -1,9 +1,8 @@
-use Rattle.std.proofs.Common.{rules, ◌≡◌, ◌<◌, ◌≤◌, ◌+◌, ◌*◌, ◌∙◌, ℕ, length, sym, ap, subst, arith, drop, slice_index_or, mul-le-mul}
+use Rattle.std.proofs.Common.{rules, ◌<◌, ◌≤◌, ◌+◌, ◌*◌, ◌∙◌, ℕ, length, sym, ap, subst, arith, drop, slice_index_or, mul-le-mul}
 use Rattle.cube_space.specs.Layout.{axes_of, sizes_of, most_model_cells}
 use Rattle.cube_space.specs.Radix.{product}
 use Rattle.dim_weights.specs.Table.{leaves_of}
 use Rattle.rule_model.proofs.Coefs.{IsAt, is_at, rest_small}
-use Rattle.cell_spread.specs.Inside.Counts.{leaf_product}
 use Rattle.cell_spread.proofs.Counts.{product-at, sizes-at, leaves-few}
 use Rattle.cell_spread.proofs.count.+leaf_product.Goals.{After-weights, After-leaf_product}
 use Rattle.cell_spread.proofs.count.+leaf_product.Goals as goal

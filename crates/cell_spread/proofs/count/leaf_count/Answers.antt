@@ -1,7 +1,6 @@
-use Rattle.std.proofs.Common.{rules, ◌≡◌, ◌∙◌, ◌≤◌, sym, ap, subst, arith, take, length}
-use Rattle.cube_space.specs.Radix.{product}
-use Rattle.cube_space.specs.Layout.{Layout, axes, axes_of, sizes_of, most_model_cells}
-use Rattle.cube_space.specs.Cells.{IsSpace, IsCell, cube_of, elements_of}
+use Rattle.std.proofs.Common.{◌∙◌, sym, ap, subst, arith, take, length}
+use Rattle.cube_space.specs.Layout.{Layout, axes}
+use Rattle.cube_space.specs.Cells.{IsSpace, cube_of}
 use Rattle.model_laws.proofs.Placed.{IsPlaced, placed}
 use Rattle.sparse_sum.proofs.Placed.{cube-there, cells-of, run-within}
 use Rattle.cell_spread.specs.Inside.Counts.{leaf_product}

@@ -1,10 +1,10 @@
-use Rattle.std.proofs.Common.{rules, ◌≡◌, ◌∙◌, ◌<◌, ◌||◌, sym, ap, subst, arith, true, false, Bool, ℕ, List, All, take, length, get_or}
+use Rattle.std.proofs.Common.{◌≡◌, ◌∙◌, ◌||◌, sym, ap, subst, arith, Bool, ℕ, List, All, take, length, get_or}
 use Rattle.std.specs.List.{AllZip, list_any}
 use Rattle.std.proofs.lemmas.List.{take_all}
 use Rattle.std.proofs.lemmas.List.Folds.{list_any_more, list_any_at}
 use Rattle.dim_core.specs.Outline.{Outline}
-use Rattle.cube_space.specs.Layout.{Layout, axes, axes_of, sizes_of}
-use Rattle.cube_space.specs.Cells.{IsSpace, IsCell, cube_of, elements_of}
+use Rattle.cube_space.specs.Layout.{Layout, axes, sizes_of}
+use Rattle.cube_space.specs.Cells.{IsSpace, cube_of, elements_of}
 use Rattle.cube_space.proofs.Places.{cell-place}
 use Rattle.rule_model.specs.declared.rules.CubeRules.{CubeRules}
 use Rattle.rule_model.specs.declared.rules.Statement.{Statement}

@@ -1,4 +1,4 @@
-use Rattle.std.proofs.Common.{rules, ◌≡◌, ◌∙◌, sym, ap, arith, Bool, ◌&&◌, ◌+◌, drop}
+use Rattle.std.proofs.Common.{◌∙◌, sym, ap, arith, Bool, ◌&&◌, ◌+◌, drop}
 use Rattle.cube_space.specs.Layout.{axes_of}
 use Rattle.rule_model.proofs.Coefs.{is_at}
 use Rattle.cell_spread.specs.Inside.Meets.{meets}

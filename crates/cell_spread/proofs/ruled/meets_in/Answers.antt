@@ -1,4 +1,4 @@
-use Rattle.std.proofs.Common.{rules, ◌≡◌, ◌∙◌, sym, ap, subst, arith, ℕ, ℤ, List, length, not, Option, Some, None, ◌==◌, ◌<◌}
+use Rattle.std.proofs.Common.{◌≡◌, ◌∙◌, sym, ap, subst, arith, ℕ, ℤ, List, length, not, Some, ◌==◌, ◌<◌}
 use Rattle.std.specs.List.{list_any}
 use Rattle.dim_weights.specs.Table.{is_nonzero, leaves_of, share}
 use Rattle.rule_model.specs.Conditions.{IsSet}

@@ -1,7 +1,7 @@
-use Rattle.std.proofs.Common.{rules, ◌≡◌, ◌∙◌, ◌≢◌, ◌+◌, ◌*◌, ◌/◌, ◌<◌, ◌≤◌, ◌*ℤ◌, pos, ℕ, ℤ, sym, ap, subst, arith, length, get_or, unsigned_abs, w64, FitsSigned, to_z, of_z}
+use Rattle.std.proofs.Common.{rules, ◌≡◌, ◌∙◌, ◌≢◌, ◌*◌, ◌/◌, ◌<◌, ◌≤◌, ◌*ℤ◌, pos, ℕ, ℤ, sym, ap, subst, arith, length, get_or, unsigned_abs, w64, FitsSigned}
 use Rattle.std.proofs.lemmas.Int.{ints, to_z-of_z}
 use mir.Syntax.{w128}
-use Rattle.cell_spread.specs.Shares.{sum_of, rest_of}
+use Rattle.cell_spread.specs.Shares.{sum_of}
 use Rattle.cell_spread.specs.Inside.Remainders.{left_of, lefts_of}
 use Rattle.cell_spread.proofs.Rounding.{rest-step, rest-size, rest-ends, rest-is-left, quotient-low}
 use Rattle.cell_spread.proofs.Ratios.{some-size}

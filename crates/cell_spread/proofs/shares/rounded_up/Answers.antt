@@ -1,4 +1,4 @@
-use Rattle.std.proofs.Common.{rules, ◌≡◌, ◌∙◌, refl, sym, ap, subst, inr, length, get_or, drop, ℕ, ℤ, ◌*ℤ◌, ◌+ℤ◌, pos, pred, ◌+◌, List, [], ◌∷◌, ◌++◌, true, if◌then◌else◌, w64, to_z, of_z, FitsSigned}
+use Rattle.std.proofs.Common.{rules, ◌≡◌, ◌∙◌, refl, sym, ap, subst, inr, get_or, drop, ℕ, ℤ, ◌*ℤ◌, ◌+ℤ◌, pos, pred, ◌+◌, List, [], ◌∷◌, ◌++◌, true, if◌then◌else◌, w64, to_z, of_z, FitsSigned}
 use Rattle.std.proofs.lemmas.Int.{to_z-of_z}
 use mir.Syntax.{w128}
 use Rattle.cube_fixed.specs.Range.{IsInRange}

@@ -1,10 +1,10 @@
-use Rattle.std.proofs.Common.{rules, ◌≡◌, ◌≢◌, ◌∙◌, ◌≤◌, ◌⊎◌, sym, ap, subst, arith, true, false, ℕ, ℤ, pos, List, length, Result, IfOk, IfErr}
+use Rattle.std.proofs.Common.{◌≡◌, ◌≢◌, ◌∙◌, ◌⊎◌, sym, ap, subst, arith, true, false, ℕ, ℤ, pos, List, length, IfOk, IfErr}
 use Rattle.std.proofs.lemmas.Result.{err_from_is_err_and}
 use Rattle.cube_space.specs.Layout.{Layout}
 use Rattle.cube_space.specs.Cells.{is_leaf_cell}
 use Rattle.cell_spread.specs.declared.fault.SpreadFault.TheVariants.{Memory, NothingThere, OverWrite}
 use Rattle.cell_spread.specs.Shares.{sum_of, shared_out}
-use Rattle.cell_spread.specs.Spread.{are_in_range, parts_of, writes_of}
+use Rattle.cell_spread.specs.Spread.{are_in_range, writes_of}
 use Rattle.cell_spread.proofs.Answering.{a-leaf, too-many, heavy, ruled, shared, parts-few}
 use Rattle.cell_spread.proofs.writes.spread.Goals as goal
 
