@@ -1,9 +1,10 @@
 -- The shares of an amount are written into leaf cells.
-use Rattle.std.proofs.Common.{◌≡◌, ℕ, zero, suc, ℤ, pos, ◌+ℤ◌, ◌*ℤ◌, Bool, true, false, if◌then◌else◌, List, [], ◌∷◌, All}
+use Rattle.std.proofs.Common.{◌≡◌, ℕ, ℤ, pos, ◌+ℤ◌, ◌*ℤ◌, Bool, true, false, if◌then◌else◌, List, [], ◌∷◌, All}
+use Rattle.std.specs.Prelude.{pred}
 use Rattle.std.proofs.lemmas.List.Elements.{All-nil, All-cons, All-head, All-tail, All-map}
-use Rattle.cell_spread.specs.Shares.{floors_of, floor_ratio, is_whole_ratio, rest_of, rounded_up, shared_out, sum_of}
+use Rattle.cell_spread.specs.Shares.{floor_ratio, goes_up, rest_of, rounded_up, shared_out, sum_of}
 use Rattle.cell_spread.specs.Spread.{cells_below, part_of, parts_of, writes_of}
-use Rattle.cell_spread.specs.declared.spread.How.{How}
+use Rattle.cell_spread.specs.declared.writes.How.{How}
 use Rattle.cell_store.specs.declared.entry.Entry.{Entry}
 use Rattle.cell_versions.specs.Versions.{AreLeafWrites}
 use Rattle.cube_space.specs.Cells.{IsCell, is_leaf_cell}
@@ -18,23 +19,18 @@ module _ (P : ℕ → Type 0) where
   abbrev Each : List (ℕ × ℤ) → Type 0
   Each pairs = All (λ pair. P pair.0) pairs
 
-  each-floor : (amount total : ℤ) (parts : List (ℕ × ℤ)) → Each parts → Each (floors_of amount total parts)
-  each-floor amount total parts all =
-      All-map (λ pair. P pair.0) (λ (one : ℕ × ℤ). (one.0, floor_ratio (amount *ℤ one.1) total)) parts all
-
   each-rounded : (amount total : ℤ) (up : ℕ) (parts : List (ℕ × ℤ)) → Each parts → Each (rounded_up amount total up parts)
   each-rounded amount total up [] all = All-nil (λ pair. P pair.0)
-  each-rounded amount total zero (one ∷ parts) all = each-floor amount total (one ∷ parts) all
-  each-rounded amount total (suc up) (one ∷ parts) all =
+  each-rounded amount total up (one ∷ parts) all =
       let here = All-head (λ (pair : ℕ × ℤ). P pair.0) one parts all in
       let later = All-tail (λ (pair : ℕ × ℤ). P pair.0) one parts all in
-      by (is_whole_ratio (amount *ℤ one.1) total) here (each-rounded amount total (suc up) parts later) (each-rounded amount total up parts later)
+      by (goes_up amount total up one.1) here (each-rounded amount total (pred up) parts later) (each-rounded amount total up parts later)
     where
-      by : (b : Bool) → P one.0 → Each (rounded_up amount total (suc up) parts) → Each (rounded_up amount total up parts)
-          → Each (if b then (one.0, floor_ratio (amount *ℤ one.1) total) ∷ rounded_up amount total (suc up) parts
-          else (one.0, floor_ratio (amount *ℤ one.1) total +ℤ pos 1) ∷ rounded_up amount total up parts)
-      by true here same less = All-cons (λ pair. P pair.0) (one.0, floor_ratio (amount *ℤ one.1) total) (rounded_up amount total (suc up) parts) here same
-      by false here same less = All-cons (λ pair. P pair.0) (one.0, floor_ratio (amount *ℤ one.1) total +ℤ pos 1) (rounded_up amount total up parts) here less
+      by : (b : Bool) → P one.0 → Each (rounded_up amount total (pred up) parts) → Each (rounded_up amount total up parts)
+          → Each (if b then (one.0, floor_ratio (amount *ℤ one.1) total +ℤ pos 1) ∷ rounded_up amount total (pred up) parts
+          else (one.0, floor_ratio (amount *ℤ one.1) total) ∷ rounded_up amount total up parts)
+      by true here less same = All-cons (λ pair. P pair.0) (one.0, floor_ratio (amount *ℤ one.1) total +ℤ pos 1) (rounded_up amount total (pred up) parts) here less
+      by false here less same = All-cons (λ pair. P pair.0) (one.0, floor_ratio (amount *ℤ one.1) total) (rounded_up amount total up parts) here same
 
   each-share : (amount : ℤ) (parts : List (ℕ × ℤ)) → Each parts → Each (shared_out amount parts)
   unfolding shared_out

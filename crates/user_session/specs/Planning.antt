@@ -11,8 +11,8 @@ use Rattle.cell_reader.specs.declared.write_permission.Closed.{Closed}
 use Rattle.cell_reader.specs.declared.write_permission.Closed.TheVariants as closed
 use Rattle.cell_spread.specs.Spread.{refusal_of, writes_of as shares_of}
 use Rattle.cell_spread.specs.declared.fault.SpreadFault.{SpreadFault}
-use Rattle.cell_spread.specs.declared.spread.How.{How}
-use Rattle.cell_spread.specs.declared.spread.How.TheVariants as ways
+use Rattle.cell_spread.specs.declared.writes.How.{How}
+use Rattle.cell_spread.specs.declared.writes.How.TheVariants as ways
 use Rattle.cell_store.specs.declared.entry.Entry.{Entry}
 use Rattle.cell_store.specs.Entries.{after_writes}
 use Rattle.cell_store.specs.StoreLimit.{most_cells}
