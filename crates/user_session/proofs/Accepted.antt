@@ -8,6 +8,7 @@ use Rattle.cell_reader.specs.WritePermission.{why_closed}
 use Rattle.cell_reader.specs.declared.write_permission.Closed.{Closed}
 use Rattle.cell_spread.specs.Spread.{refusal_of, writes_of as shares_of}
 use Rattle.cell_spread.specs.declared.fault.SpreadFault.{SpreadFault}
+use Rattle.cell_spread.specs.declared.writes.How.{How}
 use Rattle.cell_store.specs.declared.entry.Entry.{Entry}
 use Rattle.cell_store.specs.Entries.{after_writes}
 use Rattle.cell_store.specs.StoreLimit.{most_cells}
@@ -70,22 +71,19 @@ put-within content (Some c) number writes reply cell is = by (why_closed content
 
 -- ---- an accepted SPREAD
 
+shares-within : (content : Content) (c : ℕ) (amount : ℤ) (how : How) (why : Option SpreadFault) (writes : List (ℕ × ℤ)) (reply : List ℕ)
+    → unless_fault why (write_effect content (shares_of content.model.space content.stored c amount how)) ≡ Commit writes reply → AreWithin content writes
+shares-within content c amount how (Some why) writes reply is = absurd (cc)
+shares-within content c amount how None writes reply is =
+    let shares = shares_of content.model.space content.stored c amount how in
+    let parts = limited content.model (after_writes content.stored shares) shares writes reply is in
+    subst (AreWithin content) parts.0 (record { leaves = shares-leaves content.model.space content.stored c amount how; within = λ before. parts.1 })
+
 spread-within : (content : Content) (named : Option ℕ) (amount : ℤ) (how : SpreadWord) (writes : List (ℕ × ℤ)) (reply : List ℕ) → spread_effect content named amount how ≡ Commit writes reply
     → AreWithin content writes
 spread-within content None amount how writes reply is = absurd (cc)
-spread-within content (Some c) amount how writes reply is = by (refusal_of content.model content.stored c amount (how_of how)) is
-  where
-    abbrev shares : List (ℕ × ℤ)
-    shares = shares_of content.model.space content.stored c amount (how_of how)
-
-    by : (why : Option SpreadFault) → unless_fault why (write_effect content shares) ≡ Commit writes reply → AreWithin content writes
-    by (Some why) is = absurd (cc)
-    by None is =
-        let parts = limited content.model (after_writes content.stored shares) shares writes reply is in
-        subst (AreWithin content) parts.0 (record {
-          leaves = shares-leaves content.model.space content.stored c amount (how_of how);
-          within = λ before. parts.1;
-        })
+spread-within content (Some c) amount how writes reply is =
+    shares-within content c amount (how_of how) (refusal_of content.model content.stored c amount (how_of how)) writes reply is
 
 -- ---- an accepted LOAD
 

@@ -32,11 +32,7 @@ pub(crate) fn written(
 }
 
 // Which limit the version passes that these writes make, if it passes one. For one write it is rarely made.
-fn check_limits(
-    alloc: Global,
-    state: &Snapshot,
-    writes: &[(u64, Money)],
-) -> Result<(), NextFault>
+fn check_limits(alloc: Global, state: &Snapshot, writes: &[(u64, Money)]) -> Result<(), NextFault>
     requires { AreLeafWrites (content_of state.now).model.space writes.now }
     ensures { let content = content_of state.now in
         IsLimitAnswer content.model (after_writes content.stored writes.now) result }
