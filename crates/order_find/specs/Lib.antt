@@ -2,3 +2,6 @@ pub mod Numbers
 pub mod Ways
 pub mod Slots
 pub mod PlanOfAll
+pub mod Unlagged
+pub mod Circles
+pub mod Found

@@ -1,11 +1,12 @@
 -- When a plan is one of its model: its sources are all that statements read at the same lag.
-use Rattle.std.specs.Prelude.{◌≡◌, ℕ, ◌<◌, Bool, true, false, Some, None, List, [], length, Contains, ◌⊎◌, ◌↔◌}
+use Rattle.std.specs.Prelude.{◌≡◌, ℕ, suc, ◌<◌, Bool, true, false, Some, None, List, [], length, Contains, ◌⊎◌, ◌↔◌}
 use Rattle.std.specs.Prelude.{IsTrue, slice_get, slice_index_or, slice_index}
 use Rattle.cube_space.specs.Layout.{axes}
 use Rattle.rule_laws.specs.Meaning.{Precedent}
 use Rattle.rule_model.specs.declared.rules.Statement.{Statement}
 use Rattle.rule_model.specs.Areas.{in_set}
 use Rattle.rule_model.specs.BoundModel.{BoundModel, rules_of}
+use Rattle.ref_order.specs.Counted.{Counted, counted_of}
 use Rattle.arrow_laws.specs.Nodes.{last_of, rank_of}
 use Rattle.arrow_laws.specs.Arrows.{Reads}
 use Rattle.arrow_laws.specs.ByDimension.{is_lagged, is_level, is_weak, HasEach, HasOtherTotal}
@@ -14,6 +15,7 @@ use Rattle.order_find.specs.declared.source.Source.{Source}
 use Rattle.order_find.specs.Numbers.{IsPlace, number_of}
 use Rattle.order_find.specs.Ways.{Follows, Same, Component, Always, Sent, SentOver, precedent, way_of, reads_from}
 use Rattle.order_find.specs.Slots.{Plan, IsPlan}
+use Rattle.order_find.specs.Circles.{read_for}
 
 -- the dimension by which the node that is read is found
 abbrev pub found_in : ℕ → Follows → ℕ
@@ -28,6 +30,14 @@ pub record IsRead (m : BoundModel) (s : Source) : Type 0 where
   pub statement : Statement
   pub stands : Contains (rules_of m s.cube).statements statement
   pub area : s.area.now ≡ statement.area
+  pub place : ℕ
+  pub number : s.statement ≡ suc place
+  pub here : slice_get (rules_of m s.cube).statements place ≡ Some statement
+  pub at : ℕ
+  pub counted : s.reference ≡ suc at
+  pub it : Counted
+  pub there : slice_get (counted_of statement) at ≡ Some it
+  pub own : read_for s.kind it ≡ Some (precedent s)
   pub reads : Reads m s.cube statement s.kind (precedent s)
   pub level : IsTrue (is_level m s.cube s.area.now s.kind (precedent s))
   pub not_lagged : is_lagged m s.cube s.area.now s.kind (precedent s) ≡ false

@@ -6,8 +6,10 @@
 #![tactic(auto)]
 
 mod arrows;
+mod fault;
 mod graph;
 mod laws;
+mod link;
 mod numbering;
 mod reading;
 mod slots;
@@ -16,5 +18,7 @@ mod tables;
 mod way;
 mod ways;
 
+pub use fault::FindFault;
 pub use graph::NodeGraph;
+pub use link::{Link, LinkBy};
 pub use laws::{ranks_of_the_graph_fit_the_model, ranks_of_the_model_fit_the_graph};

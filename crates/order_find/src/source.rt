@@ -7,6 +7,9 @@ pub struct Source<'a> {
     /// The cube of the statement, and its area.
     pub cube: u32,
     pub area: &'a Area,
+    /// The number of the statement in the cube, from 1, and that of the reference in the statement, from 1.
+    pub statement: u32,
+    pub reference: u32,
     /// Whether it is read for leaf cells.
     pub kind: bool,
     pub read: Read<'a>,

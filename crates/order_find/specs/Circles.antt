@@ -1,0 +1,61 @@
+-- Closed walks of arrows between the nodes of a model.
+use Rattle.std.specs.Prelude.{◌≡◌, ℕ, suc, ◌<◌, ◌≤◌, Bool, true, false, ◌||◌, ⊤, ⊥, ◌⊎◌, Option, Some}
+use Rattle.std.specs.Prelude.{List, [], ◌∷◌, slice_get, All, if◌then◌else◌}
+use Rattle.rule_laws.specs.Meaning.{Precedent}
+use Rattle.rule_model.specs.BoundModel.{BoundModel, rules_of}
+use Rattle.ref_order.specs.Counted.{Counted, counted_of}
+use Rattle.arrow_laws.specs.Nodes.{Node}
+use Rattle.arrow_laws.specs.Arrows.{IsReadArrow, IsLeafArrow}
+use Rattle.order_find.specs.declared.link.Link.{Link}
+use Rattle.order_find.specs.declared.link.LinkBy.{LinkBy}
+use Rattle.order_find.specs.declared.link.LinkBy.TheVariants.{Reference, Below}
+
+-- what a reference reads for this kind of cell, `true` for leaf cells
+abbrev pub read_for : Bool → Counted → Option Precedent
+read_for kind reference = if kind then reference.leaf else reference.cons
+
+-- an arrow that a reference makes: the statement of this number of a cube, from 1, and the reference of this number of
+-- the statement, from 1
+pub record IsArrowOf (m : BoundModel) (cube statement reference : ℕ) (from to : Node) (strict : Bool) : Type 0 where
+  pub arrow : IsReadArrow m from to strict
+  pub own : arrow.cube ≡ cube
+  pub place : ℕ
+  pub number : statement ≡ suc place
+  pub here : slice_get (rules_of m cube).statements place ≡ Some arrow.statement
+  pub at : ℕ
+  pub counted : reference ≡ suc at
+  pub it : Counted
+  pub there : slice_get (counted_of arrow.statement) at ≡ Some it
+  pub reads : read_for arrow.kind it ≡ Some arrow.precedent
+
+-- the node of a link, and the arrow that the link makes from there to another
+abbrev pub node_of : Link → Node
+node_of link = record { cube = link.cube; element = link.element }
+
+abbrev pub IsBy : BoundModel → Link → LinkBy → Node → Bool → Type 0
+IsBy m link (Reference statement reference) to strict =
+    IsArrowOf m link.cube statement reference (node_of link) to strict
+IsBy m link Below to strict = IsLeafArrow m (node_of link) to strict
+
+-- each link makes an arrow to the node of the next one, and the last one to `to`; whether one of them is strict
+abbrev pub IsWalk : BoundModel → List Link → Bool → Node → Node → Type 0
+IsWalk m [] strict from to = (from ≡ to) × (strict ≡ false)
+IsWalk m (link ∷ links) strict from to =
+    (node_of link ≡ from) × ((next : Node) × (here : Bool) × (later : Bool) × IsBy m link link.by next here
+    × IsWalk m links later next to × (strict ≡ (here || later)))
+
+-- a walk that leads back to where it begins, with a strict arrow
+abbrev pub IsCircle : BoundModel → List Link → Type 0
+IsCircle m links = (start : Node) × IsWalk m links true start start
+
+-- a reference of a cube comes no later than another, by cube, statement and number
+abbrev pub IsNoLater : Link → LinkBy → Link → LinkBy → Type 0
+IsNoLater one (Reference statement reference) other (Reference s r) =
+    (one.cube < other.cube) ⊎ ((one.cube ≡ other.cube) × ((statement < s) ⊎ ((statement ≡ s) × (reference ≤ r))))
+IsNoLater one (Reference statement reference) other Below = ⊤
+IsNoLater one Below other by = ⊥
+
+-- it begins with its reference that comes first
+abbrev pub BeginsLeast : List Link → Type 0
+BeginsLeast [] = ⊥
+BeginsLeast (first ∷ links) = All (λ link. IsNoLater first first.by link link.by) (first ∷ links)
