@@ -1,5 +1,6 @@
 -- A number that is entered in a consolidated cell and spread over the leaf cells below it.
-use Rattle.std.specs.Prelude.{◌≡◌, ℕ, ◌⊎◌, ⊤, ℤ, pos, Bool, not, ◌||◌, nat_lt, is_some, Option, Some, None, Result, Ok, Err, List, map, length, if◌then◌else◌}
+use Rattle.std.specs.Prelude.{◌≡◌, ℕ, ◌⊎◌, ⊤, ℤ, pos, Bool, not, ◌||◌, nat_lt, is_some, Option, Some, None}
+use Rattle.std.specs.Prelude.{Result, Ok, Err, List, map, length, if◌then◌else◌}
 use Rattle.std.specs.List.{list_any, list_all}
 use Rattle.std.specs.Ordering.{int_eq}
 use Rattle.cube_fixed.specs.Range.{is_in_range}
@@ -12,7 +13,9 @@ use Rattle.rule_model.specs.BoundModel.{BoundModel}
 use Rattle.rule_model.specs.Governing.{governing_from}
 use Rattle.rule_model.specs.Weights.{leaves_below}
 use Rattle.cell_spread.specs.declared.fault.SpreadFault.{SpreadFault}
-use Rattle.cell_spread.specs.declared.fault.SpreadFault.TheVariants.{IsALeaf, SpreadLimit, Weighted, RuleDerived, NothingThere, OverWrite, Memory}
+use Rattle.cell_spread.specs.declared.fault.SpreadFault.TheVariants.{IsALeaf, SpreadLimit, Weighted}
+use Rattle.cell_spread.specs.declared.fault.SpreadFault.TheVariants.{RuleDerived, NothingThere, OverWrite}
+use Rattle.cell_spread.specs.declared.fault.SpreadFault.TheVariants.{Memory}
 use Rattle.cell_spread.specs.declared.writes.How.{How}
 use Rattle.cell_spread.specs.declared.writes.How.TheVariants.{Equal, Proportional}
 use Rattle.cell_spread.specs.Shares.{sum_of, shared_out}

@@ -27,11 +27,7 @@ impl CellSet for EachCell {
     ghost cells = { λ each. range_with_len 0 each.size };
 
     fn next_from(&self, cell: u64) -> Option<u64> {
-        if cell < self.size {
-            Some(cell)
-        } else {
-            None
-        }
+        if cell < self.size { Some(cell) } else { None }
     }
 }
 

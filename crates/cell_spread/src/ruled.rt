@@ -1,9 +1,9 @@
-ghost use Rattle.std.specs.Prelude.{◌≡◌, ◌<◌, true, All, length};
+ghost use Rattle.std.specs.Prelude.{◌≡◌, ◌<◌, ◌≤◌, true, All, length};
 ghost use Rattle.std.specs.List.{AllZip, list_any};
 ghost use Rattle.dim_core.specs.Outline.{Outline};
 ghost use Rattle.dim_weights.specs.Table.{IsWeightsOf, is_nonzero, leaves_in, share};
 ghost use Rattle.cube_space.specs.Cells.{IsCell};
-ghost use Rattle.cube_space.specs.Layout.{axes_of, sizes_of};
+ghost use Rattle.cube_space.specs.Layout.{axes_of, sizes_of, most_dimensions};
 ghost use Rattle.cube_space.specs.Radix.{are_digits};
 ghost use Rattle.rule_model.specs.Conditions.{IsSet};
 ghost use Rattle.cell_spread.specs.Spread.{is_governed, is_ruled, cells_below};
@@ -43,6 +43,7 @@ fn is_ruled_below(model: &Model, cell: u64) -> bool
 
 // Whether a statement has an N part, and in each of these dimensions a leaf in its area that counts in the element.
 fn speaks_below(model: &Model, dims: &[u32], at: &[u32], statement: &Statement) -> bool
+    requires few { length dims.now ≤ most_dimensions }
     requires dims { All (λ dim. dim < length model.now.space.dimensions) dims.now }
     requires at { are_digits (sizes_of (axes_of model.now.space.dimensions dims.now)) at.now ≡ true }
     requires sets { AllZip IsSet (sizes_of (axes_of model.now.space.dimensions dims.now)) statement.now.area.sets }
@@ -52,18 +53,20 @@ fn speaks_below(model: &Model, dims: &[u32], at: &[u32], statement: &Statement) 
 }
 
 // Whether these sets have, in each of these dimensions, a leaf that counts in the element.
-#[cycle(meets)]
 fn meets(model: &Model, dims: &[u32], at: &[u32], sets: &[Option<ListOf<u32>>]) -> bool
+    requires few { length dims.now ≤ most_dimensions }
     requires dims { All (λ dim. dim < length model.now.space.dimensions) dims.now }
     requires at { are_digits (sizes_of (axes_of model.now.space.dimensions dims.now)) at.now ≡ true }
     requires sets { AllZip IsSet (sizes_of (axes_of model.now.space.dimensions dims.now)) sets.now }
     ensures { result ≡ meets (axes_of model.now.space.dimensions dims.now) at.now sets.now }
 {
-    if dims.is_empty() {
-        return true;
+    'each: for place in 0..dims.len() {
+        let weights = &model.weights()[dims[place] as usize];
+        if !meets_in(weights, at[place], &sets[place]) {
+            return false;
+        }
     }
-    let weights = &model.weights()[dims[0] as usize];
-    meets_in(weights, at[0], &sets[0]) && meets(model, &dims[1..], &at[1..], &sets[1..])
+    true
 }
 
 // Whether a set has a leaf that counts in an element.

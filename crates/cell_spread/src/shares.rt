@@ -1,10 +1,11 @@
-ghost use Rattle.std.specs.Prelude.{◌≡◌, ◌≢◌, ◌*◌, ◌<◌, ◌≤◌, ◌⊎◌, ℕ, pos, ◌+ℤ◌, ◌*ℤ◌, ◌<ℤ◌, true, false, length, All};
+ghost use Rattle.std.specs.Prelude.{◌≡◌, ◌≢◌, ◌*◌, ◌<◌, ◌≤◌, ◌⊎◌, ℕ, pos, ◌+ℤ◌, ◌*ℤ◌, ◌<ℤ◌, neg_ℤ, true, false};
+ghost use Rattle.std.specs.Prelude.{length, All};
 ghost use Rattle.std.specs.Prelude.{IfOk, IfErr, SomeIff, unsigned_abs, pred, if◌then◌else◌};
 ghost use Rattle.std.specs.Int.{int_div_euclid};
 ghost use Rattle.cube_fixed.specs.Range.{IsInRange, most_millionths};
 ghost use Rattle.cell_spread.specs.Shares.{sum_of, floor_ratio, goes_up, rounded_up, rest_of, shared_out};
 ghost use Rattle.cell_spread.specs.Spread.{are_in_range, most_spread};
-ghost use Rattle.cell_spread.specs.Inside.Remainders.{left_of};
+ghost use Rattle.cell_spread.specs.Inside.Remainders.{left_of, most_product};
 ghost use Rattle.cell_spread.specs.declared.fault.SpreadFault.TheVariants.{Memory, NothingThere, OverWrite};
 
 use crate::fault::SpreadFault;
@@ -46,6 +47,7 @@ fn rounded_up(
 ) -> Result<Vec<(u64, Money)>, SpreadFault>
     requires amount { IsInRange amount }
     requires total { total ≢ pos 0 }
+    requires size { unsigned_abs total ≤ most_product }
     requires small { All (λ one. IsInRange one.1) parts.now }
     ensures shares { IfOk result (λ shares. shares.items ≡ rounded_up amount total up parts.now) }
     ensures within { IfOk result (λ _. are_in_range (rounded_up amount total up parts.now) ≡ true) }
@@ -69,6 +71,7 @@ fn rounded_up(
 fn next_share(amount: i64, total: i128, up: u64, part: i64) -> (i128, u64)
     requires amount { IsInRange amount }
     requires total { total ≢ pos 0 }
+    requires size { unsigned_abs total ≤ most_product }
     requires part { IsInRange part }
     ensures share { result.0 ≡ (if goes_up amount total up part then floor_ratio (amount *ℤ part) total +ℤ pos 1
         else floor_ratio (amount *ℤ part) total) }
@@ -103,18 +106,35 @@ fn rest_of(amount: i64, total: i128, parts: &[(u64, i64)]) -> u64
 fn share_of(amount: i64, total: i128, part: i64) -> (i128, u128)
     requires amount { IsInRange amount }
     requires total { total ≢ pos 0 }
+    requires size { unsigned_abs total ≤ most_product }
     requires part { IsInRange part }
     ensures floor { result.0 ≡ floor_ratio (amount *ℤ part) total }
     ensures left { result.1 ≡ left_of (amount *ℤ part) total }
-    ensures size { unsigned_abs result.0 ≤ most_millionths * most_millionths }
+    ensures size { unsigned_abs result.0 ≤ most_product }
     ensures less { result.1 < unsigned_abs total }
 {
-    let product = i128::from(amount) * i128::from(part);
+    let product = product_of(amount, part);
     if total < 0 {
-        floor_and_left(-product, -total)
+        floor_and_left(opposite(product), opposite(total))
     } else {
         floor_and_left(product, total)
     }
+}
+
+fn product_of(amount: i64, part: i64) -> i128
+    requires amount { IsInRange amount }
+    requires part { IsInRange part }
+    ensures value { result ≡ amount *ℤ part }
+    ensures size { unsigned_abs result ≤ most_product }
+{
+    i128::from(amount) * i128::from(part)
+}
+
+fn opposite(number: i128) -> i128
+    requires { unsigned_abs number ≤ most_product }
+    ensures { result ≡ neg_ℤ number }
+{
+    -number
 }
 
 // The same of a number and a divisor above 0.

@@ -1,9 +1,8 @@
 -- Which statements speak of a leaf cell below a cell, dimension by dimension.
-use Rattle.std.specs.Prelude.{ℕ, Bool, true, false, ◌&&◌, Option, Some, None, List, [], ◌∷◌, is_some}
+use Rattle.std.specs.Prelude.{ℕ, Bool, true, false, ◌&&◌, Option, List, [], ◌∷◌, is_some}
 use Rattle.std.specs.List.{list_any}
 use Rattle.dim_core.specs.Outline.{Outline}
-use Rattle.dim_weights.specs.Coefficients.{coef}
-use Rattle.dim_weights.specs.Table.{is_nonzero, leaves_of}
+use Rattle.dim_weights.specs.Table.{leaves_of}
 use Rattle.rule_model.specs.Areas.{in_set}
 use Rattle.rule_model.specs.declared.rules.Statement.{Statement}
 
