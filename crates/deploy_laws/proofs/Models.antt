@@ -214,7 +214,7 @@ module _ (m : BoundModel) where
   ordered-not-late : IsOrderedByPlace (system_of m) (positions_of m) → product (position_sizes m) ≤ most_height → (a : OrderFault) → IsOrderFault m a → ⊥
   ordered-not-late ordered low (TooHigh height) x = let wrong : Some height ≡ None = sym x ∙ low-none m low in absurd (cc wrong)
   ordered-not-late ordered low (NotEarlier cube st r) x =
-      late-earlier m cube x.1.it r x.1.late (ordered-statement m ordered cube x.1.inside x.1.place x.1.it x.1.here)
+      late-earlier m cube x.1.it r x.1.first (ordered-statement m ordered cube x.1.inside x.1.place x.1.it x.1.here)
 
   pub single-ordered : (files : List (Option RuleFile)) → HasOneAnswer (ordered_stage files m)
   single-ordered files = record {
