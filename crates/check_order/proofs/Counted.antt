@@ -1,5 +1,5 @@
 -- In a model that is ordered cell by cell each counted reference is earlier.
-use Rattle.std.proofs.Common.{◌≡◌, ◌⊎◌, refl, subst, arith, ℕ, suc, ◌<◌, Bool, true, false, Option, Some, None, List, [], ◌∷◌, map, length, All}
+use Rattle.std.proofs.Common.{◌≡◌, ◌⊎◌, refl, subst, arith, ℕ, ◌<◌, Bool, true, false, Option, Some, None, List, length, All}
 use Rattle.std.specs.Prelude.{slice_get}
 use Rattle.std.proofs.lemmas.Option.{slice_get_within, get_or_from_slice_get}
 use Rattle.rule_laws.specs.declared.formula.Formula.{Formula}
@@ -7,48 +7,24 @@ use Rattle.rule_laws.specs.Meaning.{Precedent, precedents}
 use Rattle.rule_laws.specs.RuleSystem.{Rule, part_of}
 use Rattle.rule_laws.specs.OrderByPlace.{IsDecidedByPosition, IsDecidedByLevel, IsOrderedByPlace}
 use Rattle.rule_model.specs.declared.rules.Statement.{Statement}
-use Rattle.rule_model.specs.declared.rules.Form.{Form}
-use Rattle.rule_model.specs.declared.rules.Form.TheVariants.{Both, LeafFirst, ConsFirst}
 use Rattle.rule_model.specs.BoundModel.{BoundModel, rules_of}
 use Rattle.rule_model.specs.System.{system_of, positions_of, rule_of, cube_rules}
 use Rattle.order_laws.proofs.Ordered.{flat-parts, map-parts}
-use Rattle.ref_order.specs.Counted.{for_leaf, for_cons, for_both, counted_by, counted_of, reads}
-use Rattle.check_order.specs.FirstLate.{IsEarlierFor, IsEarlier, AreEarlier}
-use Rattle.check_order.proofs.LateFacts.{all-nothing, all-front, all-mapped, all-into}
-use Rattle.std.proofs.lemmas.List.Elements.{All-append}
+use Rattle.ref_order.specs.Counted.{counted_of, reads}
+use Rattle.check_order.specs.FirstLate.{IsEarlierFor, AreEarlier}
+use Rattle.check_order.proofs.LateFacts.{Has, all-nothing, has-parts}
 
-module _ (m : BoundModel) (cube : ℕ) (s : Statement) where
-  abbrev Leaf : Precedent → Type 0
-  Leaf = IsEarlierFor m cube s true
+-- what holds of all that the parts of a statement read holds of its references as they are counted
+module _ (P : Bool → Precedent → Type 0) where
+  all-reads : (kind : Bool) (part : Option Formula) → ((f : Formula) → part ≡ Some f → All (P kind) (precedents f)) → All (P kind) (reads part)
+  all-reads kind None each = all-nothing (P kind)
+  all-reads kind (Some f) each = each f refl
 
-  abbrev Cons : Precedent → Type 0
-  Cons = IsEarlierFor m cube s false
+  pub counted-hold : (s : Statement) → ((f : Formula) → s.leaf ≡ Some f → All (P true) (precedents f)) → ((f : Formula) → s.cons ≡ Some f → All (P false) (precedents f)) → All (Has P) (counted_of s)
+  counted-hold s leaf cons = has-parts P s (all-reads true s.leaf leaf) (all-reads false s.cons cons)
 
-  leaf-earlier : (ps : List Precedent) → All Leaf ps → All (IsEarlier m cube s) (map for_leaf ps)
-  leaf-earlier ps all = all-mapped (IsEarlier m cube s) for_leaf ps (all-into Leaf (λ p. IsEarlier m cube s (for_leaf p)) ps (λ p is. (is, tt)) all)
-
-  cons-earlier : (ps : List Precedent) → All Cons ps → All (IsEarlier m cube s) (map for_cons ps)
-  cons-earlier ps all = all-mapped (IsEarlier m cube s) for_cons ps (all-into Cons (λ p. IsEarlier m cube s (for_cons p)) ps (λ p is. (tt, is)) all)
-
-  both-earlier : (ls cs : List Precedent) → All Leaf ls → All Cons cs → All (IsEarlier m cube s) (for_both ls cs)
-  both-earlier [] cs one two = cons-earlier cs two
-  both-earlier (p ∷ ls) [] one two = leaf-earlier (p ∷ ls) one
-  both-earlier (p ∷ ls) (q ∷ cs) one two =
-      all-front (IsEarlier m cube s) (record { leaf = Some p; cons = Some q }) (for_both ls cs) (one 0 p (omega arith), two 0 q (omega arith))
-      (both-earlier ls cs (λ k d low. one (suc k) d (omega (arith, low))) (λ k d low. two (suc k) d (omega (arith, low))))
-
-  form-earlier : (form : Form) (ls cs : List Precedent) → All Leaf ls → All Cons cs → All (IsEarlier m cube s) (counted_by form ls cs)
-  form-earlier Both ls cs one two = both-earlier ls cs one two
-  form-earlier LeafFirst ls cs one two = All-append (IsEarlier m cube s) (map for_leaf ls) (map for_cons cs) (leaf-earlier ls one) (cons-earlier cs two)
-  form-earlier ConsFirst ls cs one two = All-append (IsEarlier m cube s) (map for_cons cs) (map for_leaf ls) (cons-earlier cs two) (leaf-earlier ls one)
-
-  part-earlier : (kind : Bool) (part : Option Formula) → ((f : Formula) → part ≡ Some f → All (IsEarlierFor m cube s kind) (precedents f)) → All (IsEarlierFor m cube s kind) (reads part)
-  part-earlier kind None each = all-nothing (IsEarlierFor m cube s kind)
-  part-earlier kind (Some f) each = each f refl
-
-  statement-earlier : ((kind : Bool) (f : Formula) → part_of (rule_of m.space cube s) kind ≡ Some f → All (IsEarlierFor m cube s kind) (precedents f)) → AreEarlier m cube s
-  unfolding counted_of
-  statement-earlier each = form-earlier s.form (reads s.leaf) (reads s.cons) (part-earlier true s.leaf (each true)) (part-earlier false s.cons (each false))
+statement-earlier : (m : BoundModel) (cube : ℕ) (s : Statement) → ((kind : Bool) (f : Formula) → part_of (rule_of m.space cube s) kind ≡ Some f → All (IsEarlierFor m cube s kind) (precedents f)) → AreEarlier m cube s
+statement-earlier m cube s each = counted-hold (IsEarlierFor m cube s) s (each true) (each false)
 
 abbrev IsOrderedRule : BoundModel → Rule → Type 0
 IsOrderedRule m rule =

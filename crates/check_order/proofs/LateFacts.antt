@@ -134,29 +134,29 @@ module _ (m : BoundModel) (cube : ℕ) (s : Statement) where
 
 -- ---- each counted reference reads what the statement reads
 
-module _ (P : Precedent → Type 0) where
-  abbrev Has : Counted → Type 0
-  Has r = IfSome r.leaf P × IfSome r.cons P
+module _ (P : Bool → Precedent → Type 0) where
+  abbrev pub Has : Counted → Type 0
+  Has r = IfSome r.leaf (P true) × IfSome r.cons (P false)
 
-  has-leaf : (ps : List Precedent) → All P ps → All Has (map for_leaf ps)
-  has-leaf ps all = all-mapped Has for_leaf ps (all-into P (λ p. Has (for_leaf p)) ps (λ p is. (is, tt)) all)
+  has-leaf : (ps : List Precedent) → All (P true) ps → All Has (map for_leaf ps)
+  has-leaf ps all = all-mapped Has for_leaf ps (all-into (P true) (λ p. Has (for_leaf p)) ps (λ p is. (is, tt)) all)
 
-  has-cons : (ps : List Precedent) → All P ps → All Has (map for_cons ps)
-  has-cons ps all = all-mapped Has for_cons ps (all-into P (λ p. Has (for_cons p)) ps (λ p is. (tt, is)) all)
+  has-cons : (ps : List Precedent) → All (P false) ps → All Has (map for_cons ps)
+  has-cons ps all = all-mapped Has for_cons ps (all-into (P false) (λ p. Has (for_cons p)) ps (λ p is. (tt, is)) all)
 
-  has-both : (ls cs : List Precedent) → All P ls → All P cs → All Has (for_both ls cs)
+  has-both : (ls cs : List Precedent) → All (P true) ls → All (P false) cs → All Has (for_both ls cs)
   has-both [] cs one two = has-cons cs two
   has-both (p ∷ ls) [] one two = has-leaf (p ∷ ls) one
   has-both (p ∷ ls) (q ∷ cs) one two =
       all-front Has (record { leaf = Some p; cons = Some q }) (for_both ls cs) (one 0 p (omega arith), two 0 q (omega arith))
       (has-both ls cs (λ k d low. one (suc k) d (omega (arith, low))) (λ k d low. two (suc k) d (omega (arith, low))))
 
-  has-counted : (form : Form) (ls cs : List Precedent) → All P ls → All P cs → All Has (counted_by form ls cs)
+  has-counted : (form : Form) (ls cs : List Precedent) → All (P true) ls → All (P false) cs → All Has (counted_by form ls cs)
   has-counted Both ls cs one two = has-both ls cs one two
   has-counted LeafFirst ls cs one two = All-append Has (map for_leaf ls) (map for_cons cs) (has-leaf ls one) (has-cons cs two)
   has-counted ConsFirst ls cs one two = All-append Has (map for_cons cs) (map for_leaf ls) (has-cons cs two) (has-leaf ls one)
 
-  has-parts : (s : Statement) → All P (reads s.leaf) → All P (reads s.cons) → All Has (counted_of s)
+  pub has-parts : (s : Statement) → All (P true) (reads s.leaf) → All (P false) (reads s.cons) → All Has (counted_of s)
   unfolding counted_of
   has-parts s one two = has-counted s.form (reads s.leaf) (reads s.cons) one two
 
@@ -164,7 +164,7 @@ module _ (P : Precedent → Type 0) where
 
 module _ (m : BoundModel) (valid : IsSpace m.space) (ruled : AreRules m.space m.rules) (cube : ℕ) (there : cube < length m.space.cubes) (s : Statement) (is : IsStatement m.space cube s) where
   abbrev Reads : Counted → Type 0
-  Reads = Has (IsPrecedent m.space cube)
+  Reads = Has (λ kind. IsPrecedent m.space cube)
 
   leaf-reads : (part : Option Formula) → IfSome part (IsLeafPart m.space cube) → All (IsPrecedent m.space cube) (reads part)
   leaf-reads None own = all-nothing _
@@ -175,7 +175,7 @@ module _ (m : BoundModel) (valid : IsSpace m.space) (ruled : AreRules m.space m.
   cons-reads (Some f) own = own
 
   all-read : All Reads (counted_of s)
-  all-read = has-parts (IsPrecedent m.space cube) s (leaf-reads s.leaf is.leaf) (cons-reads s.cons is.consolidated)
+  all-read = has-parts (λ kind. IsPrecedent m.space cube) s (leaf-reads s.leaf is.leaf) (cons-reads s.cons is.consolidated)
 
   earlier-in : (kind : Bool) (o : Option Precedent) → IfSome o (IsPrecedent m.space cube) → IsTrue (mark-in m cube s kind o) → IfSome o (IsEarlierFor m cube s kind)
   earlier-in kind None own on = tt

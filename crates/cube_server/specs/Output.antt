@@ -1,8 +1,10 @@
 -- The texts that a run writes.
 use Rattle.std.specs.Prelude.{ℕ, ℤ, ◌+◌, List, [], ◌∷◌, ◌++◌, length, codes, decimal}
+use Rattle.std.specs.List.{flat_map}
 use Rattle.history.specs.declared.entry.Entry.{Entry}
 use Rattle.history.specs.declared.told.Told.{Told}
 use Rattle.dim_name.specs.Bytes.{newline}
+use Rattle.cube_lex.specs.Quoted.{quoted}
 use Rattle.file_passes.specs.declared.refusal.Cause.{Cause}
 use Rattle.file_passes.specs.declared.refusal.Cause.TheVariants as causes
 use Rattle.file_passes.specs.declared.refusal.FilePlace.{FilePlace}
@@ -53,7 +55,11 @@ history_text log = codes "history" ++ line_end ++ entry_lines log
 abbrev pub output : List (List (Told (List ℕ))) → List (Entry (List (ℕ × ℤ))) → List ℕ
 output told log = users_text told ++ history_text log
 
--- the name of a cause, and its number where it has one
+-- a space, and a name in quotes
+abbrev pub quoted_name : List ℕ → List ℕ
+quoted_name name = codes " " ++ quoted name
+
+-- the name of a cause, and its number where it has one; a circle by the names of its elements
 abbrev pub cause_text : Cause → List ℕ
 cause_text causes.Syntax = codes "Syntax"
 cause_text causes.WrongVersion = codes "WrongVersion"
@@ -77,6 +83,8 @@ cause_text causes.WrongCount = codes "WrongCount"
 cause_text causes.DynamicReference = codes "DynamicReference"
 cause_text causes.Unsupported = codes "Unsupported"
 cause_text causes.BadOrder = codes "BadOrder"
+cause_text (causes.Unlagged reference) = codes "Unlagged reference " ++ decimal reference
+cause_text (causes.Cycle names) = codes "Cycle" ++ flat_map quoted_name names
 cause_text (causes.TooHigh height) = codes "TooHigh " ++ decimal height
 cause_text (causes.NotEarlier reference) = codes "NotEarlier reference " ++ decimal reference
 cause_text (causes.DenseTooLarge count) = codes "DenseTooLarge " ++ decimal count

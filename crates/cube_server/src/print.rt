@@ -1,6 +1,8 @@
-ghost use Rattle.std.specs.Prelude.{◌≡◌, ◌++◌, IfOk, OnOk, length, string_bytes};
-ghost use Rattle.cube_server.specs.Output.{told_line, user_text, entry_line, history_text, cause_text, place_text};
-ghost use Rattle.cube_server.specs.Output.{refused_text, unread_text, usage_text};
+ghost use Rattle.std.specs.Prelude.{◌≡◌, ◌++◌, ◌∷◌, [], IfOk, OnOk, length, codes, decimal, string_bytes};
+ghost use Rattle.std.specs.List.{flat_map};
+ghost use Rattle.cube_lex.specs.Quoted.{doubled};
+ghost use Rattle.cube_server.specs.Output.{told_line, user_text, entry_line, history_text, quoted_name, cause_text};
+ghost use Rattle.cube_server.specs.Output.{place_text, refused_text, unread_text, usage_text};
 
 use file_passes::{Cause, FilePlace, Refusal};
 use history::{Entry, Told};
@@ -87,7 +89,7 @@ pub(crate) fn print_refusal(alloc: Global, refusal: &Refusal) -> Result<Vec<u8>,
     text.extend_from_slice(b": ")?;
     text.extend_from_slice(place_name(alloc, refusal.at)?.as_bytes())?;
     text.extend_from_slice(b": ")?;
-    text.extend_from_slice(cause_name(alloc, refusal.cause)?.as_bytes())?;
+    push_cause(alloc, &mut text, &refusal.cause)?;
     text.push(b'\n')?;
     Ok(text)
 }
@@ -102,19 +104,19 @@ fn place_name(alloc: Global, at: FilePlace) -> Result<String, AllocError>
     }
 }
 
-// The name of a cause, and its number where it has one.
-fn cause_name(alloc: Global, cause: Cause) -> Result<String, AllocError>
-    ensures { IfOk result (λ text. string_bytes text ≡ cause_text cause) }
+// The name of a cause, and its number where it has one; a circle by the names of its elements.
+fn push_cause(alloc: Global, text: &mut Vec<u8>, cause: &Cause) -> Result<(), AllocError>
+    ensures { OnOk result (text.new.items ≡ text.old.items ++ cause_text cause.now) }
 {
     let name = match cause {
-        Cause::TooManyPairs(count) => return format!(in alloc; "TooManyPairs {count}"),
-        Cause::TooHigh(height) => return format!(in alloc; "TooHigh {height}"),
-        Cause::NotEarlier(reference) => {
-            return format!(in alloc; "NotEarlier reference {reference}");
-        }
-        Cause::DenseTooLarge(count) => return format!(in alloc; "DenseTooLarge {count}"),
-        Cause::NotFed(operand) => return format!(in alloc; "NotFed operand {operand}"),
-        Cause::FedLimit(count) => return format!(in alloc; "FedLimit {count}"),
+        Cause::Cycle(names) => return push_circle(text, names.as_slice()),
+        Cause::TooManyPairs(count) => return push_number(alloc, text, "TooManyPairs ", *count),
+        Cause::TooHigh(height) => return push_number(alloc, text, "TooHigh ", *height),
+        Cause::NotEarlier(place) => return push_place(alloc, text, "NotEarlier reference ", *place),
+        Cause::Unlagged(place) => return push_place(alloc, text, "Unlagged reference ", *place),
+        Cause::DenseTooLarge(count) => return push_number(alloc, text, "DenseTooLarge ", *count),
+        Cause::NotFed(place) => return push_place(alloc, text, "NotFed operand ", *place),
+        Cause::FedLimit(count) => return push_number(alloc, text, "FedLimit ", *count),
         Cause::Syntax => "Syntax",
         Cause::WrongVersion => "WrongVersion",
         Cause::Duplicate => "Duplicate",
@@ -138,7 +140,56 @@ fn cause_name(alloc: Global, cause: Cause) -> Result<String, AllocError>
         Cause::BadOrder => "BadOrder",
         Cause::UnknownScript => "UnknownScript",
     };
-    String::from_str(alloc, name)
+    text.extend_from_slice(name.as_bytes())
+}
+
+// A name and a place.
+fn push_place(alloc: Global, text: &mut Vec<u8>, name: &str, place: u32) -> Result<(), AllocError>
+    ensures { OnOk result (text.new.items ≡ text.old.items ++ (name.now ++ decimal place)) }
+{
+    push_number(alloc, text, name, place as u64)
+}
+
+// A name and a number.
+fn push_number(alloc: Global, text: &mut Vec<u8>, name: &str, number: u64) -> Result<(), AllocError>
+    ensures { OnOk result (text.new.items ≡ text.old.items ++ (name.now ++ decimal number)) }
+{
+    text.extend_from_slice(name.as_bytes())?;
+    text.extend_from_slice(number.to_string(alloc)?.as_bytes())
+}
+
+// `Cycle`, and each of the names in quotes.
+fn push_circle(text: &mut Vec<u8>, names: &[ListOf<u8>]) -> Result<(), AllocError>
+    ensures { OnOk result (text.new.items ≡ text.old.items ++ (codes "Cycle" ++ flat_map quoted_name names.now)) }
+{
+    text.extend_from_slice(b"Cycle")?;
+    for name in names {
+        push_name(text, name.as_slice())?;
+    }
+    Ok(())
+}
+
+// A space, and a name in quotes, each quote in it doubled.
+fn push_name(text: &mut Vec<u8>, name: &[u8]) -> Result<(), AllocError>
+    ensures { OnOk result (text.new.items ≡ text.old.items ++ quoted_name name.now) }
+{
+    text.extend_from_slice(b" '")?;
+    for byte in name {
+        push_inside(text, *byte)?;
+    }
+    text.push(b'\'')?;
+    Ok(())
+}
+
+// A byte of a name in quotes.
+fn push_inside(text: &mut Vec<u8>, byte: u8) -> Result<(), AllocError>
+    ensures { OnOk result (text.new.items ≡ text.old.items ++ doubled (byte ∷ [])) }
+{
+    if byte == b'\'' {
+        text.push(byte)?;
+    }
+    text.push(byte)?;
+    Ok(())
 }
 
 /// The line `cannot read FILE`.

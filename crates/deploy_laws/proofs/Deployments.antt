@@ -1,50 +1,57 @@
 -- Deployment has one answer.
-use Rattle.std.proofs.Common.{ℕ, Option, Some, None, List}
+use Rattle.std.proofs.Common.{ℕ, Bool, true, false, Option, Some, None, List}
 use Rattle.std.specs.Prelude.{slice_index_or}
 use Rattle.cube_space.specs.Layout.{Layout}
 use Rattle.model_text.specs.Contents.{Contents}
 use Rattle.model_text.specs.declared.order.OrderLine.{OrderLine}
 use Rattle.rule_tree.specs.declared.rule.RuleText.{RuleText}
 use Rattle.rule_bind.specs.Rules.{rules_of}
-use Rattle.bind_order.specs.Orders.{order_of}
 use Rattle.rule_model.specs.BoundModel.{BoundModel}
 use Rattle.rule_model.specs.declared.rules.CubeRules.{CubeRules}
 use Rattle.model_deploy.specs.Files.{RuleFile}
 use Rattle.model_deploy.specs.Foundation.{layout_of, cube_lines, order_lines, dimensions_refusal, space_refusal, products_refusal}
-use Rattle.model_deploy.specs.Rules.{file_name, meant_in, in_order, by_line, text_stage, meaning_stage, order_stage}
+use Rattle.model_deploy.specs.Rules.{file_name, meant_in, in_order, is_automatic, line_order, by_line, text_stage, meaning_stage, order_stage}
 use Rattle.model_deploy.specs.Stages.{Stage, found, unless, each, ◌>>=◌}
-use Rattle.model_deploy.specs.Deployment.{ordered_stage, feeders_stage, fed_stage, model_of, deployment}
+use Rattle.model_deploy.specs.Deployment.{ranked_stage, ordered_stage, feeders_stage, fed_stage, model_of, deployment}
 use Rattle.deploy_laws.specs.OneAnswer.{HasOneAnswer}
 use Rattle.deploy_laws.proofs.Single.{single-found, single-meant, single-unless, single-then, single-each}
 use Rattle.deploy_laws.proofs.Texts.{single-text}
 use Rattle.deploy_laws.proofs.Models.{single-ordered, single-feeders, single-fed}
+use Rattle.deploy_laws.proofs.Ranked.{single-find}
 
 single-meaning : (space : Layout) (files : List (Option RuleFile)) (cube : ℕ) (text : RuleText) → HasOneAnswer (meaning_stage space files cube text)
 single-meaning space files cube text = single-meant (meant_in (file_name files cube) (rules_of space cube text))
 
-single-line : (space : Layout) (cube : ℕ) (rules : CubeRules) (line : Option (ℕ × OrderLine)) → HasOneAnswer (by_line space cube rules line)
-single-line space cube rules None = single-found rules
-single-line space cube rules (Some line) = single-meant (in_order rules line.0 (order_of space cube line.1))
+single-line : (automatic : Bool) (space : Layout) (cube : ℕ) (rules : CubeRules) (line : Option (ℕ × OrderLine)) → HasOneAnswer (by_line automatic space cube rules line)
+single-line automatic space cube rules None = single-found rules
+single-line automatic space cube rules (Some line) = single-meant (in_order rules line.0 (line_order automatic space cube line.1))
 
 single-order : (space : Layout) (lines : List (Option (ℕ × OrderLine))) (cube : ℕ) (rules : CubeRules) → HasOneAnswer (order_stage space lines cube rules)
-single-order space lines cube rules = single-line space cube rules (slice_index_or lines cube None)
+single-order space lines cube rules = single-line (is_automatic lines) space cube rules (slice_index_or lines cube None)
+
+single-ranked : (automatic : Bool) (files : List (Option RuleFile)) (model : BoundModel) → HasOneAnswer (ranked_stage automatic files model)
+single-ranked true files model = single-find model files
+single-ranked false files model = single-found model
 
 module _ (contents : Contents) (files : List (Option RuleFile)) where
   -- what comes after each check
-  abbrev accepts : List CubeRules → Unit {0} → Stage BoundModel
-  accepts rules _ = found (model_of contents rules)
+  abbrev accepts : BoundModel → Unit {0} → Stage BoundModel
+  accepts model _ = found model
 
-  abbrev fed-next : List CubeRules → Unit {0} → Stage BoundModel
-  fed-next rules _ = fed_stage (model_of contents rules) >>= accepts rules
+  abbrev fed-next : BoundModel → Unit {0} → Stage BoundModel
+  fed-next model _ = fed_stage model >>= accepts model
 
-  abbrev feeders-next : List CubeRules → Unit {0} → Stage BoundModel
-  feeders-next rules _ = feeders_stage files (model_of contents rules) >>= fed-next rules
+  abbrev feeders-next : BoundModel → Unit {0} → Stage BoundModel
+  feeders-next model _ = feeders_stage files model >>= fed-next model
 
-  abbrev check-order : List CubeRules → Stage (Unit {0})
-  check-order rules = ordered_stage files (model_of contents rules)
+  abbrev checks : BoundModel → Stage BoundModel
+  checks model = ordered_stage files model >>= feeders-next model
+
+  abbrev ranking : List CubeRules → Stage BoundModel
+  ranking rules = ranked_stage (is_automatic (order_lines contents.cubes)) files (model_of contents rules)
 
   abbrev model-next : List CubeRules → Stage BoundModel
-  model-next rules = check-order rules >>= feeders-next rules
+  model-next rules = ranking rules >>= checks
 
   abbrev ordering : List CubeRules → Stage (List CubeRules)
   ordering meant = each (order_stage (layout_of contents) (order_lines contents.cubes)) 0 meant
@@ -76,11 +83,14 @@ module _ (contents : Contents) (files : List (Option RuleFile)) where
   abbrev cells-next : Unit {0} → Stage BoundModel
   cells-next _ = cells >>= products-next
 
+  single-checks : (model : BoundModel) → HasOneAnswer (checks model)
+  single-checks model =
+      single-then (ordered_stage files model) (feeders-next model) (single-ordered model files)
+      (λ _. single-then (feeders_stage files model) (fed-next model) (single-feeders model files) (λ _. single-then (fed_stage model) (accepts model) (single-fed model) (λ _. single-found model)))
+
   single-model : (rules : List CubeRules) → HasOneAnswer (model-next rules)
   single-model rules =
-      let model = model_of contents rules in
-      single-then (check-order rules) (feeders-next rules) (single-ordered model files)
-      (λ _. single-then (feeders_stage files model) (fed-next rules) (single-feeders model files) (λ _. single-then (fed_stage model) (accepts rules) (single-fed model) (λ _. single-found model)))
+      single-then (ranking rules) checks (single-ranked (is_automatic (order_lines contents.cubes)) files (model_of contents rules)) single-checks
 
   single-rules : HasOneAnswer (reading >>= meanings-next)
   single-rules =

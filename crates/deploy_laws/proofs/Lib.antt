@@ -1,4 +1,6 @@
 pub mod Single
 pub mod Texts
+pub mod FirstReferences
 pub mod Models
+pub mod Ranked
 pub mod Deployments

@@ -19,8 +19,7 @@ use Rattle.rule_laws.specs.OrderByPlace.{IsOrderedByPlace}
 use Rattle.rule_model.specs.Order.{most_height, position_sizes}
 use Rattle.check_order.specs.declared.fault.OrderFault.{OrderFault}
 use Rattle.check_order.specs.declared.fault.OrderFault.TheVariants.{TooHigh, NotEarlier}
-use Rattle.ref_order.specs.Counted.{counted_of}
-use Rattle.check_order.specs.FirstLate.{IsEarlier, AreEarlier, IsFirstLateOf, IsFirstLate}
+use Rattle.check_order.specs.FirstLate.{IsEarlier}
 use Rattle.check_order.specs.Verdict.{IsOrderFault}
 use Rattle.check_order.proofs.HeightFacts.{low-none}
 use Rattle.check_order.proofs.Counted.{ordered-statement}
@@ -35,20 +34,7 @@ use Rattle.model_deploy.specs.Files.{RuleFile}
 use Rattle.model_deploy.specs.Deployment.{order_refusal, feeders_refusal, ordered_stage, feeders_stage, fed_stage}
 use Rattle.deploy_laws.specs.OneAnswer.{HasOneAnswer}
 use Rattle.lists.proofs.Found.{same_truth as both-true}
-
--- ---- of a list
-
-module _ {X : Type 0} (P : X → Type 0) where
-  there-holds : (xs : List X) (n : ℕ) (x : X) → All P xs → slice_get xs n ≡ Some x → P x
-  there-holds [] n x all at = let clash : None ≡ Some x = at in absurd (cc)
-  there-holds (y ∷ xs) zero x all at = let same : y ≡ x = cc in subst P same (all 0 y (omega arith))
-  there-holds (y ∷ xs) (suc n) x all at = there-holds xs n x (λ k d low. all (suc k) d (omega (arith, low))) at
-
-  taken-holds : (xs : List X) (n k : ℕ) (x : X) → All P (take n xs) → k < n → slice_get xs k ≡ Some x → P x
-  taken-holds [] n k x all low at = let clash : None ≡ Some x = at in absurd (cc)
-  taken-holds (y ∷ xs) zero k x all low at = absurd (omega (arith, low))
-  taken-holds (y ∷ xs) (suc n) zero x all low at = let same : y ≡ x = cc in subst P same (all 0 y (omega arith))
-  taken-holds (y ∷ xs) (suc n) (suc k) x all low at = taken-holds xs n k x (λ j d less. all (suc j) d (omega (arith, less))) (omega (arith, low)) at
+use Rattle.deploy_laws.proofs.FirstReferences.{there-holds, taken-holds, none-of-all, one-reference}
 
 -- ---- the operand that is blamed
 
@@ -135,7 +121,7 @@ module _ (m : BoundModel) where
   pub single-feeders : (files : List (Option RuleFile)) → HasOneAnswer (feeders_stage files m)
   single-feeders files = record {
     one_found = λ a b h k. refl;
-    one_refusal = λ e f h k. h.2 ∙ ap (feeders_refusal files) (one-first h.0 k.0 h.1 k.1) ∙ sym k.2;
+    one_refusal = λ e f h k. inl (h.2 ∙ ap (feeders_refusal files) (one-first h.0 k.0 h.1 k.1) ∙ sym k.2);
     not_both = λ a e h k. fault-refused m k.0 k.1 h.0 h.1;
   }
 
@@ -147,78 +133,27 @@ module _ (m : BoundModel) where
   pub single-fed : HasOneAnswer (fed_stage m)
   single-fed = record {
     one_found = λ a b h k. refl;
-    one_refusal = λ e f h k. h.1 ∙ sym k.1;
+    one_refusal = λ e f h k. inl (h.1 ∙ sym k.1);
     not_both = λ a e h k. few-or-many h k.0;
   }
 
 -- ---- the order
 
-module _ (m : BoundModel) (cube : ℕ) where
-  -- of two first late references of a statement neither is before the other
-  late-before : (s : Statement) (r q : ℕ) (x : IsFirstLateOf m cube s r) (y : IsFirstLateOf m cube s q) → x.place < y.place → ⊥
-  late-before s r q x y less = x.fails (taken-holds (IsEarlier m cube s) (counted_of s) y.place x.place x.it y.before less x.here)
-
-  one-reference : (s : Statement) (r q : ℕ) → IsFirstLateOf m cube s r → IsFirstLateOf m cube s q → r ≡ q
-  one-reference s r q x y = elim (cases_lt x.place y.place) [
-    | inl less ↦ absurd (late-before s r q x y less)
-    | inr high ↦ elim (cases_lt y.place x.place) [
-      | inl less ↦ absurd (late-before s q r y x less)
-      | inr also ↦ (let same : x.place ≡ y.place = omega (arith, high, also) in x.number ∙ ap suc same ∙ sym y.number)
-    ]
-  ]
-
-  late-earlier : (s : Statement) (r : ℕ) → IsFirstLateOf m cube s r → AreEarlier m cube s → ⊥
-  late-earlier s r x all = x.fails (there-holds (IsEarlier m cube s) (counted_of s) x.place x.it all x.here)
-
 module _ (m : BoundModel) where
-  statement-before : (cube st r tt q : ℕ) (x : IsFirstLate m cube st r) (y : IsFirstLate m cube tt q) → x.place < y.place → ⊥
-  statement-before cube st r tt q x y less =
-      late-earlier m cube x.it r x.first (taken-holds (AreEarlier m cube) (rules_of m cube).statements y.place x.place x.it y.before less x.here)
-
-  cube-before : (cube other st r tt q : ℕ) → IsFirstLate m cube st r → IsFirstLate m other tt q → cube < other → ⊥
-  cube-before cube other st r tt q x y less =
-      late-earlier m cube x.it r x.first (there-holds (AreEarlier m cube) (rules_of m cube).statements x.place x.it (y.cubes_before cube less) x.here)
-
-  same-statement : (cube st r tt q : ℕ) (x : IsFirstLate m cube st r) (y : IsFirstLate m cube tt q) → x.place ≡ y.place → NotEarlier cube st r ≡ NotEarlier cube tt q
-  same-statement cube st r tt q x y same =
-      let its : Some x.it ≡ Some y.it = sym x.here ∙ ap (slice_get (rules_of m cube).statements) same ∙ y.here in
-      let it : x.it ≡ y.it = cc in
-      let reference : r ≡ q = one-reference m cube y.it r q (subst (λ s. IsFirstLateOf m cube s r) it x.first) y.first in
-      ap (λ n. NotEarlier cube n r) (x.number ∙ ap suc same ∙ sym y.number) ∙ ap (NotEarlier cube tt) reference
-
-  one-in-cube : (cube st r tt q : ℕ) → IsFirstLate m cube st r → IsFirstLate m cube tt q → NotEarlier cube st r ≡ NotEarlier cube tt q
-  one-in-cube cube st r tt q x y = elim (cases_lt x.place y.place) [
-    | inl less ↦ absurd (statement-before cube st r tt q x y less)
-    | inr high ↦ elim (cases_lt y.place x.place) [
-      | inl less ↦ absurd (statement-before cube tt q st r y x less)
-      | inr also ↦ same-statement cube st r tt q x y (omega (arith, high, also))
-    ]
-  ]
-
-  one-late : (cube other st r tt q : ℕ) → IsFirstLate m cube st r → IsFirstLate m other tt q → NotEarlier cube st r ≡ NotEarlier other tt q
-  one-late cube other st r tt q x y = elim (cases_lt cube other) [
-    | inl less ↦ absurd (cube-before cube other st r tt q x y less)
-    | inr high ↦ elim (cases_lt other cube) [
-      | inl less ↦ absurd (cube-before other cube tt q st r y x less)
-      | inr also ↦ (let same : cube ≡ other = omega (arith, high, also) in
-          ap (λ k. NotEarlier k st r) same ∙ one-in-cube other st r tt q (subst (λ k. IsFirstLate m k st r) same x) y)
-    ]
-  ]
-
   one-order-fault : (a b : OrderFault) → IsOrderFault m a → IsOrderFault m b → a ≡ b
   one-order-fault (TooHigh height) (TooHigh other) x y = let same : Some height ≡ Some other = sym x ∙ y in ap TooHigh (cc same)
   one-order-fault (TooHigh height) (NotEarlier cube st r) x y = absurd (let wrong : Some height ≡ None = sym x ∙ y.0 in cc wrong)
   one-order-fault (NotEarlier cube st r) (TooHigh height) x y = absurd (let wrong : None ≡ Some height = sym x.0 ∙ y in cc wrong)
-  one-order-fault (NotEarlier cube st r) (NotEarlier other tt q) x y = one-late cube other st r tt q x.1 y.1
+  one-order-fault (NotEarlier cube st r) (NotEarlier other tt q) x y = one-reference (IsEarlier m) m NotEarlier cube other st r tt q x.1 y.1
 
   ordered-not-late : IsOrderedByPlace (system_of m) (positions_of m) → product (position_sizes m) ≤ most_height → (a : OrderFault) → IsOrderFault m a → ⊥
   ordered-not-late ordered low (TooHigh height) x = let wrong : Some height ≡ None = sym x ∙ low-none m low in absurd (cc wrong)
   ordered-not-late ordered low (NotEarlier cube st r) x =
-      late-earlier m cube x.1.it r x.1.first (ordered-statement m ordered cube x.1.inside x.1.place x.1.it x.1.here)
+      none-of-all (IsEarlier m cube x.1.it) x.1.it r x.1.first (ordered-statement m ordered cube x.1.inside x.1.place x.1.it x.1.here)
 
   pub single-ordered : (files : List (Option RuleFile)) → HasOneAnswer (ordered_stage files m)
   single-ordered files = record {
     one_found = λ a b h k. refl;
-    one_refusal = λ e f h k. h.2 ∙ ap (order_refusal files) (one-order-fault h.0 k.0 h.1 k.1) ∙ sym k.2;
+    one_refusal = λ e f h k. inl (h.2 ∙ ap (order_refusal files) (one-order-fault h.0 k.0 h.1 k.1) ∙ sym k.2);
     not_both = λ a e h k. ordered-not-late h.0 h.1 k.0 k.1;
   }

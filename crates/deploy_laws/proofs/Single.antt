@@ -2,7 +2,7 @@
 use Rattle.std.proofs.Common.{◌≡◌, inl, inr, ℕ, ◌+◌, Option, Some, None, Result, Ok, Err, List, [], ◌∷◌, refl, sym, ◌∙◌, subst}
 use Rattle.model_deploy.specs.declared.fault.DeployFault.{DeployFault}
 use Rattle.model_deploy.specs.Stages.{Stage, found, meant, unless, each, ◌>>=◌}
-use Rattle.deploy_laws.specs.OneAnswer.{HasOneAnswer}
+use Rattle.deploy_laws.specs.OneAnswer.{IsSameRefusal, HasOneAnswer}
 
 pub single-found : {A : Type 0} (a : A) → HasOneAnswer (found a)
 single-found a = record { one_found = λ b c h k. h ∙ sym k; one_refusal = λ e f h k. absurd h; not_both = λ b e h k. absurd k }
@@ -13,20 +13,20 @@ single-meant {A} answer = record { one_found = one; one_refusal = refusal; not_b
     one : (a b : A) → answer ≡ Ok a → answer ≡ Ok b → a ≡ b
     one a b h k = let same = sym h ∙ k in cc
 
-    refusal : (e f : DeployFault) → answer ≡ Err e → answer ≡ Err f → e ≡ f
-    refusal e f h k = let same = sym h ∙ k in cc
+    refusal : (e f : DeployFault) → answer ≡ Err e → answer ≡ Err f → IsSameRefusal e f
+    refusal e f h k = let same = sym h ∙ k in inl (cc)
 
 pub single-unless : (refusal : Option DeployFault) → HasOneAnswer (unless refusal)
 single-unless refusal = record { one_found = λ a b h k. refl; one_refusal = one; not_both = λ a e h k. let clash : None ≡ Some e = sym h ∙ k in cc }
   where
-    one : (e f : DeployFault) → refusal ≡ Some e → refusal ≡ Some f → e ≡ f
-    one e f h k = let same : Some e ≡ Some f = sym h ∙ k in cc
+    one : (e f : DeployFault) → refusal ≡ Some e → refusal ≡ Some f → IsSameRefusal e f
+    one e f h k = let same : Some e ≡ Some f = sym h ∙ k in inl (cc)
 
 module _ {A B : Type 0} (S : Stage A) (K : A → Stage B) (one : HasOneAnswer S) (each-one : (a : A) → HasOneAnswer (K a)) where
   then-found : (b c : B) → (S >>= K).finds b → (S >>= K).finds c → b ≡ c
   then-found b c (x, s, k) (y, t, l) = (each-one y).one_found b c (subst (λ a. (K a).finds b) (one.one_found x y s t) k) l
 
-  then-refused : (e f : DeployFault) → (S >>= K).refuses e → (S >>= K).refuses f → e ≡ f
+  then-refused : (e f : DeployFault) → (S >>= K).refuses e → (S >>= K).refuses f → IsSameRefusal e f
   then-refused e f (inl r) (inl q) = one.one_refusal e f r q
   then-refused e f (inl r) (inr (y, t, q)) = absurd (one.not_both y e t r)
   then-refused e f (inr (x, s, r)) (inl q) = absurd (one.not_both x f s q)

@@ -1,5 +1,5 @@
 -- A rule file has one text, or one first fault.
-use Rattle.std.proofs.Common.{◌≡◌, ℕ, Option, Some, None, Ok, Err, List, sym, ◌∙◌, ap}
+use Rattle.std.proofs.Common.{◌≡◌, inl, ℕ, Option, Some, None, Ok, Err, List, sym, ◌∙◌, ap}
 use Rattle.rule_tree.specs.declared.rule.RuleText.{RuleText}
 use Rattle.rule_tree.specs.declared.excess.Excess.TheVariants as excesses
 use Rattle.rule_reader.specs.Answers.{Answers}
@@ -57,6 +57,6 @@ pub single-text : (file : Option RuleFile) → HasOneAnswer (text_stage file)
 single-text None = single-found no_text
 single-text (Some file) = record {
   one_found = λ a b h k. rule_texts.one_tree file.bytes a b h.0 k.0 h.1 k.1;
-  one_refusal = λ e f h k. one-told file.name file.bytes h.0 k.0 e f (h.1, h.2) (k.1, k.2);
+  one_refusal = λ e f h k. inl (one-told file.name file.bytes h.0 k.0 e f (h.1, h.2) (k.1, k.2));
   not_both = λ text e h k. no-fault file.name file.bytes text k.0 e h (k.1, k.2);
 }

@@ -20,7 +20,7 @@ pub enum FilePlace {
 }
 
 /// Why a file is refused. Each is printed by its name. Out of memory is no refusal.
-#[derive(Clone, Copy, Debug, PartialEq, Eq)]
+#[derive(Debug, Drop)]
 pub enum Cause {
     /// What stands there fits no text of its kind.
     Syntax,
@@ -68,6 +68,12 @@ pub enum Cause {
     Unsupported,
     /// An order line means no order.
     BadOrder,
+    /// No order is found: what this reference of a statement, counted from 1 in reading order, reads may have a greater
+    /// lag than its cell.
+    Unlagged(u32),
+    /// No order is found: what formulas read at the same lag runs in a circle of these elements, each of which reads
+    /// the next.
+    Cycle(ListOf<ListOf<u8>>),
     /// The height of the declared order, which is above 65,536, up to the first position with which it is.
     TooHigh(u64),
     /// This reference of a statement, counted from 1 in reading order, isn't earlier than the statement's cells.

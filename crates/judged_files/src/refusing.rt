@@ -88,6 +88,8 @@ pub(crate) fn deploy_cause(cause: DeployCause) -> Option<Cause>
         DeployCause::DynamicReference => Some(Cause::DynamicReference),
         DeployCause::Unsupported => Some(Cause::Unsupported),
         DeployCause::BadOrder => Some(Cause::BadOrder),
+        DeployCause::Unlagged(reference) => Some(Cause::Unlagged(reference)),
+        DeployCause::Cycle(names) => Some(Cause::Cycle(names)),
         DeployCause::TooHigh(height) => Some(Cause::TooHigh(height)),
         DeployCause::NotEarlier(reference) => Some(Cause::NotEarlier(reference)),
         DeployCause::DenseTooLarge(count) => Some(Cause::DenseTooLarge(count)),

@@ -103,11 +103,12 @@ fn earlier_with(cubes: &[CubeText], cube: usize, name: &[u8]) -> Option<usize>
 fn deploy_halt(alloc: Global, model: &str, fault: DeployFault) -> Halt
     ensures { IsHaltFor (deploy_refusal model.now fault) result }
 {
-    let Some(cause) = deploy_cause(fault.cause) else {
+    let DeployFault { file, at, cause } = fault;
+    let Some(cause) = deploy_cause(cause) else {
         return Halt::Memory;
     };
-    let at = place_of(fault.at);
-    match file_or(alloc, model, fault.file) {
+    let at = place_of(at);
+    match file_or(alloc, model, file) {
         Ok(file) => Halt::Refused(Refusal { file, at, cause }),
         Err(_) => Halt::Memory,
     }

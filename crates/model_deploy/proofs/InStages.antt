@@ -25,8 +25,8 @@ use Rattle.model_deploy.specs.Stages.{Stage, found, unless, each, ◌>>=◌, Com
 use Rattle.bind_areas.specs.declared.cause.BindCause.TheVariants.{Memory}
 use Rattle.rule_bind.specs.declared.fault.BindFault.{BindFault}
 use Rattle.rule_bind.specs.Rules.{IsBound}
-use Rattle.model_deploy.specs.Rules.{text_stage, place_of, cause_of, meant_in, meaning_stage, order_stage, rules_stage}
-use Rattle.model_deploy.specs.Deployment.{order_refusal, feeders_refusal, ordered_stage, feeders_stage, fed_stage, deployment}
+use Rattle.model_deploy.specs.Rules.{is_automatic, text_stage, place_of, cause_of, meant_in, meaning_stage, order_stage, rules_stage}
+use Rattle.model_deploy.specs.Deployment.{order_refusal, feeders_refusal, ranked_stage, ordered_stage, feeders_stage, fed_stage, deployment}
 use Rattle.model_deploy.specs.Inside.Grouped.{checked, grouped}
 use Rattle.model_deploy.proofs.Stages.{stopped, goes-on, as-many, in-turn, behind, one-by-one}
 
@@ -46,7 +46,7 @@ module _ (contents : Contents) (files : List (Option RuleFile)) where
   space = layout_of contents
 
   abbrev check : List CubeRules → Stage BoundModel
-  check rules = checked files (record { space = space; rules = rules })
+  check rules = ranked_stage (is_automatic (order_lines contents.cubes)) files (record { space = space; rules = rules }) >>= checked files
 
   abbrev meanings : List RuleText → Stage (List CubeRules)
   meanings texts = each (meaning_stage space files) 0 texts
@@ -81,11 +81,14 @@ module _ (contents : Contents) (files : List (Option RuleFile)) where
       (λ _ came. one-by-one BoundModel cells products bound answer came) first
 
 module _ (contents : Contents) (files : List (Option RuleFile)) where
-  abbrev check-in : Layout → List CubeRules → Stage BoundModel
-  check-in space rules = checked files (record { space = space; rules = rules })
+  abbrev ranking : Layout → Lines → List CubeRules → Stage BoundModel
+  ranking space lines rules = ranked_stage (is_automatic lines) files (record { space = space; rules = rules })
+
+  abbrev check-in : Layout → Lines → List CubeRules → Stage BoundModel
+  check-in space lines rules = ranking space lines rules >>= checked files
 
   abbrev after : Unit {0} → Stage BoundModel
-  after _ = rules_stage (layout_of contents) (order_lines contents.cubes) files >>= check-in (layout_of contents)
+  after _ = rules_stage (layout_of contents) (order_lines contents.cubes) files >>= check-in (layout_of contents) (order_lines contents.cubes)
 
   -- what a model stands on is refused
   pub unfounded : (T : Type 0) (fault : DeployFault) (answer : Result BoundModel DeployFault) → IsErrAnd answer (λ e. e ≡ fault) → IsAnsweredBy {T = T} (foundation_refusal contents) (Err fault)
@@ -95,23 +98,30 @@ module _ (contents : Contents) (files : List (Option RuleFile)) where
       (stopped (Unit {0}) BoundModel (unless (foundation_refusal contents)) after fault answer is (answered-stage T (foundation_refusal contents) fault answered))
 
   module _ (space : Layout) (lines : Lines) (none : foundation_refusal contents ≡ None) (s : space ≡ layout_of contents) (l : lines ≡ order_lines contents.cubes) where
-    founded : (answer : Result BoundModel DeployFault) → Comes (rules_stage space lines files >>= check-in space) answer → Comes (deployment contents files) answer
+    founded : (answer : Result BoundModel DeployFault) → Comes (rules_stage space lines files >>= check-in space lines) answer → Comes (deployment contents files) answer
     founded answer came =
-        let Q : Layout → Type 0 = λ z. Comes (rules_stage z lines files >>= check-in z) answer in
-        let R : Lines → Type 0 = λ z. Comes (rules_stage (layout_of contents) z files >>= check-in (layout_of contents)) answer in
+        let Q : Layout → Type 0 = λ z. Comes (rules_stage z lines files >>= check-in z lines) answer in
+        let R : Lines → Type 0 = λ z. Comes (rules_stage (layout_of contents) z files >>= check-in (layout_of contents) z) answer in
         apart contents files answer (goes-on (Unit {0}) BoundModel (unless (foundation_refusal contents)) after tt answer none (subst R l (subst Q s came)))
 
     -- the rules are refused
     pub unruled : (fault : DeployFault) (answer : Result BoundModel DeployFault) → IsErrAnd answer (λ e. e ≡ fault) → Comes (rules_stage space lines files) (Err fault)
         → Comes (deployment contents files) answer
-    unruled fault answer is came = founded answer (stopped (List CubeRules) BoundModel (rules_stage space lines files) (check-in space) fault answer is came)
+    unruled fault answer is came = founded answer (stopped (List CubeRules) BoundModel (rules_stage space lines files) (check-in space lines) fault answer is came)
 
-    -- the model is checked as a whole
-    pub ruled : (rules : List CubeRules) (model : BoundModel) (answer : Result BoundModel DeployFault) → (rules_stage space lines files).finds rules → model ≡ record { space = space; rules = rules }
-        → Comes (checked files model) answer → Comes (deployment contents files) answer
-    ruled rules model answer finds is came =
-        let P : BoundModel → Type 0 = λ m. Comes (checked files m) answer in
-        founded answer (goes-on (List CubeRules) BoundModel (rules_stage space lines files) (check-in space) rules answer finds (subst P is came))
+    module _ (rules : List CubeRules) (finds : (rules_stage space lines files).finds rules) where
+      after-rules : (answer : Result BoundModel DeployFault) → Comes (check-in space lines rules) answer → Comes (deployment contents files) answer
+      after-rules answer came = founded answer (goes-on (List CubeRules) BoundModel (rules_stage space lines files) (check-in space lines) rules answer finds came)
+
+      -- no order is found
+      pub unranked : (fault : DeployFault) (answer : Result BoundModel DeployFault) → IsErrAnd answer (λ e. e ≡ fault) → Comes (ranking space lines rules) (Err fault)
+          → Comes (deployment contents files) answer
+      unranked fault answer is came = after-rules answer (stopped BoundModel BoundModel (ranking space lines rules) (checked files) fault answer is came)
+
+      -- the model is checked as a whole
+      pub ruled : (model : BoundModel) (answer : Result BoundModel DeployFault) → (ranking space lines rules).finds model
+          → Comes (checked files model) answer → Comes (deployment contents files) answer
+      ruled model answer ranked came = after-rules answer (goes-on BoundModel BoundModel (ranking space lines rules) (checked files) model answer ranked came)
 
 module _ (space : Layout) (lines : Lines) (files : List (Option RuleFile)) where
   abbrev meaning : List RuleText → Stage (List CubeRules)

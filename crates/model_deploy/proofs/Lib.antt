@@ -9,3 +9,5 @@ pub mod CubeRules
 pub mod InStages
 pub mod Stages
 pub mod NoTexts
+pub mod Walks
+pub mod Reordered

@@ -1,6 +1,10 @@
 -- The rules of a model's cubes: from rule files to statements, feeders and orders over numbers.
-use Rattle.std.specs.Prelude.{◌≡◌, ℕ, false, List, [], slice_index_or, Option, Some, None, option_map, Result, Ok, Err}
-use Rattle.cube_space.specs.Layout.{Layout}
+use Rattle.std.specs.Prelude.{◌≡◌, ℕ, Bool, false, List, [], slice_index_or, if◌then◌else◌}
+use Rattle.std.specs.Prelude.{Option, Some, None, option_map, Result, Ok, Err}
+use Rattle.std.specs.List.{list_any}
+use Rattle.std.specs.Option.{option_map_or}
+use Rattle.cube_space.specs.Layout.{Layout, axes}
+use Rattle.model_text.specs.Orders.{has_auto}
 use Rattle.model_text.specs.declared.order.OrderLine.{OrderLine}
 use Rattle.rule_tree.specs.declared.rule.RuleText.{RuleText}
 use Rattle.rule_reader.specs.Answers.{Answers}
@@ -13,6 +17,7 @@ use Rattle.rule_bind.specs.declared.fault.BindAt.TheVariants as places
 use Rattle.rule_bind.specs.declared.fault.BindFault.{BindFault}
 use Rattle.rule_bind.specs.Rules.{rules_of}
 use Rattle.bind_order.specs.Orders.{order_of}
+use Rattle.bind_order.specs.Lags.{lag_of, lag_order}
 use Rattle.rule_model.specs.declared.rules.CubeRules.{CubeRules}
 use Rattle.rule_model.specs.declared.order.Order.{Order}
 use Rattle.model_deploy.specs.Files.{RuleFile}
@@ -90,13 +95,27 @@ in_order rules line (Some order) =
       order = order;
     })
 
+-- whether the orders of a model are to be found: some order line says `AUTO`
+abbrev pub is_automatic : List (Option (ℕ × OrderLine)) → Bool
+is_automatic lines = list_any (λ line. option_map_or (λ at. has_auto at.1.words) line false) lines
+
+-- the order that the lag alone makes which a line names; None where it has positions, or names no dimension of the cube
+-- or the last one
+abbrev pub lag_order_of : Layout → ℕ → OrderLine → Option Order
+lag_order_of space cube line = option_map (lag_order (axes space cube)) (lag_of (axes space cube) line.words)
+
+-- the order that a line means; where orders are to be found, that of the lag alone
+abbrev pub line_order : Bool → Layout → ℕ → OrderLine → Option Order
+line_order automatic space cube line = if automatic then lag_order_of space cube line else order_of space cube line
+
 -- the rules of a cube with the order that its order line means, where it has one
-abbrev pub by_line : Layout → ℕ → CubeRules → Option (ℕ × OrderLine) → Stage CubeRules
-by_line space cube rules None = found rules
-by_line space cube rules (Some line) = meant (in_order rules line.0 (order_of space cube line.1))
+abbrev pub by_line : Bool → Layout → ℕ → CubeRules → Option (ℕ × OrderLine) → Stage CubeRules
+by_line automatic space cube rules None = found rules
+by_line automatic space cube rules (Some line) =
+    meant (in_order rules line.0 (line_order automatic space cube line.1))
 
 abbrev pub order_stage : Layout → List (Option (ℕ × OrderLine)) → ℕ → CubeRules → Stage CubeRules
-order_stage space lines cube rules = by_line space cube rules (slice_index_or lines cube None)
+order_stage space lines cube rules = by_line (is_automatic lines) space cube rules (slice_index_or lines cube None)
 
 -- the rules of each cube: all texts are read, then all are bound, and then all order lines
 unfoldable pub rules_stage

@@ -12,20 +12,21 @@ use crate::checks::{check_covered, check_ordered, fed_over_nothing};
 use crate::fault::DeployFault;
 use crate::foundation::{Foundation, foundation_of};
 use crate::ordering::ordered_rules;
+use crate::ranking::model_of;
 use crate::rule_files::RuleFiles;
 use crate::texts::texts_of;
 use accepted::Accepted;
 use feed_sources::SourceModel;
 use lists::ListOf;
 use model_text::ModelText;
-use rule_model::{CubeRules, Model};
+use rule_model::CubeRules;
 use std::alloc::Global;
 
 /// The accepted model of a text that was read and of the rule files of its cubes. Scripts aren't looked at.
 ///
 /// The answer is the first refusal. Each kind of check is made over the whole model before the next: coefficients by
-/// dimension, cells of the cubes, weight products, rule texts, what these mean, order lines, the order of all that
-/// formulas read, feeders, and the cells that are fed where nothing is stored.
+/// dimension, cells of the cubes, weight products, rule texts, what these mean, order lines, orders that are to be
+/// found, the order of all that formulas read, feeders, and the cells that are fed where nothing is stored.
 #[tactic(auto, unfolding(crate::specs::Deployment::deployment))]
 pub fn deploy(
     alloc: Global,
@@ -38,8 +39,7 @@ pub fn deploy(
 {
     let found = foundation_of(alloc, text)?;
     let bound = rules_of(alloc, &found, rules)?;
-    let Foundation { space, weights, .. } = found;
-    let model = Model::of(alloc, space, weights, bound.into_vec())?;
+    let model = model_of(alloc, found, rules, bound)?;
     check_ordered(alloc, rules, &model)?;
     check_covered(alloc, rules, &model)?;
     let sources = SourceModel::of(alloc, model)?;

@@ -23,7 +23,7 @@ pub enum At {
 /// The cause of a refusal. The limits are our own. Causes stand here in the order in which they are looked for, each
 /// over the whole model before the next: in all dimensions for the first two, then in all cubes for the next three, and
 /// so on.
-#[derive(Clone, Copy, Debug, PartialEq, Eq)]
+#[derive(Debug, Drop)]
 pub enum DeployCause {
     /// A coefficient of an element is above 10^9 in size. The line is that of the element's statement.
     CoefficientTooLarge,
@@ -56,8 +56,16 @@ pub enum DeployCause {
     DynamicReference,
     /// What may stand in a rule of TM1 may not stand there, or not here.
     Unsupported,
-    /// The order line of a cube, on this line, means no order.
+    /// The order line of a cube, on this line, means no order. Where the order of some cube is to be found, it doesn't
+    /// say `AUTO`, or the dimension that it names isn't the cube's or is its last.
     BadOrder,
+    /// No order is found: what this reference of a statement, counted from 1 in reading order, reads may have a greater
+    /// lag than its cell. It is the first such reference.
+    Unlagged(u32),
+    /// No order is found: what formulas read at the same lag runs in a circle. These are the names of its elements as
+    /// the model file spells them: each reads the next, and the last reads the first. The place is the statement by
+    /// which the first one reads. Of several circles any may be named.
+    Cycle(ListOf<ListOf<u8>>),
     /// The height of the declared order is above 65,536, up to the first position with which it is. The line is the
     /// model's first.
     TooHigh(u64),

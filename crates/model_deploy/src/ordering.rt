@@ -1,16 +1,37 @@
-ghost use Rattle.std.specs.Prelude.{◌≡◌, ◌<◌, length, slice_index_or, None, IfOk};
-ghost use Rattle.rule_model.specs.Conditions.{AreCubeRules, AreRules};
+ghost use Rattle.std.specs.Prelude.{◌≡◌, ◌<◌, false, length, slice_index_or, None, IfOk};
+ghost use Rattle.std.specs.Option.{option_map_or};
+ghost use Rattle.model_text.specs.Orders.{has_auto};
+ghost use Rattle.rule_model.specs.Conditions.{AreCubeRules, AreRules, IsOrderOf};
 ghost use Rattle.rule_model.specs.Weights.{AreWeightsOf};
-ghost use Rattle.model_deploy.specs.Rules.{by_line, order_stage};
+ghost use Rattle.bind_order.specs.Orders.{IsAnsweredBy};
+ghost use Rattle.model_deploy.specs.Rules.{is_automatic, line_order, order_stage};
 ghost use Rattle.model_deploy.specs.Stages.{each, Comes};
 
 use crate::cubes::OrderText;
 use crate::fault::{DeployCause, DeployFault};
 use crate::foundation::Foundation;
-use bind_order::{BindOrderFault, bind_order};
+use bind_order::{BindOrderFault, auto_lag, bind_order, lag_order};
 use lists::ListOf;
-use rule_model::CubeRules;
+use model_text::OrderLine;
+use rule_model::{CubeRules, Order};
 use std::alloc::Global;
+
+/// Whether the orders of a model with these order lines are to be found.
+pub fn is_automatic(lines: &[OrderText]) -> bool
+    ensures { result ≡ is_automatic lines.now }
+{
+    lines.iter().any(|line| says_auto(line))
+}
+
+// Whether a cube has an order line that says `AUTO`.
+fn says_auto(line: &OrderText) -> bool
+    ensures { result ≡ option_map_or (λ at. has_auto at.1.words) line.now false }
+{
+    match line {
+        Some((_, order)) => order.has_auto(),
+        None => false,
+    }
+}
 
 /// The rules of all cubes in the orders that their order lines mean, or the first line that means none.
 pub fn ordered_rules(
@@ -23,10 +44,11 @@ pub fn ordered_rules(
     ensures comes { Comes (each (order_stage found.now.space found.now.orders) 0 rules) result }
     ensures rules { IfOk result (AreRules found.now.space) }
 {
+    let automatic = is_automatic(found.orders.as_slice());
     let mut ordered = Vec::with_capacity(alloc, found.space.cubes() as usize)?;
     let mut cube = 0;
     for rules in rules.into_vec() {
-        let rules = by_line(alloc, found, cube, rules)?;
+        let rules = by_line(alloc, found, automatic, cube, rules)?;
         ordered.push(rules)?;
         cube += 1;
     }
@@ -37,9 +59,11 @@ pub fn ordered_rules(
 fn by_line(
     alloc: Global,
     found: &Foundation,
+    automatic: bool,
     cube: u32,
     rules: CubeRules,
 ) -> Result<CubeRules, DeployFault>
+    requires automatic { automatic ≡ is_automatic found.now.orders }
     requires cube { cube < length found.now.space.cubes }
     requires weights { AreWeightsOf found.now.space.dimensions found.now.weights.items }
     requires rules { AreCubeRules found.now.space cube rules }
@@ -49,9 +73,32 @@ fn by_line(
     let Some(Some((line, order))) = found.orders.as_slice().get(cube as usize) else {
         return Ok(rules);
     };
-    match bind_order(alloc, &found.space, &found.weights, cube, order) {
+    match line_order(alloc, found, automatic, cube, order) {
         Ok(order) => Ok(CubeRules { order, ..rules }),
         Err(BindOrderFault::BadOrder(_)) => Err(DeployFault::on(*line, DeployCause::BadOrder)),
         Err(BindOrderFault::Memory) => Err(DeployFault::memory()),
+    }
+}
+
+// The order that a line means: that of the lag alone where orders are to be found.
+fn line_order(
+    alloc: Global,
+    found: &Foundation,
+    automatic: bool,
+    cube: u32,
+    line: &OrderLine,
+) -> Result<Order, BindOrderFault>
+    requires positions { automatic ≡ false → has_auto line.now.words ≡ false }
+    requires cube { cube < length found.now.space.cubes }
+    requires weights { AreWeightsOf found.now.space.dimensions found.now.weights.items }
+    ensures bound { IsAnsweredBy (line_order automatic found.now.space cube line.now) cube result }
+    ensures valid { IfOk result (IsOrderOf found.now.space cube) }
+{
+    if automatic {
+        let lag = auto_lag(&found.space, cube, line)?;
+        let order = lag_order(alloc, &found.space, &found.weights, cube, lag)?;
+        Ok(order)
+    } else {
+        bind_order(alloc, &found.space, &found.weights, cube, line)
     }
 }

@@ -7,6 +7,7 @@
 
 mod arrows;
 mod fault;
+mod finding;
 mod graph;
 mod laws;
 mod link;
@@ -19,6 +20,7 @@ mod way;
 mod ways;
 
 pub use fault::FindFault;
+pub use finding::find;
 pub use graph::NodeGraph;
-pub use link::{Link, LinkBy};
 pub use laws::{ranks_of_the_graph_fit_the_model, ranks_of_the_model_fit_the_graph};
+pub use link::{Link, LinkBy};

@@ -6,7 +6,7 @@ ghost use Rattle.rule_dense.specs.Limits.{IsLow};
 use crate::files::Files;
 use crate::refusal::Refusal;
 use check_order::check_order;
-use model_deploy::{At, DeployCause, DeployFault, Foundation, RuleFiles, foundation_of, rules_of};
+use model_deploy::{At, DeployCause, DeployFault, RuleFiles, foundation_of, rules_of};
 use rule_model::Model;
 use std::alloc::{AllocError, Global};
 
@@ -39,8 +39,10 @@ fn unordered(alloc: Global, files: &Files) -> Result<Model, Refusal> {
         Ok(bound) => bound,
         Err(fault) => return Err(told(alloc, fault)),
     };
-    let Foundation { space, weights, .. } = found;
-    Ok(Model::of(alloc, space, weights, bound.into_vec())?)
+    match model_deploy::model_of(alloc, found, &rules, bound) {
+        Ok(model) => Ok(model),
+        Err(fault) => Err(told(alloc, fault)),
+    }
 }
 
 fn rule_files<'a>(alloc: Global, files: &'a Files, cubes: usize) -> Result<RuleFiles<'a>, Refusal>
@@ -78,7 +80,7 @@ fn told(alloc: Global, fault: DeployFault) -> Refusal {
 
 fn fault_told(alloc: Global, fault: &DeployFault) -> Result<String, AllocError> {
     let DeployFault { file, at, cause } = fault;
-    if *cause == DeployCause::Memory {
+    if matches!(cause, DeployCause::Memory) {
         return Err(AllocError);
     }
     let name = match file {

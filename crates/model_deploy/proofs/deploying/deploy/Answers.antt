@@ -9,7 +9,7 @@ use Rattle.model_deploy.specs.Stages.{Comes}
 use Rattle.model_deploy.specs.Inside.Grouped.{checked}
 use Rattle.model_deploy.specs.declared.fault.DeployFault.{DeployFault}
 use Rattle.model_deploy.proofs.Firsts.{unrefused}
-use Rattle.model_deploy.proofs.InStages.{unfounded, unruled, ruled, late, late-fed, overfed, passes}
+use Rattle.model_deploy.proofs.InStages.{unfounded, unruled, unranked, ruled, late, late-fed, overfed, passes}
 use Rattle.model_deploy.proofs.deploying.deploy.Goals.{In_ok-model}
 use Rattle.model_deploy.proofs.deploying.deploy.Goals as goal
 
@@ -24,14 +24,21 @@ returns-in_err-bound-clause-comes c =
     unruled c.args.text c.args.rules.now found.space found.orders none c.in_ok-found.ensures.space c.in_ok-found.ensures.orders c.in_err-bound.field-0.0 c.from_residual-in_err-bound.result
     c.from_residual-in_err-bound.ensures.1 c.in_err-bound.ensures.comes
 
+pub returns-in_err-model-clause-comes : goal.returns-in_err-model-clause-comes
+returns-in_err-model-clause-comes c =
+    let found = c.in_ok-found.found in
+    let none = unrefused _ found c.in_ok-found.ensures.answered in
+    unranked c.args.text c.args.rules.now found.space found.orders none c.in_ok-found.ensures.space c.in_ok-found.ensures.orders c.in_ok-bound.bound c.in_ok-bound.ensures.comes
+    c.in_err-model.field-0.0 c.from_residual-in_err-model.result c.from_residual-in_err-model.ensures.1 c.in_err-model.ensures.comes
+
 -- deployment of the model that is made comes to what its checks come to
 checks : (c : In_ok-model) (answer : Result BoundModel DeployFault)
     → Comes (checked c.args.rules.now c.in_ok-model.model) answer → Comes (deployment c.args.text c.args.rules.now) answer
 checks c answer came =
     let found = c.in_ok-found.found in
     let none = unrefused _ found c.in_ok-found.ensures.answered in
-    ruled c.args.text c.args.rules.now found.space found.orders none c.in_ok-found.ensures.space c.in_ok-found.ensures.orders c.in_ok-bound.bound c.in_ok-model.model answer
-    c.in_ok-bound.ensures.comes (rw c.into_vec.ensures at c.in_ok-model.ensures) came
+    ruled c.args.text c.args.rules.now found.space found.orders none c.in_ok-found.ensures.space c.in_ok-found.ensures.orders c.in_ok-bound.bound c.in_ok-bound.ensures.comes
+    c.in_ok-model.model answer c.in_ok-model.ensures.comes came
 
 pub returns-in_err-check_ordered-clause-comes : goal.returns-in_err-check_ordered-clause-comes
 returns-in_err-check_ordered-clause-comes c =

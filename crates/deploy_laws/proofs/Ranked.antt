@@ -1,0 +1,159 @@
+-- Of a model whose orders are to be found one model is found, or none is for one reason.
+use Rattle.std.proofs.Common.{◌≡◌, inl, inr, refl, sym, ap, ◌∙◌, arith, subst, ℕ, ◌+◌, ◌<◌, ◌≤◌, Bool, true, false, ◌||◌, Option, Some, None, List, [], ◌∷◌, map, length, get_or, if◌then◌else◌}
+use Rattle.std.specs.Prelude.{slice_get, slice_index_or}
+use Rattle.std.proofs.lemmas.List.{ext_get_or, get_or-map}
+use Rattle.std.proofs.lemmas.List.FromFn.{fill_by_all, get_or-map-range_with_len, length-map-range_with_len}
+use Rattle.std.proofs.lemmas.List.Elements.{Contains-get_or}
+use Rattle.std.proofs.lemmas.Option.{get_or_from_slice_get}
+use Rattle.dim_core.specs.Outline.{Outline}
+use Rattle.cube_space.specs.Layout.{Layout, axes}
+use Rattle.cube_space.specs.Cells.{IsSpace}
+use Rattle.lists.proofs.Found.{there as place-there}
+use Rattle.rule_laws.specs.declared.formula.Formula.{Formula}
+use Rattle.rule_laws.specs.Meaning.{Precedent, precedents}
+use Rattle.rule_laws.specs.RuleSystem.{part_of}
+use Rattle.rule_model.specs.declared.order.Order.{Order}
+use Rattle.rule_model.specs.declared.rules.Statement.{Statement}
+use Rattle.rule_model.specs.BoundModel.{BoundModel, rules_of}
+use Rattle.rule_model.specs.System.{cubes_of, rule_of}
+use Rattle.arrow_laws.specs.Nodes.{Node, last_of, ranks_in, rank_of}
+use Rattle.arrow_laws.specs.Arrows.{IsArrow, IsLevel, FitArrows, IsLevelThroughout}
+use Rattle.arrow_laws.specs.Ranked.{AreNodeRanks, order_by, with_orders}
+use Rattle.arrow_laws.proofs.Made.{last-there}
+use Rattle.order_find.specs.Numbers.{width}
+use Rattle.order_find.specs.Circles.{IsBy, IsWalk, IsCircle, node_of}
+use Rattle.order_find.specs.Unlagged.{IsLevelReference, IsFirstUnlagged}
+use Rattle.order_find.specs.Found.{AreLeast, AreFound, IsFindFault}
+use Rattle.order_find.specs.declared.fault.FindFault.{FindFault}
+use Rattle.order_find.specs.declared.fault.FindFault.TheVariants.{Unlagged, Cycle, Memory}
+use Rattle.order_find.specs.declared.link.Link.{Link}
+use Rattle.order_find.specs.declared.link.LinkBy.{LinkBy}
+use Rattle.order_find.specs.declared.link.LinkBy.TheVariants.{Reference, Below}
+use Rattle.check_order.proofs.Counted.{counted-hold}
+use Rattle.model_deploy.specs.Files.{RuleFile}
+use Rattle.model_deploy.specs.declared.fault.DeployFault.{DeployFault}
+use Rattle.model_deploy.specs.Deployment.{link_name, circle_refusal, cycle_refusal, find_refusal, IsRanked, find_stage}
+use Rattle.deploy_laws.specs.OneAnswer.{IsCycle, IsSameRefusal, HasOneAnswer}
+use Rattle.deploy_laws.proofs.FirstReferences.{there-holds, none-of-all, one-reference}
+
+-- ---- least ranks
+
+module _ (m : BoundModel) (valid : IsSpace m.space) where
+  -- a cube has a rank for each element of its last dimension
+  as-long : (a : List (List ℕ)) → AreNodeRanks m a → (cube : ℕ) → cube < length m.space.cubes → length (ranks_in a cube) ≡ width m.space cube
+  as-long a are cube there =
+      let last = last_of m.space cube in
+      let (d, is) = place-there (axes m.space cube) last (last-there m.space cube valid there) in
+      let at = get_or_from_slice_get (axes m.space cube) last d d is in
+      are.each cube d there is ∙ ap (λ (x : Outline). length x.elements) (sym at)
+      ∙ sym (get_or-map (λ (x : Outline). length x.elements) (axes m.space cube) last d 0 (last-there m.space cube valid there))
+
+  one-row : (a b : List (List ℕ)) → AreNodeRanks m a → AreNodeRanks m b → FitArrows m a → FitArrows m b → AreLeast m a → AreLeast m b
+      → (cube : ℕ) → cube < length m.space.cubes → ranks_in a cube ≡ ranks_in b cube
+  one-row a b are also fit fits least lowest cube there =
+      let long = as-long a are cube there in
+      ext_get_or 0 (ranks_in a cube) (ranks_in b cube) (long ∙ sym (as-long b also cube there))
+      (λ k low.
+      let node : Node = record { cube = cube; element = k } in
+      let inside : k < width m.space cube = omega (arith, low, long) in
+      let up = least b fits node there inside in
+      let down = lowest a fit node there inside in
+      omega (arith, up, down))
+
+  one-order : (a b : List Order) → AreFound m a → AreFound m b → a ≡ b
+  one-order a b x y =
+      let n = length m.space.cubes in
+      let none : Order = record { positions = [] } in
+      x.made
+      ∙ fill_by_all (order_by m y.ranks) (map (order_by m x.ranks) (cubes_of m)) n none (length-map-range_with_len (order_by m x.ranks) 0 n)
+      (λ k low. get_or-map-range_with_len (order_by m x.ranks) 0 n k k none low (omega arith) ∙ same k low)
+      ∙ sym y.made
+    where
+      same : (k : ℕ) → k < length m.space.cubes → order_by m x.ranks k ≡ order_by m y.ranks k
+      same k low = cc (one-row x.ranks y.ranks x.each y.each x.fit y.fit x.least y.least k low)
+
+one-ranked : (m a b : BoundModel) → IsRanked m a → IsRanked m b → a ≡ b
+one-ranked m a b x y =
+    let none : Order = record { positions = [] } in
+    x.with_them ∙ ap (λ orders. with_orders m (λ cube. slice_index_or orders cube none)) (one-order m x.space x.orders y.orders x.found y.found) ∙ sym y.with_them
+
+-- ---- circles
+
+module _ (m : BoundModel) (ranks : List (List ℕ)) (fit : FitArrows m ranks) where
+  an-arrow : (link : Link) (by : LinkBy) (to : Node) (strict : Bool) → IsBy m link by to strict → IsArrow m (node_of link) to strict
+  an-arrow link (Reference statement reference) to strict is = inl is.arrow
+  an-arrow link Below to strict is = inr is
+
+  abbrev fall : Bool → ℕ
+  fall strict = if strict then 1 else 0
+
+  both-fall : (a b c : ℕ) (here later strict : Bool) → c + fall later ≤ b → b + fall here ≤ a → strict ≡ (here || later) → c + fall strict ≤ a
+  both-fall a b c true later strict low down is = let falls : fall strict ≡ 1 = ap fall is in omega (arith, low, down, falls)
+  both-fall a b c false later strict low down is = let falls : fall strict ≡ fall later = ap fall is in omega (arith, low, down, falls)
+
+  -- ranks fall along a walk with a strict arrow
+  falls : (links : List Link) (strict : Bool) (from to : Node) → IsWalk m links strict from to → rank_of ranks to + fall strict ≤ rank_of ranks from
+  falls [] strict from to (same, level) =
+      let ends : rank_of ranks from ≡ rank_of ranks to = ap (rank_of ranks) same in
+      let flat : fall strict ≡ 0 = ap fall level in
+      omega (arith, ends, flat)
+  falls (link ∷ links) strict from to (at, (next, here, later, by, rest, is)) =
+      let start : rank_of ranks (node_of link) ≡ rank_of ranks from = ap (rank_of ranks) at in
+      let down = fit (node_of link) next here (an-arrow link link.by next here by) in
+      let more = falls links later next to rest in
+      let first : rank_of ranks next + fall here ≤ rank_of ranks from = omega (arith, start, down) in
+      both-fall (rank_of ranks from) (rank_of ranks next) (rank_of ranks to) here later strict more first is
+
+  no-circle : (links : List Link) → IsCircle m links → ⊥
+  no-circle links (start, walk) = let down = falls links true start start walk in omega (arith, down)
+
+-- ---- references at a greater lag
+
+module _ (m : BoundModel) (level : IsLevelThroughout m) where
+  level-part : (cube : ℕ) (s : Statement) (kind : Bool) → cube < length m.space.cubes → (place : ℕ) → slice_get (rules_of m cube).statements place ≡ Some s
+      → (f : Formula) → part_of (rule_of m.space cube s) kind ≡ Some f → (k : ℕ) (d : Precedent) → k < length (precedents f) → IsLevel m cube s kind (get_or (precedents f) k d)
+  level-part cube s kind there place here f is k d low =
+      there-holds _ (rules_of m cube).statements place s (level cube there) here kind (get_or (precedents f) k d) (f, is, Contains-get_or (precedents f) k d low)
+
+  none-unlagged : (cube st r : ℕ) → IsFirstUnlagged m cube st r → ⊥
+  none-unlagged cube st r x =
+      none-of-all (IsLevelReference m cube x.it) x.it r x.first
+      (counted-hold (IsLevel m cube x.it) x.it (level-part cube x.it true x.inside x.place x.here) (level-part cube x.it false x.inside x.place x.here))
+
+-- ---- why none is found
+
+module _ (m : BoundModel) (files : List (Option RuleFile)) where
+  abbrev told : FindFault → Option DeployFault
+  told fault = find_refusal m.space files fault
+
+  circle-told : (links : List Link) (e : DeployFault) → cycle_refusal m.space files links ≡ Some e → IsCycle e
+  circle-told [] e is = let clash : None ≡ Some e = is in absurd (cc)
+  circle-told (first ∷ rest) e is = by first.by is
+    where
+      by : (made : LinkBy) → circle_refusal files first.cube made (map (link_name m.space) (first ∷ rest)) ≡ Some e → IsCycle e
+      by (Reference statement reference) is = (map (link_name m.space) (first ∷ rest), cc is)
+      by Below is = let clash : None ≡ Some e = is in absurd (cc)
+
+  same-told : (a b : FindFault) (e f : DeployFault) → IsFindFault m a → IsFindFault m b → told a ≡ Some e → told b ≡ Some f → IsSameRefusal e f
+  same-told (Unlagged cube st r) (Unlagged other tt q) e f x y is also =
+      let one : told (Unlagged cube st r) ≡ told (Unlagged other tt q) = one-reference (IsLevelReference m) m (λ k n j. told (Unlagged k n j)) cube other st r tt q x y in
+      let same : Some e ≡ Some f = sym is ∙ one ∙ also in
+      inl (cc same)
+  same-told (Unlagged cube st r) (Cycle links) e f x y is also = absurd (none-unlagged m y.0 cube st r x)
+  same-told (Cycle links) (Unlagged cube st r) e f x y is also = absurd (none-unlagged m x.0 cube st r y)
+  same-told (Cycle links) (Cycle others) e f x y is also = inr (circle-told links.items e is, circle-told others.items f also)
+  same-told Memory b e f x y is also = let clash : None ≡ Some e = is in absurd (cc)
+  same-told (Unlagged cube st r) Memory e f x y is also = let clash : None ≡ Some f = also in absurd (cc)
+  same-told (Cycle links) Memory e f x y is also = let clash : None ≡ Some f = also in absurd (cc)
+
+  not-told : (ranked : BoundModel) (a : FindFault) (e : DeployFault) → IsRanked m ranked → IsFindFault m a → told a ≡ Some e → ⊥
+  not-told ranked (Unlagged cube st r) e x y is = none-unlagged m x.found.level cube st r y
+  not-told ranked (Cycle links) e x y is = no-circle m x.found.ranks x.found.fit links.items y.1
+  not-told ranked Memory e x y is = let clash : None ≡ Some e = is in cc
+
+pub single-find : (m : BoundModel) (files : List (Option RuleFile)) → HasOneAnswer (find_stage files m)
+single-find m files = record {
+  one_found = one-ranked m;
+  one_refusal = λ e f h k. same-told m files h.0 k.0 e f h.1 k.1 h.2 k.2;
+  not_both = λ a e h k. not-told m files a k.0 e h k.1 k.2;
+}
