@@ -2,8 +2,8 @@
 //! tables of a model. Nothing here takes memory, and the cost is that of the area's elements, and not of its cells.
 //!
 //! [`is_earlier`] decides it for one [`Read`] of one part of a statement, by [`most_excess`] at each position. That its
-//! answer is right for every cell of the area is the law of `order_laws`. What it has found of the elements of a dimension is [`Known`] to the references
-//! that follow, so that a reference costs what is new in it.
+//! answer is right for every cell of the area is the law of `order_laws`. What it has found of the elements of a
+//! dimension is [`Known`] to the references that follow, so that a reference costs what is new in it.
 #![tactic(auto)]
 
 pub use area_cells::AreaCells;
