@@ -5,4 +5,5 @@ pub mod Sources
 pub mod PlanOfAll
 pub mod Unlagged
 pub mod Circles
+pub mod Gathering
 pub mod Found
