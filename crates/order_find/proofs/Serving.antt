@@ -240,3 +240,16 @@ module _ (m : BoundModel) (cube : ℕ) (area : Area) (is_area : IsArea m.space c
       let (inside, rest) = and_parts (is_in (size i) (set i) e) _ from in
       let (leaf, serving) = and_parts (not (is_total (axes m.space cube) i e)) (serves (axes m.space cube) p i e) rest in
       let wrong : not true ≡ true = ap not (sym total) ∙ leaf in cc
+
+  -- and in a dimension other than two
+  pub other-total : (kind : Bool) → kind ≡ false → (p : Precedent) (d last found : ℕ) → d < length (axes m.space cube) → (d ≡ last → ⊥) → (d ≡ found → ⊥)
+      → is_some (greatest_by m cube area 0 p (is_total (axes m.space cube)) d) ≡ true → HasOtherTotal (axes m.space cube) (is_from m cube area kind p) last found
+  other-total true is p d last found low one two some = absurd (cc)
+  other-total false is p d last found low one two some = (d, low, one, two, some-total p d some)
+
+  pub no-other-total : (kind : Bool) (p : Precedent) (last found : ℕ)
+      → (kind ≡ false → (d : ℕ) → d < length (axes m.space cube) → (d ≡ last → ⊥) → (d ≡ found → ⊥) → is_some (greatest_by m cube area 0 p (is_total (axes m.space cube)) d) ≡ false)
+      → HasOtherTotal (axes m.space cube) (is_from m cube area kind p) last found → ⊥
+  no-other-total true p last found none (d, low, one, two, (e, from, total)) = no-leaf-total p d e from total
+  no-other-total false p last found none (d, low, one, two, has) =
+      let wrong : true ≡ false = sym (total-some p d has) ∙ none refl d low one two in cc

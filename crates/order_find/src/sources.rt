@@ -28,8 +28,10 @@ fn add<'a>(sources: &mut Vec<Source<'a>>, source: Source<'a>) -> Result<(), Find
     if sources.len() >= MAX_SOURCES {
         return Err(FindFault::Memory);
     }
-    sources.push(source)?;
-    Ok(())
+    match sources.push(source) {
+        Ok(()) => Ok(()),
+        Err(_) => Err(FindFault::Memory),
+    }
 }
 
 // Takes one read of a part; false where that may be of a greater lag.
