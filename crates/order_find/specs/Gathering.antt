@@ -1,6 +1,6 @@
 -- What is known while the sources of a model are gathered.
 use Rattle.std.specs.Prelude.{◌≡◌, ℕ, suc, ◌+◌, ◌<◌, ◌≤◌, min, Bool, true, false, Option, Some, None, IsTrue}
-use Rattle.std.specs.Prelude.{List, length, slice_get, take, All, ⊥}
+use Rattle.std.specs.Prelude.{List, length, slice_get, take, All}
 use Rattle.std.specs.List.Sorted.{IsNonDecreasingBy}
 use Rattle.cube_space.specs.Cells.{IsSpace}
 use Rattle.rule_laws.specs.Meaning.{Precedent}
