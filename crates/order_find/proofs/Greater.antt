@@ -1,7 +1,8 @@
 -- The first reference that may read at a greater lag.
-use Rattle.std.proofs.Common.{◌≡◌, refl, sym, ap, ◌∙◌, arith, subst, ℕ, suc, ◌+◌, ◌<◌, ◌≤◌, min, inl, inr, Bool, true, false, Option, Some, None, List, length, take, All}
+use Rattle.std.proofs.Common.{◌≡◌, refl, sym, ap, ◌∙◌, arith, subst, ℕ, suc, ◌+◌, ◌<◌, ◌≤◌, min, inl, inr, Bool, true, false, Option, Some, None, List, length, take, All, Result, IsErrAnd, IfErr}
 use Rattle.std.specs.Prelude.{slice_get, IsTrue, IfSome}
 use Rattle.std.proofs.lemmas.Bool.{cases_lt}
+use Rattle.std.proofs.lemmas.Result.{err_from_is_err_and}
 use Rattle.std.proofs.lemmas.Option.{slice_get_within}
 use Rattle.cube_space.specs.Cells.{IsSpace}
 use Rattle.rule_laws.specs.Meaning.{Precedent}
@@ -20,11 +21,15 @@ use Rattle.order_find.specs.declared.source.Source.{Source}
 use Rattle.order_find.specs.Circles.{read_for}
 use Rattle.order_find.specs.Sources.{AreSourcesOf}
 use Rattle.order_find.specs.Unlagged.{IsLevelReference, IsFirstUnlagged}
-use Rattle.order_find.specs.Gathering.{reads_for, counted_before, IsStatementAt, IsPart, AreGathered, IsTaken, AreTaken, IsStatementTaken, IsCubeTaken, IsFirstIn, IsPartDone, earliest, IsStatementFault, IsFirstOfCube, IsCubeFault, IsUnlaggedFault}
+use Rattle.order_find.specs.Gathering.{reads_for, counted_before, IsStatementAt, AreGathered, IsTaken, AreTaken, IsStatementTaken, IsCubeTaken, IsFirstIn, IsPartDone, earliest, IsStatementFault, IsFirstOfCube, IsCubeFault, IsUnlaggedFault}
 use Rattle.order_find.proofs.Lists.{at-of}
 use Rattle.order_find.proofs.Placed.{all-of, all-before}
 use Rattle.order_find.proofs.Counting.{counted-place, place-counted}
 use Rattle.order_find.proofs.Gathered.{statement-is, precedent-is, reads-placed}
+
+-- an error that is handed on
+pub handed-on : {T : Type 0} (r : Result T FindFault) (fault : FindFault) (Q : FindFault → Type 0) → IsErrAnd r (λ e. e ≡ fault) → Q fault → IfErr r Q
+handed-on r fault Q gives holds = let p = err_from_is_err_and r gives in rw (p.1, p.2) holds
 
 each-there : (P : Precedent → Type 0) (o : Option Precedent) → ((p : Precedent) → o ≡ Some p → P p) → IfSome o P
 each-there P None h = tt
@@ -89,10 +94,10 @@ IsKindDone m cube st kind xs (Some reference) =
     (at : ℕ) × (p : Precedent) × (reference ≡ suc (counted_before st kind + at)) × (slice_get (reads_for st kind) at ≡ Some p) × (is_level m cube st.area kind p ≡ false)
     × ((k : ℕ) (q : Precedent) → k < at → slice_get (reads_for st kind) k ≡ Some q → IsTrue (is_level m cube st.area kind q))
 
-pub kind-done : (part : Part) (xs : List Source) (o : Option ℕ) → IsPart part → IsPartDone part xs o → IsKindDone part.model.now part.cube part.statement.now part.kind xs o
+pub kind-done : (part : Part) (xs : List Source) (o : Option ℕ) → part.before ≡ counted_before part.statement.now part.kind → IsPartDone part xs o → IsKindDone part.model.now part.cube part.statement.now part.kind xs o
 kind-done part xs None is done = done
 kind-done part xs (Some reference) is done =
-    (done.at, done.read, done.number ∙ ap (λ n. suc (n + done.at)) is.before_is, done.here, done.greater, done.before)
+    (done.at, done.read, done.number ∙ ap (λ n. suc (n + done.at)) is, done.here, done.greater, done.before)
 
 module _ (m : BoundModel) (cube number : ℕ) (st : Statement) (is : IsStatementAt m cube number st) where
   abbrev Before : Bool → ℕ → Type 0

@@ -76,19 +76,16 @@ only-from false a on h = absurd (cc)
 moved-some : (worth : ℕ → ℕ → ℕ) (j : ℕ) (args : List Arg) (i e : ℕ) → is_some (moved_sum worth j args i e) ≡ list_all (names_from i e) args
 moved-some worth j [] i e = refl
 moved-some worth j (Fixed t ∷ args) i e = moved-some worth (suc j) args i e
-moved-some worth j (Moved from to ∷ args) i e = by (i == from) (sent to e)
+moved-some worth j (Moved from to ∷ args) i e = by (i == from) (sent to e) (moved-some worth (suc j) args i e)
   where
     rest : Option ℤ
     rest = moved_sum worth (suc j) args i e
 
-    later : is_some rest ≡ list_all (names_from i e) args
-    later = moved-some worth (suc j) args i e
-
-    by : (t : Bool) (o : Option ℕ) → is_some (if t then plus (option_map (λ target. pos (worth j target)) o) rest else rest)
+    by : (t : Bool) (o : Option ℕ) → is_some rest ≡ list_all (names_from i e) args → is_some (if t then plus (option_map (λ target. pos (worth j target)) o) rest else rest)
         ≡ (not t || is_some o) && list_all (names_from i e) args
-    by true None = refl
-    by true (Some target) = plus-some (pos (worth j target)) rest ∙ later
-    by false o = later
+    by true None later = refl
+    by true (Some target) later = plus-some (pos (worth j target)) rest ∙ later
+    by false o later = later
 
 parts-serve : (worth : ℕ → ℕ) (e : ℕ) (parts : List (ℕ × ℤ)) → is_some (components_excess worth e parts) ≡ true → list_any (λ part. is_nonzero part.1) parts ≡ true
 parts-serve worth e parts h =
@@ -211,11 +208,11 @@ module _ (m : BoundModel) (cube : ℕ) (area : Area) (is_area : IsArea m.space c
       ]
 
   pub reads-each : (kind : Bool) (p : Precedent) → is_lagged m cube area kind p ≡ false → HasEach (is_from m cube area kind p) (length (axes m.space cube))
-  reads-each kind p no = by (most_excess m cube area kind p 0) refl no
+  reads-each kind p unlagged = by (most_excess m cube area kind p 0) refl unlagged
     where
       by : (o : Option ℤ) → most_excess m cube area kind p 0 ≡ o → is_below o ≡ false → HasEach (is_from m cube area kind p) (length (axes m.space cube))
-      by None is no = absurd (cc)
-      by (Some z) is no = each-of-sum kind p 0 (ap is_some is)
+      by None is wrong = absurd (cc)
+      by (Some z) is unlagged = each-of-sum kind p 0 (ap is_some is)
 
   -- ---- a consolidated element from which is read
 

@@ -1,22 +1,31 @@
-use Rattle.std.proofs.Common.{rules, ◌≡◌, ◌↔◌, IsTrue, Some, slice_get, ℕ, ◌+◌, ◌-◌, ◌*◌, ◌<◌, ◌≤◌, length, ◌/◌, ◌%◌, Bool, true, false, nat_eq, nat_lt, List, [], ◌∷◌, ◌++◌, slice_index_or, slice_set, bit_and, bit_or, Fits, w8, w32, w64, Bor, MutBor}
-use Rattle.cube_space.specs.Layout.{axes}
-use Rattle.ref_order.specs.Known.{IsKnown}
-use Rattle.ref_order.specs.Reads.{precedent_of}
+use Rattle.std.proofs.Common.{◌≡◌, refl, sym, ◌∙◌, arith, true, false}
 use Rattle.arrow_laws.specs.Nodes.{last_of}
-use Rattle.arrow_laws.specs.ByDimension.{HasOtherTotal}
 use Rattle.order_find.specs.Sources.{found_in}
-use Rattle.order_find.specs.Ways.{IsSource, way_of, reads_from}
-use Rattle.order_find.specs.Gathering.{reads_for, IsPart, IsSeen}
+use Rattle.order_find.specs.Ways.{precedent, way_of}
+use Rattle.order_find.proofs.Serving.{other-total, no-other-total}
 use Rattle.order_find.proofs.part.is_elsewhere.Goals as goal
 
--- src/part.rt:66:9
 pub returns-then-source-clause-elsewhere : goal.returns-then-source-clause-elsewhere
-returns-then-source-clause-elsewhere c = ?
+returns-then-source-clause-elsewhere c = (
+  λ wrong. absurd (cc),
+  λ has. absurd (no-other-total c.args.model.now c.args.source.cube c.args.source.area.now c.requires.source.area c.args.source.kind (precedent c.args.source)
+      (last_of c.args.model.now.space c.args.source.cube) (found_in (last_of c.args.model.now.space c.args.source.cube) (way_of c.args.model.now c.args.source))
+      (λ off d low one two. absurd (let wrong : true ≡ false = sym c.if-source.true ∙ off in cc)) has),
+)
 
--- src/part.rt:74:13
 pub returns-then-has_total-clause-elsewhere : goal.returns-then-has_total-clause-elsewhere
-returns-then-has_total-clause-elsewhere c = ?
+returns-then-has_total-clause-elsewhere c = (
+  λ on. other-total c.args.model.now c.args.source.cube c.args.source.area.now c.requires.source.area c.args.source.kind c.if-source.false (precedent c.args.source) c.each.dim
+      (last_of c.args.model.now.space c.args.source.cube) (found_in (last_of c.args.model.now.space c.args.source.cube) (way_of c.args.model.now c.args.source))
+      (omega (arith, c.each-test.true, c.axis_count-dim-end.ensures.count)) (λ e. c.if-dim-last.true (e ∙ sym c.last_of-last.ensures.last)) (λ e. c.if-dim-found.true (e ∙ sym c.found_in-found.ensures))
+      (sym c.has_total.ensures.total ∙ c.if-has_total.true),
+  λ has. refl,
+)
 
--- src/part.rt:57:1
 pub returns-clause-elsewhere : goal.returns-clause-elsewhere
-returns-clause-elsewhere c = ?
+returns-clause-elsewhere c = (
+  λ wrong. absurd (cc),
+  λ has. absurd (no-other-total c.args.model.now c.args.source.cube c.args.source.area.now c.requires.source.area c.args.source.kind (precedent c.args.source)
+      (last_of c.args.model.now.space c.args.source.cube) (found_in (last_of c.args.model.now.space c.args.source.cube) (way_of c.args.model.now c.args.source))
+      (λ off d low one two. c.each.invariant.none d (omega (arith, low, c.each-test.false, c.axis_count-dim-end.ensures.count)) (λ e. one (e ∙ c.last_of-last.ensures.last)) (λ e. two (e ∙ c.found_in-found.ensures))) has),
+)
