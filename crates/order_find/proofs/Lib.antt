@@ -9,7 +9,6 @@ pub mod Held
 pub mod Lists
 pub mod Named
 pub mod Placed
-pub mod Readings
 pub mod Serving
 pub mod Sound
 pub mod Steps
