@@ -76,7 +76,7 @@ module _ (m : BoundModel) (valid : IsSpace m.space) (ruled : AreRules m.space m.
         joined = (by-dimension r.cube r.statement r.kind r.precedent from to r.within s.area is).1 r.joined;
       }
 
-  pub dimension-read : (from to : Node) (strict : Bool) → IsReadByDimension m from to strict → IsReadArrow m from to strict
+  unfoldable pub dimension-read : (from to : Node) (strict : Bool) → IsReadByDimension m from to strict → IsReadArrow m from to strict
   dimension-read from to strict r =
       let s = statement-is r.cube r.statement r.within r.stands in
       let is = reads-is r.cube r.statement r.kind r.read s r.reads in

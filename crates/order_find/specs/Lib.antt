@@ -5,3 +5,5 @@ pub mod PlanOfAll
 pub mod Unlagged
 pub mod Circles
 pub mod Found
+pub mod Links
+pub mod Cut

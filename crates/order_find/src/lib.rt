@@ -6,11 +6,14 @@
 #![tactic(auto)]
 
 mod arrows;
+mod circle;
 mod fault;
+mod find;
 mod graph;
 mod laws;
 mod link;
 mod numbering;
+mod orders;
 mod reading;
 mod slots;
 mod source;
@@ -18,6 +21,7 @@ mod tables;
 mod way;
 mod ways;
 
+pub use circle::no_ranks_fit_a_circle;
 pub use fault::FindFault;
 pub use graph::NodeGraph;
 pub use link::{Link, LinkBy};
