@@ -133,11 +133,13 @@ module _ (p : Plan) (all : IsPlanOfAll p) (n : ℕ) (place : Place) (at : slice_
       (map by whole ++ map by own) (map (maker p) whole ++ map (maker p) own) leaf-steps rows)
 
   -- the arrow in a slot of the node of an element, and in any
-  pub slot-step : (slot : ℕ) (arrow : Arrow) → slot < length (slots_at p n) → unwrap_or (slice_get (slots_at p n) slot) None ≡ Some arrow → Step (slice_index_or (makers_of p n place) slot Below) arrow
-  slot-step slot arrow low is = zip-at Slot (slots_at p n) (makers_of p n place) slot None Below element-steps low arrow (sym (unwrap_or-slice_get (slots_at p n) slot None) ∙ is)
+  pub slot-step : (slot : ℕ) (arrow : Arrow) → slot < length (slots_at p n) → unwrap_or (slice_get (slots_at p n) slot) None ≡ Some arrow → Step (unwrap_or (slice_get (makers_of p n place) slot) Below) arrow
+  slot-step slot arrow low is =
+      subst (λ b. Step b arrow) (sym (unwrap_or-slice_get (makers_of p n place) slot Below))
+      (zip-at Slot (slots_at p n) (makers_of p n place) slot None Below element-steps low arrow (sym (unwrap_or-slice_get (slots_at p n) slot None) ∙ is))
 
   pub element-step : (arrow : Arrow) → Contains (slots_at p n) (Some arrow) → (by : LinkBy) × Step by arrow
-  element-step arrow (slot, low, is) = (slice_index_or (makers_of p n place) slot Below, slot-step slot arrow low (has-held (slots_at p n) slot arrow low is))
+  element-step arrow (slot, low, is) = (unwrap_or (slice_get (makers_of p n place) slot) Below, slot-step slot arrow low (has-held (slots_at p n) slot arrow low is))
 
 -- what lies behind the nodes of elements leads to nodes of elements
 abbrev pub LeadsBack : Plan → Arrow → Type 0

@@ -1,10 +1,10 @@
 -- The links of a closed walk over a plan's graph are a circle of arrows of its model.
 use Rattle.std.proofs.Common.{◌≡◌, refl, sym, ap, ◌∙◌, arith, subst, ℕ, zero, suc, ◌<◌, ◌≤◌, ◌⊎◌, Bool, true, false, ◌||◌, Option, Some, None, List, [], ◌∷◌, ◌++◌, length, Contains, inl, inr}
-use Rattle.std.specs.Prelude.{slice_get, slice_index_or, Any}
+use Rattle.std.specs.Prelude.{slice_get, slice_index_or, unwrap_or, Any}
 use Rattle.std.specs.Option.{option_map_or}
 use Rattle.std.specs.List.{flat_map}
 use Rattle.std.proofs.lemmas.Bool.{cases_lt, or_left, or_right}
-use Rattle.std.proofs.lemmas.List.{append_nil}
+use Rattle.std.proofs.lemmas.List.{append-nil}
 use Rattle.std.proofs.lemmas.List.Concat.{flat_map-append}
 use Rattle.std.proofs.lemmas.Option.{slice_get_within, slice_get_past, same_Some}
 use Rattle.lists.proofs.Found.{there}
@@ -108,19 +108,19 @@ module _ (p : Plan) (all : IsPlanOfAll p) where
       subst (λ ls. Leads p.model ls from to (HasStrict graph (step ∷ steps))) (sym first) (by-step arrow is walk.1.2 (slot-step p all step.node from at step.slot arrow held.0 held.1))
     where
       by-step : (arrow : Arrow) → IsArrow graph step.node step.slot arrow → IsTrail graph steps arrow.to t
-          → IsArrowOf p from (slice_index_or (makers_of p step.node from) step.slot Below) arrow ⊎ IsVia p from (slice_index_or (makers_of p step.node from) step.slot Below) arrow
+          → IsArrowOf p from (unwrap_or (slice_get (makers_of p step.node from) step.slot) Below) arrow ⊎ IsVia p from (unwrap_or (slice_get (makers_of p step.node from) step.slot) Below) arrow
           → Leads p.model (link_of p step from ∷ links_of p steps) from to (HasStrict graph (step ∷ steps))
       by-step arrow is rest (inl a) =
           where-strict p.model (link_of p step from ∷ links_of p steps) from to ((arrow.strict ≡ true) ⊎ HasStrict graph steps) (HasStrict graph (step ∷ steps)) which
-          (join (slice_index_or (makers_of p step.node from) step.slot Below) arrow from to (links_of p steps) (HasStrict graph steps) a
-          (on arrow.to a.target (there-at from (slice_index_or (makers_of p step.node from) step.slot Below) arrow a) rest))
+          (join (unwrap_or (slice_get (makers_of p step.node from) step.slot) Below) arrow from to (links_of p steps) (HasStrict graph steps) a
+          (on arrow.to a.target (there-at from (unwrap_or (slice_get (makers_of p step.node from) step.slot) Below) arrow a) rest))
         where
           which : HasStrict graph (step ∷ steps) → (arrow.strict ≡ true) ⊎ HasStrict graph steps
           which (inl own) = inl (strict-here graph step arrow is own)
           which (inr later) = inr later
       by-step arrow is rest (inr via) =
           where-strict p.model (link_of p step from ∷ links_of p steps) from to (HasStrict graph steps) (HasStrict graph (step ∷ steps)) which
-          (through arrow.to from (slice_index_or (makers_of p step.node from) step.slot Below) via.behind via.each rest)
+          (through arrow.to from (unwrap_or (slice_get (makers_of p step.node from) step.slot) Below) via.behind via.each rest)
         where
           which : HasStrict graph (step ∷ steps) → HasStrict graph steps
           which (inl own) = let on_it = strict-here graph step arrow is own in let off = via.weak in absurd (cc)
@@ -170,7 +170,7 @@ module _ (p : Plan) (all : IsPlanOfAll p) where
       let turned = circle-from (steps ++ step ∷ []) arrow.to back.0 at (IsWalk-push graph steps step arrow.to arrow is rest) (strict-last graph step steps strict) in
       let none = links-none step behind in
       let one : links_of p (step ∷ []) ≡ [] = ap (λ ls. ls ++ []) none in
-      let late : links_of p (steps ++ step ∷ []) ≡ links_of p steps = flat_map-append (links_at p) steps (step ∷ []) ∙ ap (λ ls. links_of p steps ++ ls) one ∙ append_nil (links_of p steps) in
+      let late : links_of p (steps ++ step ∷ []) ≡ links_of p steps = flat_map-append (links_at p) steps (step ∷ []) ∙ ap (λ ls. links_of p steps ++ ls) one ∙ append-nil (links_of p steps) in
       let early : links_of p (step ∷ steps) ≡ links_of p steps = ap (λ ls. ls ++ links_of p steps) none in
       subst (IsCircle p.model) (late ∙ sym early) turned
 

@@ -1,6 +1,6 @@
 -- The links of a walk over the graph of a plan, and which of them comes first.
 use Rattle.std.specs.Prelude.{ℕ, Bool, true, false, ◌==◌, ◌&&◌, ◌||◌, nat_lt, List, [], ◌∷◌, ◌++◌, map}
-use Rattle.std.specs.Prelude.{slice_get, slice_index_or}
+use Rattle.std.specs.Prelude.{slice_get, slice_index_or, unwrap_or}
 use Rattle.std.specs.Option.{option_map_or}
 use Rattle.std.specs.List.{flat_map}
 use Rattle.least_ranks.specs.declared.arrow.Step.{Step}
@@ -31,7 +31,7 @@ link_of p step place =
     record {
       cube = place.cube;
       element = place.element;
-      by = slice_index_or (makers_of p step.node place) step.slot Below;
+      by = unwrap_or (slice_get (makers_of p step.node place) step.slot) Below;
     }
 
 abbrev pub links_at : Plan → Step → List Link

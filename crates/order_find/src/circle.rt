@@ -1,4 +1,4 @@
-ghost use Rattle.std.specs.Prelude.{◌≡◌, ℕ, ◌<◌, List, IfOk, length, slice_index_or, unwrap_or, slice_get, map};
+ghost use Rattle.std.specs.Prelude.{◌≡◌, ℕ, ◌<◌, List, IfOk, length, unwrap_or, slice_get, map};
 ghost use Rattle.std.specs.List.{IsFirstBest};
 ghost use Rattle.least_ranks.specs.Graph.{IsClosedWalk};
 ghost use Rattle.rule_model.specs.BoundModel.{BoundModel};
@@ -70,7 +70,7 @@ fn link(graph: &NodeGraph, step: Step, place: Place) -> Link
 // What makes the arrow in a slot of the node of an element.
 fn made_by(graph: &NodeGraph, node: u32, place: Place, slot: usize) -> LinkBy
     requires { IsPlace graph.now.model.space place }
-    ensures { result ≡ slice_index_or (makers_of graph.now node place) slot Below }
+    ensures { result ≡ unwrap_or (slice_get (makers_of graph.now node place) slot) Below }
 {
     let leaves = leaves_below(graph.model(), place).len();
     if slot < leaves {
@@ -86,7 +86,7 @@ fn made_by(graph: &NodeGraph, node: u32, place: Place, slot: usize) -> LinkBy
 
 // What makes the arrow by the source at a place of a list of them.
 fn row_maker(graph: &NodeGraph, row: &[u32], slot: usize) -> LinkBy
-    ensures { result ≡ slice_index_or (map (maker graph.now) row.now) slot Below }
+    ensures { result ≡ unwrap_or (slice_get (map (maker graph.now) row.now) slot) Below }
 {
     match row.get(slot) {
         Some(k) => maker(graph, *k),
