@@ -63,5 +63,5 @@ are-found p numbered orders all level fits most small is = record {
   each = node-ranks p numbered small;
   fit = fit-model p all numbered fits (all_ranks p numbered) (are-ranks p numbered);
   least = least p numbered all most;
-  orders = is;
+  made = is;
 }

@@ -28,7 +28,9 @@ use Rattle.order_find.proofs.Within.{names-within, reads-cube}
 use Rattle.order_find.proofs.Vertices.{slots-parts, slots-all, slots-totals}
 use Rattle.order_find.proofs.Suiting.{suits-of, part-is, given-where, not-not}
 use Rattle.order_find.specs.declared.link.LinkBy.{LinkBy}
-use Rattle.order_find.specs.Circles.{IsBy}
+use Rattle.order_find.specs.Circles.{IsBy, read_for}
+use Rattle.ref_order.specs.Counted.{counted_of}
+use Rattle.rule_model.specs.declared.rules.Statement.{Statement}
 use Rattle.order_find.specs.Links.{reference_of}
 
 -- an arrow of what a source reads
@@ -114,19 +116,21 @@ module _ (p : Plan) (plan : IsPlan p) (s : Source) (is : IsSource p.model s) (re
   }
 
   made : (t : ℕ) → IsNamedAs p.model s.cube s.area.now s.kind (precedent s) (way_of p.model s) e t → IsBy p.model (link_from place by) by (node (target t)) (not s.weak)
-  unfolding dimension-read read-by
-  made t named = record {
-    arrow = dimension-read p.model plan.valid plan.ruled (node place) (node (target t)) (not s.weak) (read-by t named);
-    own = refl;
-    place = read.place;
-    number = read.number;
-    here = read.here;
-    at = read.at;
-    counted = read.counted;
-    it = read.it;
-    there = read.there;
-    reads = read.own;
-  }
+  unfolding read-by
+  made t named =
+      let a = dimension-read p.model plan.valid plan.ruled (node place) (node (target t)) (not s.weak) (read-by t named) in
+      record {
+        arrow = a.arrow;
+        own = a.own_cube;
+        place = read.place;
+        number = read.number;
+        here = read.here ∙ ap Some (sym a.own_statement);
+        at = read.at;
+        counted = read.counted;
+        it = read.it;
+        there = ap (λ (st : Statement). slice_get (counted_of st) read.at) a.own_statement ∙ read.there;
+        reads = ap (λ kind. read_for kind read.it) a.own_kind ∙ read.own ∙ ap Some (sym a.own_read);
+      }
 
   arrow-of : (t : ℕ) (arrow : Arrow) → IsNamedAs p.model s.cube s.area.now s.kind (precedent s) (way_of p.model s) e t → t < width p.model.space (cube_read s)
       → arrow_to p (cube_read s) (not s.weak) t ≡ arrow → IsArrowOf p place by arrow
