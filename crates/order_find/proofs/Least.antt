@@ -44,7 +44,7 @@ module _ (p : Plan) (numbered : List ℕ) where
       place-low : (p : Plan) → IsPlanOfAll p → (place : Place) → IsPlace p.model.space place → number_of p.numbering place.cube place.element < node_count p
       place-low p all place is = omega (arith, Rattle.std.proofs.lemmas.Option.slice_get_within p.numbering.places.items (number_of p.numbering place.cube place.element) place (all.plan.numbering.there place is))
 
-  node-ranks : ((k : ℕ) → slice_index numbered k < 2 ^ 32) → AreNodeRanks p.model (all_ranks p numbered)
+  pub node-ranks : ((k : ℕ) → slice_index numbered k < 2 ^ 32) → AreNodeRanks p.model (all_ranks p numbered)
   node-ranks fits = record {
     each = λ cube d low at.
         ap length (ranks-in cube low) ∙ length-map-range_with_len (λ element. slice_index numbered (number_of p.numbering cube element)) 0 (width p.model.space cube)
@@ -56,11 +56,11 @@ module _ (p : Plan) (numbered : List ℕ) where
   }
 
 pub are-found : (p : Plan) (numbered : List ℕ) (orders : List Order) → IsPlanOfAll p → IsLevelThroughout p.model → Fits (arrows_of p) numbered → IsLeast (arrows_of p) numbered
-    → ((k : ℕ) → slice_index numbered k < 2 ^ 32) → orders ≡ map (order_by p.model (all_ranks p numbered)) (cubes_of p.model) → AreFound p.model orders
-are-found p numbered orders all level fits most small is = record {
+    → AreNodeRanks p.model (all_ranks p numbered) → orders ≡ map (order_by p.model (all_ranks p numbered)) (cubes_of p.model) → AreFound p.model orders
+are-found p numbered orders all level fits most each is = record {
   level = level;
   ranks = all_ranks p numbered;
-  each = node-ranks p numbered small;
+  each = each;
   fit = fit-model p all numbered fits (all_ranks p numbered) (are-ranks p numbered);
   least = least p numbered all most;
   made = is;

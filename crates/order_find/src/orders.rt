@@ -1,9 +1,9 @@
-ghost use Rattle.std.specs.Prelude.{◌≡◌, ◌<◌, IfOk, length, map, [], ◌∷◌};
+ghost use Rattle.std.specs.Prelude.{◌≡◌, ◌<◌, IfOk, OnOk, length, map, [], ◌∷◌};
 ghost use Rattle.rule_model.specs.declared.order.Position.TheVariants.{Ranks};
 ghost use Rattle.rule_model.specs.Order.{position_of};
 ghost use Rattle.rule_model.specs.System.{cubes_of};
 ghost use Rattle.arrow_laws.specs.Nodes.{last_of};
-ghost use Rattle.arrow_laws.specs.Ranked.{order_by};
+ghost use Rattle.arrow_laws.specs.Ranked.{AreNodeRanks, order_by};
 ghost use Rattle.order_find.specs.Slots.{node_count};
 ghost use Rattle.order_find.specs.Cut.{ranks_of, all_ranks};
 
@@ -17,8 +17,9 @@ use std::alloc::{AllocError, Global};
 /// The order of each cube by ranks of the nodes: what its order has at the first position, and then the ranks.
 pub fn orders(alloc: Global, graph: &NodeGraph, ranks: &[u32]) -> Result<Vec<Order>, AllocError>
     requires { length ranks.now ≡ node_count graph.now }
-    ensures { IfOk result (λ orders. orders.items
+    ensures made { IfOk result (λ orders. orders.items
         ≡ map (order_by graph.now.model (all_ranks graph.now ranks.now)) (cubes_of graph.now.model)) }
+    ensures ranks { OnOk result (AreNodeRanks graph.now.model (all_ranks graph.now ranks.now)) }
 {
     let mut orders = Vec::new(alloc);
     for cube in 0..graph.model().space().cubes() {

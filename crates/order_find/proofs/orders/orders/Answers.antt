@@ -10,7 +10,7 @@ use Rattle.rule_model.specs.Order.{position_of}
 use Rattle.arrow_laws.specs.Nodes.{last_of}
 use Rattle.arrow_laws.specs.Ranked.{order_by}
 use Rattle.order_find.specs.Cut.{all_ranks}
-use Rattle.order_find.proofs.Least.{ranks-in}
+use Rattle.order_find.proofs.Least.{ranks-in, node-ranks}
 use Rattle.order_find.proofs.orders.orders.Goals as goal
 
 pub loop-cube-preserved : goal.loop-cube-preserved
@@ -28,3 +28,6 @@ loop-cube-preserved c =
     ∙ ap (λ xs. xs ++ c.in_ok-order.field-0 ∷ []) c.loop-cube.invariant
     ∙ ap (λ order. map by (range_with_len 0 cube) ++ order ∷ []) same
     ∙ sym (map-range_with_len_more by 0 cube cube (omega arith))
+
+pub returns-clause-ranks : goal.returns-clause-ranks
+returns-clause-ranks c = node-ranks c.args.graph.now c.args.ranks.now (λ k. omega (arith, c.type_inv.ranks k))
