@@ -8,7 +8,7 @@
 mod arrows;
 mod circle;
 mod fault;
-mod find;
+mod finding;
 mod graph;
 mod laws;
 mod link;

@@ -4,7 +4,7 @@ use Rattle.arrow_laws.specs.Ranked.{AreNodeRanks, order_by}
 use Rattle.order_find.specs.Cut.{all_ranks}
 use Rattle.order_find.proofs.Fitting.{nodes-are}
 use Rattle.order_find.proofs.Least.{are-found}
-use Rattle.order_find.proofs.find.found_in.Goals as goal
+use Rattle.order_find.proofs.finding.found_in.Goals as goal
 
 pub orders-requires : goal.orders-requires
 orders-requires c =
