@@ -1,19 +1,17 @@
 -- Ranks of a plan's nodes, cut into those of each cube's elements.
-use Rattle.std.proofs.Common.{◌≡◌, refl, sym, ap, ◌∙◌, arith, subst, ℕ, suc, ◌<◌, ◌≤◌, ◌^◌, Option, Some, List, [], length, map, All}
-use Rattle.std.specs.Prelude.{slice_get, slice_index, slice_index_or}
+use Rattle.std.proofs.Common.{◌≡◌, sym, ap, ◌∙◌, arith, subst, ℕ, ◌<◌, ◌≤◌, ◌^◌, List, [], length, map, All}
+use Rattle.std.specs.Prelude.{slice_index, slice_index_or}
 use Rattle.std.specs.List.{range_with_len}
-use Rattle.std.proofs.lemmas.List.FromFn.{get_or-map-range_with_len, length-map-range_with_len, get_or-range_with_len, length-range_with_len}
-use Rattle.std.proofs.lemmas.List.Elements.{All-map, All-from_get_or}
-use Rattle.dim_core.specs.Outline.{Outline}
+use Rattle.std.proofs.lemmas.List.FromFn.{get_or-map-range_with_len, length-map-range_with_len}
+use Rattle.std.proofs.lemmas.List.Elements.{All-map}
 use Rattle.cube_space.specs.Layout.{axes}
 use Rattle.rule_model.specs.declared.order.Order.{Order}
-use Rattle.rule_model.specs.BoundModel.{BoundModel}
 use Rattle.rule_model.specs.System.{cubes_of}
 use Rattle.rule_model.specs.Conditions.{greatest_rank, rank_in}
 use Rattle.order_laws.proofs.ChildFacts.{size-at}
 use Rattle.least_ranks.specs.Graph.{Fits, IsLeast}
-use Rattle.arrow_laws.specs.Nodes.{Node, last_of, ranks_in, rank_of}
-use Rattle.arrow_laws.specs.Arrows.{FitArrows, IsLevelThroughout}
+use Rattle.arrow_laws.specs.Nodes.{last_of, ranks_in}
+use Rattle.arrow_laws.specs.Arrows.{IsLevelThroughout}
 use Rattle.arrow_laws.specs.Ranked.{AreNodeRanks, order_by}
 use Rattle.order_find.specs.declared.numbering.Place.{Place}
 use Rattle.order_find.specs.Numbers.{IsPlace, width, number_of}

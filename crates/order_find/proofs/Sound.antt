@@ -11,7 +11,6 @@ use Rattle.order_laws.specs.Earlier.{set_count, set_element}
 use Rattle.cover_laws.specs.Looking.{sent}
 use Rattle.least_ranks.specs.declared.arrow.Arrow.{Arrow}
 use Rattle.arrow_laws.specs.Nodes.{last_of}
-use Rattle.arrow_laws.specs.Arrows.{IsReadArrow}
 use Rattle.arrow_laws.specs.ByDimension.{is_level, is_lagged, is_weak, IsJoinedByDimension}
 use Rattle.order_find.specs.declared.numbering.Place.{Place}
 use Rattle.order_find.specs.declared.source.Source.{Source}

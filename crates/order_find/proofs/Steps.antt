@@ -29,7 +29,7 @@ use Rattle.order_find.specs.PlanOfAll.{IsPlanOfAll}
 use Rattle.order_find.specs.declared.link.LinkBy.{LinkBy}
 use Rattle.order_find.specs.declared.link.LinkBy.TheVariants.{Below}
 use Rattle.order_find.specs.Links.{reference_of, maker, makers_of}
-use Rattle.order_find.proofs.Through.{node, link_from, IsArrowOf, IsVia}
+use Rattle.order_find.proofs.Through.{node, IsArrowOf, IsVia}
 use Rattle.order_find.proofs.Lists.{range-has, has-held, zip-map, zip-append, zip-at}
 use Rattle.order_find.specs.Ways.{Names}
 use Rattle.order_find.proofs.Within.{names-within, reads-cube}

@@ -25,11 +25,7 @@ pub fn no_ranks_fit_a_circle()
 {}
 
 /// The links of a closed walk over the graph. They begin with the reference that comes first.
-pub fn circle(
-    alloc: Global,
-    graph: &NodeGraph,
-    steps: &[Step],
-) -> Result<Vec<Link>, AllocError>
+pub fn circle(alloc: Global, graph: &NodeGraph, steps: &[Step]) -> Result<Vec<Link>, AllocError>
     requires plan { IsPlanOfAll graph.now }
     requires closed { IsClosedWalk (arrows_of graph.now) steps.now }
     ensures circle { IfOk result (λ links. IsCircle graph.now.model links.items) }
@@ -137,8 +133,7 @@ fn is_before(one: Link, other: Link) -> bool
             },
         ) => {
             one.cube < other.cube
-                || (one.cube == other.cube
-                    && (statement < s || (statement == s && reference < r)))
+                || (one.cube == other.cube && (statement < s || (statement == s && reference < r)))
         }
         (LinkBy::Reference { .. }, LinkBy::Below) => true,
         (LinkBy::Below, _) => false,

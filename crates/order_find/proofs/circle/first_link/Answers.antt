@@ -1,4 +1,4 @@
-use Rattle.std.proofs.Common.{◌≡◌, ℕ, ◌+◌, ◌<◌, ◌∙◌, sym, subst, arith, length, get_or}
+use Rattle.std.proofs.Common.{◌≡◌, ◌+◌, ◌<◌, ◌∙◌, sym, subst, arith, length, get_or}
 use Rattle.std.specs.List.{IsFirstBest}
 use Rattle.std.proofs.lemmas.List.{get_or_default}
 use Rattle.std.proofs.lemmas.List.MinMax.{IsFirstBest-takes, IsFirstBest-keeps}
@@ -21,7 +21,7 @@ loop-i-preserved c =
     let at_best : get_or links best none ≡ get_or links best (get_or links best none) = get_or_default links best none (get_or links best none) below in
     elim c.if-is_before.branch [
       | then-is_before w ↦ subst (λ k. IsFirstBest is_before links (i + 1) k) (sym w.best-is)
-        (IsFirstBest-takes before-order links i best (get_or links i none) (get_or links best none) c.loop-i.invariant low at at_best (sym c.is_before.ensures ∙ w.if-is_before.true))
+          (IsFirstBest-takes before-order links i best (get_or links i none) (get_or links best none) c.loop-i.invariant low at at_best (sym c.is_before.ensures ∙ w.if-is_before.true))
       | else-is_before w ↦ subst (λ k. IsFirstBest is_before links (i + 1) k) (sym w.best-is)
-        (IsFirstBest-keeps before-order links i best (get_or links i none) (get_or links best none) c.loop-i.invariant low at at_best (sym c.is_before.ensures ∙ w.if-is_before.false))
+          (IsFirstBest-keeps before-order links i best (get_or links i none) (get_or links best none) c.loop-i.invariant low at at_best (sym c.is_before.ensures ∙ w.if-is_before.false))
     ]
