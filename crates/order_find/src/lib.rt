@@ -7,10 +7,12 @@
 
 mod arrows;
 mod fault;
+mod filing;
 mod graph;
 mod laws;
 mod link;
 mod numbering;
+mod numbers;
 mod reading;
 mod slots;
 mod source;
