@@ -1,6 +1,7 @@
 pub mod Numbers
 pub mod Ways
 pub mod Slots
+pub mod Sources
 pub mod PlanOfAll
 pub mod Filing
 pub mod Unlagged
