@@ -1,10 +1,14 @@
 pub mod Complete
 pub mod Decided
 pub mod Every
+pub mod Filed
 pub mod Fitting
 pub mod Held
 pub mod Lists
+pub mod LookedAt
 pub mod Named
+pub mod Numbered
+pub mod Planned
 pub mod Sound
 pub mod Steps
 pub mod Suiting

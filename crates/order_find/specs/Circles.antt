@@ -1,5 +1,5 @@
 -- Closed walks of arrows between the nodes of a model.
-use Rattle.std.specs.Prelude.{◌≡◌, ℕ, suc, ◌<◌, ◌≤◌, Bool, true, false, ◌||◌, ⊤, ⊥, ◌⊎◌, Option, Some}
+use Rattle.std.specs.Prelude.{◌≡◌, ℕ, suc, ◌<◌, ◌≤◌, Bool, true, false, ◌||◌, ⊤, ◌⊎◌, Option, Some}
 use Rattle.std.specs.Prelude.{List, [], ◌∷◌, slice_get, All, if◌then◌else◌}
 use Rattle.rule_laws.specs.Meaning.{Precedent}
 use Rattle.rule_model.specs.BoundModel.{BoundModel, rules_of}

@@ -55,7 +55,7 @@ fn empty_rows(alloc: Global, count: usize) -> Result<Vec<ListOf<u32>>, AllocErro
     ensures { IfOk result (λ rows. rows.items ≡ replicate count []) }
 {
     let mut rows = Vec::with_capacity(alloc, count)?;
-    'each: for _ in 0..count {
+    'each: for _row in 0..count {
         rows.push(ListOf::new(Vec::new(alloc)))?;
     }
     Ok(rows)
