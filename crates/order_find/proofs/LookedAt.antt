@@ -2,18 +2,24 @@
 use Rattle.std.proofs.Common.{◌≡◌, refl, sym, ap, ◌∙◌, subst, arith, ℕ, zero, suc, ◌+◌, ◌<◌, ◌≤◌, ◌⊎◌, inl, inr, Bool, true, ◌||◌, Option, Some, None, List, [], ◌∷◌, ◌++◌, length, replicate, Contains, All, get_or, eqb, ◌==◌}
 use Rattle.std.specs.Prelude.{slice_get, slice_index_or}
 use Rattle.std.specs.List.{list_any}
+use Rattle.std.specs.List.Sorted.{IsStrictlyIncreasing}
 use Rattle.std.proofs.lemmas.Bool.{eqb-true, eq-eqb, cases_lt}
-use Rattle.std.proofs.lemmas.List.{length-replicate}
+use Rattle.std.proofs.lemmas.List.{length-replicate, get_or_default}
 use Rattle.std.proofs.lemmas.List.Elements.{Contains-append_left}
 use Rattle.std.proofs.lemmas.List.Folds.{Any-from_list_any, list_any_at}
+use Rattle.std.proofs.lemmas.Option.{slice_get-get_or, slice_get_within}
 use Rattle.lists.proofs.Found.{some_same}
+use Rattle.cube_space.specs.Layout.{Layout, sizes}
 use Rattle.rule_model.specs.Areas.{in_set}
 use Rattle.rule_model.specs.BoundModel.{BoundModel}
+use Rattle.rule_model.specs.Conditions.{IsSet}
+use Rattle.order_laws.proofs.SetFacts.{set-at}
 use Rattle.arrow_laws.specs.Nodes.{last_of}
 use Rattle.order_find.specs.declared.numbering.Place.{Place}
 use Rattle.order_find.specs.declared.numbering.Numbering.{Numbering}
 use Rattle.order_find.specs.declared.source.Source.{Source}
 use Rattle.order_find.specs.Numbers.{IsNumbering, IsPlace, count_of, number_of, width}
+use Rattle.order_find.specs.Ways.{IsSource}
 use Rattle.order_find.specs.Slots.{Plan, IsSourceOf}
 use Rattle.order_find.specs.Filing.{Adds, AreFiled}
 use Rattle.order_find.proofs.Filed.{one, added-has, has-added, added-long}
@@ -46,6 +52,33 @@ none-filed p cubes nodes = record {
   looked_at = λ k s place low. absurd (omega (arith, low));
 }
 
+-- what an area lists in the last dimension
+pub record IsListOf (m : BoundModel) (s : Source) (listed : List ℕ) : Type 0 where
+  pub set : slice_index_or s.area.now.sets (last_of m.space s.cube) None ≡ Some listed
+  pub rising : IsStrictlyIncreasing listed
+  pub within : All (λ e. e < width m.space s.cube) listed
+
+pub list-of : (m : BoundModel) (s : Source) (last : ℕ) (set : Option (List ℕ)) (listed : List ℕ) → IsSource m s → last ≡ last_of m.space s.cube
+    → set ≡ slice_index_or s.area.now.sets last None → set ≡ Some listed → IsListOf m s listed
+list-of m s last set listed source is here found =
+    let same : slice_index_or s.area.now.sets (last_of m.space s.cube) None ≡ Some listed = ap (λ i. slice_index_or s.area.now.sets i None) (sym is) ∙ sym here ∙ found in
+    let (rising, within) = subst (IsSet (width m.space s.cube)) same (set-at (sizes m.space s.cube) s.area.now.sets (last_of m.space s.cube) source.area) in
+    record { set = same; rising = rising; within = within }
+
+pub first-of : (space : Layout) (numbering : Numbering) (cube first : ℕ) → IsNumbering space numbering → cube < length space.cubes → first ≡ slice_index_or numbering.firsts.items cube first
+    → first ≡ slice_index_or numbering.firsts.items cube 0
+first-of space numbering cube first numbers there is = is ∙ get_or_default numbering.firsts.items cube first 0 (omega (arith, numbers.cubes, there))
+
+pub rows-there : (m : BoundModel) (numbering : Numbering) (s : Source) (first : ℕ) (listed : List ℕ) → IsNumbering m.space numbering → s.cube < length m.space.cubes
+    → first ≡ slice_index_or numbering.firsts.items s.cube 0 → All (λ e. e < width m.space s.cube) listed → All (λ e. first + e < count_of numbering) listed
+rows-there m numbering s first listed numbers cube begins within = λ k d low.
+    let own : Place = record { cube = s.cube; element = get_or listed k d } in
+    let found : slice_get numbering.places.items (number_of numbering s.cube (get_or listed k d)) ≡ Some own = numbers.there own (record { cube = cube; element = within k d low }) in
+    omega (arith, slice_get_within numbering.places.items (number_of numbering s.cube (get_or listed k d)) own found, begins)
+
+pub source-at : (m : BoundModel) (sources : List Source) (k : ℕ) (s : Source) → All (IsSource m) sources → k < length sources → s ≡ get_or sources k s → IsSource m s × (slice_get sources k ≡ Some s)
+source-at m sources k s all low is = (subst (IsSource m) (sym is) (all k s low), slice_get-get_or sources k s low ∙ ap Some (sym is))
+
 -- the graph with these rows
 abbrev pub plan : BoundModel → Numbering → List Source → List (List ℕ) → List (List ℕ) → Plan
 plan m numbering sources of_cubes of_nodes =
@@ -53,7 +86,7 @@ plan m numbering sources of_cubes of_nodes =
 
 module _ (m : BoundModel) (numbering : Numbering) (sources : List Source) (of_cubes of_nodes : List (List ℕ)) (k : ℕ) (s : Source)
     (at : slice_get sources k ≡ Some s) (filed : AreFiled (plan m numbering sources of_cubes of_nodes) k) where
-  old : Plan
+  abbrev old : Plan
   old = plan m numbering sources of_cubes of_nodes
 
   abbrev row : List (List ℕ) → ℕ → List ℕ
@@ -62,10 +95,10 @@ module _ (m : BoundModel) (numbering : Numbering) (sources : List Source) (of_cu
   source-here : (cube j : ℕ) → s.cube ≡ cube → k ≡ j → IsSourceOf old cube j
   source-here cube j own same = (s, subst (λ i. slice_get sources i ≡ Some s) same at, own)
 
-  IsLooked : List (List ℕ) → List (List ℕ) → Place → ℕ → Type 0
+  abbrev IsLooked : List (List ℕ) → List (List ℕ) → Place → ℕ → Type 0
   IsLooked cubes nodes place j = Contains (row cubes place.cube) j ⊎ Contains (row nodes (number_of numbering place.cube place.element)) j
 
-  IsListed : Source → Place → Type 0
+  abbrev IsListed : Source → Place → Type 0
   IsListed source place = in_set (slice_index_or source.area.now.sets (last_of m.space source.cube) None) place.element ≡ true
 
   -- what was looked at before still is
