@@ -10,8 +10,7 @@ use Rattle.lists.proofs.Found.{some_same}
 use Rattle.order_find.specs.declared.numbering.Place.{Place}
 use Rattle.cube_space.specs.Layout.{Layout}
 use Rattle.order_find.specs.declared.numbering.Numbering.{Numbering}
-use Rattle.order_find.specs.Numbers.{IsNumbering, width as width_of}
-use Rattle.order_find.specs.Filing.{places_of}
+use Rattle.order_find.specs.Numbers.{IsNumbering, width as width_of, places_of}
 
 -- what two lists have, one behind the other
 get-left : {X : Type 0} (xs ys : List X) (k : ℕ) (x : X) → slice_get xs k ≡ Some x → slice_get (xs ++ ys) k ≡ Some x

@@ -13,12 +13,12 @@ use Rattle.rule_model.specs.BoundModel.{BoundModel, no_rules, rules_of}
 use Rattle.rule_model.specs.Conditions.{AreRules, IsArea, IsPrecedent, IsStatement}
 use Rattle.order_laws.proofs.Ordered.{part-reads}
 use Rattle.order_find.specs.declared.source.Source.{Source}
-use Rattle.order_find.specs.Numbers.{IsNumbering, count_of}
+use Rattle.order_find.specs.Numbers.{IsNumbering, count_of, most_places}
 use Rattle.order_find.specs.Ways.{IsSource, precedent}
 use Rattle.order_find.specs.Slots.{Plan, IsPlan}
 use Rattle.order_find.specs.Sources.{IsRead, AreSourcesOf}
 use Rattle.order_find.specs.PlanOfAll.{IsPlanOfAll}
-use Rattle.order_find.specs.Filing.{AreFiled, most_places}
+use Rattle.order_find.specs.Filing.{AreFiled}
 
 module _ (m : BoundModel) (valid : IsSpace m.space) (ruled : AreRules m.space m.rules) where
   cube-there : (cube : ℕ) (s : Statement) → Contains (rules_of m cube).statements s → cube < length m.space.cubes

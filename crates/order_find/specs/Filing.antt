@@ -1,7 +1,6 @@
 -- Which sources are looked at for each element of a cube, and for one element.
-use Rattle.std.specs.Prelude.{◌≡◌, ℕ, ◌<◌, ◌≤◌, ◌^◌, ◌⊎◌, Bool, Some, None, List, [], ◌∷◌, ◌++◌, map, length, Contains}
+use Rattle.std.specs.Prelude.{◌≡◌, ℕ, ◌<◌, ◌≤◌, ◌⊎◌, Bool, Some, None, List, [], ◌∷◌, ◌++◌, length, Contains}
 use Rattle.std.specs.Prelude.{IsTrue, slice_get, slice_index_or, if◌then◌else◌}
-use Rattle.std.specs.List.{range_with_len}
 use Rattle.rule_model.specs.Areas.{in_set}
 use Rattle.rule_model.specs.BoundModel.{BoundModel}
 use Rattle.arrow_laws.specs.Nodes.{last_of}
@@ -11,14 +10,6 @@ use Rattle.order_find.specs.declared.source.Source.{Source}
 use Rattle.order_find.specs.declared.filing.Filing.{Filing}
 use Rattle.order_find.specs.Numbers.{IsPlace, count_of, number_of}
 use Rattle.order_find.specs.Slots.{Plan, IsSourceOf}
-
--- how many elements the last dimensions of all cubes may have together
-abbrev pub most_places : ℕ
-most_places = 2 ^ 30
-
--- so many elements of a cube's last dimension
-abbrev pub places_of : ℕ → ℕ → List Place
-places_of cube width = map (λ element. record { cube = cube; element = element }) (range_with_len 0 width)
 
 -- each row of which this holds has one more number at its end, and the others are the same
 pub record Adds (holds : ℕ → Bool) (k : ℕ) (old new : List (List ℕ)) : Type 0 where

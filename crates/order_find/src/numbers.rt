@@ -1,6 +1,5 @@
 ghost use Rattle.std.specs.Prelude.{◌≡◌, ◌<◌, ◌≤◌, ◌++◌, IfOk, OnOk, length};
-ghost use Rattle.order_find.specs.Numbers.{IsNumbering, count_of, width};
-ghost use Rattle.order_find.specs.Filing.{places_of, most_places};
+ghost use Rattle.order_find.specs.Numbers.{IsNumbering, count_of, width, places_of, most_places};
 
 use crate::numbering::{Numbering, Place};
 use crate::tables::last_of;

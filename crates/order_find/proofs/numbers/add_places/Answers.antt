@@ -1,6 +1,6 @@
 use Rattle.std.proofs.Common.{◌≡◌, ◌≤◌, ◌∙◌, ◌++◌, sym, ap, arith, length}
 use Rattle.std.proofs.lemmas.List.{append-nil}
-use Rattle.order_find.specs.Filing.{places_of}
+use Rattle.order_find.specs.Numbers.{places_of}
 use Rattle.order_find.proofs.Numbered.{places-more, places-long}
 use Rattle.order_find.proofs.numbers.add_places.Goals as goal
 

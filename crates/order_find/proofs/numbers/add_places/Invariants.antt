@@ -1,5 +1,5 @@
 use Rattle.std.proofs.Common.{◌≡◌, ◌++◌}
-use Rattle.order_find.specs.Filing.{places_of}
+use Rattle.order_find.specs.Numbers.{places_of}
 use Rattle.order_find.proofs.numbers.add_places.Given as goal
 
 abbrev pub invariant-each : goal.invariant-each

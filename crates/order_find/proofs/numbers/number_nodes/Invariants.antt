@@ -1,6 +1,5 @@
 use Rattle.std.proofs.Common.{◌≤◌, length}
-use Rattle.order_find.specs.Numbers.{width}
-use Rattle.order_find.specs.Filing.{most_places}
+use Rattle.order_find.specs.Numbers.{width, most_places}
 use Rattle.order_find.proofs.Numbered.{AreNumbered}
 use Rattle.order_find.proofs.numbers.number_nodes.Given as goal
 
