@@ -6,4 +6,5 @@ pub mod PlanOfAll
 pub mod Filing
 pub mod Unlagged
 pub mod Circles
+pub mod Gathering
 pub mod Found
