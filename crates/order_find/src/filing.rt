@@ -15,8 +15,8 @@ use rule_model::Model;
 use std::alloc::{AllocError, Global};
 use std::mem;
 
-// A list of at most this part of a dimension's elements is short.
-const SHORT_PART: usize = 16;
+// An area lists few elements of a dimension where these are at most one in so many.
+const ONE_IN: usize = 16;
 
 /// The sources that are looked at, by their numbers.
 #[derive(Drop)]
@@ -28,7 +28,8 @@ pub struct Filing {
 }
 
 /// Files each source: at the elements that its area lists in the last dimension, where these are few, and otherwise at
-/// its cube, since a list as long would take more room than it saves time.
+/// its cube. So what is filed takes little room, and a source is looked at for at most 16 times the elements that its
+/// area has.
 pub fn file_sources(
     alloc: Global,
     model: &Model,
@@ -80,7 +81,7 @@ fn file(
     let last = last_of(model, source.cube);
     let size = axis(model, source.cube, last).len();
     match set_of(model, source, last) {
-        Some(listed) if listed.as_slice().len() <= size as usize / SHORT_PART => {
+        Some(listed) if listed.as_slice().len() <= size as usize / ONE_IN => {
             let first = numbering.firsts[source.cube as usize];
             add_each(alloc, &mut filing.of_nodes, first, listed.as_slice(), k)
         }

@@ -1,5 +1,5 @@
 use Rattle.std.proofs.Common.{◌≡◌, ◌≤◌, ◌+◌, ◌++◌, ◌∷◌, [], sym, ap, subst, arith, length}
-use Rattle.order_find.specs.Numbers.{width}
+use Rattle.order_find.specs.Numbers.{width, places_of}
 use Rattle.order_find.proofs.Numbered.{AreNumbered, none-numbered, numbered-next, numbering-is}
 use Rattle.order_find.proofs.numbers.number_nodes.Goals as goal
 
@@ -18,9 +18,11 @@ each-preserved c =
     let wide = width c.args.model.now.space in
     let begins : c.len.result ≡ length c.each.places.items = omega (arith, c.len.ensures, c.each.places.ok) in
     let next = numbered-next wide c.each.cube c.len.result c.width.result c.each.firsts.items c.each.places.items c.width.ensures begins c.each.invariant.numbered in
+    let more : c.push.new.self.items ≡ c.each.firsts.items ++ c.len.result ∷ [] = c.in_ok-push.ensures.items in
+    let added : c.add_places.new.places.items ≡ c.each.places.items ++ places_of c.each.cube c.width.result = c.in_ok-add_places.ensures.places in
     record {
-      numbered = subst (λ firsts. AreNumbered wide (c.each.cube + 1) firsts c.add_places.new.places.items) (sym c.in_ok-push.ensures.items)
-          (subst (λ places. AreNumbered wide (c.each.cube + 1) (c.each.firsts.items ++ c.len.result ∷ []) places) (sym c.in_ok-add_places.ensures.places) next);
+      numbered = subst (λ firsts. AreNumbered wide (c.each.cube + 1) firsts c.add_places.new.places.items) (sym more)
+          (subst (λ places. AreNumbered wide (c.each.cube + 1) (c.each.firsts.items ++ c.len.result ∷ []) places) (sym added) next);
       few = c.in_ok-add_places.ensures.few;
     }
 
