@@ -127,7 +127,7 @@ module _ (m : BoundModel) (s : Source) (st : Statement) (at : ℕ) (is : IsOfSta
         not_lagged = not_lagged;
         weak = weak;
         parts = λ way. weak ∙ ap (λ a. is_weak m s.cube a s.kind (precedent s)) is.area
-        ∙ parts-weak m is.of.valid is.of.ruled s.cube is.of.within st (statement-is m s.cube s.statement st is.of).area s.kind (precedent s) source-is.reads way;
+            ∙ parts-weak m is.of.valid is.of.ruled s.cube is.of.within st (statement-is m s.cube s.statement st is.of).area s.kind (precedent s) source-is.reads way;
         each = reads-each m s.cube s.area.now area-is s.kind (precedent s) not_lagged;
         elsewhere = elsewhere;
       }

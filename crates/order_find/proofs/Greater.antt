@@ -55,7 +55,7 @@ module _ (m : BoundModel) (cube number : ℕ) (st : Statement) (is : IsStatement
     where
       by : (kind : Bool) → AreLevelBefore kind (suc (suc j)) → IfSome (read_for kind it) (IsLevel m cube st kind)
       by kind level = each-there (IsLevel m cube st kind) (read_for kind it) (λ p own.
-        (let (k, from, there) = place-counted st kind j it p at own in level-of kind k p there (level k p (omega (arith, from)) there)))
+          (let (k, from, there) = place-counted st kind j it p at own in level-of kind k p there (level k p (omega (arith, from)) there)))
 
   fewer : (kind : Bool) (less end : ℕ) → less ≤ end → AreLevelBefore kind end → AreLevelBefore kind less
   fewer kind less end below h k p low at = h k p (omega (arith, below, low)) at
@@ -186,10 +186,10 @@ module _ (m : BoundModel) (valid : IsSpace m.space) (ruled : AreRules m.space m.
 
     pub cube-level : (xs : List Source) → IsCubeTaken m xs cube → All (λ s. (kind : Bool) (p : Precedent) → Reads m cube s kind p → IsLevel m cube s kind p) (rules_of m cube).statements
     cube-level xs taken = all-of (λ s. (kind : Bool) (p : Precedent) → Reads m cube s kind p → IsLevel m cube s kind p) (rules_of m cube).statements (λ place st at kind p reading.
-      (let is = at-place place st at in
-      let (k, here) = reads-placed m cube (suc place) st is kind p reading in
-      (level-decided m valid ruled cube there st (statement-is m cube (suc place) st is).area kind p (precedent-is m cube (suc place) st is kind k p here)).0
-      (taken-of xs place st kind p taken at reading).level))
+        (let is = at-place place st at in
+        let (k, here) = reads-placed m cube (suc place) st is kind p reading in
+        (level-decided m valid ruled cube there st (statement-is m cube (suc place) st is).area kind p (precedent-is m cube (suc place) st is kind k p here)).0
+        (taken-of xs place st kind p taken at reading).level))
 
   abbrev pub AreCubesTaken : List Source → ℕ → Type 0
   AreCubesTaken xs end = (cube : ℕ) → cube < end → IsCubeTaken m xs cube

@@ -25,5 +25,5 @@ mod ways;
 
 pub use fault::FindFault;
 pub use graph::NodeGraph;
-pub use link::{Link, LinkBy};
 pub use laws::{ranks_of_the_graph_fit_the_model, ranks_of_the_model_fit_the_graph};
+pub use link::{Link, LinkBy};

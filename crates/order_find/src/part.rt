@@ -12,8 +12,9 @@ use crate::source::Source;
 use crate::tables::last_of;
 use crate::way::Way;
 use crate::ways::way;
-use ref_order::{AreaCells, Known, MAX_POSITIONS, Read};
-use ref_order::{axis_count, has_total, is_below, is_within, most_excess};
+use ref_order::{
+    AreaCells, Known, MAX_POSITIONS, Read, axis_count, has_total, is_below, is_within, most_excess,
+};
 use rule_model::{Model, Statement};
 
 /// A part of a statement.
@@ -86,7 +87,10 @@ pub fn look<'a>(part: Part<'a>, known: &mut Known<'a>, read: Read<'a>, at: u32) 
     ensures known { IsKnown part.entry.model.now part.entry.cube part.entry.statement.now.area known.new }
 {
     let Part {
-        model, cube, kind, ..
+        model,
+        cube,
+        kind,
+        ..
     } = part;
     let area = &part.statement.area;
     let cells = AreaCells { model, cube, area };

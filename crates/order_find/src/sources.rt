@@ -176,7 +176,15 @@ fn take_cube<'a>(
     let mut known = Known::none();
     'each: for n in 0..statements.len() {
         let number = n as u32 + 1;
-        take_statement(alloc, model, cube, &statements[n], number, &mut known, sources)?;
+        take_statement(
+            alloc,
+            model,
+            cube,
+            &statements[n],
+            number,
+            &mut known,
+            sources,
+        )?;
     }
     Ok(())
 }

@@ -40,10 +40,13 @@ returns-in-Some-clause-refused c =
     let before_leaf : c.before-before_leaf.result.0 ≡ counted_before st true =
     ap (λ (p : ℕ × ℕ). p.0) c.before-before_leaf.ensures ∙ ap (λ x. before_by st.form true x c.len-2.result) l ∙ ap (before_by st.form true (length (reads st.leaf))) n in
     let before_cons : c.before-before_leaf.result.1 ≡ counted_before st false =
-    ap (λ (p : ℕ × ℕ). p.1) c.before-before_leaf.ensures ∙ ap (λ x. before_by st.form false x c.len-2.result) l ∙ ap (before_by st.form false (length (reads st.leaf))) n in
-    (refl, refl, first-of-both c.args.model.now c.args.cube c.args.number st c.requires.statement c.take_part.new.sources.items c.take_part-2.new.sources.items c.in_ok-first.first c.in_ok-second.second c.in-Some.reference
-    (kind-done _ c.take_part.new.sources.items c.in_ok-first.first before_leaf c.in_ok-first.ensures.done) (kind-done _ c.take_part-2.new.sources.items c.in_ok-second.second before_cons c.in_ok-second.ensures.done)
-    (sym c.earliest.ensures ∙ c.in-Some.is))
+    ap (λ (p : ℕ × ℕ). p.1) c.before-before_leaf.ensures ∙ ap (λ x. before_by st.form false x c.len-2.result) l ∙ ap (before_by st.form false (length (reads st.leaf))) n in (
+      refl,
+      refl,
+      first-of-both c.args.model.now c.args.cube c.args.number st c.requires.statement c.take_part.new.sources.items c.take_part-2.new.sources.items c.in_ok-first.first c.in_ok-second.second c.in-Some.reference
+          (kind-done _ c.take_part.new.sources.items c.in_ok-first.first before_leaf c.in_ok-first.ensures.done) (kind-done _ c.take_part-2.new.sources.items c.in_ok-second.second before_cons c.in_ok-second.ensures.done)
+          (sym c.earliest.ensures ∙ c.in-Some.is),
+    )
 
 pub returns-clause-taken : goal.returns-clause-taken
 returns-clause-taken c =
@@ -58,6 +61,7 @@ returns-clause-taken c =
     ap (λ (p : ℕ × ℕ). p.1) c.before-before_leaf.ensures ∙ ap (λ x. before_by st.form false x c.len-2.result) l ∙ ap (before_by st.form false (length (reads st.leaf))) n in
     let one = kind-done _ c.take_part.new.sources.items c.in_ok-first.first before_leaf c.in_ok-first.ensures.done in
     let two = kind-done _ c.take_part-2.new.sources.items c.in_ok-second.second before_cons c.in_ok-second.ensures.done in
-    let none = none-first c.in_ok-first.first c.in_ok-second.second (sym c.earliest.ensures ∙ c.in-None.is) in
-    (all-stay c.args.model.now c.args.cube st c.take_part.new.sources.items c.take_part-2.new.sources.items true c.in_ok-second.ensures.stay (taken-both c.args.model.now c.args.cube st true c.take_part.new.sources.items c.in_ok-first.first one none.0),
-    taken-both c.args.model.now c.args.cube st false c.take_part-2.new.sources.items c.in_ok-second.second two none.1)
+    let none = none-first c.in_ok-first.first c.in_ok-second.second (sym c.earliest.ensures ∙ c.in-None.is) in (
+      all-stay c.args.model.now c.args.cube st c.take_part.new.sources.items c.take_part-2.new.sources.items true c.in_ok-second.ensures.stay (taken-both c.args.model.now c.args.cube st true c.take_part.new.sources.items c.in_ok-first.first one none.0),
+      taken-both c.args.model.now c.args.cube st false c.take_part-2.new.sources.items c.in_ok-second.second two none.1,
+    )
