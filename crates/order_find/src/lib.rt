@@ -10,14 +10,14 @@
 mod arrows;
 mod circle;
 mod fault;
-mod finding;
 mod filing;
+mod finding;
 mod graph;
 mod laws;
 mod link;
 mod numbering;
-mod orders;
 mod numbers;
+mod orders;
 mod part;
 mod reading;
 mod reads;
