@@ -1,19 +1,17 @@
 -- The sources so far.
-use Rattle.std.proofs.Common.{◌≡◌, refl, sym, ap, ◌∙◌, arith, subst, ℕ, zero, suc, ◌+◌, ◌-◌, ◌<◌, ◌≤◌, ◌⊎◌, inl, inr, Bool, true, false, Option, Some, None, List, [], ◌∷◌, ◌++◌, length, map, get_or, All, Contains}
+use Rattle.std.proofs.Common.{◌≡◌, refl, sym, ap, ◌∙◌, arith, subst, ℕ, zero, suc, ◌+◌, ◌-◌, ◌<◌, ◌≤◌, inl, inr, Bool, true, false, Option, Some, None, List, [], ◌∷◌, ◌++◌, length, get_or, All, Contains}
 use Rattle.std.specs.Prelude.{slice_get, IsTrue, ◌↔◌, IfSome}
 use Rattle.std.proofs.lemmas.List.Elements.{All-contains}
 use Rattle.std.proofs.lemmas.List.Sorted.{IsNonDecreasingBy-push, IsNonDecreasingBy-short}
-use Rattle.std.proofs.lemmas.Option.{slice_get_within, slice_get-get_or}
+use Rattle.std.proofs.lemmas.Option.{slice_get-get_or}
 use Rattle.cube_space.specs.Layout.{axes}
-use Rattle.cube_space.specs.Cells.{IsSpace}
 use Rattle.rule_laws.specs.declared.formula.Formula.{Formula}
 use Rattle.rule_laws.specs.Meaning.{Precedent, precedents}
 use Rattle.rule_model.specs.declared.rules.Form.{Form}
 use Rattle.rule_model.specs.declared.rules.Form.TheVariants.{Both, LeafFirst, ConsFirst}
 use Rattle.rule_model.specs.declared.rules.Statement.{Statement}
 use Rattle.rule_model.specs.BoundModel.{BoundModel, rules_of}
-use Rattle.rule_model.specs.Conditions.{IsArea, IsPrecedent, IsStatement, IsLeafPart, IsConsolidatedPart, AreRules, read_count}
-use Rattle.rule_model.specs.System.{rule_of}
+use Rattle.rule_model.specs.Conditions.{IsArea, IsPrecedent, IsStatement, IsLeafPart, IsConsolidatedPart, read_count}
 use Rattle.ref_order.specs.Counted.{reads}
 use Rattle.arrow_laws.specs.Nodes.{last_of}
 use Rattle.arrow_laws.specs.Arrows.{Reads}
@@ -21,8 +19,8 @@ use Rattle.arrow_laws.specs.ByDimension.{is_lagged, is_level, is_weak, HasOtherT
 use Rattle.order_find.specs.declared.part.Part.{Part}
 use Rattle.order_find.specs.declared.source.Source.{Source}
 use Rattle.order_find.specs.Ways.{IsSource, precedent, way_of, reads_from}
-use Rattle.order_find.specs.Sources.{found_in, IsRead, IsReadBy, most_sources}
-use Rattle.order_find.specs.Gathering.{reads_for, counted_before, before_by, IsStatementAt, IsPart, IsSourceOf, AreGathered, Stay, IsTaken, AreTaken, IsStatementTaken, IsCubeTaken}
+use Rattle.order_find.specs.Sources.{found_in, IsRead, most_sources}
+use Rattle.order_find.specs.Gathering.{reads_for, counted_before, before_by, IsStatementAt, IsSourceOf, AreGathered, Stay, IsTaken, AreTaken, IsStatementTaken, IsCubeTaken}
 use Rattle.order_find.proofs.Lists.{has-at, at-of}
 use Rattle.order_find.proofs.Placed.{get-first, get-second, get-either}
 use Rattle.order_find.proofs.Counting.{counted-place}

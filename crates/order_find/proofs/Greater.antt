@@ -1,9 +1,8 @@
 -- The first reference that may read at a greater lag.
-use Rattle.std.proofs.Common.{◌≡◌, refl, sym, ap, ◌∙◌, arith, subst, ℕ, suc, ◌+◌, ◌<◌, ◌≤◌, min, inl, inr, Bool, true, false, Option, Some, None, List, length, take, All, Result, IsErrAnd, IfErr}
+use Rattle.std.proofs.Common.{◌≡◌, refl, sym, ap, ◌∙◌, arith, subst, ℕ, suc, ◌+◌, ◌<◌, ◌≤◌, min, inl, inr, Bool, true, false, Option, Some, None, List, length, All, Result, IsErrAnd, IfErr}
 use Rattle.std.specs.Prelude.{slice_get, IsTrue, IfSome}
 use Rattle.std.proofs.lemmas.Bool.{cases_lt}
 use Rattle.std.proofs.lemmas.Result.{err_from_is_err_and}
-use Rattle.std.proofs.lemmas.Option.{slice_get_within}
 use Rattle.cube_space.specs.Cells.{IsSpace}
 use Rattle.rule_laws.specs.Meaning.{Precedent}
 use Rattle.rule_model.specs.declared.rules.Statement.{Statement}
@@ -12,7 +11,7 @@ use Rattle.rule_model.specs.Conditions.{AreRules}
 use Rattle.ref_order.specs.Counted.{Counted, counted_of}
 use Rattle.ref_order.specs.FirstReference.{HoldsOfEach, IsFirstOf}
 use Rattle.arrow_laws.specs.Arrows.{Reads, IsLevel, IsLevelThroughout}
-use Rattle.arrow_laws.specs.ByDimension.{is_level, is_lagged}
+use Rattle.arrow_laws.specs.ByDimension.{is_level}
 use Rattle.arrow_laws.proofs.Lag.{level-decided}
 use Rattle.order_find.specs.declared.fault.FindFault.{FindFault}
 use Rattle.order_find.specs.declared.fault.FindFault.TheVariants.{Unlagged, Cycle, Memory}
@@ -21,7 +20,7 @@ use Rattle.order_find.specs.declared.source.Source.{Source}
 use Rattle.order_find.specs.Circles.{read_for}
 use Rattle.order_find.specs.Sources.{AreSourcesOf}
 use Rattle.order_find.specs.Unlagged.{IsLevelReference, IsFirstUnlagged}
-use Rattle.order_find.specs.Gathering.{reads_for, counted_before, IsStatementAt, AreGathered, IsTaken, AreTaken, IsStatementTaken, IsCubeTaken, IsFirstIn, IsPartDone, earliest, IsStatementFault, IsFirstOfCube, IsCubeFault, IsUnlaggedFault}
+use Rattle.order_find.specs.Gathering.{reads_for, counted_before, IsStatementAt, AreGathered, IsTaken, AreTaken, IsStatementTaken, IsCubeTaken, IsPartDone, earliest, IsStatementFault, IsCubeFault, IsUnlaggedFault}
 use Rattle.order_find.proofs.Lists.{at-of}
 use Rattle.order_find.proofs.Placed.{all-of, all-before}
 use Rattle.order_find.proofs.Counting.{counted-place, place-counted}

@@ -1,8 +1,8 @@
 -- Ranks of a plan's nodes, cut into those of each cube's elements.
-use Rattle.std.proofs.Common.{◌≡◌, sym, ap, ◌∙◌, arith, subst, ℕ, ◌<◌, ◌≤◌, ◌^◌, List, [], length, map, All}
+use Rattle.std.proofs.Common.{◌≡◌, sym, ap, ◌∙◌, arith, subst, ℕ, ◌<◌, ◌≤◌, ◌^◌, ◌+◌, List, [], ◌∷◌, ◌++◌, length, map, All}
 use Rattle.std.specs.Prelude.{slice_index, slice_index_or}
 use Rattle.std.specs.List.{range_with_len}
-use Rattle.std.proofs.lemmas.List.FromFn.{get_or-map-range_with_len, length-map-range_with_len}
+use Rattle.std.proofs.lemmas.List.FromFn.{get_or-map-range_with_len, length-map-range_with_len, map-range_with_len_more}
 use Rattle.std.proofs.lemmas.List.Elements.{All-map}
 use Rattle.cube_space.specs.Layout.{axes}
 use Rattle.rule_model.specs.declared.order.Order.{Order}
@@ -52,6 +52,15 @@ module _ (p : Plan) (numbered : List ℕ) where
         (All-map (λ rank. rank ≤ greatest_rank) (λ element. slice_index numbered (number_of p.numbering cube element)) (range_with_len 0 (width p.model.space cube))
         (λ k d within. let few = fits (number_of p.numbering cube (slice_index_or (range_with_len 0 (width p.model.space cube)) k d)) in omega (arith, few)));
   }
+
+-- one element more of a cube
+pub ranks-more : (p : Plan) (numbered : List ℕ) (cube n number : ℕ) (own more : List ℕ) → more ≡ own ++ slice_index numbered number ∷ []
+    → own ≡ map (λ element. slice_index numbered (number_of p.numbering cube element)) (range_with_len 0 n) → number ≡ number_of p.numbering cube n
+    → more ≡ map (λ element. slice_index numbered (number_of p.numbering cube element)) (range_with_len 0 (n + 1))
+ranks-more p numbered cube n number own more is own_is number_is =
+    let rank : ℕ → ℕ = λ element. slice_index numbered (number_of p.numbering cube element) in
+    is ∙ ap (λ xs. xs ++ slice_index numbered number ∷ []) own_is ∙ ap (λ k. map rank (range_with_len 0 n) ++ slice_index numbered k ∷ []) number_is
+    ∙ sym (map-range_with_len_more rank 0 n n (omega arith))
 
 pub are-found : (p : Plan) (numbered : List ℕ) (orders : List Order) → IsPlanOfAll p → IsLevelThroughout p.model → Fits (arrows_of p) numbered → IsLeast (arrows_of p) numbered
     → AreNodeRanks p.model (all_ranks p numbered) → orders ≡ map (order_by p.model (all_ranks p numbered)) (cubes_of p.model) → AreFound p.model orders

@@ -1,6 +1,6 @@
 -- The elements from which is read are those that have an excess.
-use Rattle.std.proofs.Common.{◌≡◌, refl, sym, ap, ◌∙◌, arith, subst, ℕ, zero, suc, ◌+◌, ◌<◌, ◌≤◌, ◌⊎◌, inl, inr, Bool, true, false, not, ◌&&◌, ◌||◌, ◌==◌, ℤ, pos, ◌-ℤ◌, Option, Some, None, option_map, is_some, if◌then◌else◌, List, [], ◌∷◌, length, nat_lt}
-use Rattle.std.specs.Prelude.{slice_get, slice_index_or, unwrap_or, IsTrue, ◌↔◌}
+use Rattle.std.proofs.Common.{◌≡◌, refl, sym, ap, ◌∙◌, arith, ℕ, zero, suc, ◌+◌, ◌<◌, ◌≤◌, ◌⊎◌, inl, inr, Bool, true, false, not, ◌&&◌, ◌||◌, ◌==◌, ℤ, pos, ◌-ℤ◌, Option, Some, None, option_map, is_some, if◌then◌else◌, List, [], ◌∷◌, length}
+use Rattle.std.specs.Prelude.{slice_index_or, IsTrue}
 use Rattle.std.specs.List.{list_any, list_all}
 use Rattle.std.proofs.lemmas.Bool.{and_parts, and_from, cases_lt}
 use Rattle.std.proofs.lemmas.Bool.Decides.{Decides-eqb}
