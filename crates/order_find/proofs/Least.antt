@@ -6,6 +6,9 @@ use Rattle.std.proofs.lemmas.List.FromFn.{get_or-map-range_with_len, length-map-
 use Rattle.std.proofs.lemmas.List.Elements.{All-map}
 use Rattle.cube_space.specs.Layout.{axes}
 use Rattle.rule_model.specs.declared.order.Order.{Order}
+use Rattle.rule_model.specs.declared.order.Position.{Position}
+use Rattle.rule_model.specs.declared.order.Position.TheVariants.{Ranks}
+use Rattle.rule_model.specs.Order.{position_of}
 use Rattle.rule_model.specs.System.{cubes_of}
 use Rattle.rule_model.specs.Conditions.{greatest_rank, rank_in}
 use Rattle.order_laws.proofs.ChildFacts.{size-at}
@@ -61,6 +64,18 @@ ranks-more p numbered cube n number own more is own_is number_is =
     let rank : ℕ → ℕ = λ element. slice_index numbered (number_of p.numbering cube element) in
     is ∙ ap (λ xs. xs ++ slice_index numbered number ∷ []) own_is ∙ ap (λ k. map rank (range_with_len 0 n) ++ slice_index numbered k ∷ []) number_is
     ∙ sym (map-range_with_len_more rank 0 n n (omega arith))
+
+-- one order more
+pub orders-more : (p : Plan) (numbered : List ℕ) (n : ℕ) (own more : List Order) (order : Order) → n < length p.model.space.cubes → more ≡ own ++ order ∷ []
+    → own ≡ map (order_by p.model (all_ranks p numbered)) (range_with_len 0 n)
+    → order.positions ≡ position_of p.model n 0 ∷ Ranks (last_of p.model.space n) (ranks_of p numbered n) ∷ []
+    → more ≡ map (order_by p.model (all_ranks p numbered)) (range_with_len 0 (n + 1))
+orders-more p numbered n own more order low is own_is order_is =
+    let by : ℕ → Order = order_by p.model (all_ranks p numbered) in
+    let make : List Position → Order = λ positions. record { positions = positions } in
+    let same : order ≡ by n =
+    ap make (order_is ∙ ap (λ ranks. position_of p.model n 0 ∷ Ranks (last_of p.model.space n) ranks ∷ []) (sym (ranks-in p numbered n low))) in
+    is ∙ ap (λ xs. xs ++ order ∷ []) own_is ∙ ap (λ last. map by (range_with_len 0 n) ++ last ∷ []) same ∙ sym (map-range_with_len_more by 0 n n (omega arith))
 
 pub are-found : (p : Plan) (numbered : List ℕ) (orders : List Order) → IsPlanOfAll p → IsLevelThroughout p.model → Fits (arrows_of p) numbered → IsLeast (arrows_of p) numbered
     → AreNodeRanks p.model (all_ranks p numbered) → orders ≡ map (order_by p.model (all_ranks p numbered)) (cubes_of p.model) → AreFound p.model orders
