@@ -25,7 +25,7 @@ pub record AreFound (m : BoundModel) (orders : List Order) : Type 0 where
   pub each : AreNodeRanks m ranks
   pub fit : FitArrows m ranks
   pub least : AreLeast m ranks
-  pub orders : orders ≡ map (order_by m ranks) (cubes_of m)
+  pub made : orders ≡ map (order_by m ranks) (cubes_of m)
 
 -- why none is found: this reference is the first that may read at a greater lag, or there is none, and this is a circle
 abbrev pub IsFindFault : BoundModel → FindFault → Type 0

@@ -1,4 +1,4 @@
-use Rattle.std.proofs.Common.{◌≡◌, ◌+◌, ◌==◌, ◌∙◌, sym, ap, subst, arith, take, ℕ}
+use Rattle.std.proofs.Common.{◌+◌, ◌==◌, subst}
 use Rattle.std.proofs.lemmas.List.{take_all}
 use Rattle.std.specs.List.{list_any}
 use Rattle.order_find.specs.Filing.{Adds}

@@ -1,6 +1,5 @@
-use Rattle.std.proofs.Common.{◌≡◌, ◌∙◌, ◌+◌, ◌==◌, sym, ap, subst, arith, suc, Some, List, ℕ, length}
+use Rattle.std.proofs.Common.{◌≡◌, ◌∙◌, ◌+◌, ◌==◌, sym, ap, subst, arith, suc, Some, length}
 use Rattle.std.specs.List.{list_any}
-use Rattle.std.specs.List.Sorted.{IsStrictlyIncreasing}
 use Rattle.std.proofs.lemmas.List.{with_items_is}
 use Rattle.std.proofs.lemmas.Result.{on_ok_weaker}
 use Rattle.order_find.specs.Filing.{Adds, AreFiled}
@@ -39,10 +38,10 @@ returns-in-Some c =
     let is = list-of m s c.last_of-last.result c.set_of.result.now those source c.last_of-last.ensures.last c.set_of.ensures (c.in-Some.is ∙ ap Some (sym c.as_slice-in-Some.ensures)) in
     on_ok_weaker c.add_each.result
     (λ added.
-        let adds = subst (λ rows. Adds (λ n. list_any (λ element. first + element == n) those) c.args.k rows c.add_each.new.rows) c.deref_mut.ensures.value added in
-        let long : length c.add_each.new.rows ≡ filing.of_nodes.len = omega (arith, adds.rows, filing.of_nodes.ok) in
-        subst (λ rows. AreFiled (plan m numbering sources filing.of_cubes.items rows) (suc c.args.k)) (sym (with_items_is filing.of_nodes c.add_each.new.rows long))
-        (filed-listed m numbering sources filing.of_cubes.items filing.of_nodes.items c.args.k s at c.requires.filed first those c.add_each.new.rows c.requires.numbering source.cube begins is.set is.within adds))
+    let adds = subst (λ rows. Adds (λ n. list_any (λ element. first + element == n) those) c.args.k rows c.add_each.new.rows) c.deref_mut.ensures.value added in
+    let long : length c.add_each.new.rows ≡ filing.of_nodes.len = omega (arith, adds.rows, filing.of_nodes.ok) in
+    subst (λ rows. AreFiled (plan m numbering sources filing.of_cubes.items rows) (suc c.args.k)) (sym (with_items_is filing.of_nodes c.add_each.new.rows long))
+    (filed-listed m numbering sources filing.of_cubes.items filing.of_nodes.items c.args.k s at c.requires.filed first those c.add_each.new.rows c.requires.numbering source.cube begins is.set is.within adds))
     c.add_each.ensures
 
 pub returns-in_default : goal.returns-in_default
@@ -55,8 +54,8 @@ returns-in_default c =
     let (source, at) = source-at m sources c.args.k s c.requires.sources c.requires.k c.index-sources-k.is in
     on_ok_weaker c.add.result
     (λ added.
-        let adds = subst (λ rows. Adds (λ n. s.cube == n) c.args.k rows c.add.new.rows) c.deref_mut-in_default.ensures.value added in
-        let long : length c.add.new.rows ≡ filing.of_cubes.len = omega (arith, adds.rows, filing.of_cubes.ok) in
-        subst (λ rows. AreFiled (plan m numbering sources rows filing.of_nodes.items) (suc c.args.k)) (sym (with_items_is filing.of_cubes c.add.new.rows long))
-        (filed-whole m numbering sources filing.of_cubes.items filing.of_nodes.items c.args.k s at c.requires.filed c.add.new.rows adds))
+    let adds = subst (λ rows. Adds (λ n. s.cube == n) c.args.k rows c.add.new.rows) c.deref_mut-in_default.ensures.value added in
+    let long : length c.add.new.rows ≡ filing.of_cubes.len = omega (arith, adds.rows, filing.of_cubes.ok) in
+    subst (λ rows. AreFiled (plan m numbering sources rows filing.of_nodes.items) (suc c.args.k)) (sym (with_items_is filing.of_cubes c.add.new.rows long))
+    (filed-whole m numbering sources filing.of_cubes.items filing.of_nodes.items c.args.k s at c.requires.filed c.add.new.rows adds))
     c.add.ensures
