@@ -62,9 +62,9 @@ impl<'a> NodeGraph<'a> {
     ///
     /// # Errors
     ///
-    /// [`FindFault::Unlagged`] with the first reference of the model that may read at a greater lag, exactly where one
-    /// may. [`FindFault::Memory`] when out of memory, as which counts a model with more than 2^30 elements in the last
-    /// dimensions of its cubes together, and one that reads at the same lag in more than 2^29 places.
+    /// - [`FindFault::Unlagged`] exactly where some reference may read at a greater lag, with the first such reference.
+    /// - [`FindFault::Memory`] when out of memory. More than 2^30 elements of the last dimensions of all cubes together
+    ///   count as that, and so do more than 2^29 sources.
     pub fn of(alloc: Global, model: &'a Model) -> Result<NodeGraph<'a>, FindFault>
         ensures plan { IfOk result IsPlanOfAll }
         ensures model { IfOk result (λ graph. graph.model ≡ model.now) }
