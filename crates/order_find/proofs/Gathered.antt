@@ -1,6 +1,7 @@
 -- The sources so far.
-use Rattle.std.proofs.Common.{◌≡◌, refl, sym, ap, ◌∙◌, arith, subst, ℕ, zero, suc, ◌+◌, ◌-◌, ◌<◌, ◌≤◌, inl, inr, Bool, true, false, Option, Some, None, List, [], ◌∷◌, ◌++◌, length, get_or, All, Contains}
+use Rattle.std.proofs.Common.{◌≡◌, refl, sym, ap, ◌∙◌, arith, subst, ℕ, zero, suc, ◌+◌, ◌-◌, ◌<◌, ◌≤◌, inl, inr, Bool, true, false, Option, Some, None, List, [], ◌∷◌, ◌++◌, length, map, get_or, All, Contains}
 use Rattle.std.specs.Prelude.{slice_get, IsTrue, ◌↔◌, IfSome}
+use Rattle.std.proofs.lemmas.List.{length-map}
 use Rattle.std.proofs.lemmas.List.Elements.{All-contains}
 use Rattle.std.proofs.lemmas.List.Sorted.{IsNonDecreasingBy-push, IsNonDecreasingBy-short}
 use Rattle.std.proofs.lemmas.Option.{slice_get-get_or}
@@ -12,7 +13,9 @@ use Rattle.rule_model.specs.declared.rules.Form.TheVariants.{Both, LeafFirst, Co
 use Rattle.rule_model.specs.declared.rules.Statement.{Statement}
 use Rattle.rule_model.specs.BoundModel.{BoundModel, rules_of}
 use Rattle.rule_model.specs.Conditions.{IsArea, IsPrecedent, IsStatement, IsLeafPart, IsConsolidatedPart, read_count}
+use Rattle.ref_order.specs.declared.reads.Read.{Read}
 use Rattle.ref_order.specs.Counted.{reads}
+use Rattle.ref_order.specs.Reads.{precedent_of}
 use Rattle.arrow_laws.specs.Nodes.{last_of}
 use Rattle.arrow_laws.specs.Arrows.{Reads}
 use Rattle.arrow_laws.specs.ByDimension.{is_lagged, is_level, is_weak, HasOtherTotal}
@@ -86,6 +89,16 @@ module _ (m : BoundModel) (cube number : ℕ) (st : Statement) (is : IsStatement
   few-numbered kind k low =
       let less = few-by st.form kind (length (reads st.leaf)) (length (reads st.cons)) k (length (reads_for st kind)) refl refl refl low in
       omega (arith, less, few-read)
+
+-- as many are read as the statement's part has, and those before a part are counted by them
+pub read-long : (found : List Read) (part : Option Formula) → map precedent_of found ≡ reads part → length found ≡ length (reads part)
+read-long found part is = sym (length-map found precedent_of) ∙ ap (λ (ps : List Precedent). length ps) is
+
+pub before-parts : (st : Statement) (leaf cons : ℕ) (before : ℕ × ℕ) → before ≡ (before_by st.form true leaf cons, before_by st.form false leaf cons) → leaf ≡ length (reads st.leaf) → cons ≡ length (reads st.cons)
+    → (before.0 ≡ counted_before st true) × (before.1 ≡ counted_before st false)
+before-parts st leaf cons before is l c =
+    let same : (kind : Bool) → before_by st.form kind leaf cons ≡ counted_before st kind = λ kind. ap (λ n. before_by st.form kind n cons) l ∙ ap (before_by st.form kind (length (reads st.leaf))) c in
+    (ap (λ (p : ℕ × ℕ). p.0) is ∙ same true, ap (λ (p : ℕ × ℕ). p.1) is ∙ same false)
 
 -- ---- a source of a statement
 

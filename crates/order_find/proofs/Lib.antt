@@ -14,8 +14,6 @@ pub mod LookedAt
 pub mod Named
 pub mod Numbered
 pub mod Placed
-pub mod Planned
-pub mod Readings
 pub mod Serving
 pub mod Sound
 pub mod Steps
