@@ -14,6 +14,7 @@ pub mod LookedAt
 pub mod Named
 pub mod Numbered
 pub mod Placed
+pub mod Planned
 pub mod Serving
 pub mod Sound
 pub mod Steps
