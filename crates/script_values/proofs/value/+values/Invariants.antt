@@ -23,3 +23,12 @@ decreases-texts_of g l = 3 * goal.size-texts_of g l + 1
 
 abbrev pub decreases-value_in_cell : goal.decreases-value_in_cell
 decreases-value_in_cell g l = 3 * goal.size-value_in_cell g l + 2
+
+abbrev pub decreases-amount_of : goal.decreases-amount_of
+decreases-amount_of g l = 3 * goal.size-amount_of g l + 1
+
+abbrev pub decreases-operated : goal.decreases-operated
+decreases-operated g l = 3 * max (the_size l.left.now) (the_size l.right.now) + 2
+
+abbrev pub decreases-compared : goal.decreases-compared
+decreases-compared g l = 3 * max (the_size l.left.now) (the_size l.right.now) + 2
