@@ -1,6 +1,6 @@
 ghost use Rattle.std.specs.Prelude.{◌≡◌, slice_get};
 ghost use Rattle.std.specs.Option.{option_map};
-ghost use Rattle.script_values.specs.Values.{amount, held, column, filled};
+ghost use Rattle.script_values.specs.Values.{amount, held, column, filled, text};
 
 use crate::datum::Datum;
 use crate::kept::Kept;
@@ -92,6 +92,16 @@ impl<'a> Sight<'a> {
     {
         match self.columns {
             Some(columns) => Ok(Datum::Text(filled(columns, place))),
+            None => Err(LoadReason::UnsetVariable),
+        }
+    }
+
+    /// What a column gives as a text.
+    pub(crate) fn text(&self, place: usize) -> Result<Text<'a>, LoadReason>
+        ensures { result ≡ text (column place self.now.columns) }
+    {
+        match self.columns {
+            Some(columns) => Ok(filled(columns, place)),
             None => Err(LoadReason::UnsetVariable),
         }
     }

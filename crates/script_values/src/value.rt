@@ -112,6 +112,26 @@ fn amount_of<'a, C: WorkCells>(
     }
 }
 
+/// What an expression gives as a text. A text or a column isn't made a datum first.
+#[cycle(values)]
+fn text_at<'a, C: WorkCells>(
+    alloc: Global,
+    term: &'a Term,
+    sight: &Sight<'a>,
+    cells: &mut C,
+) -> Result<Result<Text<'a>, LoadReason>, AllocError>
+    ensures value { IfOk result (λ answer. answer
+        ≡ values.text (value_of term.now sight.now (C.store cells.old) (C.writes cells.old))) }
+    ensures store { C.store cells.new ≡ C.store cells.old }
+    ensures writes { C.writes cells.new ≡ C.writes cells.old }
+{
+    match term {
+        Term::Text(bytes) => Ok(Ok(Text::borrowed(bytes.as_slice()))),
+        Term::Column(place) => Ok(sight.text(*place)),
+        _ => Ok(as_text(value_of(alloc, term, sight, cells)?)),
+    }
+}
+
 /// What an operation on two expressions gives, the left one first. The right one is evaluated whatever the left one
 /// gives.
 #[cycle(values)]
@@ -216,7 +236,7 @@ pub fn texts_of<'a, C: WorkCells>(
 {
     let mut texts = Vec::with_capacity(alloc, terms.len())?;
     'each: for term in terms {
-        match as_text(value_of(alloc, term, sight, cells)?) {
+        match text_at(alloc, term, sight, cells)? {
             Ok(text) => texts.push(text)?,
             Err(reason) => return Ok(Err(reason)),
         }
