@@ -88,7 +88,7 @@ impl<'a> Reader<'a> {
     {
         match origin_of(self.version, cell) {
             Origin::Stored(value) => Opened::Known(value),
-            Origin::Quiet => Opened::Known(Value::ZERO),
+            Origin::Plain(value) => Opened::Known(value),
             Origin::Statement(statement) => {
                 let known = self.list();
                 Opened::Begun(evaluation(self.alloc, self.version, cell, statement, known))

@@ -27,7 +27,7 @@ use std::sync::ledger::Ledger;
 /// The value of a cell on a version. The memory has values on that version alone. It fails only when out of memory.
 ///
 /// What the memory knows or holds is not worked out again, and what is worked out is kept there. Each evaluation of a
-/// statement is one step; a sum over cells is none.
+/// statement is one step; a sum over cells is none, nor is a statement that gives a number alone.
 pub fn value_of<M: Memory, L: Ledger>(
     alloc: Global,
     version: &Version,
@@ -89,7 +89,7 @@ fn computed<M: Memory, L: Ledger>(
 {
     match origin {
         Origin::Stored(value) => Ok(value),
-        Origin::Quiet => Ok(Value::ZERO),
+        Origin::Plain(value) => Ok(value),
         Origin::Statement(statement) => governed_value(
             alloc, version, memory, cell, statement, steps,
         ),

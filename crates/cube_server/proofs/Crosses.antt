@@ -45,6 +45,7 @@ use Rattle.script_bound.specs.contracts.term.Term as Term
 use Rattle.script_bound.specs.contracts.statement.Statement as ScriptStatement
 use Rattle.script_bound.specs.contracts.script.BoundScript as BoundScript
 use Rattle.user_text.proofs.command.CellText.TheSendSync as cell_text
+use Rattle.user_text.proofs.command.SpreadWord.TheSendSync as spread_word
 use Rattle.user_text.proofs.command.ViewText.TheSendSync as view_text
 use Rattle.user_text.proofs.command.ParamText.TheSendSync as param_text
 use Rattle.user_text.specs.contracts.load_job.LoadJob as LoadJob
@@ -180,7 +181,7 @@ LoadJob-sync : IsSync LoadJob.the_field.row
 LoadJob-sync = search (parts, LoadParams-sync) depth 20
 
 pub PlanCommand-send : IsSend PlanCommand.the_row
-PlanCommand-send = search (parts, cell_text.the_field_send, view_text.the_field_send, money.the_send, LoadJob-send, BoundScript-send, BoundScript-sync) depth 20
+PlanCommand-send = search (parts, cell_text.the_field_send, spread_word.the_field_send, view_text.the_field_send, money.the_send, LoadJob-send, BoundScript-send, BoundScript-sync) depth 20
 
 pub PlanCommand-sync : IsSync PlanCommand.the_row
-PlanCommand-sync = search (parts, cell_text.the_field_sync, view_text.the_field_sync, money.the_sync, LoadJob-sync, BoundScript-send, BoundScript-sync) depth 20
+PlanCommand-sync = search (parts, cell_text.the_field_sync, spread_word.the_field_sync, view_text.the_field_sync, money.the_sync, LoadJob-sync, BoundScript-send, BoundScript-sync) depth 20

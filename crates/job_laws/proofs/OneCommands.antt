@@ -45,6 +45,7 @@ module _ (scripts : Scripts) (sources : List Source) where
   same_command (bodies.Put cell number) x y p q = rw p q
   same_command (bodies.Get cell) x y p q = rw p q
   same_command (bodies.View view) x y p q = rw p q
+  same_command (bodies.Spread cell amount how) x y p q = rw p q
   same_command (bodies.Load load) x y (job, script, is, loads) (other, again, too, runs) =
       rw (is, too) (same_load load job other (arc_value script) (arc_value again) loads runs)
 

@@ -26,7 +26,9 @@ IsSameCommand (plans.Load job script) (plans.Get cell) = ⊥
 IsSameCommand (plans.Load job script) (plans.Load other again) =
     IsSameLoad job other (arc_value script) (arc_value again)
 IsSameCommand (plans.Load job script) (plans.View view) = ⊥
+IsSameCommand (plans.Load job script) (plans.Spread cell amount how) = ⊥
 IsSameCommand (plans.View view) command = command ≡ plans.View view
+IsSameCommand (plans.Spread cell amount how) command = command ≡ plans.Spread cell amount how
 
 -- two jobs run the same commands on one model; other jobs are equal
 abbrev pub IsSameJob : RunJob → RunJob → Type 0

@@ -25,6 +25,7 @@ file_of (bodies.Put cell number) = None
 file_of (bodies.Get cell) = None
 file_of (bodies.Load load) = load.file
 file_of (bodies.View view) = None
+file_of (bodies.Spread cell amount how) = None
 
 -- the files of a user's records, in the order of the commands
 abbrev pub user_files : List UserCommand → List (List ℕ)
@@ -50,6 +51,7 @@ IsReady scripts sources (bodies.Put cell number) = Unit {0}
 IsReady scripts sources (bodies.Get cell) = Unit {0}
 IsReady scripts sources (bodies.Load load) = IsReadyLoad scripts sources load
 IsReady scripts sources (bodies.View view) = Unit {0}
+IsReady scripts sources (bodies.Spread cell amount how) = Unit {0}
 
 abbrev pub AreReady : Scripts → List Source → List UserCommand → Type 0
 AreReady scripts sources commands = All (λ command. IsReady scripts sources command.body) commands
@@ -72,6 +74,7 @@ IsCommand scripts sources (bodies.Put cell number) command = command ≡ plans.P
 IsCommand scripts sources (bodies.Get cell) command = command ≡ plans.Get cell
 IsCommand scripts sources (bodies.Load load) command = IsLoadCommand scripts sources load command
 IsCommand scripts sources (bodies.View view) command = command ≡ plans.View view
+IsCommand scripts sources (bodies.Spread cell amount how) command = command ≡ plans.Spread cell amount how
 
 -- the commands of a user, each as it is run
 abbrev pub AreCommands : Scripts → List Source → List UserCommand → List PlanCommand → Type 0

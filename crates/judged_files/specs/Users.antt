@@ -47,6 +47,7 @@ is_unknown_load scripts (bodies.Put cell number) = false
 is_unknown_load scripts (bodies.Get cell) = false
 is_unknown_load scripts (bodies.Load load) = not (has_name scripts load.script)
 is_unknown_load scripts (bodies.View view) = false
+is_unknown_load scripts (bodies.Spread cell amount how) = false
 
 abbrev pub is_unknown : List (List ℕ) → UserCommand → Bool
 is_unknown scripts command = is_unknown_load scripts command.body

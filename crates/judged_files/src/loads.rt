@@ -116,6 +116,7 @@ fn command_of(
         UserBody::Get(cell) => Ok(PlanCommand::Get(cell)),
         UserBody::Load(load) => load_command(alloc, scripts, sources, load),
         UserBody::View(view) => Ok(PlanCommand::View(view)),
+        UserBody::Spread(cell, amount, how) => Ok(PlanCommand::Spread(cell, amount, how)),
     }
 }
 

@@ -110,7 +110,7 @@ fn is_unknown(scripts: &[Name], command: &UserBody) -> bool
 {
     match command {
         UserBody::Load(load) => !has_name(scripts, &load.script),
-        UserBody::Put(..) | UserBody::Get(_) | UserBody::View(_) => false,
+        UserBody::Put(..) | UserBody::Get(_) | UserBody::View(_) | UserBody::Spread(..) => false,
     }
 }
 

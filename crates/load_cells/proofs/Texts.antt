@@ -1,6 +1,7 @@
 -- Elements by texts, found one after the other.
-use Rattle.std.proofs.Common.{◌≡◌, ℕ, zero, suc, ◌+◌, ◌<◌, ◌⊎◌, inl, inr, Bool, true, false, List, [], ◌∷◌, ◌++◌, length, get_or, drop, drop-cons, add-one, All, Option, Some, None, refl, ◌∙◌, ap, sym, subst, if◌then◌else◌, slice_get, slice_set, ◌&&◌}
+use Rattle.std.proofs.Common.{◌≡◌, arith, ℕ, zero, suc, ◌+◌, ◌<◌, ◌⊎◌, inl, inr, Bool, true, false, List, [], ◌∷◌, ◌++◌, length, get_or, drop, drop-cons, add-one, All, Option, Some, None, refl, ◌∙◌, ap, sym, subst, if◌then◌else◌, slice_get, slice_set, ◌&&◌}
 use Rattle.std.proofs.lemmas.List.{length-set}
+use Rattle.std.proofs.lemmas.List.Elements.{All-push}
 use Rattle.lists.proofs.Found.{found_holds, none_some, some_same}
 use Rattle.std.specs.Prelude.{option_and_then}
 use Rattle.std.specs.List.{list_all}
@@ -11,7 +12,8 @@ use Rattle.dim_name.specs.Name.{is_name, place_of}
 use Rattle.rule_model.specs.Named.{cell_named, elements_named}
 use Rattle.rule_model.proofs.Named.{found_none, found_one, other_count, with_front}
 use Rattle.load_cells.specs.declared.found.FoundName.{FoundName}
-use Rattle.load_cells.specs.Found.{AreElements, IsFound, element_by_text, elements_by_texts}
+use Rattle.load_cells.specs.declared.found.FoundElements.{FoundElements}
+use Rattle.load_cells.specs.Found.{AreElements, AreNames, IsFound, element_by_text, elements_by_texts}
 use Rattle.load_cells.specs.Loads.{cell_by_texts}
 
 -- a text that names an element is a name
@@ -56,7 +58,7 @@ item xs i x below is = rw (add-one, drop-cons xs i x below, ← is) refl
 
 -- ---- what was found
 
-after_write : (found : List FoundName) (dim : ℕ) (name : FoundName) (k : ℕ) (other : FoundName) → slice_get (slice_set found dim name) k ≡ Some other
+after_write : (found : List FoundElements) (dim : ℕ) (name : FoundElements) (k : ℕ) (other : FoundElements) → slice_get (slice_set found dim name) k ≡ Some other
     → ((k ≡ dim) × (other ≡ name)) ⊎ (slice_get found k ≡ Some other)
 after_write [] dim name k other is = absurd (none_some is)
 after_write (f ∷ found) zero name zero other is = inl (refl, sym (some_same is))
@@ -65,24 +67,38 @@ after_write (f ∷ found) (suc dim) name zero other is = inr is
 after_write (f ∷ found) (suc dim) name (suc k) other is =
     elim (after_write found dim name k other is) [ inl here ↦ inl (ap suc here.0, here.1) | inr there ↦ inr there ]
 
-pub still_found : (D : List Outline) (found : List FoundName) (dim : ℕ) (d : Outline) (name : FoundName) → AreElements D found → slice_get D dim ≡ Some d
-    → IsFound (element_by_text d) name → AreElements D (slice_set found dim name)
+pub still_found : (D : List Outline) (found : List FoundElements) (dim : ℕ) (d : Outline) (name : FoundElements) → AreElements D found → slice_get D dim ≡ Some d
+    → AreNames (element_by_text d) name → AreElements D (slice_set found dim name)
 still_found D found dim d name are own is = record {
   each_dimension = length-set found dim name ∙ are.each_dimension;
   found_there = λ k e other there at.
       elim (after_write found dim name k other at) [
         | inl here ↦ (
             let same : d ≡ e = some_same (sym own ∙ subst (λ j. slice_get D j ≡ Some e) here.0 there) in
-            subst (IsFound (element_by_text e)) (sym here.1) (subst (λ o. IsFound (element_by_text o) name) same is))
+            subst (AreNames (element_by_text e)) (sym here.1) (subst (λ o. AreNames (element_by_text o) name) same is))
         | inr before ↦ are.found_there k e other there before
       ];
 }
 
-pub none_yet : (D : List Outline) (found : List FoundName) → length found ≡ length D → All (λ (name : FoundName). name.text.items ≡ []) found → AreElements D found
+none_of : (P : FoundName → Type 0) → All P []
+none_of P = λ k d below. absurd (omega (arith, below))
+
+pub none_yet : (D : List Outline) (found : List FoundElements) → length found ≡ length D → All (λ (names : FoundElements). names.names.items ≡ []) found → AreElements D found
 none_yet D found many none = record {
   each_dimension = many;
-  found_there = λ k d name there at some. absurd (some (found_holds (λ (name : FoundName). name.text.items ≡ []) found k name none at));
+  found_there = λ k d names there at.
+      subst (All (IsFound (element_by_text d))) (sym (found_holds (λ (names : FoundElements). names.names.items ≡ []) found k names none at)) (none_of (IsFound (element_by_text d)));
 }
+
+-- a name more, where there was room
+pub one_more : (P : FoundName → Type 0) (before after : List FoundName) (name : FoundName) (b : Bool)
+    → after ≡ (if b then before ++ name ∷ [] else before) → All P before → P name → All P after
+one_more P before after name true is own more = subst (All P) (sym is) (All-push P before name own more)
+one_more P before after name false is own more = subst (All P) (sym is) own
+
+-- a place without a name
+pub no_name : (named : List ℕ → Option ℕ) (name : FoundName) → name.text.items ≡ [] → IsFound named name
+no_name named name none = λ some. absurd (some none)
 
 none_if : (b : Bool) (o : Option (List ℕ)) → o ≡ None → (if b then o else None) ≡ None
 none_if true o is = is

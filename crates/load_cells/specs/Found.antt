@@ -1,11 +1,12 @@
 -- What texts name, and the names that a load has found last. Private functions cite it.
 use Rattle.std.specs.Prelude.{◌≡◌, ℕ, List, [], length, Option, Some, None, if◌then◌else◌, slice_get}
-use Rattle.std.specs.List.{list_all}
+use Rattle.std.specs.List.{All, list_all}
 use Rattle.cube_space.specs.Layout.{Layout, cube_names}
 use Rattle.dim_core.specs.Outline.{Outline, index_of}
 use Rattle.dim_name.specs.Name.{is_name, place_of}
 use Rattle.rule_model.specs.Named.{elements_named}
 use Rattle.load_cells.specs.declared.found.FoundName.{FoundName}
+use Rattle.load_cells.specs.declared.found.FoundElements.{FoundElements}
 use Rattle.load_cells.specs.declared.found.FoundNames.{FoundNames}
 
 -- a text that is no name names nothing
@@ -22,11 +23,15 @@ elements_by_texts dimensions texts = if list_all is_name texts then elements_nam
 abbrev pub IsFound : (List ℕ → Option ℕ) → FoundName → Type 0
 IsFound named found = (found.text.items ≡ [] → ⊥) → named found.text.items ≡ Some found.number
 
--- for each dimension an element that was found
-pub record AreElements (dimensions : List Outline) (found : List FoundName) : Type 0 where
+-- each text at a place names its number
+abbrev pub AreNames : (List ℕ → Option ℕ) → FoundElements → Type 0
+AreNames named found = All (IsFound named) found.names.items
+
+-- for each dimension elements that were found
+pub record AreElements (dimensions : List Outline) (found : List FoundElements) : Type 0 where
   pub each_dimension : length found ≡ length dimensions
-  pub found_there : (dim : ℕ) (dimension : Outline) (name : FoundName) → slice_get dimensions dim ≡ Some dimension
-      → slice_get found dim ≡ Some name → IsFound (element_by_text dimension) name
+  pub found_there : (dim : ℕ) (dimension : Outline) (names : FoundElements) → slice_get dimensions dim ≡ Some dimension
+      → slice_get found dim ≡ Some names → AreNames (element_by_text dimension) names
 
 pub record AreFound (space : Layout) (names : FoundNames) : Type 0 where
   pub cube : IsFound (cube_by_text space) names.cube

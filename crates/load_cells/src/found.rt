@@ -1,6 +1,6 @@
-ghost use Rattle.std.specs.Prelude.{◌≡◌, ◌≢◌, [], Some, None, IfOk, IsTrue, OnErr, OnOk, if◌then◌else◌};
+ghost use Rattle.std.specs.Prelude.{◌≡◌, ◌≢◌, ◌<◌, [], length, All, Some, None, IfOk, IsTrue, OnErr, OnOk, if◌then◌else◌};
 ghost use Rattle.dim_name.specs.Name.{is_name};
-ghost use Rattle.load_cells.specs.Found.{AreFound, IsFound, cube_by_text, element_by_text};
+ghost use Rattle.load_cells.specs.Found.{AreFound, AreNames, IsFound, cube_by_text, element_by_text};
 
 use cube_space::Space;
 use dim_core::Dimension;
@@ -42,12 +42,95 @@ impl FoundName {
     }
 }
 
-/// The names that a load has last found: of a cube, and of an element of each dimension. Columns of records repeat, so
+// The most places for names of elements of one dimension.
+const MAX_PLACES: usize = 2_048;
+
+/// The names of elements of a dimension that a load has found. A text has one place, where the last one stays. There
+/// are twice as many places once texts were missed as often as there are places.
+#[derive(Drop)]
+pub(crate) struct FoundElements {
+    names: Vec<FoundName>,
+    missed: usize,
+}
+
+impl FoundElements {
+    fn none(alloc: Global) -> FoundElements
+        ensures { result.names.items ≡ [] }
+    {
+        FoundElements {
+            names: Vec::new(alloc),
+            missed: 0,
+        }
+    }
+
+    // Sees to it that there is a place.
+    fn make_places(&mut self, alloc: Global, dimension: &Dimension) -> Result<(), AllocError>
+        requires { AreNames (element_by_text dimension.now) self.old }
+        ensures names { AreNames (element_by_text dimension.now) self.new }
+        ensures some { OnOk result (0 < length self.new.names.items) }
+    {
+        let places = self.names.len();
+        if places > 0 && (self.missed < places || places >= MAX_PLACES) {
+            return Ok(());
+        }
+        self.missed = 0;
+        add_places(alloc, dimension, &mut self.names, places.max(1))
+    }
+}
+
+// So many places more, of which none has a name.
+fn add_places(
+    alloc: Global,
+    dimension: &Dimension,
+    names: &mut Vec<FoundName>,
+    count: usize,
+) -> Result<(), AllocError>
+    requires names { All (IsFound (element_by_text dimension.now)) names.old.items }
+    requires some { 0 < count }
+    ensures names { All (IsFound (element_by_text dimension.now)) names.new.items }
+    ensures some { OnOk result (0 < length names.new.items) }
+{
+    for place in 0..count {
+        add_place(alloc, dimension, names)?;
+    }
+    Ok(())
+}
+
+// One place more.
+fn add_place(
+    alloc: Global,
+    dimension: &Dimension,
+    names: &mut Vec<FoundName>,
+) -> Result<(), AllocError>
+    requires { All (IsFound (element_by_text dimension.now)) names.old.items }
+    ensures names { All (IsFound (element_by_text dimension.now)) names.new.items }
+    ensures some { OnOk result (0 < length names.new.items) }
+{
+    let name = FoundName::none(alloc);
+    match names.push(name) {
+        Ok(()) => Ok(()),
+        Err(_) => Err(AllocError),
+    }
+}
+
+// The place of a text among so many. Texts that differ in their last digits have places of their own.
+fn place_in(text: &[u8], places: usize) -> usize
+    requires { 0 < places }
+    ensures { result < places }
+{
+    let mut sum = 0u64;
+    for byte in text {
+        sum = sum.wrapping_mul(10).wrapping_add(u64::from(*byte));
+    }
+    (sum % places as u64) as usize
+}
+
+/// The names that a load has found: of the last cube, and of elements of each dimension. Columns of records repeat, so
 /// that many a name comes again.
 #[derive(Drop)]
 pub(crate) struct FoundNames {
     pub(crate) cube: FoundName,
-    pub(crate) elements: Vec<FoundName>,
+    pub(crate) elements: Vec<FoundElements>,
 }
 
 impl FoundNames {
@@ -56,7 +139,7 @@ impl FoundNames {
     {
         let mut elements = Vec::with_capacity(alloc, space.dimensions() as usize)?;
         for dim in 0..space.dimensions() {
-            elements.push(FoundName::none(alloc))?;
+            elements.push(FoundElements::none(alloc))?;
         }
         Ok(FoundNames {
             cube: FoundName::none(alloc),
@@ -93,6 +176,26 @@ pub(crate) fn cube_by_text(
 pub(crate) fn element_by_text(
     alloc: Global,
     dimension: &Dimension,
+    found: &mut FoundElements,
+    text: &[u8],
+) -> Result<Option<u32>, AllocError>
+    requires { AreNames (element_by_text dimension.now) found.old }
+    ensures value { IfOk result (λ element. element ≡ element_by_text dimension.now text.now) }
+    ensures found { AreNames (element_by_text dimension.now) found.new }
+{
+    found.make_places(alloc, dimension)?;
+    let place = place_in(text, found.names.len());
+    if found.names[place].has(text) {
+        return Ok(Some(found.names[place].number));
+    }
+    found.missed = found.missed.saturating_add(1);
+    element_at(alloc, dimension, &mut found.names[place], text)
+}
+
+// The same, whose name is kept at this place.
+fn element_at(
+    alloc: Global,
+    dimension: &Dimension,
     found: &mut FoundName,
     text: &[u8],
 ) -> Result<Option<u32>, AllocError>
@@ -100,9 +203,6 @@ pub(crate) fn element_by_text(
     ensures value { IfOk result (λ element. element ≡ element_by_text dimension.now text.now) }
     ensures found { IsFound (element_by_text dimension.now) found.new }
 {
-    if found.has(text) {
-        return Ok(Some(found.number));
-    }
     let Some(name) = name_in(alloc, text)? else {
         return Ok(None);
     };

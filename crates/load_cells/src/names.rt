@@ -4,7 +4,7 @@ ghost use Rattle.cube_space.specs.Layout.{axes_of, most_dimensions};
 ghost use Rattle.load_cells.specs.Found.{AreElements, AreFound, elements_by_texts};
 ghost use Rattle.load_cells.specs.Loads.{cell_by_texts};
 
-use crate::found::{FoundName, FoundNames, cube_by_text, element_by_text};
+use crate::found::{FoundElements, FoundNames, cube_by_text, element_by_text};
 use cube_space::{MAX_DIMENSIONS, Space};
 use rule_model::Model;
 use script_values::Text;
@@ -43,7 +43,7 @@ fn find_elements(
     alloc: Global,
     space: &Space,
     dims: &[u32],
-    found: &mut Vec<FoundName>,
+    found: &mut Vec<FoundElements>,
     texts: &[Text<'_>],
     at: &mut [u32; MAX_DIMENSIONS],
 ) -> Result<bool, AllocError>

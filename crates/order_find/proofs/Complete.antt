@@ -21,7 +21,7 @@ use Rattle.order_find.specs.declared.source.Source.{Source}
 use Rattle.order_find.specs.Numbers.{width, number_of}
 use Rattle.order_find.specs.Ways.{Follows, Same, Component, Always, Sent, SentOver, IsSource, precedent, way_of, reads_from, is_consolidated, serves_any, cube_read}
 use Rattle.order_find.specs.Slots.{Plan, IsPlan, parts_from, all_from, totals_from, arrow_to, parts_of, part_arrow, arrow_by, reached_from, reached_by, slots_at}
-use Rattle.order_find.specs.PlanOfAll.{IsRead, found_in}
+use Rattle.order_find.specs.Sources.{IsRead, found_in}
 use Rattle.order_find.proofs.Through.{GoesThrough}
 use Rattle.order_find.proofs.Lists.{has-map, has-range}
 use Rattle.order_find.proofs.Named.{Suits, IsNamedAs}

@@ -32,6 +32,14 @@ pub record IsReadByDimension (m : BoundModel) (from to : Node) (strict : Bool) :
   pub weak : is_weak m cube statement.area kind read ≡ not strict
   pub joined : IsJoinedByDimension m cube statement.area kind read from to
 
+-- the arrow that such a reading makes
+pub record IsMadeBy (m : BoundModel) (from to : Node) (strict : Bool) (r : IsReadByDimension m from to strict) : Type 0 where
+  pub arrow : IsReadArrow m from to strict
+  pub own_cube : arrow.cube ≡ r.cube
+  pub own_statement : arrow.statement ≡ r.statement
+  pub own_kind : arrow.kind ≡ r.kind
+  pub own_read : arrow.precedent ≡ r.read
+
 -- a test that decides what holds just where a flag is off
 off-where : (a strict : Bool) (W : Type 0) → (IsTrue a ↔ W) → (W ↔ (strict ≡ false)) → a ≡ not strict
 off-where a true W decides weak = false_from_ne_true a (λ h. true≢false (weak.0 (decides.0 h)))
@@ -76,11 +84,11 @@ module _ (m : BoundModel) (valid : IsSpace m.space) (ruled : AreRules m.space m.
         joined = (by-dimension r.cube r.statement r.kind r.precedent from to r.within s.area is).1 r.joined;
       }
 
-  pub dimension-read : (from to : Node) (strict : Bool) → IsReadByDimension m from to strict → IsReadArrow m from to strict
+  pub dimension-read : (from to : Node) (strict : Bool) (r : IsReadByDimension m from to strict) → IsMadeBy m from to strict r
   dimension-read from to strict r =
       let s = statement-is r.cube r.statement r.within r.stands in
       let is = reads-is r.cube r.statement r.kind r.read s r.reads in
-      record {
+      let arrow : IsReadArrow m from to strict = record {
         cube = r.cube;
         within = r.within;
         statement = r.statement;
@@ -93,4 +101,5 @@ module _ (m : BoundModel) (valid : IsSpace m.space) (ruled : AreRules m.space m.
         weak = where-off (is_weak m r.cube r.statement.area r.kind r.read) strict (IsWeak m r.cube r.statement r.kind r.read)
             (weak-decided m valid ruled r.cube r.within r.statement s.area r.kind r.read is) r.weak;
         joined = (by-dimension r.cube r.statement r.kind r.read from to r.within s.area is).0 r.joined;
-      }
+      } in
+      record { arrow = arrow; own_cube = refl; own_statement = refl; own_kind = refl; own_read = refl }

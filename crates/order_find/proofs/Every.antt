@@ -22,7 +22,8 @@ use Rattle.order_find.specs.declared.source.Source.{Source}
 use Rattle.order_find.specs.Numbers.{IsPlace, number_of}
 use Rattle.order_find.specs.Ways.{IsSource, precedent, way_of, reads_from, cube_read}
 use Rattle.order_find.specs.Slots.{Plan, arrow_to, leaves_below, leaf_arrow, arrow_by, read_arrow, source_arrow, slots_at}
-use Rattle.order_find.specs.PlanOfAll.{IsReadBy, IsPlanOfAll}
+use Rattle.order_find.specs.Sources.{IsReadBy}
+use Rattle.order_find.specs.PlanOfAll.{IsPlanOfAll}
 use Rattle.order_find.proofs.Decided.{IsReadByDimension, read-dimension}
 use Rattle.order_find.proofs.Through.{node, GoesThrough}
 use Rattle.order_find.proofs.Lists.{has-map, has-range}
@@ -44,7 +45,7 @@ pub record IsThrough (p : Plan) (from to : Node) (strict : Bool) : Type 0 where
 module _ (p : Plan) (all : IsPlanOfAll p) (from to : Node) (strict : Bool) where
   read-every : IsReadByDimension p.model from to strict → IsThrough p from to strict
   read-every r =
-      let rb : IsReadBy p r.cube r.statement r.kind r.read = all.all r.cube r.statement r.kind r.read r.within r.stands r.reads r.level r.not_lagged in
+      let rb : IsReadBy p.sources r.cube r.statement r.kind r.read = all.all r.cube r.statement r.kind r.read r.within r.stands r.reads r.level r.not_lagged in
       let s = rb.source in
       let m = p.model in
       let j1 = subst (λ a. IsJoinedByDimension m r.cube a r.kind r.read from to) (sym rb.area) r.joined in

@@ -1,6 +1,6 @@
 -- Ranks that fit a plan's graph are ranks that fit the model, and the other way round.
 use Rattle.std.proofs.Common.{◌≡◌, refl, sym, ap, ◌∙◌, arith, ℕ, zero, suc, ◌+◌, ◌<◌, ◌≤◌, Bool, false, nat_lt, Option, Some, None, List, [], ◌∷◌, length, map, Contains, inl, inr, if◌then◌else◌}
-use Rattle.std.specs.Prelude.{slice_get, slice_index_or, slice_index}
+use Rattle.std.specs.Prelude.{slice_get, slice_index_or, slice_index, unwrap_or}
 use Rattle.std.specs.Option.{option_map_or}
 use Rattle.std.specs.List.{range_with_len}
 use Rattle.std.proofs.lemmas.Bool.{cases_lt, cond-true, cond-false, lt-ltb, le-ltb}
@@ -17,7 +17,8 @@ use Rattle.order_find.specs.declared.numbering.Place.{Place}
 use Rattle.order_find.specs.Numbers.{IsPlace, number_of}
 use Rattle.order_find.specs.Slots.{Plan, parts_from, node_count, slots_at, arrows_of}
 use Rattle.order_find.specs.PlanOfAll.{IsPlanOfAll, AreRanksOf}
-use Rattle.order_find.proofs.Through.{node, IsArrowOf, IsVia, Goes, GoesThrough}
+use Rattle.order_find.proofs.Through.{node, link_from, made-arrow, IsArrowOf, IsVia, Goes, GoesThrough}
+use Rattle.order_find.specs.declared.link.LinkBy.{LinkBy}
 use Rattle.order_find.proofs.Lists.{map-has, has-map, held-has, has-held}
 use Rattle.order_find.proofs.Steps.{element-step, behind-back}
 use Rattle.order_find.proofs.Every.{IsThrough, every}
@@ -26,6 +27,10 @@ use Rattle.order_find.proofs.Every.{IsThrough, every}
 pub slot-has : (p : Plan) (n slot : ℕ) (arrow : Arrow) → IsArrow (arrows_of p) n slot arrow → (n < node_count p) × Contains (slots_at p n) (Some arrow)
 unfolding arrows_of
 slot-has p n slot arrow is = (is.node_within, held-has (slots_at p n) slot arrow is.slot_within is.holds)
+
+pub slot-at : (p : Plan) (n slot : ℕ) (arrow : Arrow) → IsArrow (arrows_of p) n slot arrow → (slot < length (slots_at p n)) × (unwrap_or (slice_get (slots_at p n) slot) None ≡ Some arrow)
+unfolding arrows_of
+slot-at p n slot arrow is = (is.slot_within, is.holds)
 
 pub has-slot : (p : Plan) (n : ℕ) (arrow : Arrow) → n < node_count p → Contains (slots_at p n) (Some arrow) → (slot : ℕ) × IsArrow (arrows_of p) n slot arrow
 unfolding arrows_of
@@ -117,27 +122,27 @@ module _ (p : Plan) (all : IsPlanOfAll p) (ranks : List (List ℕ)) (fits : FitA
   place-rank place n is same = ap rank same ∙ rank-low (number_of p.numbering place.cube place.element) (place-low place is) ∙ place-own place is
 
   -- an arrow of the model
-  arrow-falls : (place : Place) (arrow : Arrow) → IsArrowOf p place arrow → rank arrow.to + fall_of arrow ≤ rank_of ranks (node place)
-  arrow-falls place arrow a =
-      let falls = fits (node place) (node a.target) arrow.strict a.made in
+  arrow-falls : (place : Place) (by : LinkBy) (arrow : Arrow) → IsArrowOf p place by arrow → rank arrow.to + fall_of arrow ≤ rank_of ranks (node place)
+  arrow-falls place by arrow a =
+      let falls = fits (node place) (node a.target) arrow.strict (made-arrow p.model (link_from place by) by (node a.target) arrow.strict a.made) in
       omega (arith, falls, place-rank a.target arrow.to a.within a.to)
 
-  arrow-own : (place : Place) (arrow : Arrow) → IsArrowOf p place arrow → own arrow.to + fall_of arrow ≤ rank_of ranks (node place)
-  arrow-own place arrow a =
-      let falls = fits (node place) (node a.target) arrow.strict a.made in
+  arrow-own : (place : Place) (by : LinkBy) (arrow : Arrow) → IsArrowOf p place by arrow → own arrow.to + fall_of arrow ≤ rank_of ranks (node place)
+  arrow-own place by arrow a =
+      let falls = fits (node place) (node a.target) arrow.strict (made-arrow p.model (link_from place by) by (node a.target) arrow.strict a.made) in
       let same : own arrow.to ≡ rank_of ranks (node a.target) = ap own a.to ∙ place-own a.target a.within in
       omega (arith, falls, same)
 
   -- an arrow through another node
-  via-falls : (place : Place) (arrow : Arrow) → IsVia p place arrow → rank arrow.to + fall_of arrow ≤ rank_of ranks (node place)
-  via-falls place arrow via =
+  via-falls : (place : Place) (by : LinkBy) (arrow : Arrow) → IsVia p place by arrow → rank arrow.to + fall_of arrow ≤ rank_of ranks (node place)
+  via-falls place by arrow via =
       let weak : fall_of arrow ≡ 0 = ap (λ b. if b then 1 else 0) via.weak in
       let low = greatest-below (map slot_rank (slots_at p arrow.to)) (rank_of ranks (node place)) each in
       omega (arith, rank-high arrow.to via.behind, low, weak)
     where
       slot : (o : Option Arrow) → Contains (slots_at p arrow.to) o → slot_rank o ≤ rank_of ranks (node place)
       slot None has = omega arith
-      slot (Some next) has = arrow-own place next (via.each next has)
+      slot (Some next) has = arrow-own place by next (via.each next has)
 
       each : (x : ℕ) → Contains (map slot_rank (slots_at p arrow.to)) x → x ≤ rank_of ranks (node place)
       each x has =
@@ -148,9 +153,10 @@ module _ (p : Plan) (all : IsPlanOfAll p) (ranks : List (List ℕ)) (fits : FitA
   falls-low n arrow low has =
       let (place, at) = there p.numbering.places.items n low in
       let here : rank n ≡ rank_of ranks (node place) = rank-low n low ∙ own-at n place at in
-      elim (element-step p all n place at arrow has) [
-        | inl made ↦ omega (arith, arrow-falls place arrow made, here)
-        | inr via ↦ omega (arith, via-falls place arrow via, here)
+      let (by, step) = element-step p all n place at arrow has in
+      elim step [
+        | inl made ↦ omega (arith, arrow-falls place by arrow made, here)
+        | inr via ↦ omega (arith, via-falls place by arrow via, here)
       ]
 
   falls-high : (n : ℕ) (arrow : Arrow) → parts_from p ≤ n → Contains (slots_at p n) (Some arrow) → rank arrow.to + fall_of arrow ≤ rank n

@@ -1,5 +1,5 @@
 -- What slots hold.
-use Rattle.std.proofs.Common.{◌≡◌, refl, sym, ap, ◌∙◌, arith, ℕ, zero, suc, ◌+◌, ◌<◌, ◌≤◌, Bool, Option, Some, None, List, [], ◌∷◌, ◌++◌, length, map, get_or}
+use Rattle.std.proofs.Common.{◌≡◌, refl, ap, ◌∙◌, arith, ℕ, zero, suc, ◌+◌, ◌<◌, ◌≤◌, Bool, Option, Some, None, List, length, map, get_or}
 use Rattle.std.specs.Prelude.{slice_get, slice_index_or, unwrap_or}
 use Rattle.std.specs.List.{range_with_len}
 use Rattle.std.specs.List.Sorted.{IsStrictlyIncreasing}
@@ -16,22 +16,6 @@ use Rattle.order_find.specs.Slots.{Plan, reached_from, reached_by}
 
 abbrev pub held : List (Option Arrow) → ℕ → Option Arrow
 held slots k = unwrap_or (slice_get slots k) None
-
-held-left : (xs ys : List (Option Arrow)) (k : ℕ) → k < length xs → held (xs ++ ys) k ≡ held xs k
-held-left [] ys k low = absurd (omega arith)
-held-left (x ∷ xs) ys zero low = refl
-held-left (x ∷ xs) ys (suc k) low = held-left xs ys k (omega arith)
-
-held-past : (xs ys : List (Option Arrow)) (k a : ℕ) → k ≡ length xs + a → held (xs ++ ys) k ≡ held ys a
-held-past [] ys k a is = let same : k ≡ a = omega arith in ap (held ys) same
-held-past (x ∷ xs) ys zero a is = absurd (omega arith)
-held-past (x ∷ xs) ys (suc k) a is = held-past xs ys k a (omega arith)
-
-pub in-second : (xs ys zs : List (Option Arrow)) (k a : ℕ) → k ≡ length xs + a → a < length ys → held ys a ≡ held (xs ++ (ys ++ zs)) k
-in-second xs ys zs k a is low = sym (held-past xs (ys ++ zs) k a is ∙ held-left ys zs a low)
-
-pub in-third : (xs ys zs : List (Option Arrow)) (k a : ℕ) → k ≡ length xs + (length ys + a) → held zs a ≡ held (xs ++ (ys ++ zs)) k
-in-third xs ys zs k a is = sym (held-past xs (ys ++ zs) k (length ys + a) is ∙ held-past ys zs (length ys + a) a refl)
 
 -- what a source reaches over another dimension
 abbrev pub set_in : Source → ℕ → Option (List ℕ)

@@ -1,7 +1,7 @@
 -- What lists have.
-use Rattle.std.proofs.Common.{◌≡◌, refl, sym, ap, ◌∙◌, arith, ℕ, zero, suc, ◌<◌, Option, Some, None, List, [], ◌∷◌, length, map, Contains, get_or}
+use Rattle.std.proofs.Common.{◌≡◌, refl, sym, ap, ◌∙◌, arith, ℕ, zero, suc, ◌+◌, ◌<◌, Option, Some, None, List, [], ◌∷◌, ◌++◌, length, map, Contains, get_or}
 use Rattle.std.specs.Prelude.{slice_get, slice_index_or, unwrap_or}
-use Rattle.std.specs.List.{range_with_len}
+use Rattle.std.specs.List.{range_with_len, AllZip}
 use Rattle.std.proofs.lemmas.List.{get_or_default}
 use Rattle.std.proofs.lemmas.List.FromFn.{get_or-range_with_len, length-range_with_len}
 use Rattle.std.proofs.lemmas.Option.{slice_get_within, get_or_from_slice_get, slice_get-get_or, unwrap_or-slice_get}
@@ -53,3 +53,45 @@ held-has xs k x low is = (k, low, get_or_default xs k (Some x) None low ∙ sym 
 
 pub has-held : {X : Type 0} (xs : List (Option X)) (k : ℕ) (x : X) → k < length xs → slice_index_or xs k (Some x) ≡ Some x → unwrap_or (slice_get xs k) None ≡ Some x
 has-held xs k x low is = unwrap_or-slice_get xs k None ∙ get_or_default xs k None (Some x) low ∙ is
+
+-- two lists of which each two elements at one place are related
+pub zip-map : {X A B : Type 0} (R : A → B → Type 0) (f : X → A) (g : X → B) (xs : List X) → ((x : X) → Contains xs x → R (f x) (g x)) → AllZip R (map f xs) (map g xs)
+zip-map R f g [] each = tt
+zip-map R f g (x ∷ xs) each = (each x (0, omega arith, refl), zip-map R f g xs (λ y has. each y (suc has.0, omega (arith, has.1), has.2)))
+
+pub zip-append : {A B : Type 0} (R : A → B → Type 0) (xs : List A) (ys : List B) (zs : List A) (ws : List B) → AllZip R xs ys → AllZip R zs ws → AllZip R (xs ++ zs) (ys ++ ws)
+zip-append R [] [] zs ws one other = other
+zip-append R [] (y ∷ ys) zs ws one other = absurd one
+zip-append R (x ∷ xs) [] zs ws one other = absurd one
+zip-append R (x ∷ xs) (y ∷ ys) zs ws one other = (one.0, zip-append R xs ys zs ws one.1 other)
+
+pub zip-at : {A B : Type 0} (R : A → B → Type 0) (xs : List A) (ys : List B) (k : ℕ) (d : A) (e : B) → AllZip R xs ys → k < length xs → R (slice_index_or xs k d) (slice_index_or ys k e)
+zip-at R [] ys k d e zip low = absurd (omega (arith, low))
+zip-at R (x ∷ xs) [] k d e zip low = absurd zip
+zip-at R (x ∷ xs) (y ∷ ys) zero d e zip low = zip.0
+zip-at R (x ∷ xs) (y ∷ ys) (suc k) d e zip low = zip-at R xs ys k d e zip.1 (omega (arith, low))
+
+-- an element of one of three lists, one behind another
+at-left : {X : Type 0} (xs ys : List X) (k : ℕ) (d : X) → k < length xs → unwrap_or (slice_get (xs ++ ys) k) d ≡ unwrap_or (slice_get xs k) d
+at-left [] ys k d low = absurd (omega arith)
+at-left (x ∷ xs) ys zero d low = refl
+at-left (x ∷ xs) ys (suc k) d low = at-left xs ys k d (omega arith)
+
+at-past : {X : Type 0} (xs ys : List X) (k a : ℕ) (d : X) → k ≡ length xs + a → unwrap_or (slice_get (xs ++ ys) k) d ≡ unwrap_or (slice_get ys a) d
+at-past [] ys k a d is = let same : k ≡ a = omega arith in ap (λ j. unwrap_or (slice_get ys j) d) same
+at-past (x ∷ xs) ys zero a d is = absurd (omega arith)
+at-past (x ∷ xs) ys (suc k) a d is = at-past xs ys k a d (omega arith)
+
+pub in-first : {X : Type 0} (xs ys : List X) (k : ℕ) (d : X) → k < length xs → unwrap_or (slice_get xs k) d ≡ unwrap_or (slice_get (xs ++ ys) k) d
+in-first xs ys k d low = sym (at-left xs ys k d low)
+
+pub in-second : {X : Type 0} (xs ys zs : List X) (k a : ℕ) (d : X) → k ≡ length xs + a → a < length ys → unwrap_or (slice_get ys a) d ≡ unwrap_or (slice_get (xs ++ (ys ++ zs)) k) d
+in-second xs ys zs k a d is low = sym (at-past xs (ys ++ zs) k a d is ∙ at-left ys zs a d low)
+
+pub in-third : {X : Type 0} (xs ys zs : List X) (k a : ℕ) (d : X) → k ≡ length xs + (length ys + a) → unwrap_or (slice_get zs a) d ≡ unwrap_or (slice_get (xs ++ (ys ++ zs)) k) d
+in-third xs ys zs k a d is = sym (at-past xs (ys ++ zs) k (length ys + a) d is ∙ at-past ys zs (length ys + a) a d refl)
+
+pub same-everywhere : {X Y : Type 0} (ys : List Y) (k : ℕ) (d : X) → unwrap_or (slice_get (map (λ y. d) ys) k) d ≡ d
+same-everywhere [] k d = refl
+same-everywhere (y ∷ ys) zero d = refl
+same-everywhere (y ∷ ys) (suc k) d = same-everywhere ys k d

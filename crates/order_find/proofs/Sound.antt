@@ -11,22 +11,26 @@ use Rattle.order_laws.specs.Earlier.{set_count, set_element}
 use Rattle.cover_laws.specs.Looking.{sent}
 use Rattle.least_ranks.specs.declared.arrow.Arrow.{Arrow}
 use Rattle.arrow_laws.specs.Nodes.{last_of}
-use Rattle.arrow_laws.specs.Arrows.{IsArrow}
 use Rattle.arrow_laws.specs.ByDimension.{is_level, is_lagged, is_weak, IsJoinedByDimension}
 use Rattle.order_find.specs.declared.numbering.Place.{Place}
 use Rattle.order_find.specs.declared.source.Source.{Source}
 use Rattle.order_find.specs.Numbers.{width, number_of}
 use Rattle.order_find.specs.Ways.{Follows, Same, Component, Always, Sent, SentOver, IsSource, precedent, way_of, reads_from, is_consolidated, serves_any, cube_read}
 use Rattle.order_find.specs.Slots.{Plan, IsPlan, parts_from, all_from, totals_from, arrow_to, parts_of, part_arrow, arrow_by, reached_from, reached_by, slots_at}
-use Rattle.order_find.specs.PlanOfAll.{IsRead, found_in}
-use Rattle.order_find.proofs.Decided.{dimension-read}
-use Rattle.order_find.proofs.Through.{node, IsArrowOf, IsVia}
+use Rattle.order_find.specs.Sources.{IsRead, found_in}
+use Rattle.order_find.proofs.Decided.{IsReadByDimension, dimension-read}
+use Rattle.order_find.proofs.Through.{node, link_from, IsArrowOf, IsVia}
 use Rattle.order_find.proofs.Lists.{map-has}
 use Rattle.order_find.proofs.Named.{Suits, IsNamedAs, as-named}
 use Rattle.order_find.specs.Ways.{Names}
 use Rattle.order_find.proofs.Within.{names-within, reads-cube}
 use Rattle.order_find.proofs.Vertices.{slots-parts, slots-all, slots-totals}
 use Rattle.order_find.proofs.Suiting.{suits-of, part-is, given-where, not-not}
+use Rattle.order_find.specs.declared.link.LinkBy.{LinkBy}
+use Rattle.order_find.specs.Circles.{IsBy, read_for}
+use Rattle.ref_order.specs.Counted.{counted_of}
+use Rattle.rule_model.specs.declared.rules.Statement.{Statement}
+use Rattle.order_find.specs.Links.{reference_of}
 
 -- an arrow of what a source reads
 pub record IsReachedFrom (p : Plan) (s : Source) (totals : Bool) (w : Follows) (arrow : Arrow) : Type 0 where
@@ -92,8 +96,11 @@ module _ (p : Plan) (plan : IsPlan p) (s : Source) (is : IsSource p.model s) (re
     named = as-named p.model s.cube s.area.now s.kind (precedent s) e t plan.valid is.reads own named;
   }
 
-  made : (t : ℕ) → IsNamedAs p.model s.cube s.area.now s.kind (precedent s) (way_of p.model s) e t → IsArrow p.model (node place) (node (target t)) (not s.weak)
-  made t named = inl (dimension-read p.model plan.valid plan.ruled (node place) (node (target t)) (not s.weak) (record {
+  abbrev by : LinkBy
+  by = reference_of s
+
+  read-by : (t : ℕ) → IsNamedAs p.model s.cube s.area.now s.kind (precedent s) (way_of p.model s) e t → IsReadByDimension p.model (node place) (node (target t)) (not s.weak)
+  read-by t named = record {
     cube = s.cube;
     within = is.cube;
     statement = read.statement;
@@ -105,15 +112,32 @@ module _ (p : Plan) (plan : IsPlan p) (s : Source) (is : IsSource p.model s) (re
     not_lagged = subst (λ a. is_lagged p.model s.cube a s.kind (precedent s) ≡ false) read.area read.not_lagged;
     weak = ap (λ a. is_weak p.model s.cube a s.kind (precedent s)) (sym read.area) ∙ sym read.weak ∙ sym (not-not s.weak);
     joined = subst (λ a. IsJoinedByDimension p.model s.cube a s.kind (precedent s) (node place) (node (target t))) read.area (joined t named);
-  }))
+  }
+
+  made : (t : ℕ) → IsNamedAs p.model s.cube s.area.now s.kind (precedent s) (way_of p.model s) e t → IsBy p.model (link_from place by) by (node (target t)) (not s.weak)
+  unfolding read-by
+  made t named =
+      let a = dimension-read p.model plan.valid plan.ruled (node place) (node (target t)) (not s.weak) (read-by t named) in
+      record {
+        arrow = a.arrow;
+        own = a.own_cube;
+        place = read.place;
+        number = read.number;
+        here = read.here ∙ ap Some (sym a.own_statement);
+        at = read.at;
+        counted = read.counted;
+        it = read.it;
+        there = ap (λ (st : Statement). slice_get (counted_of st) read.at) a.own_statement ∙ read.there;
+        reads = ap (λ kind. read_for kind read.it) a.own_kind ∙ read.own ∙ ap Some (sym a.own_read);
+      }
 
   arrow-of : (t : ℕ) (arrow : Arrow) → IsNamedAs p.model s.cube s.area.now s.kind (precedent s) (way_of p.model s) e t → t < width p.model.space (cube_read s)
-      → arrow_to p (cube_read s) (not s.weak) t ≡ arrow → IsArrowOf p place arrow
+      → arrow_to p (cube_read s) (not s.weak) t ≡ arrow → IsArrowOf p place by arrow
   arrow-of t arrow named below at = record {
     target = target t;
     within = record { cube = reads-cube p.model s.cube (precedent s) is.cube is.reads; element = below };
     to = sym (ap (λ (a : Arrow). a.to) at);
-    made = subst (λ b. IsArrow p.model (node place) (node (target t)) b) (ap (λ (a : Arrow). a.strict) at) (made t named);
+    made = subst (λ b. IsBy p.model (link_from place by) by (node (target t)) b) (ap (λ (a : Arrow). a.strict) at) (made t named);
   }
 
   names : Names s.cube (cube_read s) (width p.model.space (cube_read s)) (way_of p.model s)
@@ -125,7 +149,7 @@ module _ (p : Plan) (plan : IsPlan p) (s : Source) (is : IsSource p.model s) (re
       (suits-of (axes p.model.space s.cube) (reads_from p.model s) s.kind last e (found_in last (way_of p.model s)) u s.elsewhere read.elsewhere) h
 
   -- what is read over another dimension
-  over : (totals : Bool) (arrow : Arrow) → (totals ≡ false → serves_any p.model s e ≡ true) → Contains (reached_by p s totals (way_of p.model s)) (Some arrow) → IsArrowOf p place arrow
+  over : (totals : Bool) (arrow : Arrow) → (totals ≡ false → serves_any p.model s e ≡ true) → Contains (reached_by p s totals (way_of p.model s)) (Some arrow) → IsArrowOf p place by arrow
   over totals arrow serves has =
       let r = reached-arrow p s totals (way_of p.model s) arrow has in
       let found : found_in last (way_of p.model s) ≡ r.i = ap (found_in last) r.way in
@@ -136,9 +160,9 @@ module _ (p : Plan) (plan : IsPlan p) (s : Source) (is : IsSource p.model s) (re
 
   module _ (n k : ℕ) (number : n ≡ number_of p.numbering s.cube e) (at : slice_get p.numbering.places.items n ≡ Some place) (few : n < parts_from p) (here : slice_get p.sources k ≡ Some s) where
     abbrev Step : Arrow → Type 0
-    Step arrow = IsArrowOf p place arrow ⊎ IsVia p place arrow
+    Step arrow = IsArrowOf p place by arrow ⊎ IsVia p place by arrow
 
-    via-parts : (arrow : Arrow) → way_of p.model s ≡ Component → record { to = parts_from p + n; strict = false } ≡ arrow → IsVia p place arrow
+    via-parts : (arrow : Arrow) → way_of p.model s ≡ Component → record { to = parts_from p + n; strict = false } ≡ arrow → IsVia p place by arrow
     via-parts arrow way same = record {
       weak = sym (ap (λ (a : Arrow). a.strict) same);
       behind = omega (arith, ap (λ (a : Arrow). a.to) same);
@@ -160,7 +184,7 @@ module _ (p : Plan) (plan : IsPlan p) (s : Source) (is : IsSource p.model s) (re
             subst (λ (x : ℕ × ℤ). x.0 < width p.model.space s.cube) (Rattle.std.proofs.lemmas.List.get_or_default (parts_of p.model.space place) j (0, pos 0) part less ∙ same) first
 
     via-over : (i : ℕ) (to : List (Option ℕ)) (arrow : Arrow) → way_of p.model s ≡ SentOver i to
-        → record { to = (if serves_any p.model s e then all_from p else totals_from p) + k; strict = false } ≡ arrow → IsVia p place arrow
+        → record { to = (if serves_any p.model s e then all_from p else totals_from p) + k; strict = false } ≡ arrow → IsVia p place by arrow
     via-over i to arrow way same = record {
       weak = sym (ap (λ (a : Arrow). a.strict) same);
       behind = behind (serves_any p.model s e) (sym (ap (λ (a : Arrow). a.to) same));
@@ -171,7 +195,7 @@ module _ (p : Plan) (plan : IsPlan p) (s : Source) (is : IsSource p.model s) (re
         behind true is_to = omega (arith, is_to)
         behind false is_to = omega (arith, is_to)
 
-        each : (t : Bool) → serves_any p.model s e ≡ t → arrow.to ≡ (if t then all_from p else totals_from p) + k → (next : Arrow) → Contains (slots_at p arrow.to) (Some next) → IsArrowOf p place next
+        each : (t : Bool) → serves_any p.model s e ≡ t → arrow.to ≡ (if t then all_from p else totals_from p) + k → (next : Arrow) → Contains (slots_at p arrow.to) (Some next) → IsArrowOf p place by next
         each true serving is_to next has = over false next (λ _. serving) (subst (λ xs. Contains xs (Some next)) (slots-all p arrow.to k s is_to here) has)
         each false missing is_to next has = over true next (λ off. absurd (cc)) (subst (λ xs. Contains xs (Some next)) (slots-totals p arrow.to k s is_to here) has)
 

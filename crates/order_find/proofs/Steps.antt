@@ -1,11 +1,11 @@
 -- Each arrow of a node, and where it leads.
 use Rattle.std.proofs.Common.{◌≡◌, refl, sym, ap, ◌∙◌, arith, subst, ℕ, ◌-◌, ◌<◌, ◌≤◌, ◌⊎◌, Bool, true, false, Option, Some, None, List, [], ◌++◌, length, map, Contains, ℤ, pos, inl, inr, if◌then◌else◌, option_map}
-use Rattle.std.specs.Prelude.{slice_get, slice_index_or}
+use Rattle.std.specs.Prelude.{slice_get, slice_index_or, unwrap_or}
 use Rattle.std.specs.Option.{option_map_or}
 use Rattle.std.specs.List.{range_with_len}
 use Rattle.std.proofs.lemmas.Bool.{cases_lt}
-use Rattle.std.proofs.lemmas.List.Elements.{Contains-append_cases}
-use Rattle.std.proofs.lemmas.Option.{slice_get_within, slice_get_past, same_Some}
+use Rattle.std.specs.List.{AllZip}
+use Rattle.std.proofs.lemmas.Option.{slice_get_within, slice_get_past, same_Some, unwrap_or-slice_get}
 use Rattle.dim_core.specs.Outline.{Outline}
 use Rattle.dim_weights.specs.Coefficients.{coef}
 use Rattle.dim_weights.specs.Table.{is_nonzero, leaves_of}
@@ -26,8 +26,11 @@ use Rattle.order_find.specs.Numbers.{IsPlace, width, number_of}
 use Rattle.order_find.specs.Ways.{SentOver, IsSource, precedent, way_of, reads_from, cube_read}
 use Rattle.order_find.specs.Slots.{Plan, IsPlan, IsSourceOf, parts_from, all_from, totals_from, arrow_to, leaves_below, parts_of, part_arrow, leaf_arrow, arrow_by, read_arrow, source_arrow, reached_by, slots_of, slots_at}
 use Rattle.order_find.specs.PlanOfAll.{IsPlanOfAll}
+use Rattle.order_find.specs.declared.link.LinkBy.{LinkBy}
+use Rattle.order_find.specs.declared.link.LinkBy.TheVariants.{Below}
+use Rattle.order_find.specs.Links.{reference_of, maker, makers_of}
 use Rattle.order_find.proofs.Through.{node, IsArrowOf, IsVia}
-use Rattle.order_find.proofs.Lists.{map-has, range-has}
+use Rattle.order_find.proofs.Lists.{range-has, has-held, zip-map, zip-append, zip-at}
 use Rattle.order_find.specs.Ways.{Names}
 use Rattle.order_find.proofs.Within.{names-within, reads-cube}
 use Rattle.order_find.proofs.Vertices.{slots-element, slots-parts, slots-all, slots-totals, vertex-totals}
@@ -64,15 +67,18 @@ part-low m place part valid (j, less, same) =
     subst (λ (x : ℕ × ℤ). x.0 < width m.space place.cube) (Rattle.std.proofs.lemmas.List.get_or_default (parts_of m.space place) j (0, pos 0) part less ∙ same) first
 
 module _ (p : Plan) (all : IsPlanOfAll p) (n : ℕ) (place : Place) (at : slice_get p.numbering.places.items n ≡ Some place) where
-  abbrev Step : Arrow → Type 0
-  Step arrow = IsArrowOf p place arrow ⊎ IsVia p place arrow
+  abbrev Step : LinkBy → Arrow → Type 0
+  Step by arrow = IsArrowOf p place by arrow ⊎ IsVia p place by arrow
+
+  -- where the slot holds an arrow, it is such a one
+  abbrev Slot : Option Arrow → LinkBy → Type 0
+  Slot slot by = (arrow : Arrow) → slot ≡ Some arrow → Step by arrow
 
   here : IsPlace p.model.space place × (number_of p.numbering place.cube place.element ≡ n)
   here = all.plan.numbering.back n place at
 
-  leaf-step : (arrow : Arrow) → Contains (map (leaf_arrow p place.cube) (leaves_below p.model.space place)) (Some arrow) → Step arrow
-  leaf-step arrow has =
-      let (pair, inside, same) = map-has (leaf_arrow p place.cube) (leaves_below p.model.space place) (Some arrow) has in
+  leaf-step : (pair : ℕ × ℤ) → Contains (leaves_below p.model.space place) pair → Slot (leaf_arrow p place.cube pair) Below
+  leaf-step pair inside arrow same =
       let leaf = leaf-below p.model.space place pair inside in
       let equal : arrow_to p place.cube false pair.0 ≡ arrow = same_Some _ _ same in
       let size = size-at (axes p.model.space place.cube) (last_of p.model.space place.cube) leaf.dimension leaf.last in
@@ -91,36 +97,49 @@ module _ (p : Plan) (all : IsPlanOfAll p) (n : ℕ) (place : Place) (at : slice_
         target = record { cube = place.cube; element = pair.0 };
         within = record { cube = here.0.cube; element = subst (λ n. pair.0 < n) (sym size) leaf.leaf };
         to = sym (ap (λ (a : Arrow). a.to) equal);
-        made = inr made;
+        made = made;
       })
 
-  row-step : (row : List ℕ) → ((k : ℕ) → Contains row k → IsSourceOf p place.cube k) → (arrow : Arrow) → Contains (map (source_arrow p n place) row) (Some arrow) → Step arrow
-  row-step row of arrow has =
-      let (k, inside, same) = map-has (source_arrow p n place) row (Some arrow) has in
+  row-step : (row : List ℕ) → ((k : ℕ) → Contains row k → IsSourceOf p place.cube k) → (k : ℕ) → Contains row k → Slot (source_arrow p n place k) (maker p k)
+  row-step row of k inside arrow same =
       let (s, found, own) = of k inside in
+      let by : reference_of s ≡ maker p k = sym (ap (λ (o : Option Source). option_map_or reference_of o Below) found) in
       let read_by : read_arrow p n place k s ≡ Some arrow = sym (ap (λ (o : Option Source). option_map_or (read_arrow p n place k) o None) found) ∙ same in
       let (passes, made) = given-where (reads_from p.model s (last_of p.model.space s.cube) place.element) (arrow_by p n place k s (way_of p.model s)) arrow read_by in
       let there : Place = record { cube = s.cube; element = place.element } in
       let equal : there ≡ place = ap (λ c. record { cube = c; element = place.element }) own in
       let is = found_holds (IsSource p.model) p.sources k s all.plan.sources found in
       let number : n ≡ number_of p.numbering s.cube place.element = sym here.1 ∙ ap (λ (q : Place). number_of p.numbering q.cube q.element) (sym equal) in
-      subst (λ q. IsArrowOf p q arrow ⊎ IsVia p q arrow) equal
+      subst (λ b. IsArrowOf p place b arrow ⊎ IsVia p place b arrow) by
+      (subst (λ q. IsArrowOf p q (reference_of s) arrow ⊎ IsVia p q (reference_of s) arrow) equal
       (source-step p all.plan s is (all.read k s found) place.element passes (subst (λ (q : Place). q.element < width p.model.space q.cube) (sym equal) here.0.element)
-      n k number (at ∙ ap Some (sym equal)) (slice_get_within p.numbering.places.items n place at) found arrow (subst (λ q. arrow_by p n q k s (way_of p.model s) ≡ Some arrow) (sym equal) made))
+      n k number (at ∙ ap Some (sym equal)) (slice_get_within p.numbering.places.items n place at) found arrow (subst (λ q. arrow_by p n q k s (way_of p.model s) ≡ Some arrow) (sym equal) made)))
 
-  pub element-step : (arrow : Arrow) → Contains (slots_at p n) (Some arrow) → Step arrow
-  element-step arrow has =
-      let slots = slots-element p n place at in
-      let leaves = map (leaf_arrow p place.cube) (leaves_below p.model.space place) in
-      let cubes = map (source_arrow p n place) (slice_index_or p.of_cubes place.cube []) in
-      let nodes = map (source_arrow p n place) (slice_index_or p.of_nodes n []) in
-      elim (Contains-append_cases leaves (cubes ++ nodes) (Some arrow) (subst (λ xs. Contains xs (Some arrow)) slots has)) [
-        | inl leaf ↦ leaf-step arrow leaf
-        | inr rest ↦ elim (Contains-append_cases cubes nodes (Some arrow) rest) [
-          | inl cube ↦ row-step (slice_index_or p.of_cubes place.cube []) (λ k inside. all.plan.of_cubes place.cube k inside) arrow cube
-          | inr own ↦ row-step (slice_index_or p.of_nodes n []) (λ k inside. all.plan.of_nodes n k place at inside) arrow own
-        ]
-      ]
+  row-steps : (row : List ℕ) → ((k : ℕ) → Contains row k → IsSourceOf p place.cube k) → AllZip Slot (map (source_arrow p n place) row) (map (maker p) row)
+  row-steps row of = zip-map Slot (source_arrow p n place) (maker p) row (row-step row of)
+
+  leaf-steps : AllZip Slot (map (leaf_arrow p place.cube) (leaves_below p.model.space place)) (map (λ pair. Below) (leaves_below p.model.space place))
+  leaf-steps = zip-map Slot (leaf_arrow p place.cube) (λ pair. Below) (leaves_below p.model.space place) leaf-step
+
+  element-steps : AllZip Slot (slots_at p n) (makers_of p n place)
+  element-steps =
+      let whole = slice_index_or p.of_cubes place.cube [] in
+      let own = slice_index_or p.of_nodes n [] in
+      let by = source_arrow p n place in
+      let rows = zip-append Slot (map by whole) (map (maker p) whole) (map by own) (map (maker p) own)
+      (row-steps whole (λ k inside. all.plan.of_cubes place.cube k inside)) (row-steps own (λ k inside. all.plan.of_nodes n k place at inside)) in
+      subst (λ xs. AllZip Slot xs (makers_of p n place)) (sym (slots-element p n place at))
+      (zip-append Slot (map (leaf_arrow p place.cube) (leaves_below p.model.space place)) (map (λ pair. Below) (leaves_below p.model.space place))
+      (map by whole ++ map by own) (map (maker p) whole ++ map (maker p) own) leaf-steps rows)
+
+  -- the arrow in a slot of the node of an element, and in any
+  pub slot-step : (slot : ℕ) (arrow : Arrow) → slot < length (slots_at p n) → unwrap_or (slice_get (slots_at p n) slot) None ≡ Some arrow → Step (unwrap_or (slice_get (makers_of p n place) slot) Below) arrow
+  slot-step slot arrow low is =
+      subst (λ b. Step b arrow) (sym (unwrap_or-slice_get (makers_of p n place) slot Below))
+      (zip-at Slot (slots_at p n) (makers_of p n place) slot None Below element-steps low arrow (sym (unwrap_or-slice_get (slots_at p n) slot None) ∙ is))
+
+  pub element-step : (arrow : Arrow) → Contains (slots_at p n) (Some arrow) → (by : LinkBy) × Step by arrow
+  element-step arrow (slot, low, is) = (unwrap_or (slice_get (makers_of p n place) slot) Below, slot-step slot arrow low (has-held (slots_at p n) slot arrow low is))
 
 -- what lies behind the nodes of elements leads to nodes of elements
 abbrev pub LeadsBack : Plan → Arrow → Type 0

@@ -1,27 +1,39 @@
 -- The arrows of a plan, by themselves and through the nodes that aren't those of elements.
-use Rattle.std.proofs.Common.{◌≡◌, ℕ, ◌<◌, ◌≤◌, ◌⊎◌, Bool, false, Some, Contains}
+use Rattle.std.proofs.Common.{◌≡◌, ℕ, ◌<◌, ◌≤◌, ◌⊎◌, inl, inr, Bool, false, Some, Contains}
 use Rattle.least_ranks.specs.declared.arrow.Arrow.{Arrow}
 use Rattle.arrow_laws.specs.Nodes.{Node}
 use Rattle.arrow_laws.specs.Arrows.{IsArrow}
+use Rattle.rule_model.specs.BoundModel.{BoundModel}
+use Rattle.order_find.specs.declared.link.Link.{Link}
+use Rattle.order_find.specs.declared.link.LinkBy.{LinkBy}
+use Rattle.order_find.specs.declared.link.LinkBy.TheVariants.{Reference, Below}
 use Rattle.order_find.specs.declared.numbering.Place.{Place}
 use Rattle.order_find.specs.Numbers.{IsPlace, number_of}
 use Rattle.order_find.specs.Slots.{Plan, parts_from, node_count, slots_at}
+use Rattle.order_find.specs.Circles.{IsBy, node_of}
 
 abbrev pub node : Place → Node
 node place = record { cube = place.cube; element = place.element }
 
--- the arrow leads to the node of an element, and it is an arrow of the model
-pub record IsArrowOf (p : Plan) (place : Place) (arrow : Arrow) : Type 0 where
+abbrev pub link_from : Place → LinkBy → Link
+link_from place by = record { cube = place.cube; element = place.element; by = by }
+
+pub made-arrow : (m : BoundModel) (link : Link) (by : LinkBy) (to : Node) (strict : Bool) → IsBy m link by to strict → IsArrow m (node_of link) to strict
+made-arrow m link (Reference statement reference) to strict made = inl made.arrow
+made-arrow m link Below to strict made = inr made
+
+-- the arrow leads to the node of an element, and it is an arrow of the model that this makes
+pub record IsArrowOf (p : Plan) (place : Place) (by : LinkBy) (arrow : Arrow) : Type 0 where
   pub target : Place
   pub within : IsPlace p.model.space target
   pub to : arrow.to ≡ number_of p.numbering target.cube target.element
-  pub made : IsArrow p.model (node place) (node target) arrow.strict
+  pub made : IsBy p.model (link_from place by) by (node target) arrow.strict
 
 -- the arrow is weak and leads to another node, of which each arrow goes on so
-pub record IsVia (p : Plan) (place : Place) (arrow : Arrow) : Type 0 where
+pub record IsVia (p : Plan) (place : Place) (by : LinkBy) (arrow : Arrow) : Type 0 where
   pub weak : arrow.strict ≡ false
   pub behind : parts_from p ≤ arrow.to
-  pub each : (next : Arrow) → Contains (slots_at p arrow.to) (Some next) → IsArrowOf p place next
+  pub each : (next : Arrow) → Contains (slots_at p arrow.to) (Some next) → IsArrowOf p place by next
 
 -- one of the node's slots holds such an arrow
 abbrev pub Goes : Plan → ℕ → ℕ → Bool → Type 0

@@ -1,7 +1,12 @@
 pub mod Numbers
 pub mod Ways
 pub mod Slots
+pub mod Sources
 pub mod PlanOfAll
+pub mod Filing
 pub mod Unlagged
 pub mod Circles
+pub mod Gathering
 pub mod Found
+pub mod Links
+pub mod Cut

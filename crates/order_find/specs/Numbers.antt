@@ -1,5 +1,6 @@
 -- The numbers of the nodes of a model.
-use Rattle.std.specs.Prelude.{◌≡◌, ℕ, ◌+◌, ◌<◌, Some, length, slice_get, slice_index_or}
+use Rattle.std.specs.Prelude.{◌≡◌, ℕ, ◌+◌, ◌<◌, ◌^◌, Some, List, map, length, slice_get, slice_index_or}
+use Rattle.std.specs.List.{range_with_len}
 use Rattle.cube_space.specs.Layout.{Layout, sizes}
 use Rattle.arrow_laws.specs.Nodes.{last_of}
 use Rattle.order_find.specs.declared.numbering.Place.{Place}
@@ -19,6 +20,14 @@ count_of n = length n.places.items
 
 abbrev pub number_of : Numbering → ℕ → ℕ → ℕ
 number_of n cube element = slice_index_or n.firsts.items cube 0 + element
+
+-- how many elements the last dimensions of all cubes may have together
+abbrev pub most_places : ℕ
+most_places = 2 ^ 30
+
+-- so many elements of a cube's last dimension
+abbrev pub places_of : ℕ → ℕ → List Place
+places_of cube width = map (λ element. record { cube = cube; element = element }) (range_with_len 0 width)
 
 -- each element of a last dimension has a number of its own
 pub record IsNumbering (space : Layout) (n : Numbering) : Type 0 where

@@ -1,5 +1,5 @@
 -- The first reference of a model that may read at a greater lag.
-use Rattle.std.specs.Prelude.{ℕ, Bool, true, false, IfSome}
+use Rattle.std.specs.Prelude.{ℕ, true, false, IfSome}
 use Rattle.rule_model.specs.declared.rules.Statement.{Statement}
 use Rattle.rule_model.specs.BoundModel.{BoundModel}
 use Rattle.ref_order.specs.Counted.{Counted}

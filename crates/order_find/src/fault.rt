@@ -21,6 +21,11 @@ pub enum FindFault {
 }
 
 impl From<AllocError> for FindFault {
+    ghost use Rattle.std.specs.Prelude.{◌≡◌};
+    ghost use Rattle.order_find.specs.declared.fault.FindFault.TheVariants.{Memory};
+
+    ghost from_gives = { λ _ e. e ≡ Memory };
+
     fn from(_: AllocError) -> FindFault {
         FindFault::Memory
     }

@@ -1,15 +1,50 @@
-ghost use Rattle.std.specs.Prelude.{IfErr, IfOk};
+ghost use Rattle.std.specs.Prelude.{IfOk, IfErr};
+ghost use Rattle.arrow_laws.specs.Arrows.{IsLevelThroughout};
+ghost use Rattle.order_find.specs.PlanOfAll.{IsPlanOfAll};
 ghost use Rattle.order_find.specs.Found.{AreFound, IsFindFault};
 
+use crate::circle::circle;
 use crate::fault::FindFault;
+use crate::graph::NodeGraph;
+use crate::orders::orders;
+use least_ranks::{RankFault, least_ranks};
 use rule_model::{Model, Order};
 use std::alloc::Global;
 
-/// The order of each cube, over the lag at the first position of its own.
-pub fn find(_alloc: Global, model: &Model) -> Result<Vec<Order>, FindFault>
+/// The orders of a model's cubes that have as their first position what the cubes' orders have there, which is called
+/// the lag, and as their second the least ranks of the elements of the last dimension that fit the arrows of the model.
+///
+/// An arrow goes from the cube and last element of a cell to those of a cell that a formula of it reads at the same
+/// lag, and from a consolidated element to each leaf that counts in it. Ranks fit where they fall along each arrow; they
+/// may stay the same where all that the formula reads is of a smaller level than its cell, and towards a leaf. No ranks
+/// that fit are smaller at any element. With these orders the model is ordered (`arrow_laws`).
+///
+/// It goes a few times over the statements and the arrows; their number grows with the references and the elements of
+/// the last dimensions, and not with the cells.
+///
+/// # Errors
+///
+/// - [`FindFault::Unlagged`] exactly where some reference may read at a greater lag, with the first such reference.
+/// - [`FindFault::Cycle`] exactly where there is none, and no ranks fit, with arrows that show it.
+/// - [`FindFault::Memory`] when out of memory.
+pub fn find(alloc: Global, model: &Model) -> Result<Vec<Order>, FindFault>
     ensures found { IfOk result (λ orders. AreFound model.now orders.items) }
     ensures refused { IfErr result (IsFindFault model.now) }
 {
-    let _space = model.space();
-    Err(FindFault::Memory)
+    let graph = NodeGraph::of(alloc, model)?;
+    found_in(alloc, &graph)
+}
+
+// The orders of the least ranks that fit the graph of a model, or a circle where none fit.
+fn found_in(alloc: Global, graph: &NodeGraph) -> Result<Vec<Order>, FindFault>
+    requires plan { IsPlanOfAll graph.now }
+    requires level { IsLevelThroughout graph.now.model }
+    ensures found { IfOk result (λ orders. AreFound graph.now.model orders.items) }
+    ensures refused { IfErr result (IsFindFault graph.now.model) }
+{
+    match least_ranks(alloc, graph) {
+        Ok(ranks) => Ok(orders(alloc, graph, &ranks)?),
+        Err(RankFault::Cycle(steps)) => Err(FindFault::Cycle(circle(alloc, graph, &steps)?)),
+        Err(RankFault::Memory) => Err(FindFault::Memory),
+    }
 }

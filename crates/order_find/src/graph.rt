@@ -1,11 +1,16 @@
 ghost use Rattle.std.specs.Prelude.{◌≡◌, [], slice_index_or};
 
 use crate::arrows::{arrow_in, slots_in, vertex};
+use crate::fault::FindFault;
+use crate::filing::file_sources;
 use crate::numbering::{Numbering, Place};
+use crate::numbers::number_nodes;
 use crate::source::Source;
+use crate::sources::sources_of;
 use least_ranks::{Arrow, Graph};
 use lists::ListOf;
 use rule_model::Model;
+use std::alloc::{AllocError, Global};
 
 /// The graph of the arrows between the nodes of a model.
 #[derive(Drop)]
@@ -45,9 +50,52 @@ impl<'a> std::marker::Model for NodeGraph<'a> {
 }
 
 impl<'a> NodeGraph<'a> {
-    ghost use Rattle.std.specs.Prelude.{◌≡◌, ◌<◌, ◌^◌, [], length, slice_get, slice_index_or};
+    ghost use Rattle.std.specs.Prelude.{◌≡◌, ◌<◌, ◌^◌, [], IfOk, IfErr, OnOk, length, slice_get, slice_index_or};
+    ghost use Rattle.arrow_laws.specs.Arrows.{IsLevelThroughout};
     ghost use Rattle.order_find.specs.Numbers.{count_of, number_of, width};
     ghost use Rattle.order_find.specs.Slots.{IsPlan, node_count};
+    ghost use Rattle.order_find.specs.Sources.{AreSourcesOf};
+    ghost use Rattle.order_find.specs.PlanOfAll.{IsPlanOfAll};
+    ghost use Rattle.order_find.specs.Gathering.{IsUnlaggedFault};
+
+    /// The graph of the arrows of a model.
+    ///
+    /// # Errors
+    ///
+    /// - [`FindFault::Unlagged`] exactly where some reference may read at a greater lag, with the first such reference.
+    /// - [`FindFault::Memory`] when out of memory. More than 2^30 elements of the last dimensions of all cubes together
+    ///   count as that, and so do more than 2^29 sources.
+    pub fn of(alloc: Global, model: &'a Model) -> Result<NodeGraph<'a>, FindFault>
+        ensures plan { IfOk result IsPlanOfAll }
+        ensures model { IfOk result (λ graph. graph.model ≡ model.now) }
+        ensures level { OnOk result (IsLevelThroughout model.now) }
+        ensures refused { IfErr result (IsUnlaggedFault model.now) }
+    {
+        let sources = sources_of(alloc, model)?;
+        Ok(NodeGraph::over(alloc, model, sources)?)
+    }
+
+    /// The graph of a model over what its statements read at the same lag.
+    pub(crate) fn over(
+        alloc: Global,
+        model: &'a Model,
+        sources: Vec<Source<'a>>,
+    ) -> Result<NodeGraph<'a>, AllocError>
+        requires { AreSourcesOf model.now sources.items }
+        ensures plan { IfOk result IsPlanOfAll }
+        ensures model { IfOk result (λ graph. graph.model ≡ model.now) }
+    {
+        let _space = model.space();
+        let numbering = number_nodes(alloc, model)?;
+        let filing = file_sources(alloc, model, &numbering, &sources)?;
+        Ok(NodeGraph {
+            model,
+            numbering,
+            sources,
+            of_cubes: filing.of_cubes,
+            of_nodes: filing.of_nodes,
+        })
+    }
 
     /// The model.
     pub(crate) fn model(&self) -> &'a Model

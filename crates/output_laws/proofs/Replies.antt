@@ -9,6 +9,9 @@ use Rattle.cell_reader.specs.FedCount.{fed_count}
 use Rattle.cell_reader.specs.WritePermission.{why_closed}
 use Rattle.cell_reader.specs.declared.write_permission.Closed.{Closed}
 use Rattle.cell_reader.specs.declared.write_permission.Closed.TheVariants as closed
+use Rattle.cell_spread.specs.Spread.{refusal_of, writes_of as shares_of}
+use Rattle.cell_spread.specs.declared.fault.SpreadFault.{SpreadFault}
+use Rattle.cell_spread.specs.declared.fault.SpreadFault.TheVariants as spreads
 use Rattle.cell_store.specs.declared.entry.Entry as stored
 use Rattle.cell_store.specs.Entries.{after_writes}
 use Rattle.cell_store.specs.StoreLimit.{most_cells}
@@ -27,15 +30,16 @@ use Rattle.script_tree.specs.declared.script.Section.TheVariants as sections
 use Rattle.script_values.specs.declared.load_reason.LoadReason.{LoadReason}
 use Rattle.script_values.specs.declared.load_reason.LoadReason.TheVariants as stops
 use Rattle.user_session.specs.Content.{opening, after}
-use Rattle.user_session.specs.Planning.{effect, named_cell, put_effect, get_effect, load_effect, table_effect, view_effect, ended_effect, unless_closed, within_limits, write_effect, committed, value_at, PlanEffect}
+use Rattle.user_session.specs.Planning.{effect, named_cell, put_effect, get_effect, load_effect, spread_effect, how_of, table_effect, view_effect, ended_effect, unless_closed, unless_fault, within_limits, write_effect, committed, value_at, PlanEffect}
 use Rattle.user_session.specs.RejectedLoad.{stopped_text, section_text, cause_text}
-use Rattle.user_session.specs.Replies.{reason_text, fault_text}
+use Rattle.user_session.specs.Replies.{reason_text, fault_text, spread_fault_text}
 use Rattle.user_session.specs.declared.command.PlanCommand.{PlanCommand}
-use Rattle.user_session.specs.declared.command.PlanCommand.TheVariants.{Put, Get, Load, View}
+use Rattle.user_session.specs.declared.command.PlanCommand.TheVariants.{Put, Get, Load, View, Spread}
 use Rattle.user_session.specs.declared.content.Content.{Content}
 use Rattle.user_session.specs.declared.reply.CommandReason.{CommandReason}
 use Rattle.user_session.specs.declared.reply.CommandReason.TheVariants as reasons
 use Rattle.user_text.specs.Jobs.{rows_in}
+use Rattle.user_text.specs.declared.command.SpreadWord.{SpreadWord}
 use Rattle.user_text.specs.declared.command.ViewText.{ViewText}
 use Rattle.user_text.specs.declared.load_job.LoadJob.{LoadJob}
 use Rattle.view_query.specs.Binding.{bound}
@@ -69,6 +73,9 @@ within_plain model cells writes = by (nat_lt most_cells (length cells)) (nat_lt 
     by false true = refl
     by false false = committed_plain writes
 
+write_plain : (content : Content) (writes : List (ℕ × ℤ)) → IsPlain (write_effect content writes)
+write_plain content writes = within_plain content.model (after_writes content.stored writes) writes
+
 closed_plain : (o : Option Closed) (found : PlanEffect) → IsPlain found → IsPlain (unless_closed o found)
 closed_plain None found plain = plain
 closed_plain (Some closed.NotALeaf) found plain = refl
@@ -77,8 +84,26 @@ closed_plain (Some closed.RuleDerived) found plain = refl
 put_plain : (content : Content) (o : Option ℕ) (number : ℤ) → IsPlain (put_effect content o number)
 put_plain content None number = refl
 put_plain content (Some cell) number =
-    closed_plain (why_closed content.model cell) (write_effect content cell number)
-    (within_plain content.model (after_writes content.stored ((cell, number) ∷ [])) ((cell, number) ∷ []))
+    closed_plain (why_closed content.model cell) (write_effect content ((cell, number) ∷ [])) (write_plain content ((cell, number) ∷ []))
+
+spread_fault_plain : (fault : SpreadFault) → lacks newline (codes "rejected " ++ spread_fault_text fault) ≡ true
+spread_fault_plain spreads.IsALeaf = refl
+spread_fault_plain (spreads.SpreadLimit count) = refl
+spread_fault_plain spreads.Weighted = refl
+spread_fault_plain spreads.RuleDerived = refl
+spread_fault_plain spreads.NothingThere = refl
+spread_fault_plain spreads.OverWrite = refl
+spread_fault_plain spreads.Memory = refl
+
+unspread_plain : (o : Option SpreadFault) (found : PlanEffect) → IsPlain found → IsPlain (unless_fault o found)
+unspread_plain None found plain = plain
+unspread_plain (Some fault) found plain = spread_fault_plain fault
+
+spread_plain : (content : Content) (o : Option ℕ) (amount : ℤ) (how : SpreadWord) → IsPlain (spread_effect content o amount how)
+spread_plain content None amount how = refl
+spread_plain content (Some cell) amount how =
+    let shares = shares_of content.model.space content.stored cell amount (how_of how) in
+    unspread_plain (refusal_of content.model content.stored cell amount (how_of how)) (write_effect content shares) (write_plain content shares)
 
 get_plain : (content : Content) (o : Option ℕ) → IsPlain (get_effect content o)
 get_plain content None = refl
@@ -166,6 +191,9 @@ on_one_model model is (Load job script) cells others =
     plain_ends (reply_of (effect (content_of model cells) (Load job script))) (reply_of (effect (content_of model others) (Load job script)))
     (load_plain (content_of model cells) job (arc_value script)) (load_plain (content_of model others) job (arc_value script))
 on_one_model model is (View text) cells others = views_end model is text cells others
+on_one_model model is (Spread text amount how) cells others =
+    plain_ends (reply_of (effect (content_of model cells) (Spread text amount how))) (reply_of (effect (content_of model others) (Spread text amount how)))
+    (spread_plain (content_of model cells) (named_cell model text) amount how) (spread_plain (content_of model others) (named_cell model text) amount how)
 
 pub replies_end : (model : BoundModel) → IsSpace model.space → (log other : List (Entry (List (ℕ × ℤ)))) (command : PlanCommand) (p q : ℕ)
     → EndAlike (reply_of (effect (version after (opening model) log p) command)) (reply_of (effect (version after (opening model) other q) command))

@@ -11,7 +11,7 @@ use Rattle.script_run.specs.Load.{load, ran_of, writes_of}
 use Rattle.user_session.specs.Content.{opening, after}
 use Rattle.user_session.specs.Planning.{effect, ended_effect}
 use Rattle.user_session.specs.declared.command.PlanCommand.{PlanCommand}
-use Rattle.user_session.specs.declared.command.PlanCommand.TheVariants.{Put, Get, Load, View}
+use Rattle.user_session.specs.declared.command.PlanCommand.TheVariants.{Put, Get, Load, View, Spread}
 use Rattle.user_session.specs.declared.content.Content.{Content}
 use Rattle.user_text.specs.Jobs.{rows_in}
 use Rattle.job_laws.specs.Same.{IsSameCommand}
@@ -22,9 +22,11 @@ pub same_effect : (a b : PlanCommand) → IsSameCommand a b → (content : Conte
 same_effect (Put text number) b same content = ap (λ command. effect content command) (sym same)
 same_effect (Get text) b same content = ap (λ command. effect content command) (sym same)
 same_effect (View text) b same content = ap (λ command. effect content command) (sym same)
+same_effect (Spread text amount how) b same content = ap (λ command. effect content command) (sym same)
 same_effect (Load job script) (Put text number) same content = absurd same
 same_effect (Load job script) (Get text) same content = absurd same
 same_effect (Load job script) (View text) same content = absurd same
+same_effect (Load job script) (Spread text amount how) same content = absurd same
 same_effect (Load job script) (Load other again) same content =
     let store = store_of content.model content.stored in
     ap (λ rows. ended_effect (ran_of (load (arc_value script) job.params rows store [])) (writes_of (load (arc_value script) job.params rows store []))) same.records

@@ -9,7 +9,7 @@
 pub use area_cells::AreaCells;
 pub use earlier::is_earlier;
 pub use known::Known;
-pub use most::{count, element_at, most_excess};
+pub use most::{count, element_at, has_total, most_excess};
 pub use number::{is_below, is_within};
 pub use reads::Read;
 pub use scale::{MAX_POSITIONS, axis, axis_count};

@@ -1,9 +1,10 @@
-ghost use Rattle.std.specs.Prelude.{◌≡◌, ◌+◌, ◌*◌, ◌<◌, ◌≤◌, ◌^◌, length, None, unsigned_abs, IfSome, slice_index_or};
+ghost use Rattle.std.specs.Prelude.{◌≡◌, ◌+◌, ◌*◌, ◌<◌, ◌≤◌, ◌^◌, length, None, unsigned_abs, IfSome, is_some};
+ghost use Rattle.std.specs.Prelude.{slice_index_or};
 ghost use Rattle.cube_space.specs.Layout.{axes, sizes, most_dimensions};
 ghost use Rattle.rule_model.specs.declared.area.Area.{Area as AnyArea};
 ghost use Rattle.rule_model.specs.Conditions.{IsPrecedent};
 ghost use Rattle.order_laws.specs.Greatest.{greatest_sum, greatest_passing_sum, only};
-ghost use Rattle.order_laws.specs.Earlier.{excess, most_excess, set_count, set_element};
+ghost use Rattle.order_laws.specs.Earlier.{excess, greatest_by, is_total, most_excess, set_count, set_element};
 ghost use Rattle.ref_order.specs.Areas.{IsAreaCells, numbers_of};
 ghost use Rattle.ref_order.specs.Known.{AreReads, AreRight, IsKnown, answer_of};
 ghost use Rattle.ref_order.specs.Reads.{precedent_of, test_of};
@@ -126,6 +127,26 @@ fn greatest_by<'a>(cells: AreaCells, known: &mut Known<'a>, asked: Question<'a>)
         None => answer(cells, &mut known.whole, asked),
         Some(_) => answer(cells, &mut known.listed, asked),
     }
+}
+
+/// Whether cells of an area from which something is read may have a consolidated element in a dimension, as far as the
+/// elements of that dimension say.
+pub fn has_total<'a>(cells: AreaCells, known: &mut Known<'a>, read: Read<'a>, dim: usize) -> bool
+    requires cells { IsAreaCells cells }
+    requires known { IsKnown cells.model.now cells.cube cells.area.now known.old }
+    requires read { IsPrecedent cells.model.now.space cells.cube (precedent_of read) }
+    requires dim { dim < length (axes cells.model.now.space cells.cube) }
+    ensures total { result ≡ is_some (greatest_by cells.entry.model.now cells.entry.cube cells.entry.area.now 0
+        (precedent_of read.entry) (is_total (axes cells.entry.model.now.space cells.entry.cube)) dim) }
+    ensures known { IsKnown cells.entry.model.now cells.entry.cube cells.entry.area.now known.new }
+{
+    let asked = Question {
+        read,
+        place: 0,
+        dim,
+        which: Which::Totals,
+    };
+    greatest_by(cells, known, asked).is_some()
 }
 
 // The greatest sum of such numbers over the dimensions from this one on.

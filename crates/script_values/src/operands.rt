@@ -1,7 +1,7 @@
 ghost use Rattle.std.specs.Prelude.{◌≡◌, ◌&&◌, ◌||◌, not, IfOk};
 ghost use Rattle.cube_fixed.specs.Text.{printed};
 ghost use Rattle.dim_name.specs.Name.{is_same_name};
-ghost use Rattle.rule_laws.specs.Operation.{function_of};
+ghost use Rattle.rule_laws.specs.Operation.{function_of, operation_of, comparison_of};
 ghost use Rattle.script_values.specs.declared.datum.Datum.TheVariants as data_of;
 ghost use Rattle.script_values.specs.Values as values;
 
@@ -10,7 +10,7 @@ use crate::load_reason::LoadReason;
 use crate::same_name::is_same_name;
 use crate::text::Text;
 use crate::wanted::{amount_in, as_amount, as_text, as_truth};
-use cube_fixed::print;
+use cube_fixed::{Value, print};
 use rule_laws::{Fun, Op, Rel};
 use std::alloc::{AllocError, Global};
 
@@ -24,30 +24,24 @@ pub(crate) fn function<'a>(
     Ok(Datum::Number(function.apply(value)))
 }
 
-#[tactic(auto, unfolding(crate::specs::Values::operated))]
 pub(crate) fn operation<'a>(
     op: Op,
-    left: Result<Datum<'a>, LoadReason>,
-    right: Result<Datum<'a>, LoadReason>,
+    left: Result<Value, LoadReason>,
+    right: Result<Value, LoadReason>,
 ) -> Result<Datum<'a>, LoadReason>
-    ensures { result ≡ values.operated op left.entry right.entry }
+    ensures { result ≡ values.one_and_other (λ a b. data_of.Number (operation_of op a b)) left right }
 {
-    let left = as_amount(left)?;
-    let right = as_amount(right)?;
-    Ok(Datum::Number(op.apply(left, right)))
+    Ok(Datum::Number(op.apply(left?, right?)))
 }
 
-#[tactic(auto, unfolding(crate::specs::Values::compared))]
 pub(crate) fn comparison<'a>(
     rel: Rel,
-    left: Result<Datum<'a>, LoadReason>,
-    right: Result<Datum<'a>, LoadReason>,
+    left: Result<Value, LoadReason>,
+    right: Result<Value, LoadReason>,
 ) -> Result<Datum<'a>, LoadReason>
-    ensures { result ≡ values.compared rel left.entry right.entry }
+    ensures { result ≡ values.one_and_other (λ a b. data_of.Truth (comparison_of rel a b)) left right }
 {
-    let left = as_amount(left)?;
-    let right = as_amount(right)?;
-    Ok(Datum::Truth(rel.holds(left, right)))
+    Ok(Datum::Truth(rel.holds(left?, right?)))
 }
 
 pub(crate) fn number_in<'a>(given: Result<Datum<'a>, LoadReason>) -> Result<Datum<'a>, LoadReason>

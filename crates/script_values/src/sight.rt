@@ -1,11 +1,13 @@
 ghost use Rattle.std.specs.Prelude.{◌≡◌, slice_get};
 ghost use Rattle.std.specs.Option.{option_map};
-ghost use Rattle.script_values.specs.Values.{held, column, filled};
+ghost use Rattle.script_values.specs.Values.{amount, held, column, filled, text};
 
 use crate::datum::Datum;
 use crate::kept::Kept;
 use crate::load_reason::LoadReason;
 use crate::text::Text;
+use crate::wanted::amount_in;
+use cube_fixed::Value;
 use sqlite_items::at;
 use std::marker::Model;
 use user_text::Record;
@@ -41,6 +43,17 @@ fn held<'a>(variables: &'a [Option<Kept>], place: usize) -> Result<Datum<'a>, Lo
     }
 }
 
+/// What a variable gives as a number.
+fn held_amount(variables: &[Option<Kept>], place: usize) -> Result<Value, LoadReason>
+    ensures { result ≡ amount (held (slice_get variables.now place)) }
+{
+    match at(variables, place) {
+        Some(Some(Kept::Number(value))) => Ok(*value),
+        Some(Some(Kept::Text(bytes))) => amount_in(bytes.as_slice()),
+        _ => Err(LoadReason::UnsetVariable),
+    }
+}
+
 /// The column of a record, which is empty past the record's end.
 fn filled<'a>(columns: &'a Record<'a>, place: usize) -> Text<'a>
     ensures { result ≡ filled (slice_get columns.now place) }
@@ -66,12 +79,29 @@ impl<'a> Sight<'a> {
         held(self.variables, place)
     }
 
+    /// What a variable gives as a number.
+    pub(crate) fn amount(&self, place: usize) -> Result<Value, LoadReason>
+        ensures { result ≡ amount (held (slice_get self.now.variables place)) }
+    {
+        held_amount(self.variables, place)
+    }
+
     /// What a column gives.
     pub(crate) fn column(&self, place: usize) -> Result<Datum<'a>, LoadReason>
         ensures { result ≡ column place self.now.columns }
     {
         match self.columns {
             Some(columns) => Ok(Datum::Text(filled(columns, place))),
+            None => Err(LoadReason::UnsetVariable),
+        }
+    }
+
+    /// What a column gives as a text.
+    pub(crate) fn text(&self, place: usize) -> Result<Text<'a>, LoadReason>
+        ensures { result ≡ text (column place self.now.columns) }
+    {
+        match self.columns {
+            Some(columns) => Ok(filled(columns, place)),
             None => Err(LoadReason::UnsetVariable),
         }
     }

@@ -1,6 +1,6 @@
 ghost use Rattle.std.specs.Prelude.{◌≡◌, ◌&&◌, ◌||◌, map, IfOk};
 ghost use Rattle.script_values.specs.Values as values;
-ghost use Rattle.script_values.specs.Values.{value_of, cell_value, each_text, done, taken};
+ghost use Rattle.script_values.specs.Values.{value_of, cell_value, each_text, done, taken, amount, operated, compared};
 ghost use Rattle.script_values.specs.declared.datum.Datum.TheVariants as data_of;
 
 use crate::cells::WorkCells;
@@ -12,9 +12,10 @@ use crate::operands::{
 };
 use crate::sight::Sight;
 use crate::text::Text;
-use crate::wanted::as_text;
+use crate::wanted::{as_amount, as_text};
 use cube_fixed::Value;
 use lists::ListOf;
+use rule_laws::{Op, Rel};
 use script_bound::Term;
 use std::alloc::{AllocError, Global};
 
@@ -59,12 +60,10 @@ pub fn value_of<'a, C: WorkCells>(
         Term::Get(names) => value_in_cell(alloc, names.as_slice(), sight, cells),
         Term::Amount(fun, inner) => Ok(function(*fun, value_of(alloc, inner.get(), sight, cells)?)),
         Term::Amounts(op, left, right) => {
-            let (left, right) = two_values(alloc, left.get(), right.get(), sight, cells)?;
-            Ok(operation(*op, left, right))
+            operated(alloc, *op, left.get(), right.get(), sight, cells)
         }
         Term::Compare(rel, left, right) => {
-            let (left, right) = two_values(alloc, left.get(), right.get(), sight, cells)?;
-            Ok(comparison(*rel, left, right))
+            compared(alloc, *rel, left.get(), right.get(), sight, cells)
         }
         Term::ToNumber(inner) => Ok(number_in(value_of(alloc, inner.get(), sight, cells)?)),
         Term::ToText(inner) => text_of(alloc, value_of(alloc, inner.get(), sight, cells)?),
@@ -90,6 +89,92 @@ pub fn value_of<'a, C: WorkCells>(
         }
         Term::Not(inner) => Ok(opposite(value_of(alloc, inner.get(), sight, cells)?)),
     }
+}
+
+/// What an expression gives as a number. One that is a number, a variable or a column isn't made a datum first.
+#[cycle(values)]
+fn amount_of<'a, C: WorkCells>(
+    alloc: Global,
+    term: &'a Term,
+    sight: &Sight<'a>,
+    cells: &mut C,
+) -> Result<Result<Value, LoadReason>, AllocError>
+    ensures value { IfOk result (λ answer. answer
+        ≡ amount (value_of term.now sight.now (C.store cells.old) (C.writes cells.old))) }
+    ensures store { C.store cells.new ≡ C.store cells.old }
+    ensures writes { C.writes cells.new ≡ C.writes cells.old }
+{
+    match term {
+        Term::Number(number) => Ok(Ok(Value::Num(*number))),
+        Term::Variable(place) => Ok(sight.amount(*place)),
+        Term::Column(place) => Ok(as_amount(sight.column(*place))),
+        _ => Ok(as_amount(value_of(alloc, term, sight, cells)?)),
+    }
+}
+
+/// What an expression gives as a text. A text or a column isn't made a datum first.
+#[cycle(values)]
+fn text_at<'a, C: WorkCells>(
+    alloc: Global,
+    term: &'a Term,
+    sight: &Sight<'a>,
+    cells: &mut C,
+) -> Result<Result<Text<'a>, LoadReason>, AllocError>
+    ensures value { IfOk result (λ answer. answer
+        ≡ values.text (value_of term.now sight.now (C.store cells.old) (C.writes cells.old))) }
+    ensures store { C.store cells.new ≡ C.store cells.old }
+    ensures writes { C.writes cells.new ≡ C.writes cells.old }
+{
+    match term {
+        Term::Text(bytes) => Ok(Ok(Text::borrowed(bytes.as_slice()))),
+        Term::Column(place) => Ok(sight.text(*place)),
+        _ => Ok(as_text(value_of(alloc, term, sight, cells)?)),
+    }
+}
+
+/// What an operation on two expressions gives, the left one first. The right one is evaluated whatever the left one
+/// gives.
+#[cycle(values)]
+#[tactic(auto, unfolding(crate::specs::Values::operated))]
+fn operated<'a, C: WorkCells>(
+    alloc: Global,
+    op: Op,
+    left: &'a Term,
+    right: &'a Term,
+    sight: &Sight<'a>,
+    cells: &mut C,
+) -> Result<Result<Datum<'a>, LoadReason>, AllocError>
+    ensures value { IfOk result (λ answer. answer
+        ≡ operated op (value_of left.now sight.now (C.store cells.old) (C.writes cells.old))
+        (value_of right.now sight.now (C.store cells.old) (C.writes cells.old))) }
+    ensures store { C.store cells.new ≡ C.store cells.old }
+    ensures writes { C.writes cells.new ≡ C.writes cells.old }
+{
+    let left = amount_of(alloc, left, sight, cells)?;
+    let right = amount_of(alloc, right, sight, cells)?;
+    Ok(operation(op, left, right))
+}
+
+/// What a comparison of two expressions gives, in the same order.
+#[cycle(values)]
+#[tactic(auto, unfolding(crate::specs::Values::compared))]
+fn compared<'a, C: WorkCells>(
+    alloc: Global,
+    rel: Rel,
+    left: &'a Term,
+    right: &'a Term,
+    sight: &Sight<'a>,
+    cells: &mut C,
+) -> Result<Result<Datum<'a>, LoadReason>, AllocError>
+    ensures value { IfOk result (λ answer. answer
+        ≡ compared rel (value_of left.now sight.now (C.store cells.old) (C.writes cells.old))
+        (value_of right.now sight.now (C.store cells.old) (C.writes cells.old))) }
+    ensures store { C.store cells.new ≡ C.store cells.old }
+    ensures writes { C.writes cells.new ≡ C.writes cells.old }
+{
+    let left = amount_of(alloc, left, sight, cells)?;
+    let right = amount_of(alloc, right, sight, cells)?;
+    Ok(comparison(rel, left, right))
 }
 
 /// What two expressions give, the left one first. The right one is evaluated whatever the left one gives.
@@ -151,7 +236,7 @@ pub fn texts_of<'a, C: WorkCells>(
 {
     let mut texts = Vec::with_capacity(alloc, terms.len())?;
     'each: for term in terms {
-        match as_text(value_of(alloc, term, sight, cells)?) {
+        match text_at(alloc, term, sight, cells)? {
             Ok(text) => texts.push(text)?,
             Err(reason) => return Ok(Err(reason)),
         }

@@ -6,6 +6,9 @@ use Rattle.cell_reader.specs.FedCount.{fed_count}
 use Rattle.cell_reader.specs.Limits.{IsWithinLimits}
 use Rattle.cell_reader.specs.WritePermission.{why_closed}
 use Rattle.cell_reader.specs.declared.write_permission.Closed.{Closed}
+use Rattle.cell_spread.specs.Spread.{refusal_of, writes_of as shares_of}
+use Rattle.cell_spread.specs.declared.fault.SpreadFault.{SpreadFault}
+use Rattle.cell_spread.specs.declared.writes.How.{How}
 use Rattle.cell_store.specs.declared.entry.Entry.{Entry}
 use Rattle.cell_store.specs.Entries.{after_writes}
 use Rattle.cell_store.specs.StoreLimit.{most_cells}
@@ -14,6 +17,7 @@ use Rattle.cube_space.specs.Cells.{IsCell, is_leaf_cell}
 use Rattle.feed_map.specs.FedCells.{most_fed}
 use Rattle.load_cells.specs.Loads.{store_of}
 use Rattle.user_text.specs.Jobs.{rows_in}
+use Rattle.user_text.specs.declared.command.SpreadWord.{SpreadWord}
 use Rattle.user_text.specs.declared.load_job.LoadJob.{LoadJob}
 use Rattle.history.specs.declared.effect.Effect.TheVariants.{Commit}
 use Rattle.rule_model.specs.BoundModel.{BoundModel}
@@ -25,12 +29,13 @@ use Rattle.script_bound.specs.declared.script.BoundScript.{BoundScript}
 use Rattle.std.specs.Arc.{arc_value}
 use Rattle.user_session.specs.declared.content.Content.{Content}
 use Rattle.user_session.specs.declared.command.PlanCommand.{PlanCommand}
-use Rattle.user_session.specs.declared.command.PlanCommand.TheVariants.{Put, Get, Load, View}
-use Rattle.user_session.specs.Planning.{committed, effect, ended_effect, get_effect, load_effect, named_cell, put_effect, rejected, table_effect, unless_closed, within_limits, write_effect}
+use Rattle.user_session.specs.declared.command.PlanCommand.TheVariants.{Put, Get, Load, View, Spread}
+use Rattle.user_session.specs.Planning.{committed, effect, ended_effect, get_effect, how_of, load_effect, named_cell, put_effect, rejected, spread_effect, table_effect, unless_closed, unless_fault, within_limits, write_effect}
 use Rattle.view_query.specs.Binding.{bound}
 use Rattle.view_query.specs.declared.fault.ViewFault.{ViewFault}
 use Rattle.view_query.specs.declared.shape.View as views
 use Rattle.user_session.proofs.Kept.{open-leaf, write-kept}
+use Rattle.user_session.proofs.Shares.{shares-leaves}
 use Rattle.user_session.proofs.Within.{AreWithin, before-writes, last-within, named-cell}
 use Rattle.user_session.specs.declared.reply.CommandReason.TheVariants.{StoreLimit, FedLimit}
 use Rattle.std.proofs.lemmas.Bool.{ltb-false as at_most}
@@ -54,7 +59,7 @@ put-within : (content : Content) (named : Option ℕ) (number : ℤ) (writes : L
 put-within content None number writes reply cell is = absurd (cc)
 put-within content (Some c) number writes reply cell is = by (why_closed content.model c) refl is
   where
-    by : (why : Option Closed) → why_closed content.model c ≡ why → unless_closed why (write_effect content c number) ≡ Commit writes reply
+    by : (why : Option Closed) → why_closed content.model c ≡ why → unless_closed why (write_effect content ((c, number) ∷ [])) ≡ Commit writes reply
         → AreWithin content writes
     by (Some why) shut is = absurd (cc)
     by None opens is =
@@ -63,6 +68,22 @@ put-within content (Some c) number writes reply cell is = by (why_closed content
           leaves = All-cons (λ write. IsCell content.model.space write.0 × (is_leaf_cell content.model.space write.0 ≡ true)) (c, number) [] (cell c refl, open-leaf content.model c opens) (All-nil (λ write. IsCell content.model.space write.0 × (is_leaf_cell content.model.space write.0 ≡ true)));
           within = λ before. parts.1;
         })
+
+-- ---- an accepted SPREAD
+
+shares-within : (content : Content) (c : ℕ) (amount : ℤ) (how : How) (why : Option SpreadFault) (writes : List (ℕ × ℤ)) (reply : List ℕ)
+    → unless_fault why (write_effect content (shares_of content.model.space content.stored c amount how)) ≡ Commit writes reply → AreWithin content writes
+shares-within content c amount how (Some why) writes reply is = absurd (cc)
+shares-within content c amount how None writes reply is =
+    let shares = shares_of content.model.space content.stored c amount how in
+    let parts = limited content.model (after_writes content.stored shares) shares writes reply is in
+    subst (AreWithin content) parts.0 (record { leaves = shares-leaves content.model.space content.stored c amount how; within = λ before. parts.1 })
+
+spread-within : (content : Content) (named : Option ℕ) (amount : ℤ) (how : SpreadWord) (writes : List (ℕ × ℤ)) (reply : List ℕ) → spread_effect content named amount how ≡ Commit writes reply
+    → AreWithin content writes
+spread-within content None amount how writes reply is = absurd (cc)
+spread-within content (Some c) amount how writes reply is =
+    shares-within content c amount (how_of how) (refusal_of content.model content.stored c amount (how_of how)) writes reply is
 
 -- ---- an accepted LOAD
 
@@ -98,3 +119,4 @@ accepted-within content (Put text number) writes reply is =
 accepted-within content (Get text) writes reply is = get-never content (named_cell content.model text) writes reply is
 accepted-within content (Load job script) writes reply is = load-within content job (arc_value script) writes reply is
 accepted-within content (View text) writes reply is = view-never content (bound content.model.space text) writes reply is
+accepted-within content (Spread text amount how) writes reply is = spread-within content (named_cell content.model text) amount how writes reply is

@@ -4,3 +4,4 @@ pub mod Kept
 pub mod Accepted
 pub mod Loads
 pub mod Told
+pub mod Shares

@@ -9,6 +9,10 @@ use Rattle.cell_reader.specs.FedCount.{fed_count}
 use Rattle.cell_reader.specs.WritePermission.{why_closed}
 use Rattle.cell_reader.specs.declared.write_permission.Closed.{Closed}
 use Rattle.cell_reader.specs.declared.write_permission.Closed.TheVariants as closed
+use Rattle.cell_spread.specs.Spread.{refusal_of, writes_of as shares_of}
+use Rattle.cell_spread.specs.declared.fault.SpreadFault.{SpreadFault}
+use Rattle.cell_spread.specs.declared.writes.How.{How}
+use Rattle.cell_spread.specs.declared.writes.How.TheVariants as ways
 use Rattle.cell_store.specs.declared.entry.Entry.{Entry}
 use Rattle.cell_store.specs.Entries.{after_writes}
 use Rattle.cell_store.specs.StoreLimit.{most_cells}
@@ -30,15 +34,17 @@ use Rattle.script_run.specs.declared.ran.Ran.TheVariants.{Done, Rejected as Stop
 use Rattle.script_bound.specs.declared.script.BoundScript.{BoundScript}
 use Rattle.stored_laws.specs.Stored.{stored_in}
 use Rattle.user_session.specs.declared.content.Content.{Content}
-use Rattle.user_session.specs.Replies.{fault_text, reply_text}
+use Rattle.user_session.specs.Replies.{fault_text, reply_text, spread_fault_text}
 use Rattle.user_session.specs.RejectedLoad.{stopped_text}
 use Rattle.user_session.specs.declared.command.PlanCommand.{PlanCommand}
-use Rattle.user_session.specs.declared.command.PlanCommand.TheVariants.{Put, Get, Load, View}
+use Rattle.user_session.specs.declared.command.PlanCommand.TheVariants.{Put, Get, Load, View, Spread}
 use Rattle.user_session.specs.declared.reply.CommandReason.{CommandReason}
 use Rattle.user_session.specs.declared.reply.CommandReason.TheVariants.{UnknownName, NotALeaf, RuleDerived}
 use Rattle.user_session.specs.declared.reply.CommandReason.TheVariants.{StoreLimit, FedLimit}
 use Rattle.user_session.specs.declared.reply.Reply.TheVariants.{Committed, Rejected, Found, Refused}
 use Rattle.user_text.specs.declared.command.CellText.{CellText}
+use Rattle.user_text.specs.declared.command.SpreadWord.{SpreadWord}
+use Rattle.user_text.specs.declared.command.SpreadWord.TheVariants as words
 use Rattle.user_text.specs.declared.command.ViewText.{ViewText}
 use Rattle.view_query.specs.Binding.{bound}
 use Rattle.view_query.specs.Table.{table_text}
@@ -74,10 +80,9 @@ within_limits model stored writes =
     else if nat_lt most_fed (fed_count model stored) then rejected FedLimit
     else committed writes
 
--- one write of this number, into a leaf cell that takes numbers
-abbrev pub write_effect : Content → ℕ → ℤ → PlanEffect
-write_effect content cell number =
-    within_limits content.model (after_writes content.stored ((cell, number) ∷ [])) ((cell, number) ∷ [])
+-- these writes, into leaf cells that take numbers
+abbrev pub write_effect : Content → List (ℕ × ℤ) → PlanEffect
+write_effect content writes = within_limits content.model (after_writes content.stored writes) writes
 
 -- why a command that writes into a closed cell is rejected
 abbrev pub reason_of : Closed → CommandReason
@@ -93,7 +98,7 @@ unless_closed (Some why) written = rejected (reason_of why)
 abbrev pub put_effect : Content → Option ℕ → ℤ → PlanEffect
 put_effect content None number = rejected UnknownName
 put_effect content (Some cell) number =
-    unless_closed (why_closed content.model cell) (write_effect content cell number)
+    unless_closed (why_closed content.model cell) (write_effect content ((cell, number) ∷ []))
 
 -- a question for the value of a cell
 abbrev pub get_effect : Content → Option ℕ → PlanEffect
@@ -120,9 +125,28 @@ table_effect content (Err fault) = effects.Read (codes "refused " ++ fault_text 
 abbrev pub view_effect : Content → ViewText → PlanEffect
 view_effect content text = table_effect content (bound content.model.space text)
 
+-- what each leaf cell below gets, by the word of the command
+abbrev pub how_of : SpreadWord → How
+how_of words.Equal = ways.Equal
+how_of words.Proportional = ways.Proportional
+
+-- what comes of the shares of an amount, unless it can't be spread
+abbrev pub unless_fault : Option SpreadFault → PlanEffect → PlanEffect
+unless_fault None written = written
+unless_fault (Some fault) written = effects.Rejected (codes "rejected " ++ spread_fault_text fault)
+
+-- an amount that is spread over the leaf cells below a cell: the first reason that holds against it, or the write of
+-- each share
+abbrev pub spread_effect : Content → Option ℕ → ℤ → SpreadWord → PlanEffect
+spread_effect content None amount how = rejected UnknownName
+spread_effect content (Some cell) amount how =
+    unless_fault (refusal_of content.model content.stored cell amount (how_of how))
+    (write_effect content (shares_of content.model.space content.stored cell amount (how_of how)))
+
 -- what a command does on this content
 abbrev pub effect : Content → PlanCommand → PlanEffect
 effect content (Put text number) = put_effect content (named_cell content.model text) number
 effect content (Get text) = get_effect content (named_cell content.model text)
 effect content (Load job script) = load_effect content job (arc_value script)
 effect content (View text) = view_effect content text
+effect content (Spread text amount how) = spread_effect content (named_cell content.model text) amount how

@@ -1,5 +1,7 @@
 -- The replies to users, as text.
 use Rattle.std.specs.Prelude.{ℕ, List, [], ◌++◌, codes, decimal}
+use Rattle.cell_spread.specs.declared.fault.SpreadFault.{SpreadFault}
+use Rattle.cell_spread.specs.declared.fault.SpreadFault.TheVariants as spreads
 use Rattle.cube_fixed.specs.Text.{printed}
 use Rattle.user_session.specs.declared.reply.CommandReason.{CommandReason}
 use Rattle.user_session.specs.declared.reply.CommandReason.TheVariants.{UnknownName, NotALeaf, RuleDerived}
@@ -23,6 +25,16 @@ fault_text faults.UnknownName = codes "UnknownName"
 fault_text faults.WrongCount = codes "WrongCount"
 fault_text (faults.ViewLimit count) = codes "ViewLimit"
 fault_text faults.Memory = []
+
+-- the name of why an amount isn't spread; out of memory is no such cause
+abbrev pub spread_fault_text : SpreadFault → List ℕ
+spread_fault_text spreads.IsALeaf = codes "IsALeaf"
+spread_fault_text (spreads.SpreadLimit count) = codes "SpreadLimit"
+spread_fault_text spreads.Weighted = codes "Weighted"
+spread_fault_text spreads.RuleDerived = codes "RuleDerived"
+spread_fault_text spreads.NothingThere = codes "NothingThere"
+spread_fault_text spreads.OverWrite = codes "OverWrite"
+spread_fault_text spreads.Memory = []
 
 -- `committed N`, `rejected REASON`, the value, or `refused REASON`
 abbrev pub reply_text : Reply → List ℕ

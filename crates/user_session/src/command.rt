@@ -2,7 +2,7 @@ use cube_fixed::Money;
 use script_bound::BoundScript;
 use std::alloc::Global;
 use std::sync::Arc;
-use user_text::{CellText, LoadJob, ViewText};
+use user_text::{CellText, LoadJob, SpreadWord, ViewText};
 
 /// A command that is run on a version of the numbers.
 #[derive(Drop)]
@@ -16,4 +16,6 @@ pub enum PlanCommand {
     Load(LoadJob, Arc<BoundScript, Global>),
     /// Asks for a table of cells.
     View(ViewText),
+    /// Spreads an amount over the leaf cells below a cell, and stores their shares.
+    Spread(CellText, Money, SpreadWord),
 }

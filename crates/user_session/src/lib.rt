@@ -12,8 +12,10 @@ mod get_command;
 mod load_command;
 mod put_command;
 mod reply;
+mod spread_command;
 mod view_command;
 mod world;
+mod writes;
 
 pub use command::PlanCommand;
 pub use content::Content;

@@ -3,8 +3,8 @@ ghost use Rattle.user_session.specs.Content.{content_of};
 ghost use Rattle.user_session.specs.Planning.{load_effect};
 ghost use Rattle.user_session.specs.RejectedLoad.{cause_text, section_text, stopped_text};
 
-use crate::put_command::committed;
 use crate::world::PlanEffect;
+use crate::writes::committed;
 use cell_reader::{Snapshot, Work};
 use history::Effect;
 use lists::ListOf;

@@ -1,15 +1,12 @@
-ghost use Rattle.std.specs.Prelude.{◌≡◌, true, IfOk};
-ghost use Rattle.cube_space.specs.Cells.{IsCell, is_leaf_cell};
+ghost use Rattle.std.specs.Prelude.{◌≡◌, IfOk};
 ghost use Rattle.user_session.specs.Content.{content_of};
-ghost use Rattle.user_session.specs.Planning.{committed, named_cell, put_effect, reason_of, rejected};
-ghost use Rattle.user_session.specs.Planning.{write_effect};
+ghost use Rattle.user_session.specs.Planning.{named_cell, put_effect, reason_of};
 
-use crate::reply::{CommandReason, Reply};
+use crate::reply::CommandReason;
 use crate::world::PlanEffect;
-use cell_reader::{Closed, NextFault, Snapshot, why_closed};
+use crate::writes::{rejected, written};
+use cell_reader::{Closed, Snapshot, why_closed};
 use cube_fixed::Money;
-use history::Effect;
-use lists::ListOf;
 use rule_model::cell_of;
 use std::alloc::{AllocError, Global};
 use user_text::CellText;
@@ -30,7 +27,10 @@ pub(crate) fn put(
     };
     match why_closed(model, cell) {
         Some(closed) => rejected(alloc, reason_of(closed)),
-        None => write(alloc, state, cell, number),
+        None => {
+            let writes = vec![in alloc; (cell, number)]?;
+            written(alloc, state, writes)
+        }
     }
 }
 
@@ -42,41 +42,4 @@ fn reason_of(closed: Closed) -> CommandReason
         Closed::NotALeaf => CommandReason::NotALeaf,
         Closed::RuleDerived => CommandReason::RuleDerived,
     }
-}
-
-// The effect of one write into a leaf cell that takes numbers.
-fn write(
-    alloc: Global,
-    state: &Snapshot,
-    cell: u64,
-    number: Money,
-) -> Result<PlanEffect, AllocError>
-    requires cell { IsCell (content_of state.now).model.space cell }
-    requires leaf { is_leaf_cell (content_of state.now).model.space cell ≡ true }
-    ensures { IfOk result (λ found. found ≡ write_effect (content_of state.now) cell number) }
-{
-    match state.check_limits(alloc, cell, number) {
-        Ok(()) => {
-            let writes = vec![in alloc; (cell, number)]?;
-            committed(alloc, writes)
-        }
-        Err(NextFault::StoreLimit(_)) => rejected(alloc, CommandReason::StoreLimit),
-        Err(NextFault::FedLimit(_)) => rejected(alloc, CommandReason::FedLimit),
-        Err(NextFault::Memory) => Err(AllocError),
-    }
-}
-
-fn rejected(alloc: Global, reason: CommandReason) -> Result<PlanEffect, AllocError>
-    ensures { IfOk result (λ found. found ≡ rejected reason) }
-{
-    let reply = Reply::Rejected(reason).text(alloc)?;
-    Ok(Effect::Rejected(reply))
-}
-
-/// The effect of a command that is accepted with these writes.
-pub(crate) fn committed(alloc: Global, writes: Vec<(u64, Money)>) -> Result<PlanEffect, AllocError>
-    ensures { IfOk result (λ found. found ≡ committed writes.items) }
-{
-    let reply = Reply::Committed(writes.len() as u64).text(alloc)?;
-    Ok(Effect::Commit(ListOf::new(writes), reply))
 }

@@ -1,6 +1,7 @@
 ghost use Rattle.std.specs.Prelude.{◌≡◌, ◌≢◌, ◌++◌, codes, IfOk};
-ghost use Rattle.user_session.specs.Replies.{fault_text, reason_text, reply_text};
+ghost use Rattle.user_session.specs.Replies.{fault_text, reason_text, reply_text, spread_fault_text};
 
+use cell_spread::SpreadFault;
 use cube_fixed::{Value, print};
 use lists::ListOf;
 use std::alloc::{AllocError, Global};
@@ -63,6 +64,24 @@ pub(crate) fn refused_view(alloc: Global, fault: ViewFault) -> Result<ReplyText,
         ViewFault::Memory => return Err(AllocError),
     };
     let text = with_name(alloc, b"refused ", name.as_bytes())?;
+    Ok(ListOf::new(text))
+}
+
+/// `rejected` and the name of why an amount isn't spread.
+pub(crate) fn rejected_spread(alloc: Global, fault: SpreadFault) -> Result<ReplyText, AllocError>
+    ensures { IfOk result (λ text.
+        (text ≡ codes "rejected " ++ spread_fault_text fault) × (fault ≢ SpreadFault.Memory)) }
+{
+    let name = match fault {
+        SpreadFault::IsALeaf => "IsALeaf",
+        SpreadFault::SpreadLimit(_) => "SpreadLimit",
+        SpreadFault::Weighted => "Weighted",
+        SpreadFault::RuleDerived => "RuleDerived",
+        SpreadFault::NothingThere => "NothingThere",
+        SpreadFault::OverWrite => "OverWrite",
+        SpreadFault::Memory => return Err(AllocError),
+    };
+    let text = with_name(alloc, b"rejected ", name.as_bytes())?;
     Ok(ListOf::new(text))
 }
 

@@ -4,6 +4,7 @@ use crate::get_command::get;
 use crate::load_command::load;
 use crate::put_command::put;
 use crate::reply::ReplyText;
+use crate::spread_command::spread;
 use crate::view_command::view;
 use cell_reader::Snapshot;
 use cube_fixed::{Money, Value};
@@ -59,6 +60,7 @@ impl World for PlanWorld {
             PlanCommand::Get(cell) => get(alloc, state, cell),
             PlanCommand::Load(job, script) => load(alloc, state, job, script),
             PlanCommand::View(text) => view(alloc, state, text),
+            PlanCommand::Spread(cell, amount, how) => spread(alloc, state, cell, *amount, *how),
         }
     }
 

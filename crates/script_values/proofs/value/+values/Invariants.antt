@@ -13,13 +13,25 @@ invariant-texts_of-each g l =
 
 -- a call that goes no deeper ranks below its caller
 abbrev pub decreases-value_of : goal.decreases-value_of
-decreases-value_of g l = 3 * goal.size-value_of g l
+decreases-value_of g l = 4 * goal.size-value_of g l
 
 abbrev pub decreases-two_values : goal.decreases-two_values
-decreases-two_values g l = 3 * max (the_size l.left.now) (the_size l.right.now) + 1
+decreases-two_values g l = 4 * max (the_size l.left.now) (the_size l.right.now) + 1
 
 abbrev pub decreases-texts_of : goal.decreases-texts_of
-decreases-texts_of g l = 3 * goal.size-texts_of g l + 1
+decreases-texts_of g l = 4 * goal.size-texts_of g l + 2
 
 abbrev pub decreases-value_in_cell : goal.decreases-value_in_cell
-decreases-value_in_cell g l = 3 * goal.size-value_in_cell g l + 2
+decreases-value_in_cell g l = 4 * goal.size-value_in_cell g l + 3
+
+abbrev pub decreases-amount_of : goal.decreases-amount_of
+decreases-amount_of g l = 4 * goal.size-amount_of g l + 1
+
+abbrev pub decreases-text_at : goal.decreases-text_at
+decreases-text_at g l = 4 * goal.size-text_at g l + 1
+
+abbrev pub decreases-operated : goal.decreases-operated
+decreases-operated g l = 4 * max (the_size l.left.now) (the_size l.right.now) + 2
+
+abbrev pub decreases-compared : goal.decreases-compared
+decreases-compared g l = 4 * max (the_size l.left.now) (the_size l.right.now) + 2

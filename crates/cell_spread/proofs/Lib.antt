@@ -1,0 +1,10 @@
+pub mod Answering
+pub mod Areas
+pub mod Counting
+pub mod Counts
+pub mod Governed
+pub mod Ratios
+pub mod Rounding
+pub mod Values
+pub mod Walks
+pub mod Written
