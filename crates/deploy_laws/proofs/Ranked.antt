@@ -13,11 +13,13 @@ use Rattle.rule_laws.specs.declared.formula.Formula.{Formula}
 use Rattle.rule_laws.specs.Meaning.{Precedent, precedents}
 use Rattle.rule_laws.specs.RuleSystem.{part_of}
 use Rattle.rule_model.specs.declared.order.Order.{Order}
+use Rattle.rule_model.specs.declared.order.Position.TheVariants.{Ranks}
 use Rattle.rule_model.specs.declared.rules.Statement.{Statement}
 use Rattle.rule_model.specs.BoundModel.{BoundModel, rules_of}
+use Rattle.rule_model.specs.Order.{position_of}
 use Rattle.rule_model.specs.System.{cubes_of, rule_of}
 use Rattle.arrow_laws.specs.Nodes.{Node, last_of, ranks_in, rank_of}
-use Rattle.arrow_laws.specs.Arrows.{IsArrow, IsLevel, FitArrows, IsLevelThroughout}
+use Rattle.arrow_laws.specs.Arrows.{IsArrow, IsLevel, Reads, FitArrows, IsLevelThroughout}
 use Rattle.arrow_laws.specs.Ranked.{AreNodeRanks, order_by, with_orders}
 use Rattle.arrow_laws.proofs.Made.{last-there}
 use Rattle.order_find.specs.Numbers.{width}
@@ -32,6 +34,8 @@ use Rattle.order_find.specs.declared.link.LinkBy.TheVariants.{Reference, Below}
 use Rattle.check_order.proofs.Counted.{counted-hold}
 use Rattle.model_deploy.specs.Files.{RuleFile}
 use Rattle.model_deploy.specs.declared.fault.DeployFault.{DeployFault}
+use Rattle.model_deploy.specs.declared.fault.DeployCause.TheVariants as causes
+use Rattle.model_deploy.specs.Rules.{refused_at}
 use Rattle.model_deploy.specs.Deployment.{link_name, circle_refusal, cycle_refusal, find_refusal, IsRanked, find_stage}
 use Rattle.deploy_laws.specs.OneAnswer.{IsCycle, IsSameRefusal, HasOneAnswer}
 use Rattle.deploy_laws.proofs.FirstReferences.{there-holds, none-of-all, one-reference}
@@ -56,9 +60,12 @@ module _ (m : BoundModel) (valid : IsSpace m.space) where
       (λ k low.
       let node : Node = record { cube = cube; element = k } in
       let inside : k < width m.space cube = omega (arith, low, long) in
-      let up = least b fits node there inside in
-      let down = lowest a fit node there inside in
+      let up : get_or (ranks_in a cube) k 0 ≤ get_or (ranks_in b cube) k 0 = least b fits node there inside in
+      let down : get_or (ranks_in b cube) k 0 ≤ get_or (ranks_in a cube) k 0 = lowest a fit node there inside in
       omega (arith, up, down))
+
+  abbrev by-row : ℕ → List ℕ → Order
+  by-row cube row = record { positions = position_of m cube 0 ∷ Ranks (last_of m.space cube) row ∷ [] }
 
   one-order : (a b : List Order) → AreFound m a → AreFound m b → a ≡ b
   one-order a b x y =
@@ -70,7 +77,7 @@ module _ (m : BoundModel) (valid : IsSpace m.space) where
       ∙ sym y.made
     where
       same : (k : ℕ) → k < length m.space.cubes → order_by m x.ranks k ≡ order_by m y.ranks k
-      same k low = cc (one-row x.ranks y.ranks x.each y.each x.fit y.fit x.least y.least k low)
+      same k low = ap (by-row k) (one-row x.ranks y.ranks x.each y.each x.fit y.fit x.least y.least k low)
 
 one-ranked : (m a b : BoundModel) → IsRanked m a → IsRanked m b → a ≡ b
 one-ranked m a b x y =
@@ -88,8 +95,14 @@ module _ (m : BoundModel) (ranks : List (List ℕ)) (fit : FitArrows m ranks) wh
   fall strict = if strict then 1 else 0
 
   both-fall : (a b c : ℕ) (here later strict : Bool) → c + fall later ≤ b → b + fall here ≤ a → strict ≡ (here || later) → c + fall strict ≤ a
-  both-fall a b c true later strict low down is = let falls : fall strict ≡ 1 = ap fall is in omega (arith, low, down, falls)
-  both-fall a b c false later strict low down is = let falls : fall strict ≡ fall later = ap fall is in omega (arith, low, down, falls)
+  both-fall a b c true later strict low down is =
+      let lower : b + 1 ≤ a = down in
+      let one : fall strict ≡ 1 = ap fall is in
+      omega (arith, low, lower, one)
+  both-fall a b c false later strict low down is =
+      let lower : b + 0 ≤ a = down in
+      let same : fall strict ≡ fall later = ap fall is in
+      omega (arith, low, lower, same)
 
   -- ranks fall along a walk with a strict arrow
   falls : (links : List Link) (strict : Bool) (from to : Node) → IsWalk m links strict from to → rank_of ranks to + fall strict ≤ rank_of ranks from
@@ -105,15 +118,18 @@ module _ (m : BoundModel) (ranks : List (List ℕ)) (fit : FitArrows m ranks) wh
       both-fall (rank_of ranks from) (rank_of ranks next) (rank_of ranks to) here later strict more first is
 
   no-circle : (links : List Link) → IsCircle m links → ⊥
-  no-circle links (start, walk) = let down = falls links true start start walk in omega (arith, down)
+  no-circle links (start, walk) = let down : rank_of ranks start + 1 ≤ rank_of ranks start = falls links true start start walk in omega (arith, down)
 
 -- ---- references at a greater lag
 
 module _ (m : BoundModel) (level : IsLevelThroughout m) where
+  abbrev AllLevel : ℕ → Statement → Type 0
+  AllLevel cube s = (kind : Bool) (p : Precedent) → Reads m cube s kind p → IsLevel m cube s kind p
+
   level-part : (cube : ℕ) (s : Statement) (kind : Bool) → cube < length m.space.cubes → (place : ℕ) → slice_get (rules_of m cube).statements place ≡ Some s
       → (f : Formula) → part_of (rule_of m.space cube s) kind ≡ Some f → (k : ℕ) (d : Precedent) → k < length (precedents f) → IsLevel m cube s kind (get_or (precedents f) k d)
   level-part cube s kind there place here f is k d low =
-      there-holds _ (rules_of m cube).statements place s (level cube there) here kind (get_or (precedents f) k d) (f, is, Contains-get_or (precedents f) k d low)
+      there-holds (AllLevel cube) (rules_of m cube).statements place s (level cube there) here kind (get_or (precedents f) k d) (f, is, Contains-get_or (precedents f) k d low)
 
   none-unlagged : (cube st r : ℕ) → IsFirstUnlagged m cube st r → ⊥
   none-unlagged cube st r x =
@@ -131,7 +147,10 @@ module _ (m : BoundModel) (files : List (Option RuleFile)) where
   circle-told (first ∷ rest) e is = by first.by is
     where
       by : (made : LinkBy) → circle_refusal files first.cube made (map (link_name m.space) (first ∷ rest)) ≡ Some e → IsCycle e
-      by (Reference statement reference) is = (map (link_name m.space) (first ∷ rest), cc is)
+      by (Reference statement reference) is =
+          let names = map (link_name m.space) (first ∷ rest) in
+          let same : refused_at files first.cube statement (causes.Cycle names) ≡ e = cc is in
+          (names, ap (λ (f : DeployFault). f.cause) (sym same))
       by Below is = let clash : None ≡ Some e = is in absurd (cc)
 
   same-told : (a b : FindFault) (e f : DeployFault) → IsFindFault m a → IsFindFault m b → told a ≡ Some e → told b ≡ Some f → IsSameRefusal e f
