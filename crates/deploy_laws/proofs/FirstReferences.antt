@@ -1,5 +1,5 @@
 -- Of a model there is one first reference of which something doesn't hold.
-use Rattle.std.proofs.Common.{◌≡◌, inl, inr, sym, ap, ◌∙◌, arith, subst, ℕ, zero, suc, ◌<◌, ◌≤◌, Some, None, List, [], ◌∷◌, take, All}
+use Rattle.std.proofs.Common.{◌≡◌, inl, inr, sym, ap, ◌∙◌, arith, subst, ℕ, zero, suc, ◌<◌, Some, None, List, [], ◌∷◌, take, All}
 use Rattle.std.specs.Prelude.{slice_get}
 use Rattle.std.proofs.lemmas.Bool.{cases_lt}
 use Rattle.rule_model.specs.declared.rules.Statement.{Statement}

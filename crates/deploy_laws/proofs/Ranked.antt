@@ -1,12 +1,12 @@
 -- Of a model whose orders are to be found one model is found, or none is for one reason.
-use Rattle.std.proofs.Common.{◌≡◌, inl, inr, refl, sym, ap, ◌∙◌, arith, subst, ℕ, ◌+◌, ◌<◌, ◌≤◌, Bool, true, false, ◌||◌, Option, Some, None, List, [], ◌∷◌, map, length, get_or, if◌then◌else◌}
+use Rattle.std.proofs.Common.{◌≡◌, inl, inr, sym, ap, ◌∙◌, arith, ℕ, ◌<◌, ◌≤◌, Bool, true, false, Option, Some, None, List, [], ◌∷◌, map, length, get_or}
 use Rattle.std.specs.Prelude.{slice_get, slice_index_or}
 use Rattle.std.proofs.lemmas.List.{ext_get_or, get_or-map}
 use Rattle.std.proofs.lemmas.List.FromFn.{fill_by_all, get_or-map-range_with_len, length-map-range_with_len}
 use Rattle.std.proofs.lemmas.List.Elements.{Contains-get_or}
 use Rattle.std.proofs.lemmas.Option.{get_or_from_slice_get}
 use Rattle.dim_core.specs.Outline.{Outline}
-use Rattle.cube_space.specs.Layout.{Layout, axes}
+use Rattle.cube_space.specs.Layout.{axes}
 use Rattle.cube_space.specs.Cells.{IsSpace}
 use Rattle.lists.proofs.Found.{there as place-there}
 use Rattle.rule_laws.specs.declared.formula.Formula.{Formula}
@@ -18,12 +18,11 @@ use Rattle.rule_model.specs.declared.rules.Statement.{Statement}
 use Rattle.rule_model.specs.BoundModel.{BoundModel, rules_of}
 use Rattle.rule_model.specs.Order.{position_of}
 use Rattle.rule_model.specs.System.{cubes_of, rule_of}
-use Rattle.arrow_laws.specs.Nodes.{Node, last_of, ranks_in, rank_of}
-use Rattle.arrow_laws.specs.Arrows.{IsArrow, IsLevel, Reads, FitArrows, IsLevelThroughout}
+use Rattle.arrow_laws.specs.Nodes.{Node, last_of, ranks_in}
+use Rattle.arrow_laws.specs.Arrows.{IsLevel, Reads, FitArrows, IsLevelThroughout}
 use Rattle.arrow_laws.specs.Ranked.{AreNodeRanks, order_by, with_orders}
 use Rattle.arrow_laws.proofs.Made.{last-there}
 use Rattle.order_find.specs.Numbers.{width}
-use Rattle.order_find.specs.Circles.{IsBy, IsWalk, IsCircle, node_of}
 use Rattle.order_find.specs.Unlagged.{IsLevelReference, IsFirstUnlagged}
 use Rattle.order_find.specs.Found.{AreLeast, AreFound, IsFindFault}
 use Rattle.order_find.specs.declared.fault.FindFault.{FindFault}
@@ -31,6 +30,7 @@ use Rattle.order_find.specs.declared.fault.FindFault.TheVariants.{Unlagged, Cycl
 use Rattle.order_find.specs.declared.link.Link.{Link}
 use Rattle.order_find.specs.declared.link.LinkBy.{LinkBy}
 use Rattle.order_find.specs.declared.link.LinkBy.TheVariants.{Reference, Below}
+use Rattle.order_find.proofs.Turned.{circle-fits-none}
 use Rattle.check_order.proofs.Counted.{counted-hold}
 use Rattle.model_deploy.specs.Files.{RuleFile}
 use Rattle.model_deploy.specs.declared.fault.DeployFault.{DeployFault}
@@ -84,42 +84,6 @@ one-ranked m a b x y =
     let none : Order = record { positions = [] } in
     x.with_them ∙ ap (λ orders. with_orders m (λ cube. slice_index_or orders cube none)) (one-order m x.space x.orders y.orders x.found y.found) ∙ sym y.with_them
 
--- ---- circles
-
-module _ (m : BoundModel) (ranks : List (List ℕ)) (fit : FitArrows m ranks) where
-  an-arrow : (link : Link) (by : LinkBy) (to : Node) (strict : Bool) → IsBy m link by to strict → IsArrow m (node_of link) to strict
-  an-arrow link (Reference statement reference) to strict is = inl is.arrow
-  an-arrow link Below to strict is = inr is
-
-  abbrev fall : Bool → ℕ
-  fall strict = if strict then 1 else 0
-
-  both-fall : (a b c : ℕ) (here later strict : Bool) → c + fall later ≤ b → b + fall here ≤ a → strict ≡ (here || later) → c + fall strict ≤ a
-  both-fall a b c true later strict low down is =
-      let lower : b + 1 ≤ a = down in
-      let one : fall strict ≡ 1 = ap fall is in
-      omega (arith, low, lower, one)
-  both-fall a b c false later strict low down is =
-      let lower : b + 0 ≤ a = down in
-      let same : fall strict ≡ fall later = ap fall is in
-      omega (arith, low, lower, same)
-
-  -- ranks fall along a walk with a strict arrow
-  falls : (links : List Link) (strict : Bool) (from to : Node) → IsWalk m links strict from to → rank_of ranks to + fall strict ≤ rank_of ranks from
-  falls [] strict from to (same, level) =
-      let ends : rank_of ranks from ≡ rank_of ranks to = ap (rank_of ranks) same in
-      let flat : fall strict ≡ 0 = ap fall level in
-      omega (arith, ends, flat)
-  falls (link ∷ links) strict from to (at, (next, here, later, by, rest, is)) =
-      let start : rank_of ranks (node_of link) ≡ rank_of ranks from = ap (rank_of ranks) at in
-      let down = fit (node_of link) next here (an-arrow link link.by next here by) in
-      let more = falls links later next to rest in
-      let first : rank_of ranks next + fall here ≤ rank_of ranks from = omega (arith, start, down) in
-      both-fall (rank_of ranks from) (rank_of ranks next) (rank_of ranks to) here later strict more first is
-
-  no-circle : (links : List Link) → IsCircle m links → ⊥
-  no-circle links (start, walk) = let down : rank_of ranks start + 1 ≤ rank_of ranks start = falls links true start start walk in omega (arith, down)
-
 -- ---- references at a greater lag
 
 module _ (m : BoundModel) (level : IsLevelThroughout m) where
@@ -167,7 +131,7 @@ module _ (m : BoundModel) (files : List (Option RuleFile)) where
 
   not-told : (ranked : BoundModel) (a : FindFault) (e : DeployFault) → IsRanked m ranked → IsFindFault m a → told a ≡ Some e → ⊥
   not-told ranked (Unlagged cube st r) e x y is = none-unlagged m x.found.level cube st r y
-  not-told ranked (Cycle links) e x y is = no-circle m x.found.ranks x.found.fit links.items y.1
+  not-told ranked (Cycle links) e x y is = circle-fits-none m links.items x.found.ranks y.1 x.found.fit
   not-told ranked Memory e x y is = let clash : None ≡ Some e = is in cc
 
 pub single-find : (m : BoundModel) (files : List (Option RuleFile)) → HasOneAnswer (find_stage files m)
