@@ -151,6 +151,64 @@ def long_order(folder, n):
     return write(folder, m_txt=m, r_rux=f"['A'] = N: {one};\n" * n, u_txt="GET 'C' ('t3', 'A');\n")
 
 
+# Orders that are found.
+
+
+def months_behind(folder, n, statements, order="ORDER AUTO 'T';"):
+    """A plan of 12 months and n measures with these statements."""
+    m = model(dimension("T", leaves("t", 12)), dimension("K", leaves("k", n)))
+    m += f"CUBE 'C' ('T', 'K'); RULES 'r.rux'; {order} END;\n"
+    return write(folder, m_txt=m, r_rux=statements, u_txt="GET 'C' ('t3', 'k1');\n")
+
+
+def found_statements(folder, n):
+    """n / 100 statements for a measure each, of one reference to the measure before, over n measures."""
+    r = "".join(f"['k{i + 1}'] = N: ['k{i}'];\n" for i in range(1, n // 100 + 1))
+    return months_behind(folder, n, r)
+
+
+def found_chain(folder, n):
+    """1,000 statements of n / 1,000 references each to measures before their own, over n measures."""
+    r = "".join(f"['k{1000 + i}'] = N: " + " + ".join(f"['k{k}']" for k in range(i, i + max(1, n // 1000))) + ";\n" for i in range(1, 1001))
+    return months_behind(folder, n, r)
+
+
+def found_area(folder, n):
+    """One statement for n measures, with n / 100 references to measures of the month before and of this one."""
+    names = ", ".join(f"'k{i}'" for i in range(n // 2, n + 1))
+    r = f"[{{{names}}}] = N: " + " + ".join(f"['k{k}']" for k in range(1, n // 100 + 1)) + ";\n"
+    return months_behind(folder, n, r)
+
+
+def found_circle(folder, n):
+    """n / 100 statements of which each reads the measure before, and the first one the last."""
+    r = f"['k1'] = N: ['k{n // 100}'];\n" + "".join(f"['k{i + 1}'] = N: ['k{i}'];\n" for i in range(1, n // 100))
+    return months_behind(folder, n, r)
+
+
+# Spreading.
+
+
+def spread_plan(n, how):
+    """A plan of n products under one total, each with a number, over which an amount is spread."""
+    m = model(dimension("P", leaves("p", n) + total("All", "p", n)), dimension("K", "N 'U'; N 'V';\n"))
+    m += "CUBE 'C' ('P', 'K'); END;\nSCRIPT 'a' 'a.ti';\n"
+    a = "DATA:\nCellPutN(StringToNumber(V2), 'C', V1, 'U');\n"
+    x = "".join(f"p{i},{i}\n" for i in range(1, n + 1))
+    u = f"LOAD 'a' FROM 'x.csv';\nSPREAD 'C' ('All', 'U') = 1000000 {how};\nGET 'C' ('All', 'U');\n"
+    return {"m_txt": m, "a_ti": a, "x_csv": x, "u_txt": u}
+
+
+def spread_equal(folder, n):
+    """An amount is spread in equal shares over n cells."""
+    return write(folder, **spread_plan(n, "EQUAL"))
+
+
+def spread_proportional(folder, n):
+    """An amount is spread over n cells in proportion to their numbers."""
+    return write(folder, **spread_plan(n, "PROPORTIONAL"))
+
+
 def totals_above_loop(folder, n):
     """n totals stand above one loop, and before it."""
     body = "".join(f"C 'c{i}': 'c{i + 1}', 'c{i + 2}';\n" for i in range(1, n + 1))
@@ -439,7 +497,8 @@ SHAPES = [
     (equal_moves, 100000), (unmarked_moves, 100000), (wide_area, 90000), (shared_rule_file, 100000), (attributes, 100000),
     (attribute_moves, 100000),
     (listed_source, 90000), (climbing_target, 90000), (many_feeders, 1000), (own_feeders, 100000), (uncovered_feeders, 100000),
-    (long_order, 900), (totals_above_loop, 90000), (cancelling_weights, 50000), (dense_leaves, 90000),
+    (long_order, 900), (found_statements, 99000), (found_chain, 99000), (found_area, 90000), (found_circle, 99000),
+    (spread_equal, 99000), (spread_proportional, 99000), (totals_above_loop, 90000), (cancelling_weights, 50000), (dense_leaves, 90000),
     (continued, 900), (puts_of_0, 30000), (puts, 800000), (zeros, 800000), (opened_total, 100000), (opened_zeros, 100000), (overfed_total, 1000000),
     (clearing_load, 100000), (adding_load, 100000), (paired_load, 100000), (large_plan, 800000), (plain_increments, 1000000), (equal_loads, 2000),
     (variables, 100000), (parameters, 100000), (joins, 40),

@@ -1,3 +1,6 @@
+pub mod OneScripts
+pub mod OneCommands
+pub mod OneJob
 pub mod Lines
 pub mod Plain
 pub mod ToldLines

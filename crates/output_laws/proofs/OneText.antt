@@ -14,7 +14,7 @@ use Rattle.run_passes.proofs.PlanWords.{one_plan}
 use Rattle.run_passes.specs.RefusalOrder.{as_text, plan_pass, run_of}
 use Rattle.run_passes.specs.declared.run_job.RunJob.{RunJob}
 use Rattle.user_text.specs.declared.command.UserCommand.{UserCommand}
-use Rattle.job_laws.specs.Same.{IsSameJob}
+use Rattle.output_laws.specs.SameJob.{IsSameJob}
 use Rattle.output_laws.specs.Same.{ServesOneUser, SameJobsPrintTheSame, OneUserHasOneText}
 use Rattle.output_laws.proofs.Alike.{zip_long}
 
@@ -50,7 +50,7 @@ run_serves_one words model user readings job is it =
 
 -- ---- the text
 
--- what `job_laws` says of a run
+-- what `a_run_finds_one_job` says
 abbrev ARunFindsOneJob : Type 0
 ARunFindsOneJob =
     (words : List (List ℕ)) (readings : Readings) (a b : RunJob)

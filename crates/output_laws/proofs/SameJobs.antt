@@ -14,7 +14,7 @@ use Rattle.user_session.specs.declared.command.PlanCommand.{PlanCommand}
 use Rattle.user_session.specs.declared.command.PlanCommand.TheVariants.{Put, Get, Load, View, Spread}
 use Rattle.user_session.specs.declared.content.Content.{Content}
 use Rattle.user_text.specs.Jobs.{rows_in}
-use Rattle.job_laws.specs.Same.{IsSameCommand}
+use Rattle.output_laws.specs.SameJob.{IsSameCommand}
 use Rattle.output_laws.specs.Same.{SameJobsPrintTheSame}
 use Rattle.output_laws.proofs.Alike.{DoTheSame, zip_map, run_of_alike}
 

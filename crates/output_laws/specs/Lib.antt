@@ -1,2 +1,3 @@
+pub mod SameJob
 pub mod Laws
 pub mod Same

@@ -3,7 +3,7 @@ use Rattle.std.specs.Prelude.{◌≡◌, ℕ, List, [], ◌∷◌, Option, Some,
 use Rattle.cube_server.specs.Answer.{IsDone, IsOutput}
 use Rattle.cube_words.specs.Words.{Run, IsPlan}
 use Rattle.file_passes.specs.Outside.{Outside}
-use Rattle.job_laws.specs.Same.{IsSameJob}
+use Rattle.output_laws.specs.SameJob.{IsSameJob}
 use Rattle.run_passes.specs.declared.run_job.RunJob.{RunJob}
 use Rattle.run_passes.specs.declared.run_job.RunJob.TheVariants as jobs
 

@@ -19,9 +19,9 @@ use Rattle.run_passes.proofs.PlanWords.{one_plan}
 use Rattle.script_text_laws.specs.ScriptAnswers.{OneScriptAnswer}
 use Rattle.user_session.specs.declared.command.PlanCommand.{PlanCommand}
 use Rattle.user_text.specs.declared.command.UserCommand.{UserCommand}
-use Rattle.job_laws.specs.Same.{IsSameCommand, IsSameJob}
-use Rattle.job_laws.proofs.OneScripts.{one_list}
-use Rattle.job_laws.proofs.OneCommands.{same_users}
+use Rattle.output_laws.specs.SameJob.{IsSameCommand, IsSameJob}
+use Rattle.output_laws.proofs.OneScripts.{one_list}
+use Rattle.output_laws.proofs.OneCommands.{same_users}
 
 -- what a pass finds over one list of files is the same
 abbrev FindsSame : {A : Type 0} → (A → A → Type 0) → Pass A → Type 0

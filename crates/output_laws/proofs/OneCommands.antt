@@ -13,7 +13,7 @@ use Rattle.user_text.specs.declared.command.UserBody.{UserBody}
 use Rattle.user_text.specs.declared.command.UserBody.TheVariants as bodies
 use Rattle.user_text.specs.declared.command.UserCommand.{UserCommand}
 use Rattle.user_text.specs.declared.load_job.LoadJob.{LoadJob}
-use Rattle.job_laws.specs.Same.{IsSameLoad, IsSameCommand}
+use Rattle.output_laws.specs.SameJob.{IsSameLoad, IsSameCommand}
 
 -- what belongs to one text each is alike
 zip_alike : {A B : Type 0} (R : A → B → Type 0) (Same : B → B → Type 0)

@@ -1,3 +1,0 @@
-pub mod OneScripts
-pub mod OneCommands
-pub mod OneJob
