@@ -5,8 +5,8 @@ use cube_fixed::Value;
 pub enum Origin {
     /// This is stored in a leaf cell that no statement governs.
     Stored(Value),
-    /// A governed cell has this value without work: what the statement gives as a number alone, or 0 in a leaf cell that
-    /// is neither stored nor fed.
+    /// A governed cell has this value without work: what the statement gives as a number alone, or 0 in a leaf cell
+    /// that is neither stored nor fed.
     Plain(Value),
     /// This statement governs the cell.
     Statement(u32),

@@ -121,9 +121,9 @@ fed_stage model = record {
 abbrev pub model_of : Contents → List CubeRules → BoundModel
 model_of contents rules = record { space = layout_of contents; rules = rules }
 
--- coefficients, cells and weight products; then rule texts, what they mean, and order lines; then the orders that are to
--- be found; then order, feeders and fed cells of the model that is bound so. Each is checked over the whole model before
--- the next
+-- coefficients, cells and weight products; then rule texts, what they mean, and order lines; then the orders that are
+-- to be found; then order, feeders and fed cells of the model that is bound so. Each is checked over the whole model
+-- before the next
 unfoldable pub deployment : Contents → List (Option RuleFile) → Stage BoundModel
 deployment contents files = do
   _ ← unless (dimensions_refusal contents.dims)

@@ -2,8 +2,8 @@
 //!
 //! Read in this order: [`deploy`], which makes the model; [`RuleFiles`], what it is given beside the text;
 //! [`DeployFault`], why it refuses; [`foundation_of`], [`rules_of`] and [`model_of`], the parts of it that make a model
-//! of which no check has seen the whole. `specs/Deployment.antt` has the checks in their order, `specs/Rules.antt` those of rules,
-//! and `specs/Foundation.antt` those of dimensions and cubes.
+//! of which no check has seen the whole. `specs/Deployment.antt` has the checks in their order, `specs/Rules.antt`
+//! those of rules, and `specs/Foundation.antt` those of dimensions and cubes.
 #![tactic(auto)]
 
 mod binding;
