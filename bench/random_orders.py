@@ -182,19 +182,26 @@ def some_ranks_fit(cubes, arrows):
     return False
 
 
+def begins(found, first, s):
+    """Whether the steps, each with the arrows that it may be, can be a walk with a strict arrow that begins with a
+    reference of this statement, and holds none that comes before that one."""
+    for start in found[0]:
+        if not start[3] or start[3][:2] != (first, s):
+            continue
+        rest = [[it for it in step if it[3] is None or it[3] >= start[3]] for step in found[1:]]
+        if all(rest) and (start[2] or any(it[2] for step in rest for it in step)):
+            return True
+    return False
+
+
 def is_shown(cubes, arrows, file, s, names):
-    """Whether these names are a closed walk with a strict arrow that begins with a reference of this statement, and no
-    closed walk of these names begins with an earlier one."""
+    """Whether these names are a closed walk that begins so."""
     first = next(k for k, it in enumerate(cubes) if f"{it.name.lower()}.rux" == file)
     own = {it: [cube.name for cube in cubes if it in cube.dimensions[-1].elements] for it in names}
     for places in itertools.product(*(own[it] for it in names)):
         nodes = list(zip(places, names))
         steps = list(zip(nodes, nodes[1:] + nodes[:1]))
-        found = [[it for it in arrows if it[:2] == step] for step in steps]
-        if not all(found) or not any(it[2] for step in found for it in step):
-            continue
-        by = [min((it[3] for it in step if it[3]), default=None) for step in found]
-        if any(it[3] and it[3][:2] == (first, s) for it in found[0]):
+        if begins([[it for it in arrows if it[:2] == step] for step in steps], first, s):
             return True
     return False
 
