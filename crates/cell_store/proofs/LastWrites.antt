@@ -2,7 +2,7 @@
 use Rattle.std.proofs.Common.{◌≡◌, ◌≢◌, ℕ, ◌+◌, ◌<◌, ◌≤◌, Bool, true, false, cond, Option, None, Some, List, [], ◌∷◌, ◌++◌, length, map, filter, fold, eqb, ltb, eq-eqb, arith, refl, ap, sym, ◌∙◌, inl, inr, append-nil, take, get_or}
 use Rattle.std.specs.Ordering.{nat_cmp}
 use Rattle.std.specs.List.Sorted.{IsNonDecreasingBy, IsStableByKey}
-use Rattle.std.proofs.lemmas.List.{take_more, take_all, get_or_read}
+use Rattle.std.proofs.lemmas.List.{take_more, take_all, get_or_read, get_or-map, length-map}
 use Rattle.std.proofs.lemmas.Bool.{ne_eqb, cases_lt}
 use Rattle.std.proofs.lemmas.Bool.Decides.{nat_tests, eqb_tells}
 use Rattle.std.proofs.lemmas.List.Elements.{filter-append}
@@ -158,6 +158,27 @@ module _ {X : Type 0} (cell : X → ℕ) (writes : List X) where
 
   pub last-all : (i : ℕ) (last : List X) (k : ℕ) → length writes ≤ i → LastSoFar cell writes i last → last_at cell last k ≡ last_at cell writes k
   last-all i last k le so_far = so_far.same k ∙ ap (λ (xs : List X). last_at cell xs k) (take_all i writes le)
+
+-- the cells of the first `i` writes rise
+pub record RisesUpTo {X : Type 0} (cell : X → ℕ) (writes : List X) (i : ℕ) : Type 0 where
+  pub some : 1 ≤ i
+  pub rises : (k : ℕ) (d : X) → k + 1 < i → cell (get_or writes k d) < cell (get_or writes (k + 1) d)
+
+module _ {X : Type 0} (cell : X → ℕ) (writes : List X) where
+  pub rises-first : RisesUpTo cell writes 1
+  rises-first = record {
+    some = omega arith;
+    rises = λ k d low. absurd (omega (arith, low));
+  }
+
+pub rising-all : {X : Type 0} (cell : X → ℕ) (writes : List X) (i : ℕ) → length writes ≤ i → RisesUpTo cell writes i → IsRising cell writes
+rising-all cell [] i le so_far k low = absurd (omega (arith, low))
+rising-all cell (w ∷ ws) i le so_far k low =
+    let long : length (map cell (w ∷ ws)) ≡ length (w ∷ ws) = length-map (w ∷ ws) cell in
+    let up = so_far.rises k w (omega (arith, le, low, long)) in
+    let one : get_or (map cell (w ∷ ws)) k 0 ≡ cell (get_or (w ∷ ws) k w) = get_or-map cell (w ∷ ws) k w 0 (omega (arith, low, long)) in
+    let two : get_or (map cell (w ∷ ws)) (k + 1) 0 ≡ cell (get_or (w ∷ ws) (k + 1) w) = get_or-map cell (w ∷ ws) (k + 1) w 0 (omega (arith, low, long)) in
+    omega (arith, up, one, two)
 
 module _ {X : Type 0} (cell : X → ℕ) (is_gone : X → Bool) where
   at-kept_by : (b : Bool) (w : X) (k : ℕ) → cell w ≡ k → at cell (cond b [] (w ∷ [])) k ≡ cond b [] (w ∷ [])

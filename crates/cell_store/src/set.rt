@@ -66,7 +66,7 @@ impl PageSet {
         ensures taken_out { gone ≡ true → IfOk result (λ left. IsDifference self.now cells.now left) }
     {
         let members = members_of(alloc, cells, gone)?;
-        let last = last_entries(alloc, &members)?;
+        let last = last_entries(alloc, members)?;
         let tree = changed(alloc, &self.tree, &last)?;
         let len = tree.count()?;
         Ok(PageSet { tree, len })

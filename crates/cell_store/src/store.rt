@@ -101,7 +101,7 @@ impl Store {
         ensures sized { IfOk result (λ tree. IsTree cell_of tree) }
     {
         let entries = entries_of_writes(alloc, writes)?;
-        let last = last_entries(alloc, &entries)?;
+        let last = last_entries(alloc, entries)?;
         let tree = changed(alloc, &self.tree, &last)?;
         Ok(tree)
     }

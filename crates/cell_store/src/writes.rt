@@ -1,4 +1,4 @@
-ghost use Rattle.std.specs.Prelude.{◌≡◌, ℕ, List, IfOk};
+ghost use Rattle.std.specs.Prelude.{◌≡◌, ℕ, true, List, IfOk};
 ghost use Rattle.std.specs.List.Sorted.{IsNonDecreasingBy};
 ghost use Rattle.cell_store.specs.Inside.Order.{IsRising, HaveSameLast};
 
@@ -6,12 +6,16 @@ use crate::order::Stored;
 use crate::places::count_below;
 use std::alloc::{AllocError, Global};
 
-/// The last write of each cell, in the order of the cells.
-pub fn last_entries<E: Stored>(alloc: Global, writes: &[E]) -> Result<Vec<E>, AllocError>
+/// The last write of each cell, in the order of the cells. Writes that come in that order, each of its own cell, are
+/// the last ones.
+pub fn last_entries<E: Stored>(alloc: Global, writes: Vec<E>) -> Result<Vec<E>, AllocError>
     ensures rising { IfOk result (λ last. IsRising E.cell last.items) }
-    ensures last { IfOk result (λ last. HaveSameLast E.cell last.items writes.now) }
+    ensures last { IfOk result (λ last. HaveSameLast E.cell last.items writes.items) }
 {
-    let mut sorted = Vec::from_slice(alloc, writes)?;
+    if is_rising(&writes) {
+        return Ok(writes);
+    }
+    let mut sorted = writes;
     sorted.sort_by_key(|write| write.cell())?;
     let last = last_sorted(alloc, &sorted)?;
     Ok(last)
@@ -30,4 +34,16 @@ fn last_sorted<E: Stored>(alloc: Global, writes: &[E]) -> Result<Vec<E>, AllocEr
         last.push(*write)?;
     }
     Ok(last)
+}
+
+// Whether the cell of each write is above the one before it.
+fn is_rising<E: Stored>(writes: &[E]) -> bool
+    ensures { result ≡ true → IsRising E.cell writes.now }
+{
+    for place in 1..writes.len() {
+        if writes[place].cell() <= writes[place - 1].cell() {
+            return false;
+        }
+    }
+    true
 }

@@ -13,8 +13,8 @@ invariant_of-result c =
     let last = c.in_ok-last.last.items in
     let all = all_entries c.in_ok-tree.tree in
     let same : (k : ℕ) → last_at member_cell last k ≡ last_at member_cell (members_of c.args.gone c.args.cells.now) k =
-    λ k. c.in_ok-last.ensures.last k ∙ ap (λ xs. last_at member_cell xs k) (c.deref.ensures.value ∙ c.in_ok-members.ensures) in
-    let is : all ≡ after_entries member_cell is_removed before last = rw c.deref-2.ensures.value at c.in_ok-tree.ensures.entries in
+    λ k. c.in_ok-last.ensures.last k ∙ ap (λ xs. last_at member_cell xs k) c.in_ok-members.ensures in
+    let is : all ≡ after_entries member_cell is_removed before last = rw c.deref.ensures.value at c.in_ok-tree.ensures.entries in
     let count : c.in_ok-len.len ≡ length (tree_cells c.in_ok-tree.tree) = c.in_ok-len.ensures ∙ sym (length-map all member_cell) in
     record {
       sized = c.in_ok-tree.ensures.sized;
@@ -28,8 +28,8 @@ returns-clause-put_in c =
     let last = c.in_ok-last.last.items in
     let all = all_entries c.in_ok-tree.tree in
     let same : (k : ℕ) → last_at member_cell last k ≡ last_at member_cell (members_of c.args.gone c.args.cells.now) k =
-    λ k. c.in_ok-last.ensures.last k ∙ ap (λ xs. last_at member_cell xs k) (c.deref.ensures.value ∙ c.in_ok-members.ensures) in
-    let is : all ≡ after_entries member_cell is_removed before last = rw c.deref-2.ensures.value at c.in_ok-tree.ensures.entries in
+    λ k. c.in_ok-last.ensures.last k ∙ ap (λ xs. last_at member_cell xs k) c.in_ok-members.ensures in
+    let is : all ≡ after_entries member_cell is_removed before last = rw c.deref.ensures.value at c.in_ok-tree.ensures.entries in
     let union = union_of c.args.gone before last all c.args.cells.now c.self.invariant.rising same is in
     rw c.self.view_is at union
 
@@ -39,7 +39,7 @@ returns-clause-taken_out c =
     let last = c.in_ok-last.last.items in
     let all = all_entries c.in_ok-tree.tree in
     let same : (k : ℕ) → last_at member_cell last k ≡ last_at member_cell (members_of c.args.gone c.args.cells.now) k =
-    λ k. c.in_ok-last.ensures.last k ∙ ap (λ xs. last_at member_cell xs k) (c.deref.ensures.value ∙ c.in_ok-members.ensures) in
-    let is : all ≡ after_entries member_cell is_removed before last = rw c.deref-2.ensures.value at c.in_ok-tree.ensures.entries in
+    λ k. c.in_ok-last.ensures.last k ∙ ap (λ xs. last_at member_cell xs k) c.in_ok-members.ensures in
+    let is : all ≡ after_entries member_cell is_removed before last = rw c.deref.ensures.value at c.in_ok-tree.ensures.entries in
     let left = difference_of c.args.gone before last all c.args.cells.now c.self.invariant.rising same is in
     rw c.self.view_is at left

@@ -10,15 +10,15 @@ use Rattle.cell_store.proofs.store.Store.changed.Goals as goal
 pub returns-clause-entries : goal.returns-clause-entries
 returns-clause-entries c =
     let before = all_entries c.self.inside.tree in
-    let same : (k : ℕ) → last_at cell_of c.in_ok-last.last.items k ≡ last_at cell_of (map entry_of c.args.writes.now) k = λ k. c.in_ok-last.ensures.last k ∙ ap (λ xs. last_at cell_of xs k) (c.deref.ensures.value ∙ c.in_ok-entries.ensures) in
-    let is : all_entries c.in_ok-tree.tree ≡ after_entries cell_of is_zero before c.in_ok-last.last.items = rw c.deref-2.ensures.value at c.in_ok-tree.ensures.entries in
+    let same : (k : ℕ) → last_at cell_of c.in_ok-last.last.items k ≡ last_at cell_of (map entry_of c.args.writes.now) k = λ k. c.in_ok-last.ensures.last k ∙ ap (λ xs. last_at cell_of xs k) c.in_ok-entries.ensures in
+    let is : all_entries c.in_ok-tree.tree ≡ after_entries cell_of is_zero before c.in_ok-last.last.items = rw c.deref.ensures.value at c.in_ok-tree.ensures.entries in
     let all : all_entries c.in_ok-tree.tree ≡ after_writes before c.args.writes.now = is ∙ after-last_entries before c.in_ok-last.last.items c.args.writes.now c.self.invariant.entries same in
     rw c.self.view_is at all
 
 pub returns-clause-stored : goal.returns-clause-stored
 returns-clause-stored c =
     let before = all_entries c.self.inside.tree in
-    let same : (k : ℕ) → last_at cell_of c.in_ok-last.last.items k ≡ last_at cell_of (map entry_of c.args.writes.now) k = λ k. c.in_ok-last.ensures.last k ∙ ap (λ xs. last_at cell_of xs k) (c.deref.ensures.value ∙ c.in_ok-entries.ensures) in
-    let is : all_entries c.in_ok-tree.tree ≡ after_entries cell_of is_zero before c.in_ok-last.last.items = rw c.deref-2.ensures.value at c.in_ok-tree.ensures.entries in
+    let same : (k : ℕ) → last_at cell_of c.in_ok-last.last.items k ≡ last_at cell_of (map entry_of c.args.writes.now) k = λ k. c.in_ok-last.ensures.last k ∙ ap (λ xs. last_at cell_of xs k) c.in_ok-entries.ensures in
+    let is : all_entries c.in_ok-tree.tree ≡ after_entries cell_of is_zero before c.in_ok-last.last.items = rw c.deref.ensures.value at c.in_ok-tree.ensures.entries in
     let all : all_entries c.in_ok-tree.tree ≡ after_writes before c.args.writes.now = is ∙ after-last_entries before c.in_ok-last.last.items c.args.writes.now c.self.invariant.entries same in
     rw all (IsStore-after_writes before c.args.writes.now c.self.invariant.entries)
