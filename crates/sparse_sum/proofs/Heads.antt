@@ -1,5 +1,5 @@
 -- The first of some dimensions, and the others.
-use Rattle.std.proofs.Common.{◌≡◌, ◌∙◌, refl, sym, ap, subst, arith, ℕ, zero, suc, ◌+◌, ◌*◌, ◌/◌, ◌<◌, ◌≤◌, true, ℤ, ◌*ℤ◌, unsigned_abs, List, [], ◌∷◌, length, map, get_or, drop, take, ◌-◌, Some, find, nat_lt, Bool, false, inl, inr, Option, None, MatchOption, IfSome, leb}
+use Rattle.std.proofs.Common.{◌≡◌, ◌∙◌, refl, sym, ap, subst, arith, ℕ, zero, suc, ◌+◌, ◌*◌, ◌/◌, ◌<◌, ◌≤◌, true, ℤ, unsigned_abs, List, [], ◌∷◌, length, map, get_or, drop, take, ◌-◌, Some, find, nat_lt, Bool, false, inl, inr, Option, None, MatchOption, IfSome, leb}
 use Rattle.std.specs.List.{All, AllZip, range_with_len, slice_get, cons_option}
 use Rattle.std.proofs.lemmas.Bool.{and_parts, ltb-true, cases_eq}
 use Rattle.std.proofs.lemmas.Nat.{div-mul-add}

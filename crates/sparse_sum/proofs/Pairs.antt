@@ -1,5 +1,5 @@
 -- The first of the pairs of numbers that count.
-use Rattle.std.proofs.Common.{◌≡◌, ◌≢◌, ◌∙◌, refl, ap, subst, arith, ℕ, ◌+◌, ◌<◌, ◌≤◌, zero, suc, leb, inl, inr, ◌⊎◌, Bool, true, false, ℤ, pos, List, [], ◌∷◌, Option, None, Some, find, length, get_or, drop, take, ◌-◌, ltb, map}
+use Rattle.std.proofs.Common.{◌≡◌, ◌≢◌, ◌∙◌, refl, sym, ap, subst, arith, ℕ, ◌+◌, ◌<◌, ◌≤◌, zero, suc, leb, inl, inr, ◌⊎◌, Bool, true, false, ℤ, pos, List, [], ◌∷◌, Option, None, Some, find, length, get_or, drop, take, ◌-◌, ltb, map}
 use Rattle.std.specs.List.{range_with_len, slice_get}
 use Rattle.std.specs.List.Sorted.{IsNonDecreasingBy, IsPartitionedBy, IsPartitionPoint}
 use Rattle.std.proofs.lemmas.Bool.{ltb-true}
@@ -110,6 +110,44 @@ rising-order ps rising i j d le low = elim (cases_eq i j) [
       let two = get_or-map (λ (p : ℕ × ℤ). p.0) ps j d 0 low in
       omega (arith, less, one, two))
 ]
+
+-- the pair at a place
+at-place : (ps : List (ℕ × ℤ)) (i : ℕ) (p d : ℕ × ℤ) → slice_get ps i ≡ Some p → (i < length ps) × (get_or ps i d ≡ p)
+at-place [] i p d is = absurd (cc)
+at-place (q ∷ ps) zero p d is = (omega arith, cc)
+at-place (q ∷ ps) (suc i) p d is = let later = at-place ps i p d is in let low = later.0 in (omega arith, later.1)
+
+get-of-drop : (ps : List (ℕ × ℤ)) (i : ℕ) → slice_get (drop i ps) 0 ≡ slice_get ps i
+get-of-drop [] zero = refl
+get-of-drop [] (suc i) = refl
+get-of-drop (p ∷ ps) zero = refl
+get-of-drop (p ∷ ps) (suc i) = get-of-drop ps i
+
+below-later : (ps : List (ℕ × ℤ)) → IsRising ps → (i j : ℕ) (d : ℕ × ℤ) → i < j → j < length ps → (get_or ps i d).0 < (get_or ps j d).0
+below-later ps rising i j d less low =
+    let pairs = AllPairs-from_increasing (map (λ (p : ℕ × ℤ). p.0) ps) rising in
+    let long = length-map ps (λ (p : ℕ × ℤ). p.0) in
+    let rises = pairs i j 0 less (omega (arith, low, long)) in
+    let one = get_or-map (λ (p : ℕ × ℤ). p.0) ps i d 0 (omega (arith, less, low)) in
+    let two = get_or-map (λ (p : ℕ × ℤ). p.0) ps j d 0 low in
+    omega (arith, rises, one, two)
+
+-- a pair at or above a number is the first, if those before it are below
+found-at : (ps : List (ℕ × ℤ)) (k i : ℕ) (p : ℕ × ℤ) → IsRising ps → slice_get ps i ≡ Some p → k ≤ p.0
+    → ((j : ℕ) → j < i → j < length ps → (get_or ps j (0, pos 0)).0 < k) → Some p ≡ find (λ pair. leb k pair.0) ps
+found-at ps k i p rising is le below =
+    let here = at-place ps i p (0, pos 0) is in
+    let first : slice_get (drop i ps) 0 ≡ find (λ pair. leb k pair.0) ps =
+    first-at ps k i (0, pos 0) below (λ j later within. (let up = rising-order ps rising i j (0, pos 0) later within in let same = ap (λ (q : ℕ × ℤ). q.0) here.1 in omega (arith, up, same, le))) in
+    sym (sym first ∙ (get-of-drop ps i ∙ is))
+
+pub found-first : (ps : List (ℕ × ℤ)) (k : ℕ) (p : ℕ × ℤ) → IsRising ps → slice_get ps 0 ≡ Some p → k ≤ p.0 → Some p ≡ find (λ pair. leb k pair.0) ps
+found-first ps k p rising is le = found-at ps k 0 p rising is le (λ j less within. absurd (omega (arith, less)))
+
+pub found-equal : (ps : List (ℕ × ℤ)) (k i : ℕ) (p : ℕ × ℤ) → IsRising ps → slice_get ps i ≡ Some p → p.0 ≡ k → Some p ≡ find (λ pair. leb k pair.0) ps
+found-equal ps k i p rising is same =
+    found-at ps k i p rising is (omega (arith, same))
+    (λ j less within. (let here = at-place ps i p (0, pos 0) is in let low = here.0 in let at = ap (λ (q : ℕ × ℤ). q.0) here.1 in let up = below-later ps rising j i (0, pos 0) less low in omega (arith, up, at, same)))
 
 pub parted-by : (ps : List (ℕ × ℤ)) (k : ℕ) → IsRising ps → IsPartitionedBy (λ (p : ℕ × ℤ). ltb p.0 k) ps
 parted-by ps k rising = IsPartitionedBy-ltb (λ (p : ℕ × ℤ). p.0) ps k (rising-order ps rising)

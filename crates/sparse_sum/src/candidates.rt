@@ -147,6 +147,45 @@ fn first_row(leaves: &[(u32, i64)], from: u64) -> Option<(u32, i64)>
     requires { IsRising leaves.now }
     ensures { result ≡ find (λ pair. nat_le from pair.0) leaves.now }
 {
+    match guessed_row(leaves, from) {
+        Some(row) => Some(row),
+        None => searched_row(leaves, from),
+    }
+}
+
+// The first leaf at or above this one, where it is the first of all, or no number is left out from there to this one.
+fn guessed_row(leaves: &[(u32, i64)], from: u64) -> Option<(u32, i64)>
+    requires { IsRising leaves.now }
+    ensures { IfSome result (λ row. Some row ≡ find (λ pair. nat_le from pair.0) leaves.now) }
+{
+    let Some(first) = leaves.first().copied() else {
+        return None;
+    };
+    if u64::from(first.0) >= from {
+        return Some(first);
+    }
+    let place = from - u64::from(first.0);
+    let Some(row) = row_at(leaves, place as usize) else {
+        return None;
+    };
+    if u64::from(row.0) == from {
+        return Some(row);
+    }
+    None
+}
+
+// The leaf at a place, if there is one.
+fn row_at(leaves: &[(u32, i64)], place: usize) -> Option<(u32, i64)>
+    ensures { result ≡ slice_get leaves.now place }
+{
+    leaves.get(place).copied()
+}
+
+// The first leaf at or above this one, by a binary search.
+fn searched_row(leaves: &[(u32, i64)], from: u64) -> Option<(u32, i64)>
+    requires { IsRising leaves.now }
+    ensures { result ≡ find (λ pair. nat_le from pair.0) leaves.now }
+{
     let place = leaves.partition_point(|pair| u64::from(pair.0) < from);
     leaves[place..].first().copied()
 }

@@ -3,7 +3,7 @@ use Rattle.std.proofs.Common.{rules, ◌∙◌, ap, ltb}
 use Rattle.std.specs.List.{slice_get}
 use Rattle.std.proofs.lemmas.List.Sorted.{IsPartitionPoint-from_clause}
 use Rattle.sparse_sum.proofs.Pairs.{parted-by, first-of-point, up-to-end}
-use Rattle.sparse_sum.proofs.candidates.first_row.Goals as goal
+use Rattle.sparse_sum.proofs.candidates.searched_row.Goals as goal
 
 pub returns : goal.returns
 returns c =
