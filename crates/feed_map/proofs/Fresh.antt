@@ -1,10 +1,12 @@
 -- The cells that aren't known, cell by cell.
-use Rattle.std.proofs.Common.{◌≡◌, ◌≢◌, sym, subst, ℕ, zero, suc, ◌+◌, ◌-◌, ◌<◌, ◌≤◌, ◌⊎◌, inl, inr, List, [], ◌∷◌, ◌++◌, length, take, get_or, arith}
-use Rattle.std.specs.List.{Contains}
+use Rattle.std.proofs.Common.{◌≡◌, ◌≢◌, sym, subst, None, Some, ℕ, zero, suc, ◌+◌, ◌-◌, ◌<◌, ◌≤◌, ◌⊎◌, inl, inr, List, [], ◌∷◌, ◌++◌, length, take, get_or, arith}
+use Rattle.std.specs.List.{Contains, All, slice_get}
 use Rattle.std.specs.List.Sorted.{IsNonDecreasing, IsPermutation}
+use Rattle.std.proofs.lemmas.Bool.Decides.{leb_tells}
 use Rattle.std.proofs.lemmas.List.{take_more}
 use Rattle.std.proofs.lemmas.List.Sorted.{Contains-permutation, IsPermutation-sym}
 use Rattle.std.proofs.lemmas.List.Elements.{Contains-append_left, Contains-push, Contains-push_cases}
+use Rattle.cell_store.specs.Cells.{next_from}
 use Rattle.cell_store.proofs.Rising.{AllAbove, Rises, Rises-from_increasing, increasing_from_Rises}
 use Rattle.feed_map.specs.Inside.Gains.{AreFresh}
 use Rattle.feed_sources.proofs.Members.{none-there, at-front, behind, front-or-behind}
@@ -106,3 +108,26 @@ fresh-permuted known found sorted fresh moved are = record {
   new = are.new;
   each = λ c has. are.each c (Contains-permutation found sorted c moved has);
 }
+
+none-above : (known : List ℕ) (k c : ℕ) → next_from known k ≡ None → Contains known c → k ≤ c → ⊥
+none-above [] k c is has le = none-there c has
+none-above (x ∷ xs) k c is has le =
+    elim (leb_tells k x) [
+      | inl t ↦ absurd (let bad = rw t.0 at is in cc)
+      | inr t ↦ (let rest = rw t.0 at is in elim (front-or-behind x xs c has) [
+        | inl same ↦ absurd (let less = t.1 in omega (arith, same, less, le))
+        | inr more ↦ none-above xs k c rest more le
+      ])
+    ]
+
+first-of : (xs : List ℕ) (x d : ℕ) → slice_get xs 0 ≡ Some x → get_or xs 0 d ≡ x
+first-of [] x d is = absurd (cc)
+first-of (y ∷ ys) x d is = cc
+
+-- where no known cell is at or above the first of the cells, none of them is known
+pub beyond-first : (known found : List ℕ) (least : ℕ) → IsNonDecreasing found → slice_get found 0 ≡ Some least → next_from known least ≡ None
+    → All (λ cell. Contains known cell → ⊥) found
+beyond-first known found least sorted first is k d low has =
+    let up = sorted 0 k d (omega arith) low in
+    let at = first-of found least d first in
+    none-above known least (get_or found k d) is has (omega (arith, up, at))

@@ -1,5 +1,5 @@
-ghost use Rattle.std.specs.Prelude.{◌≡◌, ◌≢◌, ◌<◌, ◌≤◌, ◌-◌, ◌⊎◌, IsTrue, IsFalse, None, [], IfOk, IfErr, OnOk};
-ghost use Rattle.std.specs.Prelude.{length, slice_get, slice_index};
+ghost use Rattle.std.specs.Prelude.{◌≡◌, ◌≢◌, ◌<◌, ◌≤◌, ◌-◌, ◌⊎◌, ◌↔◌, true, IsTrue, IsFalse, None, []};
+ghost use Rattle.std.specs.Prelude.{IfOk, IfErr, OnOk, All, Contains, length, slice_get, slice_index};
 ghost use Rattle.std.specs.List.Sorted.{IsNonDecreasing};
 ghost use Rattle.feed_map.specs.Inside.Gains.{Gains, AreFresh, NoCell, StopsBy};
 
@@ -108,13 +108,33 @@ fn unknown_cells(alloc: Global, found: &[u64], known: &PageSet) -> Result<Vec<u6
     requires { IsNonDecreasing found.now }
     ensures { IfOk result (λ fresh. AreFresh known.now found.now fresh.items) }
 {
+    let beyond = are_beyond(known, found);
     let mut fresh = Vec::new(alloc);
     'each: for place in 0..found.len() {
-        if is_new(found, place) && !known.has(found[place]) {
+        if is_new(found, place) && !is_known(known, beyond, found[place]) {
             fresh.push(found[place])?;
         }
     }
     Ok(fresh)
+}
+
+// Whether all of these cells, which come in their order, are greater than all that are known.
+fn are_beyond(known: &PageSet, found: &[u64]) -> bool
+    requires { IsNonDecreasing found.now }
+    ensures { result ≡ true → All (λ cell. Contains known.now cell → ⊥) found.now }
+{
+    match found.first() {
+        Some(least) => known.next_from(*least).is_none(),
+        None => true,
+    }
+}
+
+// Whether a cell is known. It isn't looked for where it is greater than all that are.
+fn is_known(known: &PageSet, beyond: bool, cell: u64) -> bool
+    requires { beyond ≡ true → Contains known.now cell → ⊥ }
+    ensures { IsTrue result ↔ Contains known.now cell }
+{
+    !beyond && known.has(cell)
 }
 
 // Whether a number differs from the one before it.
