@@ -17,7 +17,7 @@ const MAX_LED: usize = 64;
 const MAX_LOOKS: usize = 256;
 
 /// At most how many leaf cells chains of feeds lead to from this cell. None where counting them may take long: where
-/// they are more than 64, a chain comes to a feeder of a total, or the cubes on the way have more than 256 feeders.
+/// they are more than 64, a chain reaches a feeder of a total, or the cubes on the way have more than 256 feeders.
 pub fn count_led(model: &SourceModel, cell: u64) -> Option<usize>
     ensures { IfSome result (LeadsToAtMost (system_of model.now) cell) }
 {

@@ -12,7 +12,7 @@ use cube_space::MAX_DIMENSIONS;
 use dim_weights::Weights;
 use rule_laws::{Arg, Reference};
 
-/// Whether it is clear at once that a reference from a cube stands for this leaf cell from no cell: it names cells of
+/// Whether it is clear at once that a reference from a cube reaches this leaf cell from no cell: it names cells of
 /// another cube, or always names an element other than the cell's, in which that doesn't count.
 pub fn misses(model: &SourceModel, cube: u32, reference: &Reference, cell: u64) -> bool
     requires reference { IsReference model.now.space cube reference.now }

@@ -1,4 +1,4 @@
--- What a pass comes to.
+-- The ends of a pass.
 use Rattle.std.specs.Prelude.{◌≡◌, ℕ, List, [], ◌∷◌, ◌⊎◌, Result, Ok, Err}
 use Rattle.cube_outside.specs.Counts.{Rose}
 use Rattle.cube_outside.specs.declared.files.FileFault.{FileFault}

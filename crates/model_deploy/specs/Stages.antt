@@ -3,7 +3,7 @@ use Rattle.std.specs.Prelude.{◌≡◌, ◌⊎◌, ℕ, ◌+◌, List, [], ◌�
 use Rattle.model_deploy.specs.declared.fault.DeployFault.{DeployFault}
 use Rattle.model_deploy.specs.Foundation.{memory}
 
--- a stage, by what it comes to: what it finds, or why it refuses
+-- a stage, by its two ends: what it finds, or why it refuses
 pub record Stage (A : Type 0) : Type 1 where
   pub finds : A → Type 0
   pub refuses : DeployFault → Type 0
@@ -36,7 +36,7 @@ each stage n (x ∷ xs) = do
   ys ← each stage (n + 1) xs
   found (y ∷ ys)
 
--- an answer is what a stage comes to; out of memory may come in its place
+-- an answer is one of the ends of a stage; out of memory may take its place
 abbrev pub Comes : {A : Type 0} → Stage A → Result A DeployFault → Type 0
 Comes stage (Ok a) = stage.finds a
 Comes stage (Err fault) = (fault ≡ memory) ⊎ stage.refuses fault

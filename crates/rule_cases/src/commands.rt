@@ -17,7 +17,7 @@ use rule_model::{cell_of, is_input};
 use std::alloc::Global;
 use user_text::UserBody;
 
-/// Adds what each command comes to, a line each, with what a case of this kind tells besides.
+/// Adds the answer to each command, a line each, with what a case of this kind prints besides.
 pub fn answer_commands(
     alloc: Global,
     model: &SourceModel,

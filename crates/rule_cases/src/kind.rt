@@ -1,4 +1,4 @@
-/// What a case tells besides what each command comes to.
+/// What a case prints besides the answer to each command.
 #[derive(Clone, Copy, PartialEq, Eq)]
 pub enum Kind {
     /// How each value comes.

@@ -3,7 +3,7 @@ ghost use Rattle.solver.specs.Turns.{MatchTurn, MatchOpened};
 
 use std::alloc::AllocError;
 
-/// What a step of a frame comes to.
+/// What a step of a frame gives.
 #[derive(Drop)]
 pub enum Turn<Q, A> {
     /// The frame waits for the answer to this question.

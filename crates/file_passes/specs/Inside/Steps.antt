@@ -15,7 +15,7 @@ IsReadOnce known extent name old new asked_before asked_after =
     ⊎ ((bytes : List ℕ) × (bytes_of old name ≡ None) × Tells known extent name bytes × (new ≡ (name, bytes) ∷ old)
     × (asked_after ≡ name ∷ asked_before))
 
--- whatever reading the rest of these files comes to, reading all of them comes to, from this start
+-- from this start, reading all of these files ends as reading the rest of them ends
 abbrev pub CarriesOn : {F : Type 0} → (F → Seen) → Extent → List (List ℕ) → F → Readings
     → List (List ℕ) → F → Readings → Type 0
 CarriesOn {F} seen extent names start first rest now readings =
