@@ -1,1 +1,2 @@
 pub mod Layered
+pub mod Laws
