@@ -1,6 +1,6 @@
 -- What a user's commands are answered while the user may have a sandbox open. The user's layer is the writes that were
 -- kept in the sandbox so far, or none where no sandbox is open.
-use Rattle.std.specs.Prelude.{◌≡◌, Option, None, Some}
+use Rattle.std.specs.Prelude.{◌≡◌, Option, None, Some, ⊤}
 use Rattle.history.specs.declared.effect.Effect.{Effect}
 use Rattle.history.specs.declared.effect.Effect.TheVariants.{Commit, Rejected, Read}
 use Rattle.sandbox.specs.declared.act.Act.{Act}
@@ -54,6 +54,22 @@ answer effect after s content (Some layer) Publish =
 answer effect after s content (Some layer) Discard = (Read (s.note Discarded), None)
 answer effect after s content (Some layer) (Do command) =
     where_fit s layer (s.unfit content layer) (effect (after content layer) command)
+
+-- whether an act only reads: all but a command without a sandbox, and PUBLISH with one
+abbrev pub Reads : {K T : Type 0} → Option T → Act K → Type 0
+Reads None Open = ⊤
+Reads None Publish = ⊤
+Reads None Discard = ⊤
+Reads None (Do command) = ⊥
+Reads (Some layer) Open = ⊤
+Reads (Some layer) Publish = ⊥
+Reads (Some layer) Discard = ⊤
+Reads (Some layer) (Do command) = ⊤
+
+-- the writes that are kept now: these others, if there are others
+abbrev pub or_kept : {T : Type 0} → T → Option T → T
+or_kept kept None = kept
+or_kept kept (Some next) = next
 
 -- what a world promises of its sandboxes, besides: the laws on publishing stand on it
 pub record IsSandboxing {C K T R : Type 0} (effect : C → K → Effect T R) (after : C → T → C) (s : Sandboxing C K T R)
