@@ -32,7 +32,7 @@ legal_users effect after first users log legal place entry is =
 
 module _ {T : Type 0} where
   -- with one user, a place up to which the user has no entry is the first one
-  at_least : (log : List (Entry T)) (least place : ℕ) → HasUsers 1 log → least ≤ place → place ≤ length log → NoneWithin log least place 1 → place ≡ least
+  pub at_least : (log : List (Entry T)) (least place : ℕ) → HasUsers 1 log → least ≤ place → place ≤ length log → NoneWithin log least place 1 → place ≡ least
   at_least log least place known from within none =
       elim (cases_lt least place) [
         | inl less ↦
@@ -42,7 +42,7 @@ module _ {T : Type 0} where
         | inr more ↦ omega arith
       ]
 
-  at_end : (log : List (Entry T)) (least : ℕ) → HasUsers 1 log → least ≤ length log → NoneFrom log least 1 → length log ≡ least
+  pub at_end : (log : List (Entry T)) (least : ℕ) → HasUsers 1 log → least ≤ length log → NoneFrom log least 1 → length log ≡ least
   at_end log least known within none =
       elim (cases_lt least (length log)) [
         | inl less ↦
@@ -54,7 +54,7 @@ module _ {T : Type 0} where
 
 module _ {C K T R : Type 0} (effect : C → K → Effect T R) (after : C → T → C) (first : C) where
   -- after the next answer the two histories still agree
-  agree_on : (found : Effect T R) (log other : List (Entry T)) (least number : ℕ) → take least log ≡ take least other
+  pub agree_on : (found : Effect T R) (log other : List (Entry T)) (least number : ℕ) → take least log ≡ take least other
       → Stands found log least 1 number → Stands found other least 1 number
       → take (least_after found least) log ≡ take (least_after found least) other
   agree_on (Commit writes reply) log other least number agree here there =

@@ -1,0 +1,4 @@
+pub mod Runs
+pub mod Histories
+pub mod Alone
+pub mod OneUser

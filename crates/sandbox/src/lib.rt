@@ -1,0 +1,16 @@
+//! Sandboxes: a user's writes that are kept apart until the user publishes them, as one commit, or discards them.
+//!
+//! - [`Act`] is what a user does: open, publish or discard a sandbox, or a command of the world.
+//! - [`Layered`] is a world that can lay kept writes over a state.
+//! - [`read_in`] answers all acts but those that may commit.
+//!
+//! `specs/Sandboxes.antt` says what each act is answered.
+#![tactic(auto)]
+
+mod act;
+mod layered;
+mod reading;
+
+pub use act::{Act, Note};
+pub use layered::{Layered, Over};
+pub use reading::read_in;
