@@ -51,12 +51,12 @@ record DecidesOn {T R : Type 0} (found : Effect T R) (log later : List (Entry T)
   pub stands : Stands found (log ++ extra) (length log) user number
   pub none : NoneFrom (log ++ extra) (least_after found (length log)) user
 
-module _ {T R : Type 0} where
-  decides_none : (log later : List (Entry T)) (user : ℕ) → later ≡ log → (later ≡ log ++ []) × (length log ≤ length (log ++ [])) × NoneFrom (log ++ []) (length log) user
-  decides_none log later user same =
-      let nothing : log ++ [] ≡ log = append-nil log in
-      rw nothing (same, omega arith, none_at_end log user)
+decides_none : {T : Type 0} (log later : List (Entry T)) (user : ℕ) → later ≡ log → (later ≡ log ++ []) × (length log ≤ length (log ++ [])) × NoneFrom (log ++ []) (length log) user
+decides_none log later user same =
+    let nothing : log ++ [] ≡ log = append-nil log in
+    rw nothing (same, omega arith, none_at_end log user)
 
+module _ {T R : Type 0} where
   decides_on : (found : Effect T R) (accepted : Bool) (log later : List (Entry T)) (user number : ℕ) → Decides found accepted log later user number
       → DecidesOn found log later user number
   decides_on (Commit writes reply) accepted log later user number decides =
