@@ -209,7 +209,7 @@ module _ {C K T R : Type 0} (answer : C → Option T → K → Effect T R × Opt
     -- where it was told whether there was a next one, and there was
     pub next_left : (before later : SessionOf H S T K R) (more : Bool) → length before.told.items < length before.commands
         → MatchBool more (HasAnsweredNext answer after first before later)
-          ((length before.told.items ≡ length before.commands) × (later.told.items ≡ before.told.items) × (later.layer ≡ before.layer))
+        ((length before.told.items ≡ length before.commands) × (later.told.items ≡ before.told.items) × (later.layer ≡ before.layer))
         → HasAnsweredNext answer after first before later
     next_left before later true left told = told
     next_left before later false left told = absurd (omega (arith, left, told.0))
