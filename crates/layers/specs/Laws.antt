@@ -1,5 +1,5 @@
--- What the laws of this crate say, of any world: `answer` is what a command does on a content and a layer, with the next
--- layer, and `after` is what writes make of a content.
+-- What the laws of this crate say, of any world: `answer` is what a command does on a content and a layer, with the
+-- next layer, and `after` is what writes make of a content.
 use Rattle.std.specs.Prelude.{ℕ, ◌≡◌, ◌+◌, ◌++◌, List, [], ◌∷◌, Some, slice_get, length, take}
 use Rattle.history.specs.declared.entry.Entry.{Entry}
 use Rattle.history.specs.declared.told.Told.{Told}
@@ -7,7 +7,8 @@ use Rattle.history.specs.declared.effect.Effect.{Effect}
 use Rattle.history.specs.Version.{content_after, version, NoneFrom}
 use Rattle.history.specs.UserRun.{reply_of, least_after, Stands}
 use Rattle.history.specs.LegalHistory.{HasUsers}
-use Rattle.layers.specs.Layered.{layered, layer_after, LayeredSoFar, LayeredRun, IsLayeredHistoryOf, told_at, places_in, writes_in}
+use Rattle.layers.specs.Layered.{layered, layer_after, LayeredSoFar, LayeredRun, IsLayeredHistoryOf}
+use Rattle.layers.specs.Layered.{told_at, places_in, writes_in}
 
 -- others' commits change nothing of what a user was told, and nothing of the user's layer
 abbrev pub LayeredRunStaysBesideOthers : {C L K T R : Type 0} → (C → L → K → Effect T R × L) → (C → T → C) → Type 0
@@ -16,7 +17,7 @@ LayeredRunStaysBesideOthers {C} {L} {K} {T} {R} answer after =
     → LayeredSoFar answer after first log user layer told commands → NoneFrom extra 0 user
     → LayeredSoFar answer after first (log ++ extra) user layer told commands
     × (layer_after answer after first (log ++ extra) layer told commands
-      ≡ layer_after answer after first log layer told commands)
+    ≡ layer_after answer after first log layer told commands)
 
 -- a user's run goes on by the answer to its next command on the newest version with the layer that the user then has,
 -- and the user's layer is then the one that this answer gives
@@ -27,7 +28,7 @@ LayeredRunGoesOnByOne {C} {L} {K} {T} {R} answer after =
     → LayeredSoFar answer after first log user layer told commands → slice_get commands (length told) ≡ Some command
     → one.place ≡ length log
     → answer (content_after after first log) (layer_after answer after first log layer told commands) command
-      ≡ (found, next)
+    ≡ (found, next)
     → one.reply ≡ reply_of found → Stands found (log ++ extra) (length log) user (length told + 1)
     → NoneFrom (log ++ extra) (least_after found (length log)) user
     → LayeredSoFar answer after first (log ++ extra) user layer (told ++ one ∷ []) commands
@@ -87,6 +88,6 @@ LayersGoByCommands {C} {L} {K} {T} {R} answer after =
     → let before = λ (index : ℕ). layer_after answer after first log layer (take index told) commands in
     (before 0 ≡ layer)
     × ((index : ℕ) (one : Told R) (command : K)
-      → slice_get told index ≡ Some one → slice_get commands index ≡ Some command
-      → (slice_get (layered answer after first log layer told commands) index ≡ Some (before index, command))
-      × (before (index + 1) ≡ (answer (version after first log one.place) (before index) command).1))
+    → slice_get told index ≡ Some one → slice_get commands index ≡ Some command
+    → (slice_get (layered answer after first log layer told commands) index ≡ Some (before index, command))
+    × (before (index + 1) ≡ (answer (version after first log one.place) (before index) command).1))

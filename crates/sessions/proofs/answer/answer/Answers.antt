@@ -1,23 +1,17 @@
-use Rattle.std.proofs.Common.{rules, arith, subst}
-use Rattle.version_book.specs.Lists.{GoesOn}
-use Rattle.version_book.specs.Passes.{numbers_of, opening_of, seen}
-use Rattle.version_book.proofs.Lists.{goes-on}
-use Rattle.sessions.proofs.Answered.{settles_since}
+use Rattle.std.proofs.Common.{rules, ◌≡◌, Some}
+use Rattle.version_book.specs.Passes.{opening_of}
+use Rattle.sandbox.specs.declared.act.Act.TheVariants.{Publish}
+use Rattle.sessions.specs.Answers.{sight}
+use Rattle.sessions.proofs.Acts.{publish_answered}
 use Rattle.sessions.proofs.answer.answer.Goals as goal
 
-pub returns-in_err-settled-in-Commit-clause-err : goal.returns-in_err-settled-in-Commit-clause-err
-returns-in_err-settled-in-Commit-clause-err g c =
-    let goes : GoesOn (seen c.args.pass.now) (seen c.commit.new.pass) (numbers_of c.args.pass.now) =
-    goes-on _ _ _ _ c.pin.ensures.seen (subst (λ ns. GoesOn (seen c.pin.new.pass) (seen c.commit.new.pass) ns) c.pin.ensures.same.all c.in_err-settled-in-Commit.ensures.err) in
-    search rules
-
-pub returns-in_ok-settled-in-Commit-clause-answered : goal.returns-in_ok-settled-in-Commit-clause-answered
-returns-in_ok-settled-in-Commit-clause-answered g c =
+pub returns-in_ok-settled-in-Some-Publish-clause-answered : goal.returns-in_ok-settled-in-Some-Publish-clause-answered
+returns-in_ok-settled-in-Some-Publish-clause-answered g c =
     let w = g.W.World in
-    let settled = c.in_ok-settled-in-Commit.ensures.settled in
-    record {
-      accepted = c.in_ok-settled-in-Commit.settled.accepted;
-      settles = settles_since w.effect w.after (w.content (opening_of c.args.book.now)) (seen c.args.pass.now) (seen c.pin.new.pass) (seen c.commit.new.pass) c.args.by.0 _ (numbers_of c.args.pass.now) _ c.args.by.1 c.args.command.now c.in_ok-settled-in-Commit.settled
-          c.pin.ensures.seen c.requires.user c.pin.ensures.same.all settled;
-      looked = (let up = c.pin.ensures.looks in let more = c.commit.ensures.looks in omega arith);
-    }
+    let kept = c.in-Some-Publish.kept.now in
+    let settled = c.in_ok-settled-in-Some-Publish.settled in
+    let layer_is : c.args.layer.now ≡ Some kept = search rules in
+    let act_is : c.args.act.now ≡ Publish = search rules in
+    publish_answered w.effect w.after g.W.Layered.sandbox (w.content (opening_of c.args.book.now)) (sight c.args.pass.now) (sight c.decide-in-Some-Publish.new.pass) c.args.by.0 c.args.by.1
+    c.args.layer.now kept c.args.act.now c.in_ok-command-in-Some-Publish.command settled c.told_of-in-Some-Publish.result c.leave.new.layer
+    layer_is act_is c.told_of-in-Some-Publish.ensures c.leave.ensures c.in_ok-command-in-Some-Publish.ensures.fixed c.in_ok-settled-in-Some-Publish.ensures.decided
