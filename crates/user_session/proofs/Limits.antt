@@ -49,3 +49,11 @@ fits-leaves content writes is = leaf-writes content.model.space writes (fits-par
 
 pub fits-limits : (content : Content) (writes : List (ℕ × ℤ)) → misfit content writes ≡ None → IsWithinLimits content.model (after_writes content.stored writes)
 fits-limits content writes is = none-passed content.model (after_writes content.stored writes) (fits-parts content writes is).1
+
+-- which reason holds: that of the cells first
+pub misfit-name : (content : Content) (writes : List (ℕ × ℤ)) → all_leaf_cells content.model.space writes ≡ false → misfit content writes ≡ Some UnknownName
+misfit-name content writes is = rw is refl
+
+pub misfit-limit : (content : Content) (writes : List (ℕ × ℤ)) → all_leaf_cells content.model.space writes ≡ true
+    → misfit content writes ≡ passed_limit content.model (after_writes content.stored writes)
+misfit-limit content writes is = rw is refl

@@ -1,11 +1,13 @@
--- A planner's sandbox: what is kept in it, and what its user is replied.
+-- A planner's sandbox: what is kept in it, and what a planner with or without one is answered.
 use Rattle.std.specs.Prelude.{ℕ, ℤ, List, [], ◌++◌, length, Option}
 use Rattle.std.specs.Option.{option_map}
 use Rattle.cell_writes.specs.Writes.{last_writes}
-use Rattle.sandbox.specs.Sandboxes.{Sandboxing}
+use Rattle.sandbox.specs.Sandboxes.{Sandboxing, answer as answer_of}
+use Rattle.sandbox.specs.declared.act.Act.{Act}
 use Rattle.sandbox.specs.declared.act.Note.{Note}
 use Rattle.sandbox.specs.declared.act.Note.TheVariants as notes
-use Rattle.user_session.specs.Planning.{misfit}
+use Rattle.user_session.specs.Content.{after}
+use Rattle.user_session.specs.Planning.{PlanEffect, effect, misfit}
 use Rattle.user_session.specs.Replies.{reply_text}
 use Rattle.user_session.specs.declared.command.PlanCommand.{PlanCommand}
 use Rattle.user_session.specs.declared.command.PlanCommand.TheVariants.{Fixed}
@@ -35,3 +37,7 @@ sandbox = record {
   note = λ note. reply_text (noted note);
   kept = λ writes. reply_text (Kept (length writes));
 }
+
+-- what an act does on a version, for a planner whose sandbox keeps these writes or who has none, and what is kept next
+abbrev pub answer : Content → Option (List (ℕ × ℤ)) → Act PlanCommand → PlanEffect × Option (List (ℕ × ℤ))
+answer = answer_of effect after sandbox

@@ -6,6 +6,7 @@
 //! crate alone: a case of [`PlanCommand`], of `effect` and of the reply's text.
 #![tactic(auto)]
 
+mod acts;
 mod command;
 mod content;
 mod fixed_writes;
@@ -20,6 +21,7 @@ mod view_command;
 mod world;
 mod writes;
 
+pub use acts::PlanActs;
 pub use command::PlanCommand;
 pub use content::Content;
 pub use laws::layers_are_writes_in_turn;
