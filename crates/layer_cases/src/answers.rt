@@ -36,7 +36,7 @@ fn answer<R: Threads + Wait + Sync>(
     match kind {
         "read" => write_answer(out, &read_cases::readings(alloc, lines)?),
         "load" => script_cases::answer_load(alloc, lines, out),
-        "memo" | "run" => match texts.text_of(alloc, lines)? {
+        "memo" | "run" | "told" => match texts.text_of(alloc, lines)? {
             Some(text) => answer_at_once(rt, alloc, kind, text, out),
             None => write_answer(out, b"a line of this case is none of a text"),
         },
@@ -61,7 +61,11 @@ fn answer_at_once<R: Threads + Wait + Sync>(
     }
     match String::from_utf8(text) {
         Ok(users) => {
-            let told = session_cases::ending_of(rt, alloc, &users)?;
+            let told = if kind == "told" {
+                session_cases::replies_of(rt, alloc, &users)?
+            } else {
+                session_cases::ending_of(rt, alloc, &users)?
+            };
             write_answer(out, told.as_bytes())
         }
         Err(_) => write_answer(out, b"this case is no text"),

@@ -10,7 +10,7 @@
 //! - `read`: each way of reading gives each cell the same value ([`read_cases`]).
 //! - `load`: load scripts over cells that the case lists ([`script_cases`]).
 //! - `memo`: two readers at one memo, over a model text ([`memo_cases`]).
-//! - `run`: users on threads, a line each ([`session_cases`]).
+//! - `run`, `told`: users on threads, a line each, and how they ended, or all that they were told ([`session_cases`]).
 #![tactic(auto)]
 
 mod answers;

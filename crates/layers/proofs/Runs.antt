@@ -1,6 +1,7 @@
 -- A user's layered run, while others commit and by one answer more.
 use Rattle.std.proofs.Common.{◌≡◌, ℕ, ◌+◌, ◌≤◌, zero, suc, List, [], ◌∷◌, ◌++◌, length, map, take, Some, refl, ap, sym, ◌∙◌, subst, arith}
 use Rattle.std.specs.List.{slice_get}
+use Rattle.std.proofs.lemmas.List.{length-map}
 use Rattle.history.specs.declared.entry.Entry.{Entry}
 use Rattle.history.specs.declared.told.Told.{Told}
 use Rattle.history.specs.declared.effect.Effect.{Effect}
@@ -8,7 +9,7 @@ use Rattle.history.specs.Version.{content_after, version, NoneFrom}
 use Rattle.history.specs.UserRun.{reply_of, least_after, Stands, ToldFrom}
 use Rattle.history.proofs.Runs.{least_after_le, place_le, version-append, version-all, told_more, told_one}
 use Rattle.lists.proofs.Found.{none_some, some_same}
-use Rattle.layers.specs.Layered.{effect_of, layered, layer_after, LayeredSoFar}
+use Rattle.layers.specs.Layered.{effect_of, layered, layer_after, LayeredSoFar, LayeredRun}
 
 module _ {C L K T R : Type 0} (answer : C → L → K → Effect T R × L) (after : C → T → C) (first : C) where
   -- the place of a told answer is a version of the history
@@ -106,3 +107,36 @@ module _ {C L K T R : Type 0} (answer : C → L → K → Effect T R × L) (afte
       (ap (λ (k : K). Some (layer, k)) (some_same at), rw (sym (some_same is), sym (some_same at)) refl)
   layer_before log layer (told ∷ more) (next ∷ commands) (suc index) one command is at =
       layer_before log (answer (version after first log told.place) layer next).1 more commands index one command is at
+
+  -- each command stands once
+  pub layered_length : (log : List (Entry T)) (layer : L) (told : List (Told R)) (commands : List K) → length told ≤ length commands
+      → length (layered answer after first log layer told commands) ≡ length commands
+  layered_length log layer [] commands few = length-map commands (λ (k : K). (layer, k))
+  layered_length log layer (one ∷ told) [] few = absurd (omega (arith, few))
+  layered_length log layer (one ∷ told) (command ∷ commands) few =
+      ap suc (layered_length log (answer (version after first log one.place) layer command).1 told commands (omega (arith, few)))
+
+  -- no more is told than there are commands
+  few_from : (log : List (Entry T)) (user number least : ℕ) (layer : L) (told : List (Told R)) (commands : List K)
+      → ToldFrom (effect_of answer) after first log user number least told (layered answer after first log layer told commands) → length told ≤ length commands
+  few_from log user number least layer [] commands t = omega arith
+  few_from log user number least layer (one ∷ told) [] t = absurd t
+  few_from log user number least layer (one ∷ told) (command ∷ commands) t =
+      let found = effect_of answer (version after first log one.place) (layer, command) in
+      omega (arith, few_from log user (number + 1) (least_after found one.place) (answer (version after first log one.place) layer command).1 told commands t.4)
+
+  pub layered_few : (log : List (Entry T)) (user : ℕ) (layer : L) (told : List (Told R)) (commands : List K)
+      → LayeredSoFar answer after first log user layer told commands → length told ≤ length commands
+  layered_few log user layer told commands run = few_from log user 1 0 layer told commands run
+
+  -- a run in which no command is left is a whole one
+  pub layered_whole : (log : List (Entry T)) (user : ℕ) (layer : L) (told : List (Told R)) (commands : List K)
+      → length told ≡ length commands → LayeredSoFar answer after first log user layer told commands → LayeredRun answer after first log user layer told commands
+  layered_whole log user layer told commands all run = (all ∙ sym (layered_length log layer told commands (omega (arith, all))), run)
+
+  -- and stays one while others commit
+  pub layered_whole_more : (log extra : List (Entry T)) (user : ℕ) (layer : L) (told : List (Told R)) (commands : List K)
+      → LayeredRun answer after first log user layer told commands → NoneFrom extra 0 user → LayeredRun answer after first (log ++ extra) user layer told commands
+  layered_whole_more log extra user layer told commands run none =
+      let all : length told ≡ length commands = run.0 ∙ layered_length log layer told commands (layered_few log user layer told commands run.1) in
+      layered_whole (log ++ extra) user layer told commands all (layered_more log extra user layer told commands run.1 none).0

@@ -1,5 +1,5 @@
--- What the laws of this crate say, of any world: `answer` is what a command does on a content and a layer, with the next
--- layer, and `after` is what writes make of a content.
+-- What the laws of this crate say, of any world: `answer` is what a command does on a content and a layer, with the
+-- next layer, and `after` is what writes make of a content.
 use Rattle.std.specs.Prelude.{ℕ, ◌≡◌, ◌+◌, ◌++◌, List, [], ◌∷◌, Some, slice_get, length, take}
 use Rattle.history.specs.declared.entry.Entry.{Entry}
 use Rattle.history.specs.declared.told.Told.{Told}
@@ -7,7 +7,8 @@ use Rattle.history.specs.declared.effect.Effect.{Effect}
 use Rattle.history.specs.Version.{content_after, version, NoneFrom}
 use Rattle.history.specs.UserRun.{reply_of, least_after, Stands}
 use Rattle.history.specs.LegalHistory.{HasUsers}
-use Rattle.layers.specs.Layered.{layered, layer_after, LayeredSoFar, LayeredRun, IsLayeredHistoryOf, told_at, places_in, writes_in}
+use Rattle.layers.specs.Layered.{layered, layer_after, LayeredSoFar, LayeredRun, IsLayeredHistoryOf}
+use Rattle.layers.specs.Layered.{told_at, places_in, writes_in}
 
 -- others' commits change nothing of what a user was told, and nothing of the user's layer
 abbrev pub LayeredRunStaysBesideOthers : {C L K T R : Type 0} → (C → L → K → Effect T R × L) → (C → T → C) → Type 0

@@ -1,8 +1,8 @@
 -- Users with private layers. A command is answered on a content and on the layer that its user has before it, and the
 -- answer gives the layer that the user has next. So a layer goes along with a user's commands, and all that is said of
 -- histories is said of commands with their layers.
--- Everywhere `answer` is what a command does on a content and a layer, with the next layer; `after` is what writes make
--- of a content, and `first` is the opening content.
+-- Everywhere `answer` is what a command does on a content and a layer, with the next layer; `after` is what writes
+-- make of a content, and `first` is the opening content.
 use Rattle.std.specs.Prelude.{ℕ, ◌+◌, List, [], ◌∷◌, map}
 use Rattle.history.specs.declared.entry.Entry.{Entry}
 use Rattle.history.specs.declared.told.Told.{Told}

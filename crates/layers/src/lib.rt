@@ -1,5 +1,5 @@
-//! Users with private layers, over histories: a command is answered on a content and on its user's layer, and the answer
-//! gives the user's next layer.
+//! Users with private layers, over histories: a command is answered on a content and on its user's layer, and the
+//! answer gives the user's next layer.
 //!
 //! Read `specs/Layered.antt` first, then `specs/Laws.antt`. No word of them says what a layer is.
 #![tactic(auto)]

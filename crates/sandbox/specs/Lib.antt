@@ -1,1 +1,3 @@
 pub mod Sandboxes
+pub mod InTurn
+pub mod Laws

@@ -24,7 +24,7 @@ pub record Sandboxing (C K T R : Type 0) : Type 0 where
   pub kept : T → R
 
 -- the layer after the sandbox of these writes was published with this effect: none where they were committed
-abbrev pub left_of : {T R : Type 0} → T → Effect T R → Option T
+abbrev pub left_of : {L T R : Type 0} → L → Effect T R → Option L
 left_of layer (Commit writes reply) = None
 left_of layer (Rejected reply) = Some layer
 left_of layer (Read reply) = Some layer
@@ -40,8 +40,8 @@ abbrev pub where_fit : {C K T R : Type 0} → Sandboxing C K T R → T → Optio
 where_fit s layer None found = kept_in s layer found
 where_fit s layer (Some reason) found = (Read reason, Some layer)
 
--- What an act does on this content for a user with this layer, and the user's next layer. A command in a sandbox acts on
--- the content after the kept writes, and PUBLISH is the one commit of all of them.
+-- What an act does on this content for a user with this layer, and the user's next layer. A command in a sandbox acts
+-- on the content after the kept writes, and PUBLISH is the one commit of all of them.
 abbrev pub answer : {C K T R : Type 0} → (C → K → Effect T R) → (C → T → C) → Sandboxing C K T R
     → C → Option T → Act K → Effect T R × Option T
 answer effect after s content None Open = (Read (s.note Opened), Some s.none)
@@ -76,7 +76,8 @@ pub record IsSandboxing {C K T R : Type 0} (effect : C → K → Effect T R) (af
     : Type 0 where
   -- no writes change nothing, and two joined are the first and then the second
   pub nothing : (content : C) → after content s.none ≡ content
-  pub joined : (content : C) (first second : T) → after content (s.join first second) ≡ after (after content first) second
+  pub joined : (content : C) (first second : T)
+      → after content (s.join first second) ≡ after (after content first) second
   -- a layer whose content can be had is committed as it is, and any other is rejected
   pub fits : (content : C) (layer : T) → s.unfit content layer ≡ None
       → (reply : R) × (effect content (s.fixed layer) ≡ Commit layer reply)

@@ -4,13 +4,15 @@
 //! - [`Layered`] is a world that can lay kept writes over a state.
 //! - [`read_in`] answers all acts but those that may commit.
 //!
-//! `specs/Sandboxes.antt` says what each act is answered.
+//! `specs/Sandboxes.antt` says what each act is answered, and `specs/Laws.antt` what publishing is.
 #![tactic(auto)]
 
 mod act;
+mod laws;
 mod layered;
 mod reading;
 
 pub use act::{Act, Note};
+pub use laws::publishing_is_the_kept_writes_at_once;
 pub use layered::{Layered, Over};
 pub use reading::read_in;

@@ -8,8 +8,8 @@ use crate::layered::{Layered, Over};
 use history::Effect;
 use std::alloc::{AllocError, Global};
 
-/// Answers an act that commits nothing, on this state, and gives the user's next layer. Where memory runs out the layer
-/// is as it was.
+/// Answers an act that commits nothing, on this state, and gives the user's next layer. Where memory runs out the
+/// layer is as it was.
 pub fn read_in<W: Layered>(
     alloc: Global,
     state: &W::State,

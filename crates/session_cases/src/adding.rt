@@ -1,4 +1,5 @@
 use history::{Effect, World};
+use sandbox::{Layered, Note, Over};
 use std::alloc::{AllocError, Global};
 
 /// The greatest number that may be added at once.
@@ -6,6 +7,9 @@ pub const MAX_ADDED: u64 = 100;
 
 /// Nothing is added to a total above this one.
 pub const FULL: u64 = 1_000_000;
+
+/// No sandbox may bring the total above this one.
+pub const ROOM: u64 = 1_000;
 
 /// A world of one total, to which users add.
 pub struct Adding;
@@ -15,6 +19,8 @@ pub struct Adding;
 pub enum Order {
     /// Adds a number, which is at most [`MAX_ADDED`].
     Add(u64),
+    /// Adds what a sandbox kept.
+    Give(u64),
     /// Asks for the total.
     Ask,
 }
@@ -28,12 +34,18 @@ pub enum Answer {
     Refused(u64),
     /// The total.
     Total(u64),
+    /// The number was kept in the sandbox.
+    Kept(u64),
+    /// The total with what the sandbox keeps is above [`ROOM`].
+    NoRoom,
+    /// What became of a sandbox.
+    Noted(Note),
 }
 
 impl World for Adding {
     ghost use Rattle.std.specs.Prelude.{◌+◌, ◌&&◌, nat_le, if◌then◌else◌};
     ghost use Rattle.history.specs.declared.effect.Effect.TheVariants.{Commit, Rejected, Read};
-    ghost use Rattle.session_cases.specs.declared.adding.Order.TheVariants.{Add, Ask};
+    ghost use Rattle.session_cases.specs.declared.adding.Order.TheVariants.{Add, Give, Ask};
     ghost use Rattle.session_cases.specs.declared.adding.Answer.TheVariants.{Added, Refused, Total};
 
     type State = u64;
@@ -44,6 +56,7 @@ impl World for Adding {
 
     type Reply = Answer;
 
+    /// How much is added.
     type Writes = u64;
 
     type Value = u64;
@@ -52,11 +65,12 @@ impl World for Adding {
 
     ghost effect = { λ total order. elim order [
       | Add n ↦ (if nat_le n 100 && nat_le total 1000000
-          then Commit (total + n) (Added (total + n)) else Rejected (Refused n))
+          then Commit n (Added (total + n)) else Rejected (Refused n))
+      | Give n ↦ (if nat_le (total + n) 1000 then Commit n (Added (total + n)) else Rejected (Refused n))
       | Ask ↦ Read (Total total)
     ] };
 
-    ghost after = { λ total writes. writes };
+    ghost after = { λ total writes. total + writes };
 
     ghost cell_value = { λ total cell. total };
 
@@ -71,14 +85,78 @@ impl World for Adding {
     ) -> Result<Effect<u64, Answer>, AllocError> {
         Ok(match command {
             Order::Add(number) if *number <= MAX_ADDED && *state <= FULL => {
-                Effect::Commit(*state + *number, Answer::Added(*state + *number))
+                Effect::Commit(*number, Answer::Added(*state + *number))
             }
-            Order::Add(number) => Effect::Rejected(Answer::Refused(*number)),
+            Order::Give(number) if has_room(*state, *number) => {
+                Effect::Commit(*number, Answer::Added(*state + *number))
+            }
+            Order::Add(number) | Order::Give(number) => {
+                Effect::Rejected(Answer::Refused(*number))
+            }
             Order::Ask => Effect::Read(Answer::Total(*state)),
         })
     }
 
-    fn next(_alloc: Global, _state: &u64, writes: &u64) -> Result<u64, AllocError> {
-        Ok(*writes)
+    fn next(_alloc: Global, state: &u64, writes: &u64) -> Result<u64, AllocError> {
+        sum(*state, *writes)
     }
+}
+
+impl Layered for Adding {
+    ghost use Rattle.std.specs.Prelude.{◌+◌, nat_le, if◌then◌else◌, None, Some};
+    ghost use Rattle.session_cases.specs.declared.adding.Order.TheVariants.{Give};
+    ghost use Rattle.session_cases.specs.declared.adding.Answer.TheVariants.{Kept, NoRoom, Noted};
+
+    ghost sandbox = { record {
+        none = 0;
+        join = λ first second. first + second;
+        fixed = λ number. Give number;
+        unfit = λ total layer. if nat_le (total + layer) 1000 then None else Some NoRoom;
+        note = λ note. Noted note;
+        kept = λ number. Kept number;
+    } };
+
+    fn none(_alloc: Global) -> Result<u64, AllocError> {
+        Ok(0)
+    }
+
+    fn join(_alloc: Global, first: &u64, second: &u64) -> Result<u64, AllocError> {
+        sum(*first, *second)
+    }
+
+    fn fixed(_alloc: Global, writes: &u64) -> Result<Order, AllocError> {
+        Ok(Order::Give(*writes))
+    }
+
+    fn over(_alloc: Global, state: &u64, layer: &u64) -> Result<Over<u64, Answer>, AllocError> {
+        if has_room(*state, *layer) {
+            Ok(Over::Fits(*state + *layer))
+        } else {
+            Ok(Over::Unfit(Answer::NoRoom))
+        }
+    }
+
+    fn note(_alloc: Global, note: Note) -> Result<Answer, AllocError> {
+        Ok(Answer::Noted(note))
+    }
+
+    fn kept(_alloc: Global, writes: &u64) -> Result<Answer, AllocError> {
+        Ok(Answer::Kept(*writes))
+    }
+}
+
+ghost use Rattle.std.specs.Prelude.{◌≡◌, ◌+◌, nat_le, IfOk};
+
+// Whether a sandbox that keeps this number may be added to the total.
+fn has_room(total: u64, number: u64) -> bool
+    ensures { result ≡ nat_le (total + number) 1000 }
+{
+    total <= ROOM && number <= ROOM - total
+}
+
+// The sum of two numbers; where it is 2^64 or more, memory is said to have run out.
+fn sum(first: u64, second: u64) -> Result<u64, AllocError>
+    ensures { IfOk result (λ both. both ≡ first + second) }
+{
+    first.checked_add(second).ok_or(AllocError)
 }

@@ -1,7 +1,8 @@
 //! Cases of users on threads, over a world of one total. The lines of a case are its users'.
 //!
-//! In a user's line a number is added, where it is at most 100, and `?` asks for the total. A case prints how it ended,
-//! which no order of the users changes.
+//! In a user's line a number is added, where it is at most 100, and `?` asks for the total. `[` opens a sandbox, `]`
+//! publishes it and `x` discards it. A case prints how it ended, which no order of the users changes, or all that was
+//! told, where no order changes that.
 #![tactic(auto)]
 
 mod adding;
@@ -9,7 +10,7 @@ mod cases;
 mod restless;
 
 use crate::adding::Adding;
-use crate::cases::{ending, users_of};
+use crate::cases::{ending, replies, users_of};
 use crate::restless::Restless;
 use std::alloc::{AllocError, Global};
 use std::sync::Wait;
@@ -24,4 +25,15 @@ pub fn ending_of<R: Threads + Wait + Sync>(
     let users = users_of(alloc, users)?;
     let served = sessions::serve::<Adding, _, _>(rt, alloc, &Restless, 0, users)?;
     ending(alloc, &served)
+}
+
+/// What the users of a case were told, and the history that they left.
+pub fn replies_of<R: Threads + Wait + Sync>(
+    rt: &R,
+    alloc: Global,
+    users: &str,
+) -> Result<String, AllocError> {
+    let users = users_of(alloc, users)?;
+    let served = sessions::serve::<Adding, _, _>(rt, alloc, &Restless, 0, users)?;
+    replies(alloc, &served)
 }

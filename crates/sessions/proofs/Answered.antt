@@ -1,12 +1,15 @@
 -- What a session was told by one answer, and by one more.
-use Rattle.std.proofs.Common.{◌≡◌, ℕ, ◌+◌, ◌≤◌, ◌<◌, zero, suc, Bool, true, false, MatchBool, ap, length-append, append-nil, append_assoc, drop, List, [], ◌∷◌, ◌++◌, length, Some, slice_get, refl, sym, ◌∙◌, subst, arith}
+use Rattle.std.proofs.Common.{◌≡◌, ℕ, ◌+◌, ◌≤◌, ◌<◌, zero, suc, Bool, true, false, MatchBool, Option, None, ap, length-append, append-nil, append_assoc, drop, List, [], ◌∷◌, ◌++◌, length, Some, slice_get, refl, sym, ◌∙◌, subst, arith}
 use Rattle.history.specs.declared.entry.Entry.{Entry}
 use Rattle.history.specs.declared.told.Told.{Told}
 use Rattle.history.specs.declared.effect.Effect.{Effect}
 use Rattle.history.specs.declared.effect.Effect.TheVariants.{Commit, Rejected, Read}
-use Rattle.history.specs.Version.{content_after, version}
-use Rattle.history.specs.UserRun.{reply_of, least_after, ToldFrom, RunSoFar}
-use Rattle.history.proofs.Runs.{told_more, run_committed, run_told}
+use Rattle.history.specs.Version.{content_after, NoneFrom}
+use Rattle.history.specs.UserRun.{reply_of, least_after, Stands}
+use Rattle.history.proofs.Lists.{get_end}
+use Rattle.history.proofs.Runs.{none_at_end, none_past_end}
+use Rattle.layers.specs.Layered.{effect_of, layer_after, LayeredSoFar}
+use Rattle.layers.proofs.Runs.{layered_more, layered_one}
 use Rattle.version_book.specs.declared.book.Settled.{Settled}
 use Rattle.version_book.specs.Numbers.{has}
 use Rattle.version_book.specs.Commits.{Decides, Settles}
@@ -41,109 +44,124 @@ module _ {C K T R : Type 0} (effect : C → K → Effect T R) (after : C → T �
         settles = here.settles;
       }
 
-  -- no more is told than there are commands
-  pub told_few : (log : List (Entry T)) (user number least : ℕ) (told : List (Told R)) (commands : List K)
-      → ToldFrom effect after first log user number least told commands → length told ≤ length commands
-  told_few log user number least [] commands run = omega arith
-  told_few log user number least (one ∷ told) [] run = absurd run
-  told_few log user number least (one ∷ told) (command ∷ commands) run =
-      omega (arith, told_few log user (number + 1) (least_after (effect (version after first log one.place) command) one.place) told commands run.4)
+-- What is decided on a list makes the later list of it: by the command's own entry, or not at all.
+record DecidesOn {T R : Type 0} (found : Effect T R) (log later : List (Entry T)) (user number : ℕ) : Type 0 where
+  pub extra : List (Entry T)
+  pub is : later ≡ log ++ extra
+  pub stands : Stands found (log ++ extra) (length log) user number
+  pub none : NoneFrom (log ++ extra) (least_after found (length log)) user
 
-  -- what was told stays the user's run of what the pass then has seen
-  pub run_seen : (before later : List (Entry T)) (user : ℕ) (ns : List ℕ) (told : List (Told R)) (commands : List K)
-      → RunSoFar effect after first before user told commands → GoesOn before later ns → ns ≡ user ∷ [] → RunSoFar effect after first later user told commands
-  run_seen before later user ns told commands run goes own =
-      subst (λ (log : List (Entry T)). RunSoFar effect after first log user told commands) (sym goes.is)
-      (told_more effect after first before goes.added user (goes.none user (subst (λ (ms : List ℕ). has ms user ≡ true) (sym own) (has-first user []))) 1 0 told commands run)
+module _ {T R : Type 0} where
+  decides_none : (log later : List (Entry T)) (user : ℕ) → later ≡ log → (later ≡ log ++ []) × (length log ≤ length (log ++ [])) × NoneFrom (log ++ []) (length log) user
+  decides_none log later user same =
+      let nothing : log ++ [] ≡ log = append-nil log in
+      rw nothing (same, omega arith, none_at_end log user)
 
-  module _ (before later : List (Entry T)) (user : ℕ) (told : List (Told R)) (commands : List K) (command : K) (one : Told R) (settled : Settled R) where
-    -- of this effect one command more was told
-    run_decided : (log : List (Entry T)) → RunSoFar effect after first log user told commands → slice_get commands (length told) ≡ Some command
-        → one.place ≡ length log → (found : Effect T R) → effect (content_after after first log) command ≡ found → one.reply ≡ reply_of found
-        → Decides found settled.accepted log later user (length told + 1) → RunSoFar effect after first later user (told ++ one ∷ []) commands
-    run_decided log run is place (Commit writes reply) here same decides =
-        subst (λ (xs : List (Entry T)). RunSoFar effect after first xs user (told ++ one ∷ []) commands) (sym decides.1)
-        (run_committed effect after first log user told commands command one (record { user = user; command = length told + 1; writes = writes }) reply run is place here same refl refl)
-    run_decided log run is place (Rejected reply) here same decides =
-        subst (λ (xs : List (Entry T)). RunSoFar effect after first xs user (told ++ one ∷ []) commands) (sym decides.1)
-        (run_told effect after first log user told commands command one (Rejected reply) run is place here same refl)
-    run_decided log run is place (Read reply) here same decides =
-        subst (λ (xs : List (Entry T)). RunSoFar effect after first xs user (told ++ one ∷ []) commands) (sym decides.1)
-        (run_told effect after first log user told commands command one (Read reply) run is place here same refl)
+  decides_on : (found : Effect T R) (accepted : Bool) (log later : List (Entry T)) (user number : ℕ) → Decides found accepted log later user number
+      → DecidesOn found log later user number
+  decides_on (Commit writes reply) accepted log later user number decides =
+      let entry : Entry T = record { user = user; command = number; writes = writes } in
+      record { extra = entry ∷ []; is = decides.1; stands = get_end log entry; none = none_past_end log entry user }
+  decides_on (Rejected reply) accepted log later user number decides =
+      let none = decides_none log later user decides.1 in
+      record { extra = []; is = none.0; stands = none.1; none = none.2 }
+  decides_on (Read reply) accepted log later user number decides =
+      let none = decides_none log later user decides.1 in
+      record { extra = []; is = none.0; stands = none.1; none = none.2 }
 
-    -- a settled command is one command more of the user's run
-    pub run_settled : RunSoFar effect after first before user told commands → slice_get commands (length told) ≡ Some command
-        → settled.place ≡ one.place → settled.reply ≡ one.reply → Settles effect after first before later (user ∷ []) user (length told + 1) command settled
-        → RunSoFar effect after first later user (told ++ one ∷ []) commands
-    run_settled run is place reply settles =
-        run_decided settles.log (run_seen before settles.log user (user ∷ []) told commands run settles.others refl) is (sym place ∙ settles.settles.place)
-        (effect (content_after after first settles.log) command) refl (sym reply ∙ settles.settles.reply) settles.settles.decides
-
-  pub answered_as : (before later : Sight T) (user number other : ℕ) (command : K) (told : Told R) → number ≡ other
-      → IsAnswered effect after first before later user number command told → IsAnswered effect after first before later user other command told
-  answered_as before later user number other command told same answered =
-      subst (λ (n : ℕ). IsAnswered effect after first before later user n command told) same answered
-
-  -- one more was answered
-  pub answered_more : (before between later : Sight T) (user number : ℕ) (told : List (Told R)) (commands : List K) (command : K) (one : Told R)
-      → AreAnswered effect after first before between user number told commands → slice_get commands (length told) ≡ Some command
-      → IsAnswered effect after first between later user (length told + number) command one
-      → AreAnswered effect after first before later user number (told ++ one ∷ []) commands
-  answered_more before between later user number [] [] command one are is answered = cc
-  answered_more before between later user number [] (next ∷ commands) command one are is answered =
-      let same : command ≡ next = cc in
-      let zeroth : 0 + number ≡ number = omega arith in
-      let here = answered_as between later user (0 + number) number command one zeroth answered in (
-        later,
-        subst (λ (k : K). IsAnswered effect after first before later user number k one) same
-            (subst (λ (v : Sight T). IsAnswered effect after first v later user number command one) are here),
-        refl,
-      )
-  answered_more before between later user number (earlier ∷ told) [] command one are is answered = absurd are
-  answered_more before between later user number (earlier ∷ told) (next ∷ commands) command one are is answered =
-      let shift : length (earlier ∷ told) + number ≡ length told + (number + 1) = omega arith in
-      (are.0, are.1, answered_more are.0 between later user (number + 1) told commands command one are.2 is (answered_as between later user _ _ command one shift answered))
-
-  decides_adds : (found : Effect T R) (accepted : Bool) (log later : List (Entry T)) (user number : ℕ) → Decides found accepted log later user number
-      → (more : List (Entry T)) × (later ≡ log ++ more)
-  decides_adds (Commit writes reply) accepted log later user number is = (record { user = user; command = number; writes = writes } ∷ [], is.1)
-  decides_adds (Rejected reply) accepted log later user number is = ([], is.1 ∙ sym (append-nil log))
-  decides_adds (Read reply) accepted log later user number is = ([], is.1 ∙ sym (append-nil log))
-
+module _ {C K T R : Type 0} (effect : C → K → Effect T R) (after : C → T → C) (first : C) where
   -- a settled command adds to what was seen
   pub settles_adds : (before later : List (Entry T)) (users : List ℕ) (user number : ℕ) (command : K) (settled : Settled R)
       → Settles effect after first before later users user number command settled → (more : List (Entry T)) × (later ≡ before ++ more)
   settles_adds before later users user number command settled settles =
-      let more = decides_adds (effect (content_after after first settles.log) command) settled.accepted settles.log later user number settles.settles.decides in
-      (settles.others.added ++ more.0, more.1 ∙ ap (λ log. log ++ more.0) settles.others.is ∙ append_assoc before settles.others.added more.0)
+      let more = decides_on (effect (content_after after first settles.log) command) settled.accepted settles.log later user number settles.settles.decides in
+      (settles.others.added ++ more.extra, more.is ∙ ap (λ log. log ++ more.extra) settles.others.is ∙ append_assoc before settles.others.added more.extra)
+
+module _ {C L K T R : Type 0} (answer : C → L → K → Effect T R × L) (after : C → T → C) (first : C) where
+  -- what was told stays the user's run of what the pass then has seen, and the layer stays
+  pub run_seen : (before later : List (Entry T)) (user : ℕ) (ns : List ℕ) (none : L) (told : List (Told R)) (commands : List K)
+      → LayeredSoFar answer after first before user none told commands → GoesOn before later ns → ns ≡ user ∷ []
+      → LayeredSoFar answer after first later user none told commands × (layer_after answer after first later none told commands ≡ layer_after answer after first before none told commands)
+  run_seen before later user ns none told commands run goes own =
+      let others : NoneFrom goes.added 0 user = goes.none user (subst (λ (ms : List ℕ). has ms user ≡ true) (sym own) (has-first user [])) in
+      subst (λ (log : List (Entry T)). LayeredSoFar answer after first log user none told commands × (layer_after answer after first log none told commands ≡ layer_after answer after first before none told commands))
+      (sym goes.is) (layered_more answer after first before goes.added user none told commands run others)
+
+  -- an answered command is one command more of the user's run, and the user's layer is then the one that the answer gave
+  pub run_answered : (before later : Sight T) (user : ℕ) (none : L) (told : List (Told R)) (commands : List K) (layer : L) (command : K) (one : Told R) (next : L)
+      → LayeredSoFar answer after first before.seen user none told commands → layer ≡ layer_after answer after first before.seen none told commands
+      → slice_get commands (length told) ≡ Some command → IsAnswered answer after first before later user (length told + 1) layer command one next
+      → LayeredSoFar answer after first later.seen user none (told ++ one ∷ []) commands × (next ≡ layer_after answer after first later.seen none (told ++ one ∷ []) commands)
+  run_answered before later user none told commands layer command one next run layer_is is answered =
+      let log = answered.settles.log in
+      let content = content_after after first log in
+      let found = (answer content layer command).0 in
+      let now = run_seen before.seen log user (user ∷ []) none told commands run answered.settles.others refl in
+      let same : layer_after answer after first log none told commands ≡ layer = now.1 ∙ sym layer_is in
+      let found_is : answer content (layer_after answer after first log none told commands) command ≡ (found, next) =
+      ap (λ (l : L). answer content l command) same ∙ ap (λ (l : L). (found, l)) (sym answered.is_next) in
+      let on : DecidesOn found log later.seen user (length told + 1) = decides_on found answered.accepted log later.seen user (length told + 1) answered.settles.settles.decides in
+      let more = layered_one answer after first log on.extra user none told commands command one found next now.0 is answered.settles.settles.place found_is answered.settles.settles.reply on.stands on.none in
+      subst (λ (xs : List (Entry T)). LayeredSoFar answer after first xs user none (told ++ one ∷ []) commands × (next ≡ layer_after answer after first xs none (told ++ one ∷ []) commands))
+      (sym on.is) (more.0, sym more.1)
+
+  pub answered_as : (before later : Sight T) (user number other : ℕ) (layer : L) (command : K) (told : Told R) (next : L) → number ≡ other
+      → IsAnswered answer after first before later user number layer command told next → IsAnswered answer after first before later user other layer command told next
+  answered_as before later user number other layer command told next same answered =
+      subst (λ (n : ℕ). IsAnswered answer after first before later user n layer command told next) same answered
+
+  -- one more was answered
+  pub answered_more : (before between later : Sight T) (user number : ℕ) (layer : L) (told : List (Told R)) (commands : List K) (left : L) (command : K) (one : Told R) (next : L)
+      → AreAnswered answer after first before between user number layer told commands left → slice_get commands (length told) ≡ Some command
+      → IsAnswered answer after first between later user (length told + number) left command one next
+      → AreAnswered answer after first before later user number layer (told ++ one ∷ []) commands next
+  answered_more before between later user number layer [] [] left command one next are is answered = cc
+  answered_more before between later user number layer [] (k ∷ commands) left command one next are is answered =
+      let same : command ≡ k = cc in
+      let zeroth : 0 + number ≡ number = omega arith in
+      let here = answered_as between later user (0 + number) number left command one next zeroth answered in (
+        later,
+        next,
+        subst (λ (x : K). IsAnswered answer after first before later user number layer x one next) same
+            (subst (λ (v : Sight T). IsAnswered answer after first v later user number layer command one next) are.0
+            (subst (λ (l : L). IsAnswered answer after first between later user number l command one next) are.1 here)),
+        (refl, refl),
+      )
+  answered_more before between later user number layer (earlier ∷ told) [] left command one next are is answered = absurd are
+  answered_more before between later user number layer (earlier ∷ told) (k ∷ commands) left command one next are is answered =
+      let shift : length (earlier ∷ told) + number ≡ length told + (number + 1) = omega arith in
+      (are.0, are.1, are.2, answered_more are.0 between later user (number + 1) are.1 told commands left command one next are.3 is (answered_as between later user _ _ left command one next shift answered))
 
   -- what a later sight answers was answered since an earlier one, where only others went on between them
-  answered_since : (before between later : Sight T) (user number : ℕ) (command : K) (one : Told R) → GoesOn before.seen between.seen (user ∷ []) → before.looks ≤ between.looks
-      → IsAnswered effect after first between later user number command one → IsAnswered effect after first before later user number command one
-  answered_since before between later user number command one goes fewer answered = record {
+  answered_since : (before between later : Sight T) (user number : ℕ) (layer : L) (command : K) (one : Told R) (next : L) → GoesOn before.seen between.seen (user ∷ []) → before.looks ≤ between.looks
+      → IsAnswered answer after first between later user number layer command one next → IsAnswered answer after first before later user number layer command one next
+  answered_since before between later user number layer command one next goes fewer answered = record {
     accepted = answered.accepted;
     settles = record {
       log = answered.settles.log;
       others = goes-on before.seen between.seen answered.settles.log (user ∷ []) goes answered.settles.others;
       settles = answered.settles.settles;
     };
+    is_next = answered.is_next;
     looked = omega (arith, fewer, answered.looked);
   }
 
+module _ {C K T R : Type 0} (answer : C → Option T → K → Effect T R × Option T) (after : C → T → C) (first : C) where
   -- no command is answered yet
-  pub looked_first : (user : ℕ) (told : List (Told R)) (commands : List K) (now : Sight T) → told ≡ [] → now.seen ≡ [] → HasLooked effect after first user told commands now
-  looked_first user told commands now none blind =
-      subst (λ (ts : List (Told R)). HasLooked effect after first user ts commands now) (sym none) (record {
+  pub looked_first : (user : ℕ) (told : List (Told R)) (commands : List K) (now : Sight T) (layer : Option T) → told ≡ [] → now.seen ≡ [] → layer ≡ None
+      → HasLooked answer after first user told commands now layer
+  looked_first user told commands now layer none blind no_layer =
+      subst (λ (ts : List (Told R)). HasLooked answer after first user ts commands now layer) (sym none) (record {
         last = record { seen = []; looks = 0 };
-        answered = refl;
+        answered = (refl, no_layer);
         others = subst (λ (log : List (Entry T)). GoesOn [] log (user ∷ [])) (sym blind) (same-goes [] (user ∷ []));
         looks = omega arith;
       })
 
   -- the pass went on
-  pub looked_on : (user : ℕ) (told : List (Told R)) (commands : List K) (now later : Sight T) (ns : List ℕ) → HasLooked effect after first user told commands now
-      → GoesOn now.seen later.seen ns → ns ≡ user ∷ [] → now.looks ≤ later.looks → HasLooked effect after first user told commands later
-  looked_on user told commands now later ns has goes own fewer = record {
+  pub looked_on : (user : ℕ) (told : List (Told R)) (commands : List K) (now later : Sight T) (layer : Option T) (ns : List ℕ) → HasLooked answer after first user told commands now layer
+      → GoesOn now.seen later.seen ns → ns ≡ user ∷ [] → now.looks ≤ later.looks → HasLooked answer after first user told commands later layer
+  looked_on user told commands now later layer ns has goes own fewer = record {
     last = has.last;
     answered = has.answered;
     others = goes-on has.last.seen now.seen later.seen (user ∷ []) has.others (subst (λ (ms : List ℕ). GoesOn now.seen later.seen ms) own goes);
@@ -151,45 +169,48 @@ module _ {C K T R : Type 0} (effect : C → K → Effect T R) (after : C → T �
   }
 
   -- and one command more is answered
-  pub looked_more : (user : ℕ) (told : List (Told R)) (commands : List K) (command : K) (one : Told R) (now later : Sight T) → HasLooked effect after first user told commands now
-      → slice_get commands (length told) ≡ Some command → IsAnswered effect after first now later user (length told + 1) command one
-      → HasLooked effect after first user (told ++ one ∷ []) commands later
-  looked_more user told commands command one now later has is answered = record {
+  pub looked_more : (user : ℕ) (told : List (Told R)) (commands : List K) (layer : Option T) (command : K) (one : Told R) (next : Option T) (now later : Sight T)
+      → HasLooked answer after first user told commands now layer
+      → slice_get commands (length told) ≡ Some command → IsAnswered answer after first now later user (length told + 1) layer command one next
+      → HasLooked answer after first user (told ++ one ∷ []) commands later next
+  looked_more user told commands layer command one next now later has is answered = record {
     last = later;
     answered =
-        answered_more (record { seen = []; looks = 0 }) has.last later user 1 told commands command one has.answered is
-        (answered_since has.last now later user (length told + 1) command one has.others has.looks answered);
+        answered_more answer after first (record { seen = []; looks = 0 }) has.last later user 1 None told commands layer command one next has.answered is
+        (answered_since answer after first has.last now later user (length told + 1) layer command one next has.others has.looks answered);
     others = same-goes later.seen (user ∷ []);
     looks = omega arith;
   }
 
-  module _ {L S : Type 0} where
+  module _ {H S : Type 0} where
     -- none yet
-    pub more_none : (session : SessionOf L S T K R) → HasAnsweredMore effect after first session session
-    more_none session = record { told = []; is_told = sym (append-nil session.told.items); are_answered = refl }
+    pub more_none : (session : SessionOf H S T K R) → HasAnsweredMore answer after first session session
+    more_none session = record { told = []; is_told = sym (append-nil session.told.items); are_answered = (refl, refl) }
 
     -- and the next one
-    pub more_next : (before between later : SessionOf L S T K R) → HasAnsweredMore effect after first before between → HasAnsweredNext effect after first between later
-        → between.user ≡ before.user → between.commands ≡ before.commands → HasAnsweredMore effect after first before later
+    pub more_next : (before between later : SessionOf H S T K R) → HasAnsweredMore answer after first before between → HasAnsweredNext answer after first between later
+        → between.user ≡ before.user → between.commands ≡ before.commands → HasAnsweredMore answer after first before later
     more_next before between later more next user commands =
         let place : length between.told.items ≡ length before.told.items + length more.told = ap length more.is_told ∙ length-append before.told.items more.told in
         let is : slice_get before.commands (length before.told.items + length more.told) ≡ Some next.command = rw (← place, ← commands) next.is_next in
         let number : length between.told.items + 1 ≡ length more.told + (length before.told.items + 1) = omega arith in
-        let answered : IsAnswered effect after first (sight between.pass) (sight later.pass) before.user (length more.told + (length before.told.items + 1)) next.command next.told =
-        subst (λ (u : ℕ). IsAnswered effect after first (sight between.pass) (sight later.pass) u (length more.told + (length before.told.items + 1)) next.command next.told) user
-        (answered_as (sight between.pass) (sight later.pass) between.user _ _ next.command next.told number next.is_answered) in
+        let answered : IsAnswered answer after first (sight between.pass) (sight later.pass) before.user (length more.told + (length before.told.items + 1)) between.layer next.command next.told later.layer =
+        subst (λ (u : ℕ). IsAnswered answer after first (sight between.pass) (sight later.pass) u (length more.told + (length before.told.items + 1)) between.layer next.command next.told later.layer) user
+        (answered_as answer after first (sight between.pass) (sight later.pass) between.user _ _ between.layer next.command next.told later.layer number next.is_answered) in
         record {
           told = more.told ++ next.told ∷ [];
-          is_told = next.is_told ∙ (ap (λ ts. ts ++ next.told ∷ []) more.is_told ∙ append_assoc before.told.items more.told (next.told ∷ []));
+          is_told = next.is_told ∙ ap (λ ts. ts ++ next.told ∷ []) more.is_told ∙ append_assoc before.told.items more.told (next.told ∷ []);
           are_answered =
-              answered_more (sight before.pass) (sight between.pass) (sight later.pass) before.user (length before.told.items + 1) more.told (drop (length before.told.items) before.commands) next.command next.told
+              answered_more answer after first (sight before.pass) (sight between.pass) (sight later.pass) before.user (length before.told.items + 1) before.layer more.told (drop (length before.told.items) before.commands)
+              between.layer next.command next.told later.layer
               more.are_answered (get_dropped (length before.told.items) before.commands (length more.told) next.command is) answered;
         }
 
     -- where it was told whether there was a next one, and there was
-    pub next_left : (before later : SessionOf L S T K R) (more : Bool) → length before.told.items < length before.commands
-        → MatchBool more (HasAnsweredNext effect after first before later) ((length before.told.items ≡ length before.commands) × (later.told.items ≡ before.told.items))
-        → HasAnsweredNext effect after first before later
+    pub next_left : (before later : SessionOf H S T K R) (more : Bool) → length before.told.items < length before.commands
+        → MatchBool more (HasAnsweredNext answer after first before later)
+          ((length before.told.items ≡ length before.commands) × (later.told.items ≡ before.told.items) × (later.layer ≡ before.layer))
+        → HasAnsweredNext answer after first before later
     next_left before later true left told = told
     next_left before later false left told = absurd (omega (arith, left, told.0))
 

@@ -1,5 +1,5 @@
 -- The replies of all sessions, and the looks that decided them.
-use Rattle.std.proofs.Common.{◌≡◌, ℕ, ◌+◌, ◌<◌, zero, suc, List, [], ◌∷◌, ◌++◌, map, take, take-suc, Some, slice_get, refl, ap, sym, ◌∙◌, subst, add-one, length}
+use Rattle.std.proofs.Common.{◌≡◌, ℕ, ◌+◌, ◌<◌, zero, suc, List, [], ◌∷◌, ◌++◌, map, take, take-suc, Option, None, Some, slice_get, refl, ap, sym, ◌∙◌, subst, add-one, length}
 use Rattle.std.specs.Prelude.{slice_index_or}
 use Rattle.std.specs.declared.snapshot.Snapshot.{Snapshot}
 use Rattle.std.proofs.lemmas.List.{map_push}
@@ -8,7 +8,8 @@ use Rattle.history.specs.declared.effect.Effect.{Effect}
 use Rattle.version_book.specs.declared.pass_view.PassView.{PassView}
 use Rattle.version_book.specs.declared.book.BookOf.{BookOf}
 use Rattle.version_book.specs.declared.book.PassOf.{PassOf}
-use Rattle.version_book.specs.Passes.{opening_of}
+use Rattle.layers.specs.Layered.{layer_after}
+use Rattle.version_book.specs.Passes.{opening_of, seen}
 use Rattle.sessions.specs.declared.session.SessionOf.{SessionOf}
 use Rattle.sessions.specs.Answers.{EachHasLooked, HasLooked, sight}
 use Rattle.sessions.specs.Inside.AllSessions.{AreRunning, commands_of}
@@ -29,11 +30,11 @@ mapped_more f xs i x low is =
     let longer : take (i + 1) xs ≡ take i xs ++ x ∷ [] = rw (add-one, take-suc xs i x low, ← is) refl in
     sym (ap (map f) longer ∙ map_push f (take i xs) x)
 
-pub each_looked : {L S C T K R Q : Type 0} (effect : C → K → Effect T R) (after : C → T → C) (content : S → C) (book : BookOf L (PassView S T) (Snapshot S) Q)
-    (sessions : List (SessionOf L S T K R)) (told : List (List (Told R))) (passes : List (Snapshot (PassOf L S T)))
-    → AreRunning effect after content book sessions → told ≡ map (λ s. s.told.items) sessions → map (λ p. p.value) passes ≡ map (λ s. s.pass) sessions
-    → EachHasLooked effect after content (opening_of book) (commands_of sessions) told passes
-each_looked effect after content book sessions told passes running are same index commands replies pass is told_is pass_is =
+pub each_looked : {H S C T K R Q : Type 0} (answer : C → Option T → K → Effect T R × Option T) (after : C → T → C) (content : S → C) (book : BookOf H (PassView S T) (Snapshot S) Q)
+    (sessions : List (SessionOf H S T K R)) (told : List (List (Told R))) (passes : List (Snapshot (PassOf H S T)))
+    → AreRunning answer after content book sessions → told ≡ map (λ s. s.told.items) sessions → map (λ p. p.value) passes ≡ map (λ s. s.pass) sessions
+    → EachHasLooked answer after content (opening_of book) (commands_of sessions) told passes
+each_looked {H} {S} {C} {T} {K} {R} answer after content book sessions told passes running are same index commands replies pass is told_is pass_is =
     let own = mapped_from (λ s. s.commands) sessions index commands is in
     let s = own.0 in
     let its = mapped_from (λ s. s.told.items) sessions index replies (ap (λ ts. slice_get ts index) (sym are) ∙ told_is) in
@@ -42,12 +43,15 @@ each_looked effect after content book sessions told passes running are same inde
     let by = mapped_from (λ s. s.pass) sessions index pass.value (ap (λ ps. slice_get ps index) (sym same) ∙ there) in
     let pass_same : s.pass ≡ pass.value = ap (λ x. x.pass) (same_item sessions index s by.0 own.1 by.1) ∙ by.2 in
     let run = running index s own.1 in
-    let looked : HasLooked effect after (content (opening_of book)) (index + 1) s.told.items s.commands (sight s.pass) =
-    subst (λ (user : ℕ). HasLooked effect after (content (opening_of book)) user s.told.items s.commands (sight s.pass)) run.1 run.0.looked in (
-      subst (λ p. HasLooked effect after (content (opening_of book)) (index + 1) replies commands (sight p)) pass_same
-          (subst (λ ks. HasLooked effect after (content (opening_of book)) (index + 1) replies ks (sight s.pass)) own.2
-          (subst (λ ts. HasLooked effect after (content (opening_of book)) (index + 1) ts s.commands (sight s.pass)) told_same looked)),
-      subst (λ p. p.place.me.0.opening ≡ Some (opening_of book)) pass_same run.0.of.opening,
+    let first = content (opening_of book) in
+    let layer = λ (p : PassOf H S T) (ts : List (Told R)) (ks : List K). layer_after answer after first (seen p) None ts ks in
+    let looked : HasLooked answer after first (index + 1) s.told.items s.commands (sight s.pass) (layer s.pass s.told.items s.commands) =
+    subst (λ (user : ℕ). HasLooked answer after first user s.told.items s.commands (sight s.pass) (layer s.pass s.told.items s.commands)) run.1
+    (subst (λ (l : Option T). HasLooked answer after first s.user s.told.items s.commands (sight s.pass) l) run.0.layer run.0.looked) in (
+      subst (λ (p : PassOf H S T). HasLooked answer after first (index + 1) replies commands (sight p) (layer p replies commands)) pass_same
+          (subst (λ (ks : List K). HasLooked answer after first (index + 1) replies ks (sight s.pass) (layer s.pass replies ks)) own.2
+          (subst (λ (ts : List (Told R)). HasLooked answer after first (index + 1) ts s.commands (sight s.pass) (layer s.pass ts s.commands)) told_same looked)),
+      subst (λ (p : PassOf H S T). p.place.me.0.opening ≡ Some (opening_of book)) pass_same run.0.of.opening,
     )
   where
     mapped_to : {A B : Type 0} (f : A → B) (xs : List A) (i : ℕ) (x : A) → slice_get xs i ≡ Some x → slice_get (map f xs) i ≡ Some (f x)

@@ -1,6 +1,7 @@
-ghost use Rattle.std.specs.Prelude.{◌≡◌, ◌+◌, ◌≤◌, [], length, map, vec_len, vec_capacity, IfOk, IsTrue, All};
-ghost use Rattle.history.specs.LegalHistory.{IsHistoryOf};
+ghost use Rattle.std.specs.Prelude.{◌≡◌, ◌+◌, ◌≤◌, [], None, length, map, vec_len, vec_capacity, IfOk, IsTrue, All};
 ghost use Rattle.history.specs.Version.{content_after};
+ghost use Rattle.layers.specs.Layered.{IsLayeredHistoryOf};
+ghost use Rattle.sandbox.specs.Sandboxes.{answer};
 ghost use Rattle.version_book.specs.Passes.{IsOf, next_of, numbers_of, opening_of, seen};
 ghost use Rattle.sessions.specs.Answers.{EachHasLooked};
 ghost use Rattle.sessions.specs.Inside.AllSessions.{AreRunning, HasAnsweredAll, commands_of};
@@ -8,16 +9,17 @@ ghost use Rattle.sessions.specs.Inside.Gathered.{IsGathered, IsGiver};
 
 use crate::serving::{Served, ServedOf};
 use crate::session::Session;
-use history::{Told, World};
+use history::Told;
 use lists::ListOf;
+use sandbox::Layered;
 use std::alloc::{AllocError, Global};
 use std::snapshot::Snapshot;
 use std::sync::Wait;
 use version_book::{Book, ClosedOf, Pass};
 
-/// Ends the book: brings all passes together, where each session has answered all its commands. A session with commands
-/// left ran out of memory.
-pub(crate) fn close_all<W: World, R: Wait>(
+/// Ends the book: brings all passes together, where each session has answered all its acts. A session with acts left ran
+/// out of memory.
+pub(crate) fn close_all<W: Layered, R: Wait>(
     rt: &R,
     alloc: Global,
     book: Book<W>,
@@ -26,13 +28,13 @@ pub(crate) fn close_all<W: World, R: Wait>(
 ) -> Result<Served<W>, AllocError>
     requires of { IsOf book first }
     requires giver { IsGiver first (vec_len sessions + 1) }
-    requires running { AreRunning W.effect W.after W.content book sessions.items }
-    ensures history { IfOk result (λ served. IsHistoryOf W.effect W.after (W.content (opening_of book))
-        (commands_of sessions.items) served.told.items served.log.items) }
+    requires running { AreRunning (answer W.effect W.after W.sandbox) W.after W.content book sessions.items }
+    ensures history { IfOk result (λ served. IsLayeredHistoryOf (answer W.effect W.after W.sandbox) W.after
+        (W.content (opening_of book)) None (commands_of sessions.items) served.told.items served.log.items) }
     ensures state { IfOk result (λ served.
         W.content served.state ≡ content_after W.after (W.content (opening_of book)) served.log.items) }
-    ensures looks { IfOk result (λ served. EachHasLooked W.effect W.after W.content (opening_of book)
-        (commands_of sessions.items) served.told.items served.passes.items) }
+    ensures looks { IfOk result (λ served. EachHasLooked (answer W.effect W.after W.sandbox) W.after W.content
+        (opening_of book) (commands_of sessions.items) served.told.items served.passes.items) }
     ensures passes { IfOk result (λ served. length served.passes.items ≡ length sessions.items) }
 {
     let mut told = Vec::new(alloc);
@@ -60,7 +62,7 @@ pub(crate) fn close_all<W: World, R: Wait>(
 }
 
 // What the pass of each session is.
-fn passes_of<W: World>(
+fn passes_of<W: Layered>(
     alloc: Global,
     sessions: &[Session<W>],
 ) -> Result<Vec<Snapshot<Pass<W>>>, AllocError>
@@ -75,7 +77,7 @@ fn passes_of<W: World>(
 }
 
 // One pass of all sessions' passes and the first one, and the replies of each session.
-fn meet_all<W: World, R: Wait>(
+fn meet_all<W: Layered, R: Wait>(
     rt: &R,
     book: &Book<W>,
     first: Pass<W>,
@@ -84,14 +86,14 @@ fn meet_all<W: World, R: Wait>(
 ) -> Pass<W>
     requires of { IsOf book.now first }
     requires giver { IsGiver first (vec_len sessions + 1) }
-    requires running { AreRunning W.effect W.after W.content book.now sessions.items }
+    requires running { AreRunning (answer W.effect W.after W.sandbox) W.after W.content book.now sessions.items }
     requires answered { All HasAnsweredAll sessions.items }
     requires empty { told.old.items ≡ [] }
     requires room { vec_len sessions ≤ vec_capacity told.old }
     ensures of { IsOf book.now result }
     ensures next { next_of result ≡ next_of first }
-    ensures gathered { IsGathered W.effect W.after (W.content (opening_of book.now)) (commands_of sessions.items)
-        told.new.items (numbers_of result) (seen result) }
+    ensures gathered { IsGathered (answer W.effect W.after W.sandbox) W.after (W.content (opening_of book.now))
+        (commands_of sessions.items) told.new.items (numbers_of result) (seen result) }
     ensures told { told.new.items ≡ map (λ session. session.told.items) sessions.items }
 {
     let mut all = first;
@@ -103,7 +105,7 @@ fn meet_all<W: World, R: Wait>(
     all
 }
 
-fn all_answered<W: World>(sessions: &[Session<W>]) -> bool
+fn all_answered<W: Layered>(sessions: &[Session<W>]) -> bool
     ensures { IsTrue result → All HasAnsweredAll sessions.now }
 {
     sessions.iter().all(|session| session.told.len() == session.commands.as_slice().len())

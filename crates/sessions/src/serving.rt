@@ -1,6 +1,7 @@
-ghost use Rattle.std.specs.Prelude.{◌≡◌, IfOk, length};
-ghost use Rattle.history.specs.LegalHistory.{IsHistoryOf};
+ghost use Rattle.std.specs.Prelude.{◌≡◌, None, IfOk, length};
 ghost use Rattle.history.specs.Version.{content_after};
+ghost use Rattle.layers.specs.Layered.{IsLayeredHistoryOf};
+ghost use Rattle.sandbox.specs.Sandboxes.{answer};
 ghost use Rattle.sessions.specs.Answers.{EachHasLooked};
 
 use crate::closing::close_all;
@@ -9,6 +10,7 @@ use crate::threads::run_all;
 use cube_outside::Gate;
 use history::{Entry, Told, World};
 use lists::ListOf;
+use sandbox::{Act, Layered};
 use std::alloc::{AllocError, Global};
 use std::snapshot::Snapshot;
 use std::sync::Wait;
@@ -33,14 +35,15 @@ pub type Served<W> = ServedOf<
     <W as World>::Reply,
 >;
 
-/// Runs the users from this state on, each with its commands in order. Up to [`crate::MAX_THREADS`] users have a thread
-/// each; where there are more, or no thread can be started, some run one after another.
-pub fn serve<W: World, R: Threads + Wait + Sync, G: Gate + Sync>(
+/// Runs the users from this state on, each with its acts in order. A sandbox that is open at the end is dropped. Up to
+/// [`crate::MAX_THREADS`] users have a thread each; where there are more, or no thread can be started, some run one
+/// after another.
+pub fn serve<W: Layered, R: Threads + Wait + Sync, G: Gate + Sync>(
     rt: &R,
     alloc: Global,
     gate: &G,
     state: W::State,
-    users: Vec<ListOf<W::Command>>,
+    users: Vec<ListOf<Act<W::Command>>>,
 ) -> Result<Served<W>, AllocError>
 where
     W: Send + Sync,
@@ -49,12 +52,13 @@ where
     W::Command: Send + Sync,
     W::Reply: Send + Sync,
     W::Writes: Send + Sync,
-    ensures history { IfOk result (λ served.
-        IsHistoryOf W.effect W.after (W.content state) users.items served.told.items served.log.items) }
+    // each user begins without a sandbox
+    ensures history { IfOk result (λ served. IsLayeredHistoryOf (answer W.effect W.after W.sandbox) W.after
+        (W.content state) None users.items served.told.items served.log.items) }
     ensures state { IfOk result (λ served.
         W.content served.state ≡ content_after W.after (W.content state) served.log.items) }
     // each reply was decided by a look that was made for its command, or by two
-    ensures looks { IfOk result (λ served. EachHasLooked W.effect W.after W.content state
+    ensures looks { IfOk result (λ served. EachHasLooked (answer W.effect W.after W.sandbox) W.after W.content state
         users.items served.told.items served.passes.items) }
     ensures passes { IfOk result (λ served. length served.passes.items ≡ length users.items) }
 {

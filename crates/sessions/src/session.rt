@@ -1,4 +1,5 @@
-ghost use Rattle.std.specs.Prelude.{◌≡◌, ◌<◌, [], length, MatchBool, IfOk, OnOk, OnErr};
+ghost use Rattle.std.specs.Prelude.{◌≡◌, ◌<◌, [], None, length, MatchBool, IfOk, OnOk, OnErr};
+ghost use Rattle.sandbox.specs.Sandboxes.{answer as answer_of};
 ghost use Rattle.version_book.specs.Passes.{opening_of};
 ghost use Rattle.sessions.specs.Sessions.{IsRunning};
 ghost use Rattle.sessions.specs.Answers.{HasAnsweredNext, HasAnsweredMore, HasGoneOn};
@@ -7,18 +8,20 @@ use crate::answer::{answer, number_after};
 use cube_outside::Gate;
 use history::{Told, World};
 use lists::ListOf;
+use sandbox::{Act, Layered};
 use std::alloc::{AllocError, Global};
 use std::sync::Wait;
 use version_book::{Book, Ledger, Pass, PassOf};
 
-/// One user's commands, the pass by which they act, and the replies so far. It may go to another
-/// thread.
+/// One user's acts, the pass by which they act, the replies so far, and what the user's sandbox keeps, if one is open.
+/// It may go to another thread.
 #[derive(Drop)]
 pub struct SessionOf<L, C, T, K, R> {
     pub(crate) pass: PassOf<L, C, T>,
     pub(crate) user: u32,
     pub(crate) commands: ListOf<K>,
     pub(crate) told: Vec<Told<R>>,
+    pub(crate) layer: Option<T>,
 }
 
 /// A session at the book of a world.
@@ -26,23 +29,25 @@ pub type Session<W> = SessionOf<
     Ledger<W>,
     <W as World>::State,
     <W as World>::Writes,
-    <W as World>::Command,
+    Act<<W as World>::Command>,
     <W as World>::Reply,
 >;
 
-impl<W: World> Session<W> {
+impl<W: Layered> Session<W> {
     /// The session of a user whose number is that of the pass. No command is answered yet.
-    pub fn new(alloc: Global, pass: Pass<W>, user: u32, commands: ListOf<W::Command>) -> Session<W>
+    pub fn new(alloc: Global, pass: Pass<W>, user: u32, commands: ListOf<Act<W::Command>>) -> Session<W>
         ensures pass { result.pass ≡ pass }
         ensures user { result.user ≡ user }
         ensures commands { result.commands ≡ commands }
         ensures told { result.told.items ≡ [] }
+        ensures layer { result.layer ≡ None }
     {
         SessionOf {
             pass,
             user,
             commands,
             told: Vec::new(alloc),
+            layer: None,
         }
     }
 
@@ -54,16 +59,17 @@ impl<W: World> Session<W> {
         book: &Book<W>,
         gate: &G,
     ) -> Result<bool, AllocError>
-        requires running { IsRunning W.effect W.after W.content book.now self.old }
-        ensures running { IsRunning W.effect W.after W.content book.now self.new }
+        requires running { IsRunning (answer_of W.effect W.after W.sandbox) W.after W.content book.now self.old }
+        ensures running { IsRunning (answer_of W.effect W.after W.sandbox) W.after W.content book.now self.new }
         ensures user { self.new.user ≡ self.old.user }
         ensures commands { self.new.commands ≡ self.old.commands }
         ensures told { IfOk result (λ more. MatchBool more
-            (HasAnsweredNext W.effect W.after (W.content (opening_of book.now)) self.old self.new)
+            (HasAnsweredNext (answer_of W.effect W.after W.sandbox) W.after (W.content (opening_of book.now))
+                self.old self.new)
             ((length self.old.told.items ≡ length self.old.commands)
-            × (self.new.told.items ≡ self.old.told.items))) }
+            × (self.new.told.items ≡ self.old.told.items) × (self.new.layer ≡ self.old.layer))) }
         ensures err { OnErr result ((length self.old.told.items < length self.old.commands)
-            × (self.new.told.items ≡ self.old.told.items)) }
+            × (self.new.told.items ≡ self.old.told.items) × (self.new.layer ≡ self.old.layer)) }
         ensures gone_on { HasGoneOn self.old self.new }
     {
         let Some(command) = self.commands.as_slice().get(self.told.len()) else {
@@ -78,6 +84,7 @@ impl<W: World> Session<W> {
             book,
             gate,
             &mut self.pass,
+            &mut self.layer,
             (self.user, number),
             command,
         )?;
@@ -94,12 +101,12 @@ impl<W: World> Session<W> {
         book: &Book<W>,
         gate: &G,
     ) -> Result<(), AllocError>
-        requires running { IsRunning W.effect W.after W.content book.now self.old }
-        ensures running { IsRunning W.effect W.after W.content book.now self.new }
+        requires running { IsRunning (answer_of W.effect W.after W.sandbox) W.after W.content book.now self.old }
+        ensures running { IsRunning (answer_of W.effect W.after W.sandbox) W.after W.content book.now self.new }
         ensures user { self.new.user ≡ self.old.user }
         ensures commands { self.new.commands ≡ self.old.commands }
-        ensures told { OnOk result
-            (HasAnsweredMore W.effect W.after (W.content (opening_of book.now)) self.old self.new) }
+        ensures told { OnOk result (HasAnsweredMore (answer_of W.effect W.after W.sandbox) W.after
+            (W.content (opening_of book.now)) self.old self.new) }
         ensures all { OnOk result (length self.new.told.items ≡ length self.new.commands) }
         // out of memory, too, nothing that was told is taken away
         ensures gone_on { HasGoneOn self.old self.new }
@@ -120,6 +127,7 @@ impl<W: World> Session<W> {
             user: _,
             commands: _,
             told,
+            layer: _,
         } = self;
         (pass, ListOf::new(told))
     }

@@ -1,11 +1,12 @@
 ghost use Rattle.std.specs.Prelude.{◌≡◌, ℕ, ◌<◌, length, slice_index_or};
+ghost use Rattle.sandbox.specs.Sandboxes.{answer};
 ghost use Rattle.sessions.specs.Sessions.{IsRunning};
 ghost use Rattle.sessions.specs.Inside.AllSessions.{AreRunning, commands_of};
 ghost use Rattle.sessions.specs.Inside.Gathered.{IsFurther};
 
 use crate::session::Session;
 use cube_outside::Gate;
-use history::World;
+use sandbox::Layered;
 use std::alloc::Global;
 use std::sync::Wait;
 use std::thread;
@@ -17,7 +18,7 @@ pub const MAX_THREADS: usize = 16;
 
 /// Runs all sessions, each on a thread of its own where one can be started. A session whose memory ran out has commands
 /// left.
-pub(crate) fn run_all<W: World, R: Threads + Wait + Sync, G: Gate + Sync>(
+pub(crate) fn run_all<W: Layered, R: Threads + Wait + Sync, G: Gate + Sync>(
     rt: &R,
     alloc: Global,
     book: &Book<W>,
@@ -31,16 +32,16 @@ where
     W::Command: Send + Sync,
     W::Reply: Send + Sync,
     W::Writes: Send + Sync,
-    requires running { AreRunning W.effect W.after W.content book.now sessions.old }
+    requires running { AreRunning (answer W.effect W.after W.sandbox) W.after W.content book.now sessions.old }
     ensures len { length sessions.new ≡ length sessions.old }
-    ensures running { AreRunning W.effect W.after W.content book.now sessions.new }
+    ensures running { AreRunning (answer W.effect W.after W.sandbox) W.after W.content book.now sessions.new }
     ensures commands { commands_of sessions.new ≡ commands_of sessions.old }
 {
     run_each(rt, alloc, book, gate, sessions);
 }
 
 // Each session runs on with its own commands.
-fn run_each<W: World, R: Threads + Wait + Sync, G: Gate + Sync>(
+fn run_each<W: Layered, R: Threads + Wait + Sync, G: Gate + Sync>(
     rt: &R,
     alloc: Global,
     book: &Book<W>,
@@ -54,10 +55,10 @@ where
     W::Command: Send + Sync,
     W::Reply: Send + Sync,
     W::Writes: Send + Sync,
-    requires running { AreRunning W.effect W.after W.content book.now sessions.old }
+    requires running { AreRunning (answer W.effect W.after W.sandbox) W.after W.content book.now sessions.old }
     ensures len { length sessions.new ≡ length sessions.old }
     ensures each { (index : ℕ) (session : _) → index < length sessions.old
-        → IsFurther W.effect W.after W.content book.now
+        → IsFurther (answer W.effect W.after W.sandbox) W.after W.content book.now
         (slice_index_or sessions.old index session) (slice_index_or sessions.new index session) }
 {
     thread::for_each_mut(
@@ -65,8 +66,9 @@ where
         sessions,
         MAX_THREADS,
         &|_: usize, session: &mut Session<W>|
-            requires { IsRunning W.effect W.after W.content book.now session.old }
-            ensures { IsFurther W.effect W.after W.content book.entry.now session.old session.new }
+            requires { IsRunning (answer W.effect W.after W.sandbox) W.after W.content book.now session.old }
+            ensures { IsFurther (answer W.effect W.after W.sandbox) W.after W.content book.entry.now
+                session.old session.new }
         {
             let _ = session.run(rt, alloc, book, gate);
         },

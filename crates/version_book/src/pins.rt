@@ -44,6 +44,13 @@ impl<W: World> Pin<W> {
         self.place
     }
 
+    /// The state of the version.
+    pub fn state(&self) -> &W::State
+        ensures { result.now ≡ self.now.state }
+    {
+        &self.state
+    }
+
     /// What the command does on the pin's version. Nothing is committed. A pin answers one command.
     pub fn attempt(self, alloc: Global, command: &W::Command) -> Result<Tried<W>, AllocError>
         ensures { IfOk result (λ tried. (tried.place ≡ self.place)

@@ -1,5 +1,5 @@
 -- What holds of all sessions of a book at once.
-use Rattle.std.specs.Prelude.{◌≡◌, ℕ, ◌+◌, List, Some, length, map, slice_get}
+use Rattle.std.specs.Prelude.{◌≡◌, ℕ, ◌+◌, List, Option, Some, length, map, slice_get}
 use Rattle.std.specs.declared.snapshot.Snapshot.{Snapshot}
 use Rattle.history.specs.declared.effect.Effect.{Effect}
 use Rattle.version_book.specs.declared.pass_view.PassView.{PassView}
@@ -8,11 +8,11 @@ use Rattle.sessions.specs.declared.session.SessionOf.{SessionOf}
 use Rattle.sessions.specs.Sessions.{IsRunning}
 
 -- each session runs at this book, that at index i for the user of number i + 1
-abbrev pub AreRunning : {L S C T K R Q : Type 0} → (C → K → Effect T R) → (C → T → C) → (S → C)
-    → BookOf L (PassView S T) (Snapshot S) Q → List (SessionOf L S T K R) → Type 0
-AreRunning {L} {S} {C} {T} {K} {R} effect after content book sessions =
-    (index : ℕ) (session : SessionOf L S T K R) → slice_get sessions index ≡ Some session
-    → IsRunning effect after content book session × (session.user ≡ index + 1)
+abbrev pub AreRunning : {H S C T K R Q : Type 0} → (C → Option T → K → Effect T R × Option T) → (C → T → C) → (S → C)
+    → BookOf H (PassView S T) (Snapshot S) Q → List (SessionOf H S T K R) → Type 0
+AreRunning {H} {S} {C} {T} {K} {R} answer after content book sessions =
+    (index : ℕ) (session : SessionOf H S T K R) → slice_get sessions index ≡ Some session
+    → IsRunning answer after content book session × (session.user ≡ index + 1)
 
 -- no command of the session is left
 abbrev pub HasAnsweredAll : {L S T K R : Type 0} → SessionOf L S T K R → Type 0

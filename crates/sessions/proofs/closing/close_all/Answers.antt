@@ -1,7 +1,8 @@
-use Rattle.std.proofs.Common.{◌≡◌, ◌∙◌, ◌+◌, arith, ap, sym, subst, map, length}
+use Rattle.std.proofs.Common.{◌≡◌, ◌∙◌, ◌+◌, None, arith, ap, sym, subst, map, length}
 use Rattle.std.proofs.lemmas.List.{length-map}
-use Rattle.history.specs.LegalHistory.{IsHistoryOf}
+use Rattle.layers.specs.Layered.{IsLayeredHistoryOf}
 use Rattle.version_book.specs.Passes.{numbers_of, opening_of, seen}
+use Rattle.sandbox.specs.Sandboxes.{answer}
 use Rattle.sessions.specs.Inside.AllSessions.{commands_of}
 use Rattle.sessions.proofs.Gathered.{gathered_all}
 use Rattle.sessions.proofs.Looked.{each_looked}
@@ -10,15 +11,17 @@ use Rattle.sessions.proofs.closing.close_all.Goals as goal
 pub returns-clause-history : goal.returns-clause-history
 returns-clause-history g c =
     let w = g.W.World in
+    let a = answer w.effect w.after g.W.Layered.sandbox in
     let first = w.content (opening_of c.args.book) in
     let all = c.meet_all-all.result in
-    subst (λ log. IsHistoryOf w.effect w.after first (commands_of c.args.sessions.items) c.meet_all-all.new.told.items log) (sym c.close-history.ensures.history)
-    (gathered_all w.effect w.after first (commands_of c.args.sessions.items) c.meet_all-all.new.told.items (numbers_of all) (seen all) c.meet_all-all.ensures.gathered c.close-history.ensures.users)
+    subst (λ log. IsLayeredHistoryOf a w.after first None (commands_of c.args.sessions.items) c.meet_all-all.new.told.items log) (sym c.close-history.ensures.history)
+    (gathered_all a w.after first (commands_of c.args.sessions.items) c.meet_all-all.new.told.items (numbers_of all) (seen all) c.meet_all-all.ensures.gathered c.close-history.ensures.users)
 
 pub returns-clause-looks : goal.returns-clause-looks
 returns-clause-looks g c =
     let w = g.W.World in
-    each_looked w.effect w.after w.content c.args.book c.args.sessions.items c.meet_all-all.new.told.items c.in-Ok.passes.items c.requires.running c.meet_all-all.ensures.told (c.in-Ok.ensures ∙ ap (map (λ s. s.pass)) c.as_slice.ensures.value)
+    let a = answer w.effect w.after g.W.Layered.sandbox in
+    each_looked a w.after w.content c.args.book c.args.sessions.items c.meet_all-all.new.told.items c.in-Ok.passes.items c.requires.running c.meet_all-all.ensures.told (c.in-Ok.ensures ∙ ap (map (λ s. s.pass)) c.as_slice.ensures.value)
 
 pub returns-clause-passes : goal.returns-clause-passes
 returns-clause-passes g c =

@@ -3,6 +3,7 @@ use Rattle.std.proofs.lemmas.Iterator.Adapters.{YieldsList-from_vec}
 use Rattle.std.proofs.lemmas.Iterator.Consumers.{YieldsList-turn}
 use Rattle.std.proofs.lemmas.List.{length-map, map_push}
 use Rattle.version_book.specs.Passes.{next_of, numbers_of, opening_of, seen}
+use Rattle.sandbox.specs.Sandboxes.{answer}
 use Rattle.sessions.specs.Inside.AllSessions.{commands_of}
 use Rattle.sessions.specs.Inside.Gathered.{IsGathered}
 use Rattle.sessions.proofs.Opened.{of_same, turn_of}
@@ -12,11 +13,12 @@ use Rattle.sessions.proofs.closing.meet_all.Goals as goal
 pub meet-all-requires-clause-other : goal.meet-all-requires-clause-other
 meet-all-requires-clause-other g c =
     let w = g.W.World in
+    let a = answer w.effect w.after g.W.Layered.sandbox in
     let all = YieldsList-from_vec c.args.sessions.items c.into_iter-session-iterator.ensures.into_iter_gives.0 (c.into_iter-session-iterator.ensures.into_iter_gives.1 ∙ c.args.sessions.ok.0) in
     let turn : (length c.loop-session.yielded < length c.args.sessions.items) × (c.in-Some.session ≡ get_or c.args.sessions.items (length c.loop-session.yielded) c.in-Some.session) =
     YieldsList-turn all c.loop-session.yielded c.loop-session.session-iterator c.loop-session.yielded_by c.next.result c.next.new.self c.in-Some.session c.in-Some.is c.next.ensures.steps in
-    let has = turn_of w.effect w.after w.content c.args.book.now c.args.sessions.items (length c.loop-session.yielded) c.in-Some.session turn c.requires.running c.requires.answered in
-    of_same w.effect w.after w.content c.args.book.now c.finish-pass.result.0 c.in-Some.session.pass c.finish-pass.ensures.pass has.0.of
+    let has = turn_of a w.after w.content c.args.book.now c.args.sessions.items (length c.loop-session.yielded) c.in-Some.session turn c.requires.running c.requires.answered in
+    of_same a w.after w.content c.args.book.now c.finish-pass.result.0 c.in-Some.session.pass c.finish-pass.ensures.pass has.0.of
 
 pub push_reserved-requires : goal.push_reserved-requires
 push_reserved-requires g c =
@@ -29,6 +31,7 @@ push_reserved-requires g c =
 pub loop-session-preserved : goal.loop-session-preserved
 loop-session-preserved g c =
     let w = g.W.World in
+    let a = answer w.effect w.after g.W.Layered.sandbox in
     let first = w.content (opening_of c.args.book.now) in
     let session = c.in-Some.session in
     let sessions = c.loop-session.yielded in
@@ -37,7 +40,7 @@ loop-session-preserved g c =
     let all = YieldsList-from_vec c.args.sessions.items c.into_iter-session-iterator.ensures.into_iter_gives.0 (c.into_iter-session-iterator.ensures.into_iter_gives.1 ∙ c.args.sessions.ok.0) in
     let turn : (length c.loop-session.yielded < length c.args.sessions.items) × (c.in-Some.session ≡ get_or c.args.sessions.items (length c.loop-session.yielded) c.in-Some.session) =
     YieldsList-turn all c.loop-session.yielded c.loop-session.session-iterator c.loop-session.yielded_by c.next.result c.next.new.self c.in-Some.session c.in-Some.is c.next.ensures.steps in
-    let has = turn_of w.effect w.after w.content c.args.book.now c.args.sessions.items (length sessions) session turn c.requires.running c.requires.answered in
+    let has = turn_of a w.after w.content c.args.book.now c.args.sessions.items (length sessions) session turn c.requires.running c.requires.answered in
     record {
       can_next = tt;
       is_finite = tt;
@@ -45,8 +48,8 @@ loop-session-preserved g c =
       next = gives_on (next_of later) (next_of before) _ (next_of c.args.first) _ c.meet-all.ensures.next c.loop-session.invariant.next c.requires.giver.gives;
       room = omega (arith, c.loop-session.invariant.room, c.push_reserved.ensures.capacity);
       gathered =
-          subst (λ ts. IsGathered w.effect w.after first (commands_of (sessions ++ session ∷ [])) ts (numbers_of later) (seen later)) (sym c.push_reserved.ensures.items)
-          (met_more w.effect w.after first sessions session c.loop-session.told.items c.finish-pass.result.1 before c.finish-pass.result.0 later c.loop-session.invariant.gathered
+          subst (λ ts. IsGathered a w.after first (commands_of (sessions ++ session ∷ [])) ts (numbers_of later) (seen later)) (sym c.push_reserved.ensures.items)
+          (met_more a w.after first sessions session c.loop-session.told.items c.finish-pass.result.1 before c.finish-pass.result.0 later c.loop-session.invariant.gathered
           c.finish-pass.ensures.pass c.finish-pass.ensures.told has.1 has.0.number has.2 has.0.run c.meet-all.ensures.numbers c.meet-all.ensures.one c.meet-all.ensures.other);
       told =
           c.push_reserved.ensures.items

@@ -1,5 +1,6 @@
 use Rattle.std.proofs.Common.{◌≡◌, ◌+◌, length}
 use Rattle.version_book.specs.Passes.{IsOf}
+use Rattle.sandbox.specs.Sandboxes.{answer}
 use Rattle.sessions.specs.Inside.AllSessions.{AreRunning, commands_of}
 use Rattle.sessions.specs.Inside.Gathered.{IsGiver}
 use Rattle.sessions.proofs.opening.open_all.Given as goal
@@ -12,5 +13,5 @@ invariant-loop-commands g l = record {
   of : IsOf l.book l.giver;
   giver : IsGiver l.giver (length l.sessions.items + 1);
   commands : commands_of l.sessions.items ≡ l.yielded;
-  running : AreRunning g.W.World.effect g.W.World.after g.W.World.content l.book l.sessions.items;
+  running : AreRunning (answer g.W.World.effect g.W.World.after g.W.Layered.sandbox) g.W.World.after g.W.World.content l.book l.sessions.items;
 }

@@ -1,6 +1,7 @@
 use Rattle.std.proofs.Common.{◌≡◌, ◌++◌, ◌∙◌, ap, arith, drop, length, slice_get, subst, sym, take}
 use Rattle.std.specs.Prelude.{IfOk}
 use Rattle.std.proofs.Math.Seq.{take-append_seam}
+use Rattle.sandbox.specs.Sandboxes.{answer}
 use Rattle.sessions.specs.Answers.{EachHasLooked}
 use Rattle.sessions.specs.Inside.AllSessions.{commands_of}
 use Rattle.sessions.proofs.serving.serve.Goals as goal
@@ -20,12 +21,13 @@ close_all-requires-clause-running g c =
 pub returns-clause-looks : goal.returns-clause-looks
 returns-clause-looks g c =
     let w = g.W.World in
+    let a = answer w.effect w.after g.W.Layered.sandbox in
     let ran = c.run_all.new.sessions in
     let rest = drop (length c.run_all.new.sessions) c.in-Ok.sessions.items in
     let len : c.in-Ok.sessions.len ≡ length c.run_all.new.sessions = omega (arith, c.run_all.ensures.len, ap length c.as_mut_slice.ensures.value, c.in-Ok.sessions.ok.0) in
     let whole : take c.in-Ok.sessions.len (ran ++ rest) ≡ ran = ap (λ n. take n (ran ++ rest)) len ∙ take-append_seam ran rest in
     let same : commands_of (take c.in-Ok.sessions.len (ran ++ rest)) ≡ c.args.users.items =
     ap commands_of whole ∙ c.run_all.ensures.commands ∙ ap commands_of c.as_mut_slice.ensures.value ∙ c.in-Ok.ensures.commands in
-    subst (λ users. IfOk c.close_all.result (λ served. EachHasLooked w.effect w.after w.content c.args.state users served.told.items served.passes.items)) same
-    (subst (λ state. IfOk c.close_all.result (λ served. EachHasLooked w.effect w.after w.content state (commands_of (take c.in-Ok.sessions.len (ran ++ rest))) served.told.items served.passes.items))
+    subst (λ users. IfOk c.close_all.result (λ served. EachHasLooked a w.after w.content c.args.state users served.told.items served.passes.items)) same
+    (subst (λ state. IfOk c.close_all.result (λ served. EachHasLooked a w.after w.content state (commands_of (take c.in-Ok.sessions.len (ran ++ rest))) served.told.items served.passes.items))
     c.in_ok-book.ensures.opening c.close_all.ensures.looks)
