@@ -19,7 +19,7 @@
 //! - `word WORD`, for a word that is empty or has spaces;
 //! - `read 2 fails`, and `write 2 fails after 3`, where the first 3 bytes of that piece are written;
 //! - `hold 2 1 0 until 1 2 3`, where user 2 waits at part 0 of its command 1 until user 1 has passed part 3 of its
-//!   command 2; with `for 1000` behind it no longer than so many turns of a loop.
+//!   command 2; with `for 1000` behind it no longer than so many turns of a loop. There may be several such lines.
 //!
 //! Reads, writes, users and commands count from 1. What a run writes has to be the same in whatever order users
 //! come.

@@ -17,12 +17,11 @@ pub struct Run {
 
 /// The run of these lines, first those without a file and then those of each file. None where a line is none of a run.
 pub fn run_of(alloc: Global, texts: &Texts, lines: &str) -> Result<Option<Run>, AllocError> {
-    // Users count from 1, so nobody reaches a place of user 0 and waits there.
     let mut run = Run {
         words: Vec::new(alloc),
         files: MemoryFiles::new(alloc),
         out: MemorySink::new(alloc),
-        gate: HeldGate::new((0, 0, 0), (0, 0, 0), TURNS),
+        gate: HeldGate::new(alloc),
     };
     let (settings, files) = match lines.split_once("\nfile ") {
         Some((settings, files)) => (settings, Some(files)),
@@ -74,8 +73,8 @@ impl Run {
                 passed,
                 limit @ ..,
             ] => {
-                let (hold, until) = (place(user, command, part), place(other, reached, passed));
-                self.gate = HeldGate::new(hold, until, turns(limit));
+                let (at, until) = (place(user, command, part), place(other, reached, passed));
+                self.gate.hold(at, until, turns(limit))?;
             }
             _ => return Ok(false),
         }

@@ -41,6 +41,9 @@ fn add_command(alloc: Global, lines: &mut Lines, command: &UserCommand) -> Resul
             let cube = shown(cell.cube.shown());
             lines.add(&(line, "SPREAD", cube, elements, amount.millionths(), how));
         }
+        UserBody::Sandbox => lines.add(&(line, "SANDBOX")),
+        UserBody::Publish => lines.add(&(line, "PUBLISH")),
+        UserBody::Discard => lines.add(&(line, "DISCARD")),
     }
     Ok(())
 }

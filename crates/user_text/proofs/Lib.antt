@@ -3,6 +3,7 @@ pub mod NewVariables
 pub mod LoadExact
 pub mod ViewExact
 pub mod SpreadExact
+pub mod SandboxExact
 pub mod UserExact
 pub mod Settled
 pub mod Columns

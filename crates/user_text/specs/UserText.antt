@@ -16,6 +16,7 @@ use Rattle.user_text.specs.declared.command.ParamText.TheVariants as params
 use Rattle.user_text.specs.declared.command.SetText.{SetText}
 use Rattle.user_text.specs.declared.command.SpreadWord.{SpreadWord}
 use Rattle.user_text.specs.declared.command.SpreadWord.TheVariants as spread_words
+use Rattle.user_text.specs.declared.command.UserBody.{UserBody}
 use Rattle.user_text.specs.declared.command.UserBody.TheVariants as bodies
 use Rattle.user_text.specs.declared.command.UserCommand.{UserCommand}
 
@@ -199,8 +200,31 @@ spread = do
   one (sign (codes ";"))
   done (record { line = line; body = bodies.Spread target value how })
 
+-- a word that is a whole command
+abbrev pub alone : List ℕ → UserBody → Grammar Lexeme UserCommand
+alone called body = do
+  line ← one (word called)
+  one (sign (codes ";"))
+  done (record { line = line; body = body })
+
+-- "SANDBOX" ";"
+abbrev pub sandbox : Grammar Lexeme UserCommand
+sandbox = alone (codes "SANDBOX") bodies.Sandbox
+
+-- "PUBLISH" ";"
+abbrev pub publish : Grammar Lexeme UserCommand
+publish = alone (codes "PUBLISH") bodies.Publish
+
+-- "DISCARD" ";"
+abbrev pub discard : Grammar Lexeme UserCommand
+discard = alone (codes "DISCARD") bodies.Discard
+
+-- the commands of sandboxes
+abbrev pub of_sandboxes : Grammar Lexeme UserCommand
+of_sandboxes = either sandbox (either publish discard)
+
 abbrev pub command : Grammar Lexeme UserCommand
-command = either put (either get (either load (either view spread)))
+command = either put (either get (either load (either view (either spread of_sandboxes))))
 
 -- { command }
 abbrev pub user : Grammar Lexeme (List UserCommand)

@@ -67,6 +67,12 @@ pub enum UserBody {
     Load(LoadText),
     View(ViewText),
     Spread(CellText, Money, SpreadWord),
+    /// Opens a sandbox: what the user writes from here on is kept apart, and only this user sees it.
+    Sandbox,
+    /// Commits what the sandbox has, as one commit, and closes it.
+    Publish,
+    /// Closes the sandbox without a commit.
+    Discard,
 }
 
 /// A command, with the line of its first word, from 1.

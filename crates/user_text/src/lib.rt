@@ -1,4 +1,5 @@
-//! A user's commands, read from their text: `PUT`, `GET`, `LOAD`, `VIEW` and `SPREAD`.
+//! A user's commands, read from their text: `PUT`, `GET`, `LOAD`, `VIEW`, `SPREAD`, and `SANDBOX`, `PUBLISH` and
+//! `DISCARD`.
 //!
 //! Read in this order: [`parse`], which reads a whole text; [`UserCommand`], what it gives; [`UserFault`], why it
 //! refuses. [`LoadParams`] are the parameters of a load. [`rows`] reads the [`Records`] of a load's
@@ -17,6 +18,7 @@ mod load_params;
 mod params;
 mod record;
 mod records;
+mod sandbox;
 mod spread;
 mod text;
 mod view;

@@ -9,6 +9,7 @@ use crate::command::UserCommand;
 use crate::counted::Counted;
 use crate::fault::{TooMany, UserFault};
 use crate::load::load_at;
+use crate::sandbox::{of_sandboxes_at, of_sandboxes_comes};
 use crate::spread::spread_at;
 use crate::view::view_at;
 use cube_lex::text_tokens;
@@ -28,8 +29,10 @@ fn command_at(alloc: Global, cursor: &mut Cursor<'_, Counted>) -> Result<UserCom
         load_at(alloc, cursor)
     } else if word_comes(cursor, b"VIEW") {
         view_at(alloc, cursor)
-    } else {
+    } else if word_comes(cursor, b"SPREAD") {
         spread_at(alloc, cursor)
+    } else {
+        of_sandboxes_at(cursor)
     }
 }
 
@@ -51,6 +54,7 @@ impl RepeatedItem<UserCommand, TooMany, Counted> for NextCommand {
             || word_comes(cursor, b"LOAD")
             || word_comes(cursor, b"VIEW")
             || word_comes(cursor, b"SPREAD")
+            || of_sandboxes_comes(cursor)
     }
 
     fn read_next(

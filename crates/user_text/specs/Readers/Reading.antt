@@ -13,6 +13,7 @@ use Rattle.user_text.specs.declared.command.ParamText.TheVariants as params
 use Rattle.user_text.specs.declared.command.SetText.{SetText}
 use Rattle.user_text.specs.declared.command.SpreadWord.{SpreadWord}
 use Rattle.user_text.specs.declared.command.SpreadWord.TheVariants as spread_words
+use Rattle.user_text.specs.declared.command.UserBody.{UserBody}
 use Rattle.user_text.specs.declared.command.UserBody.TheVariants as bodies
 use Rattle.user_text.specs.declared.command.UserCommand.{UserCommand}
 use Rattle.user_text.specs.declared.fault.TooMany.{TooMany}
@@ -158,16 +159,32 @@ read_spread = do
   take_sign (codes ";")
   gives (record { line = line; body = bodies.Spread target value how })
 
+unfoldable pub read_alone : List ℕ → UserBody → Plan UserCommand
+read_alone called body = do
+  line ← take_word called
+  take_sign (codes ";")
+  gives (record { line = line; body = body })
+
+-- whether a command of sandboxes comes
+abbrev pub is_sandbox_word : Lexeme → Bool
+is_sandbox_word t = is_word (codes "SANDBOX") t || (is_word (codes "PUBLISH") t || is_word (codes "DISCARD") t)
+
+unfoldable pub read_of_sandboxes : Plan UserCommand
+read_of_sandboxes =
+    choose (is_word (codes "SANDBOX")) (read_alone (codes "SANDBOX") bodies.Sandbox) (choose (is_word (codes "PUBLISH"))
+    (read_alone (codes "PUBLISH") bodies.Publish) (read_alone (codes "DISCARD") bodies.Discard))
+
 -- whether a command comes
 abbrev pub is_command_word : Lexeme → Bool
 is_command_word t =
     is_word (codes "PUT") t || (is_word (codes "GET") t || (is_word (codes "LOAD") t || (is_word (codes "VIEW") t ||
-    is_word (codes "SPREAD") t)))
+    (is_word (codes "SPREAD") t || is_sandbox_word t))))
 
 unfoldable pub read_command : Plan UserCommand
 read_command =
     choose (is_word (codes "PUT")) read_put (choose (is_word (codes "GET")) read_get (choose (is_word
-    (codes "LOAD")) read_load (choose (is_word (codes "VIEW")) read_view read_spread)))
+    (codes "LOAD")) read_load (choose (is_word (codes "VIEW")) read_view (choose (is_word
+    (codes "SPREAD")) read_spread read_of_sandboxes))))
 
 unfoldable pub read_user : Plan (List UserCommand)
 read_user = all_of is_command_word read_command
