@@ -192,7 +192,7 @@ content_of : BoundModel → List stored.Entry → Content
 content_of model cells = record { model = model; stored = cells }
 
 -- the reply to a view: its table or why there is none, on some content of the model, or why the sandbox isn't to be had
-IsViewReply : BoundModel → ViewText → List ℕ → Type 0
+abbrev IsViewReply : BoundModel → ViewText → List ℕ → Type 0
 IsViewReply model text reply =
     ((cells : List stored.Entry) × (reply ≡ reply_of (view_effect (content_of model cells) text)))
     ⊎ ((reason : CommandReason) × (reply ≡ codes "refused " ++ reason_text reason))
@@ -230,7 +230,6 @@ turned : (a b : List ℕ) → EndAlike a b → EndAlike b a
 turned a b alike x y e = let ends = alike y x (sym e) in (sym ends.0, sym ends.1)
 
 view_replies_end : (model : BoundModel) → IsSpace model.space → (text : ViewText) (a b : List ℕ) → IsViewReply model text a → IsViewReply model text b → EndAlike a b
-unfolding IsViewReply
 view_replies_end model is text a b (inl one) (inl two) =
     subst (λ l. EndAlike l b) (sym one.1) (subst (λ l. EndAlike (reply_of (view_effect (content_of model one.0) text)) l) (sym two.1) (views_end model is text one.0 two.0))
 view_replies_end model is text a b (inl one) (inr two) =
@@ -246,19 +245,17 @@ kept_view : (layer : List (ℕ × ℤ)) (content : Content) (meant : Result view
 kept_view layer content (Ok view) = refl
 kept_view layer content (Err fault) = refl
 
+fit_view : (model : BoundModel) (cells : List stored.Entry) (layer : List (ℕ × ℤ)) (text : ViewText) (reason : Option CommandReason)
+    → IsViewReply model text (reply_of (where_fit sandbox layer (option_map (λ reason. reply_text (replies.Refused reason)) reason) (view_effect (content_of model cells) text)).0)
+unfolding content_of
+fit_view model cells layer text None = inl (cells, kept_view layer (content_of model cells) (bound model.space text))
+fit_view model cells layer text (Some reason) = inr (reason, refl)
+
 view_reply : (model : BoundModel) (cells : List stored.Entry) (layer : Option (List (ℕ × ℤ))) (text : ViewText)
     → IsViewReply model text (reply_of (answer (content_of model cells) layer (acts.Do (View text))).0)
-unfolding IsViewReply content_of
+unfolding content_of
 view_reply model cells None text = inl (cells, refl)
-view_reply model cells (Some layer) text = by (misfit (content_of model cells) layer)
-  where
-    with_layer : Content
-    with_layer = after (content_of model cells) layer
-
-    by : (reason : Option CommandReason)
-        → IsViewReply model text (reply_of (where_fit sandbox layer (option_map (λ reason. reply_text (replies.Refused reason)) reason) (view_effect with_layer text)).0)
-    by None = inl (with_layer.stored, kept_view layer with_layer (bound model.space text))
-    by (Some reason) = inr (reason, refl)
+view_reply model cells (Some layer) text = fit_view model (after_writes cells layer) layer text (misfit (content_of model cells) layer)
 
 -- ---- versions
 
