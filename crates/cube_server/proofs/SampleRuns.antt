@@ -12,10 +12,11 @@ use Rattle.rule_model.specs.BoundModel.{BoundModel}
 use Rattle.run_passes.specs.RefusalOrder.{run_of}
 use Rattle.run_passes.specs.declared.run_job.RunJob.{RunJob}
 use Rattle.run_passes.specs.declared.run_job.RunJob.TheVariants.{Serve}
+use Rattle.sandbox.specs.declared.act.Act.{Act}
 use Rattle.user_session.specs.declared.command.PlanCommand.{PlanCommand}
 use Rattle.cube_server.specs.Sample.{IsSampleRun, sample_words}
 
-pub sample-run : (size : ℕ) (files : MemoryFiles) (o : Outside) (words : List (List ℕ)) (first readings : Readings) (job : RunJob) (model : BoundModel) (users : List (List PlanCommand))
+pub sample-run : (size : ℕ) (files : MemoryFiles) (o : Outside) (words : List (List ℕ)) (first readings : Readings) (job : RunJob) (model : BoundModel) (users : List (List (Act PlanCommand)))
     → map (λ pair. (pair.0.items, pair.1.items)) files.pairs.items ≡ files_of size → o.known ≡ Some (bytes_named files.pairs.items)
     → words ≡ sample_words → first ≡ [] → job ≡ Serve model users → Comes (run_of words) o first readings (Ok job) → IsSampleRun size model users
 sample-run size files o words first readings job model users are known same none is began =

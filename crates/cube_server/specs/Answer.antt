@@ -1,5 +1,5 @@
 -- Which text each end of a run allows, and what may have been written.
-use Rattle.std.specs.Prelude.{◌≡◌, ℕ, ℤ, List, [], ◌∷◌, ◌++◌, ◌⊎◌, Option, String}
+use Rattle.std.specs.Prelude.{◌≡◌, ℕ, ℤ, List, [], ◌∷◌, ◌++◌, ◌⊎◌, Option, None, String}
 use Rattle.std.specs.Io.KnownBytes.{Appends}
 use Rattle.std.specs.declared.alloc.Global.{Global}
 use Rattle.accepted.specs.Checks.{IsAccepted}
@@ -8,9 +8,10 @@ use Rattle.cube_outside.specs.Counts.{Rose}
 use Rattle.cube_outside.specs.Seen.{Seen}
 use Rattle.history.specs.declared.entry.Entry.{Entry}
 use Rattle.history.specs.declared.told.Told.{Told}
-use Rattle.history.specs.LegalHistory.{IsHistoryOf}
+use Rattle.layers.specs.Layered.{IsLayeredHistoryOf}
+use Rattle.sandbox.specs.declared.act.Act.{Act}
 use Rattle.user_session.specs.Content.{opening, after}
-use Rattle.user_session.specs.Planning.{effect}
+use Rattle.user_session.specs.Layers.{answer}
 use Rattle.run_passes.specs.declared.run_job.RunJob.{RunJob}
 use Rattle.run_passes.specs.declared.run_job.RunJob.TheVariants.{Serve, Check, Sample}
 use Rattle.file_passes.specs.declared.refusal.Refusal.{Refusal}
@@ -27,13 +28,14 @@ use Rattle.user_session.specs.declared.command.PlanCommand.{PlanCommand}
 use Rattle.cube_server.specs.Sample.{IsSummary}
 use Rattle.cube_words.specs.Words.{Plan, IsPlan, texts_of}
 
--- the model is an accepted one, and the text is what the users were told, and the one history: a history that is legal,
--- of which each user's replies are a run, each reply on the version at its place
-pub record IsServed (model : BoundModel) (users : List (List PlanCommand)) (text : List ℕ) : Type 0 where
+-- The model is an accepted one, and the text is what the users were told, and the one history. Each user begins without
+-- a sandbox. Each reply is that of the user's act on the version at its place, with what the user's own sandbox keeps
+-- there; each entry is an act that commits on the version of its place; and the history has no other entry.
+pub record IsServed (model : BoundModel) (users : List (List (Act PlanCommand))) (text : List ℕ) : Type 0 where
   pub accepted : IsAccepted model
   pub told : List (List (Told (List ℕ)))
   pub log : List (Entry (List (ℕ × ℤ)))
-  pub history : IsHistoryOf effect after (opening model) users told log
+  pub history : IsLayeredHistoryOf answer after (opening model) None users told log
   pub is_text : text ≡ output told log
 
 -- the text of each job: of users, that the model is accepted, or the sample's summary

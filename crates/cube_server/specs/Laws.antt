@@ -6,12 +6,13 @@ use Rattle.rule_laws.specs.RuleSystem.{RuleSystem, Stored, IsCell, SolvesRules, 
 use Rattle.rule_model.specs.BoundModel.{BoundModel}
 use Rattle.rule_model.specs.System.{system_of}
 use Rattle.run_passes.specs.declared.run_job.RunJob.TheVariants.{Serve}
+use Rattle.sandbox.specs.declared.act.Act.{Act}
 use Rattle.user_session.specs.declared.command.PlanCommand.{PlanCommand}
 
 -- where one user runs, there is one text
 abbrev pub OneUserHasOneOutput : Type 0
 OneUserHasOneOutput =
-    (model : BoundModel) (commands : List PlanCommand) (text other : List ℕ)
+    (model : BoundModel) (commands : List (Act PlanCommand)) (text other : List ℕ)
     → IsOutput (Serve model (commands ∷ [])) text → IsOutput (Serve model (commands ∷ [])) other → text ≡ other
 
 -- these values solve the rule equations over what is stored, and no others do
@@ -22,5 +23,5 @@ pub record IsOnlySolution (w : RuleSystem) (stored : Stored) (value : ℕ → Va
 -- whatever is stored, the values of a model that is served are the only solution
 abbrev pub ServedValuesAreTheOnlySolution : Type 0
 ServedValuesAreTheOnlySolution =
-    (model : BoundModel) (users : List (List PlanCommand)) (text : List ℕ) → IsServed model users text
+    (model : BoundModel) (users : List (List (Act PlanCommand))) (text : List ℕ) → IsServed model users text
     → (stored : Stored) → IsOnlySolution (system_of model) stored (dense_value (system_of model) stored)

@@ -16,6 +16,7 @@ use history::Told;
 use lists::ListOf;
 use model_counts::accepted_text;
 use run_passes::{RunJob, run_passes};
+use sandbox::Act;
 use std::alloc::{AllocError, Global};
 use std::sync::Wait;
 use std::thread::Threads;
@@ -78,7 +79,7 @@ fn served<R: Threads + Wait + Sync, G: Gate + Sync>(
     alloc: Global,
     gate: &G,
     model: Accepted,
-    users: ListOf<ListOf<PlanCommand>>,
+    users: ListOf<ListOf<Act<PlanCommand>>>,
 ) -> Result<Answer, AllocError>
     ensures status { IfOk result (λ answer. answer.status ≡ Status.Done) }
     ensures text { IfOk result (λ answer. IsServed model users (joined answer.pieces.items)) }

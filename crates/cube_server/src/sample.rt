@@ -10,6 +10,7 @@ use file_passes::Readings;
 use lists::ListOf;
 use run_passes::{RunJob, run_passes};
 use sample_summary::sample_text;
+use sandbox::Act;
 use std::alloc::{AllocError, Global};
 use std::sync::Wait;
 use std::thread::Threads;
@@ -41,7 +42,7 @@ pub(crate) fn sample<R: Threads + Wait + Sync, G: Gate + Sync>(
 fn sample_run(
     alloc: Global,
     size: u32,
-) -> Result<(Accepted, ListOf<ListOf<PlanCommand>>), AllocError>
+) -> Result<(Accepted, ListOf<ListOf<Act<PlanCommand>>>), AllocError>
     ensures { IfOk result (λ run. IsSampleRun size run.0 run.1) }
 {
     if size == 0 {

@@ -1,5 +1,5 @@
--- Commands that do the same on every content have the same histories.
-use Rattle.std.proofs.Common.{◌≡◌, ℕ, ◌+◌, zero, suc, List, [], ◌∷◌, length, Some, refl, ap, sym, ◌∙◌, subst}
+-- Commands that do the same on every content, whatever their users keep in layers, have the same histories.
+use Rattle.std.proofs.Common.{◌≡◌, ℕ, ◌+◌, zero, suc, List, [], ◌∷◌, length, map, Some, refl, ap, sym, ◌∙◌, subst}
 use Rattle.std.specs.List.{AllZip, slice_get}
 use Rattle.history.specs.declared.entry.Entry.{Entry}
 use Rattle.history.specs.declared.told.Told.{Told}
@@ -7,6 +7,7 @@ use Rattle.history.specs.declared.effect.Effect.{Effect}
 use Rattle.history.specs.Version.{version}
 use Rattle.history.specs.UserRun.{least_after, ToldFrom}
 use Rattle.history.specs.LegalHistory.{IsLegalAt, IsHistoryOf}
+use Rattle.layers.specs.Layered.{effect_of, layered, all_layered, IsLayeredHistoryOf}
 use Rattle.lists.proofs.Found.{none_some, some_same}
 
 module _ {A B : Type 0} (Q : A → B → Type 0) where
@@ -79,7 +80,7 @@ module _ {C K T R : Type 0} (effect : C → K → Effect T R) (after : C → T �
       }
 
   -- a history of users' commands is one of commands that do the same
-  pub run_of_alike : (users others : List (List K)) (told : List (List (Told R))) (log : List (Entry T))
+  run_of_alike : (users others : List (List K)) (told : List (List (Told R))) (log : List (Entry T))
       → AllZip (AllZip (DoTheSame effect)) users others → IsHistoryOf effect after first users told log
       → IsHistoryOf effect after first others told log
   run_of_alike users others told log alike history = record {
@@ -90,3 +91,54 @@ module _ {C K T R : Type 0} (effect : C → K → Effect T R) (after : C → T �
         let run = history.runs index known.0 replies known.1 here in
         (run.0 ∙ zip_long (DoTheSame effect) known.0 commands known.2, told_alike log (index + 1) 1 0 replies known.0 commands known.2 run.1);
   }
+
+-- ---- the same with layers
+
+-- the two commands are answered the same on every content with every layer
+abbrev pub AreAnsweredTheSame : {C L K T R : Type 0} → (C → L → K → Effect T R × L) → K → K → Type 0
+AreAnsweredTheSame {C} {L} answer a b = (content : C) (layer : L) → answer content layer a ≡ answer content layer b
+
+module _ {C L K T R : Type 0} (answer : C → L → K → Effect T R × L) (after : C → T → C) (first : C) (log : List (Entry T)) where
+  abbrev PairsAlike : List (L × K) → List (L × K) → Type 0
+  PairsAlike pairs others = AllZip (DoTheSame (effect_of answer)) pairs others
+
+  with_layer : (layer : L) (commands others : List K) → AllZip (AreAnsweredTheSame answer) commands others
+      → PairsAlike (map (λ command. (layer, command)) commands) (map (λ command. (layer, command)) others)
+  with_layer layer [] [] alike = tt
+  with_layer layer [] (other ∷ others) alike = absurd alike
+  with_layer layer (command ∷ commands) [] alike = absurd alike
+  with_layer layer (command ∷ commands) (other ∷ others) alike =
+      (λ content. ap (λ found. found.0) (alike.0 content layer), with_layer layer commands others alike.1)
+
+  layered_alike : (layer : L) (told : List (Told R)) (commands others : List K) → AllZip (AreAnsweredTheSame answer) commands others
+      → PairsAlike (layered answer after first log layer told commands) (layered answer after first log layer told others)
+  layered_alike layer [] commands others alike = with_layer layer commands others alike
+  layered_alike layer (one ∷ told) [] [] alike = tt
+  layered_alike layer (one ∷ told) [] (other ∷ others) alike = absurd alike
+  layered_alike layer (one ∷ told) (command ∷ commands) [] alike = absurd alike
+  layered_alike layer (one ∷ told) (command ∷ commands) (other ∷ others) alike =
+      let here = version after first log one.place in
+      let next = (answer here layer command).1 in
+      (
+        λ content. ap (λ found. found.0) (alike.0 content layer),
+        subst (λ (l : L). PairsAlike (layered answer after first log next told commands) (layered answer after first log l told others)) (ap (λ found. found.1) (alike.0 here layer))
+            (layered_alike next told commands others alike.1),
+      )
+
+  all_alike : (layer : L) (told : List (List (Told R))) (users others : List (List K)) → AllZip (AllZip (AreAnsweredTheSame answer)) users others
+      → AllZip PairsAlike (all_layered answer after first log layer told users) (all_layered answer after first log layer told others)
+  all_alike layer told [] [] alike = tt
+  all_alike layer told [] (more ∷ others) alike = absurd alike
+  all_alike layer told (commands ∷ users) [] alike = absurd alike
+  all_alike layer [] (commands ∷ users) (more ∷ others) alike =
+      (layered_alike layer [] commands more alike.0, all_alike layer [] users others alike.1)
+  all_alike layer (own ∷ told) (commands ∷ users) (more ∷ others) alike =
+      (layered_alike layer own commands more alike.0, all_alike layer told users others alike.1)
+
+  -- a history of users' commands is one of commands that are answered the same
+  pub history_of_alike : (layer : L) (users others : List (List K)) (told : List (List (Told R)))
+      → AllZip (AllZip (AreAnsweredTheSame answer)) users others → IsLayeredHistoryOf answer after first layer users told log
+      → IsLayeredHistoryOf answer after first layer others told log
+  history_of_alike layer users others told alike history =
+      run_of_alike (effect_of answer) after first (all_layered answer after first log layer told users) (all_layered answer after first log layer told others) told log
+      (all_alike layer told users others alike) history

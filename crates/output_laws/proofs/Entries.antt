@@ -1,13 +1,9 @@
--- What the lines of the history tell, and that the writes follow.
-use Rattle.std.proofs.Common.{◌≡◌, ℕ, ℤ, ◌+◌, ◌^◌, ◌<◌, suc, List, [], ◌∷◌, ◌++◌, length, Some, codes, decimal, refl, sym, ap, ◌∙◌, subst, arith, append_assoc}
+-- What the lines of the history tell.
+use Rattle.std.proofs.Common.{◌≡◌, ℕ, ℤ, ◌+◌, ◌^◌, ◌<◌, suc, List, [], ◌∷◌, ◌++◌, length, Some, codes, decimal, refl, sym, ◌∙◌, arith, append_assoc}
 use Rattle.std.specs.List.{slice_get}
 use Rattle.std.proofs.lemmas.Fmt.{decimal_injective}
 use Rattle.std.proofs.lemmas.List.{append_cancel_left}
 use Rattle.history.specs.declared.entry.Entry.{Entry}
-use Rattle.history.specs.declared.effect.Effect.{Effect}
-use Rattle.history.specs.declared.effect.Effect.TheVariants.{Commit}
-use Rattle.history.specs.LegalHistory.{IsLegal, IsLegalAt}
-use Rattle.lists.proofs.Found.{some_same}
 use Rattle.dim_name.specs.Bytes.{newline, space}
 use Rattle.cube_server.specs.Output.{numbered, entry_line}
 use Rattle.output_laws.proofs.Lines.{split_at, empty_not}
@@ -65,57 +61,3 @@ entries_tell (a ∷ log) (b ∷ other) few few_too place e =
     let low_too = few_too 0 b refl in
     let line = line_tells place a b (numbered entry_line (place + 1) log) (numbered entry_line (place + 1) other) low.0 low_too.0 low.1 low_too.1 e in
     (line.0, line.1, entries_tell log other (λ p. few (suc p)) (λ p. few_too (suc p)) (place + 1) line.2)
-
--- ---- the writes follow
-
-module _ {C K T R : Type 0} (effect : C → K → Effect T R) (after : C → T → C) (users : List (List K)) where
-  -- what is legal stays legal after its first entry
-  legal_after : (first : C) (a : Entry T) (log : List (Entry T)) → IsLegal effect after first users (a ∷ log) → IsLegal effect after (after first a.writes) users log
-  legal_after first a log legal place entry is =
-      let at = legal (suc place) entry is in
-      record {
-        index = at.index;
-        commands = at.commands;
-        before = at.before;
-        command = at.command;
-        reply = at.reply;
-        is_user = at.is_user;
-        are_commands = at.are_commands;
-        is_number = at.is_number;
-        is_command = at.is_command;
-        is_accepted = at.is_accepted;
-      }
-
-  entry_of : ℕ → ℕ → T → Entry T
-  entry_of user command writes = record { user = user; command = command; writes = writes }
-
-  entry_same : (a b : Entry T) → a.user ≡ b.user → a.command ≡ b.command → a.writes ≡ b.writes → a ≡ b
-  unfolding entry_of
-  entry_same a b us ks ws = ap (λ u. entry_of u a.command a.writes) us ∙ ap (λ k. entry_of b.user k a.writes) ks ∙ ap (λ w. entry_of b.user b.command w) ws
-
-  -- the same command of the same user, on the same content, has the same writes
-  writes_same : (first : C) (a b : Entry T) (log other : List (Entry T)) → a.user ≡ b.user → a.command ≡ b.command
-      → IsLegalAt effect after first users (a ∷ log) 0 a → IsLegalAt effect after first users (b ∷ other) 0 b → a.writes ≡ b.writes
-  writes_same first a b log other same_user same_command at at_too =
-      let index : at.index ≡ at_too.index = omega (arith, at.is_user, at_too.is_user) in
-      let commands : at.commands ≡ at_too.commands =
-      some_same (sym at.are_commands ∙ ap (λ i. slice_get users i) index ∙ at_too.are_commands) in
-      let before : at.before ≡ at_too.before = omega (arith, at.is_number, at_too.is_number) in
-      let command : at.command ≡ at_too.command =
-      some_same (sym at.is_command ∙ ap (λ l. slice_get l at.before) commands ∙ ap (λ i. slice_get at_too.commands i) before ∙ at_too.is_command) in
-      let effects : Commit a.writes at.reply ≡ Commit b.writes at_too.reply = sym at.is_accepted ∙ ap (λ k. effect first k) command ∙ at_too.is_accepted in
-      one (a.writes) (b.writes) at.reply at_too.reply effects
-    where
-      one : (v w : T) (r s : R) → Commit v r ≡ Commit w s → v ≡ w
-      one v w r s e = cc
-
-  pub writes_follow : (first : C) (log other : List (Entry T)) → IsLegal effect after first users log → IsLegal effect after first users other
-      → AreOfSame log other → log ≡ other
-  writes_follow first [] [] legal legal_too same = refl
-  writes_follow first [] (b ∷ other) legal legal_too same = absurd same
-  writes_follow first (a ∷ log) [] legal legal_too same = absurd same
-  writes_follow first (a ∷ log) (b ∷ other) legal legal_too same =
-      let writes = writes_same first a b log other same.0 same.1 (legal 0 a refl) (legal_too 0 b refl) in
-      let rest = writes_follow (after first a.writes) log other (legal_after first a log legal)
-      (subst (λ w. IsLegal effect after (after first w) users other) (sym writes) (legal_after first b other legal_too)) same.2 in
-      ap (λ l. l ++ log) (ap (λ c. c ∷ []) (entry_same a b same.0 same.1 writes)) ∙ ap (λ l. b ∷ l) rest

@@ -5,10 +5,12 @@ pub mod Lines
 pub mod Plain
 pub mod ToldLines
 pub mod Entries
+pub mod Owners
 pub mod Names
 pub mod Tables
 pub mod Replies
 pub mod Histories
 pub mod Alike
 pub mod SameJobs
+pub mod Published
 pub mod OneText

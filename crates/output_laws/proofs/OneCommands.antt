@@ -1,11 +1,12 @@
 -- The commands of users' texts are the same.
-use Rattle.std.proofs.Common.{List, [], ◌∷◌, sym, ◌∙◌, ap}
+use Rattle.std.proofs.Common.{List, [], ◌∷◌, refl, sym, ◌∙◌, ap}
 use Rattle.std.specs.Arc.{arc_value}
 use Rattle.std.specs.List.{AllZip, slice_get}
 use Rattle.file_passes.specs.Pass.{Source}
 use Rattle.judged_files.specs.Loads.{IsLoad, IsCommand, AreCommands}
 use Rattle.judged_files.specs.Scripts.{Scripts}
 use Rattle.lists.proofs.Found.{some_same}
+use Rattle.sandbox.specs.declared.act.Act.{Act}
 use Rattle.script_bound.specs.declared.script.BoundScript.{BoundScript}
 use Rattle.user_session.specs.declared.command.PlanCommand.{PlanCommand}
 use Rattle.user_text.specs.declared.command.LoadText.{LoadText}
@@ -13,7 +14,7 @@ use Rattle.user_text.specs.declared.command.UserBody.{UserBody}
 use Rattle.user_text.specs.declared.command.UserBody.TheVariants as bodies
 use Rattle.user_text.specs.declared.command.UserCommand.{UserCommand}
 use Rattle.user_text.specs.declared.load_job.LoadJob.{LoadJob}
-use Rattle.output_laws.specs.SameJob.{IsSameLoad, IsSameCommand}
+use Rattle.output_laws.specs.SameJob.{IsSameLoad, IsSameAct}
 
 -- what belongs to one text each is alike
 zip_alike : {A B : Type 0} (R : A → B → Type 0) (Same : B → B → Type 0)
@@ -40,24 +41,27 @@ module _ (scripts : Scripts) (sources : List Source) where
         params = p.params ∙ sym q.params;
       }
 
-  same_command : (body : UserBody) (x y : PlanCommand)
-      → IsCommand scripts sources body x → IsCommand scripts sources body y → IsSameCommand x y
-  same_command (bodies.Put cell number) x y p q = rw p q
-  same_command (bodies.Get cell) x y p q = rw p q
-  same_command (bodies.View view) x y p q = rw p q
-  same_command (bodies.Spread cell amount how) x y p q = rw p q
+  same_command : (body : UserBody) (x y : Act PlanCommand)
+      → IsCommand scripts sources body x → IsCommand scripts sources body y → IsSameAct x y
+  same_command (bodies.Put cell number) x y p q = rw (p, q) refl
+  same_command (bodies.Get cell) x y p q = rw (p, q) refl
+  same_command (bodies.View view) x y p q = rw (p, q) refl
+  same_command (bodies.Spread cell amount how) x y p q = rw (p, q) refl
+  same_command bodies.Sandbox x y p q = rw p q
+  same_command bodies.Publish x y p q = rw p q
+  same_command bodies.Discard x y p q = rw p q
   same_command (bodies.Load load) x y (job, script, is, loads) (other, again, too, runs) =
       rw (is, too) (same_load load job other (arc_value script) (arc_value again) loads runs)
 
-  same_commands : (texts : List UserCommand) (xs ys : List PlanCommand)
+  same_commands : (texts : List UserCommand) (xs ys : List (Act PlanCommand))
       → AreCommands scripts sources texts xs → AreCommands scripts sources texts ys
-      → AllZip IsSameCommand xs ys
+      → AllZip IsSameAct xs ys
   same_commands texts xs ys p q =
-      zip_alike (λ text command. IsCommand scripts sources text.body command) IsSameCommand
+      zip_alike (λ text command. IsCommand scripts sources text.body command) IsSameAct
       (λ text x y. same_command text.body x y) texts xs ys p q
 
-  pub same_users : (users : List (List UserCommand)) (xs ys : List (List PlanCommand))
+  pub same_users : (users : List (List UserCommand)) (xs ys : List (List (Act PlanCommand)))
       → AllZip (AreCommands scripts sources) users xs → AllZip (AreCommands scripts sources) users ys
-      → AllZip (AllZip IsSameCommand) xs ys
+      → AllZip (AllZip IsSameAct) xs ys
   same_users users xs ys p q =
-      zip_alike (AreCommands scripts sources) (AllZip IsSameCommand) same_commands users xs ys p q
+      zip_alike (AreCommands scripts sources) (AllZip IsSameAct) same_commands users xs ys p q

@@ -17,9 +17,10 @@ use Rattle.run_passes.specs.declared.run_job.RunJob.TheVariants as jobs
 use Rattle.run_passes.proofs.PlanFacts.{steady-text, steady-deploy, steady-users, accept}
 use Rattle.run_passes.proofs.PlanWords.{one_plan}
 use Rattle.script_text_laws.specs.ScriptAnswers.{OneScriptAnswer}
+use Rattle.sandbox.specs.declared.act.Act.{Act}
 use Rattle.user_session.specs.declared.command.PlanCommand.{PlanCommand}
 use Rattle.user_text.specs.declared.command.UserCommand.{UserCommand}
-use Rattle.output_laws.specs.SameJob.{IsSameCommand, IsSameJob}
+use Rattle.output_laws.specs.SameJob.{IsSameAct, IsSameJob}
 use Rattle.output_laws.proofs.OneScripts.{one_list}
 use Rattle.output_laws.proofs.OneCommands.{same_users}
 
@@ -44,14 +45,14 @@ one-behind P K one next = same-behind (λ a b. a ≡ b) P K one next
 -- ---- of users
 
 same-records : (scripts : Scripts) (texts : List (List UserCommand))
-    → FindsSame (AllZip (AllZip IsSameCommand)) (records_pass scripts texts)
+    → FindsSame (AllZip (AllZip IsSameAct)) (records_pass scripts texts)
 same-records scripts texts =
-    same-behind (AllZip (AllZip IsSameCommand)) (files Whole (record_files texts))
+    same-behind (AllZip (AllZip IsSameAct)) (files Whole (record_files texts))
     (λ sources. judged (commands_judgement scripts sources texts)) (one-files Whole (record_files texts)).one_found
     (λ sources readings a b. same_users scripts sources texts a b)
 
-same-served : (model : BoundModel) (xs ys : List (List PlanCommand)) (a b : RunJob)
-    → AllZip (AllZip IsSameCommand) xs ys → a ≡ jobs.Serve model xs → b ≡ jobs.Serve model ys → IsSameJob a b
+same-served : (model : BoundModel) (xs ys : List (List (Act PlanCommand))) (a b : RunJob)
+    → AllZip (AllZip IsSameAct) xs ys → a ≡ jobs.Serve model xs → b ≡ jobs.Serve model ys → IsSameJob a b
 same-served model xs ys a b same p q = rw (p, q) (refl, same)
 
 same-behind_users : (checked : Checked) (texts : List (List UserCommand))

@@ -1,11 +1,11 @@
--- The replies to one command on any two versions of a model end alike.
-use Rattle.std.proofs.Common.{◌≡◌, ℕ, ℤ, Bool, true, false, if◌then◌else◌, nat_lt, List, [], ◌∷◌, ◌++◌, length, take, codes, decimal, Option, Some, None, Result, Ok, Err, refl, sym, ap, subst, arith}
+-- The replies to one act on any two versions of a model, whatever its user's sandbox keeps, end alike.
+use Rattle.std.proofs.Common.{◌≡◌, ℕ, ℤ, true, List, [], ◌++◌, length, take, codes, decimal, Option, Some, None, Result, Ok, Err, ◌⊎◌, inl, inr, refl, sym, ap, ◌∙◌, subst, arith}
 use Rattle.std.specs.Arc.{arc_value}
+use Rattle.std.specs.Option.{option_map}
 use Rattle.history.specs.declared.entry.Entry.{Entry}
-use Rattle.history.specs.declared.effect.Effect.TheVariants.{Rejected}
+use Rattle.history.specs.declared.effect.Effect.TheVariants.{Commit, Rejected, Read}
 use Rattle.history.specs.Version.{content_after, version}
 use Rattle.history.specs.UserRun.{reply_of}
-use Rattle.cell_reader.specs.FedCount.{fed_count}
 use Rattle.cell_reader.specs.WritePermission.{why_closed}
 use Rattle.cell_reader.specs.declared.write_permission.Closed.{Closed}
 use Rattle.cell_reader.specs.declared.write_permission.Closed.TheVariants as closed
@@ -14,13 +14,15 @@ use Rattle.cell_spread.specs.declared.fault.SpreadFault.{SpreadFault}
 use Rattle.cell_spread.specs.declared.fault.SpreadFault.TheVariants as spreads
 use Rattle.cell_store.specs.declared.entry.Entry as stored
 use Rattle.cell_store.specs.Entries.{after_writes}
-use Rattle.cell_store.specs.StoreLimit.{most_cells}
 use Rattle.cell_writes.specs.Writes.{last_writes}
 use Rattle.cube_space.specs.Cells.{IsSpace}
 use Rattle.dim_name.specs.Bytes.{newline}
-use Rattle.feed_map.specs.FedCells.{most_fed}
+use Rattle.layers.specs.Layered.{effect_of}
 use Rattle.load_cells.specs.Loads.{store_of}
 use Rattle.rule_model.specs.BoundModel.{BoundModel}
+use Rattle.sandbox.specs.Sandboxes.{kept_in, where_fit}
+use Rattle.sandbox.specs.declared.act.Act.{Act}
+use Rattle.sandbox.specs.declared.act.Act.TheVariants as acts
 use Rattle.script_bound.specs.declared.script.BoundScript.{BoundScript}
 use Rattle.script_run.specs.Load.{load, ran_of, writes_of}
 use Rattle.script_run.specs.declared.ran.Ran.{Ran}
@@ -30,25 +32,28 @@ use Rattle.script_tree.specs.declared.script.Section.TheVariants as sections
 use Rattle.script_values.specs.declared.load_reason.LoadReason.{LoadReason}
 use Rattle.script_values.specs.declared.load_reason.LoadReason.TheVariants as stops
 use Rattle.user_session.specs.Content.{opening, after}
-use Rattle.user_session.specs.Planning.{effect, named_cell, put_effect, get_effect, load_effect, spread_effect, how_of, table_effect, view_effect, ended_effect, unless_closed, unless_fault, within_limits, write_effect, committed, value_at, PlanEffect}
+use Rattle.user_session.specs.Layers.{answer, sandbox, unfit}
+use Rattle.user_session.specs.Planning.{effect, fixed_effect, misfit, named_cell, passed_limit, put_effect, get_effect, load_effect, spread_effect, how_of, table_effect, view_effect, ended_effect, unless_closed, unless_fault, unless_reason, write_effect, committed, value_at, PlanEffect}
 use Rattle.user_session.specs.RejectedLoad.{stopped_text, section_text, cause_text}
-use Rattle.user_session.specs.Replies.{reason_text, fault_text, spread_fault_text}
+use Rattle.user_session.specs.Replies.{reason_text, reply_text, fault_text, spread_fault_text}
 use Rattle.user_session.specs.declared.command.PlanCommand.{PlanCommand}
-use Rattle.user_session.specs.declared.command.PlanCommand.TheVariants.{Put, Get, Load, View, Spread}
+use Rattle.user_session.specs.declared.command.PlanCommand.TheVariants.{Put, Get, Load, View, Spread, Fixed}
 use Rattle.user_session.specs.declared.content.Content.{Content}
 use Rattle.user_session.specs.declared.reply.CommandReason.{CommandReason}
 use Rattle.user_session.specs.declared.reply.CommandReason.TheVariants as reasons
+use Rattle.user_session.specs.declared.reply.Reply.TheVariants as replies
 use Rattle.user_text.specs.Jobs.{rows_in}
 use Rattle.user_text.specs.declared.command.SpreadWord.{SpreadWord}
 use Rattle.user_text.specs.declared.command.ViewText.{ViewText}
 use Rattle.user_text.specs.declared.load_job.LoadJob.{LoadJob}
 use Rattle.view_query.specs.Binding.{bound}
 use Rattle.view_query.specs.declared.fault.ViewFault.{ViewFault}
+use Rattle.view_query.specs.declared.fault.ViewFault.TheVariants as faults
 use Rattle.view_query.specs.declared.shape.View as views
 use Rattle.view_query.proofs.BoundFacts.{answers_view}
 use Rattle.output_laws.proofs.Lines.{lacks, EndAlike, plain_ends, same_ends}
 use Rattle.output_laws.proofs.Plain.{lacks-append, decimal_lacks, printed_plain}
-use Rattle.output_laws.proofs.Tables.{tables_end}
+use Rattle.output_laws.proofs.Tables.{table_apart, tables_end}
 
 -- ---- replies in one line
 
@@ -61,20 +66,33 @@ reason_plain reasons.NotALeaf = refl
 reason_plain reasons.RuleDerived = refl
 reason_plain reasons.StoreLimit = refl
 reason_plain reasons.FedLimit = refl
+reason_plain reasons.NoSandbox = refl
+reason_plain reasons.SandboxOpen = refl
+
+refused_plain : (reason : CommandReason) → lacks newline (codes "refused " ++ reason_text reason) ≡ true
+refused_plain reasons.UnknownName = refl
+refused_plain reasons.NotALeaf = refl
+refused_plain reasons.RuleDerived = refl
+refused_plain reasons.StoreLimit = refl
+refused_plain reasons.FedLimit = refl
+refused_plain reasons.NoSandbox = refl
+refused_plain reasons.SandboxOpen = refl
+
+kept_plain : (writes : List (ℕ × ℤ)) → lacks newline (sandbox.kept writes) ≡ true
+kept_plain writes = lacks-append newline (codes "kept ") (decimal (length writes)) refl (decimal_lacks newline (length writes) (omega arith))
 
 committed_plain : (writes : List (ℕ × ℤ)) → IsPlain (committed writes)
 committed_plain writes = lacks-append newline (codes "committed ") (decimal (length writes)) refl (decimal_lacks newline (length writes) (omega arith))
 
-within_plain : (model : BoundModel) (cells : List stored.Entry) (writes : List (ℕ × ℤ)) → IsPlain (within_limits model cells writes)
-within_plain model cells writes = by (nat_lt most_cells (length cells)) (nat_lt most_fed (fed_count model cells))
-  where
-    by : (b c : Bool) → IsPlain (if b then (Rejected (codes "rejected StoreLimit")) else if c then (Rejected (codes "rejected FedLimit")) else committed writes)
-    by true c = refl
-    by false true = refl
-    by false false = committed_plain writes
+unless_plain : (reason : Option CommandReason) (writes : List (ℕ × ℤ)) → IsPlain (unless_reason reason writes)
+unless_plain None writes = committed_plain writes
+unless_plain (Some reason) writes = reason_plain reason
 
 write_plain : (content : Content) (writes : List (ℕ × ℤ)) → IsPlain (write_effect content writes)
-write_plain content writes = within_plain content.model (after_writes content.stored writes) writes
+write_plain content writes = unless_plain (passed_limit content.model (after_writes content.stored writes)) writes
+
+fixed_plain : (content : Content) (writes : List (ℕ × ℤ)) → IsPlain (fixed_effect content writes)
+fixed_plain content writes = unless_plain (misfit content writes) writes
 
 closed_plain : (o : Option Closed) (found : PlanEffect) → IsPlain found → IsPlain (unless_closed o found)
 closed_plain None found plain = plain
@@ -150,11 +168,39 @@ load_plain content job script =
     let outcome = load script job.params (rows_in job) (store_of content.model content.stored) [] in
     ended_plain (ran_of outcome) (writes_of outcome)
 
+-- ---- replies in a sandbox
+
+-- a command's reply in one line is in one line in a sandbox too
+kept_in_plain : (layer : List (ℕ × ℤ)) (found : PlanEffect) → IsPlain found → IsPlain (kept_in sandbox layer found).0
+kept_in_plain layer (Commit writes reply) plain = kept_plain writes
+kept_in_plain layer (Rejected reply) plain = plain
+kept_in_plain layer (Read reply) plain = plain
+
+fit_plain : (layer : List (ℕ × ℤ)) (reason : Option CommandReason) (found : PlanEffect) → IsPlain found
+    → IsPlain (where_fit sandbox layer (option_map (λ reason. reply_text (replies.Refused reason)) reason) found).0
+fit_plain layer None found plain = kept_in_plain layer found plain
+fit_plain layer (Some reason) found plain = refused_plain reason
+
+do_plain : (command : PlanCommand) → ((content : Content) → IsPlain (effect content command)) → (content : Content) (layer : Option (List (ℕ × ℤ)))
+    → IsPlain (answer content layer (acts.Do command)).0
+do_plain command plain content None = plain content
+do_plain command plain content (Some layer) = fit_plain layer (misfit content layer) (effect (after content layer) command) (plain (after content layer))
+
 -- ---- tables
+
+content_of : BoundModel → List stored.Entry → Content
+content_of model cells = record { model = model; stored = cells }
+
+-- the reply to a view: its table or why there is none, on some content of the model, or why the sandbox isn't to be had
+abbrev IsViewReply : BoundModel → ViewText → List ℕ → Type 0
+IsViewReply model text reply =
+    ((cells : List stored.Entry) × (reply ≡ reply_of (view_effect (content_of model cells) text)))
+    ⊎ ((reason : CommandReason) × (reply ≡ codes "refused " ++ reason_text reason))
 
 -- on contents of one model a view has tables that end alike, or is refused for one cause
 views_end : (model : BoundModel) → IsSpace model.space → (text : ViewText) (cells others : List stored.Entry)
-    → EndAlike (reply_of (view_effect (record { model = model; stored = cells }) text)) (reply_of (view_effect (record { model = model; stored = others }) text))
+    → EndAlike (reply_of (view_effect (content_of model cells) text)) (reply_of (view_effect (content_of model others) text))
+unfolding content_of
 views_end model is text cells others = by (bound model.space text) refl
   where
     by : (meant : Result views.View ViewFault) → bound model.space text ≡ meant
@@ -164,6 +210,53 @@ views_end model is text cells others = by (bound model.space text) refl
         (value_at (record { model = model; stored = cells })) (value_at (record { model = model; stored = others }))
     by (Err fault) found = same_ends (codes "refused " ++ fault_text fault) (codes "refused " ++ fault_text fault) refl
 
+fault_plain : (fault : ViewFault) → lacks newline (codes "refused " ++ fault_text fault) ≡ true
+fault_plain faults.UnknownName = refl
+fault_plain faults.WrongCount = refl
+fault_plain (faults.ViewLimit count) = refl
+fault_plain faults.Memory = refl
+
+-- no table begins as a refusal does
+view_refusal : (model : BoundModel) (text : ViewText) (cells : List stored.Entry) (reason : CommandReason)
+    → EndAlike (reply_of (view_effect (content_of model cells) text)) (codes "refused " ++ reason_text reason)
+unfolding content_of
+view_refusal model text cells reason = by (bound model.space text)
+  where
+    by : (meant : Result views.View ViewFault) → EndAlike (reply_of (table_effect (record { model = model; stored = cells }) meant)) (codes "refused " ++ reason_text reason)
+    by (Ok view) = table_apart model.space view (value_at (record { model = model; stored = cells })) (reason_text reason)
+    by (Err fault) = plain_ends (codes "refused " ++ fault_text fault) (codes "refused " ++ reason_text reason) (fault_plain fault) (refused_plain reason)
+
+turned : (a b : List ℕ) → EndAlike a b → EndAlike b a
+turned a b alike x y e = let ends = alike y x (sym e) in (sym ends.0, sym ends.1)
+
+view_replies_end : (model : BoundModel) → IsSpace model.space → (text : ViewText) (a b : List ℕ) → IsViewReply model text a → IsViewReply model text b → EndAlike a b
+view_replies_end model is text a b (inl one) (inl two) =
+    subst (λ l. EndAlike l b) (sym one.1) (subst (λ l. EndAlike (reply_of (view_effect (content_of model one.0) text)) l) (sym two.1) (views_end model is text one.0 two.0))
+view_replies_end model is text a b (inl one) (inr two) =
+    subst (λ l. EndAlike l b) (sym one.1) (subst (λ l. EndAlike (reply_of (view_effect (content_of model one.0) text)) l) (sym two.1) (view_refusal model text one.0 two.0))
+view_replies_end model is text a b (inr one) (inl two) =
+    turned b a (subst (λ l. EndAlike l a) (sym two.1) (subst (λ l. EndAlike (reply_of (view_effect (content_of model two.0) text)) l) (sym one.1) (view_refusal model text two.0 one.0)))
+view_replies_end model is text a b (inr one) (inr two) =
+    plain_ends a b (rw one.1 (refused_plain one.0)) (rw two.1 (refused_plain two.0))
+
+-- a view only reads, so its reply in a sandbox is that on the content with the layer
+kept_view : (layer : List (ℕ × ℤ)) (content : Content) (meant : Result views.View ViewFault)
+    → reply_of (kept_in sandbox layer (table_effect content meant)).0 ≡ reply_of (table_effect content meant)
+kept_view layer content (Ok view) = refl
+kept_view layer content (Err fault) = refl
+
+fit_view : (model : BoundModel) (cells : List stored.Entry) (layer : List (ℕ × ℤ)) (text : ViewText) (reason : Option CommandReason)
+    → IsViewReply model text (reply_of (where_fit sandbox layer (option_map (λ reason. reply_text (replies.Refused reason)) reason) (view_effect (content_of model cells) text)).0)
+unfolding content_of
+fit_view model cells layer text None = inl (cells, kept_view layer (content_of model cells) (bound model.space text))
+fit_view model cells layer text (Some reason) = inr (reason, refl)
+
+view_reply : (model : BoundModel) (cells : List stored.Entry) (layer : Option (List (ℕ × ℤ))) (text : ViewText)
+    → IsViewReply model text (reply_of (answer (content_of model cells) layer (acts.Do (View text))).0)
+unfolding content_of
+view_reply model cells None text = inl (cells, refl)
+view_reply model cells (Some layer) text = fit_view model (after_writes cells layer) layer text (misfit (content_of model cells) layer)
+
 -- ---- versions
 
 -- no writes change the model
@@ -171,37 +264,60 @@ model_kept : (content : Content) (log : List (Entry (List (ℕ × ℤ)))) → (c
 model_kept content [] = refl
 model_kept content (entry ∷ log) = model_kept (after content entry.writes) log
 
-content_of : BoundModel → List stored.Entry → Content
-content_of model cells = record { model = model; stored = cells }
-
 of_model : (model : BoundModel) (content : Content) → content.model ≡ model → content ≡ content_of model content.stored
 unfolding content_of
 of_model model content same = ap (λ m. content_of m content.stored) same
 
-on_one_model : (model : BoundModel) → IsSpace model.space → (command : PlanCommand) (cells others : List stored.Entry)
-    → EndAlike (reply_of (effect (content_of model cells) command)) (reply_of (effect (content_of model others) command))
-unfolding content_of
-on_one_model model is (Put text number) cells others =
-    plain_ends (reply_of (effect (content_of model cells) (Put text number))) (reply_of (effect (content_of model others) (Put text number)))
-    (put_plain (content_of model cells) (named_cell model text) number) (put_plain (content_of model others) (named_cell model text) number)
-on_one_model model is (Get text) cells others =
-    plain_ends (reply_of (effect (content_of model cells) (Get text))) (reply_of (effect (content_of model others) (Get text)))
-    (get_plain (content_of model cells) (named_cell model text)) (get_plain (content_of model others) (named_cell model text))
-on_one_model model is (Load job script) cells others =
-    plain_ends (reply_of (effect (content_of model cells) (Load job script))) (reply_of (effect (content_of model others) (Load job script)))
-    (load_plain (content_of model cells) job (arc_value script)) (load_plain (content_of model others) job (arc_value script))
-on_one_model model is (View text) cells others = views_end model is text cells others
-on_one_model model is (Spread text amount how) cells others =
-    plain_ends (reply_of (effect (content_of model cells) (Spread text amount how))) (reply_of (effect (content_of model others) (Spread text amount how)))
-    (spread_plain (content_of model cells) (named_cell model text) amount how) (spread_plain (content_of model others) (named_cell model text) amount how)
+-- commands whose replies are in one line
+in_one_line : (command : PlanCommand) → ((content : Content) → IsPlain (effect content command)) → (one two : Content) (layer more : Option (List (ℕ × ℤ)))
+    → EndAlike (reply_of (answer one layer (acts.Do command)).0) (reply_of (answer two more (acts.Do command)).0)
+in_one_line command plain one two layer more =
+    plain_ends (reply_of (answer one layer (acts.Do command)).0) (reply_of (answer two more (acts.Do command)).0) (do_plain command plain one layer) (do_plain command plain two more)
 
-pub replies_end : (model : BoundModel) → IsSpace model.space → (log other : List (Entry (List (ℕ × ℤ)))) (command : PlanCommand) (p q : ℕ)
-    → EndAlike (reply_of (effect (version after (opening model) log p) command)) (reply_of (effect (version after (opening model) other q) command))
-replies_end model is log other command p q =
+open_plain : (content : Content) (layer : Option (List (ℕ × ℤ))) → IsPlain (answer content layer acts.Open).0
+open_plain content None = refl
+open_plain content (Some layer) = refl
+
+publish_plain : (content : Content) (layer : Option (List (ℕ × ℤ))) → IsPlain (answer content layer acts.Publish).0
+publish_plain content None = refl
+publish_plain content (Some layer) = fixed_plain content layer
+
+discard_plain : (content : Content) (layer : Option (List (ℕ × ℤ))) → IsPlain (answer content layer acts.Discard).0
+discard_plain content None = refl
+discard_plain content (Some layer) = refl
+
+on_one_model : (model : BoundModel) → IsSpace model.space → (act : Act PlanCommand) (cells others : List stored.Entry) (layer more : Option (List (ℕ × ℤ)))
+    → EndAlike (reply_of (answer (content_of model cells) layer act).0) (reply_of (answer (content_of model others) more act).0)
+on_one_model model is acts.Open cells others layer more =
+    plain_ends (reply_of (answer (content_of model cells) layer acts.Open).0) (reply_of (answer (content_of model others) more acts.Open).0)
+    (open_plain (content_of model cells) layer) (open_plain (content_of model others) more)
+on_one_model model is acts.Publish cells others layer more =
+    plain_ends (reply_of (answer (content_of model cells) layer acts.Publish).0) (reply_of (answer (content_of model others) more acts.Publish).0)
+    (publish_plain (content_of model cells) layer) (publish_plain (content_of model others) more)
+on_one_model model is acts.Discard cells others layer more =
+    plain_ends (reply_of (answer (content_of model cells) layer acts.Discard).0) (reply_of (answer (content_of model others) more acts.Discard).0)
+    (discard_plain (content_of model cells) layer) (discard_plain (content_of model others) more)
+on_one_model model is (acts.Do (Put text number)) cells others layer more =
+    in_one_line (Put text number) (λ content. put_plain content (named_cell content.model text) number) (content_of model cells) (content_of model others) layer more
+on_one_model model is (acts.Do (Get text)) cells others layer more =
+    in_one_line (Get text) (λ content. get_plain content (named_cell content.model text)) (content_of model cells) (content_of model others) layer more
+on_one_model model is (acts.Do (Load job script)) cells others layer more =
+    in_one_line (Load job script) (λ content. load_plain content job (arc_value script)) (content_of model cells) (content_of model others) layer more
+on_one_model model is (acts.Do (View text)) cells others layer more =
+    view_replies_end model is text (reply_of (answer (content_of model cells) layer (acts.Do (View text))).0) (reply_of (answer (content_of model others) more (acts.Do (View text))).0)
+    (view_reply model cells layer text) (view_reply model others more text)
+on_one_model model is (acts.Do (Spread text amount how)) cells others layer more =
+    in_one_line (Spread text amount how) (λ content. spread_plain content (named_cell content.model text) amount how) (content_of model cells) (content_of model others) layer more
+on_one_model model is (acts.Do (Fixed writes)) cells others layer more =
+    in_one_line (Fixed writes) (λ content. fixed_plain content writes) (content_of model cells) (content_of model others) layer more
+
+pub replies_end : (model : BoundModel) → IsSpace model.space → (log other : List (Entry (List (ℕ × ℤ)))) (act : Act PlanCommand) (layer more : Option (List (ℕ × ℤ))) (p q : ℕ)
+    → EndAlike (reply_of (effect_of answer (version after (opening model) log p) (layer, act))) (reply_of (effect_of answer (version after (opening model) other q) (more, act)))
+replies_end model is log other act layer more p q =
     let one = version after (opening model) log p in
     let two = version after (opening model) other q in
     let one_is = of_model model one (model_kept (opening model) (take p log)) in
     let two_is = of_model model two (model_kept (opening model) (take q other)) in
-    subst (λ c. EndAlike (reply_of (effect c command)) (reply_of (effect two command))) (sym one_is)
-    (subst (λ c. EndAlike (reply_of (effect (content_of model one.stored) command)) (reply_of (effect c command))) (sym two_is)
-    (on_one_model model is command one.stored two.stored))
+    subst (λ c. EndAlike (reply_of (answer c layer act).0) (reply_of (answer two more act).0)) (sym one_is)
+    (subst (λ c. EndAlike (reply_of (answer (content_of model one.stored) layer act).0) (reply_of (answer c more act).0)) (sym two_is)
+    (on_one_model model is act one.stored two.stored layer more))

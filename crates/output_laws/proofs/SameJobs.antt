@@ -1,5 +1,5 @@
 -- Commands that are one but for pointers do the same, so jobs of them have the same texts.
-use Rattle.std.proofs.Common.{◌≡◌, ℕ, List, [], ◌∷◌, ap, sym, ◌∙◌, subst, arith}
+use Rattle.std.proofs.Common.{◌≡◌, ℕ, ℤ, List, [], ◌∷◌, Option, Some, None, ap, sym, ◌∙◌, subst, arith}
 use Rattle.std.specs.Arc.{arc_value}
 use Rattle.std.specs.List.{AllZip}
 use Rattle.cube_server.specs.Answer.{IsServed}
@@ -7,45 +7,62 @@ use Rattle.cube_server.specs.Laws.{OneUserHasOneOutput}
 use Rattle.load_cells.specs.Loads.{store_of}
 use Rattle.rule_model.specs.BoundModel.{BoundModel}
 use Rattle.run_passes.specs.declared.run_job.RunJob.TheVariants.{Serve, Check, Sample}
+use Rattle.sandbox.specs.Sandboxes.{where_fit}
+use Rattle.sandbox.specs.declared.act.Act.{Act}
+use Rattle.sandbox.specs.declared.act.Act.TheVariants.{Open, Publish, Discard, Do}
 use Rattle.script_run.specs.Load.{load, ran_of, writes_of}
 use Rattle.user_session.specs.Content.{opening, after}
+use Rattle.user_session.specs.Layers.{answer, sandbox, unfit}
 use Rattle.user_session.specs.Planning.{effect, ended_effect}
 use Rattle.user_session.specs.declared.command.PlanCommand.{PlanCommand}
-use Rattle.user_session.specs.declared.command.PlanCommand.TheVariants.{Put, Get, Load, View, Spread}
+use Rattle.user_session.specs.declared.command.PlanCommand.TheVariants.{Put, Get, Load, View, Spread, Fixed}
 use Rattle.user_session.specs.declared.content.Content.{Content}
 use Rattle.user_text.specs.Jobs.{rows_in}
-use Rattle.output_laws.specs.SameJob.{IsSameCommand}
+use Rattle.output_laws.specs.SameJob.{IsSameCommand, IsSameAct}
 use Rattle.output_laws.specs.Same.{SameJobsPrintTheSame}
-use Rattle.output_laws.proofs.Alike.{DoTheSame, zip_map, run_of_alike}
+use Rattle.output_laws.proofs.Alike.{AreAnsweredTheSame, zip_map, history_of_alike}
 
-pub same_effect : (a b : PlanCommand) → IsSameCommand a b → (content : Content) → effect content a ≡ effect content b
+same_effect : (a b : PlanCommand) → IsSameCommand a b → (content : Content) → effect content a ≡ effect content b
 same_effect (Put text number) b same content = ap (λ command. effect content command) (sym same)
 same_effect (Get text) b same content = ap (λ command. effect content command) (sym same)
 same_effect (View text) b same content = ap (λ command. effect content command) (sym same)
 same_effect (Spread text amount how) b same content = ap (λ command. effect content command) (sym same)
+same_effect (Fixed writes) b same content = ap (λ command. effect content command) (sym same)
 same_effect (Load job script) (Put text number) same content = absurd same
 same_effect (Load job script) (Get text) same content = absurd same
 same_effect (Load job script) (View text) same content = absurd same
 same_effect (Load job script) (Spread text amount how) same content = absurd same
+same_effect (Load job script) (Fixed writes) same content = absurd same
 same_effect (Load job script) (Load other again) same content =
     let store = store_of content.model content.stored in
     ap (λ rows. ended_effect (ran_of (load (arc_value script) job.params rows store [])) (writes_of (load (arc_value script) job.params rows store []))) same.records
     ∙ ap (λ params. ended_effect (ran_of (load (arc_value script) params (rows_in other) store [])) (writes_of (load (arc_value script) params (rows_in other) store []))) same.params
     ∙ ap (λ bound. ended_effect (ran_of (load bound other.params (rows_in other) store [])) (writes_of (load bound other.params (rows_in other) store []))) same.script
 
-same_users : (users others : List (List PlanCommand)) → AllZip (AllZip IsSameCommand) users others
-    → AllZip (AllZip (DoTheSame effect)) users others
-same_users users others same =
-    zip_map (AllZip IsSameCommand) (AllZip (DoTheSame effect))
-    (λ commands more alike. zip_map IsSameCommand (DoTheSame effect) same_effect commands more alike) users others same
+same_answer : (a b : Act PlanCommand) → IsSameAct a b → (content : Content) (layer : Option (List (ℕ × ℤ))) → answer content layer a ≡ answer content layer b
+same_answer Open b same content layer = ap (λ act. answer content layer act) (sym same)
+same_answer Publish b same content layer = ap (λ act. answer content layer act) (sym same)
+same_answer Discard b same content layer = ap (λ act. answer content layer act) (sym same)
+same_answer (Do command) Open same content layer = absurd same
+same_answer (Do command) Publish same content layer = absurd same
+same_answer (Do command) Discard same content layer = absurd same
+same_answer (Do command) (Do other) same content None = ap (λ found. (found, None)) (same_effect command other same content)
+same_answer (Do command) (Do other) same content (Some layer) =
+    ap (λ found. where_fit sandbox layer (unfit content layer) found) (same_effect command other same (after content layer))
 
-served_alike : (model : BoundModel) (users others : List (List PlanCommand)) (text : List ℕ) → AllZip (AllZip IsSameCommand) users others
+same_users : (users others : List (List (Act PlanCommand))) → AllZip (AllZip IsSameAct) users others
+    → AllZip (AllZip (AreAnsweredTheSame answer)) users others
+same_users users others same =
+    zip_map (AllZip IsSameAct) (AllZip (AreAnsweredTheSame answer))
+    (λ acts more alike. zip_map IsSameAct (AreAnsweredTheSame answer) same_answer acts more alike) users others same
+
+served_alike : (model : BoundModel) (users others : List (List (Act PlanCommand))) (text : List ℕ) → AllZip (AllZip IsSameAct) users others
     → IsServed model users text → IsServed model others text
 served_alike model users others text same served = record {
   accepted = served.accepted;
   told = served.told;
   log = served.log;
-  history = run_of_alike effect after (opening model) users others served.told served.log (same_users users others same) served.history;
+  history = history_of_alike answer after (opening model) served.log None users others served.told (same_users users others same) served.history;
   is_text = served.is_text;
 }
 

@@ -140,3 +140,8 @@ tables_end layout is view few f g =
     (λ same. length-lines layout is view (at f) rows columns ∙ ap (λ n. length view.columns + n) (same_count view.nozeros (lines view.rows) (lines view.columns) (at f) (at g) few same)
     ∙ sym (length-lines layout is view (at g) rows_too columns_too))
     (lines_plain layout is view (at f) rows columns) (lines_plain layout is view (at g) rows_too columns_too)
+
+-- no table begins as a refusal does
+pub table_apart : (layout : Layout) (view : View) (f : ℕ → Value) (reason : List ℕ) → EndAlike (table_text layout view f) (codes "refused " ++ reason)
+unfolding table_text
+table_apart layout view f reason x y e = absurd (cc)

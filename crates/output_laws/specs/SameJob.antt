@@ -4,6 +4,8 @@ use Rattle.std.specs.Arc.{arc_value}
 use Rattle.std.specs.List.{AllZip}
 use Rattle.user_text.specs.Jobs.{rows_in}
 use Rattle.user_text.specs.declared.load_job.LoadJob.{LoadJob}
+use Rattle.sandbox.specs.declared.act.Act.{Act}
+use Rattle.sandbox.specs.declared.act.Act.TheVariants as acts
 use Rattle.script_bound.specs.declared.script.BoundScript.{BoundScript}
 use Rattle.user_session.specs.declared.command.PlanCommand.{PlanCommand}
 use Rattle.user_session.specs.declared.command.PlanCommand.TheVariants as plans
@@ -27,13 +29,25 @@ IsSameCommand (plans.Load job script) (plans.Load other again) =
     IsSameLoad job other (arc_value script) (arc_value again)
 IsSameCommand (plans.Load job script) (plans.View view) = ⊥
 IsSameCommand (plans.Load job script) (plans.Spread cell amount how) = ⊥
+IsSameCommand (plans.Load job script) (plans.Fixed writes) = ⊥
 IsSameCommand (plans.View view) command = command ≡ plans.View view
 IsSameCommand (plans.Spread cell amount how) command = command ≡ plans.Spread cell amount how
+IsSameCommand (plans.Fixed writes) command = command ≡ plans.Fixed writes
+
+-- the same of what a user does, with commands or with the sandbox
+abbrev pub IsSameAct : Act PlanCommand → Act PlanCommand → Type 0
+IsSameAct acts.Open act = act ≡ acts.Open
+IsSameAct acts.Publish act = act ≡ acts.Publish
+IsSameAct acts.Discard act = act ≡ acts.Discard
+IsSameAct (acts.Do command) acts.Open = ⊥
+IsSameAct (acts.Do command) acts.Publish = ⊥
+IsSameAct (acts.Do command) acts.Discard = ⊥
+IsSameAct (acts.Do command) (acts.Do other) = IsSameCommand command other
 
 -- two jobs run the same commands on one model; other jobs are equal
 abbrev pub IsSameJob : RunJob → RunJob → Type 0
 IsSameJob (jobs.Serve model users) (jobs.Serve other more) =
-    (model ≡ other) × AllZip (AllZip IsSameCommand) users more
+    (model ≡ other) × AllZip (AllZip IsSameAct) users more
 IsSameJob (jobs.Serve model users) (jobs.Check other) = ⊥
 IsSameJob (jobs.Serve model users) (jobs.Sample size) = ⊥
 IsSameJob (jobs.Check model) job = job ≡ jobs.Check model

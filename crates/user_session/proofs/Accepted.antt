@@ -1,26 +1,19 @@
 -- What is known of the writes of an accepted command.
-use Rattle.std.proofs.Common.{Result, Ok, Err, ◌≡◌, refl, subst, ℕ, ℤ, Bool, true, false, if◌then◌else◌, List, [], ◌∷◌, length, Option, Some, None}
-use Rattle.std.specs.Prelude.{nat_lt}
+use Rattle.std.proofs.Common.{Result, Ok, Err, ◌≡◌, refl, subst, ℕ, ℤ, true, List, [], ◌∷◌, Option, Some, None}
 use Rattle.std.proofs.lemmas.List.Elements.{All-nil, All-cons}
-use Rattle.cell_reader.specs.FedCount.{fed_count}
-use Rattle.cell_reader.specs.Limits.{IsWithinLimits}
 use Rattle.cell_reader.specs.WritePermission.{why_closed}
 use Rattle.cell_reader.specs.declared.write_permission.Closed.{Closed}
 use Rattle.cell_spread.specs.Spread.{refusal_of, writes_of as shares_of}
 use Rattle.cell_spread.specs.declared.fault.SpreadFault.{SpreadFault}
 use Rattle.cell_spread.specs.declared.writes.How.{How}
-use Rattle.cell_store.specs.declared.entry.Entry.{Entry}
 use Rattle.cell_store.specs.Entries.{after_writes}
-use Rattle.cell_store.specs.StoreLimit.{most_cells}
 use Rattle.cell_writes.specs.Writes.{last_writes}
 use Rattle.cube_space.specs.Cells.{IsCell, is_leaf_cell}
-use Rattle.feed_map.specs.FedCells.{most_fed}
 use Rattle.load_cells.specs.Loads.{store_of}
 use Rattle.user_text.specs.Jobs.{rows_in}
 use Rattle.user_text.specs.declared.command.SpreadWord.{SpreadWord}
 use Rattle.user_text.specs.declared.load_job.LoadJob.{LoadJob}
 use Rattle.history.specs.declared.effect.Effect.TheVariants.{Commit}
-use Rattle.rule_model.specs.BoundModel.{BoundModel}
 use Rattle.script_laws.proofs.Kept.{load_keeps}
 use Rattle.script_run.specs.Load.{load, ran_of, writes_of}
 use Rattle.script_run.specs.declared.ran.Ran.{Ran}
@@ -29,30 +22,24 @@ use Rattle.script_bound.specs.declared.script.BoundScript.{BoundScript}
 use Rattle.std.specs.Arc.{arc_value}
 use Rattle.user_session.specs.declared.content.Content.{Content}
 use Rattle.user_session.specs.declared.command.PlanCommand.{PlanCommand}
-use Rattle.user_session.specs.declared.command.PlanCommand.TheVariants.{Put, Get, Load, View, Spread}
-use Rattle.user_session.specs.Planning.{committed, effect, ended_effect, get_effect, how_of, load_effect, named_cell, put_effect, rejected, spread_effect, table_effect, unless_closed, unless_fault, within_limits, write_effect}
+use Rattle.user_session.specs.declared.command.PlanCommand.TheVariants.{Put, Get, Load, View, Spread, Fixed}
+use Rattle.user_session.specs.Planning.{effect, ended_effect, fixed_effect, get_effect, how_of, load_effect, misfit, named_cell, passed_limit, put_effect, spread_effect, table_effect, unless_closed, unless_fault, unless_reason, write_effect}
 use Rattle.view_query.specs.Binding.{bound}
 use Rattle.view_query.specs.declared.fault.ViewFault.{ViewFault}
 use Rattle.view_query.specs.declared.shape.View as views
 use Rattle.user_session.proofs.Kept.{open-leaf, write-kept}
+use Rattle.user_session.proofs.Limits.{fits-leaves, fits-limits, none-passed}
 use Rattle.user_session.proofs.Shares.{shares-leaves}
 use Rattle.user_session.proofs.Within.{AreWithin, before-writes, last-within, named-cell}
-use Rattle.user_session.specs.declared.reply.CommandReason.TheVariants.{StoreLimit, FedLimit}
-use Rattle.std.proofs.lemmas.Bool.{ltb-false as at_most}
+use Rattle.user_session.specs.declared.reply.CommandReason.{CommandReason}
+
+-- ---- writes that are accepted stand as they are, and no reason holds against them
+
+accepted : (reason : Option CommandReason) (writes others : List (ℕ × ℤ)) (reply : List ℕ) → unless_reason reason writes ≡ Commit others reply → (reason ≡ None) × (writes ≡ others)
+accepted None writes others reply is = (refl, cc)
+accepted (Some reason) writes others reply is = absurd (cc)
 
 -- ---- an accepted PUT
-
-abbrev IsAmong : BoundModel → List Entry → List (ℕ × ℤ) → List (ℕ × ℤ) → Type 0
-IsAmong model stored writes others = (writes ≡ others) × IsWithinLimits model stored
-
-limited : (model : BoundModel) (stored : List Entry) (writes others : List (ℕ × ℤ)) (reply : List ℕ) → within_limits model stored writes ≡ Commit others reply → IsAmong model stored writes others
-limited model stored writes others reply is = by (nat_lt most_cells (length stored)) refl (nat_lt most_fed (fed_count model stored)) refl is
-  where
-    by : (b : Bool) → nat_lt most_cells (length stored) ≡ b → (d : Bool) → nat_lt most_fed (fed_count model stored) ≡ d
-        → (if b then rejected StoreLimit else if d then rejected FedLimit else committed writes) ≡ Commit others reply → IsAmong model stored writes others
-    by true few d fed is = absurd (cc)
-    by false few true fed is = absurd (cc)
-    by false few false fed is = (cc, record { few_stored = at_most most_cells (length stored) few; few_fed = at_most most_fed (fed_count model stored) fed })
 
 put-within : (content : Content) (named : Option ℕ) (number : ℤ) (writes : List (ℕ × ℤ)) (reply : List ℕ) → ((c : ℕ) → named ≡ Some c → IsCell content.model.space c)
     → put_effect content named number ≡ Commit writes reply → AreWithin content writes
@@ -63,10 +50,10 @@ put-within content (Some c) number writes reply cell is = by (why_closed content
         → AreWithin content writes
     by (Some why) shut is = absurd (cc)
     by None opens is =
-        let parts = limited content.model (after_writes content.stored ((c, number) ∷ [])) ((c, number) ∷ []) writes reply is in
-        subst (AreWithin content) parts.0 (record {
+        let parts = accepted (passed_limit content.model (after_writes content.stored ((c, number) ∷ []))) ((c, number) ∷ []) writes reply is in
+        subst (AreWithin content) parts.1 (record {
           leaves = All-cons (λ write. IsCell content.model.space write.0 × (is_leaf_cell content.model.space write.0 ≡ true)) (c, number) [] (cell c refl, open-leaf content.model c opens) (All-nil (λ write. IsCell content.model.space write.0 × (is_leaf_cell content.model.space write.0 ≡ true)));
-          within = λ before. parts.1;
+          within = λ before. none-passed content.model (after_writes content.stored ((c, number) ∷ [])) parts.0;
         })
 
 -- ---- an accepted SPREAD
@@ -76,8 +63,11 @@ shares-within : (content : Content) (c : ℕ) (amount : ℤ) (how : How) (why : 
 shares-within content c amount how (Some why) writes reply is = absurd (cc)
 shares-within content c amount how None writes reply is =
     let shares = shares_of content.model.space content.stored c amount how in
-    let parts = limited content.model (after_writes content.stored shares) shares writes reply is in
-    subst (AreWithin content) parts.0 (record { leaves = shares-leaves content.model.space content.stored c amount how; within = λ before. parts.1 })
+    let parts = accepted (passed_limit content.model (after_writes content.stored shares)) shares writes reply is in
+    subst (AreWithin content) parts.1 (record {
+      leaves = shares-leaves content.model.space content.stored c amount how;
+      within = λ before. none-passed content.model (after_writes content.stored shares) parts.0;
+    })
 
 spread-within : (content : Content) (named : Option ℕ) (amount : ℤ) (how : SpreadWord) (writes : List (ℕ × ℤ)) (reply : List ℕ) → spread_effect content named amount how ≡ Commit writes reply
     → AreWithin content writes
@@ -102,6 +92,13 @@ load-within content job script writes reply is =
     load_keeps store (AreWithin content) (λ before after cube elements value within written. write-kept content before after within cube elements value written) script job.params (rows_in job) [] (before-writes content) in
     ended-within content (ran_of outcome) (writes_of outcome) writes reply kept is
 
+-- ---- fixed writes that are accepted
+
+fixed-within : (content : Content) (layer writes : List (ℕ × ℤ)) (reply : List ℕ) → fixed_effect content layer ≡ Commit writes reply → AreWithin content writes
+fixed-within content layer writes reply is =
+    let parts = accepted (misfit content layer) layer writes reply is in
+    subst (AreWithin content) parts.1 (record { leaves = fits-leaves content layer parts.0; within = λ before. fits-limits content layer parts.0 })
+
 -- ---- questions write nothing
 
 get-never : (content : Content) (named : Option ℕ) (writes : List (ℕ × ℤ)) (reply : List ℕ) → get_effect content named ≡ Commit writes reply → AreWithin content writes
@@ -120,3 +117,4 @@ accepted-within content (Get text) writes reply is = get-never content (named_ce
 accepted-within content (Load job script) writes reply is = load-within content job (arc_value script) writes reply is
 accepted-within content (View text) writes reply is = view-never content (bound content.model.space text) writes reply is
 accepted-within content (Spread text amount how) writes reply is = spread-within content (named_cell content.model text) amount how writes reply is
+accepted-within content (Fixed layer) writes reply is = fixed-within content layer writes reply is

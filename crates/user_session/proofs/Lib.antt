@@ -1,7 +1,9 @@
 pub mod LastWrites
 pub mod Within
 pub mod Kept
-pub mod Accepted
 pub mod Loads
+pub mod Limits
+pub mod Accepted
 pub mod Told
+pub mod InTurn
 pub mod Shares

@@ -1,5 +1,5 @@
--- What a write is told of the limits is what its effect says of them.
-use Rattle.std.proofs.Common.{◌≡◌, ◌∙◌, refl, sym, subst, ℕ, suc, ℤ, ◌≤◌, List, length, ◌⊎◌, inl, inr, ⊎_elim, Result, Ok, Err}
+-- What a write is told of the limits is which limit is passed with it.
+use Rattle.std.proofs.Common.{◌≡◌, ◌∙◌, refl, sym, subst, ℕ, suc, ◌≤◌, List, length, ◌⊎◌, inl, inr, ⊎_elim, Option, Some, None, Result, Ok, Err}
 use Rattle.std.specs.Prelude.{IsOkUnless}
 use Rattle.std.proofs.lemmas.Bool.{cases_lt, lt-ltb, le-ltb}
 use Rattle.cell_reader.specs.FedCount.{fed_count}
@@ -10,16 +10,16 @@ use Rattle.cell_versions.specs.declared.fault.NextFault.{NextFault}
 use Rattle.cell_versions.specs.declared.fault.NextFault.TheVariants as faults
 use Rattle.feed_map.specs.FedCells.{most_fed}
 use Rattle.rule_model.specs.BoundModel.{BoundModel}
-use Rattle.user_session.specs.Planning.{committed, rejected, within_limits}
+use Rattle.user_session.specs.Planning.{passed_limit}
 use Rattle.user_session.specs.declared.reply.CommandReason.TheVariants.{StoreLimit, FedLimit}
 
 no_fault : {T : Type 0} (answer : Result T NextFault) (ok : T) (fault : NextFault) → answer ≡ Ok ok → answer ≡ Err fault → ⊥
 no_fault answer ok fault is was = absurd (let clash = sym is ∙ was in cc)
 
 -- what a write is told, where these entries are stored after it
-module _ {T : Type 0} (model : BoundModel) (stored : List Entry) (writes : List (ℕ × ℤ)) (answer : Result T NextFault)
+module _ {T : Type 0} (model : BoundModel) (stored : List Entry) (answer : Result T NextFault)
     (limits : IsLimitAnswer model stored answer) where
-  pub told-kept : (ok : T) → answer ≡ Ok ok → within_limits model stored writes ≡ committed writes
+  pub told-kept : (ok : T) → answer ≡ Ok ok → passed_limit model stored ≡ None
   told-kept ok is = elim (cases_lt most_cells (length stored)) [
     | inl past ↦ absurd (⊎_elim (no_fault answer ok (faults.StoreLimit (length stored)) is) (no_fault answer ok faults.Memory is) (limits.past_store past))
     | inr few ↦ elim (cases_lt most_fed (fed_count model stored)) [
@@ -34,7 +34,7 @@ module _ {T : Type 0} (model : BoundModel) (stored : List Entry) (writes : List 
   one_fault : (fault other : NextFault) → answer ≡ Err fault → answer ≡ Err other → fault ≡ other
   one_fault fault other is was = let same = sym is ∙ was in cc
 
-  pub told-store : (count : ℕ) → answer ≡ Err (faults.StoreLimit count) → within_limits model stored writes ≡ rejected StoreLimit
+  pub told-store : (count : ℕ) → answer ≡ Err (faults.StoreLimit count) → passed_limit model stored ≡ Some StoreLimit
   told-store count is = elim (cases_lt most_cells (length stored)) [
     | inl past ↦ rw (lt-ltb most_cells (length stored) past) refl
     | inr few ↦ absurd (not_within few)
@@ -53,7 +53,7 @@ module _ {T : Type 0} (model : BoundModel) (stored : List Entry) (writes : List 
         | inr fed ↦ other (unless (faults.StoreLimit count) is (limits.within few fed))
       ]
 
-  pub told-fed : (count : ℕ) → answer ≡ Err (faults.FedLimit count) → within_limits model stored writes ≡ rejected FedLimit
+  pub told-fed : (count : ℕ) → answer ≡ Err (faults.FedLimit count) → passed_limit model stored ≡ Some FedLimit
   told-fed count is = elim (cases_lt most_cells (length stored)) [
     | inl past ↦ absurd (⊎_elim (λ full. not_full (one_fault (faults.FedLimit count) (faults.StoreLimit (length stored)) is full))
         (λ memory. other (one_fault (faults.FedLimit count) faults.Memory is memory)) (limits.past_store past))

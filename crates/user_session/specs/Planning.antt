@@ -1,7 +1,8 @@
 -- What a planner's commands do on a version of the numbers.
-use Rattle.std.specs.Prelude.{ℕ, nat_lt, ℤ, List, [], ◌∷◌, length, Option, Some, None, ◌++◌, codes}
+use Rattle.std.specs.Prelude.{ℕ, nat_lt, ℤ, Bool, ◌&&◌, List, [], ◌∷◌, length, Option, Some, None, ◌++◌, codes}
 use Rattle.std.specs.Prelude.{Result, Ok, Err}
 use Rattle.std.specs.Prelude.{if◌then◌else◌}
+use Rattle.std.specs.List.{list_all}
 use Rattle.std.specs.Arc.{arc_value}
 use Rattle.cube_fixed.specs.declared.value.Value.{Value}
 use Rattle.cube_fixed.specs.Arithmetic.{zero_value}
@@ -17,7 +18,8 @@ use Rattle.cell_store.specs.declared.entry.Entry.{Entry}
 use Rattle.cell_store.specs.Entries.{after_writes}
 use Rattle.cell_store.specs.StoreLimit.{most_cells}
 use Rattle.cell_writes.specs.Writes.{last_writes}
-use Rattle.cube_space.specs.Cells.{size_of}
+use Rattle.cube_space.specs.Cells.{is_leaf_cell, size_of}
+use Rattle.cube_space.specs.Layout.{Layout}
 use Rattle.feed_map.specs.FedCells.{most_fed}
 use Rattle.history.specs.declared.effect.Effect.{Effect}
 use Rattle.history.specs.declared.effect.Effect.TheVariants as effects
@@ -37,7 +39,7 @@ use Rattle.user_session.specs.declared.content.Content.{Content}
 use Rattle.user_session.specs.Replies.{fault_text, reply_text, spread_fault_text}
 use Rattle.user_session.specs.RejectedLoad.{stopped_text}
 use Rattle.user_session.specs.declared.command.PlanCommand.{PlanCommand}
-use Rattle.user_session.specs.declared.command.PlanCommand.TheVariants.{Put, Get, Load, View, Spread}
+use Rattle.user_session.specs.declared.command.PlanCommand.TheVariants.{Put, Get, Load, View, Spread, Fixed}
 use Rattle.user_session.specs.declared.reply.CommandReason.{CommandReason}
 use Rattle.user_session.specs.declared.reply.CommandReason.TheVariants.{UnknownName, NotALeaf, RuleDerived}
 use Rattle.user_session.specs.declared.reply.CommandReason.TheVariants.{StoreLimit, FedLimit}
@@ -73,16 +75,21 @@ rejected reason = effects.Rejected (reply_text (Rejected reason))
 abbrev pub committed : List (ℕ × ℤ) → PlanEffect
 committed writes = effects.Commit writes (reply_text (Committed (length writes)))
 
--- writes that leave this stored: committed, unless more than may be are stored or fed
-abbrev pub within_limits : BoundModel → List Entry → List (ℕ × ℤ) → PlanEffect
-within_limits model stored writes =
-    if nat_lt most_cells (length stored) then rejected StoreLimit
-    else if nat_lt most_fed (fed_count model stored) then rejected FedLimit
-    else committed writes
+-- the limit that is passed where this is stored, if one is: that of the stored cells goes before that of the fed ones
+abbrev pub passed_limit : BoundModel → List Entry → Option CommandReason
+passed_limit model stored =
+    if nat_lt most_cells (length stored) then Some StoreLimit
+    else if nat_lt most_fed (fed_count model stored) then Some FedLimit
+    else None
 
--- these writes, into leaf cells that take numbers
+-- the writes are committed, unless there is a reason against them
+abbrev pub unless_reason : Option CommandReason → List (ℕ × ℤ) → PlanEffect
+unless_reason None writes = committed writes
+unless_reason (Some reason) writes = rejected reason
+
+-- these writes, into leaf cells that take numbers: committed, unless more than may be are stored or fed with them
 abbrev pub write_effect : Content → List (ℕ × ℤ) → PlanEffect
-write_effect content writes = within_limits content.model (after_writes content.stored writes) writes
+write_effect content writes = unless_reason (passed_limit content.model (after_writes content.stored writes)) writes
 
 -- why a command that writes into a closed cell is rejected
 abbrev pub reason_of : Closed → CommandReason
@@ -143,6 +150,20 @@ spread_effect content (Some cell) amount how =
     unless_fault (refusal_of content.model content.stored cell amount (how_of how))
     (write_effect content (shares_of content.model.space content.stored cell amount (how_of how)))
 
+-- whether each of these writes is of a leaf cell
+abbrev pub all_leaf_cells : Layout → List (ℕ × ℤ) → Bool
+all_leaf_cells space writes =
+    list_all (λ write. nat_lt write.0 (size_of space) && is_leaf_cell space write.0) writes
+
+-- the first reason against these writes on this content: one is of no leaf cell, or a limit is passed with them
+abbrev pub misfit : Content → List (ℕ × ℤ) → Option CommandReason
+misfit content writes = if all_leaf_cells content.model.space writes
+    then passed_limit content.model (after_writes content.stored writes) else Some UnknownName
+
+-- writes that are fixed beforehand: just these, or none
+abbrev pub fixed_effect : Content → List (ℕ × ℤ) → PlanEffect
+fixed_effect content writes = unless_reason (misfit content writes) writes
+
 -- what a command does on this content
 abbrev pub effect : Content → PlanCommand → PlanEffect
 effect content (Put text number) = put_effect content (named_cell content.model text) number
@@ -150,3 +171,4 @@ effect content (Get text) = get_effect content (named_cell content.model text)
 effect content (Load job script) = load_effect content job (arc_value script)
 effect content (View text) = view_effect content text
 effect content (Spread text amount how) = spread_effect content (named_cell content.model text) amount how
+effect content (Fixed writes) = fixed_effect content writes

@@ -5,9 +5,10 @@ use Rattle.cell_spread.specs.declared.fault.SpreadFault.TheVariants as spreads
 use Rattle.cube_fixed.specs.Text.{printed}
 use Rattle.user_session.specs.declared.reply.CommandReason.{CommandReason}
 use Rattle.user_session.specs.declared.reply.CommandReason.TheVariants.{UnknownName, NotALeaf, RuleDerived}
-use Rattle.user_session.specs.declared.reply.CommandReason.TheVariants.{StoreLimit, FedLimit}
+use Rattle.user_session.specs.declared.reply.CommandReason.TheVariants.{StoreLimit, FedLimit, NoSandbox, SandboxOpen}
 use Rattle.user_session.specs.declared.reply.Reply.{Reply}
 use Rattle.user_session.specs.declared.reply.Reply.TheVariants.{Committed, Rejected, Found, Refused}
+use Rattle.user_session.specs.declared.reply.Reply.TheVariants.{Kept, Opened, Discarded}
 use Rattle.view_query.specs.declared.fault.ViewFault.{ViewFault}
 use Rattle.view_query.specs.declared.fault.ViewFault.TheVariants as faults
 
@@ -18,6 +19,8 @@ reason_text NotALeaf = codes "NotALeaf"
 reason_text RuleDerived = codes "RuleDerived"
 reason_text StoreLimit = codes "StoreLimit"
 reason_text FedLimit = codes "FedLimit"
+reason_text NoSandbox = codes "NoSandbox"
+reason_text SandboxOpen = codes "SandboxOpen"
 
 -- the name of why there is no table; out of memory is no such cause
 abbrev pub fault_text : ViewFault → List ℕ
@@ -36,9 +39,12 @@ spread_fault_text spreads.NothingThere = codes "NothingThere"
 spread_fault_text spreads.OverWrite = codes "OverWrite"
 spread_fault_text spreads.Memory = []
 
--- `committed N`, `rejected REASON`, the value, or `refused REASON`
+-- `committed N`, `rejected REASON`, the value, `refused REASON`, `kept N`, `opened` or `discarded`
 abbrev pub reply_text : Reply → List ℕ
 reply_text (Committed cells) = codes "committed " ++ decimal cells
 reply_text (Rejected reason) = codes "rejected " ++ reason_text reason
 reply_text (Found value) = printed value
 reply_text (Refused reason) = codes "refused " ++ reason_text reason
+reply_text (Kept cells) = codes "kept " ++ decimal cells
+reply_text Opened = codes "opened"
+reply_text Discarded = codes "discarded"

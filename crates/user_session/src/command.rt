@@ -1,3 +1,4 @@
+use crate::world::CellWrites;
 use cube_fixed::Money;
 use script_bound::BoundScript;
 use std::alloc::Global;
@@ -18,4 +19,6 @@ pub enum PlanCommand {
     View(ViewText),
     /// Spreads an amount over the leaf cells below a cell, and stores their shares.
     Spread(CellText, Money, SpreadWord),
+    /// Stores just these numbers, all of them or none: what a sandbox has kept, when it is published. No text means it.
+    Fixed(CellWrites),
 }

@@ -23,6 +23,10 @@ pub enum CommandReason {
     StoreLimit,
     /// More than 4,000,000 cells would be fed.
     FedLimit,
+    /// No sandbox is open.
+    NoSandbox,
+    /// A sandbox is open already.
+    SandboxOpen,
 }
 
 /// The reply to a command.
@@ -36,10 +40,16 @@ pub enum Reply {
     Found(Value),
     /// A reading command has no answer.
     Refused(CommandReason),
+    /// A writing command in a sandbox: so many cells were written, and are kept there.
+    Kept(u64),
+    /// A sandbox was opened.
+    Opened,
+    /// A sandbox was ended, and what it kept is dropped.
+    Discarded,
 }
 
 impl Reply {
-    /// `committed N`, `rejected REASON`, the value, or `refused REASON`.
+    /// `committed N`, `rejected REASON`, the value, `refused REASON`, `kept N`, `opened` or `discarded`.
     pub(crate) fn text(self, alloc: Global) -> Result<ReplyText, AllocError>
         ensures { IfOk result (λ text. text ≡ reply_text self) }
     {
@@ -48,6 +58,9 @@ impl Reply {
             Reply::Rejected(reason) => reason_text(alloc, b"rejected ", reason)?,
             Reply::Found(value) => value_text(alloc, value)?,
             Reply::Refused(reason) => reason_text(alloc, b"refused ", reason)?,
+            Reply::Kept(cells) => format!(in alloc; "kept {cells}")?.into_bytes(),
+            Reply::Opened => Vec::from_slice(alloc, b"opened")?,
+            Reply::Discarded => Vec::from_slice(alloc, b"discarded")?,
         };
         Ok(ListOf::new(text))
     }
@@ -109,6 +122,8 @@ fn reason_name(reason: CommandReason) -> &'static str
         CommandReason::RuleDerived => "RuleDerived",
         CommandReason::StoreLimit => "StoreLimit",
         CommandReason::FedLimit => "FedLimit",
+        CommandReason::NoSandbox => "NoSandbox",
+        CommandReason::SandboxOpen => "SandboxOpen",
     }
 }
 

@@ -1,5 +1,6 @@
 use crate::command::PlanCommand;
 use crate::content::Content;
+use crate::fixed_writes::fixed;
 use crate::get_command::get;
 use crate::load_command::load;
 use crate::put_command::put;
@@ -61,6 +62,7 @@ impl World for PlanWorld {
             PlanCommand::Load(job, script) => load(alloc, state, job, script),
             PlanCommand::View(text) => view(alloc, state, text),
             PlanCommand::Spread(cell, amount, how) => spread(alloc, state, cell, *amount, *how),
+            PlanCommand::Fixed(writes) => fixed(alloc, state, writes),
         }
     }
 

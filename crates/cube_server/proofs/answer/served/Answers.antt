@@ -1,7 +1,7 @@
-use Rattle.std.proofs.Common.{rules, ◌≡◌, ◌++◌, ◌∷◌, []}
-use Rattle.history.specs.LegalHistory.{IsHistoryOf}
+use Rattle.std.proofs.Common.{rules, ◌≡◌, ◌++◌, ◌∷◌, [], None}
+use Rattle.layers.specs.Layered.{IsLayeredHistoryOf}
 use Rattle.user_session.specs.Content.{after, opening}
-use Rattle.user_session.specs.Planning.{effect}
+use Rattle.user_session.specs.Layers.{answer}
 use Rattle.cube_server.specs.Inside.Ending.{joined}
 use Rattle.cube_server.specs.Output.{users_text, history_text}
 use Rattle.cube_server.proofs.Pieces.{output-joined}
@@ -14,7 +14,7 @@ returns-clause-text g c =
     let pushed : c.push.new.self.items ≡ c.in_ok-pieces.pieces.items ++ c.in_ok-print_history.field-0 ∷ [] = search rules in
     let users : joined c.in_ok-pieces.pieces.items ≡ users_text told = search rules in
     let history : c.in_ok-print_history.field-0.items ≡ history_text log = search rules in
-    let served : IsHistoryOf effect after (opening c.args.model) c.args.users told log = c.in_ok-served.ensures.history in
+    let served : IsLayeredHistoryOf answer after (opening c.args.model) None c.args.users told log = c.in_ok-served.ensures.history in
     record {
       accepted = c.model-model.ensures.accepted;
       told = told;
