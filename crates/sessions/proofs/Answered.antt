@@ -5,10 +5,10 @@ use Rattle.history.specs.declared.told.Told.{Told}
 use Rattle.history.specs.declared.effect.Effect.{Effect}
 use Rattle.history.specs.declared.effect.Effect.TheVariants.{Commit, Rejected, Read}
 use Rattle.history.specs.Version.{content_after, NoneFrom}
-use Rattle.history.specs.UserRun.{reply_of, least_after, Stands}
+use Rattle.history.specs.UserRun.{least_after, Stands}
 use Rattle.history.proofs.Lists.{get_end}
 use Rattle.history.proofs.Runs.{none_at_end, none_past_end}
-use Rattle.layers.specs.Layered.{effect_of, layer_after, LayeredSoFar}
+use Rattle.layers.specs.Layered.{layer_after, LayeredSoFar}
 use Rattle.layers.proofs.Runs.{layered_more, layered_one}
 use Rattle.version_book.specs.declared.book.Settled.{Settled}
 use Rattle.version_book.specs.Numbers.{has}
