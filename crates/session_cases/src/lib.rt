@@ -2,11 +2,17 @@
 //!
 //! In a user's line a number is added, where it is at most 100, and `?` asks for the total. A case prints how it ended,
 //! which no order of the users changes.
+//!
+//! [`commits`] shows a commit that finds no memory: nothing is added, and the same command commits at the next try.
 #![tactic(auto)]
 
 mod adding;
 mod cases;
+mod commits;
+mod refusing;
 mod restless;
+
+pub use commits::commits;
 
 use crate::adding::Adding;
 use crate::cases::{ending, users_of};
