@@ -147,9 +147,12 @@ CASES = {
     "two users": (
         ["LOAD 'follow';\n" + get("Jan", "Price"), put("Jan", "Units", 4)],
         [
-            "user 1\n1 @1 committed 1\n2 @2 5\nuser 2\n1 @0 committed 1\nhistory\n" + entry(0, 2, 1, 1) + entry(1, 1, 1, 1),
-            "user 1\n1 @0 committed 1\n2 @1 1\nuser 2\n1 @1 committed 1\nhistory\n" + entry(0, 1, 1, 1) + entry(1, 2, 1, 1),
-            "user 1\n1 @0 committed 1\n2 @2 1\nuser 2\n1 @1 committed 1\nhistory\n" + entry(0, 1, 1, 1) + entry(1, 2, 1, 1),
+            "user 1\n1 @1 committed 1\n2 @2 5\nuser 2\n1 @0 committed 1\n"
+            "history\n" + entry(0, 2, 1, 1) + entry(1, 1, 1, 1),
+            "user 1\n1 @0 committed 1\n2 @1 1\nuser 2\n1 @1 committed 1\n"
+            "history\n" + entry(0, 1, 1, 1) + entry(1, 2, 1, 1),
+            "user 1\n1 @0 committed 1\n2 @2 1\nuser 2\n1 @1 committed 1\n"
+            "history\n" + entry(0, 1, 1, 1) + entry(1, 2, 1, 1),
         ],
     ),
 }
@@ -165,7 +168,8 @@ class Refuser:
         source = os.path.join(folder, "refuser.c")
         with open(source, "w") as file:
             file.write(REFUSER)
-        subprocess.run([os.environ.get("CC", "cc"), "-O2", "-shared", "-fPIC", "-o", self.library, source, "-ldl"], check=True)
+        compile = [os.environ.get("CC", "cc"), "-O2", "-shared", "-fPIC", "-o", self.library, source, "-ldl"]
+        subprocess.run(compile, check=True)
         self.file = os.path.join(folder, "words")
         with open(self.file, "wb") as file:
             file.write(bytes(4096))
@@ -175,8 +179,8 @@ class Refuser:
     def run(self, folder, words, refused):
         """The status, what was written, and how many allocations there were, where this one is refused."""
         self.words[:16] = struct.pack("QQ", 0, refused)
-        env = {"LD_PRELOAD": self.library, "REFUSER_WORDS": self.file}
-        ended = subprocess.run([self.program, *words], cwd=folder, env=env, stdin=subprocess.DEVNULL, capture_output=True, timeout=60)
+        how = {"cwd": folder, "env": {"LD_PRELOAD": self.library, "REFUSER_WORDS": self.file}}
+        ended = subprocess.run([self.program, *words], **how, stdin=subprocess.DEVNULL, capture_output=True, timeout=60)
         return ended.returncode, ended.stdout.decode(), struct.unpack("Q", self.words[:8])[0]
 
 
@@ -204,7 +208,8 @@ def tried(refuser, folder, name):
         elif refused:
             ends[status] += 1
         refused += 1
-    print(f"{name}: {refused - 1} allocations; one refused: {ends[NO_MEMORY]} NoMemory, {ends[DONE]} Done, {wrong} otherwise", flush=True)
+    counts = f"{ends[NO_MEMORY]} NoMemory, {ends[DONE]} Done, {wrong} otherwise"
+    print(f"{name}: {refused - 1} allocations; with one refused {counts}", flush=True)
     return not wrong
 
 

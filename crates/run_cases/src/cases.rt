@@ -32,15 +32,11 @@ pub fn case_of<'a>(
     }
     let (heading, lines) = case.split_once('\n').unwrap_or((case, ""));
     let (kind, title) = heading.split_once(": ").unwrap_or((heading, ""));
-    if kind == "run" || kind == "long run" {
-        let again = match kind {
-            "run" => Some(RunCase { title, lines }),
-            _ => None,
-        };
-        return match run_of(alloc, texts, lines)? {
-            Some(run) => Ok(Case::Run(run, again)),
-            None => unread(alloc, "a line of this case is none of a run"),
-        };
+    if kind == "run" {
+        return run_case(alloc, texts, lines, Some(RunCase { title, lines }));
+    }
+    if kind == "long run" {
+        return run_case(alloc, texts, lines, None);
     }
     if let Some(file) = kind.strip_prefix("cuts ") {
         return Ok(Case::Cuts { file, lines });
@@ -66,6 +62,18 @@ pub fn case_of<'a>(
         }
         "store" => Ok(Case::Answer(stores::answer(alloc, &text)?)),
         _ => unread(alloc, "no kind of case"),
+    }
+}
+
+fn run_case<'a>(
+    alloc: Global,
+    texts: &Texts,
+    lines: &str,
+    again: Option<RunCase<'a>>,
+) -> Result<Case<'a>, AllocError> {
+    match run_of(alloc, texts, lines)? {
+        Some(run) => Ok(Case::Run(run, again)),
+        None => unread(alloc, "a line of this case is none of a run"),
     }
 }
 

@@ -36,8 +36,9 @@ pub fn ends_with_faults<R: Threads + Wait + AllocGlobal + Sync>(
         trial.count(&mut tally)?;
     }
     let (done, reads, writes) = (tally.done, tally.reads, tally.writes);
-    let counts = format!(in alloc; "{done} runs end with Done\na read failed {reads} times, and a write {writes} times\n")?;
-    let mut told = counts.into_bytes();
+    let mut told = format!(in alloc; "{done} runs end with Done\n")?.into_bytes();
+    let counts = format!(in alloc; "a read failed {reads} times, and a write {writes} times\n")?;
+    told.extend_from_slice(counts.as_bytes())?;
     if tally.wrong.is_empty() {
         told.extend_from_slice(b"each of these runs ended as it should\n")?;
     }

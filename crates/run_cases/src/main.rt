@@ -28,8 +28,7 @@
 //! its places and each way to break it there ([`broken::ends_of_broken`]).
 //!
 //! A case `faults: TITLE` runs each case `run` above it again that ends with Done, with each of its reads and writes
-//! failing in turn ([`faults::ends_with_faults`]). A case `long run: TITLE` is a run that this leaves out, since it takes
-//! long.
+//! failing in turn ([`faults::ends_with_faults`]). It leaves out a case `long run: TITLE`, which takes long.
 //!
 //! A case `store: TITLE` is one of stored cells; [`stores::answer`] has its lines. Lines that begin with `#` head a
 //! section.
