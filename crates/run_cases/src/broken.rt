@@ -51,12 +51,13 @@ pub fn ends_of_broken<R: Threads + Wait + AllocGlobal + Sync>(
             let Some(mut run) = run_of(alloc, texts, lines)? else {
                 return Ok(told);
             };
-            run.files
-                .put(file, &broken(alloc, whole, way, place)?)?;
+            run.files.put(file, &broken(alloc, whole, way, place)?)?;
             ends.count(rt, run, place, &mut told)?;
         }
         let (runs, done, refused, unread) = (whole.len(), ends.done, ends.refused, ends.unread);
-        let line = format!(in alloc; "{name}: {runs} runs, {done} done, {refused} refused, {unread} without a file\n")?;
+        let line = format!(in alloc;
+            "{name}: {runs} runs, {done} done, {refused} refused, {unread} without a file\n"
+        )?;
         told.extend_from_slice(line.as_bytes())?;
     }
     Ok(told)
@@ -82,7 +83,9 @@ impl Ends {
         let status = run_cubes(rt, &run.words, &mut run.files, &mut run.out, &run.gate);
         let text = run.out.bytes();
         match status {
-            Status::Done if text.starts_with(b"user 1\n") => self.done = self.done.saturating_add(1),
+            Status::Done if text.starts_with(b"user 1\n") => {
+                self.done = self.done.saturating_add(1);
+            }
             Status::Refused if is_one_line(text, b"refused ") => {
                 self.refused = self.refused.saturating_add(1);
             }

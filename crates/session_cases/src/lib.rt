@@ -12,11 +12,10 @@ mod commits;
 mod refusing;
 mod restless;
 
-pub use commits::commits;
-
 use crate::adding::Adding;
 use crate::cases::{ending, users_of};
 use crate::restless::Restless;
+pub use commits::commits;
 use std::alloc::{AllocError, Global};
 use std::sync::Wait;
 use std::thread::Threads;
