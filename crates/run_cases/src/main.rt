@@ -24,7 +24,11 @@
 //! Reads, writes, users and commands count from 1. What a run writes has to be the same in whatever order users
 //! come.
 //!
-//! A case `cuts FILE: TITLE` is a run for each beginning of that file.
+//! A case `cuts FILE: TITLE` is a run for each beginning of that file, and a case `broken FILE: TITLE` one for each of
+//! its places and each way to break it there ([`broken::ends_of_broken`]).
+//!
+//! A case `faults: TITLE` runs each case `run` above it again that ends with Done, with each of its reads and writes
+//! failing in turn ([`faults::ends_with_faults`]). It leaves out a case `long run: TITLE`, which takes long.
 //!
 //! A case `store: TITLE` is one of stored cells; [`stores::answer`] has its lines. Lines that begin with `#` head a
 //! section.
@@ -34,13 +38,17 @@
 //! otherwise than the one before.
 #![tactic(auto)]
 
+mod broken;
 mod cases;
 mod endings;
+mod faults;
 mod runs;
 mod stores;
 
+use crate::broken::ends_of_broken;
 use crate::cases::{Case, case_of};
 use crate::endings::{ending_of, endings_of_cuts};
+use crate::faults::ends_with_faults;
 use case_lines::{Texts, write_answer};
 use std::io;
 use std::io::Write;
@@ -48,6 +56,7 @@ use std::io::Write;
 fn main(rt: HostRuntime) -> io::Result<()> {
     let cases = io::read_to_string(rt.alloc(), rt.reader())?;
     let mut texts = Texts::new(rt.alloc());
+    let mut runs = Vec::new(rt.alloc());
     let mut written = Vec::new(rt.alloc());
     for case in cases.trim_end_matches('\n').split("\n\n") {
         let case = case.trim_matches('\n');
@@ -56,13 +65,26 @@ fn main(rt: HostRuntime) -> io::Result<()> {
         match case_of(rt.alloc(), &mut texts, case)? {
             Case::Silent => {}
             Case::Answer(answer) => write_answer(&mut written, &answer)?,
-            Case::Run(run) => {
+            Case::Run(run, again) => {
                 let ending = ending_of(&rt, run)?;
                 write_answer(&mut written, &ending)?;
+                if let Some(again) = again
+                    && ending.starts_with(b"Done\n")
+                {
+                    runs.push(again)?;
+                }
             }
             Case::Cuts { file, lines } => {
                 let endings = endings_of_cuts(&rt, &texts, file, lines)?;
                 write_answer(&mut written, &endings)?;
+            }
+            Case::Broken { file, lines } => {
+                let ends = ends_of_broken(&rt, &texts, file, lines)?;
+                write_answer(&mut written, &ends)?;
+            }
+            Case::Faults => {
+                let ends = ends_with_faults(&rt, &texts, &runs)?;
+                write_answer(&mut written, &ends)?;
             }
         }
         written.push(b'\n')?;

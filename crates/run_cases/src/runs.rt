@@ -106,13 +106,19 @@ impl Run {
         Ok(true)
     }
 
+    /// What a file has, if it is there.
+    pub fn file(&self, name: &str) -> Option<&[u8]> {
+        let (_name, bytes) = self
+            .files
+            .pairs
+            .iter()
+            .find(|pair| pair.0.as_slice() == name.as_bytes())?;
+        Some(bytes)
+    }
+
     /// Leaves of a file its first bytes, so many, and says whether it has so many.
     pub fn cut(&mut self, alloc: Global, name: &str, length: usize) -> Result<bool, AllocError> {
-        let pairs = &self.files.pairs;
-        let Some((_name, bytes)) = pairs
-            .iter()
-            .find(|pair| pair.0.as_slice() == name.as_bytes())
-        else {
+        let Some(bytes) = self.file(name) else {
             return Ok(false);
         };
         if bytes.len() < length {
