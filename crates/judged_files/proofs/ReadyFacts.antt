@@ -116,6 +116,9 @@ module _ (scripts : Scripts) (sources : List Source) where
   ready-body (bodies.Load load) known read = record { known = is-known (has_name scripts.names load.script) known; read = read }
   ready-body (bodies.View view) known read = tt
   ready-body (bodies.Spread cell amount how) known read = tt
+  ready-body bodies.Sandbox known read = tt
+  ready-body bodies.Publish known read = tt
+  ready-body bodies.Discard known read = tt
 
   abbrev Is : List ℕ → Type 0
   Is name = IsSome (source_of sources name)

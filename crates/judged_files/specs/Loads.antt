@@ -1,4 +1,5 @@
--- Users' commands as they are run: with the scripts of their loads, and the records.
+-- Users' commands as they are run: with the scripts of their loads, and the records. What opens or ends a sandbox is no
+-- command of the model.
 use Rattle.std.specs.Prelude.{◌≡◌, ℕ, List, [], Option, Some, None, IsSome, IfSome, IsTrue, All}
 use Rattle.std.specs.Prelude.{option_map, filter_map, slice_get}
 use Rattle.std.specs.Arc.{arc_value}
@@ -11,6 +12,8 @@ use Rattle.user_text.specs.Rows.{rows_of}
 use Rattle.user_text.specs.Jobs.{rows_in}
 use Rattle.user_text.specs.declared.load_job.LoadJob.{LoadJob}
 use Rattle.script_bound.specs.declared.script.BoundScript.{BoundScript}
+use Rattle.sandbox.specs.declared.act.Act.{Act}
+use Rattle.sandbox.specs.declared.act.Act.TheVariants as acts
 use Rattle.user_session.specs.declared.command.PlanCommand.{PlanCommand}
 use Rattle.user_session.specs.declared.command.PlanCommand.TheVariants as plans
 use Rattle.user_text.specs.declared.command.LoadText.{LoadText}
@@ -26,6 +29,9 @@ file_of (bodies.Get cell) = None
 file_of (bodies.Load load) = load.file
 file_of (bodies.View view) = None
 file_of (bodies.Spread cell amount how) = None
+file_of bodies.Sandbox = None
+file_of bodies.Publish = None
+file_of bodies.Discard = None
 
 -- the files of a user's records, in the order of the commands
 abbrev pub user_files : List UserCommand → List (List ℕ)
@@ -52,6 +58,9 @@ IsReady scripts sources (bodies.Get cell) = Unit {0}
 IsReady scripts sources (bodies.Load load) = IsReadyLoad scripts sources load
 IsReady scripts sources (bodies.View view) = Unit {0}
 IsReady scripts sources (bodies.Spread cell amount how) = Unit {0}
+IsReady scripts sources bodies.Sandbox = Unit {0}
+IsReady scripts sources bodies.Publish = Unit {0}
+IsReady scripts sources bodies.Discard = Unit {0}
 
 abbrev pub AreReady : Scripts → List Source → List UserCommand → Type 0
 AreReady scripts sources commands = All (λ command. IsReady scripts sources command.body) commands
@@ -64,25 +73,29 @@ pub record IsLoad (scripts : Scripts) (sources : List Source) (load : LoadText) 
   pub records : records_of sources load.file load.skip ≡ Some (rows_in job)
   pub params : job.params ≡ load.params
 
-abbrev pub IsLoadCommand : Scripts → List Source → LoadText → PlanCommand → Type 0
+abbrev pub IsLoadCommand : Scripts → List Source → LoadText → Act PlanCommand → Type 0
 IsLoadCommand scripts sources load command = (job : LoadJob) × (script : Arc BoundScript Global)
-    × (command ≡ plans.Load job script) × IsLoad scripts sources load job (arc_value script)
+    × (command ≡ acts.Do (plans.Load job script)) × IsLoad scripts sources load job (arc_value script)
 
 -- a command as it is run
-abbrev pub IsCommand : Scripts → List Source → UserBody → PlanCommand → Type 0
-IsCommand scripts sources (bodies.Put cell number) command = command ≡ plans.Put cell number
-IsCommand scripts sources (bodies.Get cell) command = command ≡ plans.Get cell
+abbrev pub IsCommand : Scripts → List Source → UserBody → Act PlanCommand → Type 0
+IsCommand scripts sources (bodies.Put cell number) command = command ≡ acts.Do (plans.Put cell number)
+IsCommand scripts sources (bodies.Get cell) command = command ≡ acts.Do (plans.Get cell)
 IsCommand scripts sources (bodies.Load load) command = IsLoadCommand scripts sources load command
-IsCommand scripts sources (bodies.View view) command = command ≡ plans.View view
-IsCommand scripts sources (bodies.Spread cell amount how) command = command ≡ plans.Spread cell amount how
+IsCommand scripts sources (bodies.View view) command = command ≡ acts.Do (plans.View view)
+IsCommand scripts sources (bodies.Spread cell amount how) command = command ≡ acts.Do (plans.Spread cell amount how)
+IsCommand scripts sources bodies.Sandbox command = command ≡ acts.Open
+IsCommand scripts sources bodies.Publish command = command ≡ acts.Publish
+IsCommand scripts sources bodies.Discard command = command ≡ acts.Discard
 
 -- the commands of a user, each as it is run
-abbrev pub AreCommands : Scripts → List Source → List UserCommand → List PlanCommand → Type 0
+abbrev pub AreCommands : Scripts → List Source → List UserCommand → List (Act PlanCommand) → Type 0
 AreCommands scripts sources texts commands =
     AllZip (λ text command. IsCommand scripts sources text.body command) texts commands
 
 -- the commands of all users; nothing of it is refused
-abbrev pub commands_judgement : Scripts → List Source → List (List UserCommand) → Judgement (List (List PlanCommand))
+abbrev pub commands_judgement :
+    Scripts → List Source → List (List UserCommand) → Judgement (List (List (Act PlanCommand)))
 commands_judgement scripts sources users = record {
   stands_for = AllZip (AreCommands scripts sources) users;
   refused_for = λ _. ⊥;

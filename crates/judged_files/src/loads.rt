@@ -10,6 +10,7 @@ use crate::file_records::{FileRecords, SharedRecords};
 use crate::scripts::Scripts;
 use file_passes::{Source, file_name};
 use lists::ListOf;
+use sandbox::Act;
 use std::alloc::{AllocError, Global};
 use std::sync::Arc;
 use user_session::PlanCommand;
@@ -49,14 +50,14 @@ fn add_files(
     Ok(())
 }
 
-/// The commands of all users as they are run. The scripts and the files of their loads are there. Each file of records
-/// is read as records once, for all loads of it.
+/// The commands of all users as they are run: what opens or ends a sandbox, and the commands of the model. The scripts
+/// and the files of their loads are there. Each file of records is read as records once, for all loads of it.
 pub fn commands_of(
     alloc: Global,
     scripts: &Scripts,
     sources: &[Source<'_>],
     users: ListOf<ListOf<UserCommand>>,
-) -> Result<ListOf<ListOf<PlanCommand>>, AllocError>
+) -> Result<ListOf<ListOf<Act<PlanCommand>>>, AllocError>
     requires { All (AreReady scripts.now sources.now) users }
     ensures { IfOk result (λ commands. AllZip (AreCommands scripts.now sources.now) users commands) }
 {
@@ -72,7 +73,7 @@ fn all_commands(
     scripts: &Scripts,
     sources: &FileRecords<'_, '_>,
     users: ListOf<ListOf<UserCommand>>,
-) -> Result<ListOf<ListOf<PlanCommand>>, AllocError>
+) -> Result<ListOf<ListOf<Act<PlanCommand>>>, AllocError>
     requires { All (AreReady scripts.now sources.now) users }
     ensures { IfOk result (λ commands. AllZip (AreCommands scripts.now sources.now) users commands) }
 {
@@ -90,7 +91,7 @@ fn user_commands(
     scripts: &Scripts,
     sources: &FileRecords<'_, '_>,
     texts: ListOf<UserCommand>,
-) -> Result<ListOf<PlanCommand>, AllocError>
+) -> Result<ListOf<Act<PlanCommand>>, AllocError>
     requires { AreReady scripts.now sources.now texts }
     ensures { IfOk result (λ commands. AreCommands scripts.now sources.now texts commands) }
 {
@@ -107,16 +108,19 @@ fn command_of(
     scripts: &Scripts,
     sources: &FileRecords<'_, '_>,
     body: UserBody,
-) -> Result<PlanCommand, AllocError>
+) -> Result<Act<PlanCommand>, AllocError>
     requires { IsReady scripts.now sources.now body }
     ensures { IfOk result (λ command. IsCommand scripts.now sources.now body command) }
 {
     match body {
-        UserBody::Put(cell, number) => Ok(PlanCommand::Put(cell, number)),
-        UserBody::Get(cell) => Ok(PlanCommand::Get(cell)),
+        UserBody::Put(cell, number) => Ok(Act::Do(PlanCommand::Put(cell, number))),
+        UserBody::Get(cell) => Ok(Act::Do(PlanCommand::Get(cell))),
         UserBody::Load(load) => load_command(alloc, scripts, sources, load),
-        UserBody::View(view) => Ok(PlanCommand::View(view)),
-        UserBody::Spread(cell, amount, how) => Ok(PlanCommand::Spread(cell, amount, how)),
+        UserBody::View(view) => Ok(Act::Do(PlanCommand::View(view))),
+        UserBody::Spread(cell, amount, how) => Ok(Act::Do(PlanCommand::Spread(cell, amount, how))),
+        UserBody::Sandbox => Ok(Act::Open),
+        UserBody::Publish => Ok(Act::Publish),
+        UserBody::Discard => Ok(Act::Discard),
     }
 }
 
@@ -126,7 +130,7 @@ fn load_command(
     scripts: &Scripts,
     sources: &FileRecords<'_, '_>,
     load: LoadText,
-) -> Result<PlanCommand, AllocError>
+) -> Result<Act<PlanCommand>, AllocError>
     requires { IsReadyLoad scripts.now sources.now load }
     ensures { IfOk result (λ command. IsLoadCommand scripts.now sources.now load command) }
 {
@@ -137,7 +141,7 @@ fn load_command(
         skip: load.skip,
         params: load.params,
     };
-    Ok(PlanCommand::Load(job, Arc::try_clone(bound)?))
+    Ok(Act::Do(PlanCommand::Load(job, Arc::try_clone(bound)?)))
 }
 
 // The records of a load's file, which is among those that were read.

@@ -7,6 +7,7 @@ use Rattle.file_passes.specs.Pass.{Pass, NotWords, found, the, file, files, judg
 use Rattle.model_text.specs.Contents.{Contents, script_names}
 use Rattle.rule_model.specs.BoundModel.{BoundModel}
 use Rattle.script_bound.specs.declared.script.BoundScript.{BoundScript}
+use Rattle.sandbox.specs.declared.act.Act.{Act}
 use Rattle.user_session.specs.declared.command.PlanCommand.{PlanCommand}
 use Rattle.user_text.specs.declared.command.UserCommand.{UserCommand}
 use Rattle.run_passes.specs.declared.run_job.RunJob.{RunJob}
@@ -54,7 +55,7 @@ users_pass scripts names = do
   judged (users_judgement scripts sources)
 
 -- the files of all records are read whole, and with them the commands are run
-abbrev pub records_pass : Scripts → List (List UserCommand) → Pass (List (List PlanCommand))
+abbrev pub records_pass : Scripts → List (List UserCommand) → Pass (List (List (Act PlanCommand)))
 records_pass scripts users = do
   sources ← files Whole (record_files users)
   judged (commands_judgement scripts sources users)

@@ -14,6 +14,7 @@ use dim_name::Name;
 use file_passes::{Halt, Readings, obtain_all};
 use judged_files::{Scripts, commands_of, record_files, users_of};
 use lists::ListOf;
+use sandbox::Act;
 use std::alloc::Global;
 use user_session::PlanCommand;
 use user_text::UserCommand;
@@ -46,7 +47,7 @@ fn records_pass<F: Files>(
     readings: &mut Readings,
     scripts: &Scripts,
     users: ListOf<ListOf<UserCommand>>,
-) -> Result<ListOf<ListOf<PlanCommand>>, Halt>
+) -> Result<ListOf<ListOf<Act<PlanCommand>>>, Halt>
     requires { AreKnown scripts.now.names users }
     ensures known { (F.seen files.new).known ≡ (F.seen files.old).known }
     ensures comes { Comes (records_pass scripts.now users)

@@ -1,12 +1,13 @@
 use accepted::Accepted;
 use lists::ListOf;
+use sandbox::Act;
 use user_session::PlanCommand;
 
 /// What is to be done by a run that isn't refused.
 #[derive(Drop)]
 pub enum RunJob {
     /// Runs the commands of each user on the model.
-    Serve(Accepted, ListOf<ListOf<PlanCommand>>),
+    Serve(Accepted, ListOf<ListOf<Act<PlanCommand>>>),
     /// Tells that the model is accepted, with its rules and scripts.
     Check(Accepted),
     /// Runs the generated sample of so many records.

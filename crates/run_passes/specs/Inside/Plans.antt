@@ -4,6 +4,7 @@ use Rattle.file_passes.specs.Pass.{Pass, found, ◌>>=◌}
 use Rattle.model_text.specs.Contents.{Contents, script_names}
 use Rattle.rule_model.specs.BoundModel.{BoundModel}
 use Rattle.script_bound.specs.declared.script.BoundScript.{BoundScript}
+use Rattle.sandbox.specs.declared.act.Act.{Act}
 use Rattle.user_session.specs.declared.command.PlanCommand.{PlanCommand}
 use Rattle.user_text.specs.declared.command.UserCommand.{UserCommand}
 use Rattle.run_passes.specs.declared.run_job.RunJob.{RunJob}
@@ -28,7 +29,7 @@ behind_text name contents =
 
 -- ---- of a run
 
-abbrev pub served : Checked → List (List PlanCommand) → Pass RunJob
+abbrev pub served : Checked → List (List (Act PlanCommand)) → Pass RunJob
 served checked commands = found (jobs.Serve checked.model commands)
 
 abbrev pub behind_users : Checked → List (List UserCommand) → Pass RunJob

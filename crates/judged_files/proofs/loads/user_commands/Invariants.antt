@@ -1,9 +1,10 @@
 use Rattle.std.proofs.Common.{List, ◌++◌}
+use Rattle.sandbox.specs.declared.act.Act.{Act}
 use Rattle.user_session.specs.declared.command.PlanCommand.{PlanCommand}
 use Rattle.judged_files.specs.Loads.{AreCommands}
 use Rattle.judged_files.proofs.loads.user_commands.Given as goal
 
 -- whatever the rest comes to comes behind the commands so far
 abbrev pub invariant-loop-text : goal.invariant-loop-text
-invariant-loop-text l = (more : List PlanCommand) → AreCommands l.scripts l.sources l.text-iterator.rest.items more
+invariant-loop-text l = (more : List (Act PlanCommand)) → AreCommands l.scripts l.sources l.text-iterator.rest.items more
     → AreCommands l.scripts l.sources l.fn.texts (l.commands.items ++ more)
