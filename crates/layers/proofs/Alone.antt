@@ -1,9 +1,9 @@
 -- What a user is told follows from the writes of the history, the places and the user's commands.
-use Rattle.std.proofs.Common.{◌≡◌, ℕ, ◌+◌, zero, suc, List, [], ◌∷◌, take, refl, ap, sym, ◌∙◌}
+use Rattle.std.proofs.Common.{◌≡◌, ℕ, ◌+◌, zero, suc, List, [], ◌∷◌, refl, ap, sym, ◌∙◌}
 use Rattle.history.specs.declared.entry.Entry.{Entry}
 use Rattle.history.specs.declared.told.Told.{Told}
 use Rattle.history.specs.declared.effect.Effect.{Effect}
-use Rattle.history.specs.Version.{content_after, version}
+use Rattle.history.specs.Version.{version}
 use Rattle.history.specs.UserRun.{reply_of, least_after, ToldFrom}
 use Rattle.layers.specs.Layered.{effect_of, layered, LayeredSoFar, told_at, places_in, writes_in}
 

@@ -1,5 +1,5 @@
 -- Layered histories of all users, and each user's run of one.
-use Rattle.std.proofs.Common.{◌≡◌, ℕ, ◌+◌, zero, suc, List, [], ◌∷◌, length, Some, refl, ap, sym, ◌∙◌, subst, arith}
+use Rattle.std.proofs.Common.{◌≡◌, ℕ, ◌+◌, zero, suc, List, [], ◌∷◌, length, Some, refl, ap, sym, ◌∙◌, subst}
 use Rattle.std.specs.List.{slice_get}
 use Rattle.history.specs.declared.entry.Entry.{Entry}
 use Rattle.history.specs.declared.told.Told.{Told}
@@ -8,7 +8,7 @@ use Rattle.history.specs.UserRun.{UserRun}
 use Rattle.history.specs.LegalHistory.{HasUsers}
 use Rattle.history.proofs.Histories.{runs_history}
 use Rattle.lists.proofs.Found.{none_some, some_same}
-use Rattle.layers.specs.Layered.{effect_of, layered, all_layered, LayeredRun, IsLayeredHistoryOf}
+use Rattle.layers.specs.Layered.{effect_of, layered, all_layered, IsLayeredHistoryOf}
 use Rattle.layers.specs.Laws.{EachLayeredRun}
 
 module _ {C L K T R : Type 0} (answer : C → L → K → Effect T R × L) (after : C → T → C) (first : C) (log : List (Entry T)) (layer : L) where
@@ -42,11 +42,11 @@ module _ {C L K T R : Type 0} (answer : C → L → K → Effect T R × L) (afte
   layered_history users told all known runs =
       let many : length (all_layered answer after first log layer told users) ≡ length users = all_length told users in
       runs_history (effect_of answer) after first (all_layered answer after first log layer told users) told log
-          (all ∙ sym many)
-          (subst (λ (n : ℕ). HasUsers n log) (sym many) known)
-          (λ index pairs replies is at.
-              let own = all_of told users index pairs replies is at in
-              subst (λ (ks : List (L × K)). UserRun (effect_of answer) after first log (index + 1) replies ks) own.2 (runs index own.0 replies own.1 at))
+      (all ∙ sym many)
+      (subst (λ (n : ℕ). HasUsers n log) (sym many) known)
+      (λ index pairs replies is at.
+      let own = all_of told users index pairs replies is at in
+      subst (λ (ks : List (L × K)). UserRun (effect_of answer) after first log (index + 1) replies ks) own.2 (runs index own.0 replies own.1 at))
 
   pub layered_runs : (users : List (List K)) (told : List (List (Told R))) → IsLayeredHistoryOf answer after first layer users told log
       → (length told ≡ length users) × EachLayeredRun answer after first layer users told log

@@ -1,5 +1,5 @@
 -- A user's layered run, while others commit and by one answer more.
-use Rattle.std.proofs.Common.{◌≡◌, ℕ, ◌+◌, ◌≤◌, zero, suc, List, [], ◌∷◌, ◌++◌, length, map, take, Some, refl, ap, sym, ◌∙◌, subst, arith}
+use Rattle.std.proofs.Common.{◌≡◌, ℕ, ◌+◌, ◌≤◌, zero, suc, List, [], ◌∷◌, ◌++◌, length, take, Some, refl, ap, sym, ◌∙◌, subst, arith}
 use Rattle.std.specs.List.{slice_get}
 use Rattle.std.proofs.lemmas.List.{length-map}
 use Rattle.history.specs.declared.entry.Entry.{Entry}
@@ -86,8 +86,7 @@ module _ {C L K T R : Type 0} (answer : C → L → K → Effect T R × L) (afte
       run (layered_at log layer told commands command is) at effect reply stands none in
       let moved = subst (λ (ks : List (L × K)). ToldFrom (effect_of answer) after first (log ++ extra) user 1 0 (told ++ one ∷ []) ks) (sym same.0) more in
       let here : version after first (log ++ extra) one.place ≡ content_after after first log =
-      ap (version after first (log ++ extra)) at ∙ version-all after first log extra in
-      (
+      ap (version after first (log ++ extra)) at ∙ version-all after first log extra in (
         layered_push (log ++ extra) user 1 0 layer told one commands moved,
         layer_after_push (log ++ extra) layer told one commands command is
             ∙ ap (λ (c : C). (answer c (layer_after answer after first (log ++ extra) layer told commands) command).1) here
@@ -100,7 +99,7 @@ module _ {C L K T R : Type 0} (answer : C → L → K → Effect T R × L) (afte
       → slice_get told index ≡ Some one → slice_get commands index ≡ Some command
       → (slice_get (layered answer after first log layer told commands) index ≡ Some (layer_after answer after first log layer (take index told) commands, command))
       × (layer_after answer after first log layer (take (suc index) told) commands
-        ≡ (answer (version after first log one.place) (layer_after answer after first log layer (take index told) commands) command).1)
+      ≡ (answer (version after first log one.place) (layer_after answer after first log layer (take index told) commands) command).1)
   layer_before log layer [] commands index one command is at = absurd (none_some is)
   layer_before log layer (told ∷ more) [] index one command is at = absurd (none_some at)
   layer_before log layer (told ∷ more) (next ∷ commands) zero one command is at =

@@ -17,7 +17,7 @@ LayeredRunStaysBesideOthers {C} {L} {K} {T} {R} answer after =
     → LayeredSoFar answer after first log user layer told commands → NoneFrom extra 0 user
     → LayeredSoFar answer after first (log ++ extra) user layer told commands
     × (layer_after answer after first (log ++ extra) layer told commands
-      ≡ layer_after answer after first log layer told commands)
+    ≡ layer_after answer after first log layer told commands)
 
 -- a user's run goes on by the answer to its next command on the newest version with the layer that the user then has,
 -- and the user's layer is then the one that this answer gives
@@ -28,7 +28,7 @@ LayeredRunGoesOnByOne {C} {L} {K} {T} {R} answer after =
     → LayeredSoFar answer after first log user layer told commands → slice_get commands (length told) ≡ Some command
     → one.place ≡ length log
     → answer (content_after after first log) (layer_after answer after first log layer told commands) command
-      ≡ (found, next)
+    ≡ (found, next)
     → one.reply ≡ reply_of found → Stands found (log ++ extra) (length log) user (length told + 1)
     → NoneFrom (log ++ extra) (least_after found (length log)) user
     → LayeredSoFar answer after first (log ++ extra) user layer (told ++ one ∷ []) commands
@@ -88,6 +88,6 @@ LayersGoByCommands {C} {L} {K} {T} {R} answer after =
     → let before = λ (index : ℕ). layer_after answer after first log layer (take index told) commands in
     (before 0 ≡ layer)
     × ((index : ℕ) (one : Told R) (command : K)
-      → slice_get told index ≡ Some one → slice_get commands index ≡ Some command
-      → (slice_get (layered answer after first log layer told commands) index ≡ Some (before index, command))
-      × (before (index + 1) ≡ (answer (version after first log one.place) (before index) command).1))
+    → slice_get told index ≡ Some one → slice_get commands index ≡ Some command
+    → (slice_get (layered answer after first log layer told commands) index ≡ Some (before index, command))
+    × (before (index + 1) ≡ (answer (version after first log one.place) (before index) command).1))

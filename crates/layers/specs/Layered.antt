@@ -3,7 +3,7 @@
 -- histories is said of commands with their layers.
 -- Everywhere `answer` is what a command does on a content and a layer, with the next layer; `after` is what writes
 -- make of a content, and `first` is the opening content.
-use Rattle.std.specs.Prelude.{ℕ, ◌+◌, List, [], ◌∷◌, map}
+use Rattle.std.specs.Prelude.{ℕ, List, [], ◌∷◌, map}
 use Rattle.history.specs.declared.entry.Entry.{Entry}
 use Rattle.history.specs.declared.told.Told.{Told}
 use Rattle.history.specs.declared.effect.Effect.{Effect}

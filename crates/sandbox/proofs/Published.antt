@@ -1,5 +1,5 @@
 -- What publishing a sandbox commits, and that a layer is its kept writes in turn.
-use Rattle.std.proofs.Common.{◌≡◌, ℕ, ◌+◌, zero, suc, List, [], ◌∷◌, ◌++◌, Option, None, Some, refl, ap, sym, ◌∙◌, subst, arith}
+use Rattle.std.proofs.Common.{◌≡◌, ℕ, ◌+◌, zero, suc, List, [], ◌∷◌, Option, None, Some, refl, ap, sym, ◌∙◌, arith}
 use Rattle.std.specs.Prelude.{fold}
 use Rattle.std.specs.List.{slice_get}
 use Rattle.std.proofs.lemmas.List.Sums.{fold_push}
@@ -40,8 +40,7 @@ module _ {C K T R : Type 0} (effect : C → K → Effect T R) (after : C → T �
   published first log place entry layer reply at is =
       let content = version after first log place in
       let same : entry.writes ≡ layer = committed content layer entry.writes reply is (s.unfit content layer) refl in
-      let next : place + 1 ≡ suc place = omega arith in
-      (
+      let next : place + 1 ≡ suc place = omega arith in (
         same,
         ap (left_of layer) is,
         ap (version after first log) next ∙ version_next after first log place entry at ∙ ap (after content) same,

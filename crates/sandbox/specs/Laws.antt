@@ -19,7 +19,7 @@ PublishCommitsTheLayer {C} {K} {T} {R} effect after s =
     (first : C) (log : List (Entry T)) (place : ℕ) (entry : Entry T) (layer : T) (reply : R)
     → slice_get log place ≡ Some entry
     → effect_of (answer effect after s) (version after first log place) (Some layer, Publish)
-      ≡ Commit entry.writes reply
+    ≡ Commit entry.writes reply
     → (entry.writes ≡ layer)
     × ((answer effect after s (version after first log place) (Some layer) Publish).1 ≡ None)
     × (version after first log (place + 1) ≡ after (version after first log place) layer)
@@ -30,11 +30,11 @@ abbrev pub SandboxIsItsKeptWrites : {C K T R : Type 0} → (C → K → Effect T
     → Type 0
 SandboxIsItsKeptWrites {C} {K} {T} {R} effect after s =
     ((first : C) (log : List (Entry T)) (told : List (Told R)) (acts : List (Act K))
-      → layer_after (answer effect after s) after first log None told acts
-      ≡ layer_of s (layer_after (answer_in_turn effect after s) after first log None told acts))
+    → layer_after (answer effect after s) after first log None told acts
+    ≡ layer_of s (layer_after (answer_in_turn effect after s) after first log None told acts))
     × ((content : C) (kept : List T) → after content (joined s kept) ≡ fold after content kept)
     × ((content : C) (kept : Option (List T)) (act : Act K)
-      → (answer effect after s content (layer_of s kept) act).0 ≡ (answer_in_turn effect after s content kept act).0)
+    → (answer effect after s content (layer_of s kept) act).0 ≡ (answer_in_turn effect after s content kept act).0)
 
 abbrev pub PublishingIsAtOnce : {C K T R : Type 0} → (C → K → Effect T R) → (C → T → C) → Sandboxing C K T R → Type 0
 PublishingIsAtOnce effect after s = IsSandboxing effect after s → PublishCommitsTheLayer effect after s

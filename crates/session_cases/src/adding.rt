@@ -108,12 +108,12 @@ impl Layered for Adding {
     ghost use Rattle.session_cases.specs.declared.adding.Answer.TheVariants.{Kept, NoRoom, Noted};
 
     ghost sandbox = { record {
-        none = 0;
-        join = λ first second. first + second;
-        fixed = λ number. Give number;
-        unfit = λ total layer. if nat_le (total + layer) 1000 then None else Some NoRoom;
-        note = λ note. Noted note;
-        kept = λ number. Kept number;
+      none = 0;
+      join = λ first second. first + second;
+      fixed = λ number. Give number;
+      unfit = λ total layer. if nat_le (total + layer) 1000 then None else Some NoRoom;
+      note = λ note. Noted note;
+      kept = λ number. Kept number;
     } };
 
     fn none(_alloc: Global) -> Result<u64, AllocError> {

@@ -6,8 +6,8 @@ use sessions::Served;
 use std::alloc::{AllocError, Global};
 use std::fmt::Write;
 
-/// The acts of each user, a line for each: `[` opens a sandbox, `]` publishes it and `x` discards it; a number is added,
-/// and any other word asks for the total.
+/// The acts of each user, a line for each: `[` opens a sandbox, `]` publishes it and `x` discards it; a number is
+/// added, and any other word asks for the total.
 pub fn users_of(alloc: Global, text: &str) -> Result<Vec<ListOf<Act<Order>>>, AllocError> {
     let mut users = Vec::new(alloc);
     for line in text.lines() {

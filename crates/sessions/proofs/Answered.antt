@@ -5,10 +5,10 @@ use Rattle.history.specs.declared.told.Told.{Told}
 use Rattle.history.specs.declared.effect.Effect.{Effect}
 use Rattle.history.specs.declared.effect.Effect.TheVariants.{Commit, Rejected, Read}
 use Rattle.history.specs.Version.{content_after, NoneFrom}
-use Rattle.history.specs.UserRun.{reply_of, least_after, Stands}
+use Rattle.history.specs.UserRun.{least_after, Stands}
 use Rattle.history.proofs.Lists.{get_end}
 use Rattle.history.proofs.Runs.{none_at_end, none_past_end}
-use Rattle.layers.specs.Layered.{effect_of, layer_after, LayeredSoFar}
+use Rattle.layers.specs.Layered.{layer_after, LayeredSoFar}
 use Rattle.layers.proofs.Runs.{layered_more, layered_one}
 use Rattle.version_book.specs.declared.book.Settled.{Settled}
 use Rattle.version_book.specs.Numbers.{has}
@@ -51,12 +51,12 @@ record DecidesOn {T R : Type 0} (found : Effect T R) (log later : List (Entry T)
   pub stands : Stands found (log ++ extra) (length log) user number
   pub none : NoneFrom (log ++ extra) (least_after found (length log)) user
 
-module _ {T R : Type 0} where
-  decides_none : (log later : List (Entry T)) (user : ℕ) → later ≡ log → (later ≡ log ++ []) × (length log ≤ length (log ++ [])) × NoneFrom (log ++ []) (length log) user
-  decides_none log later user same =
-      let nothing : log ++ [] ≡ log = append-nil log in
-      rw nothing (same, omega arith, none_at_end log user)
+decides_none : {T : Type 0} (log later : List (Entry T)) (user : ℕ) → later ≡ log → (later ≡ log ++ []) × (length log ≤ length (log ++ [])) × NoneFrom (log ++ []) (length log) user
+decides_none log later user same =
+    let nothing : log ++ [] ≡ log = append-nil log in
+    rw nothing (same, omega arith, none_at_end log user)
 
+module _ {T R : Type 0} where
   decides_on : (found : Effect T R) (accepted : Bool) (log later : List (Entry T)) (user number : ℕ) → Decides found accepted log later user number
       → DecidesOn found log later user number
   decides_on (Commit writes reply) accepted log later user number decides =
@@ -209,7 +209,7 @@ module _ {C K T R : Type 0} (answer : C → Option T → K → Effect T R × Opt
     -- where it was told whether there was a next one, and there was
     pub next_left : (before later : SessionOf H S T K R) (more : Bool) → length before.told.items < length before.commands
         → MatchBool more (HasAnsweredNext answer after first before later)
-          ((length before.told.items ≡ length before.commands) × (later.told.items ≡ before.told.items) × (later.layer ≡ before.layer))
+        ((length before.told.items ≡ length before.commands) × (later.told.items ≡ before.told.items) × (later.layer ≡ before.layer))
         → HasAnsweredNext answer after first before later
     next_left before later true left told = told
     next_left before later false left told = absurd (omega (arith, left, told.0))

@@ -1,4 +1,5 @@
 mod Answered
+mod Acts
 mod Opened
 mod Gathered
 mod Looked

@@ -105,6 +105,6 @@ module _ {H S C T K R Q : Type 0} (answer : C → Option T → K → Effect T R 
       let rest : commands_of later ≡ commands_of before = further_commands before later (omega (arith, len)) (λ i d below. further (suc i) d (omega (arith, below))) in
       ap (λ ks. ks ∷ commands_of later) here ∙ ap (λ kss. b.commands ∷ kss) rest
 
-pub commands-append : {L S T K R : Type 0} (sessions : List (SessionOf H S T K R)) (session : SessionOf H S T K R)
+pub commands-append : {H S T K R : Type 0} (sessions : List (SessionOf H S T K R)) (session : SessionOf H S T K R)
     → commands_of (sessions ++ session ∷ []) ≡ commands_of sessions ++ session.commands ∷ []
 commands-append sessions session = map-append (λ s. s.commands) sessions (session ∷ [])

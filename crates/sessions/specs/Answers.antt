@@ -23,8 +23,8 @@ abbrev pub sight : {L C T : Type 0} → PassOf L C T → Sight T
 sight pass = record { seen = seen pass; looks = looks pass }
 
 -- The user's command of this number was answered, with this layer: the pass looked at the history, and the answer on
--- the newest version that it then saw decided. So the place is the length of what was seen before the command's own entry,
--- if it has one, and the user's next layer is the one that this answer gives.
+-- the newest version that it then saw decided. So the place is the length of what was seen before the command's own
+-- entry, if it has one, and the user's next layer is the one that this answer gives.
 pub record IsAnswered {C L K T R : Type 0} (answer : C → L → K → Effect T R × L) (after : C → T → C) (first : C)
     (before later : Sight T) (user number : ℕ) (layer : L) (command : K) (told : Told R) (next : L) : Type 0 where
   pub accepted : Bool
@@ -84,5 +84,5 @@ EachHasLooked {H} {S} {C} {K} {T} {R} answer after content state users told pass
     (index : ℕ) (commands : List K) (replies : List (Told R)) (pass : Snapshot (PassOf H S T))
     → slice_get users index ≡ Some commands → slice_get told index ≡ Some replies → slice_get passes index ≡ Some pass
     → HasLooked answer after (content state) (index + 1) replies commands (sight pass.value)
-      (layer_after answer after (content state) (seen pass.value) None replies commands)
+    (layer_after answer after (content state) (seen pass.value) None replies commands)
     × (pass.value.place.me.0.opening ≡ Some state)

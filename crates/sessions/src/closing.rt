@@ -17,8 +17,8 @@ use std::snapshot::Snapshot;
 use std::sync::Wait;
 use version_book::{Book, ClosedOf, Pass};
 
-/// Ends the book: brings all passes together, where each session has answered all its acts. A session with acts left ran
-/// out of memory.
+/// Ends the book: brings all passes together, where each session has answered all its acts. A session with acts left
+/// ran out of memory.
 pub(crate) fn close_all<W: Layered, R: Wait>(
     rt: &R,
     alloc: Global,

@@ -35,7 +35,12 @@ pub type Session<W> = SessionOf<
 
 impl<W: Layered> Session<W> {
     /// The session of a user whose number is that of the pass. No command is answered yet.
-    pub fn new(alloc: Global, pass: Pass<W>, user: u32, commands: ListOf<Act<W::Command>>) -> Session<W>
+    pub fn new(
+        alloc: Global,
+        pass: Pass<W>,
+        user: u32,
+        commands: ListOf<Act<W::Command>>,
+    ) -> Session<W>
         ensures pass { result.pass ≡ pass }
         ensures user { result.user ≡ user }
         ensures commands { result.commands ≡ commands }
@@ -65,7 +70,7 @@ impl<W: Layered> Session<W> {
         ensures commands { self.new.commands ≡ self.old.commands }
         ensures told { IfOk result (λ more. MatchBool more
             (HasAnsweredNext (answer_of W.effect W.after W.sandbox) W.after (W.content (opening_of book.now))
-                self.old self.new)
+            self.old self.new)
             ((length self.old.told.items ≡ length self.old.commands)
             × (self.new.told.items ≡ self.old.told.items) × (self.new.layer ≡ self.old.layer))) }
         ensures err { OnErr result ((length self.old.told.items < length self.old.commands)
