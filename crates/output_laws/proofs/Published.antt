@@ -78,7 +78,7 @@ shown sandboxing commits model users told log index commands own number one laye
       published.0,
       published.2,
       λ question asks.
-          ap (λ content. reply_of (effect content question)) published.2
+          ap (λ (content : Content). reply_of (effect content question)) published.2
           ∙ sym (question_reply layer (after before layer) question asks)
-          ∙ ap (λ reason. reply_of (where_fit sandbox layer reason (effect (after before layer) question)).0) (sym (was_fit sandboxing before layer entry.writes answered.by.reply accepted)),
+          ∙ ap (λ (reason : Option (List ℕ)). reply_of (where_fit sandbox layer reason (effect (after before layer) question)).0) (sym (was_fit sandboxing before layer entry.writes answered.by.reply accepted)),
     )
