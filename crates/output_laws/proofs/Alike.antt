@@ -118,8 +118,7 @@ module _ {C L K T R : Type 0} (answer : C → L → K → Effect T R × L) (afte
   layered_alike layer (one ∷ told) (command ∷ commands) [] alike = absurd alike
   layered_alike layer (one ∷ told) (command ∷ commands) (other ∷ others) alike =
       let here = version after first log one.place in
-      let next = (answer here layer command).1 in
-      (
+      let next = (answer here layer command).1 in (
         λ content. ap (λ found. found.0) (alike.0 content layer),
         subst (λ (l : L). PairsAlike (layered answer after first log next told commands) (layered answer after first log l told others)) (ap (λ found. found.1) (alike.0 here layer))
             (layered_alike next told commands others alike.1),

@@ -62,7 +62,7 @@ was_fit sandboxing content layer writes reply is = by (unfit content layer) refl
         absurd (not_both content layer writes reply rejected.0 is rejected.1)
 
 pub shown : IsSandboxing effect after sandbox → PublishCommitsTheLayer effect after sandbox → PublishShowsWhatTheSandboxShowed
-shown sandboxing commits model users told log index commands own number one layer entry history are are_told is_publish is_one open is_entry is_user is_number =
+shown sandboxing commits model users told log index commands own number one layer entry history are are_told is_publish is_one is_kept is_entry is_user is_number =
     let first = opening model in
     let run = (layered_runs answer after first log None users told history).1 index commands own are are_told in
     let pairs = layered answer after first log None own commands in
@@ -70,16 +70,15 @@ shown sandboxing commits model users told log index commands own number one laye
     let same : answered.by.index ≡ number = omega (arith, answered.is_number, is_number) in
     let here = (layer_before answer after first log None own commands number one Publish is_one is_publish).0 in
     let pair : answered.by.command ≡ (Some layer, Publish) =
-    some_same (sym answered.by.is_command ∙ ap (slice_get pairs) same ∙ here) ∙ ap (λ (l : Option (List (ℕ × ℤ))). (l, Publish)) open in
+    some_same (sym answered.by.is_command ∙ ap (slice_get pairs) same ∙ here) ∙ ap (λ (l : Option (List (ℕ × ℤ))). (l, Publish)) is_kept in
     let before = version after first log one.place in
     let accepted : fixed_effect before layer ≡ Commit entry.writes answered.by.reply =
     ap (effect_of answer before) (sym pair) ∙ answered.by.is_accepted in
-    let published = commits first log one.place entry layer answered.by.reply is_entry accepted in
-    (
+    let published = commits first log one.place entry layer answered.by.reply is_entry accepted in (
       published.0,
       published.2,
       λ question asks.
-          ap (λ content. reply_of (effect content question)) published.2
+          ap (λ (content : Content). reply_of (effect content question)) published.2
           ∙ sym (question_reply layer (after before layer) question asks)
-          ∙ ap (λ reason. reply_of (where_fit sandbox layer reason (effect (after before layer) question)).0) (sym (was_fit sandboxing before layer entry.writes answered.by.reply accepted)),
+          ∙ ap (λ (reason : Option (List ℕ)). reply_of (where_fit sandbox layer reason (effect (after before layer) question)).0) (sym (was_fit sandboxing before layer entry.writes answered.by.reply accepted)),
     )

@@ -56,13 +56,14 @@ IsQuestion (View view) = Unit {0}
 IsQuestion (Spread cell amount how) = ⊥
 IsQuestion (Fixed writes) = ⊥
 
--- Where a user's PUBLISH at a place has an entry, the entry has just the writes that the sandbox kept; and each question
--- has on the next version the reply that it had in the sandbox on the version of that place.
+-- Where a user's PUBLISH at a place has an entry, the entry has just the writes that the sandbox kept; and each
+-- question has on the next version the reply that it had in the sandbox on the version of that place.
 abbrev pub PublishShowsWhatTheSandboxShowed : Type 0
 PublishShowsWhatTheSandboxShowed =
     (model : BoundModel) (users : List (List (Act PlanCommand))) (told : List (List (Told (List ℕ))))
-    (log : List (Entry (List (ℕ × ℤ)))) (index : ℕ) (commands : List (Act PlanCommand)) (own : List (Told (List ℕ)))
-    (number : ℕ) (one : Told (List ℕ)) (layer : List (ℕ × ℤ)) (entry : Entry (List (ℕ × ℤ)))
+    (log : List (Entry (List (ℕ × ℤ)))) (index : ℕ) (commands : List (Act PlanCommand))
+    (own : List (Told (List ℕ))) (number : ℕ) (one : Told (List ℕ)) (layer : List (ℕ × ℤ))
+    (entry : Entry (List (ℕ × ℤ)))
     → let before = version after (opening model) log one.place in
     IsLayeredHistoryOf answer after (opening model) None users told log
     → slice_get users index ≡ Some commands → slice_get told index ≡ Some own
@@ -72,5 +73,5 @@ PublishShowsWhatTheSandboxShowed =
     → (entry.writes ≡ layer)
     × (version after (opening model) log (one.place + 1) ≡ after before layer)
     × ((question : PlanCommand) → IsQuestion question
-      → reply_of (effect (version after (opening model) log (one.place + 1)) question)
-      ≡ reply_of (answer before (Some layer) (Do question)).0)
+    → reply_of (effect (version after (opening model) log (one.place + 1)) question)
+    ≡ reply_of (answer before (Some layer) (Do question)).0)

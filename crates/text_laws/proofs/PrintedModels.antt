@@ -1,9 +1,9 @@
 -- A printed model text reads back.
-use Rattle.std.proofs.Common.{◌≡◌, ◌≢◌, ◌≤◌, ℕ, List, [], ◌∷◌, ◌++◌, length, Option, Result, Ok, Err, refl, sym, ◌∙◌, subst}
+use Rattle.std.proofs.Common.{◌≡◌, ◌≢◌, ◌≤◌, ℕ, List, length, Result, Ok, Err, refl, subst}
 use Rattle.cube_lex.specs.Reading.{most_text_bytes}
-use Rattle.model_text.specs.Answers.{IsModelText, IsFault, Answers}
+use Rattle.model_text.specs.Answers.{IsFault, Answers}
 use Rattle.model_text.specs.Contents.{Contents}
-use Rattle.model_text.specs.Printed.{AreSameContents, IsTextOf, IsPrinted}
+use Rattle.model_text.specs.Printed.{AreSameContents, IsTextOf}
 use Rattle.model_text.specs.declared.fault.ModelTextCause.{ModelTextCause}
 use Rattle.model_text.specs.declared.fault.ModelTextCause.TheVariants as causes
 use Rattle.text_laws.specs.PrintedModels.{IsReadAs, ReadsBack}

@@ -2,8 +2,8 @@
 //!
 //! Read in this order: [`PlanCommand`], what a user asks, and [`Reply`], what is answered; `specs/Planning.antt`, which
 //! reply and which writes each command has on a content, and `specs/Replies.antt`, its text; [`PlanWorld`], the world
-//! of these commands for who serves users; `specs/Layers.antt`, what a sandbox keeps of them. A command is added in this
-//! crate alone: a case of [`PlanCommand`], of `effect` and of the reply's text.
+//! of these commands for who serves users; `specs/Layers.antt`, what a sandbox keeps of them. A command is added in
+//! this crate alone: a case of [`PlanCommand`], of `effect` and of the reply's text.
 #![tactic(auto)]
 
 mod acts;

@@ -34,8 +34,7 @@ returns-in-Ok c =
     let of : BoundModel → List Entry → Content = λ model stored. record { model = model; stored = stored } in
     let version = version_of c.in-Ok.version in
     let model : version.model ≡ content.model = c.in-Ok.ensures.model in
-    let stored : version.stored ≡ after_writes content.stored c.args.writes.now = c.in-Ok.ensures.stored in
-    (
+    let stored : version.stored ≡ after_writes content.stored c.args.writes.now = c.in-Ok.ensures.stored in (
       fits ∙ told-kept _ _ c.next.result c.next.ensures.limits c.in-Ok.version c.in-Ok.is,
       ap (λ m. of m version.stored) model ∙ ap (λ s. of content.model s) stored,
     )
