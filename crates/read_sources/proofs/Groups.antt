@@ -63,6 +63,10 @@ more-long (first ∷ groups) own (suc g) n each few = more-long groups own g n (
 
 -- ---- one source more
 
+-- whether a number is another one
+abbrev Tells : ℕ → ℕ → Type 0
+Tells g i = ((eqb g i ≡ true) × (g ≡ i)) ⊎ ((eqb g i ≡ false) × (g ≡ i → ⊥))
+
 module _ (m : BoundModel) (s : Source) (old new : Parted) (read : IsRead m s) where
   kept-member : (t : Source) → length old.heads.items ≤ length new.heads.items → ((g : ℕ) → Contains (members_in old g) t → Contains (members_in new g) t) → IsMember m old t → IsMember m new t
   kept-member t heads has member = record { group = member.group; low = omega (arith, member.low, heads); has = has member.group member.has; shared = member.shared }
@@ -161,10 +165,7 @@ module _ (m : BoundModel) (s : Source) (old new : Parted) (read : IsRead m s) wh
       other : (i : ℕ) → (g ≡ i → ⊥) → members_in new i ≡ members_in old i
       other i not = ap (λ gs. row gs i) groups ∙ get_or-set_other old.groups.items g i (row old.groups.items g ++ s ∷ []) [] (λ is. not (sym is))
 
-      abbrev Tells : ℕ → Type 0
-      Tells i = ((eqb g i ≡ true) × (g ≡ i)) ⊎ ((eqb g i ≡ false) × (g ≡ i → ⊥))
-
-      of-by : (i : ℕ) (t : Source) → Tells i → Contains (members_in new i) t → Contains (members_in old i) t ⊎ ((g ≡ i) × (s ≡ t))
+      of-by : (i : ℕ) (t : Source) → Tells g i → Contains (members_in new i) t → Contains (members_in old i) t ⊎ ((g ≡ i) × (s ≡ t))
       of-by i t (inl (e, is)) has = elim (push-has (row old.groups.items g) s t (subst (λ r. Contains r t) same (subst (λ j. Contains (members_in new j) t) (sym is) has))) [
         | inl was ↦ inl (subst (λ j. Contains (members_in old j) t) is was)
         | inr own ↦ inr (is, own)
@@ -174,12 +175,12 @@ module _ (m : BoundModel) (s : Source) (old new : Parted) (read : IsRead m s) wh
       of : (i : ℕ) (t : Source) → Contains (members_in new i) t → Contains (members_in old i) t ⊎ ((g ≡ i) × (s ≡ t))
       of i t has = of-by i t (eqb_tells g i) has
 
-      on : (i : ℕ) (t : Source) → Contains (members_in old i) t → Tells i → Contains (members_in new i) t
+      on : (i : ℕ) (t : Source) → Contains (members_in old i) t → Tells g i → Contains (members_in new i) t
       on i t has (inl (e, is)) =
           subst (λ j. Contains (members_in new j) t) is (subst (λ r. Contains r t) (sym same) (Contains-append_left (row old.groups.items g) (s ∷ []) t (subst (λ j. Contains (members_in old j) t) (sym is) has)))
       on i t has (inr (e, not)) = subst (λ r. Contains r t) (sym (other i not)) has
 
-      long : (count : ℕ) → AreParts m count old → (i : ℕ) → Tells i → length (members_in new i) ≤ suc count
+      long : (count : ℕ) → AreParts m count old → (i : ℕ) → Tells g i → length (members_in new i) ≤ suc count
       long count h i (inl (e, is)) =
           subst (λ j. length (members_in new j) ≤ suc count) is (omega (arith, ap (λ (r : List Source). length r) same, length-append (row old.groups.items g) (s ∷ []), h.few_members g))
       long count h i (inr (e, not)) = omega (arith, ap (λ (r : List Source). length r) (other i not), h.few_members i)

@@ -70,6 +70,7 @@ same-statement m one other read its cube number =
 
 pub alike-of : (m : BoundModel) (one other : Source) → one.cube ≡ other.cube → one.kind ≡ other.kind → one.elsewhere ≡ other.elsewhere → AreSetsSame m one other
     → ((dims : List Outline) (i e : ℕ) → serves dims (precedent one) i e ≡ serves dims (precedent other) i e) → IsAlike m one other
+unfolding is_from
 alike-of m one other cube kind elsewhere sets serving = record { cube = cube; reads = from; serves = any }
   where
     last : ℕ
@@ -80,7 +81,6 @@ alike-of m one other cube kind elsewhere sets serving = record { cube = cube; re
         (nat_lt e (slice_index_or (sizes m.space c) last 0) && in_set set e) && (not (kind && is_total (axes m.space c) last e) && serving)
 
     from : (e : ℕ) → reads_from m one last e ≡ reads_from m other last e
-    unfolding is_from
     from e =
         ap (λ set. test one.cube set one.kind (serves (axes m.space one.cube) (precedent one) last e) e) sets
         ∙ ap (λ k. test one.cube (slice_index_or other.area.now.sets last None) k (serves (axes m.space one.cube) (precedent one) last e) e) kind
