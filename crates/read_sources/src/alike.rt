@@ -33,10 +33,19 @@ pub fn serve_alike(model: &Model, one: Source, other: Source) -> bool
     requires its { IsRead model.now other }
     ensures { IsTrue result → IsAlike model.now one.entry other.entry }
 {
-    let same = one.cube == other.cube
-        && one.kind == other.kind
-        && one.elsewhere == other.elsewhere;
-    same && list_alike(model, one, other) && read_alike(one.read, other.read)
+    if one.cube != other.cube {
+        return false;
+    }
+    if one.kind != other.kind {
+        return false;
+    }
+    if one.elsewhere != other.elsewhere {
+        return false;
+    }
+    if !list_alike(model, one, other) {
+        return false;
+    }
+    read_alike(one.read, other.read)
 }
 
 // Whether the areas of two sources of one cube have the same elements in the last dimension.
