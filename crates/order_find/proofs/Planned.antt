@@ -19,42 +19,16 @@ use Rattle.order_find.specs.Slots.{Plan, IsPlan}
 use Rattle.read_sources.specs.Sources.{IsRead, AreSourcesOf, most_sources}
 use Rattle.order_find.specs.PlanOfAll.{IsPlanOfAll}
 use Rattle.order_find.specs.Filing.{AreFiled, looked_by, plan_of}
+use Rattle.read_sources.proofs.Sourced.{source-is, listed-are}
 use Rattle.order_find.specs.declared.filing.Filing.{Filing}
 use Rattle.order_find.specs.declared.numbering.Numbering.{Numbering}
 use Rattle.read_sources.specs.declared.parting.Parted.{Parted}
 use Rattle.read_sources.specs.Parts.{AreParts, ArePartsOfAll, members_in}
 
 module _ (m : BoundModel) (valid : IsSpace m.space) (ruled : AreRules m.space m.rules) where
-  cube-there : (cube : ℕ) (s : Statement) → Contains (rules_of m cube).statements s → cube < length m.space.cubes
-  cube-there cube s stands = by (cases_lt cube (length m.rules))
-    where
-      by : (cube < length m.rules) ⊎ (length m.rules ≤ cube) → cube < length m.space.cubes
-      by (inl low) = omega (arith, low, ruled.each_cube)
-      by (inr past) =
-          let (k, low, is) = subst (λ (r : CubeRules). Contains r.statements s) (get_or_past m.rules cube no_rules past) stands in
-          absurd (omega (arith, low))
-
-  pub source-is : (s : Source) → IsRead m s → IsSource m s
-  source-is s read =
-      let there = cube-there s.cube read.statement read.stands in
-      let is : IsStatement m.space s.cube read.statement = All-contains (IsStatement m.space s.cube) (rules_of m s.cube).statements read.statement (ruled.cube s.cube there).statements read.stands in
-      let (f, part, has) = read.reads in
-      record {
-        cube = there;
-        area = subst (IsArea m.space s.cube) (sym read.area) is.area;
-        reads = All-contains (IsPrecedent m.space s.cube) (precedents f) (precedent s) (part-reads m valid ruled s.cube read.statement s.kind f is part) has;
-      }
-
-  pub sources-are : (sources : List Source) → AreSourcesOf m sources → All (IsSource m) sources
-  sources-are sources are = λ k d low. source-is (get_or sources k d) (are.read k (get_or sources k d) (slice_get-get_or sources k d low))
-
-  -- and so are the single ones, the heads and the members of groups
-  pub listed-are : (xs : List Source) → ((k : ℕ) (s : Source) → slice_get xs k ≡ Some s → IsRead m s) → All (IsSource m) xs
-  listed-are xs read = λ k d low. source-is (get_or xs k d) (read k (get_or xs k d) (slice_get-get_or xs k d low))
-
   pub members-are : (parted : Parted) (g : ℕ) → AreParts m most_sources parted → All (IsSource m) (members_in parted g)
   members-are parted g parts = λ k d low.
-      source-is (get_or (members_in parted g) k d) (parts.members g (get_or (members_in parted g) k d) (k, low, get_or_default (members_in parted g) k (get_or (members_in parted g) k d) d low))
+      source-is m valid ruled (get_or (members_in parted g) k d) (parts.members g (get_or (members_in parted g) k d) (k, low, get_or_default (members_in parted g) k (get_or (members_in parted g) k d) d low))
 
 module _ (m : BoundModel) (numbering : Numbering) (parted : Parted) (filing grouped : Filing) (valid : IsSpace m.space) (ruled : AreRules m.space m.rules)
     (numbers : IsNumbering m.space numbering) (few_places : count_of numbering ≤ most_places) (all : ArePartsOfAll m parted)

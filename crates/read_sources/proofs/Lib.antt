@@ -6,5 +6,6 @@ pub mod Likeness
 pub mod Lists
 pub mod Placed
 pub mod Serving
+pub mod Sourced
 pub mod Weak
 pub mod Within

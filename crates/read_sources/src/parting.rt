@@ -1,4 +1,4 @@
-ghost use Rattle.std.specs.Prelude.{◌≡◌, ◌<◌, ◌≤◌, [], ◌∷◌, ◌++◌, All, IfOk, OnOk, IsTrue, length, slice_index_or, slice_set};
+ghost use Rattle.std.specs.Prelude.{◌≡◌, ◌<◌, ◌≤◌, [], ◌∷◌, ◌++◌, All, IfOk, OnOk, IsTrue, length, slice_get, slice_index_or, slice_set};
 ghost use Rattle.read_sources.specs.Ways.{IsSource, way_of};
 ghost use Rattle.read_sources.specs.Sources.{IsRead, AreSourcesOf, most_sources};
 ghost use Rattle.read_sources.specs.Parts.{IsShared, IsOfGroup, IsPut, ArePartsOfAll};
@@ -34,6 +34,7 @@ pub fn part_sources<'a>(
     requires each { All (IsSource model.now) sources.now }
     ensures { IfOk result (ArePartsOfAll model.now) }
 {
+    let _space = model.space();
     let counts = count_marks(alloc, model, sources)?;
     let mut lasts = vec![in alloc; None; MARKS]?;
     let mut parted = Parted {
@@ -101,10 +102,17 @@ fn is_of_group(model: &Model, source: Source, group: u32, parted: &Parted) -> bo
     requires each { All (IsRead model.now) parted.now.heads.items }
     ensures { IsTrue result → IsOfGroup model.now parted.now group source.entry }
 {
-    match parted.heads.get(group as usize) {
-        Some(head) => serve_alike(model, *head, source),
+    match head_of(parted, group) {
+        Some(head) => serve_alike(model, head, source),
         None => false,
     }
+}
+
+// The first source of a group.
+fn head_of<'a>(parted: &Parted<'a>, group: u32) -> Option<Source<'a>>
+    ensures { result ≡ slice_get parted.now.heads.items group }
+{
+    parted.heads.get(group as usize).copied()
 }
 
 fn add_single<'a>(source: Source<'a>, parted: &mut Parted<'a>) -> Result<(), AllocError>

@@ -11,5 +11,5 @@ returns-in-Cell-Cell c =
     λ on dims i e.
     let read = λ (r : Read). serves dims (precedent_of r) i e in
     ap read c.in-Cell-Cell.is-0 ∙ ap (list_all (names_from i e)) (sym c.as_slice.ensures)
-    ∙ args-serve i e c.as_slice.result.now c.as_slice-2.result.now (c.args_alike.ensures on)
-    ∙ ap (list_all (names_from i e)) c.as_slice-2.ensures ∙ sym (ap read c.in-Cell-Cell.is-1)
+    ∙ args-serve i e c.as_slice.result.now c.as_slice-in-Cell-Cell.result.now (c.args_alike.ensures on)
+    ∙ ap (list_all (names_from i e)) c.as_slice-in-Cell-Cell.ensures ∙ sym (ap read c.in-Cell-Cell.is-1)

@@ -2,7 +2,8 @@ use Rattle.std.proofs.Common.{◌<◌, ◌≤◌, sym, subst, arith, List, lengt
 use Rattle.read_sources.specs.declared.source.Source.{Source}
 use Rattle.read_sources.specs.Ways.{IsSource}
 use Rattle.order_find.specs.Filing.{AreFiled, looked_by}
-use Rattle.order_find.proofs.Planned.{sources-are, listed-are, plan-is, plan-of-all}
+use Rattle.read_sources.proofs.Sourced.{sources-are, listed-are}
+use Rattle.order_find.proofs.Planned.{plan-is, plan-of-all}
 use Rattle.order_find.proofs.graph.NodeGraph.over.Goals as goal
 
 pub part_sources-requires-clause-each : goal.part_sources-requires-clause-each
