@@ -23,7 +23,8 @@ use Rattle.order_find.specs.Numbers.{IsPlace, number_of}
 use Rattle.read_sources.specs.Ways.{IsSource, precedent, way_of, reads_from, serves_any, cube_read}
 use Rattle.order_find.specs.Slots.{Plan, arrow_to, leaves_below, leaf_arrow, arrow_by, read_arrow, source_arrow, hubs_from, group_by, group_arrow, member_arrow, members, own_slots, group_slots, slots_at}
 use Rattle.read_sources.specs.Sources.{IsReadBy}
-use Rattle.order_find.specs.PlanOfAll.{IsPlanOfAll, IsReadIn}
+use Rattle.order_find.specs.PlanOfAll.{IsPlanOfAll}
+use Rattle.read_sources.specs.Parts.{IsReadIn}
 use Rattle.order_find.proofs.Decided.{IsReadByDimension, read-dimension}
 use Rattle.order_find.proofs.Through.{node, Goes, GoesThrough}
 use Rattle.read_sources.proofs.Lists.{has-map, has-range}
@@ -94,7 +95,7 @@ module _ (p : Plan) (all : IsPlanOfAll p) (from to : Node) (strict : Bool) where
           (Contains-append_left (leaves ++ (cubes ++ nodes)) groups made (subst (Contains (leaves ++ (cubes ++ nodes))) arrow has))
 
   -- through the node of a group
-  group-every : (r : IsReadByDimension p.model from to strict) → IsReadIn p r.cube r.statement r.kind r.read → IsThrough p from to strict
+  group-every : (r : IsReadByDimension p.model from to strict) → IsReadIn p.model p.heads p.groups r.cube r.statement r.kind r.read → IsThrough p from to strict
   group-every r rb =
       let s = rb.source in
       let m = p.model in
@@ -107,7 +108,7 @@ module _ (p : Plan) (all : IsPlanOfAll p) (from to : Node) (strict : Bool) where
       let weak : s.weak ≡ not strict = read.weak ∙ ap (λ c. is_weak m c s.area.now s.kind (precedent s)) rb.own ∙ ap (λ a. is_weak m r.cube a s.kind (precedent s)) rb.area
       ∙ ap (λ b. is_weak m r.cube r.statement.area b (precedent s)) rb.same_kind ∙ ap (λ x. is_weak m r.cube r.statement.area r.kind x) rb.same_read ∙ r.weak in
       let strict_is : not s.weak ≡ strict = ap not weak ∙ not-not strict in
-      let is = All-contains (IsSource m) (members p g) s (all.plan.members g) rb.member.has in
+      let is = All-contains (IsSource m) (members p g) s (all.plan.grouped g) rb.member.has in
       let named = named-as m s.cube s.area.now s.kind (precedent s) from.element to.element j.named in
       let (low, listed) = in-area m s.cube s.area.now (last_of m.space s.cube) from.element (from-area m s.cube s.area.now s.kind (precedent s) (last_of m.space s.cube) from.element j.own) in
       let place : Place = record { cube = s.cube; element = from.element } in

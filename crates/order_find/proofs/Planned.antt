@@ -49,7 +49,7 @@ module _ (m : BoundModel) (numbering : Numbering) (parted : Parted) (filing grou
         numbering = numbers;
         sources = listed-are m valid ruled parted.singles.items all.parts.singles;
         heads = listed-are m valid ruled parted.heads.items all.parts.heads;
-        members = λ g. members-are m valid ruled parted g all.parts;
+        grouped = λ g. members-are m valid ruled parted g all.parts;
         of_cubes = filed.of_cubes;
         of_nodes = filed.of_nodes;
         few_of_cubes = λ cube. omega (arith, filed.few_of_cubes cube, singles);
@@ -65,17 +65,7 @@ module _ (m : BoundModel) (numbering : Numbering) (parted : Parted) (filing grou
     read = all.parts.singles;
     read_members = all.parts.members;
     alike = all.parts.alike;
-    all = λ cube statement kind read there stands reads level not_lagged. elim (all.all cube statement kind read there stands reads level not_lagged) [
-      | inl single ↦ inl single
-      | inr it ↦ inr (record {
-          source = it.source;
-          member = record { group = it.member.group; low = it.member.low; has = it.member.has; shared = it.member.shared };
-          own = it.own;
-          area = it.area;
-          same_kind = it.same_kind;
-          same_read = it.same_read;
-        })
-    ];
+    all = all.all;
     looked_at = λ k s place at. filed.looked_at k s place (slice_get_within parted.singles.items k s at) at;
     of_cubes = heads.of_cubes;
     of_nodes = heads.of_nodes;

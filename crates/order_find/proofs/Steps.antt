@@ -165,7 +165,7 @@ module _ (p : Plan) (all : IsPlanOfAll p) (n : ℕ) (place : Place) (at : slice_
       by-member : (s : Source) (next : Arrow) → Contains (members p g) s → member_arrow p s ≡ Some next → IsArrowOf p place (reference_of s) next
       by-member s next has made =
           let alike = all.alike g head s found has in
-          let is = All-contains (IsSource p.model) (members p g) s (all.plan.members g) has in
+          let is = All-contains (IsSource p.model) (members p g) s (all.plan.grouped g) has in
           let cube : s.cube ≡ place.cube = sym alike.cube ∙ own in
           let there : Place = record { cube = s.cube; element = place.element } in
           let same : there ≡ place = ap (λ c. record { cube = c; element = place.element }) cube in
@@ -293,7 +293,7 @@ behind-back p plan n arrow behind has = elim (cases_lt n (all_from p)) [
     shared high (inl low) =
         let g = n - hubs_from p in
         let (s, inside, made) = map-has (member_arrow p) (members p g) (Some arrow) (subst (λ xs. Contains xs (Some arrow)) (slots-shared p n g (omega (arith, high)) (omega (arith, high, low))) has) in
-        shared-back p plan s (All-contains (IsSource p.model) (members p g) s (plan.members g) inside) arrow (way_of p.model s) refl made
+        shared-back p plan s (All-contains (IsSource p.model) (members p g) s (plan.grouped g) inside) arrow (way_of p.model s) refl made
     shared high (inr past) =
         let (k, low, is) = subst (λ xs. Contains xs (Some arrow)) (slots-none p n past) has in
         absurd (omega (arith, low))

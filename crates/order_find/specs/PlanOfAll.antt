@@ -1,5 +1,5 @@
 -- When a plan is one of its model: its sources are all that statements read at the same lag.
-use Rattle.std.specs.Prelude.{◌≡◌, ℕ, ◌<◌, Bool, false, Some, None, List, [], length, Contains, ◌⊎◌}
+use Rattle.std.specs.Prelude.{◌≡◌, ℕ, ◌<◌, ◌⊎◌, Bool, false, Some, None, List, [], length, Contains}
 use Rattle.std.specs.Prelude.{IsTrue, slice_get, slice_index_or, slice_index}
 use Rattle.rule_laws.specs.Meaning.{Precedent}
 use Rattle.rule_model.specs.declared.rules.Statement.{Statement}
@@ -11,26 +11,9 @@ use Rattle.arrow_laws.specs.ByDimension.{is_lagged, is_level}
 use Rattle.order_find.specs.declared.numbering.Place.{Place}
 use Rattle.read_sources.specs.declared.source.Source.{Source}
 use Rattle.order_find.specs.Numbers.{IsPlace, number_of}
-use Rattle.read_sources.specs.Ways.{precedent, way_of}
-use Rattle.read_sources.specs.Parts.{IsAlike, IsShared}
+use Rattle.read_sources.specs.Parts.{IsAlike, IsReadIn}
 use Rattle.order_find.specs.Slots.{Plan, IsPlan, IsSourceOf, members}
 use Rattle.read_sources.specs.Sources.{IsRead, IsReadBy}
-
--- a source of a group, which always reads the node of one element
-pub record IsMember (p : Plan) (s : Source) : Type 0 where
-  pub group : ℕ
-  pub low : group < length p.heads
-  pub has : Contains (members p group) s
-  pub shared : IsShared (way_of p.model s)
-
--- what a statement of a cube reads for this kind of cell is in a group
-pub record IsReadIn (p : Plan) (cube : ℕ) (statement : Statement) (kind : Bool) (read : Precedent) : Type 0 where
-  pub source : Source
-  pub member : IsMember p source
-  pub own : source.cube ≡ cube
-  pub area : source.area.now ≡ statement.area
-  pub same_kind : source.kind ≡ kind
-  pub same_read : precedent source ≡ read
 
 -- the sources, single ones and those of groups, are what the statements of the model read at the same lag; and each
 -- single one and each group is looked at for the elements that its area has in the last dimension
@@ -44,7 +27,7 @@ pub record IsPlanOfAll (p : Plan) : Type 0 where
       → Contains (rules_of p.model cube).statements statement → Reads p.model cube statement kind read
       → IsTrue (is_level p.model cube statement.area kind read)
       → is_lagged p.model cube statement.area kind read ≡ false
-      → IsReadBy p.sources cube statement kind read ⊎ IsReadIn p cube statement kind read
+      → IsReadBy p.sources cube statement kind read ⊎ IsReadIn p.model p.heads p.groups cube statement kind read
   pub looked_at : (k : ℕ) (s : Source) (place : Place) → slice_get p.sources k ≡ Some s
       → IsPlace p.model.space place → place.cube ≡ s.cube
       → IsTrue (in_set (slice_index_or s.area.now.sets (last_of p.model.space s.cube) None) place.element)

@@ -201,7 +201,7 @@ pub record IsPlan (p : Plan) : Type 0 where
   pub numbering : IsNumbering p.model.space p.numbering
   pub sources : All (IsSource p.model) p.sources
   pub heads : All (IsSource p.model) p.heads
-  pub members : (g : ℕ) → All (IsSource p.model) (members p g)
+  pub grouped : (g : ℕ) → All (IsSource p.model) (members p g)
   pub of_cubes : (cube k : ℕ) → Contains (slice_index_or p.of_cubes cube []) k → IsSourceOf p.sources cube k
   pub of_nodes : (n k : ℕ) (place : Place) → slice_get p.numbering.places.items n ≡ Some place
       → Contains (slice_index_or p.of_nodes n []) k → IsSourceOf p.sources place.cube k

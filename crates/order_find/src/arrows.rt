@@ -4,9 +4,9 @@ ghost use Rattle.cube_space.specs.Layout.{axes, sizes};
 ghost use Rattle.cover_laws.specs.Looking.{sent};
 ghost use Rattle.order_find.specs.Numbers.{IsPlace, count_of, width};
 ghost use Rattle.read_sources.specs.Ways.{IsSource, cube_read, way_of, serves_any};
-ghost use Rattle.order_find.specs.Slots.{node_count, arrow_to, arrow_by, read_arrow, source_arrow, group_by, group_arrow};
-ghost use Rattle.order_find.specs.Slots.{reached_from, reached_by, part_arrow, parts_of, own_slots, group_slots, slots_of};
-ghost use Rattle.order_find.specs.Slots.{member_arrow, members, vertex_at, IsVertex};
+ghost use Rattle.order_find.specs.Slots.{node_count, arrow_to, arrow_by, read_arrow, source_arrow, group_by};
+ghost use Rattle.order_find.specs.Slots.{group_arrow, reached_from, reached_by, part_arrow, parts_of, own_slots};
+ghost use Rattle.order_find.specs.Slots.{group_slots, slots_of, member_arrow, members, vertex_at, IsVertex};
 ghost use Rattle.order_find.specs.declared.slots.Vertex.TheVariants.{Element, Components, Reached, Shared};
 
 use crate::graph::NodeGraph;
@@ -274,8 +274,8 @@ fn shared_arrow(graph: &NodeGraph, group: u32, slot: usize) -> Option<Arrow>
     ensures within { IfSome result (λ arrow. arrow.to < node_count graph.now) }
 {
     let _model = graph.model();
-    match graph.members(group).get(slot) {
-        Some(source) => member_arrow(graph, *source),
+    match graph.member(group, slot) {
+        Some(source) => member_arrow(graph, source),
         None => None,
     }
 }
@@ -411,7 +411,7 @@ pub fn slots_in(graph: &NodeGraph, node: u32, vertex: Vertex) -> u32
         Vertex::Reached(source, _) => reached_count(graph, source) as u32,
         Vertex::Shared(group) => {
             let _model = graph.model();
-            graph.members(group).len() as u32
+            graph.member_count(group) as u32
         }
     }
 }

@@ -123,8 +123,8 @@ fn member_maker(graph: &NodeGraph, step: Step) -> LinkBy
     ensures { result ≡ member_maker graph.now step }
 {
     let group = step.node.saturating_sub(graph.hubs_from());
-    match graph.members(group).get(step.slot as usize) {
-        Some(source) => reference_of(*source),
+    match graph.member(group, step.slot as usize) {
+        Some(source) => reference_of(source),
         None => LinkBy::Below,
     }
 }

@@ -190,13 +190,23 @@ impl<'a> NodeGraph<'a> {
         self.heads.get(group as usize).copied()
     }
 
-    /// All sources of a group.
-    pub(crate) fn members(&self, group: u32) -> &[Source<'a>]
-        ensures { result.now ≡ members self.now group }
+    /// How many sources a group has.
+    pub(crate) fn member_count(&self, group: u32) -> usize
+        ensures { result ≡ length (members self.now group) }
     {
         match self.groups.get(group as usize) {
-            Some(group) => group.sources(),
-            None => &[],
+            Some(group) => group.sources().len(),
+            None => 0,
+        }
+    }
+
+    /// A source of a group, by its place there.
+    pub(crate) fn member(&self, group: u32, slot: usize) -> Option<Source<'a>>
+        ensures { result ≡ slice_get (members self.now group) slot }
+    {
+        match self.groups.get(group as usize) {
+            Some(group) => group.sources().get(slot).copied(),
+            None => None,
         }
     }
 

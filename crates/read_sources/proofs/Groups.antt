@@ -68,7 +68,8 @@ abbrev Tells : ℕ → ℕ → Type 0
 Tells g i = ((eqb g i ≡ true) × (g ≡ i)) ⊎ ((eqb g i ≡ false) × (g ≡ i → ⊥))
 
 module _ (m : BoundModel) (s : Source) (old new : Parted) (read : IsRead m s) where
-  kept-member : (t : Source) → length old.heads.items ≤ length new.heads.items → ((g : ℕ) → Contains (members_in old g) t → Contains (members_in new g) t) → IsMember m old t → IsMember m new t
+  kept-member : (t : Source) → length old.heads.items ≤ length new.heads.items → ((g : ℕ) → Contains (members_in old g) t → Contains (members_in new g) t) → IsMember m old.heads.items old.groups.items t
+      → IsMember m new.heads.items new.groups.items t
   kept-member t heads has member = record { group = member.group; low = omega (arith, member.low, heads); has = has member.group member.has; shared = member.shared }
 
   pub put-single : new.singles.items ≡ old.singles.items ++ s ∷ [] → new.heads.items ≡ old.heads.items → new.groups.items ≡ old.groups.items → IsPut m s old new

@@ -1,6 +1,6 @@
 -- What is read at the same lag, parted into single sources and groups.
-use Rattle.std.specs.Prelude.{◌≡◌, ℕ, suc, ◌<◌, ◌≤◌, ◌⊎◌, ⊤, Bool, false, Option, Some, None, List, [], length, Contains}
-use Rattle.std.specs.Prelude.{IsTrue, slice_get, slice_index_or}
+use Rattle.std.specs.Prelude.{◌≡◌, ℕ, suc, ◌<◌, ◌≤◌, ◌⊎◌, ⊤, Bool, false, Option, Some, None, IsTrue}
+use Rattle.std.specs.Prelude.{List, [], length, Contains, slice_get, slice_index_or}
 use Rattle.rule_laws.specs.declared.reference.Arg.{Arg}
 use Rattle.rule_laws.specs.declared.reference.Arg.TheVariants.{Fixed, Moved}
 use Rattle.rule_laws.specs.Meaning.{Precedent}
@@ -49,15 +49,16 @@ IsShared (SentOver i to) = ⊥
 abbrev pub members_in : Parted → ℕ → List Source
 members_in parted g = slice_index_or parted.groups.items g []
 
--- a source is a single one, or in a group
-pub record IsMember (m : BoundModel) (parted : Parted) (s : Source) : Type 0 where
+-- a source of a group, which always reads the node of one element
+pub record IsMember (m : BoundModel) (heads : List Source) (groups : List (List Source)) (s : Source) : Type 0 where
   pub group : ℕ
-  pub low : group < length parted.heads.items
-  pub has : Contains (members_in parted group) s
+  pub low : group < length heads
+  pub has : Contains (slice_index_or groups group []) s
   pub shared : IsShared (way_of m s)
 
+-- a source is a single one, or in a group
 abbrev pub IsPlaced : BoundModel → Parted → Source → Type 0
-IsPlaced m parted s = Contains parted.singles.items s ⊎ IsMember m parted s
+IsPlaced m parted s = Contains parted.singles.items s ⊎ IsMember m parted.heads.items parted.groups.items s
 
 -- all are read, and those of a group are like its head; there are at most so many
 pub record AreParts (m : BoundModel) (count : ℕ) (parted : Parted) : Type 0 where
@@ -84,10 +85,10 @@ pub record IsPut (m : BoundModel) (s : Source) (old new : Parted) : Type 0 where
   pub placed : IsPlaced m new s
 
 -- what a statement of a cube reads for this kind of cell is in a group
-pub record IsReadIn (m : BoundModel) (parted : Parted) (cube : ℕ) (statement : Statement) (kind : Bool)
-    (read : Precedent) : Type 0 where
+pub record IsReadIn (m : BoundModel) (heads : List Source) (groups : List (List Source)) (cube : ℕ)
+    (statement : Statement) (kind : Bool) (read : Precedent) : Type 0 where
   pub source : Source
-  pub member : IsMember m parted source
+  pub member : IsMember m heads groups source
   pub own : source.cube ≡ cube
   pub area : source.area.now ≡ statement.area
   pub same_kind : source.kind ≡ kind
@@ -99,4 +100,5 @@ pub record ArePartsOfAll (m : BoundModel) (parted : Parted) : Type 0 where
   pub all : (cube : ℕ) (statement : Statement) (kind : Bool) (read : Precedent) → cube < length m.space.cubes
       → Contains (rules_of m cube).statements statement → Reads m cube statement kind read
       → IsTrue (is_level m cube statement.area kind read) → is_lagged m cube statement.area kind read ≡ false
-      → IsReadBy parted.singles.items cube statement kind read ⊎ IsReadIn m parted cube statement kind read
+      → IsReadBy parted.singles.items cube statement kind read
+      ⊎ IsReadIn m parted.heads.items parted.groups.items cube statement kind read

@@ -1,4 +1,5 @@
-ghost use Rattle.std.specs.Prelude.{◌≡◌, ◌<◌, ◌≤◌, [], ◌∷◌, ◌++◌, All, IfOk, OnOk, IsTrue, length, slice_get, slice_index_or, slice_set};
+ghost use Rattle.std.specs.Prelude.{◌≡◌, ◌<◌, ◌≤◌, [], ◌∷◌, ◌++◌, All, IfOk, OnOk, IsTrue, length, slice_get};
+ghost use Rattle.std.specs.Prelude.{slice_index_or, slice_set};
 ghost use Rattle.read_sources.specs.Ways.{IsSource, way_of};
 ghost use Rattle.read_sources.specs.Sources.{IsRead, AreSourcesOf, most_sources};
 ghost use Rattle.read_sources.specs.Parts.{IsShared, IsOfGroup, IsPut, ArePartsOfAll};

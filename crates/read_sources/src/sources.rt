@@ -5,8 +5,8 @@ ghost use Rattle.ref_order.specs.Reads.{precedent_of};
 ghost use Rattle.arrow_laws.specs.Arrows.{IsLevelThroughout};
 ghost use Rattle.read_sources.specs.declared.fault.ReadFault.TheVariants.{Memory};
 ghost use Rattle.read_sources.specs.Sources.{AreSourcesOf, most_sources};
-ghost use Rattle.read_sources.specs.Gathering.{reads_for, before_by, earliest, IsStatementAt, IsPart, AreGathered, Stay};
-ghost use Rattle.read_sources.specs.Gathering.{IsStatementTaken, IsCubeTaken, IsTakenIf, IsPartDone};
+ghost use Rattle.read_sources.specs.Gathering.{reads_for, before_by, earliest, IsStatementAt, IsPart, AreGathered};
+ghost use Rattle.read_sources.specs.Gathering.{Stay, IsStatementTaken, IsCubeTaken, IsTakenIf, IsPartDone};
 ghost use Rattle.read_sources.specs.Gathering.{IsStatementFault, IsCubeFault, IsUnlaggedFault};
 
 use crate::fault::ReadFault;
