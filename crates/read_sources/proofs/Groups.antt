@@ -1,5 +1,5 @@
 -- Sources, parted into single ones and groups.
-use Rattle.std.proofs.Common.{◌≡◌, refl, sym, ap, ◌∙◌, arith, subst, ℕ, zero, suc, ◌+◌, ◌<◌, ◌≤◌, ◌⊎◌, inl, inr, Bool, true, false, Some, List, [], ◌∷◌, ◌++◌, length, set, get_or, eqb, Contains}
+use Rattle.std.proofs.Common.{◌≡◌, refl, sym, ap, ◌∙◌, arith, subst, ℕ, zero, suc, ◌+◌, ◌<◌, ◌≤◌, ◌⊎◌, inl, inr, true, false, Some, List, [], ◌∷◌, ◌++◌, length, set, eqb, Contains}
 use Rattle.std.specs.Prelude.{slice_get, slice_index_or}
 use Rattle.std.proofs.lemmas.Bool.{cases_lt}
 use Rattle.std.proofs.lemmas.Bool.Decides.{eqb_tells}
@@ -11,10 +11,10 @@ use Rattle.rule_model.specs.BoundModel.{BoundModel}
 use Rattle.read_sources.specs.declared.source.Source.{Source}
 use Rattle.read_sources.specs.declared.parting.Parted.{Parted}
 use Rattle.read_sources.specs.Ways.{way_of}
-use Rattle.read_sources.specs.Sources.{IsRead, IsReadBy, AreSourcesOf, most_sources}
+use Rattle.read_sources.specs.Sources.{IsRead, AreSourcesOf, most_sources}
 use Rattle.read_sources.specs.Parts.{IsAlike, IsShared, IsMember, IsPlaced, AreParts, IsOfGroup, IsPut, ArePartsOfAll, members_in}
 use Rattle.read_sources.proofs.Lists.{at-of}
-use Rattle.read_sources.proofs.Placed.{get-either, get-first}
+use Rattle.read_sources.proofs.Placed.{get-either}
 
 -- ---- lists
 

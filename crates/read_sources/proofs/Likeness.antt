@@ -1,5 +1,5 @@
 -- Sources that read from the same elements.
-use Rattle.std.proofs.Common.{◌≡◌, refl, sym, ap, ◌∙◌, arith, subst, ℕ, zero, suc, ◌+◌, ◌<◌, inl, inr, Bool, true, not, ◌&&◌, ◌||◌, ◌==◌, Option, Some, None, is_some, nat_lt, List, [], ◌∷◌, length, get_or}
+use Rattle.std.proofs.Common.{◌≡◌, refl, sym, ap, ◌∙◌, arith, ℕ, suc, ◌+◌, ◌<◌, inl, inr, Bool, not, ◌&&◌, ◌||◌, ◌==◌, Option, Some, None, is_some, nat_lt, List, [], ◌∷◌, length}
 use Rattle.std.specs.Prelude.{slice_get, slice_index_or}
 use Rattle.std.specs.List.{list_all}
 use Rattle.std.proofs.lemmas.Bool.{cases_lt}
@@ -16,7 +16,7 @@ use Rattle.rule_model.specs.BoundModel.{BoundModel, rules_of}
 use Rattle.order_laws.specs.Earlier.{is_total}
 use Rattle.cover_laws.specs.Looking.{sent}
 use Rattle.arrow_laws.specs.Nodes.{last_of}
-use Rattle.arrow_laws.specs.ByDimension.{names_from, serves, has_element, is_from}
+use Rattle.arrow_laws.specs.ByDimension.{names_from, serves, is_from}
 use Rattle.read_sources.specs.declared.source.Source.{Source}
 use Rattle.read_sources.specs.Ways.{precedent, reads_from, serves_any}
 use Rattle.read_sources.specs.Sources.{IsRead}

@@ -6,10 +6,10 @@ ghost use Rattle.read_sources.specs.Ways.{IsSource, way_of};
 ghost use Rattle.read_sources.specs.Sources.{IsRead};
 ghost use Rattle.read_sources.specs.Parts.{followed, IsAlike, IsShared, AreArgsAlike, AreSetsSame};
 
+use crate::follows::Way;
 use crate::reading::set_of;
 use crate::source::Source;
 use crate::tables::last_of;
-use crate::follows::Way;
 use crate::ways::way;
 use ref_order::Read;
 use rule_laws::Arg;

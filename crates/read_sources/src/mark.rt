@@ -22,7 +22,10 @@ pub fn mark_of(model: &Model, source: Source) -> usize
     let whole = set_of(model, source, last_of(model, source.cube)).is_none();
     let statement = if whole { 0 } else { source.statement };
     let kind = u32::from(source.kind) * 2 + u32::from(source.elsewhere);
-    let mark = mix(mix(mix(source.cube, statement), kind), mark_of_read(source.read));
+    let mark = mix(
+        mix(mix(source.cube, statement), kind),
+        mark_of_read(source.read),
+    );
     (mark >> 16) as usize % MARKS
 }
 

@@ -8,9 +8,9 @@ ghost use Rattle.read_sources.specs.Sources.{found_in};
 ghost use Rattle.read_sources.specs.Ways.{IsSource, way_of, reads_from};
 ghost use Rattle.read_sources.specs.Gathering.{reads_for, IsPart, IsSeen};
 
+use crate::follows::Way;
 use crate::source::Source;
 use crate::tables::last_of;
-use crate::follows::Way;
 use crate::ways::way;
 use ref_order::{
     AreaCells, Known, MAX_POSITIONS, Read, axis_count, has_total, is_below, is_within, most_excess,

@@ -151,11 +151,7 @@ fn add_member<'a>(
 }
 
 // Begins a group with a source, and gives its number.
-fn begin<'a>(
-    alloc: Global,
-    source: Source<'a>,
-    parted: &mut Parted<'a>,
-) -> Result<u32, AllocError>
+fn begin<'a>(alloc: Global, source: Source<'a>, parted: &mut Parted<'a>) -> Result<u32, AllocError>
     requires { length parted.old.heads.items ≤ most_sources }
     ensures singles { OnOk result (parted.new.singles.items ≡ parted.old.singles.items) }
     ensures heads { OnOk result (parted.new.heads.items ≡ parted.old.heads.items ++ source.entry ∷ []) }

@@ -6,9 +6,9 @@ ghost use Rattle.arrow_laws.specs.Nodes.{last_of};
 ghost use Rattle.read_sources.specs.Ways.{width};
 ghost use Rattle.read_sources.specs.Ways.{IsSource, Names, IsIn, follows_by, follows_of, way_of, cube_read};
 
+use crate::follows::Way;
 use crate::source::Source;
 use crate::tables::last_of;
-use crate::follows::Way;
 use ref_order::Read;
 use rule_laws::{Arg, Reference};
 use rule_model::Model;

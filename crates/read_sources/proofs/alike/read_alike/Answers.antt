@@ -1,4 +1,4 @@
-use Rattle.std.proofs.Common.{◌≡◌, ◌∙◌, sym, ap}
+use Rattle.std.proofs.Common.{◌∙◌, sym, ap}
 use Rattle.std.specs.List.{list_all}
 use Rattle.arrow_laws.specs.ByDimension.{names_from, serves}
 use Rattle.ref_order.specs.declared.reads.Read.{Read}
