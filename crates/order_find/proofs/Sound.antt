@@ -17,7 +17,7 @@ use Rattle.read_sources.specs.declared.source.Source.{Source}
 use Rattle.order_find.specs.Numbers.{width, number_of}
 use Rattle.read_sources.specs.Ways.{Follows, Same, Component, Always, Sent, SentOver, IsSource, precedent, way_of, reads_from, is_consolidated, serves_any, cube_read}
 use Rattle.order_find.specs.Slots.{Plan, IsPlan, parts_from, all_from, totals_from, arrow_to, parts_of, part_arrow, arrow_by, reached_from, reached_by, member_by, slots_at}
-use Rattle.read_sources.specs.Sources.{IsRead, found_in}
+use Rattle.read_sources.specs.Sources.{IsRead, found_in, read_for}
 use Rattle.order_find.proofs.Decided.{IsReadByDimension, dimension-read}
 use Rattle.order_find.proofs.Through.{node, link_from, IsArrowOf, IsVia}
 use Rattle.read_sources.proofs.Lists.{map-has, held-has}
@@ -27,7 +27,7 @@ use Rattle.read_sources.proofs.Within.{names-within, reads-cube}
 use Rattle.order_find.proofs.Vertices.{slots-parts, slots-all, slots-totals}
 use Rattle.order_find.proofs.Suiting.{suits-of, part-is, given-where, not-not}
 use Rattle.order_find.specs.declared.link.LinkBy.{LinkBy}
-use Rattle.order_find.specs.Circles.{IsBy, read_for}
+use Rattle.order_find.specs.Circles.{IsBy}
 use Rattle.ref_order.specs.Counted.{counted_of}
 use Rattle.rule_model.specs.declared.rules.Statement.{Statement}
 use Rattle.order_find.specs.Links.{reference_of}

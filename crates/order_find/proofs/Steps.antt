@@ -31,7 +31,7 @@ use Rattle.order_find.specs.declared.link.LinkBy.{LinkBy}
 use Rattle.order_find.specs.declared.link.LinkBy.TheVariants.{Below}
 use Rattle.order_find.specs.Links.{reference_of, maker, makers_of, made_by, member_maker}
 use Rattle.read_sources.proofs.Placed.{get-mapped, mapped-at}
-use Rattle.order_find.proofs.Through.{node, IsArrowOf, IsVia}
+use Rattle.order_find.proofs.Through.{node, IsArrowOf, IsVia, Made}
 use Rattle.read_sources.proofs.Lists.{range-has, has-at, has-held, held-has, map-has, in-first, at-past, zip-map, zip-append, zip-at}
 use Rattle.read_sources.specs.Ways.{Names}
 use Rattle.read_sources.proofs.Within.{names-within, reads-cube}
@@ -77,8 +77,7 @@ zip-long R (x ∷ xs) (y ∷ ys) zip = let rest = zip-long R xs ys zip.1 in omeg
 
 module _ (p : Plan) (all : IsPlanOfAll p) (n : ℕ) (place : Place) (at : slice_get p.numbering.places.items n ≡ Some place) where
   abbrev Step : Option LinkBy → Arrow → Type 0
-  Step None arrow = IsVia p place None arrow
-  Step (Some by) arrow = IsArrowOf p place by arrow ⊎ IsVia p place (Some by) arrow
+  Step by arrow = Made p place by arrow
 
   -- where the slot holds an arrow, it is such a one
   abbrev Slot : Option Arrow → Option LinkBy → Type 0

@@ -39,6 +39,11 @@ pub record IsVia (p : Plan) (place : Place) (by : Option LinkBy) (arrow : Arrow)
   pub each : (slot : ℕ) (next : Arrow) → slot < length (slots_at p arrow.to) → unwrap_or (slice_get (slots_at p arrow.to) slot) None ≡ Some next
       → IsArrowOf p place (made_on p by (Some (record { node = arrow.to; slot = slot }))) next
 
+-- what an arrow of the node of an element is, by what makes it: one of the model, or one through another node
+abbrev pub Made : Plan → Place → Option LinkBy → Arrow → Type 0
+Made p place None arrow = IsVia p place None arrow
+Made p place (Some by) arrow = IsArrowOf p place by arrow ⊎ IsVia p place (Some by) arrow
+
 -- one of the node's slots holds such an arrow
 abbrev pub Goes : Plan → ℕ → ℕ → Bool → Type 0
 Goes p n to strict = Contains (slots_at p n) (Some (record { to = to; strict = strict }))

@@ -17,7 +17,7 @@ use Rattle.order_find.specs.Slots.{Plan, parts_from, slots_at, arrows_of}
 use Rattle.order_find.specs.PlanOfAll.{IsPlanOfAll}
 use Rattle.order_find.specs.Circles.{IsWalk, IsCircle}
 use Rattle.order_find.specs.Links.{made_by, made_on, link_of, links_at, links_of, begun_of}
-use Rattle.order_find.proofs.Through.{node, link_from, IsArrowOf, IsVia}
+use Rattle.order_find.proofs.Through.{node, link_from, IsArrowOf, IsVia, Made}
 use Rattle.order_find.proofs.Steps.{slot-step, LeadsBack, behind-back}
 use Rattle.order_find.proofs.Fitting.{slot-has, slot-at}
 
@@ -125,11 +125,7 @@ module _ (p : Plan) (all : IsPlanOfAll p) where
           which (inl own) = let on_it = strict-here graph step arrow is own in let off = via.weak in absurd (cc)
           which (inr later) = later
 
-      abbrev Made : Option LinkBy → Arrow → Type 0
-      Made None arrow = IsVia p from None arrow
-      Made (Some by) arrow = IsArrowOf p from by arrow ⊎ IsVia p from (Some by) arrow
-
-      by-step : (arrow : Arrow) → IsArrow graph step.node step.slot arrow → IsTrail graph steps arrow.to t → (by : Option LinkBy) → Made by arrow
+      by-step : (arrow : Arrow) → IsArrow graph step.node step.slot arrow → IsTrail graph steps arrow.to t → (by : Option LinkBy) → Made p from by arrow
           → Leads p.model (link_from from (made_on p by (slice_get steps 0)) ∷ links_of p steps) from to (HasStrict graph (step ∷ steps))
       by-step arrow is rest None via = over None arrow is rest via
       by-step arrow is rest (Some by) (inl a) = direct by arrow is rest a

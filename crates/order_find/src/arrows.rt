@@ -1,12 +1,12 @@
 ghost use Rattle.std.specs.Prelude.{◌≡◌, ℕ, ◌<◌, ◌^◌, Bool, IfSome, None, Some, option_map, unwrap_or, map, not};
-ghost use Rattle.std.specs.Prelude.{length, slice_get, slice_index_or};
+ghost use Rattle.std.specs.Prelude.{All, length, slice_get, slice_index_or};
 ghost use Rattle.cube_space.specs.Layout.{axes, sizes};
 ghost use Rattle.cover_laws.specs.Looking.{sent};
 ghost use Rattle.order_find.specs.Numbers.{IsPlace, count_of, width};
 ghost use Rattle.read_sources.specs.Ways.{IsSource, cube_read, way_of, serves_any};
 ghost use Rattle.order_find.specs.Slots.{node_count, arrow_to, arrow_by, read_arrow, source_arrow, group_by};
-ghost use Rattle.order_find.specs.Slots.{group_arrow, reached_from, reached_by, part_arrow, parts_of, own_slots};
-ghost use Rattle.order_find.specs.Slots.{group_slots, slots_of, member_arrow, members, vertex_at, IsVertex};
+ghost use Rattle.order_find.specs.Slots.{group_arrow, leaf_arrow, reached_from, reached_by, part_arrow, parts_of};
+ghost use Rattle.order_find.specs.Slots.{own_slots, group_slots, slots_of, member_arrow, members, vertex_at, IsVertex};
 ghost use Rattle.order_find.specs.declared.slots.Vertex.TheVariants.{Element, Components, Reached, Shared};
 
 use crate::graph::NodeGraph;
@@ -233,6 +233,23 @@ fn element_arrow(graph: &NodeGraph, node: u32, place: Place, slot: usize) -> Opt
     }
 }
 
+// The arrow to the leaf at a place of a list of them.
+fn row_leaf(graph: &NodeGraph, place: Place, row: &[(u32, i64)], slot: usize) -> Option<Arrow>
+    requires cube { place.cube < length graph.now.model.space.cubes }
+    requires within { All (λ pair. pair.0 < width graph.now.model.space place.cube) row.now }
+    ensures arrow { result ≡ unwrap_or (slice_get (map (leaf_arrow graph.now place.cube) row.now) slot) None }
+    ensures within { IfSome result (λ arrow. arrow.to < node_count graph.now) }
+{
+    if slot < row.len() {
+        let leaf = row[slot];
+        return Some(Arrow {
+            to: graph.number(place.cube, leaf.0),
+            strict: false,
+        });
+    }
+    None
+}
+
 // The arrow in a slot of the node of an element, to a leaf or by a single source.
 fn own_arrow(graph: &NodeGraph, node: u32, place: Place, slot: usize) -> Option<Arrow>
     requires node { node < count_of graph.now.numbering }
@@ -243,10 +260,7 @@ fn own_arrow(graph: &NodeGraph, node: u32, place: Place, slot: usize) -> Option<
     let leaves = leaves_below(graph.model(), place);
     let whole = graph.of_cube(place.cube);
     if slot < leaves.len() {
-        return Some(Arrow {
-            to: graph.number(place.cube, leaves[slot].0),
-            strict: false,
-        });
+        return row_leaf(graph, place, leaves, slot);
     }
     let slot = slot - leaves.len();
     if slot < whole.len() {

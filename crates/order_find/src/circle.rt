@@ -1,4 +1,5 @@
-ghost use Rattle.std.specs.Prelude.{◌≡◌, ℕ, ◌<◌, ◌++◌, List, IfOk, OnOk, Some, None, length, unwrap_or, slice_get, map};
+ghost use Rattle.std.specs.Prelude.{◌≡◌, ℕ, ◌+◌, ◌<◌, ◌++◌, List, IfOk, OnOk, Some, None, length, unwrap_or};
+ghost use Rattle.std.specs.Prelude.{slice_get, map};
 ghost use Rattle.std.specs.List.{IsFirstBest};
 ghost use Rattle.least_ranks.specs.Graph.{IsClosedWalk};
 ghost use Rattle.rule_model.specs.BoundModel.{BoundModel};
@@ -67,9 +68,17 @@ fn links(alloc: Global, graph: &NodeGraph, steps: &[Step]) -> Result<Vec<Link>, 
 {
     let mut links = Vec::new(alloc);
     'each: for k in 0..steps.len() {
-        add_link(graph, steps[k], steps.get(k + 1).copied(), &mut links)?;
+        add_link(graph, steps[k], step_after(steps, k), &mut links)?;
     }
     Ok(links)
+}
+
+// The step after one of these.
+fn step_after(steps: &[Step], k: usize) -> Option<Step>
+    requires { k < length steps.now }
+    ensures { result ≡ slice_get steps.now (k + 1) }
+{
+    steps.get(k + 1).copied()
 }
 
 // Adds the link of a step, if it is from the node of an element.

@@ -6,8 +6,8 @@ use Rattle.order_find.proofs.circle.links.Goals as goal
 
 pub each-preserved : goal.each-preserved
 each-preserved c =
-    links-more c.args.graph.now c.args.steps.now c.each.k c.index-steps-k.result c.each.links.items c.add_link.new.links.items c.copied.result c.each-test.true c.index-steps-k.is
-    c.copied.ensures c.in_ok-add_link.ensures c.each.invariant
+    links-more c.args.graph.now c.args.steps.now c.each.k c.add_link-arg-1.result c.each.links.items c.add_link.new.links.items c.step_after.result c.each-test.true c.add_link-arg-1.is
+    c.step_after.ensures c.in_ok-add_link.ensures c.each.invariant
 
 pub returns : goal.returns
 returns c = links-done c.args.graph.now c.args.steps.now c.each.k c.each.links.items c.each-test.false c.each.invariant
