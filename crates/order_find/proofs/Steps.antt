@@ -130,7 +130,7 @@ module _ (p : Plan) (all : IsPlanOfAll p) (n : ℕ) (place : Place) (at : slice_
   leaf-steps : AllZip Slot (map (leaf_arrow p place.cube) (leaves_below p.model.space place)) (map (λ pair. Some Below) (leaves_below p.model.space place))
   leaf-steps = zip-map Slot (leaf_arrow p place.cube) (λ pair. Some Below) (leaves_below p.model.space place) leaf-step
 
-  makers : List ℕ → List (Option LinkBy)
+  abbrev makers : List ℕ → List (Option LinkBy)
   makers row = map (λ k. Some (maker p k)) row
 
   own-steps : AllZip Slot (own_slots p n place) (makers_of p n place)

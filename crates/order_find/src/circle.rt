@@ -1,5 +1,5 @@
 ghost use Rattle.std.specs.Prelude.{◌≡◌, ℕ, ◌+◌, ◌<◌, ◌++◌, List, IfOk, OnOk, Some, None, length, unwrap_or};
-ghost use Rattle.std.specs.Prelude.{slice_get, map};
+ghost use Rattle.std.specs.Prelude.{slice_get, slice_index_or, map};
 ghost use Rattle.std.specs.List.{IsFirstBest};
 ghost use Rattle.least_ranks.specs.Graph.{IsClosedWalk};
 ghost use Rattle.rule_model.specs.BoundModel.{BoundModel};
@@ -68,12 +68,20 @@ fn links(alloc: Global, graph: &NodeGraph, steps: &[Step]) -> Result<Vec<Link>, 
 {
     let mut links = Vec::new(alloc);
     'each: for k in 0..steps.len() {
-        add_link(graph, steps[k], step_after(steps, k), &mut links)?;
+        add_link(graph, step_at(steps, k), step_after(steps, k), &mut links)?;
     }
     Ok(links)
 }
 
-// The step after one of these.
+// One of these steps.
+fn step_at(steps: &[Step], k: usize) -> Step
+    requires { k < length steps.now }
+    ensures { result ≡ slice_index_or steps.now k result }
+{
+    steps[k]
+}
+
+// The step after that.
 fn step_after(steps: &[Step], k: usize) -> Option<Step>
     requires { k < length steps.now }
     ensures { result ≡ slice_get steps.now (k + 1) }

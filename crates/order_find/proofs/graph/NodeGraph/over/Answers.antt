@@ -47,9 +47,9 @@ filed m numbering filing these sources same is = subst (λ (xs : List Source). A
 pub invariant_of-result : goal.invariant_of-result
 invariant_of-result c =
     plan-is c.args.model.now c.in_ok-numbering.numbering c.in_ok-parted.parted c.in_ok-filing.filing c.in_ok-grouped.grouped c.space-space.ensures.valid c.space-space.ensures.rules
-    c.in_ok-numbering.ensures.numbering c.in_ok-numbering.ensures.few c.in_ok-parted.ensures (filed _ _ _ _ _ c.deref-2.ensures.value c.in_ok-filing.ensures) (filed _ _ _ _ _ c.deref-3.ensures.value c.in_ok-grouped.ensures)
+    c.in_ok-numbering.ensures.numbering c.in_ok-numbering.ensures.few c.in_ok-parted.ensures (filed c.args.model.now c.in_ok-numbering.numbering c.in_ok-filing.filing c.deref-2.result.now c.in_ok-parted.parted.singles.items c.deref-2.ensures.value c.in_ok-filing.ensures) (filed c.args.model.now c.in_ok-numbering.numbering c.in_ok-grouped.grouped c.deref-3.result.now c.in_ok-parted.parted.heads.items c.deref-3.ensures.value c.in_ok-grouped.ensures)
 
 pub returns-clause-plan : goal.returns-clause-plan
 returns-clause-plan c =
     plan-of-all c.args.model.now c.in_ok-numbering.numbering c.in_ok-parted.parted c.in_ok-filing.filing c.in_ok-grouped.grouped c.space-space.ensures.valid c.space-space.ensures.rules
-    c.in_ok-numbering.ensures.numbering c.in_ok-numbering.ensures.few c.in_ok-parted.ensures (filed _ _ _ _ _ c.deref-2.ensures.value c.in_ok-filing.ensures) (filed _ _ _ _ _ c.deref-3.ensures.value c.in_ok-grouped.ensures)
+    c.in_ok-numbering.ensures.numbering c.in_ok-numbering.ensures.few c.in_ok-parted.ensures (filed c.args.model.now c.in_ok-numbering.numbering c.in_ok-filing.filing c.deref-2.result.now c.in_ok-parted.parted.singles.items c.deref-2.ensures.value c.in_ok-filing.ensures) (filed c.args.model.now c.in_ok-numbering.numbering c.in_ok-grouped.grouped c.deref-3.result.now c.in_ok-parted.parted.heads.items c.deref-3.ensures.value c.in_ok-grouped.ensures)
