@@ -125,9 +125,13 @@ module _ (p : Plan) (all : IsPlanOfAll p) (from to : Node) (strict : Bool) where
         from_is = ap (λ c. record { cube = c; element = from.element }) (sym j.source);
         to_is = ap (λ c. record { cube = c; element = to.element }) (sym j.target);
         goes_there = subst (λ b. GoesThrough p n (number_of p.numbering target.cube target.element) b) strict_is
-            (inr (v, omega (arith, rb.member.low), to-group s g place within refl rb.member.low rb.member.has j.own goes.serves,
-            subst (λ xs. Contains xs (Some (arrow_to p (cube_read s) (not s.weak) to.element))) (sym (slots-shared p v g refl rb.member.low))
-            (subst (Contains (map (member_arrow p) (members p g))) goes.made (has-map (member_arrow p) (members p g) s rb.member.has))));
+            (inr (
+              v,
+              omega (arith, rb.member.low),
+              to-group s g place within refl rb.member.low rb.member.has j.own goes.serves,
+              subst (λ xs. Contains xs (Some (arrow_to p (cube_read s) (not s.weak) to.element))) (sym (slots-shared p v g refl rb.member.low))
+                  (subst (Contains (map (member_arrow p) (members p g))) goes.made (has-map (member_arrow p) (members p g) s rb.member.has)),
+            ));
       }
     where
       to-group : (s : Source) (g : ℕ) (place : Place) → IsPlace p.model.space place → place.cube ≡ s.cube → g < length p.heads → Contains (members p g) s → reads_from p.model s (last_of p.model.space s.cube) place.element ≡ true

@@ -14,7 +14,9 @@ use crate::numbering::Place;
 use crate::slots::Vertex;
 use crate::tables::{leaves_below, parts_of};
 use least_ranks::Arrow;
-use read_sources::{Source, Way, cube_read, is_nonzero, is_total, last_of, reads_from, serves_any, set_of, way};
+use read_sources::{
+    Source, Way, cube_read, is_nonzero, is_total, last_of, reads_from, serves_any, set_of, way,
+};
 use ref_order::{axis, count, element_at};
 use rule_laws::ElementMap;
 
