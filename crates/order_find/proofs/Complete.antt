@@ -17,16 +17,17 @@ use Rattle.least_ranks.specs.declared.arrow.Arrow.{Arrow}
 use Rattle.arrow_laws.specs.Nodes.{last_of}
 use Rattle.arrow_laws.specs.ByDimension.{is_from, has_element, serves}
 use Rattle.order_find.specs.declared.numbering.Place.{Place}
-use Rattle.order_find.specs.declared.source.Source.{Source}
+use Rattle.read_sources.specs.declared.source.Source.{Source}
 use Rattle.order_find.specs.Numbers.{width, number_of}
-use Rattle.order_find.specs.Ways.{Follows, Same, Component, Always, Sent, SentOver, IsSource, precedent, way_of, reads_from, is_consolidated, serves_any, cube_read}
-use Rattle.order_find.specs.Slots.{Plan, IsPlan, parts_from, all_from, totals_from, arrow_to, parts_of, part_arrow, arrow_by, reached_from, reached_by, slots_at}
-use Rattle.order_find.specs.Sources.{IsRead, found_in}
+use Rattle.read_sources.specs.Ways.{Follows, Same, Component, Always, Sent, SentOver, IsSource, precedent, way_of, reads_from, is_consolidated, serves_any, cube_read}
+use Rattle.order_find.specs.Slots.{Plan, IsPlan, parts_from, all_from, totals_from, arrow_to, parts_of, part_arrow, arrow_by, reached_from, reached_by, member_by, member_arrow, slots_at}
+use Rattle.read_sources.specs.Sources.{IsRead, found_in}
+use Rattle.read_sources.specs.Parts.{IsShared}
 use Rattle.order_find.proofs.Through.{GoesThrough}
-use Rattle.order_find.proofs.Lists.{has-map, has-range}
+use Rattle.read_sources.proofs.Lists.{has-map, has-range}
 use Rattle.order_find.proofs.Named.{Suits, IsNamedAs}
-use Rattle.order_find.specs.Ways.{Names}
-use Rattle.order_find.proofs.Within.{names-within}
+use Rattle.read_sources.specs.Ways.{Names}
+use Rattle.read_sources.proofs.Within.{names-within}
 use Rattle.order_find.proofs.Vertices.{slots-parts, slots-all, slots-totals}
 use Rattle.order_find.proofs.Suiting.{of-suits, is-part}
 use Rattle.order_find.proofs.Steps.{part-low}
@@ -160,6 +161,36 @@ module _ (p : Plan) (plan : IsPlan p) (s : Source) (is : IsSource p.model s) (re
 
     pub goes : IsNamedAs p.model s.cube s.area.now s.kind (precedent s) (way_of p.model s) e t → goal_of
     goes named = by-way (way_of p.model s) refl named
+
+-- a source of a group serves where it reads, and its arrow is that of a member
+pub record IsAlwaysThere (p : Plan) (s : Source) (e t : ℕ) : Type 0 where
+  pub serves : serves_any p.model s e ≡ true
+  pub made : member_arrow p s ≡ Some (arrow_to p (cube_read s) (not s.weak) t)
+
+pub always-goes : (p : Plan) (plan : IsPlan p) (s : Source) (is : IsSource p.model s) (read : IsRead p.model s) (e t : ℕ) → IsShared (way_of p.model s)
+    → IsNamedAs p.model s.cube s.area.now s.kind (precedent s) (way_of p.model s) e t → IsAlwaysThere p s e t
+always-goes p plan s is read e t shared named = by (way_of p.model s) refl shared named
+  where
+    last : ℕ
+    last = last_of p.model.space s.cube
+
+    either : (i : ℕ) → found_in last (way_of p.model s) ≡ i → Suits p.model s.cube s.area.now s.kind (precedent s) e i e → (serves_any p.model s e ≡ true) ⊎ (is_consolidated p.model s i e ≡ true)
+    either i at_i h =
+        subst (λ i. Suits p.model s.cube s.area.now s.kind (precedent s) e i e → (serves_any p.model s e ≡ true) ⊎ (is_consolidated p.model s i e ≡ true)) at_i
+        (of-suits (axes p.model.space s.cube) (reads_from p.model s) s.kind last e (found_in last (way_of p.model s)) e s.elsewhere read.elsewhere) h
+
+    by : (w : Follows) → way_of p.model s ≡ w → IsShared w → IsNamedAs p.model s.cube s.area.now s.kind (precedent s) w e t → IsAlwaysThere p s e t
+    by Same way none named = absurd none
+    by Component way none named = absurd none
+    by (Always target) way some (same, suits) = record {
+      serves = elim (either last (ap (found_in last) way) suits) [
+        | inl serving ↦ serving
+        | inr total ↦ or_right s.kind (is_consolidated p.model s last e || s.elsewhere) (or_left (is_consolidated p.model s last e) s.elsewhere total)
+      ];
+      made = ap (member_by p s) way ∙ ap (λ x. Some (arrow_to p (cube_read s) (not s.weak) x)) same;
+    }
+    by (Sent to) way none named = absurd none
+    by (SentOver i to) way none named = absurd none
 
 -- what a source reads is an element
 pub named-low : (p : Plan) (plan : IsPlan p) (s : Source) (is : IsSource p.model s) (e t : ℕ) → e < width p.model.space s.cube → IsNamedAs p.model s.cube s.area.now s.kind (precedent s) (way_of p.model s) e t → t < width p.model.space (cube_read s)

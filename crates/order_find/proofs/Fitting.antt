@@ -19,7 +19,7 @@ use Rattle.order_find.specs.Slots.{Plan, parts_from, node_count, slots_at, arrow
 use Rattle.order_find.specs.PlanOfAll.{IsPlanOfAll, AreRanksOf}
 use Rattle.order_find.proofs.Through.{node, link_from, made-arrow, IsArrowOf, IsVia, Goes, GoesThrough}
 use Rattle.order_find.specs.declared.link.LinkBy.{LinkBy}
-use Rattle.order_find.proofs.Lists.{map-has, has-map, held-has, has-held}
+use Rattle.read_sources.proofs.Lists.{map-has, has-map, held-has, has-held}
 use Rattle.order_find.proofs.Steps.{element-step, behind-back}
 use Rattle.order_find.proofs.Every.{IsThrough, every}
 
@@ -134,7 +134,7 @@ module _ (p : Plan) (all : IsPlanOfAll p) (ranks : List (List ℕ)) (fits : FitA
       omega (arith, falls, same)
 
   -- an arrow through another node
-  via-falls : (place : Place) (by : LinkBy) (arrow : Arrow) → IsVia p place by arrow → rank arrow.to + fall_of arrow ≤ rank_of ranks (node place)
+  via-falls : (place : Place) (by : Option LinkBy) (arrow : Arrow) → IsVia p place by arrow → rank arrow.to + fall_of arrow ≤ rank_of ranks (node place)
   via-falls place by arrow via =
       let weak : fall_of arrow ≡ 0 = ap (λ b. if b then 1 else 0) via.weak in
       let low = greatest-below (map slot_rank (slots_at p arrow.to)) (rank_of ranks (node place)) each in
@@ -142,7 +142,7 @@ module _ (p : Plan) (all : IsPlanOfAll p) (ranks : List (List ℕ)) (fits : FitA
     where
       slot : (o : Option Arrow) → Contains (slots_at p arrow.to) o → slot_rank o ≤ rank_of ranks (node place)
       slot None has = omega arith
-      slot (Some next) has = arrow-own place by next (via.each next has)
+      slot (Some next) (k, low, is) = arrow-own place _ next (via.each k next low (has-held (slots_at p arrow.to) k next low is))
 
       each : (x : ℕ) → Contains (map slot_rank (slots_at p arrow.to)) x → x ≤ rank_of ranks (node place)
       each x has =
@@ -153,10 +153,9 @@ module _ (p : Plan) (all : IsPlanOfAll p) (ranks : List (List ℕ)) (fits : FitA
   falls-low n arrow low has =
       let (place, at) = there p.numbering.places.items n low in
       let here : rank n ≡ rank_of ranks (node place) = rank-low n low ∙ own-at n place at in
-      let (by, step) = element-step p all n place at arrow has in
-      elim step [
-        | inl made ↦ omega (arith, arrow-falls place by arrow made, here)
-        | inr via ↦ omega (arith, via-falls place by arrow via, here)
+      elim (element-step p all n place at arrow has) [
+        | inl (by, made) ↦ omega (arith, arrow-falls place by arrow made, here)
+        | inr (by, via) ↦ omega (arith, via-falls place by arrow via, here)
       ]
 
   falls-high : (n : ℕ) (arrow : Arrow) → parts_from p ≤ n → Contains (slots_at p n) (Some arrow) → rank arrow.to + fall_of arrow ≤ rank n

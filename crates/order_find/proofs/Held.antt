@@ -10,8 +10,8 @@ use Rattle.cube_space.specs.Layout.{sizes}
 use Rattle.rule_model.specs.Conditions.{IsSet}
 use Rattle.order_laws.specs.Earlier.{set_count, set_element}
 use Rattle.least_ranks.specs.declared.arrow.Arrow.{Arrow}
-use Rattle.order_find.specs.declared.source.Source.{Source}
-use Rattle.order_find.specs.Ways.{SentOver}
+use Rattle.read_sources.specs.declared.source.Source.{Source}
+use Rattle.read_sources.specs.Ways.{SentOver}
 use Rattle.order_find.specs.Slots.{Plan, reached_from, reached_by}
 
 abbrev pub held : List (Option Arrow) → ℕ → Option Arrow

@@ -17,11 +17,11 @@ use Rattle.order_laws.proofs.SetFacts.{set-at}
 use Rattle.arrow_laws.specs.Nodes.{last_of}
 use Rattle.order_find.specs.declared.numbering.Place.{Place}
 use Rattle.order_find.specs.declared.numbering.Numbering.{Numbering}
-use Rattle.order_find.specs.declared.source.Source.{Source}
+use Rattle.read_sources.specs.declared.source.Source.{Source}
 use Rattle.order_find.specs.Numbers.{IsNumbering, IsPlace, count_of, number_of, width}
-use Rattle.order_find.specs.Ways.{IsSource}
-use Rattle.order_find.specs.Slots.{Plan, IsSourceOf}
-use Rattle.order_find.specs.Filing.{Adds, AreFiled}
+use Rattle.read_sources.specs.Ways.{IsSource}
+use Rattle.order_find.specs.Slots.{IsSourceOf}
+use Rattle.order_find.specs.Filing.{Looked, Adds, AreFiled}
 use Rattle.order_find.proofs.Filed.{one, added-has, has-added, added-long}
 
 -- nothing is filed yet
@@ -41,7 +41,7 @@ none-long rows n i is =
     let row : slice_index_or rows i [] ≡ [] = ap (λ r. slice_index_or r i []) is ∙ same-row [] n i in
     omega (arith, ap length row)
 
-pub none-filed : (p : Plan) → p.of_cubes ≡ replicate (length p.model.space.cubes) [] → p.of_nodes ≡ replicate (count_of p.numbering) [] → AreFiled p 0
+pub none-filed : (p : Looked) → p.of_cubes ≡ replicate (length p.model.space.cubes) [] → p.of_nodes ≡ replicate (count_of p.numbering) [] → AreFiled p 0
 none-filed p cubes nodes = record {
   cubes = ap length cubes ∙ length-replicate (length p.model.space.cubes) [];
   nodes = ap length nodes ∙ length-replicate (count_of p.numbering) [];
@@ -79,20 +79,17 @@ rows-there m numbering s first listed numbers cube begins within = λ k d low.
 pub source-at : (m : BoundModel) (sources : List Source) (k : ℕ) (s : Source) → All (IsSource m) sources → k < length sources → s ≡ get_or sources k s → IsSource m s × (slice_get sources k ≡ Some s)
 source-at m sources k s all low is = (subst (IsSource m) (sym is) (all k s low), slice_get-get_or sources k s low ∙ ap Some (sym is))
 
--- the graph with these rows
-abbrev pub plan : BoundModel → Numbering → List Source → List (List ℕ) → List (List ℕ) → Plan
+-- what is looked at by these rows
+abbrev pub plan : BoundModel → Numbering → List Source → List (List ℕ) → List (List ℕ) → Looked
 plan m numbering sources of_cubes of_nodes =
     record { model = m; numbering = numbering; sources = sources; of_cubes = of_cubes; of_nodes = of_nodes }
 
 module _ (m : BoundModel) (numbering : Numbering) (sources : List Source) (of_cubes of_nodes : List (List ℕ)) (k : ℕ) (s : Source)
     (at : slice_get sources k ≡ Some s) (filed : AreFiled (plan m numbering sources of_cubes of_nodes) k) where
-  abbrev old : Plan
-  old = plan m numbering sources of_cubes of_nodes
-
   abbrev row : List (List ℕ) → ℕ → List ℕ
   row rows n = slice_index_or rows n []
 
-  source-here : (cube j : ℕ) → s.cube ≡ cube → k ≡ j → IsSourceOf old cube j
+  source-here : (cube j : ℕ) → s.cube ≡ cube → k ≡ j → IsSourceOf sources cube j
   source-here cube j own same = (s, subst (λ i. slice_get sources i ≡ Some s) same at, own)
 
   abbrev IsLooked : List (List ℕ) → List (List ℕ) → Place → ℕ → Type 0
@@ -135,7 +132,7 @@ module _ (m : BoundModel) (numbering : Numbering) (sources : List Source) (of_cu
     looked_at = looked-on rows of_nodes (keeps (λ n. s.cube == n) of_cubes rows a) (λ n j has. has) new;
   }
     where
-      of : (cube j : ℕ) → Contains (row of_cubes cube) j ⊎ (((s.cube == cube) ≡ true) × (k ≡ j)) → IsSourceOf old cube j
+      of : (cube j : ℕ) → Contains (row of_cubes cube) j ⊎ (((s.cube == cube) ≡ true) × (k ≡ j)) → IsSourceOf sources cube j
       of cube j (inl has) = filed.of_cubes cube j has
       of cube j (inr (own, same)) = source-here cube j (eqb-true s.cube cube own) same
 
@@ -169,7 +166,7 @@ module _ (m : BoundModel) (numbering : Numbering) (sources : List Source) (of_cu
           let found : slice_get numbering.places.items n ≡ Some own = ap (slice_get numbering.places.items) (sym number) ∙ numbers.there own (record { cube = cube; element = less }) in
           ap (λ (p : Place). p.cube) (some_same (sym found ∙ there))
 
-      of : (n j : ℕ) (place : Place) → slice_get numbering.places.items n ≡ Some place → Contains (row of_nodes n) j ⊎ ((hit n ≡ true) × (k ≡ j)) → IsSourceOf old place.cube j
+      of : (n j : ℕ) (place : Place) → slice_get numbering.places.items n ≡ Some place → Contains (row of_nodes n) j ⊎ ((hit n ≡ true) × (k ≡ j)) → IsSourceOf sources place.cube j
       of n j place there (inl has) = filed.of_nodes n j place there has
       of n j place there (inr (is, same)) = source-here place.cube j (cube-of n place there is) same
 

@@ -17,7 +17,7 @@ use Rattle.ref_order.proofs.Args.{args-long}
 use Rattle.arrow_laws.specs.Nodes.{last_of}
 use Rattle.arrow_laws.specs.ByDimension.{is_from, is_part, SuitsKind, IsNamedBy, IsNamedFrom}
 use Rattle.arrow_laws.proofs.Made.{last-there}
-use Rattle.order_find.specs.Ways.{Follows, Same, Component, Always, Sent, SentOver, follows_by, follows}
+use Rattle.read_sources.specs.Ways.{Follows, Same, Component, Always, Sent, SentOver, follows_by, follows}
 
 -- from cells with the one element in the last dimension the node of the other is read
 abbrev pub Suits : BoundModel → ℕ → Area → Bool → Precedent → ℕ → ℕ → ℕ → Type 0

@@ -13,21 +13,21 @@ use Rattle.least_ranks.specs.declared.arrow.Arrow.{Arrow}
 use Rattle.arrow_laws.specs.Nodes.{last_of}
 use Rattle.arrow_laws.specs.ByDimension.{is_level, is_lagged, is_weak, IsJoinedByDimension}
 use Rattle.order_find.specs.declared.numbering.Place.{Place}
-use Rattle.order_find.specs.declared.source.Source.{Source}
+use Rattle.read_sources.specs.declared.source.Source.{Source}
 use Rattle.order_find.specs.Numbers.{width, number_of}
-use Rattle.order_find.specs.Ways.{Follows, Same, Component, Always, Sent, SentOver, IsSource, precedent, way_of, reads_from, is_consolidated, serves_any, cube_read}
-use Rattle.order_find.specs.Slots.{Plan, IsPlan, parts_from, all_from, totals_from, arrow_to, parts_of, part_arrow, arrow_by, reached_from, reached_by, slots_at}
-use Rattle.order_find.specs.Sources.{IsRead, found_in}
+use Rattle.read_sources.specs.Ways.{Follows, Same, Component, Always, Sent, SentOver, IsSource, precedent, way_of, reads_from, is_consolidated, serves_any, cube_read}
+use Rattle.order_find.specs.Slots.{Plan, IsPlan, parts_from, all_from, totals_from, arrow_to, parts_of, part_arrow, arrow_by, reached_from, reached_by, member_by, slots_at}
+use Rattle.read_sources.specs.Sources.{IsRead, found_in, read_for}
 use Rattle.order_find.proofs.Decided.{IsReadByDimension, dimension-read}
 use Rattle.order_find.proofs.Through.{node, link_from, IsArrowOf, IsVia}
-use Rattle.order_find.proofs.Lists.{map-has}
+use Rattle.read_sources.proofs.Lists.{map-has, held-has}
 use Rattle.order_find.proofs.Named.{Suits, IsNamedAs, as-named}
-use Rattle.order_find.specs.Ways.{Names}
-use Rattle.order_find.proofs.Within.{names-within, reads-cube}
+use Rattle.read_sources.specs.Ways.{Names}
+use Rattle.read_sources.proofs.Within.{names-within, reads-cube}
 use Rattle.order_find.proofs.Vertices.{slots-parts, slots-all, slots-totals}
 use Rattle.order_find.proofs.Suiting.{suits-of, part-is, given-where, not-not}
 use Rattle.order_find.specs.declared.link.LinkBy.{LinkBy}
-use Rattle.order_find.specs.Circles.{IsBy, read_for}
+use Rattle.order_find.specs.Circles.{IsBy}
 use Rattle.ref_order.specs.Counted.{counted_of}
 use Rattle.rule_model.specs.declared.rules.Statement.{Statement}
 use Rattle.order_find.specs.Links.{reference_of}
@@ -158,15 +158,26 @@ module _ (p : Plan) (plan : IsPlan p) (s : Source) (is : IsSource p.model s) (re
       let below : Names s.cube (cube_read s) (width p.model.space (cube_read s)) (SentOver r.i r.to) = subst (Names s.cube (cube_read s) (width p.model.space (cube_read s))) r.way names in
       arrow-of r.target arrow (subst (λ w. IsNamedAs p.model s.cube s.area.now s.kind (precedent s) w e r.target) (sym r.way) as_over) (below r.element r.target r.sends) r.is
 
+  -- what it always reads, as a source of a group
+  pub member-step : (w : Follows) (arrow : Arrow) → way_of p.model s ≡ w → serves_any p.model s e ≡ true → member_by p s w ≡ Some arrow → IsArrowOf p place by arrow
+  member-step Same arrow way serving h = absurd (cc)
+  member-step Component arrow way serving h = absurd (cc)
+  member-step (Always t) arrow way serving h =
+      let below : t < width p.model.space (cube_read s) = subst (Names s.cube (cube_read s) (width p.model.space (cube_read s))) way names in
+      arrow-of t arrow (subst (λ w. IsNamedAs p.model s.cube s.area.now s.kind (precedent s) w e t) (sym way) (refl, suits last e (ap (found_in last) way) (inl serving))) below (same_Some _ _ h)
+  member-step (Sent to) arrow way serving h = absurd (cc)
+  member-step (SentOver i to) arrow way serving h = absurd (cc)
+
   module _ (n k : ℕ) (number : n ≡ number_of p.numbering s.cube e) (at : slice_get p.numbering.places.items n ≡ Some place) (few : n < parts_from p) (here : slice_get p.sources k ≡ Some s) where
     abbrev Step : Arrow → Type 0
-    Step arrow = IsArrowOf p place by arrow ⊎ IsVia p place by arrow
+    Step arrow = IsArrowOf p place by arrow ⊎ IsVia p place (Some by) arrow
 
-    via-parts : (arrow : Arrow) → way_of p.model s ≡ Component → record { to = parts_from p + n; strict = false } ≡ arrow → IsVia p place by arrow
+    via-parts : (arrow : Arrow) → way_of p.model s ≡ Component → record { to = parts_from p + n; strict = false } ≡ arrow → IsVia p place (Some by) arrow
     via-parts arrow way same = record {
       weak = sym (ap (λ (a : Arrow). a.strict) same);
       behind = omega (arith, ap (λ (a : Arrow). a.to) same);
-      each = λ next has.
+      each = λ slot next under held.
+          let has = held-has (slots_at p arrow.to) slot next under held in
           let slots = slots-parts p arrow.to n place (sym (ap (λ (a : Arrow). a.to) same)) at in
           let (part, inside, counts, is_to) = parts-arrow p s.cube (parts_of p.model.space place) next (subst (λ xs. Contains xs (Some next)) slots has) in
           let is_part_of = part-is (axes p.model.space s.cube) last e part inside counts in
@@ -184,11 +195,11 @@ module _ (p : Plan) (plan : IsPlan p) (s : Source) (is : IsSource p.model s) (re
             subst (λ (x : ℕ × ℤ). x.0 < width p.model.space s.cube) (Rattle.std.proofs.lemmas.List.get_or_default (parts_of p.model.space place) j (0, pos 0) part less ∙ same) first
 
     via-over : (i : ℕ) (to : List (Option ℕ)) (arrow : Arrow) → way_of p.model s ≡ SentOver i to
-        → record { to = (if serves_any p.model s e then all_from p else totals_from p) + k; strict = false } ≡ arrow → IsVia p place by arrow
+        → record { to = (if serves_any p.model s e then all_from p else totals_from p) + k; strict = false } ≡ arrow → IsVia p place (Some by) arrow
     via-over i to arrow way same = record {
       weak = sym (ap (λ (a : Arrow). a.strict) same);
       behind = behind (serves_any p.model s e) (sym (ap (λ (a : Arrow). a.to) same));
-      each = λ next has. each (serves_any p.model s e) refl (sym (ap (λ (a : Arrow). a.to) same)) next has;
+      each = λ slot next under held. each (serves_any p.model s e) refl (sym (ap (λ (a : Arrow). a.to) same)) next (held-has (slots_at p arrow.to) slot next under held);
     }
       where
         behind : (t : Bool) → arrow.to ≡ (if t then all_from p else totals_from p) + k → parts_from p ≤ arrow.to

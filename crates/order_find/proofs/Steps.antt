@@ -1,11 +1,14 @@
 -- Each arrow of a node, and where it leads.
-use Rattle.std.proofs.Common.{◌≡◌, refl, sym, ap, ◌∙◌, arith, subst, ℕ, ◌-◌, ◌<◌, ◌≤◌, ◌⊎◌, Bool, true, false, Option, Some, None, List, [], ◌++◌, length, map, Contains, ℤ, pos, inl, inr, if◌then◌else◌, option_map}
+use Rattle.std.proofs.Common.{◌≡◌, refl, sym, ap, ◌∙◌, arith, subst, ℕ, ◌+◌, ◌-◌, ◌<◌, ◌≤◌, ◌⊎◌, Bool, true, false, ◌&&◌, Option, Some, None, List, [], ◌∷◌, ◌++◌, length, map, Contains, ℤ, pos, inl, inr, if◌then◌else◌, option_map}
 use Rattle.std.specs.Prelude.{slice_get, slice_index_or, unwrap_or}
 use Rattle.std.specs.Option.{option_map_or}
 use Rattle.std.specs.List.{range_with_len}
 use Rattle.std.proofs.lemmas.Bool.{cases_lt}
 use Rattle.std.specs.List.{AllZip}
-use Rattle.std.proofs.lemmas.Option.{slice_get_within, slice_get_past, same_Some, unwrap_or-slice_get}
+use Rattle.std.proofs.lemmas.Bool.{and_parts}
+use Rattle.std.proofs.lemmas.List.{length-append}
+use Rattle.std.proofs.lemmas.List.Elements.{All-contains, Contains-append_cases}
+use Rattle.std.proofs.lemmas.Option.{slice_get_within, slice_get_past, slice_get-get_or, cond_some, same_Some, unwrap_or-slice_get}
 use Rattle.dim_core.specs.Outline.{Outline}
 use Rattle.dim_weights.specs.Coefficients.{coef}
 use Rattle.dim_weights.specs.Table.{is_nonzero, leaves_of}
@@ -19,22 +22,21 @@ use Rattle.least_ranks.specs.declared.arrow.Arrow.{Arrow}
 use Rattle.arrow_laws.specs.Nodes.{last_of}
 use Rattle.arrow_laws.specs.Arrows.{IsLeafArrow}
 use Rattle.order_find.specs.declared.numbering.Place.{Place}
-use Rattle.order_find.specs.declared.source.Source.{Source}
-use Rattle.order_find.specs.declared.slots.Vertex.{Vertex}
-use Rattle.order_find.specs.declared.slots.Vertex.TheVariants.{Reached}
+use Rattle.read_sources.specs.declared.source.Source.{Source}
 use Rattle.order_find.specs.Numbers.{IsPlace, width, number_of}
-use Rattle.order_find.specs.Ways.{SentOver, IsSource, precedent, way_of, reads_from, cube_read}
-use Rattle.order_find.specs.Slots.{Plan, IsPlan, IsSourceOf, parts_from, all_from, totals_from, arrow_to, leaves_below, parts_of, part_arrow, leaf_arrow, arrow_by, read_arrow, source_arrow, reached_by, slots_of, slots_at}
+use Rattle.read_sources.specs.Ways.{Follows, Same, Component, Always, Sent, SentOver, IsSource, precedent, way_of, reads_from, serves_any, cube_read}
+use Rattle.order_find.specs.Slots.{Plan, IsPlan, IsSourceOf, parts_from, all_from, totals_from, arrow_to, leaves_below, parts_of, part_arrow, leaf_arrow, arrow_by, read_arrow, source_arrow, reached_by, hubs_from, node_count, group_by, group_arrow, member_by, member_arrow, members, own_slots, group_slots, slots_at}
 use Rattle.order_find.specs.PlanOfAll.{IsPlanOfAll}
 use Rattle.order_find.specs.declared.link.LinkBy.{LinkBy}
 use Rattle.order_find.specs.declared.link.LinkBy.TheVariants.{Below}
-use Rattle.order_find.specs.Links.{reference_of, maker, makers_of}
-use Rattle.order_find.proofs.Through.{node, IsArrowOf, IsVia}
-use Rattle.order_find.proofs.Lists.{range-has, has-held, zip-map, zip-append, zip-at}
-use Rattle.order_find.specs.Ways.{Names}
-use Rattle.order_find.proofs.Within.{names-within, reads-cube}
-use Rattle.order_find.proofs.Vertices.{slots-element, slots-parts, slots-all, slots-totals, vertex-totals}
-use Rattle.order_find.proofs.Sound.{reached-arrow, parts-arrow, source-step}
+use Rattle.order_find.specs.Links.{reference_of, maker, makers_of, made_by, member_maker}
+use Rattle.read_sources.proofs.Placed.{get-mapped, mapped-at}
+use Rattle.order_find.proofs.Through.{node, IsArrowOf, IsVia, Made}
+use Rattle.read_sources.proofs.Lists.{range-has, has-at, has-held, held-has, map-has, in-first, at-past, zip-map, zip-append, zip-at}
+use Rattle.read_sources.specs.Ways.{Names}
+use Rattle.read_sources.proofs.Within.{names-within, reads-cube}
+use Rattle.order_find.proofs.Vertices.{slots-element, slots-parts, slots-all, slots-totals, slots-shared, slots-none}
+use Rattle.order_find.proofs.Sound.{reached-arrow, parts-arrow, member-step, source-step}
 use Rattle.order_find.proofs.Suiting.{among-of, given-where}
 
 -- the leaves below an element
@@ -66,18 +68,25 @@ part-low m place part valid (j, less, same) =
     let first = part-below m.space place.cube (last_of m.space place.cube) place.element j valid less in
     subst (λ (x : ℕ × ℤ). x.0 < width m.space place.cube) (Rattle.std.proofs.lemmas.List.get_or_default (parts_of m.space place) j (0, pos 0) part less ∙ same) first
 
+-- two lists of which each two elements at one place are related are as long
+zip-long : {A B : Type 0} (R : A → B → Type 0) (xs : List A) (ys : List B) → AllZip R xs ys → length xs ≡ length ys
+zip-long R [] [] zip = refl
+zip-long R [] (y ∷ ys) zip = absurd zip
+zip-long R (x ∷ xs) [] zip = absurd zip
+zip-long R (x ∷ xs) (y ∷ ys) zip = let rest = zip-long R xs ys zip.1 in omega (arith, rest)
+
 module _ (p : Plan) (all : IsPlanOfAll p) (n : ℕ) (place : Place) (at : slice_get p.numbering.places.items n ≡ Some place) where
-  abbrev Step : LinkBy → Arrow → Type 0
-  Step by arrow = IsArrowOf p place by arrow ⊎ IsVia p place by arrow
+  abbrev Step : Option LinkBy → Arrow → Type 0
+  Step by arrow = Made p place by arrow
 
   -- where the slot holds an arrow, it is such a one
-  abbrev Slot : Option Arrow → LinkBy → Type 0
+  abbrev Slot : Option Arrow → Option LinkBy → Type 0
   Slot slot by = (arrow : Arrow) → slot ≡ Some arrow → Step by arrow
 
   here : IsPlace p.model.space place × (number_of p.numbering place.cube place.element ≡ n)
   here = all.plan.numbering.back n place at
 
-  leaf-step : (pair : ℕ × ℤ) → Contains (leaves_below p.model.space place) pair → Slot (leaf_arrow p place.cube pair) Below
+  leaf-step : (pair : ℕ × ℤ) → Contains (leaves_below p.model.space place) pair → Slot (leaf_arrow p place.cube pair) (Some Below)
   leaf-step pair inside arrow same =
       let leaf = leaf-below p.model.space place pair inside in
       let equal : arrow_to p place.cube false pair.0 ≡ arrow = same_Some _ _ same in
@@ -100,7 +109,7 @@ module _ (p : Plan) (all : IsPlanOfAll p) (n : ℕ) (place : Place) (at : slice_
         made = made;
       })
 
-  row-step : (row : List ℕ) → ((k : ℕ) → Contains row k → IsSourceOf p place.cube k) → (k : ℕ) → Contains row k → Slot (source_arrow p n place k) (maker p k)
+  row-step : (row : List ℕ) → ((k : ℕ) → Contains row k → IsSourceOf p.sources place.cube k) → (k : ℕ) → Contains row k → Slot (source_arrow p n place k) (Some (maker p k))
   row-step row of k inside arrow same =
       let (s, found, own) = of k inside in
       let by : reference_of s ≡ maker p k = sym (ap (λ (o : Option Source). option_map_or reference_of o Below) found) in
@@ -110,36 +119,120 @@ module _ (p : Plan) (all : IsPlanOfAll p) (n : ℕ) (place : Place) (at : slice_
       let equal : there ≡ place = ap (λ c. record { cube = c; element = place.element }) own in
       let is = found_holds (IsSource p.model) p.sources k s all.plan.sources found in
       let number : n ≡ number_of p.numbering s.cube place.element = sym here.1 ∙ ap (λ (q : Place). number_of p.numbering q.cube q.element) (sym equal) in
-      subst (λ b. IsArrowOf p place b arrow ⊎ IsVia p place b arrow) by
-      (subst (λ q. IsArrowOf p q (reference_of s) arrow ⊎ IsVia p q (reference_of s) arrow) equal
+      subst (λ b. IsArrowOf p place b arrow ⊎ IsVia p place (Some b) arrow) by
+      (subst (λ q. IsArrowOf p q (reference_of s) arrow ⊎ IsVia p q (Some (reference_of s)) arrow) equal
       (source-step p all.plan s is (all.read k s found) place.element passes (subst (λ (q : Place). q.element < width p.model.space q.cube) (sym equal) here.0.element)
       n k number (at ∙ ap Some (sym equal)) (slice_get_within p.numbering.places.items n place at) found arrow (subst (λ q. arrow_by p n q k s (way_of p.model s) ≡ Some arrow) (sym equal) made)))
 
-  row-steps : (row : List ℕ) → ((k : ℕ) → Contains row k → IsSourceOf p place.cube k) → AllZip Slot (map (source_arrow p n place) row) (map (maker p) row)
-  row-steps row of = zip-map Slot (source_arrow p n place) (maker p) row (row-step row of)
+  row-steps : (row : List ℕ) → ((k : ℕ) → Contains row k → IsSourceOf p.sources place.cube k) → AllZip Slot (map (source_arrow p n place) row) (map (λ k. Some (maker p k)) row)
+  row-steps row of = zip-map Slot (source_arrow p n place) (λ k. Some (maker p k)) row (row-step row of)
 
-  leaf-steps : AllZip Slot (map (leaf_arrow p place.cube) (leaves_below p.model.space place)) (map (λ pair. Below) (leaves_below p.model.space place))
-  leaf-steps = zip-map Slot (leaf_arrow p place.cube) (λ pair. Below) (leaves_below p.model.space place) leaf-step
+  leaf-steps : AllZip Slot (map (leaf_arrow p place.cube) (leaves_below p.model.space place)) (map (λ pair. Some Below) (leaves_below p.model.space place))
+  leaf-steps = zip-map Slot (leaf_arrow p place.cube) (λ pair. Some Below) (leaves_below p.model.space place) leaf-step
 
-  element-steps : AllZip Slot (slots_at p n) (makers_of p n place)
-  element-steps =
+  abbrev makers : List ℕ → List (Option LinkBy)
+  makers row = map (λ k. Some (maker p k)) row
+
+  own-steps : AllZip Slot (own_slots p n place) (makers_of p n place)
+  own-steps =
       let whole = slice_index_or p.of_cubes place.cube [] in
       let own = slice_index_or p.of_nodes n [] in
       let by = source_arrow p n place in
-      let rows = zip-append Slot (map by whole) (map (maker p) whole) (map by own) (map (maker p) own)
+      let rows = zip-append Slot (map by whole) (makers whole) (map by own) (makers own)
       (row-steps whole (λ k inside. all.plan.of_cubes place.cube k inside)) (row-steps own (λ k inside. all.plan.of_nodes n k place at inside)) in
-      subst (λ xs. AllZip Slot xs (makers_of p n place)) (sym (slots-element p n place at))
-      (zip-append Slot (map (leaf_arrow p place.cube) (leaves_below p.model.space place)) (map (λ pair. Below) (leaves_below p.model.space place))
-      (map by whole ++ map by own) (map (maker p) whole ++ map (maker p) own) leaf-steps rows)
+      zip-append Slot (map (leaf_arrow p place.cube) (leaves_below p.model.space place)) (map (λ pair. Some Below) (leaves_below p.model.space place))
+      (map by whole ++ map by own) (makers whole ++ makers own) leaf-steps rows
+
+  -- an arrow to the node of a group
+  group-via : (g : ℕ) (head : Source) (arrow : Arrow) → slice_get p.heads g ≡ Some head → head.cube ≡ place.cube → reads_from p.model head (last_of p.model.space head.cube) place.element ≡ true
+      → serves_any p.model head place.element ≡ true → record { to = hubs_from p + g; strict = false } ≡ arrow → IsVia p place None arrow
+  group-via g head arrow found own passes serving equal = record {
+    weak = sym (ap (λ (a : Arrow). a.strict) equal);
+    behind = omega (arith, ap (λ (a : Arrow). a.to) equal);
+    each = each;
+  }
+    where
+      to_is : arrow.to ≡ hubs_from p + g
+      to_is = sym (ap (λ (a : Arrow). a.to) equal)
+
+      back : arrow.to - hubs_from p ≡ g
+      back = omega (arith, to_is)
+
+      slots : slots_at p arrow.to ≡ map (member_arrow p) (members p g)
+      slots = slots-shared p arrow.to g to_is (slice_get_within p.heads g head found)
+
+      by-member : (s : Source) (next : Arrow) → Contains (members p g) s → member_arrow p s ≡ Some next → IsArrowOf p place (reference_of s) next
+      by-member s next has made =
+          let alike = all.alike g head s found has in
+          let is = All-contains (IsSource p.model) (members p g) s (all.plan.grouped g) has in
+          let cube : s.cube ≡ place.cube = sym alike.cube ∙ own in
+          let there : Place = record { cube = s.cube; element = place.element } in
+          let same : there ≡ place = ap (λ c. record { cube = c; element = place.element }) cube in
+          let from : reads_from p.model s (last_of p.model.space s.cube) place.element ≡ true =
+          subst (λ c. reads_from p.model s (last_of p.model.space c) place.element ≡ true) alike.cube (sym (alike.reads place.element) ∙ passes) in
+          let low : place.element < width p.model.space s.cube = subst (λ (q : Place). q.element < width p.model.space q.cube) (sym same) here.0.element in
+          subst (λ q. IsArrowOf p q (reference_of s) next) same
+          (member-step p all.plan s is (all.read_members g s has) place.element from low (way_of p.model s) next refl (sym (alike.serves place.element) ∙ serving) made)
+
+      each : (slot : ℕ) (next : Arrow) → slot < length (slots_at p arrow.to) → unwrap_or (slice_get (slots_at p arrow.to) slot) None ≡ Some next
+          → IsArrowOf p place (member_maker p (record { node = arrow.to; slot = slot })) next
+      each slot next low held =
+          let whole : slice_get (map (member_arrow p) (members p g)) slot ≡ Some (Some next) =
+          ap (λ xs. slice_get xs slot) (sym slots) ∙ slice_get-get_or (slots_at p arrow.to) slot None low ∙ ap Some (sym (unwrap_or-slice_get (slots_at p arrow.to) slot None) ∙ held) in
+          let (s, inside, made) = mapped-at (member_arrow p) (members p g) slot (Some next) whole in
+          let maker_is : reference_of s ≡ member_maker p (record { node = arrow.to; slot = slot }) =
+          sym (ap (λ (o : Option LinkBy). unwrap_or o Below) (ap (λ h. slice_get (map reference_of (members p h)) slot) back ∙ get-mapped reference_of (members p g) slot s inside)) in
+          subst (λ b. IsArrowOf p place b next) maker_is (by-member s next (has-at (members p g) slot s inside) made)
+
+  group-step : (g : ℕ) (arrow : Arrow) → IsSourceOf p.heads place.cube g → group_arrow p place g ≡ Some arrow → IsVia p place None arrow
+  group-step g arrow (head, found, own) made =
+      let by : group_by p place g head ≡ Some arrow = sym (ap (λ (o : Option Source). option_map_or (group_by p place g) o None) found) ∙ made in
+      let (passes, equal) = cond_some (reads_from p.model head (last_of p.model.space head.cube) place.element && serves_any p.model head place.element) (record { to = hubs_from p + g; strict = false }) arrow by in
+      let (from, serving) = and_parts (reads_from p.model head (last_of p.model.space head.cube) place.element) (serves_any p.model head place.element) passes in
+      group-via g head arrow found own from serving equal
+
+  groups-step : (arrow : Arrow) → Contains (group_slots p n place) (Some arrow) → IsVia p place None arrow
+  groups-step arrow has =
+      let whole = slice_index_or p.groups_of_cubes place.cube [] in
+      let own = slice_index_or p.groups_of_nodes n [] in
+      elim (Contains-append_cases (map (group_arrow p place) whole) (map (group_arrow p place) own) (Some arrow) has) [
+        | inl first ↦ let (g, inside, made) = map-has (group_arrow p place) whole (Some arrow) first in group-step g arrow (all.of_cubes place.cube g inside) made
+        | inr second ↦ let (g, inside, made) = map-has (group_arrow p place) own (Some arrow) second in group-step g arrow (all.of_nodes n g place at inside) made
+      ]
 
   -- the arrow in a slot of the node of an element, and in any
-  pub slot-step : (slot : ℕ) (arrow : Arrow) → slot < length (slots_at p n) → unwrap_or (slice_get (slots_at p n) slot) None ≡ Some arrow → Step (unwrap_or (slice_get (makers_of p n place) slot) Below) arrow
-  slot-step slot arrow low is =
-      subst (λ b. Step b arrow) (sym (unwrap_or-slice_get (makers_of p n place) slot Below))
-      (zip-at Slot (slots_at p n) (makers_of p n place) slot None Below element-steps low arrow (sym (unwrap_or-slice_get (slots_at p n) slot None) ∙ is))
+  pub slot-step : (slot : ℕ) (arrow : Arrow) → slot < length (slots_at p n) → unwrap_or (slice_get (slots_at p n) slot) None ≡ Some arrow → Step (made_by p n place slot) arrow
+  slot-step slot arrow low is = by (cases_lt slot (length (own_slots p n place)))
+    where
+      own : List (Option Arrow)
+      own = own_slots p n place
 
-  pub element-step : (arrow : Arrow) → Contains (slots_at p n) (Some arrow) → (by : LinkBy) × Step by arrow
-  element-step arrow (slot, low, is) = (unwrap_or (slice_get (makers_of p n place) slot) Below, slot-step slot arrow low (has-held (slots_at p n) slot arrow low is))
+      groups : List (Option Arrow)
+      groups = group_slots p n place
+
+      both : unwrap_or (slice_get (own ++ groups) slot) None ≡ Some arrow
+      both = ap (λ xs. unwrap_or (slice_get xs slot) None) (sym (slots-element p n place at)) ∙ is
+
+      by : (slot < length own) ⊎ (length own ≤ slot) → Step (made_by p n place slot) arrow
+      by (inl less) =
+          subst (λ b. Step b arrow) (sym (unwrap_or-slice_get (makers_of p n place) slot None))
+          (zip-at Slot own (makers_of p n place) slot None None own-steps less arrow (sym (unwrap_or-slice_get own slot None) ∙ in-first own groups slot None less ∙ both))
+      by (inr past) =
+          let a = slot - length own in
+          let split : slot ≡ length own + a = omega (arith, past) in
+          let held : unwrap_or (slice_get groups a) None ≡ Some arrow = sym (at-past own groups slot a None split) ∙ both in
+          let under : a < length groups = omega (arith, low, split, ap (λ (xs : List (Option Arrow)). length xs) (slots-element p n place at), length-append own groups) in
+          let none : None ≡ made_by p n place slot =
+          sym (ap (λ (o : Option (Option LinkBy)). unwrap_or o None) (slice_get_past (makers_of p n place) slot (omega (arith, past, zip-long Slot own (makers_of p n place) own-steps)))) in
+          subst (λ b. Step b arrow) none (groups-step arrow (held-has groups a arrow under held))
+
+  pub element-step : (arrow : Arrow) → Contains (slots_at p n) (Some arrow) → ((by : LinkBy) × IsArrowOf p place by arrow) ⊎ ((by : Option LinkBy) × IsVia p place by arrow)
+  element-step arrow (slot, low, is) = by (made_by p n place slot) (slot-step slot arrow low (has-held (slots_at p n) slot arrow low is))
+    where
+      by : (by : Option LinkBy) → Step by arrow → ((by : LinkBy) × IsArrowOf p place by arrow) ⊎ ((by : Option LinkBy) × IsVia p place by arrow)
+      by None via = inr (None, via)
+      by (Some maker) (inl made) = inl (maker, made)
+      by (Some maker) (inr via) = inr (Some maker, via)
 
 -- what lies behind the nodes of elements leads to nodes of elements
 abbrev pub LeadsBack : Plan → Arrow → Type 0
@@ -160,10 +253,23 @@ parts-back p plan place is arrow has =
     let (part, inside, counts, at) = parts-arrow p place.cube (parts_of p.model.space place) arrow has in
     (record { cube = place.cube; element = part.0 }, record { cube = is.cube; element = part-low p.model place part plan.valid inside }, sym (ap (λ (a : Arrow). a.to) at))
 
+shared-back : (p : Plan) (plan : IsPlan p) (s : Source) (is : IsSource p.model s) (arrow : Arrow) (w : Follows) → way_of p.model s ≡ w → member_by p s w ≡ Some arrow → LeadsBack p arrow
+shared-back p plan s is arrow Same way made = absurd (cc)
+shared-back p plan s is arrow Component way made = absurd (cc)
+shared-back p plan s is arrow (Always target) way made =
+    let names = names-within p.model s.cube (precedent s) plan.valid is.reads in
+    let below : Names s.cube (cube_read s) (width p.model.space (cube_read s)) (Always target) = subst (Names s.cube (cube_read s) (width p.model.space (cube_read s))) way names in (
+      record { cube = cube_read s; element = target },
+      record { cube = reads-cube p.model s.cube (precedent s) is.cube is.reads; element = below },
+      sym (ap (λ (a : Arrow). a.to) (same_Some _ _ made)),
+    )
+shared-back p plan s is arrow (Sent to) way made = absurd (cc)
+shared-back p plan s is arrow (SentOver i to) way made = absurd (cc)
+
 pub behind-back : (p : Plan) (plan : IsPlan p) (n : ℕ) (arrow : Arrow) → parts_from p ≤ n → Contains (slots_at p n) (Some arrow) → LeadsBack p arrow
 behind-back p plan n arrow behind has = elim (cases_lt n (all_from p)) [
   | inl low ↦ parts low
-  | inr high ↦ elim (cases_lt n (totals_from p)) [ inl low ↦ reached high low | inr above ↦ totals above (cases_lt (n - totals_from p) (length p.sources)) ]
+  | inr high ↦ elim (cases_lt n (totals_from p)) [ inl low ↦ reached high low | inr above ↦ elim (cases_lt n (hubs_from p)) [ inl low ↦ totals above low | inr beyond ↦ shared beyond (cases_lt n (node_count p)) ] ]
 ]
   where
     parts : n < all_from p → LeadsBack p arrow
@@ -177,12 +283,16 @@ behind-back p plan n arrow behind has = elim (cases_lt n (all_from p)) [
         let (s, at) = there p.sources (n - all_from p) (omega arith) in
         reached-back p plan s (found_holds (IsSource p.model) p.sources (n - all_from p) s plan.sources at) false arrow (subst (λ xs. Contains xs (Some arrow)) (slots-all p n (n - all_from p) s (omega arith) at) has)
 
-    totals : totals_from p ≤ n → (n - totals_from p < length p.sources) ⊎ (length p.sources ≤ n - totals_from p) → LeadsBack p arrow
-    totals high (inl low) =
-        let (s, at) = there p.sources (n - totals_from p) low in
+    totals : totals_from p ≤ n → n < hubs_from p → LeadsBack p arrow
+    totals high low =
+        let (s, at) = there p.sources (n - totals_from p) (omega arith) in
         reached-back p plan s (found_holds (IsSource p.model) p.sources (n - totals_from p) s plan.sources at) true arrow (subst (λ xs. Contains xs (Some arrow)) (slots-totals p n (n - totals_from p) s (omega arith) at) has)
-    totals high (inr past) =
-        let none : slots_at p n ≡ [] = ap (λ (o : Option Vertex). option_map_or (slots_of p n) o [])
-        (vertex-totals p n (n - totals_from p) (omega arith) ∙ ap (option_map (λ (s : Source). Reached s true)) (slice_get_past p.sources (n - totals_from p) past)) in
-        let (k, low, is) = subst (λ xs. Contains xs (Some arrow)) none has in
+
+    shared : hubs_from p ≤ n → (n < node_count p) ⊎ (node_count p ≤ n) → LeadsBack p arrow
+    shared high (inl low) =
+        let g = n - hubs_from p in
+        let (s, inside, made) = map-has (member_arrow p) (members p g) (Some arrow) (subst (λ xs. Contains xs (Some arrow)) (slots-shared p n g (omega (arith, high)) (omega (arith, high, low))) has) in
+        shared-back p plan s (All-contains (IsSource p.model) (members p g) s (plan.grouped g) inside) arrow (way_of p.model s) refl made
+    shared high (inr past) =
+        let (k, low, is) = subst (λ xs. Contains xs (Some arrow)) (slots-none p n past) has in
         absurd (omega (arith, low))

@@ -1,5 +1,7 @@
 -- The arrows of a plan, by themselves and through the nodes that aren't those of elements.
-use Rattle.std.proofs.Common.{◌≡◌, ℕ, ◌<◌, ◌≤◌, ◌⊎◌, inl, inr, Bool, false, Some, Contains}
+use Rattle.std.proofs.Common.{◌≡◌, ℕ, ◌<◌, ◌≤◌, ◌⊎◌, inl, inr, Bool, false, Option, Some, None, Contains, length}
+use Rattle.std.specs.Prelude.{slice_get, unwrap_or}
+use Rattle.order_find.specs.Links.{made_on}
 use Rattle.least_ranks.specs.declared.arrow.Arrow.{Arrow}
 use Rattle.arrow_laws.specs.Nodes.{Node}
 use Rattle.arrow_laws.specs.Arrows.{IsArrow}
@@ -29,11 +31,18 @@ pub record IsArrowOf (p : Plan) (place : Place) (by : LinkBy) (arrow : Arrow) : 
   pub to : arrow.to ≡ number_of p.numbering target.cube target.element
   pub made : IsBy p.model (link_from place by) by (node target) arrow.strict
 
--- the arrow is weak and leads to another node, of which each arrow goes on so
-pub record IsVia (p : Plan) (place : Place) (by : LinkBy) (arrow : Arrow) : Type 0 where
+-- the arrow is weak and leads to another node, of which each arrow goes on so, by what makes the first one or else by
+-- what its own slot says
+pub record IsVia (p : Plan) (place : Place) (by : Option LinkBy) (arrow : Arrow) : Type 0 where
   pub weak : arrow.strict ≡ false
   pub behind : parts_from p ≤ arrow.to
-  pub each : (next : Arrow) → Contains (slots_at p arrow.to) (Some next) → IsArrowOf p place by next
+  pub each : (slot : ℕ) (next : Arrow) → slot < length (slots_at p arrow.to) → unwrap_or (slice_get (slots_at p arrow.to) slot) None ≡ Some next
+      → IsArrowOf p place (made_on p by (Some (record { node = arrow.to; slot = slot }))) next
+
+-- what an arrow of the node of an element is, by what makes it: one of the model, or one through another node
+abbrev pub Made : Plan → Place → Option LinkBy → Arrow → Type 0
+Made p place None arrow = IsVia p place None arrow
+Made p place (Some by) arrow = IsArrowOf p place by arrow ⊎ IsVia p place (Some by) arrow
 
 -- one of the node's slots holds such an arrow
 abbrev pub Goes : Plan → ℕ → ℕ → Bool → Type 0

@@ -1,10 +1,8 @@
 -- The links of a closed walk over a plan's graph are a circle of arrows of its model.
 use Rattle.std.proofs.Common.{◌≡◌, refl, sym, ap, ◌∙◌, arith, subst, ℕ, zero, suc, ◌<◌, ◌≤◌, ◌⊎◌, Bool, true, false, ◌||◌, Option, Some, None, List, [], ◌∷◌, ◌++◌, length, Contains, inl, inr}
-use Rattle.std.specs.Prelude.{slice_get, slice_index_or, unwrap_or, Any}
+use Rattle.std.specs.Prelude.{slice_get, slice_index_or, unwrap_or, is_some, not, Any, if◌then◌else◌}
 use Rattle.std.specs.Option.{option_map_or}
 use Rattle.std.proofs.lemmas.Bool.{cases_lt, or_left, or_right}
-use Rattle.std.proofs.lemmas.List.{append-nil}
-use Rattle.std.proofs.lemmas.List.Concat.{flat_map-append}
 use Rattle.std.proofs.lemmas.Option.{slice_get_within, slice_get_past, same_Some}
 use Rattle.lists.proofs.Found.{there}
 use Rattle.rule_model.specs.BoundModel.{BoundModel}
@@ -14,13 +12,12 @@ use Rattle.least_ranks.specs.Graph.{Arrows, IsArrow, IsStrictStep, IsClosedWalk,
 use Rattle.least_ranks.proofs.WayFacts.{IsWalk-push}
 use Rattle.order_find.specs.declared.link.Link.{Link}
 use Rattle.order_find.specs.declared.link.LinkBy.{LinkBy}
-use Rattle.order_find.specs.declared.link.LinkBy.TheVariants.{Below}
 use Rattle.order_find.specs.declared.numbering.Place.{Place}
 use Rattle.order_find.specs.Slots.{Plan, parts_from, slots_at, arrows_of}
 use Rattle.order_find.specs.PlanOfAll.{IsPlanOfAll}
 use Rattle.order_find.specs.Circles.{IsWalk, IsCircle}
-use Rattle.order_find.specs.Links.{makers_of, link_of, links_at, links_of}
-use Rattle.order_find.proofs.Through.{node, link_from, IsArrowOf, IsVia}
+use Rattle.order_find.specs.Links.{made_by, made_on, link_of, links_at, links_of, begun_of}
+use Rattle.order_find.proofs.Through.{node, link_from, IsArrowOf, IsVia, Made}
 use Rattle.order_find.proofs.Steps.{slot-step, LeadsBack, behind-back}
 use Rattle.order_find.proofs.Fitting.{slot-has, slot-at}
 
@@ -68,9 +65,10 @@ module _ (p : Plan) (all : IsPlanOfAll p) where
 
   -- from a node behind those of elements, to which a step from the node of an element leads
   abbrev FromBehind : List Step → ℕ → Place → Type 0
-  FromBehind steps t to = (n : ℕ) (from : Place) (by : LinkBy) → parts_from p ≤ n
-      → ((next : Arrow) → Contains (slots_at p n) (Some next) → IsArrowOf p from by next) → IsTrail graph steps n t
-      → Leads p.model (link_from from by ∷ links_of p steps) from to (HasStrict graph steps)
+  FromBehind steps t to = (n : ℕ) (from : Place) (by : Option LinkBy) → parts_from p ≤ n
+      → ((slot : ℕ) (next : Arrow) → slot < length (slots_at p n) → unwrap_or (slice_get (slots_at p n) slot) None ≡ Some next
+      → IsArrowOf p from (made_on p by (Some (record { node = n; slot = slot }))) next) → IsTrail graph steps n t
+      → Leads p.model (link_from from (made_on p by (slice_get steps 0)) ∷ links_of p steps) from to (HasStrict graph steps)
 
   there-at : (place : Place) (by : LinkBy) (arrow : Arrow) (a : IsArrowOf p place by arrow) → slice_get p.numbering.places.items arrow.to ≡ Some a.target
   there-at place by arrow a = ap (slice_get p.numbering.places.items) a.to ∙ all.plan.numbering.there a.target a.within
@@ -91,11 +89,11 @@ module _ (p : Plan) (all : IsPlanOfAll p) where
   none-behind : (n : ℕ) → parts_from p ≤ n → slice_get p.numbering.places.items n ≡ None
   none-behind n behind = slice_get_past p.numbering.places.items n behind
 
-  links-none : (step : Step) → parts_from p ≤ step.node → links_at p step ≡ []
-  links-none step behind = ap (λ (o : Option Place). option_map_or (λ place. link_of p step place ∷ []) o []) (none-behind step.node behind)
+  links-none : (step : Step) (next : Option Step) → parts_from p ≤ step.node → links_at p step next ≡ []
+  links-none step next behind = ap (λ (o : Option Place). option_map_or (λ place. link_of p step next place ∷ []) o []) (none-behind step.node behind)
 
-  links-here : (step : Step) (place : Place) → slice_get p.numbering.places.items step.node ≡ Some place → links_at p step ≡ link_of p step place ∷ []
-  links-here step place at = ap (λ (o : Option Place). option_map_or (λ place. link_of p step place ∷ []) o []) at
+  links-here : (step : Step) (next : Option Step) (place : Place) → slice_get p.numbering.places.items step.node ≡ Some place → links_at p step next ≡ link_of p step next place ∷ []
+  links-here step next place at = ap (λ (o : Option Place). option_map_or (λ place. link_of p step next place ∷ []) o []) at
 
   from-place : (step : Step) (steps : List Step) (t : ℕ) (to : Place) → FromPlace steps t to → FromBehind steps t to → FromPlace (step ∷ steps) t to
   from-place step steps t to on through n from here walk =
@@ -103,38 +101,48 @@ module _ (p : Plan) (all : IsPlanOfAll p) where
       let arrow : Arrow = walk.1.0 in
       let is = walk.1.1 in
       let held = slot-at p step.node step.slot arrow is in
-      let first : links_of p (step ∷ steps) ≡ link_of p step from ∷ links_of p steps = ap (λ ls. ls ++ links_of p steps) (links-here step from at) in
-      subst (λ ls. Leads p.model ls from to (HasStrict graph (step ∷ steps))) (sym first) (by-step arrow is walk.1.2 (slot-step p all step.node from at step.slot arrow held.0 held.1))
+      let first : links_of p (step ∷ steps) ≡ link_of p step (slice_get steps 0) from ∷ links_of p steps = ap (λ ls. ls ++ links_of p steps) (links-here step (slice_get steps 0) from at) in
+      subst (λ ls. Leads p.model ls from to (HasStrict graph (step ∷ steps))) (sym first)
+      (by-step arrow is walk.1.2 (made_by p step.node from step.slot) (slot-step p all step.node from at step.slot arrow held.0 held.1))
     where
-      by-step : (arrow : Arrow) → IsArrow graph step.node step.slot arrow → IsTrail graph steps arrow.to t
-          → IsArrowOf p from (unwrap_or (slice_get (makers_of p step.node from) step.slot) Below) arrow ⊎ IsVia p from (unwrap_or (slice_get (makers_of p step.node from) step.slot) Below) arrow
-          → Leads p.model (link_of p step from ∷ links_of p steps) from to (HasStrict graph (step ∷ steps))
-      by-step arrow is rest (inl a) =
-          where-strict p.model (link_of p step from ∷ links_of p steps) from to ((arrow.strict ≡ true) ⊎ HasStrict graph steps) (HasStrict graph (step ∷ steps)) which
-          (join (unwrap_or (slice_get (makers_of p step.node from) step.slot) Below) arrow from to (links_of p steps) (HasStrict graph steps) a
-          (on arrow.to a.target (there-at from (unwrap_or (slice_get (makers_of p step.node from) step.slot) Below) arrow a) rest))
+      direct : (by : LinkBy) (arrow : Arrow) → IsArrow graph step.node step.slot arrow → IsTrail graph steps arrow.to t → IsArrowOf p from by arrow
+          → Leads p.model (link_from from by ∷ links_of p steps) from to (HasStrict graph (step ∷ steps))
+      direct by arrow is rest a =
+          where-strict p.model (link_from from by ∷ links_of p steps) from to ((arrow.strict ≡ true) ⊎ HasStrict graph steps) (HasStrict graph (step ∷ steps)) which
+          (join by arrow from to (links_of p steps) (HasStrict graph steps) a (on arrow.to a.target (there-at from by arrow a) rest))
         where
           which : HasStrict graph (step ∷ steps) → (arrow.strict ≡ true) ⊎ HasStrict graph steps
           which (inl own) = inl (strict-here graph step arrow is own)
           which (inr later) = inr later
-      by-step arrow is rest (inr via) =
-          where-strict p.model (link_of p step from ∷ links_of p steps) from to (HasStrict graph steps) (HasStrict graph (step ∷ steps)) which
-          (through arrow.to from (unwrap_or (slice_get (makers_of p step.node from) step.slot) Below) via.behind via.each rest)
+
+      over : (by : Option LinkBy) (arrow : Arrow) → IsArrow graph step.node step.slot arrow → IsTrail graph steps arrow.to t → IsVia p from by arrow
+          → Leads p.model (link_from from (made_on p by (slice_get steps 0)) ∷ links_of p steps) from to (HasStrict graph (step ∷ steps))
+      over by arrow is rest via =
+          where-strict p.model (link_from from (made_on p by (slice_get steps 0)) ∷ links_of p steps) from to (HasStrict graph steps) (HasStrict graph (step ∷ steps)) which
+          (through arrow.to from by via.behind via.each rest)
         where
           which : HasStrict graph (step ∷ steps) → HasStrict graph steps
           which (inl own) = let on_it = strict-here graph step arrow is own in let off = via.weak in absurd (cc)
           which (inr later) = later
 
+      by-step : (arrow : Arrow) → IsArrow graph step.node step.slot arrow → IsTrail graph steps arrow.to t → (by : Option LinkBy) → Made p from by arrow
+          → Leads p.model (link_from from (made_on p by (slice_get steps 0)) ∷ links_of p steps) from to (HasStrict graph (step ∷ steps))
+      by-step arrow is rest None via = over None arrow is rest via
+      by-step arrow is rest (Some by) (inl a) = direct by arrow is rest a
+      by-step arrow is rest (Some by) (inr via) = over (Some by) arrow is rest via
+
   from-behind : (step : Step) (steps : List Step) (t : ℕ) (to : Place) → FromPlace steps t to → FromBehind (step ∷ steps) t to
   from-behind step steps t to on n from by behind each walk =
       let arrow : Arrow = walk.1.0 in
       let is = walk.1.1 in
-      let has = (slot-has p step.node step.slot arrow is).1 in
-      let a : IsArrowOf p from by arrow = each arrow (subst (λ m. Contains (slots_at p m) (Some arrow)) walk.0 has) in
-      let none : links_of p (step ∷ steps) ≡ links_of p steps = ap (λ ls. ls ++ links_of p steps) (links-none step (omega (arith, behind, walk.0))) in
-      subst (λ ls. Leads p.model (link_from from by ∷ ls) from to (HasStrict graph (step ∷ steps))) (sym none)
-      (where-strict p.model (link_from from by ∷ links_of p steps) from to ((arrow.strict ≡ true) ⊎ HasStrict graph steps) (HasStrict graph (step ∷ steps)) (which arrow is)
-      (join by arrow from to (links_of p steps) (HasStrict graph steps) a (on arrow.to a.target (there-at from by arrow a) walk.1.2)))
+      let held = slot-at p step.node step.slot arrow is in
+      let itself : IsArrowOf p from (made_on p by (Some (record { node = n; slot = step.slot }))) arrow =
+      each step.slot arrow (subst (λ m. step.slot < length (slots_at p m)) walk.0 held.0) (subst (λ m. unwrap_or (slice_get (slots_at p m) step.slot) None ≡ Some arrow) walk.0 held.1) in
+      let a : IsArrowOf p from (made_on p by (Some step)) arrow = subst (λ m. IsArrowOf p from (made_on p by (Some (record { node = m; slot = step.slot }))) arrow) (sym walk.0) itself in
+      let none : links_of p (step ∷ steps) ≡ links_of p steps = ap (λ ls. ls ++ links_of p steps) (links-none step (slice_get steps 0) (omega (arith, behind, walk.0))) in
+      subst (λ ls. Leads p.model (link_from from (made_on p by (Some step)) ∷ ls) from to (HasStrict graph (step ∷ steps))) (sym none)
+      (where-strict p.model (link_from from (made_on p by (Some step)) ∷ links_of p steps) from to ((arrow.strict ≡ true) ⊎ HasStrict graph steps) (HasStrict graph (step ∷ steps)) (which arrow is)
+      (join (made_on p by (Some step)) arrow from to (links_of p steps) (HasStrict graph steps) a (on arrow.to a.target (there-at from (made_on p by (Some step)) arrow a) walk.1.2)))
     where
       which : (arrow : Arrow) → IsArrow graph step.node step.slot arrow → HasStrict graph (step ∷ steps) → (arrow.strict ≡ true) ⊎ HasStrict graph steps
       which arrow is (inl own) = inl (strict-here graph step arrow is own)
@@ -157,7 +165,7 @@ module _ (p : Plan) (all : IsPlanOfAll p) where
       (node place, subst (λ b. IsWalk p.model (links_of p steps) b (node place) (node place)) (leads.has strict) leads.walk)
 
   -- a walk that begins behind the nodes of elements begins as well with its next step
-  from-next : (step : Step) (steps : List Step) (start : ℕ) → parts_from p ≤ start → IsTrail graph (step ∷ steps) start start → HasStrict graph (step ∷ steps) → IsCircle p.model (links_of p (step ∷ steps))
+  from-next : (step : Step) (steps : List Step) (start : ℕ) → parts_from p ≤ start → IsTrail graph (step ∷ steps) start start → HasStrict graph (step ∷ steps) → IsCircle p.model (links_of p (steps ++ step ∷ []))
   from-next step steps start high walk strict =
       let arrow : Arrow = walk.1.0 in
       let is = walk.1.1 in
@@ -166,19 +174,22 @@ module _ (p : Plan) (all : IsPlanOfAll p) where
       let back : LeadsBack p arrow = behind-back p all.plan step.node arrow behind has in
       let at : slice_get p.numbering.places.items arrow.to ≡ Some back.0 = ap (slice_get p.numbering.places.items) back.2 ∙ all.plan.numbering.there back.0 back.1 in
       let rest : IsTrail graph steps arrow.to step.node = subst (λ m. IsTrail graph steps arrow.to m) (sym walk.0) walk.1.2 in
-      let turned = circle-from (steps ++ step ∷ []) arrow.to back.0 at (IsWalk-push graph steps step arrow.to arrow is rest) (strict-last graph step steps strict) in
-      let none = links-none step behind in
-      let one : links_of p (step ∷ []) ≡ [] = ap (λ ls. ls ++ []) none in
-      let late : links_of p (steps ++ step ∷ []) ≡ links_of p steps = flat_map-append (links_at p) steps (step ∷ []) ∙ ap (λ ls. links_of p steps ++ ls) one ∙ append-nil (links_of p steps) in
-      let early : links_of p (step ∷ steps) ≡ links_of p steps = ap (λ ls. ls ++ links_of p steps) none in
-      subst (IsCircle p.model) (late ∙ sym early) turned
+      circle-from (steps ++ step ∷ []) arrow.to back.0 at (IsWalk-push graph steps step arrow.to arrow is rest) (strict-last graph step steps strict)
 
-  circle-at : (steps : List Step) (start : ℕ) → IsTrail graph steps start start → HasStrict graph steps → (start < parts_from p) ⊎ (parts_from p ≤ start) → IsCircle p.model (links_of p steps)
+  begun-low : (step : Step) (steps : List Step) (place : Place) → slice_get p.numbering.places.items step.node ≡ Some place → begun_of p (step ∷ steps) ≡ step ∷ steps
+  begun-low step steps place at = ap (λ (o : Option Place). if not (is_some o) then steps ++ step ∷ [] else step ∷ steps) at
+
+  begun-high : (step : Step) (steps : List Step) → parts_from p ≤ step.node → begun_of p (step ∷ steps) ≡ steps ++ step ∷ []
+  begun-high step steps behind = ap (λ (o : Option Place). if not (is_some o) then steps ++ step ∷ [] else step ∷ steps) (none-behind step.node behind)
+
+  circle-at : (steps : List Step) (start : ℕ) → IsTrail graph steps start start → HasStrict graph steps → (start < parts_from p) ⊎ (parts_from p ≤ start) → IsCircle p.model (links_of p (begun_of p steps))
   circle-at [] start walk strict which = absurd strict
   circle-at (step ∷ steps) start walk strict (inl low) =
       let (place, at) = there p.numbering.places.items start low in
-      circle-from (step ∷ steps) start place at walk strict
-  circle-at (step ∷ steps) start walk strict (inr high) = from-next step steps start high walk strict
+      subst (λ xs. IsCircle p.model (links_of p xs)) (sym (begun-low step steps place (ap (slice_get p.numbering.places.items) walk.0 ∙ at)))
+      (circle-from (step ∷ steps) start place at walk strict)
+  circle-at (step ∷ steps) start walk strict (inr high) =
+      subst (λ xs. IsCircle p.model (links_of p xs)) (sym (begun-high step steps (omega (arith, high, walk.0)))) (from-next step steps start high walk strict)
 
-  pub links-circle : (steps : List Step) → IsClosedWalk graph steps → IsCircle p.model (links_of p steps)
+  pub links-circle : (steps : List Step) → IsClosedWalk graph steps → IsCircle p.model (links_of p (begun_of p steps))
   links-circle steps closed = circle-at steps closed.start closed.walk (strict-any graph steps closed.strict) (cases_lt closed.start (parts_from p))

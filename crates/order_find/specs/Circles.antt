@@ -6,13 +6,10 @@ use Rattle.rule_model.specs.BoundModel.{BoundModel, rules_of}
 use Rattle.ref_order.specs.Counted.{Counted, counted_of}
 use Rattle.arrow_laws.specs.Nodes.{Node}
 use Rattle.arrow_laws.specs.Arrows.{IsReadArrow, IsLeafArrow}
+use Rattle.read_sources.specs.Sources.{read_for}
 use Rattle.order_find.specs.declared.link.Link.{Link}
 use Rattle.order_find.specs.declared.link.LinkBy.{LinkBy}
 use Rattle.order_find.specs.declared.link.LinkBy.TheVariants.{Reference, Below}
-
--- what a reference reads for this kind of cell, `true` for leaf cells
-abbrev pub read_for : Bool → Counted → Option Precedent
-read_for kind reference = if kind then reference.leaf else reference.cons
 
 -- an arrow that a reference makes: the statement of this number of a cube, from 1, and the reference of this number of
 -- the statement, from 1

@@ -6,7 +6,8 @@ use Rattle.rule_model.specs.BoundModel.{BoundModel}
 use Rattle.arrow_laws.specs.Nodes.{last_of}
 use Rattle.order_find.specs.declared.numbering.Place.{Place}
 use Rattle.order_find.specs.declared.numbering.Numbering.{Numbering}
-use Rattle.order_find.specs.declared.source.Source.{Source}
+use Rattle.read_sources.specs.declared.source.Source.{Source}
+use Rattle.read_sources.specs.declared.parting.Parted.{Parted}
 use Rattle.order_find.specs.declared.filing.Filing.{Filing}
 use Rattle.order_find.specs.Numbers.{IsPlace, count_of, number_of}
 use Rattle.order_find.specs.Slots.{Plan, IsSourceOf}
@@ -16,9 +17,16 @@ pub record Adds (holds : ℕ → Bool) (k : ℕ) (old new : List (List ℕ)) : T
   pub rows : length new ≡ length old
   pub each : (n : ℕ) → slice_index_or new n [] ≡ slice_index_or old n [] ++ (if holds n then k ∷ [] else [])
 
--- the graph of these
-abbrev pub plan_of : BoundModel → Numbering → List Source → Filing → Plan
-plan_of m numbering sources filing =
+-- which of these sources are looked at
+pub record Looked : Type 0 where
+  pub model : BoundModel
+  pub numbering : Numbering
+  pub sources : List Source
+  pub of_cubes : List (List ℕ)
+  pub of_nodes : List (List ℕ)
+
+abbrev pub looked_by : BoundModel → Numbering → List Source → Filing → Looked
+looked_by m numbering sources filing =
     record {
       model = m;
       numbering = numbering;
@@ -27,13 +35,28 @@ plan_of m numbering sources filing =
       of_nodes = filing.of_nodes.items;
     }
 
+-- the graph of these
+abbrev pub plan_of : BoundModel → Numbering → Parted → Filing → Filing → Plan
+plan_of m numbering parted filing grouped =
+    record {
+      model = m;
+      numbering = numbering;
+      sources = parted.singles.items;
+      of_cubes = filing.of_cubes.items;
+      of_nodes = filing.of_nodes.items;
+      heads = parted.heads.items;
+      groups = parted.groups.items;
+      groups_of_cubes = grouped.of_cubes.items;
+      groups_of_nodes = grouped.of_nodes.items;
+    }
+
 -- so many sources are looked at for the elements that their areas have in the last dimension
-pub record AreFiled (p : Plan) (count : ℕ) : Type 0 where
+pub record AreFiled (p : Looked) (count : ℕ) : Type 0 where
   pub cubes : length p.of_cubes ≡ length p.model.space.cubes
   pub nodes : length p.of_nodes ≡ count_of p.numbering
-  pub of_cubes : (cube k : ℕ) → Contains (slice_index_or p.of_cubes cube []) k → IsSourceOf p cube k
+  pub of_cubes : (cube k : ℕ) → Contains (slice_index_or p.of_cubes cube []) k → IsSourceOf p.sources cube k
   pub of_nodes : (n k : ℕ) (place : Place) → slice_get p.numbering.places.items n ≡ Some place
-      → Contains (slice_index_or p.of_nodes n []) k → IsSourceOf p place.cube k
+      → Contains (slice_index_or p.of_nodes n []) k → IsSourceOf p.sources place.cube k
   pub few_of_cubes : (cube : ℕ) → length (slice_index_or p.of_cubes cube []) ≤ count
   pub few_of_nodes : (n : ℕ) → length (slice_index_or p.of_nodes n []) ≤ count
   pub looked_at : (k : ℕ) (s : Source) (place : Place) → k < count → slice_get p.sources k ≡ Some s

@@ -1,12 +1,9 @@
 pub mod Numbers
-pub mod Ways
 pub mod Slots
-pub mod Sources
 pub mod PlanOfAll
 pub mod Filing
 pub mod Unlagged
 pub mod Circles
-pub mod Gathering
 pub mod Found
 pub mod Links
 pub mod Cut

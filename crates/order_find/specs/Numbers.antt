@@ -3,12 +3,9 @@ use Rattle.std.specs.Prelude.{◌≡◌, ℕ, ◌+◌, ◌<◌, ◌^◌, Some, L
 use Rattle.std.specs.List.{range_with_len}
 use Rattle.cube_space.specs.Layout.{Layout, sizes}
 use Rattle.arrow_laws.specs.Nodes.{last_of}
+pub use Rattle.read_sources.specs.Ways.{width}
 use Rattle.order_find.specs.declared.numbering.Place.{Place}
 use Rattle.order_find.specs.declared.numbering.Numbering.{Numbering}
-
--- how many elements the last dimension of a cube has
-abbrev pub width : Layout → ℕ → ℕ
-width space cube = slice_index_or (sizes space cube) (last_of space cube) 0
 
 pub record IsPlace (space : Layout) (place : Place) : Type 0 where
   pub cube : place.cube < length space.cubes

@@ -16,25 +16,30 @@ use Rattle.least_ranks.specs.Graph.{Arrows}
 use Rattle.arrow_laws.specs.Nodes.{last_of}
 use Rattle.order_find.specs.declared.numbering.Place.{Place}
 use Rattle.order_find.specs.declared.numbering.Numbering.{Numbering}
-use Rattle.order_find.specs.declared.source.Source.{Source}
+use Rattle.read_sources.specs.declared.source.Source.{Source}
 use Rattle.order_find.specs.declared.slots.Vertex.{Vertex}
-use Rattle.order_find.specs.declared.slots.Vertex.TheVariants.{Element, Components, Reached}
+use Rattle.order_find.specs.declared.slots.Vertex.TheVariants.{Element, Components, Reached, Shared}
 use Rattle.order_find.specs.Numbers.{IsNumbering, IsPlace, count_of, number_of}
-use Rattle.order_find.specs.Ways.{Follows, Same, Component, Always, Sent, SentOver, IsSource, way_of, reads_from}
-use Rattle.order_find.specs.Ways.{is_consolidated, serves_any, cube_read}
+use Rattle.read_sources.specs.Ways.{Follows, Same, Component, Always, Sent, SentOver, IsSource, way_of, reads_from}
+use Rattle.read_sources.specs.Ways.{is_consolidated, serves_any, cube_read}
 
--- what the graph is made of: the numbers of the nodes, what is read at the same lag, and which of it is looked at for
--- each element of a cube, and for one element
+-- what the graph is made of: the numbers of the nodes, the single sources of what is read at the same lag, and which of
+-- them are looked at for each element of a cube, and for one element; and groups of sources that each always read the
+-- node of one element and read from the same elements as the group's head, and which groups are looked at so
 pub record Plan : Type 0 where
   pub model : BoundModel
   pub numbering : Numbering
   pub sources : List Source
   pub of_cubes : List (List ℕ)
   pub of_nodes : List (List ℕ)
+  pub heads : List Source
+  pub groups : List (List Source)
+  pub groups_of_cubes : List (List ℕ)
+  pub groups_of_nodes : List (List ℕ)
 
--- Behind the nodes of elements stand one for the components of each, and two for each source: for all that it reads,
--- and for what it reads from cells with a consolidated element in the dimension by which the node is found. They are
--- there so that not each pair of elements has an arrow of its own.
+-- Behind the nodes of elements stand one for the components of each; two for each source, for all that it reads and for
+-- what it reads from cells with a consolidated element in the dimension by which the node is found; and one for each
+-- group. They are there so that not each pair of elements has an arrow of its own, nor each element and source.
 abbrev pub parts_from : Plan → ℕ
 parts_from p = count_of p.numbering
 
@@ -44,16 +49,20 @@ all_from p = count_of p.numbering + count_of p.numbering
 abbrev pub totals_from : Plan → ℕ
 totals_from p = all_from p + length p.sources
 
-abbrev pub node_count : Plan → ℕ
-node_count p = totals_from p + length p.sources
+abbrev pub hubs_from : Plan → ℕ
+hubs_from p = totals_from p + length p.sources
 
--- which node has this number: that of an element, of the components of one, or of what a source reads
+abbrev pub node_count : Plan → ℕ
+node_count p = hubs_from p + length p.heads
+
+-- which node has this number: that of an element, of the components of one, of what a source reads, or of a group
 abbrev pub vertex_at : Plan → ℕ → Option Vertex
 vertex_at p n =
     if nat_lt n (parts_from p) then option_map Element (slice_get p.numbering.places.items n)
     else if nat_lt n (all_from p) then option_map Components (slice_get p.numbering.places.items (n - parts_from p))
     else if nat_lt n (totals_from p) then option_map (λ s. Reached s false) (slice_get p.sources (n - all_from p))
-    else option_map (λ s. Reached s true) (slice_get p.sources (n - totals_from p))
+    else if nat_lt n (hubs_from p) then option_map (λ s. Reached s true) (slice_get p.sources (n - totals_from p))
+    else if nat_lt n (node_count p) then Some (Shared (n - hubs_from p)) else None
 
 -- an arrow to the node of an element
 abbrev pub arrow_to : Plan → ℕ → Bool → ℕ → Arrow
@@ -116,14 +125,47 @@ reached_by p s totals (SentOver i to) =
     (range_with_len 0 (set_count (slice_index_or (sizes p.model.space s.cube) i 0)
     (slice_index_or s.area.now.sets i None)))
 
--- the arrows of a node, one a slot
-abbrev pub slots_of : Plan → ℕ → Vertex → List (Option Arrow)
-slots_of p n (Element place) =
+-- the arrow from the node of an element to that of a group, where its head reads from there
+abbrev pub group_by : Plan → Place → ℕ → Source → Option Arrow
+group_by p place g s =
+    if reads_from p.model s (last_of p.model.space s.cube) place.element && serves_any p.model s place.element
+    then Some (record { to = hubs_from p + g; strict = false }) else None
+
+abbrev pub group_arrow : Plan → Place → ℕ → Option Arrow
+group_arrow p place g = option_map_or (group_by p place g) (slice_get p.heads g) None
+
+-- and the arrow from there to what a source of the group always reads
+abbrev pub member_by : Plan → Source → Follows → Option Arrow
+member_by p s Same = None
+member_by p s Component = None
+member_by p s (Always target) = Some (arrow_to p (cube_read s) (not s.weak) target)
+member_by p s (Sent to) = None
+member_by p s (SentOver i to) = None
+
+abbrev pub member_arrow : Plan → Source → Option Arrow
+member_arrow p s = member_by p s (way_of p.model s)
+
+abbrev pub members : Plan → ℕ → List Source
+members p g = slice_index_or p.groups g []
+
+-- the arrows of the node of an element: to leaves and by single sources, and to the nodes of groups
+abbrev pub own_slots : Plan → ℕ → Place → List (Option Arrow)
+own_slots p n place =
     map (leaf_arrow p place.cube) (leaves_below p.model.space place)
     ++ (map (source_arrow p n place) (slice_index_or p.of_cubes place.cube [])
     ++ map (source_arrow p n place) (slice_index_or p.of_nodes n []))
+
+abbrev pub group_slots : Plan → ℕ → Place → List (Option Arrow)
+group_slots p n place =
+    map (group_arrow p place) (slice_index_or p.groups_of_cubes place.cube [])
+    ++ map (group_arrow p place) (slice_index_or p.groups_of_nodes n [])
+
+-- the arrows of a node, one a slot
+abbrev pub slots_of : Plan → ℕ → Vertex → List (Option Arrow)
+slots_of p n (Element place) = own_slots p n place ++ group_slots p n place
 slots_of p n (Components place) = map (part_arrow p place.cube) (parts_of p.model.space place)
 slots_of p n (Reached s totals) = reached_by p s totals (way_of p.model s)
+slots_of p n (Shared g) = map (member_arrow p) (members p g)
 
 abbrev pub slots_at : Plan → ℕ → List (Option Arrow)
 slots_at p n = option_map_or (slots_of p n) (vertex_at p n) []
@@ -133,6 +175,7 @@ abbrev pub IsVertex : Plan → ℕ → Vertex → Type 0
 IsVertex p n (Element place) = IsPlace p.model.space place × (n < count_of p.numbering)
 IsVertex p n (Components place) = IsPlace p.model.space place
 IsVertex p n (Reached s totals) = IsSource p.model s
+IsVertex p n (Shared g) = g < length p.heads
 
 unfoldable pub arrows_of : Plan → Arrows
 arrows_of p =
@@ -143,12 +186,12 @@ arrows_of p =
     }
 
 -- the source of this number is one of the cube
-abbrev pub IsSourceOf : Plan → ℕ → ℕ → Type 0
-IsSourceOf p cube k = (s : Source) × (slice_get p.sources k ≡ Some s) × (s.cube ≡ cube)
+abbrev pub IsSourceOf : List Source → ℕ → ℕ → Type 0
+IsSourceOf sources cube k = (s : Source) × (slice_get sources k ≡ Some s) × (s.cube ≡ cube)
 
--- how many sources are looked at for each element of a cube at most, and for one element
+-- how many sources or groups are looked at for each element of a cube at most, and for one element
 abbrev pub most_slots : ℕ
-most_slots = 2 ^ 30
+most_slots = 2 ^ 29
 
 -- what holds of each plan
 pub record IsPlan (p : Plan) : Type 0 where
@@ -157,8 +200,13 @@ pub record IsPlan (p : Plan) : Type 0 where
   pub few : node_count p < 2 ^ 32
   pub numbering : IsNumbering p.model.space p.numbering
   pub sources : All (IsSource p.model) p.sources
-  pub of_cubes : (cube k : ℕ) → Contains (slice_index_or p.of_cubes cube []) k → IsSourceOf p cube k
+  pub heads : All (IsSource p.model) p.heads
+  pub grouped : (g : ℕ) → All (IsSource p.model) (members p g)
+  pub of_cubes : (cube k : ℕ) → Contains (slice_index_or p.of_cubes cube []) k → IsSourceOf p.sources cube k
   pub of_nodes : (n k : ℕ) (place : Place) → slice_get p.numbering.places.items n ≡ Some place
-      → Contains (slice_index_or p.of_nodes n []) k → IsSourceOf p place.cube k
+      → Contains (slice_index_or p.of_nodes n []) k → IsSourceOf p.sources place.cube k
   pub few_of_cubes : (cube : ℕ) → length (slice_index_or p.of_cubes cube []) ≤ most_slots
   pub few_of_nodes : (n : ℕ) → length (slice_index_or p.of_nodes n []) ≤ most_slots
+  pub few_members : (g : ℕ) → length (members p g) ≤ most_slots
+  pub few_groups_of_cubes : (cube : ℕ) → length (slice_index_or p.groups_of_cubes cube []) ≤ most_slots
+  pub few_groups_of_nodes : (n : ℕ) → length (slice_index_or p.groups_of_nodes n []) ≤ most_slots

@@ -1,15 +1,18 @@
 -- The first reference of a model that may read at a greater lag.
-use Rattle.std.specs.Prelude.{ℕ, true, false, IfSome}
-use Rattle.rule_model.specs.declared.rules.Statement.{Statement}
+use Rattle.std.specs.Prelude.{ℕ}
 use Rattle.rule_model.specs.BoundModel.{BoundModel}
-use Rattle.ref_order.specs.Counted.{Counted}
-use Rattle.ref_order.specs.FirstReference.{IsFirstReference}
-use Rattle.arrow_laws.specs.Arrows.{IsLevel}
+use Rattle.read_sources.specs.declared.fault.ReadFault.{ReadFault}
+use Rattle.read_sources.specs.declared.fault.ReadFault.TheVariants as reads
+use Rattle.order_find.specs.declared.fault.FindFault.{FindFault}
+use Rattle.order_find.specs.declared.fault.FindFault.TheVariants.{Unlagged, Cycle, Memory}
+pub use Rattle.read_sources.specs.Unlagged.{IsLevelReference, IsFirstUnlagged}
 
--- what it reads never has a greater lag than its cell
-abbrev pub IsLevelReference : BoundModel → ℕ → Statement → Counted → Type 0
-IsLevelReference m cube s reference =
-    IfSome reference.leaf (IsLevel m cube s true) × IfSome reference.cons (IsLevel m cube s false)
+-- why sources aren't gathered is why no order is found
+abbrev pub find_fault : ReadFault → FindFault
+find_fault (reads.Unlagged cube statement reference) = Unlagged cube statement reference
+find_fault reads.Memory = Memory
 
-abbrev pub IsFirstUnlagged : BoundModel → ℕ → ℕ → ℕ → Type 0
-IsFirstUnlagged m cube statement reference = IsFirstReference (IsLevelReference m) m cube statement reference
+abbrev pub IsUnlaggedFault : BoundModel → FindFault → Type 0
+IsUnlaggedFault m (Unlagged cube statement reference) = IsFirstUnlagged m cube statement reference
+IsUnlaggedFault m (Cycle links) = ⊥
+IsUnlaggedFault m Memory = Unit {0}

@@ -1,22 +1,22 @@
 ghost use Rattle.std.specs.Prelude.{◌≡◌, ℕ, ◌<◌, ◌^◌, Bool, IfSome, None, Some, option_map, unwrap_or, map, not};
-ghost use Rattle.std.specs.Prelude.{length, slice_get, slice_index_or};
+ghost use Rattle.std.specs.Prelude.{All, length, slice_get, slice_index_or};
 ghost use Rattle.cube_space.specs.Layout.{axes, sizes};
 ghost use Rattle.cover_laws.specs.Looking.{sent};
 ghost use Rattle.order_find.specs.Numbers.{IsPlace, count_of, width};
-ghost use Rattle.order_find.specs.Ways.{IsSource, cube_read, way_of, serves_any};
-ghost use Rattle.order_find.specs.Slots.{node_count, arrow_to, arrow_by, read_arrow, source_arrow};
-ghost use Rattle.order_find.specs.Slots.{reached_from, reached_by, part_arrow, parts_of, slots_of, vertex_at, IsVertex};
-ghost use Rattle.order_find.specs.declared.slots.Vertex.TheVariants.{Element, Components, Reached};
+ghost use Rattle.read_sources.specs.Ways.{IsSource, cube_read, way_of, serves_any};
+ghost use Rattle.order_find.specs.Slots.{node_count, arrow_to, arrow_by, read_arrow, source_arrow, group_by};
+ghost use Rattle.order_find.specs.Slots.{group_arrow, leaf_arrow, reached_from, reached_by, part_arrow, parts_of};
+ghost use Rattle.order_find.specs.Slots.{own_slots, group_slots, slots_of, member_arrow, members, vertex_at, IsVertex};
+ghost use Rattle.order_find.specs.declared.slots.Vertex.TheVariants.{Element, Components, Reached, Shared};
 
 use crate::graph::NodeGraph;
 use crate::numbering::Place;
-use crate::reading::{reads_from, serves_any, set_of};
 use crate::slots::Vertex;
-use crate::source::Source;
-use crate::tables::{is_nonzero, is_total, last_of, leaves_below, parts_of};
-use crate::way::Way;
-use crate::ways::{cube_read, way};
+use crate::tables::{leaves_below, parts_of};
 use least_ranks::Arrow;
+use read_sources::{
+    Source, Way, cube_read, is_nonzero, is_total, last_of, reads_from, serves_any, set_of, way,
+};
 use ref_order::{axis, count, element_at};
 use rule_laws::ElementMap;
 
@@ -28,15 +28,21 @@ pub fn vertex<'a>(graph: &NodeGraph<'a>, node: u32) -> Option<Vertex<'a>>
     let _model = graph.model();
     let count = graph.place_count();
     let all = count + count;
-    let totals = all + graph.source_count();
+    let sources = graph.source_count();
+    let totals = all + sources;
+    let hubs = totals + sources;
     if node < count {
         element_at_node(graph, node)
     } else if node < all {
         components_at(graph, node - count)
     } else if node < totals {
         reached_at(graph, node - all, false)
-    } else {
+    } else if node < hubs {
         reached_at(graph, node - totals, true)
+    } else if node - hubs < graph.group_count() {
+        Some(Vertex::Shared(node - hubs))
+    } else {
+        None
     }
 }
 
@@ -160,6 +166,60 @@ fn row_arrow(graph: &NodeGraph, node: u32, place: Place, row: &[u32], slot: usiz
     }
 }
 
+// The arrow to the node of a group, where its first source reads from that element of the last dimension.
+fn group_by(graph: &NodeGraph, place: Place, group: u32, source: Source) -> Option<Arrow>
+    requires source { IsSource graph.now.model source }
+    requires group { group < length graph.now.heads }
+    ensures arrow { result ≡ group_by graph.now place group source.entry }
+    ensures within { IfSome result (λ arrow. arrow.to < node_count graph.now) }
+{
+    let model = graph.model();
+    let last = last_of(model, source.cube);
+    if reads_from(model, source, last, place.element) && serves_any(model, source, place.element) {
+        Some(Arrow {
+            to: graph.hubs_from() + group,
+            strict: false,
+        })
+    } else {
+        None
+    }
+}
+
+// The same to the group of this number.
+fn group_arrow(graph: &NodeGraph, place: Place, group: u32) -> Option<Arrow>
+    ensures arrow { result ≡ group_arrow graph.now place group }
+    ensures within { IfSome result (λ arrow. arrow.to < node_count graph.now) }
+{
+    let _model = graph.model();
+    match graph.head(group) {
+        Some(source) => group_by(graph, place, group, source),
+        None => None,
+    }
+}
+
+// The same to the group at a place of a list of them.
+fn row_group(graph: &NodeGraph, place: Place, row: &[u32], slot: usize) -> Option<Arrow>
+    ensures arrow { result ≡ unwrap_or (slice_get (map (group_arrow graph.now place) row.now) slot) None }
+    ensures within { IfSome result (λ arrow. arrow.to < node_count graph.now) }
+{
+    match row.get(slot) {
+        Some(group) => group_arrow(graph, place, *group),
+        None => None,
+    }
+}
+
+// The arrow to the node of a group in one of the slots for those.
+fn arrow_to_group(graph: &NodeGraph, node: u32, place: Place, slot: usize) -> Option<Arrow>
+    ensures arrow { result ≡ unwrap_or (slice_get (group_slots graph.now node place) slot) None }
+    ensures within { IfSome result (λ arrow. arrow.to < node_count graph.now) }
+{
+    let whole = graph.groups_of_cube(place.cube);
+    if slot < whole.len() {
+        return row_group(graph, place, whole, slot);
+    }
+    row_group(graph, place, graph.groups_of_node(node), slot - whole.len())
+}
+
 // The arrow in a slot of the node of an element.
 fn element_arrow(graph: &NodeGraph, node: u32, place: Place, slot: usize) -> Option<Arrow>
     requires node { node < count_of graph.now.numbering }
@@ -167,19 +227,73 @@ fn element_arrow(graph: &NodeGraph, node: u32, place: Place, slot: usize) -> Opt
     ensures arrow { result ≡ unwrap_or (slice_get (slots_of graph.now node (Element place)) slot) None }
     ensures within { IfSome result (λ arrow. arrow.to < node_count graph.now) }
 {
+    let own = own_count(graph, node, place);
+    if slot < own {
+        own_arrow(graph, node, place, slot)
+    } else {
+        arrow_to_group(graph, node, place, slot - own)
+    }
+}
+
+// The arrow to the leaf at a place of a list of them.
+fn row_leaf(graph: &NodeGraph, place: Place, row: &[(u32, i64)], slot: usize) -> Option<Arrow>
+    requires cube { place.cube < length graph.now.model.space.cubes }
+    requires within { All (λ pair. pair.0 < width graph.now.model.space place.cube) row.now }
+    ensures arrow { result ≡ unwrap_or (slice_get (map (leaf_arrow graph.now place.cube) row.now) slot) None }
+    ensures within { IfSome result (λ arrow. arrow.to < node_count graph.now) }
+{
+    if slot < row.len() {
+        let leaf = row[slot];
+        return Some(Arrow {
+            to: graph.number(place.cube, leaf.0),
+            strict: false,
+        });
+    }
+    None
+}
+
+// The arrow in a slot of the node of an element, to a leaf or by a single source.
+fn own_arrow(graph: &NodeGraph, node: u32, place: Place, slot: usize) -> Option<Arrow>
+    requires node { node < count_of graph.now.numbering }
+    requires place { IsPlace graph.now.model.space place }
+    ensures arrow { result ≡ unwrap_or (slice_get (own_slots graph.now node place) slot) None }
+    ensures within { IfSome result (λ arrow. arrow.to < node_count graph.now) }
+{
     let leaves = leaves_below(graph.model(), place);
     let whole = graph.of_cube(place.cube);
     if slot < leaves.len() {
-        return Some(Arrow {
-            to: graph.number(place.cube, leaves[slot].0),
-            strict: false,
-        });
+        return row_leaf(graph, place, leaves, slot);
     }
     let slot = slot - leaves.len();
     if slot < whole.len() {
         return row_arrow(graph, node, place, whole, slot);
     }
     row_arrow(graph, node, place, graph.of_node(node), slot - whole.len())
+}
+
+// The arrow from the node of a group to what one of its sources always reads.
+fn member_arrow(graph: &NodeGraph, source: Source) -> Option<Arrow>
+    requires { IsSource graph.now.model source }
+    ensures arrow { result ≡ member_arrow graph.now source.entry }
+    ensures within { IfSome result (λ arrow. arrow.to < count_of graph.now.numbering) }
+{
+    let model = graph.model();
+    match way(model, source) {
+        Way::To(target) => sent_arrow(graph, source, Some(target)),
+        _ => None,
+    }
+}
+
+// The same in a slot of that node.
+fn shared_arrow(graph: &NodeGraph, group: u32, slot: usize) -> Option<Arrow>
+    ensures arrow { result ≡ unwrap_or (slice_get (map (member_arrow graph.now) (members graph.now group)) slot) None }
+    ensures within { IfSome result (λ arrow. arrow.to < node_count graph.now) }
+{
+    let _model = graph.model();
+    match graph.member(group, slot) {
+        Some(source) => member_arrow(graph, source),
+        None => None,
+    }
 }
 
 // The arrow in a slot of the node of the components of an element.
@@ -257,6 +371,7 @@ pub fn arrow_in(graph: &NodeGraph, node: u32, vertex: Vertex, slot: usize) -> Op
         Vertex::Element(place) => element_arrow(graph, node, place, slot),
         Vertex::Components(place) => components_arrow(graph, place, slot),
         Vertex::Reached(source, totals) => reached_arrow(graph, source, totals, slot),
+        Vertex::Shared(group) => shared_arrow(graph, group, slot),
     }
 }
 
@@ -278,15 +393,27 @@ fn reached_count(graph: &NodeGraph, source: Source) -> usize
     }
 }
 
-// How many slots the node of an element has.
-fn element_slots(graph: &NodeGraph, node: u32, place: Place) -> u32
+// How many slots the node of an element has for arrows to leaves and by single sources.
+fn own_count(graph: &NodeGraph, node: u32, place: Place) -> usize
     requires { IsPlace graph.now.model.space place }
-    ensures { result ≡ length (slots_of graph.now node (Element place)) }
+    ensures count { result ≡ length (own_slots graph.now node place) }
+    ensures few { result < 2 ^ 31 }
 {
     let leaves = leaves_below(graph.model(), place).len();
     let whole = graph.of_cube(place.cube).len();
     let own = graph.of_node(node).len();
-    (leaves + (whole + own)) as u32
+    leaves + (whole + own)
+}
+
+// How many slots it has.
+fn element_slots(graph: &NodeGraph, node: u32, place: Place) -> u32
+    requires { IsPlace graph.now.model.space place }
+    ensures { result ≡ length (slots_of graph.now node (Element place)) }
+{
+    let _model = graph.model();
+    let whole = graph.groups_of_cube(place.cube).len();
+    let own = graph.groups_of_node(node).len();
+    (own_count(graph, node, place) + (whole + own)) as u32
 }
 
 /// How many slots a node has.
@@ -298,5 +425,9 @@ pub fn slots_in(graph: &NodeGraph, node: u32, vertex: Vertex) -> u32
         Vertex::Element(place) => element_slots(graph, node, place),
         Vertex::Components(place) => parts_of(graph.model(), place).len() as u32,
         Vertex::Reached(source, _) => reached_count(graph, source) as u32,
+        Vertex::Shared(group) => {
+            let _model = graph.model();
+            graph.member_count(group) as u32
+        }
     }
 }

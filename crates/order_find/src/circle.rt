@@ -1,4 +1,5 @@
-ghost use Rattle.std.specs.Prelude.{◌≡◌, ℕ, ◌<◌, List, IfOk, length, unwrap_or, slice_get, map};
+ghost use Rattle.std.specs.Prelude.{◌≡◌, ℕ, ◌+◌, ◌<◌, ◌++◌, List, IfOk, OnOk, Some, None, length, unwrap_or};
+ghost use Rattle.std.specs.Prelude.{slice_get, slice_index_or, map};
 ghost use Rattle.std.specs.List.{IsFirstBest};
 ghost use Rattle.least_ranks.specs.Graph.{IsClosedWalk};
 ghost use Rattle.rule_model.specs.BoundModel.{BoundModel};
@@ -7,15 +8,16 @@ ghost use Rattle.order_find.specs.Numbers.{IsPlace};
 ghost use Rattle.order_find.specs.Slots.{arrows_of};
 ghost use Rattle.order_find.specs.PlanOfAll.{IsPlanOfAll};
 ghost use Rattle.order_find.specs.Circles.{IsCircle, BeginsLeast};
-ghost use Rattle.order_find.specs.Links.{maker, makers_of, link_of, links_of, is_before};
+ghost use Rattle.order_find.specs.Links.{reference_of, maker, made_by, member_maker, made_on, link_of, links_at};
+ghost use Rattle.order_find.specs.Links.{links_of, begins_behind, begun_of, is_before};
 ghost use Rattle.order_find.specs.declared.link.Link.{Link};
-ghost use Rattle.order_find.specs.declared.link.LinkBy.TheVariants.{Below};
 
 use crate::graph::NodeGraph;
 use crate::link::{Link, LinkBy};
 use crate::numbering::Place;
 use crate::tables::leaves_below;
 use least_ranks::Step;
+use read_sources::Source;
 use std::alloc::{AllocError, Global};
 
 /// Where links are a circle of arrows of a model, of which one is strict, no ranks fit the arrows.
@@ -31,10 +33,33 @@ pub fn circle(alloc: Global, graph: &NodeGraph, steps: &[Step]) -> Result<Vec<Li
     ensures circle { IfOk result (λ links. IsCircle graph.now.model links.items) }
     ensures least { IfOk result (λ links. BeginsLeast links.items) }
 {
-    let mut links = links(alloc, graph, steps)?;
+    let begun = begun(alloc, graph, steps)?;
+    let mut links = links(alloc, graph, &begun)?;
     let first = first_link(&links);
     links.rotate_left(first);
     Ok(links)
+}
+
+// The same steps, beginning with one from the node of an element.
+fn begun(alloc: Global, graph: &NodeGraph, steps: &[Step]) -> Result<Vec<Step>, AllocError>
+    ensures { IfOk result (λ begun. begun.items ≡ begun_of graph.now steps.now) }
+{
+    let mut begun = Vec::from_slice(alloc, steps)?;
+    if !begins_behind(graph, steps) {
+        return Ok(begun);
+    }
+    begun.rotate_left(1);
+    Ok(begun)
+}
+
+// Whether the first step isn't from the node of an element.
+fn begins_behind(graph: &NodeGraph, steps: &[Step]) -> bool
+    ensures { result ≡ begins_behind graph.now steps.now }
+{
+    match steps.first() {
+        Some(step) => graph.place(step.node).is_none(),
+        None => false,
+    }
 }
 
 // The links of the steps.
@@ -42,35 +67,102 @@ fn links(alloc: Global, graph: &NodeGraph, steps: &[Step]) -> Result<Vec<Link>, 
     ensures { IfOk result (λ links. links.items ≡ links_of graph.now steps.now) }
 {
     let mut links = Vec::new(alloc);
-    for step in steps {
-        if let Some(place) = graph.place(step.node) {
-            links.push(link(graph, *step, place))?;
-        }
+    'each: for k in 0..steps.len() {
+        add_link(graph, step_at(steps, k), step_after(steps, k), &mut links)?;
     }
     Ok(links)
 }
 
+// One of these steps.
+fn step_at(steps: &[Step], k: usize) -> Step
+    requires { k < length steps.now }
+    ensures { result ≡ slice_index_or steps.now k result }
+{
+    steps[k]
+}
+
+// The step after that.
+fn step_after(steps: &[Step], k: usize) -> Option<Step>
+    requires { k < length steps.now }
+    ensures { result ≡ slice_get steps.now (k + 1) }
+{
+    steps.get(k + 1).copied()
+}
+
+// Adds the link of a step, if it is from the node of an element.
+fn add_link(
+    graph: &NodeGraph,
+    step: Step,
+    next: Option<Step>,
+    links: &mut Vec<Link>,
+) -> Result<(), AllocError>
+    ensures { OnOk result (links.new.items ≡ links.old.items ++ links_at graph.now step next) }
+{
+    match graph.place(step.node) {
+        Some(place) => {
+            links.push(link(graph, step, next, place))?;
+            Ok(())
+        }
+        None => Ok(()),
+    }
+}
+
 // The link of a step from the node of an element.
-fn link(graph: &NodeGraph, step: Step, place: Place) -> Link
+fn link(graph: &NodeGraph, step: Step, next: Option<Step>, place: Place) -> Link
     requires { slice_get graph.now.numbering.places.items step.node ≡ Some place }
-    ensures { result ≡ link_of graph.now step place }
+    ensures { result ≡ link_of graph.now step next place }
 {
     let _model = graph.model();
     Link {
         cube: place.cube,
         element: place.element,
-        by: made_by(graph, step.node, place, step.slot as usize),
+        by: made_on(
+            graph,
+            made_by(graph, step.node, place, step.slot as usize),
+            next,
+        ),
     }
 }
 
-// What makes the arrow in a slot of the node of an element.
-fn made_by(graph: &NodeGraph, node: u32, place: Place, slot: usize) -> LinkBy
+// What makes an arrow, where the next step goes on from the node of a group.
+fn made_on(graph: &NodeGraph, by: Option<LinkBy>, next: Option<Step>) -> LinkBy
+    ensures { result ≡ made_on graph.now by next }
+{
+    match (by, next) {
+        (Some(by), _) => by,
+        (None, None) => LinkBy::Below,
+        (None, Some(next)) => member_maker(graph, next),
+    }
+}
+
+// The reference of the source in the slot of a step from the node of a group.
+fn member_maker(graph: &NodeGraph, step: Step) -> LinkBy
+    ensures { result ≡ member_maker graph.now step }
+{
+    let group = step.node.saturating_sub(graph.hubs_from());
+    match graph.member(group, step.slot as usize) {
+        Some(source) => reference_of(source),
+        None => LinkBy::Below,
+    }
+}
+
+fn reference_of(source: Source) -> LinkBy
+    ensures { result ≡ reference_of source.entry }
+{
+    LinkBy::Reference {
+        statement: source.statement,
+        reference: source.reference,
+    }
+}
+
+// What makes the arrow in a slot of the node of an element, unless that leads to a group.
+fn made_by(graph: &NodeGraph, node: u32, place: Place, slot: usize) -> Option<LinkBy>
     requires { IsPlace graph.now.model.space place }
-    ensures { result ≡ unwrap_or (slice_get (makers_of graph.now node place) slot) Below }
+    ensures { result ≡ made_by graph.now node place slot }
 {
     let leaves = leaves_below(graph.model(), place).len();
     if slot < leaves {
-        return LinkBy::Below;
+        return Some(LinkBy::Below);
     }
     let slot = slot - leaves;
     let whole = graph.of_cube(place.cube);
@@ -81,12 +173,12 @@ fn made_by(graph: &NodeGraph, node: u32, place: Place, slot: usize) -> LinkBy
 }
 
 // What makes the arrow by the source at a place of a list of them.
-fn row_maker(graph: &NodeGraph, row: &[u32], slot: usize) -> LinkBy
-    ensures { result ≡ unwrap_or (slice_get (map (maker graph.now) row.now) slot) Below }
+fn row_maker(graph: &NodeGraph, row: &[u32], slot: usize) -> Option<LinkBy>
+    ensures { result ≡ unwrap_or (slice_get (map (λ k. Some (maker graph.now k)) row.now) slot) None }
 {
     match row.get(slot) {
-        Some(k) => maker(graph, *k),
-        None => LinkBy::Below,
+        Some(k) => Some(maker(graph, *k)),
+        None => None,
     }
 }
 
@@ -95,10 +187,7 @@ fn maker(graph: &NodeGraph, k: u32) -> LinkBy
     ensures { result ≡ maker graph.now k }
 {
     match graph.source(k) {
-        Some(source) => LinkBy::Reference {
-            statement: source.statement,
-            reference: source.reference,
-        },
+        Some(source) => reference_of(source),
         None => LinkBy::Below,
     }
 }

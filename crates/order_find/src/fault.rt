@@ -1,4 +1,5 @@
 use crate::link::Link;
+use read_sources::ReadFault;
 use std::alloc::AllocError;
 
 /// Why no order is found.
@@ -28,5 +29,27 @@ impl From<AllocError> for FindFault {
 
     fn from(_: AllocError) -> FindFault {
         FindFault::Memory
+    }
+}
+
+impl From<ReadFault> for FindFault {
+    ghost use Rattle.std.specs.Prelude.{◌≡◌};
+    ghost use Rattle.order_find.specs.Unlagged.{find_fault};
+
+    ghost from_gives = { λ fault e. e ≡ find_fault fault };
+
+    fn from(fault: ReadFault) -> FindFault {
+        match fault {
+            ReadFault::Unlagged {
+                cube,
+                statement,
+                reference,
+            } => FindFault::Unlagged {
+                cube,
+                statement,
+                reference,
+            },
+            ReadFault::Memory => FindFault::Memory,
+        }
     }
 }

@@ -2,14 +2,12 @@ ghost use Rattle.std.specs.Prelude.{◌≡◌, ◌<◌, ◌^◌, ◌+◌, ◌==�
 ghost use Rattle.std.specs.List.{list_any};
 ghost use Rattle.std.specs.List.Sorted.{IsStrictlyIncreasing};
 ghost use Rattle.order_find.specs.Numbers.{IsNumbering};
-ghost use Rattle.order_find.specs.Ways.{IsSource};
-ghost use Rattle.order_find.specs.Filing.{Adds, AreFiled, plan_of};
+ghost use Rattle.read_sources.specs.Ways.{IsSource};
+ghost use Rattle.order_find.specs.Filing.{Adds, AreFiled, looked_by};
 
 use crate::numbering::Numbering;
-use crate::reading::set_of;
-use crate::source::Source;
-use crate::tables::last_of;
 use lists::ListOf;
+use read_sources::{Source, last_of, set_of};
 use ref_order::axis;
 use rule_model::Model;
 use std::alloc::{AllocError, Global};
@@ -39,7 +37,7 @@ pub fn file_sources(
     requires numbering { IsNumbering model.now.space numbering.now }
     requires sources { All (IsSource model.now) sources.now }
     requires few { length sources.now < 2 ^ 32 }
-    ensures { IfOk result (λ filing. AreFiled (plan_of model.now numbering.now sources.now filing)
+    ensures { IfOk result (λ filing. AreFiled (looked_by model.now numbering.now sources.now filing)
         (length sources.now)) }
 {
     let of_cubes = empty_rows(alloc, numbering.firsts.len())?;
@@ -74,8 +72,8 @@ fn file(
     requires numbering { IsNumbering model.now.space numbering.now }
     requires sources { All (IsSource model.now) sources.now }
     requires k { k < length sources.now }
-    requires filed { AreFiled (plan_of model.now numbering.now sources.now filing.old) k }
-    ensures { OnOk result (AreFiled (plan_of model.now numbering.now sources.now filing.new) (suc k)) }
+    requires filed { AreFiled (looked_by model.now numbering.now sources.now filing.old) k }
+    ensures { OnOk result (AreFiled (looked_by model.now numbering.now sources.now filing.new) (suc k)) }
 {
     let source = sources[k as usize];
     let last = last_of(model, source.cube);

@@ -5,10 +5,9 @@ use crate::fault::FindFault;
 use crate::filing::file_sources;
 use crate::numbering::{Numbering, Place};
 use crate::numbers::number_nodes;
-use crate::source::Source;
-use crate::sources::sources_of;
 use least_ranks::{Arrow, Graph};
 use lists::ListOf;
+use read_sources::{Group, Source, part_sources, sources_of};
 use rule_model::Model;
 use std::alloc::{AllocError, Global};
 
@@ -18,9 +17,14 @@ pub struct NodeGraph<'a> {
     model: &'a Model,
     numbering: Numbering,
     sources: Vec<Source<'a>>,
-    // The sources that are looked at for each element of a cube, and for one element.
+    // The single sources that are looked at for each element of a cube, and for one element.
     of_cubes: Vec<ListOf<u32>>,
     of_nodes: Vec<ListOf<u32>>,
+    // Of each group the first source, and all sources; and the groups that are looked at.
+    heads: Vec<Source<'a>>,
+    groups: Vec<Group<'a>>,
+    groups_of_cubes: Vec<ListOf<u32>>,
+    groups_of_nodes: Vec<ListOf<u32>>,
 }
 
 impl<'a> std::marker::Model for NodeGraph<'a> {
@@ -38,6 +42,10 @@ impl<'a> std::marker::Model for NodeGraph<'a> {
       sources = g.sources.items;
       of_cubes = g.of_cubes.items;
       of_nodes = g.of_nodes.items;
+      heads = g.heads.items;
+      groups = g.groups.items;
+      groups_of_cubes = g.groups_of_cubes.items;
+      groups_of_nodes = g.groups_of_nodes.items;
     } };
 
     ghost invariant = { λ g. IsPlan (record {
@@ -46,6 +54,10 @@ impl<'a> std::marker::Model for NodeGraph<'a> {
       sources = g.sources.items;
       of_cubes = g.of_cubes.items;
       of_nodes = g.of_nodes.items;
+      heads = g.heads.items;
+      groups = g.groups.items;
+      groups_of_cubes = g.groups_of_cubes.items;
+      groups_of_nodes = g.groups_of_nodes.items;
     }) };
 }
 
@@ -53,10 +65,10 @@ impl<'a> NodeGraph<'a> {
     ghost use Rattle.std.specs.Prelude.{◌≡◌, ◌<◌, ◌^◌, [], IfOk, IfErr, OnOk, length, slice_get, slice_index_or};
     ghost use Rattle.arrow_laws.specs.Arrows.{IsLevelThroughout};
     ghost use Rattle.order_find.specs.Numbers.{count_of, number_of, width};
-    ghost use Rattle.order_find.specs.Slots.{IsPlan, node_count};
-    ghost use Rattle.order_find.specs.Sources.{AreSourcesOf};
+    ghost use Rattle.order_find.specs.Slots.{IsPlan, node_count, hubs_from, members};
+    ghost use Rattle.read_sources.specs.Sources.{AreSourcesOf};
     ghost use Rattle.order_find.specs.PlanOfAll.{IsPlanOfAll};
-    ghost use Rattle.order_find.specs.Gathering.{IsUnlaggedFault};
+    ghost use Rattle.order_find.specs.Unlagged.{IsUnlaggedFault};
 
     /// The graph of the arrows of a model.
     ///
@@ -87,13 +99,19 @@ impl<'a> NodeGraph<'a> {
     {
         let _space = model.space();
         let numbering = number_nodes(alloc, model)?;
-        let filing = file_sources(alloc, model, &numbering, &sources)?;
+        let parted = part_sources(alloc, model, &sources)?;
+        let filing = file_sources(alloc, model, &numbering, &parted.singles)?;
+        let grouped = file_sources(alloc, model, &numbering, &parted.heads)?;
         Ok(NodeGraph {
             model,
             numbering,
-            sources,
+            sources: parted.singles,
             of_cubes: filing.of_cubes,
             of_nodes: filing.of_nodes,
+            heads: parted.heads,
+            groups: parted.groups,
+            groups_of_cubes: grouped.of_cubes,
+            groups_of_nodes: grouped.of_nodes,
         })
     }
 
@@ -113,7 +131,7 @@ impl<'a> NodeGraph<'a> {
         self.numbering.places.len() as u32
     }
 
-    /// How many sources there are.
+    /// How many single sources there are.
     pub(crate) fn source_count(&self) -> u32
         ensures { result ≡ length self.now.sources }
     {
@@ -134,7 +152,7 @@ impl<'a> NodeGraph<'a> {
         self.sources.get(k as usize).copied()
     }
 
-    /// The sources that are looked at for each element of a cube.
+    /// The single sources that are looked at for each element of a cube.
     pub(crate) fn of_cube(&self, cube: u32) -> &[u32]
         ensures { result.now ≡ slice_index_or self.now.of_cubes cube [] }
     {
@@ -146,6 +164,64 @@ impl<'a> NodeGraph<'a> {
         ensures { result.now ≡ slice_index_or self.now.of_nodes node [] }
     {
         row(&self.of_nodes, node)
+    }
+
+    /// The number of the first node of a group.
+    pub(crate) fn hubs_from(&self) -> u32
+        ensures { result ≡ hubs_from self.now }
+    {
+        let _model = self.model();
+        let count = self.place_count();
+        let sources = self.source_count();
+        count + count + sources + sources
+    }
+
+    /// How many groups there are.
+    pub(crate) fn group_count(&self) -> u32
+        ensures { result ≡ length self.now.heads }
+    {
+        self.heads.len() as u32
+    }
+
+    /// The first source of a group.
+    pub(crate) fn head(&self, group: u32) -> Option<Source<'a>>
+        ensures { result ≡ slice_get self.now.heads group }
+    {
+        self.heads.get(group as usize).copied()
+    }
+
+    /// How many sources a group has.
+    pub(crate) fn member_count(&self, group: u32) -> usize
+        ensures { result ≡ length (members self.now group) }
+    {
+        match self.groups.get(group as usize) {
+            Some(group) => group.sources().len(),
+            None => 0,
+        }
+    }
+
+    /// A source of a group, by its place there.
+    pub(crate) fn member(&self, group: u32, slot: usize) -> Option<Source<'a>>
+        ensures { result ≡ slice_get (members self.now group) slot }
+    {
+        match self.groups.get(group as usize) {
+            Some(group) => group.sources().get(slot).copied(),
+            None => None,
+        }
+    }
+
+    /// The groups that are looked at for each element of a cube.
+    pub(crate) fn groups_of_cube(&self, cube: u32) -> &[u32]
+        ensures { result.now ≡ slice_index_or self.now.groups_of_cubes cube [] }
+    {
+        row(&self.groups_of_cubes, cube)
+    }
+
+    /// The further groups that are looked at for the element of a node.
+    pub(crate) fn groups_of_node(&self, node: u32) -> &[u32]
+        ensures { result.now ≡ slice_index_or self.now.groups_of_nodes node [] }
+    {
+        row(&self.groups_of_nodes, node)
     }
 
     /// The number of the node of an element.
@@ -168,9 +244,7 @@ impl<'a> Graph for NodeGraph<'a> {
     #[tactic(auto, unfolding(crate::specs::Slots::arrows_of))]
     fn node_count(&self) -> u32 {
         let _model = self.model();
-        let count = self.place_count();
-        let sources = self.source_count();
-        count + count + sources + sources
+        self.hubs_from() + self.group_count()
     }
 
     #[tactic(auto, unfolding(crate::specs::Slots::arrows_of))]

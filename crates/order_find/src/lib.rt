@@ -18,15 +18,8 @@ mod link;
 mod numbering;
 mod numbers;
 mod orders;
-mod part;
-mod reading;
-mod reads;
 mod slots;
-mod source;
-mod sources;
 mod tables;
-mod way;
-mod ways;
 
 pub use circle::no_ranks_fit_a_circle;
 pub use fault::FindFault;

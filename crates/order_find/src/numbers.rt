@@ -2,7 +2,7 @@ ghost use Rattle.std.specs.Prelude.{◌≡◌, ◌<◌, ◌≤◌, ◌++◌, IfO
 ghost use Rattle.order_find.specs.Numbers.{IsNumbering, count_of, width, places_of, most_places};
 
 use crate::numbering::{Numbering, Place};
-use crate::tables::last_of;
+use read_sources::last_of;
 use ref_order::axis;
 use rule_model::Model;
 use std::alloc::{AllocError, Global};

@@ -8,8 +8,8 @@ ghost use Rattle.order_find.specs.Slots.{node_count};
 ghost use Rattle.order_find.specs.Cut.{ranks_of, all_ranks};
 
 use crate::graph::NodeGraph;
-use crate::tables::last_of;
 use lists::ListOf;
+use read_sources::last_of;
 use ref_order::axis;
 use rule_model::{Model, Order, Position};
 use std::alloc::{AllocError, Global};

@@ -1,5 +1,5 @@
 use crate::numbering::Place;
-use crate::source::Source;
+use read_sources::Source;
 
 /// A node of the graph.
 #[derive(Clone, Copy)]
@@ -11,4 +11,6 @@ pub enum Vertex<'a> {
     /// That of what a source reads, or of what it reads from cells with a consolidated element in the dimension by
     /// which the node that is read is found.
     Reached(Source<'a>, bool),
+    /// That of the group of this number.
+    Shared(u32),
 }

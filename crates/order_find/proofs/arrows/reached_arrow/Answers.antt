@@ -3,7 +3,7 @@ use Rattle.std.specs.Prelude.{slice_index_or}
 use Rattle.cube_space.specs.Layout.{sizes}
 use Rattle.order_laws.specs.Earlier.{set_count, set_element}
 use Rattle.ref_order.proofs.Sums.{element-below}
-use Rattle.order_find.specs.Ways.{SentOver, way_of}
+use Rattle.read_sources.specs.Ways.{SentOver, way_of}
 use Rattle.order_find.specs.Slots.{reached_from, reached_by}
 use Rattle.order_find.proofs.Held.{held, set_in, size_in, reached-held, reached-past}
 use Rattle.order_find.proofs.arrows.reached_arrow.Goals as goal

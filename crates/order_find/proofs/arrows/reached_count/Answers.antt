@@ -3,7 +3,7 @@ use Rattle.std.specs.Prelude.{slice_index_or}
 use Rattle.cube_space.specs.Layout.{sizes}
 use Rattle.order_laws.specs.Earlier.{set_count}
 use Rattle.order_laws.proofs.SetFacts.{set-at}
-use Rattle.order_find.specs.Ways.{SentOver, way_of}
+use Rattle.read_sources.specs.Ways.{SentOver, way_of}
 use Rattle.order_find.specs.Slots.{reached_by}
 use Rattle.order_find.proofs.Held.{set_in, size_in, reached-length, set-few}
 use Rattle.order_find.proofs.arrows.reached_count.Goals as goal

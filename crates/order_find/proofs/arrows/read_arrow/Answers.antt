@@ -2,7 +2,7 @@ use Rattle.std.proofs.Common.{◌<◌, ◌∙◌, sym, subst}
 use Rattle.std.specs.Prelude.{slice_index_or}
 use Rattle.cube_space.specs.Layout.{sizes}
 use Rattle.order_find.specs.Numbers.{width}
-use Rattle.order_find.specs.Ways.{precedent}
+use Rattle.read_sources.specs.Ways.{precedent}
 use Rattle.order_find.proofs.Complete.{from-area, in-area}
 use Rattle.order_find.proofs.arrows.read_arrow.Goals as goal
 

@@ -1,0 +1,11 @@
+pub mod Counting
+pub mod Gathered
+pub mod Greater
+pub mod Groups
+pub mod Likeness
+pub mod Lists
+pub mod Placed
+pub mod Serving
+pub mod Sourced
+pub mod Weak
+pub mod Within

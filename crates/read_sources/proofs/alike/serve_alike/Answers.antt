@@ -1,0 +1,14 @@
+use Rattle.std.proofs.Common.{rules, ◌≡◌, true}
+use Rattle.read_sources.proofs.Likeness.{alike-of}
+use Rattle.read_sources.proofs.alike.serve_alike.Goals as goal
+
+pub returns : goal.returns
+returns c =
+    λ on.
+    let one = c.args.one in
+    let other = c.args.other in
+    let cube : one.cube ≡ other.cube = search rules in
+    let kind : one.kind ≡ other.kind = search rules in
+    let elsewhere : one.elsewhere ≡ other.elsewhere = search rules in
+    let listed : c.list_alike.result ≡ true = search rules in
+    alike-of c.args.model.now one other cube kind elsewhere (c.list_alike.ensures listed) (c.read_alike.ensures on)

@@ -1,0 +1,104 @@
+-- What is read at the same lag, parted into single sources and groups.
+use Rattle.std.specs.Prelude.{◌≡◌, ℕ, suc, ◌<◌, ◌≤◌, ◌⊎◌, ⊤, Bool, false, Option, Some, None, IsTrue}
+use Rattle.std.specs.Prelude.{List, [], length, Contains, slice_get, slice_index_or}
+use Rattle.rule_laws.specs.declared.reference.Arg.{Arg}
+use Rattle.rule_laws.specs.declared.reference.Arg.TheVariants.{Fixed, Moved}
+use Rattle.rule_laws.specs.Meaning.{Precedent}
+use Rattle.rule_model.specs.declared.rules.Statement.{Statement}
+use Rattle.rule_model.specs.BoundModel.{BoundModel, rules_of}
+use Rattle.arrow_laws.specs.Nodes.{last_of}
+use Rattle.arrow_laws.specs.Arrows.{Reads}
+use Rattle.arrow_laws.specs.ByDimension.{is_lagged, is_level}
+use Rattle.read_sources.specs.declared.source.Source.{Source}
+use Rattle.read_sources.specs.declared.parting.Parted.{Parted}
+use Rattle.read_sources.specs.Ways.{Follows, Same, Component, Always, Sent, SentOver, precedent, way_of}
+use Rattle.read_sources.specs.Ways.{reads_from, serves_any}
+use Rattle.read_sources.specs.Sources.{IsRead, IsReadBy, most_sources}
+
+-- which dimension an argument follows, and by which map
+abbrev pub followed : Arg → Option (ℕ × List (Option ℕ))
+followed (Fixed target) = None
+followed (Moved from to) = Some (from, to)
+
+-- and the arguments of two references follow the same
+pub record AreArgsAlike (one other : List Arg) : Type 0 where
+  pub long : length one ≡ length other
+  pub each : (j : ℕ) (x y : Arg) → slice_get one j ≡ Some x → slice_get other j ≡ Some y → followed x ≡ followed y
+
+-- the areas of two sources have the same elements in the last dimension of the first one's cube
+abbrev pub AreSetsSame : BoundModel → Source → Source → Type 0
+AreSetsSame m one other =
+    slice_index_or one.area.now.sets (last_of m.space one.cube) None
+    ≡ slice_index_or other.area.now.sets (last_of m.space one.cube) None
+
+-- two sources of one cube read from the same elements of the last dimension
+pub record IsAlike (m : BoundModel) (one other : Source) : Type 0 where
+  pub cube : one.cube ≡ other.cube
+  pub reads : (e : ℕ) → reads_from m one (last_of m.space one.cube) e ≡ reads_from m other (last_of m.space one.cube) e
+  pub serves : (e : ℕ) → serves_any m one e ≡ serves_any m other e
+
+-- a source that always reads the node of one element
+abbrev pub IsShared : Follows → Type 0
+IsShared Same = ⊥
+IsShared Component = ⊥
+IsShared (Always target) = ⊤
+IsShared (Sent to) = ⊥
+IsShared (SentOver i to) = ⊥
+
+-- the sources of a group
+abbrev pub members_in : Parted → ℕ → List Source
+members_in parted g = slice_index_or parted.groups.items g []
+
+-- a source of a group, which always reads the node of one element
+pub record IsMember (m : BoundModel) (heads : List Source) (groups : List (List Source)) (s : Source) : Type 0 where
+  pub group : ℕ
+  pub low : group < length heads
+  pub has : Contains (slice_index_or groups group []) s
+  pub shared : IsShared (way_of m s)
+
+-- a source is a single one, or in a group
+abbrev pub IsPlaced : BoundModel → Parted → Source → Type 0
+IsPlaced m parted s = Contains parted.singles.items s ⊎ IsMember m parted.heads.items parted.groups.items s
+
+-- all are read, and those of a group are like its head; there are at most so many
+pub record AreParts (m : BoundModel) (count : ℕ) (parted : Parted) : Type 0 where
+  pub singles : (k : ℕ) (s : Source) → slice_get parted.singles.items k ≡ Some s → IsRead m s
+  pub heads : (g : ℕ) (s : Source) → slice_get parted.heads.items g ≡ Some s → IsRead m s
+  pub members : (g : ℕ) (s : Source) → Contains (members_in parted g) s → IsRead m s
+  pub alike : (g : ℕ) (head s : Source) → slice_get parted.heads.items g ≡ Some head → Contains (members_in parted g) s
+      → IsAlike m head s
+  pub whole : length parted.groups.items ≡ length parted.heads.items
+  pub few_singles : length parted.singles.items ≤ count
+  pub few_heads : length parted.heads.items ≤ count
+  pub few_members : (g : ℕ) → length (members_in parted g) ≤ count
+
+-- a source reads from the same elements as the head of a group
+pub record IsOfGroup (m : BoundModel) (parted : Parted) (group : ℕ) (s : Source) : Type 0 where
+  pub head : Source
+  pub at : slice_get parted.heads.items group ≡ Some head
+  pub alike : IsAlike m head s
+
+-- one source more is placed
+pub record IsPut (m : BoundModel) (s : Source) (old new : Parted) : Type 0 where
+  pub parts : (count : ℕ) → AreParts m count old → AreParts m (suc count) new
+  pub keeps : (other : Source) → IsPlaced m old other → IsPlaced m new other
+  pub placed : IsPlaced m new s
+
+-- what a statement of a cube reads for this kind of cell is in a group
+pub record IsReadIn (m : BoundModel) (heads : List Source) (groups : List (List Source)) (cube : ℕ)
+    (statement : Statement) (kind : Bool) (read : Precedent) : Type 0 where
+  pub source : Source
+  pub member : IsMember m heads groups source
+  pub own : source.cube ≡ cube
+  pub area : source.area.now ≡ statement.area
+  pub same_kind : source.kind ≡ kind
+  pub same_read : precedent source ≡ read
+
+-- these are all that the statements of a model read at the same lag
+pub record ArePartsOfAll (m : BoundModel) (parted : Parted) : Type 0 where
+  pub parts : AreParts m most_sources parted
+  pub all : (cube : ℕ) (statement : Statement) (kind : Bool) (read : Precedent) → cube < length m.space.cubes
+      → Contains (rules_of m cube).statements statement → Reads m cube statement kind read
+      → IsTrue (is_level m cube statement.area kind read) → is_lagged m cube statement.area kind read ≡ false
+      → IsReadBy parted.singles.items cube statement kind read
+      ⊎ IsReadIn m parted.heads.items parted.groups.items cube statement kind read

@@ -1,0 +1,107 @@
+ghost use Rattle.std.specs.Prelude.{◌≡◌, ℕ, IsTrue, List};
+ghost use Rattle.dim_core.specs.Outline.{Outline};
+ghost use Rattle.arrow_laws.specs.ByDimension.{serves};
+ghost use Rattle.ref_order.specs.Reads.{precedent_of};
+ghost use Rattle.read_sources.specs.Ways.{IsSource, way_of};
+ghost use Rattle.read_sources.specs.Sources.{IsRead};
+ghost use Rattle.read_sources.specs.Parts.{followed, IsAlike, IsShared, AreArgsAlike, AreSetsSame};
+
+use crate::follows::Way;
+use crate::reading::set_of;
+use crate::source::Source;
+use crate::tables::last_of;
+use crate::ways::way;
+use ref_order::Read;
+use rule_laws::Arg;
+use rule_model::Model;
+
+/// Whether a source always reads the node of one element.
+pub fn is_shared(model: &Model, source: Source) -> bool
+    requires { IsSource model.now source }
+    ensures { IsTrue result → IsShared (way_of model.now source.entry) }
+{
+    matches!(way(model, source), Way::To(_))
+}
+
+/// Whether it is known at once that two sources read from the same elements of the last dimension: for the same kind of
+/// cells of the same area, or of areas that have all of its elements, what they read differs in the elements alone that
+/// it fixes.
+pub fn serve_alike(model: &Model, one: Source, other: Source) -> bool
+    requires one { IsSource model.now one }
+    requires other { IsSource model.now other }
+    requires read { IsRead model.now one }
+    requires its { IsRead model.now other }
+    ensures { IsTrue result → IsAlike model.now one.entry other.entry }
+{
+    if one.cube != other.cube {
+        return false;
+    }
+    if one.kind != other.kind {
+        return false;
+    }
+    if one.elsewhere != other.elsewhere {
+        return false;
+    }
+    if !list_alike(model, one, other) {
+        return false;
+    }
+    read_alike(one.read, other.read)
+}
+
+// Whether the areas of two sources of one cube have the same elements in the last dimension.
+fn list_alike(model: &Model, one: Source, other: Source) -> bool
+    requires one { IsSource model.now one }
+    requires other { IsSource model.now other }
+    requires read { IsRead model.now one }
+    requires its { IsRead model.now other }
+    requires cube { one.cube ≡ other.cube }
+    ensures { IsTrue result → AreSetsSame model.now one.entry other.entry }
+{
+    if one.statement == other.statement {
+        return true;
+    }
+    let last = last_of(model, one.cube);
+    match (set_of(model, one, last), set_of(model, other, last)) {
+        (None, None) => true,
+        _ => false,
+    }
+}
+
+// Whether what two formulas read differs in the elements alone that it fixes.
+fn read_alike(one: Read, other: Read) -> bool
+    ensures { IsTrue result → (dims : List Outline) (i e : ℕ) → serves dims (precedent_of one.entry) i e
+        ≡ serves dims (precedent_of other.entry) i e }
+{
+    match (one, other) {
+        (Read::Cell(one), Read::Cell(other)) => {
+            args_alike(one.args.as_slice(), other.args.as_slice())
+        }
+        _ => false,
+    }
+}
+
+fn args_alike(one: &[Arg], other: &[Arg]) -> bool
+    ensures { IsTrue result → AreArgsAlike one.now other.now }
+{
+    if one.len() != other.len() {
+        return false;
+    }
+    'each: for i in 0..one.len() {
+        if !arg_alike(&one[i], &other[i]) {
+            return false;
+        }
+    }
+    true
+}
+
+fn arg_alike(one: &Arg, other: &Arg) -> bool
+    ensures { IsTrue result → followed one.now ≡ followed other.now }
+{
+    match (one, other) {
+        (Arg::Fixed(_), Arg::Fixed(_)) => true,
+        (Arg::Moved { from, to }, Arg::Moved { from: its, to: by }) => {
+            from == its && to.is_same(by)
+        }
+        _ => false,
+    }
+}
