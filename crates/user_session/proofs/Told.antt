@@ -1,5 +1,5 @@
 -- What a write is told of the limits is which limit is passed with it.
-use Rattle.std.proofs.Common.{◌≡◌, ◌∙◌, refl, sym, subst, ℕ, suc, ◌≤◌, List, length, ◌⊎◌, inl, inr, ⊎_elim, Option, Some, None, Result, Ok, Err}
+use Rattle.std.proofs.Common.{◌≡◌, ◌∙◌, refl, sym, subst, ℕ, suc, ◌≤◌, List, length, inl, inr, ⊎_elim, Some, None, Result, Ok, Err}
 use Rattle.std.specs.Prelude.{IsOkUnless}
 use Rattle.std.proofs.lemmas.Bool.{cases_lt, lt-ltb, le-ltb}
 use Rattle.cell_reader.specs.FedCount.{fed_count}

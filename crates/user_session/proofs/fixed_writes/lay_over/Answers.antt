@@ -1,12 +1,12 @@
-use Rattle.std.proofs.Common.{◌≡◌, ◌∙◌, rules, sym, ap, List, None, Err}
+use Rattle.std.proofs.Common.{◌≡◌, ◌∙◌, rules, sym, ap, List, Err}
 use Rattle.cell_reader.specs.Snapshots.{version_of}
 use Rattle.cell_store.specs.declared.entry.Entry.{Entry}
 use Rattle.cell_store.specs.Entries.{after_writes}
 use Rattle.cell_versions.specs.declared.fault.NextFault.TheVariants as faults
 use Rattle.cube_space.specs.Layout.{Layout}
 use Rattle.rule_model.specs.BoundModel.{BoundModel}
-use Rattle.user_session.specs.Content.{after, content_of}
-use Rattle.user_session.specs.Planning.{all_leaf_cells, misfit}
+use Rattle.user_session.specs.Content.{content_of}
+use Rattle.user_session.specs.Planning.{all_leaf_cells}
 use Rattle.user_session.specs.declared.content.Content.{Content}
 use Rattle.user_session.proofs.Limits.{leaf-writes, misfit-limit, misfit-name}
 use Rattle.user_session.proofs.Told.{told-kept, told-store, told-fed}
