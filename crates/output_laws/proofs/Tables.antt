@@ -1,5 +1,5 @@
 -- A table ends where its counts say.
-use Rattle.std.proofs.Common.{◌≡◌, ℕ, ◌+◌, ◌*◌, ◌^◌, ◌<◌, ◌≤◌, zero, suc, Bool, true, false, if◌then◌else◌, List, [], ◌∷◌, ◌++◌, length, map, filter, replicate, codes, decimal, refl, sym, ap, ◌∙◌, arith, append_assoc, length-append}
+use Rattle.std.proofs.Common.{◌≡◌, ℕ, ◌+◌, ◌*◌, ◌^◌, ◌<◌, ◌≤◌, zero, suc, Bool, true, false, if◌then◌else◌, List, [], ◌∷◌, ◌++◌, length, map, filter, replicate, codes, decimal, get_or, refl, sym, ap, ◌∙◌, arith, append_assoc, length-append}
 use Rattle.std.specs.List.{enumerate_from, list_all, zip, slice_index_or}
 use Rattle.std.proofs.lemmas.Bool.{and_parts}
 use Rattle.std.proofs.lemmas.Fmt.{decimal_injective}
@@ -141,7 +141,9 @@ tables_end layout is view few f g =
     ∙ sym (length-lines layout is view (at g) rows_too columns_too))
     (lines_plain layout is view (at f) rows columns) (lines_plain layout is view (at g) rows_too columns_too)
 
--- no table begins as a refusal does
+-- no table begins as a refusal does: a table begins with a `t`, and a refusal with an `r`
 pub table_apart : (layout : Layout) (view : View) (f : ℕ → Value) (reason : List ℕ) → EndAlike (table_text layout view f) (codes "refused " ++ reason)
 unfolding table_text
-table_apart layout view f reason x y e = absurd (cc)
+table_apart layout view f reason x y e =
+    let first_byte : 116 ≡ 114 = ap (λ (text : List ℕ). get_or text 0 0) e in
+    absurd (omega (arith, first_byte))
