@@ -9,14 +9,14 @@
 
 mod adding;
 mod cases;
-mod commits;
+mod refused_commit;
 mod refusing;
 mod restless;
 
 use crate::adding::Adding;
 use crate::cases::{ending, replies, users_of};
 use crate::restless::Restless;
-pub use commits::commits;
+pub use refused_commit::commits;
 use std::alloc::{AllocError, Global};
 use std::sync::Wait;
 use std::thread::Threads;
