@@ -19,16 +19,12 @@
 //! - `word WORD`, for a word that is empty or has spaces;
 //! - `read 2 fails`, and `write 2 fails after 3`, where the first 3 bytes of that piece are written;
 //! - `hold 2 1 0 until 1 2 3`, where user 2 waits at part 0 of its command 1 until user 1 has passed part 3 of its
-//!   command 2; with `for 1000` behind it no longer than so many turns of a loop. There may be several such lines.
+//!   command 2; with `for 1000` behind it no longer than so many turns of a loop.
 //!
 //! Reads, writes, users and commands count from 1. What a run writes has to be the same in whatever order users
 //! come.
 //!
-//! A case `cuts FILE: TITLE` is a run for each beginning of that file, and a case `broken FILE: TITLE` one for each of
-//! its places and each way to break it there ([`broken::ends_of_broken`]).
-//!
-//! A case `faults: TITLE` runs each case `run` above it again that ends with Done, with each of its reads and writes
-//! failing in turn ([`faults::ends_with_faults`]). It leaves out a case `long run: TITLE`, which takes long.
+//! A case `cuts FILE: TITLE` is a run for each beginning of that file.
 //!
 //! A case `store: TITLE` is one of stored cells; [`stores::answer`] has its lines. Lines that begin with `#` head a
 //! section.
@@ -38,17 +34,13 @@
 //! otherwise than the one before.
 #![tactic(auto)]
 
-mod broken;
 mod cases;
 mod endings;
-mod faults;
 mod runs;
 mod stores;
 
-use crate::broken::ends_of_broken;
 use crate::cases::{Case, case_of};
 use crate::endings::{ending_of, endings_of_cuts};
-use crate::faults::ends_with_faults;
 use case_lines::{Texts, write_answer};
 use std::io;
 use std::io::Write;
@@ -56,7 +48,6 @@ use std::io::Write;
 fn main(rt: HostRuntime) -> io::Result<()> {
     let cases = io::read_to_string(rt.alloc(), rt.reader())?;
     let mut texts = Texts::new(rt.alloc());
-    let mut runs = Vec::new(rt.alloc());
     let mut written = Vec::new(rt.alloc());
     for case in cases.trim_end_matches('\n').split("\n\n") {
         let case = case.trim_matches('\n');
@@ -65,26 +56,13 @@ fn main(rt: HostRuntime) -> io::Result<()> {
         match case_of(rt.alloc(), &mut texts, case)? {
             Case::Silent => {}
             Case::Answer(answer) => write_answer(&mut written, &answer)?,
-            Case::Run(run, again) => {
+            Case::Run(run) => {
                 let ending = ending_of(&rt, run)?;
                 write_answer(&mut written, &ending)?;
-                if let Some(again) = again
-                    && ending.starts_with(b"Done\n")
-                {
-                    runs.push(again)?;
-                }
             }
             Case::Cuts { file, lines } => {
                 let endings = endings_of_cuts(&rt, &texts, file, lines)?;
                 write_answer(&mut written, &endings)?;
-            }
-            Case::Broken { file, lines } => {
-                let ends = ends_of_broken(&rt, &texts, file, lines)?;
-                write_answer(&mut written, &ends)?;
-            }
-            Case::Faults => {
-                let ends = ends_with_faults(&rt, &texts, &runs)?;
-                write_answer(&mut written, &ends)?;
             }
         }
         written.push(b'\n')?;
