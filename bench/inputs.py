@@ -195,6 +195,12 @@ def found_moves(folder, n):
     return months_behind(folder, n, f"[{{{names}}}] = N: {moves};\n")
 
 
+def found_equal_moves(folder, n):
+    """n / 125 statements for all of 100,000 measures, of 125 references that each move by two to five places along them."""
+    moves = " + ".join(f"DB('C', !T, DIMNM('K', DIMIX('K', !K) - {k % 4 + 2}))" for k in range(125))
+    return months_behind(folder, 100000, f"[] = N: {moves};\n" * (n // 125))
+
+
 def found_circle(folder, n):
     """n / 100 statements of which each reads the measure before, and the first one the last."""
     r = f"['k1'] = N: ['k{n // 100}'];\n" + "".join(f"['k{i + 1}'] = N: ['k{i}'];\n" for i in range(1, n // 100))
@@ -512,8 +518,8 @@ SHAPES = [
     (equal_moves, 100000), (unmarked_moves, 100000), (wide_area, 90000), (shared_rule_file, 100000), (attributes, 100000),
     (attribute_moves, 100000),
     (listed_source, 90000), (climbing_target, 90000), (many_feeders, 1000), (own_feeders, 100000), (uncovered_feeders, 100000),
-    (long_order, 900), (found_statements, 99000), (found_chain, 99000), (found_area, 90000), (found_moves, 90000), (found_shared, 1000),
-    (found_circle, 99000),
+    (long_order, 900), (found_statements, 99000), (found_chain, 99000), (found_area, 90000), (found_moves, 90000), (found_equal_moves, 1000),
+    (found_shared, 1000), (found_circle, 99000),
     (spread_equal, 99000), (spread_proportional, 99000), (totals_above_loop, 90000), (cancelling_weights, 50000), (dense_leaves, 90000),
     (continued, 900), (puts_of_0, 30000), (puts, 800000), (zeros, 800000), (opened_total, 100000), (opened_zeros, 100000), (overfed_total, 1000000),
     (clearing_load, 100000), (adding_load, 100000), (paired_load, 100000), (large_plan, 800000), (plain_increments, 1000000), (equal_loads, 2000),

@@ -25,7 +25,7 @@ use Rattle.read_sources.specs.Sources.{IsRead, found_in}
 use Rattle.read_sources.specs.Parts.{IsShared}
 use Rattle.order_find.proofs.Through.{GoesThrough}
 use Rattle.read_sources.proofs.Lists.{has-map, has-range}
-use Rattle.order_find.proofs.Named.{Suits, IsNamedAs}
+use Rattle.read_sources.proofs.Named.{Suits, IsNamedAs}
 use Rattle.read_sources.specs.Ways.{Names}
 use Rattle.read_sources.proofs.Within.{names-within}
 use Rattle.order_find.proofs.Vertices.{slots-parts, slots-all, slots-totals}

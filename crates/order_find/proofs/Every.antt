@@ -16,19 +16,19 @@ use Rattle.rule_model.specs.Areas.{in_set}
 use Rattle.order_laws.proofs.ChildFacts.{size-at}
 use Rattle.arrow_laws.specs.Nodes.{Node, last_of}
 use Rattle.arrow_laws.specs.Arrows.{IsLeafArrow, IsArrow}
-use Rattle.arrow_laws.specs.ByDimension.{is_weak, IsJoinedByDimension}
+use Rattle.arrow_laws.specs.ByDimension.{IsJoinedByDimension}
 use Rattle.order_find.specs.declared.numbering.Place.{Place}
 use Rattle.read_sources.specs.declared.source.Source.{Source}
 use Rattle.order_find.specs.Numbers.{IsPlace, number_of}
 use Rattle.read_sources.specs.Ways.{IsSource, precedent, way_of, reads_from, serves_any, cube_read}
 use Rattle.order_find.specs.Slots.{Plan, arrow_to, leaves_below, leaf_arrow, arrow_by, read_arrow, source_arrow, hubs_from, group_by, group_arrow, member_arrow, members, own_slots, group_slots, slots_at}
-use Rattle.read_sources.specs.Sources.{IsReadBy}
 use Rattle.order_find.specs.PlanOfAll.{IsPlanOfAll}
-use Rattle.read_sources.specs.Parts.{IsReadIn}
+use Rattle.read_sources.specs.Parts.{IsReadLike, IsReadIn}
 use Rattle.order_find.proofs.Decided.{IsReadByDimension, read-dimension}
 use Rattle.order_find.proofs.Through.{node, Goes, GoesThrough}
 use Rattle.read_sources.proofs.Lists.{has-map, has-range}
-use Rattle.order_find.proofs.Named.{named-as}
+use Rattle.read_sources.proofs.Groups.{joined-by, weak-by}
+use Rattle.read_sources.proofs.Named.{named-as}
 use Rattle.read_sources.proofs.Within.{reads-cube}
 use Rattle.order_find.proofs.Vertices.{slots-element, slots-shared}
 use Rattle.order_find.proofs.Suiting.{not-not}
@@ -44,16 +44,12 @@ pub record IsThrough (p : Plan) (from to : Node) (strict : Bool) : Type 0 where
   pub goes_there : GoesThrough p (number_of p.numbering source.cube source.element) (number_of p.numbering target.cube target.element) strict
 
 module _ (p : Plan) (all : IsPlanOfAll p) (from to : Node) (strict : Bool) where
-  single-every : (r : IsReadByDimension p.model from to strict) → IsReadBy p.sources r.cube r.statement r.kind r.read → IsThrough p from to strict
+  single-every : (r : IsReadByDimension p.model from to strict) → IsReadLike p.model p.sources r.cube r.statement r.kind r.read → IsThrough p from to strict
   single-every r rb =
       let s = rb.source in
       let m = p.model in
-      let j1 = subst (λ a. IsJoinedByDimension m r.cube a r.kind r.read from to) (sym rb.area) r.joined in
-      let j2 = subst (λ b. IsJoinedByDimension m r.cube s.area.now b r.read from to) (sym rb.same_kind) j1 in
-      let j3 = subst (λ x. IsJoinedByDimension m r.cube s.area.now s.kind x from to) (sym rb.same_read) j2 in
-      let j : IsJoinedByDimension m s.cube s.area.now s.kind (precedent s) from to = subst (λ c. IsJoinedByDimension m c s.area.now s.kind (precedent s) from to) (sym rb.own) j3 in
-      let weak : s.weak ≡ not strict = (all.read rb.k s rb.here).weak ∙ ap (λ c. is_weak m c s.area.now s.kind (precedent s)) rb.own ∙ ap (λ a. is_weak m r.cube a s.kind (precedent s)) rb.area
-      ∙ ap (λ b. is_weak m r.cube r.statement.area b (precedent s)) rb.same_kind ∙ ap (λ x. is_weak m r.cube r.statement.area r.kind x) rb.same_read ∙ r.weak in
+      let j : IsJoinedByDimension m s.cube s.area.now s.kind (precedent s) from to = rb.joins from to r.joined in
+      let weak : s.weak ≡ not strict = rb.weak ∙ r.weak in
       let strict_is : not s.weak ≡ strict = ap not weak ∙ not-not strict in
       let is = found_holds (IsSource m) p.sources rb.k s all.plan.sources rb.here in
       let named = named-as m s.cube s.area.now s.kind (precedent s) from.element to.element j.named in
@@ -100,13 +96,9 @@ module _ (p : Plan) (all : IsPlanOfAll p) (from to : Node) (strict : Bool) where
       let s = rb.source in
       let m = p.model in
       let g = rb.member.group in
-      let j1 = subst (λ a. IsJoinedByDimension m r.cube a r.kind r.read from to) (sym rb.area) r.joined in
-      let j2 = subst (λ b. IsJoinedByDimension m r.cube s.area.now b r.read from to) (sym rb.same_kind) j1 in
-      let j3 = subst (λ x. IsJoinedByDimension m r.cube s.area.now s.kind x from to) (sym rb.same_read) j2 in
-      let j : IsJoinedByDimension m s.cube s.area.now s.kind (precedent s) from to = subst (λ c. IsJoinedByDimension m c s.area.now s.kind (precedent s) from to) (sym rb.own) j3 in
       let read = all.read_members g s rb.member.has in
-      let weak : s.weak ≡ not strict = read.weak ∙ ap (λ c. is_weak m c s.area.now s.kind (precedent s)) rb.own ∙ ap (λ a. is_weak m r.cube a s.kind (precedent s)) rb.area
-      ∙ ap (λ b. is_weak m r.cube r.statement.area b (precedent s)) rb.same_kind ∙ ap (λ x. is_weak m r.cube r.statement.area r.kind x) rb.same_read ∙ r.weak in
+      let j : IsJoinedByDimension m s.cube s.area.now s.kind (precedent s) from to = joined-by m r.cube r.statement.area r.kind r.read s rb.own rb.area rb.same_kind rb.same_read from to r.joined in
+      let weak : s.weak ≡ not strict = weak-by m r.cube r.statement.area r.kind r.read s rb.own rb.area rb.same_kind rb.same_read read ∙ r.weak in
       let strict_is : not s.weak ≡ strict = ap not weak ∙ not-not strict in
       let is = All-contains (IsSource m) (members p g) s (all.plan.grouped g) rb.member.has in
       let named = named-as m s.cube s.area.now s.kind (precedent s) from.element to.element j.named in

@@ -8,7 +8,6 @@ pub mod Held
 pub mod Least
 pub mod Linked
 pub mod LookedAt
-pub mod Named
 pub mod Numbered
 pub mod Planned
 pub mod Sound

@@ -21,7 +21,7 @@ use Rattle.read_sources.specs.Sources.{IsRead, found_in, read_for}
 use Rattle.order_find.proofs.Decided.{IsReadByDimension, dimension-read}
 use Rattle.order_find.proofs.Through.{node, link_from, IsArrowOf, IsVia}
 use Rattle.read_sources.proofs.Lists.{map-has, held-has}
-use Rattle.order_find.proofs.Named.{Suits, IsNamedAs, as-named}
+use Rattle.read_sources.proofs.Named.{Suits, IsNamedAs, as-named}
 use Rattle.read_sources.specs.Ways.{Names}
 use Rattle.read_sources.proofs.Within.{names-within, reads-cube}
 use Rattle.order_find.proofs.Vertices.{slots-parts, slots-all, slots-totals}

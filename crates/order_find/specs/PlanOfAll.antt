@@ -1,4 +1,4 @@
--- When a plan is one of its model: its sources are all that statements read at the same lag.
+-- When a plan is one of its model: its sources make all arrows of what statements read at the same lag.
 use Rattle.std.specs.Prelude.{◌≡◌, ℕ, ◌<◌, ◌⊎◌, Bool, false, Some, None, List, [], length, Contains}
 use Rattle.std.specs.Prelude.{IsTrue, slice_get, slice_index_or, slice_index}
 use Rattle.rule_laws.specs.Meaning.{Precedent}
@@ -11,12 +11,12 @@ use Rattle.arrow_laws.specs.ByDimension.{is_lagged, is_level}
 use Rattle.order_find.specs.declared.numbering.Place.{Place}
 use Rattle.read_sources.specs.declared.source.Source.{Source}
 use Rattle.order_find.specs.Numbers.{IsPlace, number_of}
-use Rattle.read_sources.specs.Parts.{IsAlike, IsReadIn}
+use Rattle.read_sources.specs.Parts.{IsAlike, IsReadLike, IsReadIn}
 use Rattle.order_find.specs.Slots.{Plan, IsPlan, IsSourceOf, members}
-use Rattle.read_sources.specs.Sources.{IsRead, IsReadBy}
+use Rattle.read_sources.specs.Sources.{IsRead}
 
--- the sources, single ones and those of groups, are what the statements of the model read at the same lag; and each
--- single one and each group is looked at for the elements that its area has in the last dimension
+-- the sources, single ones and those of groups, make all arrows of what the statements of the model read at the same
+-- lag; and each single one and each group is looked at for the elements that its area has in the last dimension
 pub record IsPlanOfAll (p : Plan) : Type 0 where
   pub plan : IsPlan p
   pub read : (k : ℕ) (s : Source) → slice_get p.sources k ≡ Some s → IsRead p.model s
@@ -27,7 +27,8 @@ pub record IsPlanOfAll (p : Plan) : Type 0 where
       → Contains (rules_of p.model cube).statements statement → Reads p.model cube statement kind read
       → IsTrue (is_level p.model cube statement.area kind read)
       → is_lagged p.model cube statement.area kind read ≡ false
-      → IsReadBy p.sources cube statement kind read ⊎ IsReadIn p.model p.heads p.groups cube statement kind read
+      → IsReadLike p.model p.sources cube statement kind read
+      ⊎ IsReadIn p.model p.heads p.groups cube statement kind read
   pub looked_at : (k : ℕ) (s : Source) (place : Place) → slice_get p.sources k ≡ Some s
       → IsPlace p.model.space place → place.cube ≡ s.cube
       → IsTrue (in_set (slice_index_or s.area.now.sets (last_of p.model.space s.cube) None) place.element)

@@ -220,21 +220,6 @@ fn arrow_to_group(graph: &NodeGraph, node: u32, place: Place, slot: usize) -> Op
     row_group(graph, place, graph.groups_of_node(node), slot - whole.len())
 }
 
-// The arrow in a slot of the node of an element.
-fn element_arrow(graph: &NodeGraph, node: u32, place: Place, slot: usize) -> Option<Arrow>
-    requires node { node < count_of graph.now.numbering }
-    requires place { IsPlace graph.now.model.space place }
-    ensures arrow { result ≡ unwrap_or (slice_get (slots_of graph.now node (Element place)) slot) None }
-    ensures within { IfSome result (λ arrow. arrow.to < node_count graph.now) }
-{
-    let own = own_count(graph, node, place);
-    if slot < own {
-        own_arrow(graph, node, place, slot)
-    } else {
-        arrow_to_group(graph, node, place, slot - own)
-    }
-}
-
 // The arrow to the leaf at a place of a list of them.
 fn row_leaf(graph: &NodeGraph, place: Place, row: &[(u32, i64)], slot: usize) -> Option<Arrow>
     requires cube { place.cube < length graph.now.model.space.cubes }
@@ -252,23 +237,28 @@ fn row_leaf(graph: &NodeGraph, place: Place, row: &[(u32, i64)], slot: usize) ->
     None
 }
 
-// The arrow in a slot of the node of an element, to a leaf or by a single source.
-fn own_arrow(graph: &NodeGraph, node: u32, place: Place, slot: usize) -> Option<Arrow>
+// The arrow in a slot of the node of an element: to a leaf, by a single source or to the node of a group.
+fn element_arrow(graph: &NodeGraph, node: u32, place: Place, slot: usize) -> Option<Arrow>
     requires node { node < count_of graph.now.numbering }
     requires place { IsPlace graph.now.model.space place }
-    ensures arrow { result ≡ unwrap_or (slice_get (own_slots graph.now node place) slot) None }
+    ensures arrow { result ≡ unwrap_or (slice_get (slots_of graph.now node (Element place)) slot) None }
     ensures within { IfSome result (λ arrow. arrow.to < node_count graph.now) }
 {
     let leaves = leaves_below(graph.model(), place);
-    let whole = graph.of_cube(place.cube);
     if slot < leaves.len() {
         return row_leaf(graph, place, leaves, slot);
     }
     let slot = slot - leaves.len();
+    let whole = graph.of_cube(place.cube);
     if slot < whole.len() {
         return row_arrow(graph, node, place, whole, slot);
     }
-    row_arrow(graph, node, place, graph.of_node(node), slot - whole.len())
+    let slot = slot - whole.len();
+    let own = graph.of_node(node);
+    if slot < own.len() {
+        return row_arrow(graph, node, place, own, slot);
+    }
+    arrow_to_group(graph, node, place, slot - own.len())
 }
 
 // The arrow from the node of a group to what one of its sources always reads.

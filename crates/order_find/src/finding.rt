@@ -1,6 +1,4 @@
 ghost use Rattle.std.specs.Prelude.{IfOk, IfErr};
-ghost use Rattle.arrow_laws.specs.Arrows.{IsLevelThroughout};
-ghost use Rattle.order_find.specs.PlanOfAll.{IsPlanOfAll};
 ghost use Rattle.order_find.specs.Found.{AreFound, IsFindFault};
 
 use crate::circle::circle;
@@ -32,19 +30,9 @@ pub fn find(alloc: Global, model: &Model) -> Result<Vec<Order>, FindFault>
     ensures refused { IfErr result (IsFindFault model.now) }
 {
     let graph = NodeGraph::of(alloc, model)?;
-    found_in(alloc, &graph)
-}
-
-// The orders of the least ranks that fit the graph of a model, or a circle where none fit.
-fn found_in(alloc: Global, graph: &NodeGraph) -> Result<Vec<Order>, FindFault>
-    requires plan { IsPlanOfAll graph.now }
-    requires level { IsLevelThroughout graph.now.model }
-    ensures found { IfOk result (λ orders. AreFound graph.now.model orders.items) }
-    ensures refused { IfErr result (IsFindFault graph.now.model) }
-{
-    match least_ranks(alloc, graph) {
-        Ok(ranks) => Ok(orders(alloc, graph, &ranks)?),
-        Err(RankFault::Cycle(steps)) => Err(FindFault::Cycle(circle(alloc, graph, &steps)?)),
+    match least_ranks(alloc, &graph) {
+        Ok(ranks) => Ok(orders(alloc, &graph, &ranks)?),
+        Err(RankFault::Cycle(steps)) => Err(FindFault::Cycle(circle(alloc, &graph, &steps)?)),
         Err(RankFault::Memory) => Err(FindFault::Memory),
     }
 }

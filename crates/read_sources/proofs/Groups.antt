@@ -1,5 +1,5 @@
 -- Sources, parted into single ones and groups.
-use Rattle.std.proofs.Common.{◌≡◌, refl, sym, ap, ◌∙◌, arith, subst, ℕ, zero, suc, ◌+◌, ◌<◌, ◌≤◌, ◌⊎◌, inl, inr, true, false, Some, List, [], ◌∷◌, ◌++◌, length, set, eqb, Contains}
+use Rattle.std.proofs.Common.{◌≡◌, refl, sym, ap, ◌∙◌, arith, subst, ℕ, zero, suc, ◌+◌, ◌<◌, ◌≤◌, ◌⊎◌, inl, inr, Bool, true, false, Some, List, [], ◌∷◌, ◌++◌, length, set, eqb, Contains}
 use Rattle.std.specs.Prelude.{slice_get, slice_index_or}
 use Rattle.std.proofs.lemmas.Bool.{cases_lt}
 use Rattle.std.proofs.lemmas.Bool.Decides.{eqb_tells}
@@ -7,14 +7,20 @@ use Rattle.std.proofs.lemmas.List.{length-append, length-set, get_or-set_same, g
 use Rattle.std.proofs.lemmas.List.Elements.{Contains-append_cases, Contains-append_left, Contains-push}
 use Rattle.std.proofs.lemmas.Option.{slice_get_within}
 use Rattle.lists.proofs.Found.{some_same}
+use Rattle.rule_laws.specs.Meaning.{Precedent}
+use Rattle.rule_model.specs.declared.area.Area.{Area}
+use Rattle.rule_model.specs.declared.rules.Statement.{Statement}
 use Rattle.rule_model.specs.BoundModel.{BoundModel}
+use Rattle.arrow_laws.specs.Nodes.{Node}
+use Rattle.arrow_laws.specs.ByDimension.{is_weak, IsJoinedByDimension}
 use Rattle.read_sources.specs.declared.source.Source.{Source}
 use Rattle.read_sources.specs.declared.parting.Parted.{Parted}
-use Rattle.read_sources.specs.Ways.{way_of}
-use Rattle.read_sources.specs.Sources.{IsRead, AreSourcesOf, most_sources}
+use Rattle.read_sources.specs.Ways.{precedent, way_of}
+use Rattle.read_sources.specs.Sources.{IsRead, IsReadBy, AreSourcesOf, most_sources}
 use Rattle.read_sources.specs.Parts.{IsAlike, IsShared, IsMember, IsPlaced, AreParts, IsOfGroup, IsPut, ArePartsOfAll, members_in}
-use Rattle.read_sources.proofs.Lists.{at-of}
-use Rattle.read_sources.proofs.Placed.{get-either}
+use Rattle.read_sources.specs.Parts.{IsReadLike, IsStoodFor, Joins}
+use Rattle.read_sources.proofs.Placed.{get-either, get-first, get-second}
+use Rattle.read_sources.proofs.StoodFor.{stands-itself}
 
 -- ---- lists
 
@@ -85,11 +91,24 @@ module _ (m : BoundModel) (s : Source) (old new : Parted) (read : IsRead m s) wh
       few_members = λ g. omega (arith, ap (λ gs. length (row gs g)) groups, h.few_members g);
     };
     keeps = λ t placed. elim placed [
-      | inl was ↦ inl (subst (λ xs. Contains xs t) (sym singles) (Contains-append_left old.singles.items (s ∷ []) t was))
+      | inl was ↦ inl (stays-for t singles was)
       | inr member ↦ inr (kept-member t (omega (arith, ap (λ (xs : List Source). length xs) heads)) (λ g has. subst (λ gs. Contains (row gs g) t) (sym groups) has) member)
     ];
-    placed = inl (subst (λ xs. Contains xs s) (sym singles) (Contains-push old.singles.items s));
+    placed = inl (record {
+      k = length old.singles.items;
+      one = s;
+      here = ap (λ xs. slice_get xs (length old.singles.items)) singles ∙ get-second old.singles.items (s ∷ []) (length old.singles.items) 0 s (omega arith) refl;
+      stands = stands-itself m s;
+    });
   }
+    where
+      stays-for : (t : Source) → new.singles.items ≡ old.singles.items ++ s ∷ [] → IsStoodFor m old.singles.items t → IsStoodFor m new.singles.items t
+      stays-for t singles was = record {
+        k = was.k;
+        one = was.one;
+        here = ap (λ xs. slice_get xs was.k) singles ∙ get-first old.singles.items (s ∷ []) was.k was.one was.here;
+        stands = was.stands;
+      }
 
   pub put-begin : new.singles.items ≡ old.singles.items → new.heads.items ≡ old.heads.items ++ s ∷ [] → new.groups.items ≡ old.groups.items ++ (s ∷ []) ∷ []
       → length old.groups.items ≡ length old.heads.items → IsShared (way_of m s) → IsPut m s old new
@@ -105,7 +124,7 @@ module _ (m : BoundModel) (s : Source) (old new : Parted) (read : IsRead m s) wh
       few_members = λ g. omega (arith, ap (λ gs. length (row gs g)) groups, more-long old.groups.items (s ∷ []) g (suc count) (λ h'. omega (arith, h.few_members h')) (omega arith));
     };
     keeps = λ t placed. elim placed [
-      | inl was ↦ inl (subst (λ xs. Contains xs t) (sym singles) was)
+      | inl was ↦ inl (subst (λ xs. IsStoodFor m xs t) (sym singles) was)
       | inr member ↦ inr (kept-member t (omega (arith, ap (λ (xs : List Source). length xs) heads, length-append old.heads.items (s ∷ []))) (λ g has. subst (λ gs. Contains (row gs g) t) (sym groups) (has-more old.groups.items (s ∷ []) g t has)) member)
     ];
     placed = inr (record {
@@ -120,7 +139,7 @@ module _ (m : BoundModel) (s : Source) (old new : Parted) (read : IsRead m s) wh
       of g t has = elim (more-has old.groups.items (s ∷ []) g t (subst (λ gs. Contains (row gs g) t) groups has)) [ inl was ↦ inl was | inr (at, own) ↦ inr (at, one-has s t own) ]
 
       itself : IsAlike m s s
-      itself = record { cube = refl; reads = λ e. refl; serves = λ e. refl }
+      itself = record { cube = refl; kind = refl; elsewhere = refl; reads = λ e. refl; serves = λ e. refl; reads_in = λ d e same. refl }
 
       past : (g : ℕ) (t : Source) → length old.groups.items ≤ g → Contains (members_in old g) t → ⊥
       past g t high has = let (k, low, is) = subst (λ r. Contains r t) (Rattle.std.proofs.lemmas.List.get_or_past old.groups.items g [] high) has in omega (arith, low)
@@ -146,7 +165,7 @@ module _ (m : BoundModel) (s : Source) (old new : Parted) (read : IsRead m s) wh
       few_members = λ i. long count h i (eqb_tells g i);
     };
     keeps = λ t placed. elim placed [
-      | inl was ↦ inl (subst (λ xs. Contains xs t) (sym singles) was)
+      | inl was ↦ inl (subst (λ xs. IsStoodFor m xs t) (sym singles) was)
       | inr member ↦ inr (kept-member t (omega (arith, ap (λ (xs : List Source). length xs) heads)) (λ i has. on i t has (eqb_tells g i)) member)
     ];
     placed = inr (record {
@@ -192,6 +211,23 @@ module _ (m : BoundModel) (s : Source) (old new : Parted) (read : IsRead m s) wh
           let equal : of_group.head ≡ head = some_same (sym of_group.at ∙ ap (slice_get old.heads.items) is ∙ at) in
           subst (IsAlike m head) own (subst (λ x. IsAlike m x s) equal of_group.alike)
 
+-- a source for which a single one stands
+pub put-stood : (m : BoundModel) (s : Source) (parted : Parted) → IsStoodFor m parted.singles.items s → IsPut m s parted parted
+put-stood m s parted stood = record {
+  parts = λ count h. record {
+    singles = h.singles;
+    heads = h.heads;
+    members = h.members;
+    alike = h.alike;
+    whole = h.whole;
+    few_singles = omega (arith, h.few_singles);
+    few_heads = omega (arith, h.few_heads);
+    few_members = λ g. omega (arith, h.few_members g);
+  };
+  keeps = λ t placed. placed;
+  placed = inl stood;
+}
+
 -- ---- all of them
 
 -- those before one are placed
@@ -231,6 +267,30 @@ parted-more m sources k s old new at so put = record {
   ];
 }
 
+-- what is read makes the arrows of its source, and that which stands for it makes them too
+pub joined-by : (m : BoundModel) (cube : ℕ) (area : Area) (kind : Bool) (read : Precedent) (s : Source) → s.cube ≡ cube → s.area.now ≡ area → s.kind ≡ kind → precedent s ≡ read → (from to : Node)
+    → IsJoinedByDimension m cube area kind read from to → Joins m s from to
+joined-by m cube area kind read s own same_area same_kind same_read from to joined =
+    let by_area = subst (λ a. IsJoinedByDimension m cube a kind read from to) (sym same_area) joined in
+    let by_kind = subst (λ b. IsJoinedByDimension m cube s.area.now b read from to) (sym same_kind) by_area in
+    let by_read = subst (λ x. IsJoinedByDimension m cube s.area.now s.kind x from to) (sym same_read) by_kind in
+    subst (λ c. IsJoinedByDimension m c s.area.now s.kind (precedent s) from to) (sym own) by_read
+
+pub weak-by : (m : BoundModel) (cube : ℕ) (area : Area) (kind : Bool) (read : Precedent) (s : Source) → s.cube ≡ cube → s.area.now ≡ area → s.kind ≡ kind → precedent s ≡ read → IsRead m s → s.weak ≡ is_weak m cube area kind read
+weak-by m cube area kind read s own same_area same_kind same_read is =
+    is.weak ∙ ap (λ c. is_weak m c s.area.now s.kind (precedent s)) own ∙ ap (λ a. is_weak m cube a s.kind (precedent s)) same_area ∙ ap (λ b. is_weak m cube area b (precedent s)) same_kind
+    ∙ ap (is_weak m cube area kind) same_read
+
+read-like : (m : BoundModel) (singles sources : List Source) (cube : ℕ) (statement : Statement) (kind : Bool) (read : Precedent) (by : IsReadBy sources cube statement kind read) → IsRead m by.source
+    → IsStoodFor m singles by.source → IsReadLike m singles cube statement kind read
+read-like m singles sources cube statement kind read by is stood = record {
+  k = stood.k;
+  source = stood.one;
+  here = stood.here;
+  weak = stood.stands.weak ∙ weak-by m cube statement.area kind read by.source by.own by.area by.same_kind by.same_read is;
+  joins = λ from to joined. stood.stands.joins from to (joined-by m cube statement.area kind read by.source by.own by.area by.same_kind by.same_read from to joined);
+}
+
 pub parts-of-all : (m : BoundModel) (sources : List Source) (k : ℕ) (parted : Parted) → length sources ≤ k → k ≤ most_sources → AreSourcesOf m sources → AreParted m sources k parted → ArePartsOfAll m parted
 parts-of-all m sources k parted long few are so = record {
   parts = record {
@@ -245,8 +305,7 @@ parts-of-all m sources k parted long few are so = record {
   };
   all = λ cube statement kind read there stands reads level not_lagged. (let by = are.all cube statement kind read there stands reads level not_lagged in
       elim (so.each by.k by.source (omega (arith, slice_get_within sources by.k by.source by.here, long)) by.here) [
-        | inl has ↦ let (j, at) = at-of parted.singles.items by.source has in
-            inl (record { k = j; source = by.source; here = at; own = by.own; area = by.area; same_kind = by.same_kind; same_read = by.same_read })
+        | inl stood ↦ inl (read-like m parted.singles.items sources cube statement kind read by (are.read by.k by.source by.here) stood)
         | inr member ↦ inr (record { source = by.source; member = member; own = by.own; area = by.area; same_kind = by.same_kind; same_read = by.same_read })
       ]);
 }

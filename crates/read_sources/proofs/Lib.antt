@@ -4,8 +4,10 @@ pub mod Greater
 pub mod Groups
 pub mod Likeness
 pub mod Lists
+pub mod Named
 pub mod Placed
 pub mod Serving
 pub mod Sourced
+pub mod StoodFor
 pub mod Weak
 pub mod Within

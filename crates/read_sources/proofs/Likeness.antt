@@ -59,33 +59,37 @@ args-serve i e (x ∷ xs) (y ∷ ys) alike =
 -- ---- areas
 
 -- sources of one statement have one area
-pub same-statement : (m : BoundModel) (one other : Source) → IsRead m one → IsRead m other → one.cube ≡ other.cube → one.statement ≡ other.statement → AreSetsSame m one other
-same-statement m one other read its cube number =
+pub same-statement : (m : BoundModel) (one other : Source) (dim : ℕ) → IsRead m one → IsRead m other → one.cube ≡ other.cube → one.statement ≡ other.statement → AreSetsSame dim one other
+same-statement m one other dim read its cube number =
     let place : read.place ≡ its.place = omega (arith, read.number, its.number, number) in
     let both : Some read.statement ≡ Some its.statement = sym read.here ∙ ap (λ c. slice_get (rules_of m c).statements read.place) cube ∙ ap (slice_get (rules_of m other.cube).statements) place ∙ its.here in
     let area : one.area.now ≡ other.area.now = read.area ∙ ap (λ (s : Statement). s.area) (some_same both) ∙ sym its.area in
-    ap (λ (a : Area). slice_index_or a.sets (last_of m.space one.cube) None) area
+    ap (λ (a : Area). slice_index_or a.sets dim None) area
 
 -- ---- sources
 
-pub alike-of : (m : BoundModel) (one other : Source) → one.cube ≡ other.cube → one.kind ≡ other.kind → one.elsewhere ≡ other.elsewhere → AreSetsSame m one other
+pub alike-of : (m : BoundModel) (one other : Source) → one.cube ≡ other.cube → one.kind ≡ other.kind → one.elsewhere ≡ other.elsewhere → AreSetsSame (last_of m.space one.cube) one other
     → ((dims : List Outline) (i e : ℕ) → serves dims (precedent one) i e ≡ serves dims (precedent other) i e) → IsAlike m one other
 unfolding is_from
-alike-of m one other cube kind elsewhere sets serving = record { cube = cube; reads = from; serves = any }
+alike-of m one other cube kind elsewhere sets serving = record {
+  cube = cube;
+  kind = kind;
+  elsewhere = elsewhere;
+  reads = λ e. from (last_of m.space one.cube) e sets;
+  serves = any;
+  reads_in = from;
+}
   where
-    last : ℕ
-    last = last_of m.space one.cube
+    test : ℕ → ℕ → Option (List ℕ) → Bool → Bool → ℕ → Bool
+    test d c set kind serving e =
+        (nat_lt e (slice_index_or (sizes m.space c) d 0) && in_set set e) && (not (kind && is_total (axes m.space c) d e) && serving)
 
-    test : ℕ → Option (List ℕ) → Bool → Bool → ℕ → Bool
-    test c set kind serving e =
-        (nat_lt e (slice_index_or (sizes m.space c) last 0) && in_set set e) && (not (kind && is_total (axes m.space c) last e) && serving)
-
-    from : (e : ℕ) → reads_from m one last e ≡ reads_from m other last e
-    from e =
-        ap (λ set. test one.cube set one.kind (serves (axes m.space one.cube) (precedent one) last e) e) sets
-        ∙ ap (λ k. test one.cube (slice_index_or other.area.now.sets last None) k (serves (axes m.space one.cube) (precedent one) last e) e) kind
-        ∙ ap (λ b. test one.cube (slice_index_or other.area.now.sets last None) other.kind b e) (serving (axes m.space one.cube) last e)
-        ∙ ap (λ c. test c (slice_index_or other.area.now.sets last None) other.kind (serves (axes m.space c) (precedent other) last e) e) cube
+    from : (d e : ℕ) → AreSetsSame d one other → reads_from m one d e ≡ reads_from m other d e
+    from d e same =
+        ap (λ set. test d one.cube set one.kind (serves (axes m.space one.cube) (precedent one) d e) e) same
+        ∙ ap (λ k. test d one.cube (slice_index_or other.area.now.sets d None) k (serves (axes m.space one.cube) (precedent one) d e) e) kind
+        ∙ ap (λ b. test d one.cube (slice_index_or other.area.now.sets d None) other.kind b e) (serving (axes m.space one.cube) d e)
+        ∙ ap (λ c. test d c (slice_index_or other.area.now.sets d None) other.kind (serves (axes m.space c) (precedent other) d e) e) cube
 
     any : (e : ℕ) → serves_any m one e ≡ serves_any m other e
     any e =

@@ -6,14 +6,14 @@ use Rattle.rule_laws.specs.declared.reference.Arg.TheVariants.{Fixed, Moved}
 use Rattle.rule_laws.specs.Meaning.{Precedent}
 use Rattle.rule_model.specs.declared.rules.Statement.{Statement}
 use Rattle.rule_model.specs.BoundModel.{BoundModel, rules_of}
-use Rattle.arrow_laws.specs.Nodes.{last_of}
+use Rattle.arrow_laws.specs.Nodes.{Node, last_of}
 use Rattle.arrow_laws.specs.Arrows.{Reads}
-use Rattle.arrow_laws.specs.ByDimension.{is_lagged, is_level}
+use Rattle.arrow_laws.specs.ByDimension.{is_lagged, is_level, is_weak, IsJoinedByDimension}
 use Rattle.read_sources.specs.declared.source.Source.{Source}
 use Rattle.read_sources.specs.declared.parting.Parted.{Parted}
 use Rattle.read_sources.specs.Ways.{Follows, Same, Component, Always, Sent, SentOver, precedent, way_of}
 use Rattle.read_sources.specs.Ways.{reads_from, serves_any}
-use Rattle.read_sources.specs.Sources.{IsRead, IsReadBy, most_sources}
+use Rattle.read_sources.specs.Sources.{IsRead, most_sources}
 
 -- which dimension an argument follows, and by which map
 abbrev pub followed : Arg → Option (ℕ × List (Option ℕ))
@@ -25,17 +25,35 @@ pub record AreArgsAlike (one other : List Arg) : Type 0 where
   pub long : length one ≡ length other
   pub each : (j : ℕ) (x y : Arg) → slice_get one j ≡ Some x → slice_get other j ≡ Some y → followed x ≡ followed y
 
--- the areas of two sources have the same elements in the last dimension of the first one's cube
-abbrev pub AreSetsSame : BoundModel → Source → Source → Type 0
-AreSetsSame m one other =
-    slice_index_or one.area.now.sets (last_of m.space one.cube) None
-    ≡ slice_index_or other.area.now.sets (last_of m.space one.cube) None
+-- the areas of two sources have the same elements in a dimension
+abbrev pub AreSetsSame : ℕ → Source → Source → Type 0
+AreSetsSame dim one other = slice_index_or one.area.now.sets dim None ≡ slice_index_or other.area.now.sets dim None
 
--- two sources of one cube read from the same elements of the last dimension
+-- two sources of one cube read, for cells of one kind, from the same elements of the last dimension, and of each other
+-- dimension of which their areas have the same
 pub record IsAlike (m : BoundModel) (one other : Source) : Type 0 where
   pub cube : one.cube ≡ other.cube
+  pub kind : one.kind ≡ other.kind
+  pub elsewhere : one.elsewhere ≡ other.elsewhere
   pub reads : (e : ℕ) → reads_from m one (last_of m.space one.cube) e ≡ reads_from m other (last_of m.space one.cube) e
   pub serves : (e : ℕ) → serves_any m one e ≡ serves_any m other e
+  pub reads_in : (dim e : ℕ) → AreSetsSame dim one other → reads_from m one dim e ≡ reads_from m other dim e
+
+-- some cell of the one node reads a cell of the other by a source
+abbrev pub Joins : BoundModel → Source → Node → Node → Type 0
+Joins m s = IsJoinedByDimension m s.cube s.area.now s.kind (precedent s)
+
+-- a source makes each arrow that another one makes
+pub record StandsFor (m : BoundModel) (one other : Source) : Type 0 where
+  pub weak : one.weak ≡ other.weak
+  pub joins : (from to : Node) → Joins m other from to → Joins m one from to
+
+-- and one of these sources does
+pub record IsStoodFor (m : BoundModel) (sources : List Source) (other : Source) : Type 0 where
+  pub k : ℕ
+  pub one : Source
+  pub here : slice_get sources k ≡ Some one
+  pub stands : StandsFor m one other
 
 -- a source that always reads the node of one element
 abbrev pub IsShared : Follows → Type 0
@@ -56,9 +74,9 @@ pub record IsMember (m : BoundModel) (heads : List Source) (groups : List (List 
   pub has : Contains (slice_index_or groups group []) s
   pub shared : IsShared (way_of m s)
 
--- a source is a single one, or in a group
+-- a single source makes the arrows of a source, or that is in a group
 abbrev pub IsPlaced : BoundModel → Parted → Source → Type 0
-IsPlaced m parted s = Contains parted.singles.items s ⊎ IsMember m parted.heads.items parted.groups.items s
+IsPlaced m parted s = IsStoodFor m parted.singles.items s ⊎ IsMember m parted.heads.items parted.groups.items s
 
 -- all are read, and those of a group are like its head; there are at most so many
 pub record AreParts (m : BoundModel) (count : ℕ) (parted : Parted) : Type 0 where
@@ -84,6 +102,15 @@ pub record IsPut (m : BoundModel) (s : Source) (old new : Parted) : Type 0 where
   pub keeps : (other : Source) → IsPlaced m old other → IsPlaced m new other
   pub placed : IsPlaced m new s
 
+-- one of the sources makes the arrows of what a statement of a cube reads for this kind of cell
+pub record IsReadLike (m : BoundModel) (sources : List Source) (cube : ℕ) (statement : Statement) (kind : Bool)
+    (read : Precedent) : Type 0 where
+  pub k : ℕ
+  pub source : Source
+  pub here : slice_get sources k ≡ Some source
+  pub weak : source.weak ≡ is_weak m cube statement.area kind read
+  pub joins : (from to : Node) → IsJoinedByDimension m cube statement.area kind read from to → Joins m source from to
+
 -- what a statement of a cube reads for this kind of cell is in a group
 pub record IsReadIn (m : BoundModel) (heads : List Source) (groups : List (List Source)) (cube : ℕ)
     (statement : Statement) (kind : Bool) (read : Precedent) : Type 0 where
@@ -94,11 +121,11 @@ pub record IsReadIn (m : BoundModel) (heads : List Source) (groups : List (List 
   pub same_kind : source.kind ≡ kind
   pub same_read : precedent source ≡ read
 
--- these are all that the statements of a model read at the same lag
+-- these make all arrows of what the statements of a model read at the same lag
 pub record ArePartsOfAll (m : BoundModel) (parted : Parted) : Type 0 where
   pub parts : AreParts m most_sources parted
   pub all : (cube : ℕ) (statement : Statement) (kind : Bool) (read : Precedent) → cube < length m.space.cubes
       → Contains (rules_of m cube).statements statement → Reads m cube statement kind read
       → IsTrue (is_level m cube statement.area kind read) → is_lagged m cube statement.area kind read ≡ false
-      → IsReadBy parted.singles.items cube statement kind read
+      → IsReadLike m parted.singles.items cube statement kind read
       ⊎ IsReadIn m parted.heads.items parted.groups.items cube statement kind read

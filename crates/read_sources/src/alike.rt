@@ -1,5 +1,6 @@
-ghost use Rattle.std.specs.Prelude.{◌≡◌, ℕ, IsTrue, List};
+ghost use Rattle.std.specs.Prelude.{◌≡◌, ℕ, ◌<◌, IsTrue, List, length};
 ghost use Rattle.dim_core.specs.Outline.{Outline};
+ghost use Rattle.cube_space.specs.Layout.{axes};
 ghost use Rattle.arrow_laws.specs.ByDimension.{serves};
 ghost use Rattle.ref_order.specs.Reads.{precedent_of};
 ghost use Rattle.read_sources.specs.Ways.{IsSource, way_of};
@@ -42,26 +43,26 @@ pub fn serve_alike(model: &Model, one: Source, other: Source) -> bool
     if one.elsewhere != other.elsewhere {
         return false;
     }
-    if !list_alike(model, one, other) {
+    if !list_alike(model, one, other, last_of(model, one.cube)) {
         return false;
     }
     read_alike(one.read, other.read)
 }
 
-// Whether the areas of two sources of one cube have the same elements in the last dimension.
-fn list_alike(model: &Model, one: Source, other: Source) -> bool
+/// Whether it is known at once that the areas of two sources of one cube have the same elements in a dimension.
+pub fn list_alike(model: &Model, one: Source, other: Source, dim: usize) -> bool
     requires one { IsSource model.now one }
     requires other { IsSource model.now other }
     requires read { IsRead model.now one }
     requires its { IsRead model.now other }
     requires cube { one.cube ≡ other.cube }
-    ensures { IsTrue result → AreSetsSame model.now one.entry other.entry }
+    requires dim { dim < length (axes model.now.space one.cube) }
+    ensures { IsTrue result → AreSetsSame dim one.entry other.entry }
 {
     if one.statement == other.statement {
         return true;
     }
-    let last = last_of(model, one.cube);
-    match (set_of(model, one, last), set_of(model, other, last)) {
+    match (set_of(model, one, dim), set_of(model, other, dim)) {
         (None, None) => true,
         _ => false,
     }
@@ -76,6 +77,7 @@ fn read_alike(one: Read, other: Read) -> bool
         (Read::Cell(one), Read::Cell(other)) => {
             args_alike(one.args.as_slice(), other.args.as_slice())
         }
+        (Read::Children(one), Read::Children(other)) => one == other,
         _ => false,
     }
 }

@@ -16,6 +16,7 @@ mod reading;
 mod reads;
 mod source;
 mod sources;
+mod standing;
 mod tables;
 mod ways;
 

@@ -1,6 +1,7 @@
 ghost use Rattle.std.specs.Prelude.{◌<◌};
 ghost use Rattle.read_sources.specs.Ways.{IsSource};
 
+use crate::alike::is_shared;
 use crate::reading::set_of;
 use crate::source::Source;
 use crate::tables::last_of;
@@ -14,14 +15,16 @@ pub const MARKS: usize = 4_096;
 // The elements by whose targets maps are told apart.
 const SAMPLES: [usize; 3] = [0, 64, 4_096];
 
-/// A mark by which sources find each other that are alike. Others may have the same.
+/// A mark by which sources find each other that are alike, or of which one stands for the other. Others may have the
+/// same.
 pub fn mark_of(model: &Model, source: Source) -> usize
     requires { IsSource model.now source }
     ensures { result < 4_096 }
 {
     let whole = set_of(model, source, last_of(model, source.cube)).is_none();
     let statement = if whole { 0 } else { source.statement };
-    let kind = u32::from(source.kind) * 2 + u32::from(source.elsewhere);
+    let is_weak = source.weak && !is_shared(model, source);
+    let kind = u32::from(is_weak) * 4 + u32::from(source.kind) * 2 + u32::from(source.elsewhere);
     let mark = mix(
         mix(mix(source.cube, statement), kind),
         mark_of_read(source.read),

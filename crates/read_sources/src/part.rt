@@ -1,4 +1,4 @@
-ghost use Rattle.std.specs.Prelude.{◌≡◌, ◌↔◌, IsTrue, Some, slice_get};
+ghost use Rattle.std.specs.Prelude.{◌≡◌, ◌<◌, ◌↔◌, IsTrue, Some, length, slice_get};
 ghost use Rattle.cube_space.specs.Layout.{axes};
 ghost use Rattle.ref_order.specs.Known.{IsKnown};
 ghost use Rattle.ref_order.specs.Reads.{precedent_of};
@@ -42,10 +42,11 @@ pub enum Seen<'a> {
     Level(Source<'a>),
 }
 
-// The dimension by which the node that a source reads is found.
-fn found_in(model: &Model, source: Source) -> usize
+/// The dimension by which the node that a source reads is found.
+pub fn found_in(model: &Model, source: Source) -> usize
     requires { IsSource model.now source }
-    ensures { result ≡ found_in (last_of model.now.space source.entry.cube) (way_of model.now source.entry) }
+    ensures found { result ≡ found_in (last_of model.now.space source.entry.cube) (way_of model.now source.entry) }
+    ensures within { result < length (axes model.now.space source.entry.cube) }
 {
     match way(model, source) {
         Way::Over(dim, _) => dim as usize,

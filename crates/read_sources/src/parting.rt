@@ -2,12 +2,13 @@ ghost use Rattle.std.specs.Prelude.{◌≡◌, ◌<◌, ◌≤◌, [], ◌∷◌
 ghost use Rattle.std.specs.Prelude.{slice_index_or, slice_set};
 ghost use Rattle.read_sources.specs.Ways.{IsSource, way_of};
 ghost use Rattle.read_sources.specs.Sources.{IsRead, AreSourcesOf, most_sources};
-ghost use Rattle.read_sources.specs.Parts.{IsShared, IsOfGroup, IsPut, ArePartsOfAll};
+ghost use Rattle.read_sources.specs.Parts.{IsShared, IsOfGroup, IsStoodFor, IsPut, ArePartsOfAll};
 
 use crate::alike::{is_shared, serve_alike};
 use crate::group::Group;
 use crate::mark::{MARKS, mark_of};
 use crate::source::Source;
+use crate::standing::stands_for;
 use rule_model::Model;
 use std::alloc::{AllocError, Global};
 
@@ -17,7 +18,7 @@ const MANY: u32 = 16;
 /// What is read at the same lag, parted.
 #[derive(Drop)]
 pub struct Parted<'a> {
-    /// The single sources.
+    /// The single sources. Each stands for all that make the same arrows.
     pub singles: Vec<Source<'a>>,
     /// The first source of each group.
     pub heads: Vec<Source<'a>>,
@@ -65,7 +66,7 @@ fn count_marks(alloc: Global, model: &Model, sources: &[Source]) -> Result<Vec<u
     Ok(counts)
 }
 
-// Places a source of which so many have its mark, and the last group of that is this one.
+// Places a source of which so many have its mark, and the last group or single source of that has this number.
 fn put<'a>(
     alloc: Global,
     model: &Model,
@@ -76,15 +77,17 @@ fn put<'a>(
 ) -> Result<Option<u32>, AllocError>
     requires source { IsSource model.now source }
     requires read { IsRead model.now source }
+    requires singles { All (IsSource model.now) parted.old.singles.items }
+    requires single { All (IsRead model.now) parted.old.singles.items }
     requires heads { All (IsSource model.now) parted.old.heads.items }
     requires each { All (IsRead model.now) parted.old.heads.items }
     requires whole { length parted.old.groups.items ≡ length parted.old.heads.items }
+    requires few_singles { length parted.old.singles.items ≤ most_sources }
     requires few { length parted.old.heads.items ≤ most_sources }
     ensures { OnOk result (IsPut model.now source.entry parted.old parted.new) }
 {
     if count < MANY || !is_shared(model, source) {
-        add_single(source, parted)?;
-        return Ok(last);
+        return put_single(model, source, last, parted);
     }
     match last {
         Some(group) if is_of_group(model, source, group, parted) => {
@@ -93,6 +96,47 @@ fn put<'a>(
         }
         _ => Ok(Some(begin(alloc, source, parted)?)),
     }
+}
+
+// Places a source as a single one, unless this one stands for it, and says which makes its arrows.
+fn put_single<'a>(
+    model: &Model,
+    source: Source<'a>,
+    last: Option<u32>,
+    parted: &mut Parted<'a>,
+) -> Result<Option<u32>, AllocError>
+    requires source { IsSource model.now source }
+    requires read { IsRead model.now source }
+    requires singles { All (IsSource model.now) parted.old.singles.items }
+    requires single { All (IsRead model.now) parted.old.singles.items }
+    requires few { length parted.old.singles.items ≤ most_sources }
+    ensures { OnOk result (IsPut model.now source.entry parted.old parted.new) }
+{
+    match last {
+        Some(k) if is_stood_for(model, source, k, parted) => Ok(last),
+        _ => Ok(Some(add_single(source, parted)?)),
+    }
+}
+
+// Whether it is known at once that the single source of this number stands for a source.
+fn is_stood_for(model: &Model, source: Source, k: u32, parted: &Parted) -> bool
+    requires source { IsSource model.now source }
+    requires read { IsRead model.now source }
+    requires singles { All (IsSource model.now) parted.now.singles.items }
+    requires single { All (IsRead model.now) parted.now.singles.items }
+    ensures { IsTrue result → IsStoodFor model.now parted.now.singles.items source.entry }
+{
+    match single_of(parted, k) {
+        Some(one) => stands_for(model, one, source),
+        None => false,
+    }
+}
+
+// The single source of this number.
+fn single_of<'a>(parted: &Parted<'a>, k: u32) -> Option<Source<'a>>
+    ensures { result ≡ slice_get parted.now.singles.items k }
+{
+    parted.singles.get(k as usize).copied()
 }
 
 // Whether it is known at once that a source reads from the same elements as a group.
@@ -116,13 +160,16 @@ fn head_of<'a>(parted: &Parted<'a>, group: u32) -> Option<Source<'a>>
     parted.heads.get(group as usize).copied()
 }
 
-fn add_single<'a>(source: Source<'a>, parted: &mut Parted<'a>) -> Result<(), AllocError>
+// Adds a single source, and gives its number.
+fn add_single<'a>(source: Source<'a>, parted: &mut Parted<'a>) -> Result<u32, AllocError>
+    requires { length parted.old.singles.items ≤ most_sources }
     ensures singles { OnOk result (parted.new.singles.items ≡ parted.old.singles.items ++ source.entry ∷ []) }
     ensures heads { OnOk result (parted.new.heads.items ≡ parted.old.heads.items) }
     ensures groups { OnOk result (parted.new.groups.items ≡ parted.old.groups.items) }
 {
+    let single = parted.singles.len() as u32;
     parted.singles.push(source)?;
-    Ok(())
+    Ok(single)
 }
 
 // Adds a source to a group.

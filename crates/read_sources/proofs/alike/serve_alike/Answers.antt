@@ -1,4 +1,5 @@
-use Rattle.std.proofs.Common.{rules, ◌≡◌, true}
+use Rattle.std.proofs.Common.{rules, ◌≡◌, subst, true}
+use Rattle.read_sources.specs.Parts.{AreSetsSame}
 use Rattle.read_sources.proofs.Likeness.{alike-of}
 use Rattle.read_sources.proofs.alike.serve_alike.Goals as goal
 
@@ -11,4 +12,5 @@ returns c =
     let kind : one.kind ≡ other.kind = search rules in
     let elsewhere : one.elsewhere ≡ other.elsewhere = search rules in
     let listed : c.list_alike.result ≡ true = search rules in
-    alike-of c.args.model.now one other cube kind elsewhere (c.list_alike.ensures listed) (c.read_alike.ensures on)
+    let sets = subst (λ dim. AreSetsSame dim one other) c.last_of.ensures.last (c.list_alike.ensures listed) in
+    alike-of c.args.model.now one other cube kind elsewhere sets (c.read_alike.ensures on)

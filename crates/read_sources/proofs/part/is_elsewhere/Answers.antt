@@ -17,7 +17,7 @@ pub returns-then-has_total-clause-elsewhere : goal.returns-then-has_total-clause
 returns-then-has_total-clause-elsewhere c = (
   λ on. other-total c.args.model.now c.args.source.cube c.args.source.area.now c.requires.source.area c.args.source.kind c.if-source.false (precedent c.args.source) c.each.dim
       (last_of c.args.model.now.space c.args.source.cube) (found_in (last_of c.args.model.now.space c.args.source.cube) (way_of c.args.model.now c.args.source))
-      (omega (arith, c.each-test.true, c.axis_count-dim-end.ensures.count)) (λ e. c.if-dim-last.true (e ∙ sym c.last_of-last.ensures.last)) (λ e. c.if-dim-found.true (e ∙ sym c.found_in-found.ensures))
+      (omega (arith, c.each-test.true, c.axis_count-dim-end.ensures.count)) (λ e. c.if-dim-last.true (e ∙ sym c.last_of-last.ensures.last)) (λ e. c.if-dim-found.true (e ∙ sym c.found_in-found.ensures.found))
       (sym c.has_total.ensures.total ∙ c.if-has_total.true),
   λ has. refl,
 )
@@ -27,5 +27,5 @@ returns-clause-elsewhere c = (
   λ wrong. absurd (cc),
   λ has. absurd (no-other-total c.args.model.now c.args.source.cube c.args.source.area.now c.requires.source.area c.args.source.kind (precedent c.args.source)
       (last_of c.args.model.now.space c.args.source.cube) (found_in (last_of c.args.model.now.space c.args.source.cube) (way_of c.args.model.now c.args.source))
-      (λ off d low one two. c.each.invariant.none d (omega (arith, low, c.each-test.false, c.axis_count-dim-end.ensures.count)) (λ e. one (e ∙ c.last_of-last.ensures.last)) (λ e. two (e ∙ c.found_in-found.ensures))) has),
+      (λ off d low one two. c.each.invariant.none d (omega (arith, low, c.each-test.false, c.axis_count-dim-end.ensures.count)) (λ e. one (e ∙ c.last_of-last.ensures.last)) (λ e. two (e ∙ c.found_in-found.ensures.found))) has),
 )

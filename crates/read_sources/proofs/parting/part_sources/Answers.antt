@@ -1,6 +1,8 @@
-use Rattle.std.proofs.Common.{rules, refl, arith, get_or, length, ◌≤◌}
-use Rattle.std.proofs.lemmas.Option.{slice_get_read, slice_get-get_or}
-use Rattle.read_sources.proofs.Sourced.{source-is}
+use Rattle.std.proofs.Common.{rules, refl, arith, length, ◌≤◌}
+use Rattle.std.proofs.lemmas.Option.{slice_get_read}
+use Rattle.read_sources.specs.Sources.{IsRead}
+use Rattle.read_sources.proofs.Placed.{all-of}
+use Rattle.read_sources.proofs.Sourced.{listed-are}
 use Rattle.read_sources.proofs.Groups.{parted-none, parted-more, parts-of-all}
 use Rattle.read_sources.proofs.parting.part_sources.Goals as goal
 
@@ -15,13 +17,17 @@ put-requires-clause-read c =
     c.requires.sources.read c.each.k c.index-sources-k.result
     (slice_get_read c.args.sources.now _ c.each.k c.index-sources-k.result refl c.each-test.true c.index-sources-k.is)
 
+pub put-requires-clause-singles : goal.put-requires-clause-singles
+put-requires-clause-singles c = listed-are c.args.model.now c.space-space.ensures.valid c.space-space.ensures.rules c.each.parted.singles.items c.each.invariant.so.parts.singles
+
+pub put-requires-clause-single : goal.put-requires-clause-single
+put-requires-clause-single c = all-of (IsRead c.args.model.now) c.each.parted.singles.items c.each.invariant.so.parts.singles
+
 pub put-requires-clause-heads : goal.put-requires-clause-heads
-put-requires-clause-heads c = λ g d low.
-    source-is c.args.model.now c.space-space.ensures.valid c.space-space.ensures.rules (get_or c.each.parted.heads.items g d)
-    (c.each.invariant.so.parts.heads g (get_or c.each.parted.heads.items g d) (slice_get-get_or c.each.parted.heads.items g d low))
+put-requires-clause-heads c = listed-are c.args.model.now c.space-space.ensures.valid c.space-space.ensures.rules c.each.parted.heads.items c.each.invariant.so.parts.heads
 
 pub put-requires-clause-each : goal.put-requires-clause-each
-put-requires-clause-each c = λ g d low. c.each.invariant.so.parts.heads g (get_or c.each.parted.heads.items g d) (slice_get-get_or c.each.parted.heads.items g d low)
+put-requires-clause-each c = all-of (IsRead c.args.model.now) c.each.parted.heads.items c.each.invariant.so.parts.heads
 
 pub each-preserved : goal.each-preserved
 each-preserved c = record {

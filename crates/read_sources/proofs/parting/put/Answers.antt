@@ -1,12 +1,7 @@
 use Rattle.std.proofs.Common.{rules, ◌≡◌, arith, true}
 use Rattle.std.proofs.lemmas.Option.{slice_get_within}
-use Rattle.read_sources.proofs.Groups.{put-single, put-join, put-begin}
+use Rattle.read_sources.proofs.Groups.{put-join, put-begin}
 use Rattle.read_sources.proofs.parting.put.Goals as goal
-
-pub returns-then-count-lt-MANY : goal.returns-then-count-lt-MANY
-returns-then-count-lt-MANY c =
-    put-single c.args.model.now c.args.source c.args.parted.now c.add_single.new.parted c.requires.read
-    c.in_ok-add_single.ensures.singles c.in_ok-add_single.ensures.heads c.in_ok-add_single.ensures.groups
 
 pub join-requires : goal.join-requires
 join-requires c =
