@@ -1,22 +1,14 @@
 -- The plan of a model over all that its statements read at the same lag.
-use Rattle.std.specs.Prelude.{slice_get, Some}
-use Rattle.std.proofs.Common.{◌≡◌, sym, subst, arith, ℕ, ◌<◌, ◌≤◌, ◌⊎◌, inl, inr, List, length, Contains, All, get_or}
-use Rattle.std.proofs.lemmas.Bool.{cases_lt}
-use Rattle.std.proofs.lemmas.List.{get_or_past, get_or_default}
-use Rattle.std.proofs.lemmas.List.Elements.{All-contains}
-use Rattle.std.proofs.lemmas.Option.{slice_get-get_or, slice_get_within}
+use Rattle.std.proofs.Common.{arith, ℕ, ◌≤◌, length, All, get_or}
+use Rattle.std.proofs.lemmas.List.{get_or_default}
+use Rattle.std.proofs.lemmas.Option.{slice_get_within}
 use Rattle.cube_space.specs.Cells.{IsSpace}
-use Rattle.rule_laws.specs.Meaning.{precedents}
-use Rattle.rule_model.specs.declared.rules.CubeRules.{CubeRules}
-use Rattle.rule_model.specs.declared.rules.Statement.{Statement}
-use Rattle.rule_model.specs.BoundModel.{BoundModel, no_rules, rules_of}
-use Rattle.rule_model.specs.Conditions.{AreRules, IsArea, IsPrecedent, IsStatement}
-use Rattle.order_laws.proofs.Ordered.{part-reads}
-use Rattle.read_sources.specs.declared.source.Source.{Source}
+use Rattle.rule_model.specs.BoundModel.{BoundModel}
+use Rattle.rule_model.specs.Conditions.{AreRules}
 use Rattle.order_find.specs.Numbers.{IsNumbering, count_of, most_places}
-use Rattle.read_sources.specs.Ways.{IsSource, precedent}
+use Rattle.read_sources.specs.Ways.{IsSource}
 use Rattle.order_find.specs.Slots.{Plan, IsPlan}
-use Rattle.read_sources.specs.Sources.{IsRead, AreSourcesOf, most_sources}
+use Rattle.read_sources.specs.Sources.{most_sources}
 use Rattle.order_find.specs.PlanOfAll.{IsPlanOfAll}
 use Rattle.order_find.specs.Filing.{AreFiled, looked_by, plan_of}
 use Rattle.read_sources.proofs.Sourced.{source-is, listed-are}

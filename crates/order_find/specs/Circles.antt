@@ -1,7 +1,6 @@
 -- Closed walks of arrows between the nodes of a model.
-use Rattle.std.specs.Prelude.{◌≡◌, ℕ, suc, ◌<◌, ◌≤◌, Bool, true, false, ◌||◌, ⊤, ◌⊎◌, Option, Some}
-use Rattle.std.specs.Prelude.{List, [], ◌∷◌, slice_get, All, if◌then◌else◌}
-use Rattle.rule_laws.specs.Meaning.{Precedent}
+use Rattle.std.specs.Prelude.{◌≡◌, ℕ, suc, ◌<◌, ◌≤◌, Bool, true, false, ◌||◌, ⊤, ◌⊎◌, Some}
+use Rattle.std.specs.Prelude.{List, [], ◌∷◌, slice_get, All}
 use Rattle.rule_model.specs.BoundModel.{BoundModel, rules_of}
 use Rattle.ref_order.specs.Counted.{Counted, counted_of}
 use Rattle.arrow_laws.specs.Nodes.{Node}

@@ -1,8 +1,7 @@
 -- The numbers of the nodes of a model.
 use Rattle.std.specs.Prelude.{◌≡◌, ℕ, ◌+◌, ◌<◌, ◌^◌, Some, List, map, length, slice_get, slice_index_or}
 use Rattle.std.specs.List.{range_with_len}
-use Rattle.cube_space.specs.Layout.{Layout, sizes}
-use Rattle.arrow_laws.specs.Nodes.{last_of}
+use Rattle.cube_space.specs.Layout.{Layout}
 pub use Rattle.read_sources.specs.Ways.{width}
 use Rattle.order_find.specs.declared.numbering.Place.{Place}
 use Rattle.order_find.specs.declared.numbering.Numbering.{Numbering}

@@ -1,5 +1,4 @@
 -- The first reference of a model that may read at a greater lag.
-use Rattle.std.specs.Prelude.{ℕ}
 use Rattle.rule_model.specs.BoundModel.{BoundModel}
 use Rattle.read_sources.specs.declared.fault.ReadFault.{ReadFault}
 use Rattle.read_sources.specs.declared.fault.ReadFault.TheVariants as reads

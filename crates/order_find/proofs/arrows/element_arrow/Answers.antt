@@ -1,8 +1,8 @@
-use Rattle.std.proofs.Common.{◌≡◌, ℕ, ◌<◌, ◌+◌, ◌-◌, ◌∙◌, sym, ap, arith, length, map, List, [], ◌++◌, Option, None}
+use Rattle.std.proofs.Common.{◌≡◌, ◌+◌, ◌-◌, ◌∙◌, sym, ap, arith, length, map, List, [], ◌++◌, Option, None}
 use Rattle.std.specs.Prelude.{slice_index_or}
 use Rattle.std.proofs.lemmas.List.{length-map, length-append}
 use Rattle.least_ranks.specs.declared.arrow.Arrow.{Arrow}
-use Rattle.order_find.specs.Slots.{leaf_arrow, leaves_below, source_arrow, own_slots, group_slots}
+use Rattle.order_find.specs.Slots.{leaf_arrow, leaves_below, source_arrow, group_slots}
 use Rattle.order_find.proofs.Held.{held}
 use Rattle.read_sources.proofs.Lists.{in-first, in-second, in-third, at-past}
 use Rattle.order_find.proofs.arrows.element_arrow.Goals as goal

@@ -1,6 +1,3 @@
-use Rattle.std.proofs.Common.{◌∙◌, sym, ap, ◌++◌}
-use Rattle.std.proofs.lemmas.List.{append-nil}
-use Rattle.order_find.specs.Links.{links_of}
 use Rattle.order_find.proofs.Linked.{links-more, links-done}
 use Rattle.order_find.proofs.circle.links.Goals as goal
 
