@@ -9,11 +9,21 @@ const SIGNS: [&[u8]; 28] = [
     b":", b"=", b"<", b">", b"+", b"-", b"*", b"/", b"\\", b"&", b"%", b"~", b"!", b"|",
 ];
 
+/// Whether the bytes begin with a sign. Most signs differ from them in the first byte, which takes no call to find out.
+fn begins_with(bytes: &[u8], sign: &[u8]) -> bool
+    ensures { result ≡ starts_with nat_eq bytes.now sign.now }
+{
+    if !bytes.is_empty() && !sign.is_empty() && bytes[0] != sign[0] {
+        return false;
+    }
+    bytes.starts_with(sign)
+}
+
 /// The first of the table with which the bytes begin.
 fn first_front<'a>(table: &[&'a [u8]], bytes: &[u8]) -> Option<&'a [u8]>
     ensures { result ≡ find (λ sign. starts_with nat_eq bytes.now sign.now) table.now }
 {
-    table.iter().copied().find(|sign| bytes.starts_with(sign))
+    table.iter().copied().find(|sign| begins_with(bytes, sign))
 }
 
 /// The same for the table of the signs: since longer ones come first, no longer one fits.

@@ -1,10 +1,11 @@
-ghost use Rattle.std.specs.Prelude.{◌≡◌, ℕ, ◌≤◌, [], true, false, IfErr, OnOk, length};
+ghost use Rattle.std.specs.Prelude.{◌≡◌, ℕ, ◌<◌, ◌≤◌, [], true, false, IfErr, OnOk, All, length};
 ghost use Rattle.cube_space.specs.Cells.{IsCell, cube_of, elements_of, is_leaf_cell};
 ghost use Rattle.cell_store.specs.Entries.{cells_of};
-ghost use Rattle.rule_laws.specs.Feeding.{FeedsBy, Feeds};
+ghost use Rattle.rule_laws.specs.Feeding.{Feeds};
 ghost use Rattle.rule_model.specs.Conditions.{IsFeeder};
-ghost use Rattle.rule_model.specs.System.{system_of, feed_of};
-ghost use Rattle.feed_sources.specs.Feeders.{StandsFor};
+ghost use Rattle.rule_model.specs.System.{system_of};
+ghost use Rattle.feed_sources.specs.Feeders.{FeedsByOne, StandsFor};
+ghost use Rattle.feed_sources.specs.Spans.{AreAlike};
 ghost use Rattle.feed_map.specs.FedCells.{most_fed};
 ghost use Rattle.feed_map.specs.Inside.Gains.{Gains, StopsBy};
 ghost use Rattle.feed_map.specs.Inside.Follows.{FeedsFrom, EndsChain, AreOpen, AreOpened};
@@ -113,16 +114,20 @@ pub fn follow(model: &SourceModel, cell: u64, reached: &mut Reached) -> Result<(
     let mut at = [0u32; MAX_DIMENSIONS];
     let (cube, len) = model.place_of(cell, &mut at);
     let feeders = model.rules(cube).feeders.as_slice();
-    'each: for n in 0..feeders.len() {
-        follow_by(model, &feeders[n], cube, &at[..len], cell, reached)?;
+    let mut n = 0;
+    'each: while n < feeders.len() {
+        let end = model.span_end(cube, n);
+        let span = &feeders[n..end];
+        follow_span(model, span, cube, &at[..len], cell, reached)?;
+        n = end;
     }
     Ok(())
 }
 
-// Finds what a leaf cell of these elements feeds by one feeder of its cube.
-fn follow_by(
+// Finds what a leaf cell of these elements feeds by feeders of its cube that have the same area.
+fn follow_span(
     model: &SourceModel,
-    feeder: &Feeder,
+    feeders: &[Feeder],
     cube: u32,
     elements: &[u32],
     cell: u64,
@@ -132,18 +137,23 @@ fn follow_by(
     requires leaf { is_leaf_cell model.now.space cell ≡ true }
     requires cube { cube_of model.now.space cell ≡ cube }
     requires elements { elements_of model.now.space cell ≡ elements.now }
-    requires feeder { IsFeeder model.now.space cube feeder.now }
+    requires feeders { All (IsFeeder model.now.space cube) feeders.now }
+    requires some { 0 < length feeders.now }
+    requires alike { AreAlike feeders.now }
     requires totals { AreOpened model.now reached.old.totals reached.old.growth }
-    ensures gains { OnOk result (Gains (FeedsBy (system_of model.now) (feed_of model.now.space cube feeder.now) cell)
+    ensures gains { OnOk result (Gains (FeedsByOne model.now cube feeders.now cell)
         reached.old.growth reached.new.growth) }
-    ensures stops { IfErr result (StopsBy (FeedsBy (system_of model.now) (feed_of model.now.space cube feeder.now) cell)
+    ensures stops { IfErr result (StopsBy (FeedsByOne model.now cube feeders.now cell)
         reached.old.growth reached.new.growth) }
     ensures totals { OnOk result (AreOpened model.now reached.new.totals reached.new.growth) }
 {
-    if !is_source(model, cube, feeder.area.get(), elements) {
+    if !is_source(model, cube, feeders[0].area.get(), elements) {
         return Ok(());
     }
-    add_target(model.model(), &feeder.target, cell, reached)
+    'each: for n in 0..feeders.len() {
+        add_target(model.model(), &feeders[n].target, cell, reached)?;
+    }
+    Ok(())
 }
 
 // Finds the leaf cells of the cell that a reference names from a cell.

@@ -133,18 +133,6 @@ module _ (m : BoundModel) (x : ℕ) where
   pub feeds-source : (c : ℕ) → Feeds (system_of m) x c → IsSource (system_of m) x
   feeds-source c (k, feed, low, is, by) = (by.0, (k, feed, low, is, by.1))
 
-  pub has-more : (cube : ℕ) (feeders : List Feeder) (n : ℕ) (feeder : Feeder) → n < length feeders → feeder ≡ get_or feeders n feeder → (HasOne cube (take n feeders) → ⊥)
-      → (Has (feed_of m.space cube feeder) → ⊥) → HasOne cube (take (n + 1) feeders) → ⊥
-  has-more cube feeders n feeder low is before not more =
-      let P : Feeder → Type 0 = λ f. Has (feed_of m.space cube f) in
-      let split : HasOne cube (take n feeders ++ feeder ∷ []) =
-      subst (λ (fs : List Feeder). HasOne cube fs) (take_more feeders n feeder low ∙ ap (λ f. take n feeders ++ f ∷ []) (sym is)) more in
-      elim (some-parts P (take n feeders) (feeder ∷ []) split) [
-        | inl one ↦ before one
-        | inr (zero, f, l, same, by) ↦ not (subst P (sym same) by)
-        | inr (suc k, f, l, same, by) ↦ absurd (omega (arith, l))
-      ]
-
 module _ (m : BoundModel) (x cube : ℕ) (feeders : List Feeder) (own : cube ≡ cube_of m.space x) (are : feeders ≡ (rules_of m cube).feeders) where
   pub whole-source : IsCell m.space x → is_leaf_cell m.space x ≡ true → HasOne m x cube feeders → IsSource (system_of m) x
   whole-source cell leaf one =

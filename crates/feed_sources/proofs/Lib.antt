@@ -3,6 +3,7 @@ pub mod Axes
 pub mod AboveFacts
 pub mod SourceFacts
 pub mod FeederFacts
+pub mod SpanFacts
 pub mod BelowFacts
 mod DigitFacts
 mod JumpFacts

@@ -1,3 +1,4 @@
 pub mod Feeders
 pub mod Inside
 pub mod Sources
+pub mod Spans

@@ -5,27 +5,31 @@ ghost use Rattle.cube_space.specs.Cells.{IsCell, IsSpace, cube_of, elements_of};
 ghost use Rattle.rule_model.specs.BoundModel.{rules_of};
 ghost use Rattle.rule_model.specs.Conditions.{AreRules};
 ghost use Rattle.rule_model.specs.Weights.{HasSmallProducts};
+ghost use Rattle.feed_sources.specs.Spans.{IsSpan};
 ghost use Rattle.feed_sources.specs.Inside.Above.{IsAboveOf};
 
 use crate::above::Above;
+use crate::spans::spans_of_cubes;
 use cube_space::{MAX_DIMENSIONS, Space};
+use lists::ListOf;
 use rule_model::{CubeRules, Model, place_of};
 use std::alloc::{AllocError, Global};
 
 /// A model in which sources of feeders are found fast: with, of each leaf of its dimensions, the elements that the leaf
-/// counts in.
+/// counts in, and the feeders in a row that have the same area.
 #[derive(Drop)]
 pub struct SourceModel {
     model: Model,
     above: Vec<Above>,
+    // Of each cube, of each of its feeders, the place behind those in a row from it on that have its area.
+    ends: Vec<ListOf<usize>>,
 }
 
 impl std::marker::Model for SourceModel {
-    ghost use Rattle.std.specs.List.{AllZip};
     ghost use Rattle.rule_model.specs.BoundModel.{BoundModel};
     ghost use Rattle.rule_laws.specs.contracts.formula.Formula as formula;
     ghost use Rattle.std.specs.Coded.{codes};
-    ghost use Rattle.feed_sources.specs.Inside.Above.{IsAboveOf};
+    ghost use Rattle.feed_sources.specs.Inside.Tables.{AreTables};
 
     ghost Value = { BoundModel };
 
@@ -33,7 +37,7 @@ impl std::marker::Model for SourceModel {
 
     ghost view = { λ s. s.model };
 
-    ghost invariant = { λ s. AllZip IsAboveOf s.model.space.dimensions s.above.items };
+    ghost invariant = { λ s. AreTables s.model s.above.items s.ends.items };
 }
 
 impl SourceModel {
@@ -42,7 +46,8 @@ impl SourceModel {
         ensures { IfOk result (λ made. made ≡ model) }
     {
         let above = above_of(alloc, &model)?;
-        Ok(SourceModel { model, above })
+        let ends = spans_of_cubes(alloc, &model)?;
+        Ok(SourceModel { model, above, ends })
     }
 
     /// The model.
@@ -68,6 +73,19 @@ impl SourceModel {
         ensures { result.now ≡ rules_of self.now cube }
     {
         self.model.rules(cube)
+    }
+
+    /// The place behind the feeders of a cube that stand in a row from this place on and have the same area. Those
+    /// of one feeder statement do.
+    pub fn span_end(&self, cube: u32, place: usize) -> usize
+        requires cube { cube < length self.now.space.cubes }
+        requires place { place < length (rules_of self.now cube).feeders }
+        ensures { IsSpan (rules_of self.now cube).feeders place result }
+    {
+        // a model says of itself that each cube has rules
+        let _space = self.model.space();
+        let ends = &self.ends[cube as usize];
+        ends.as_slice()[place]
     }
 
     /// The cube of a cell, and how many elements the cell has; these are put in front of `at`.

@@ -21,10 +21,12 @@ pub fn is_any_source(model: &SourceModel, cell: u64) -> bool
     let mut at = [0u32; MAX_DIMENSIONS];
     let (cube, len) = model.place_of(cell, &mut at);
     let feeders = model.rules(cube).feeders.as_slice();
-    'each: for n in 0..feeders.len() {
+    let mut n = 0;
+    'each: while n < feeders.len() {
         if is_source_of(model, &feeders[n], cube, &at[..len], cell) {
             return true;
         }
+        n = model.span_end(cube, n);
     }
     false
 }

@@ -1,4 +1,4 @@
-use Rattle.std.proofs.Common.{rules, ◌≡◌, ◌∙◌, refl, sym, ap, subst, ℕ, ◌<◌, true, false, length, List}
+use Rattle.std.proofs.Common.{rules, ◌≡◌, ◌∙◌, refl, sym, ap, subst, ℕ, ◌<◌, true, false, length, List, arith}
 use Rattle.std.proofs.lemmas.List.{take_all}
 use Rattle.cube_space.specs.Cells.{IsCell, is_leaf_cell}
 use Rattle.cube_space.proofs.Places.{cell-place}
@@ -7,9 +7,11 @@ use Rattle.rule_model.specs.declared.rules.Feeder.{Feeder}
 use Rattle.rule_model.specs.BoundModel.{rules_of}
 use Rattle.rule_model.specs.System.{system_of, feed_of}
 use Rattle.feed_sources.specs.Sources.{IsSource}
-use Rattle.feed_sources.proofs.FeederFacts.{Has, HasOne, feeds-source, has-more, source-cell, source-leaf, source-whole, whole-source}
+use Rattle.feed_sources.specs.Spans.{IsSpan}
+use Rattle.feed_sources.proofs.FeederFacts.{Has, HasOne, feeds-source, source-cell, source-leaf, source-whole, whole-source}
+use Rattle.feed_sources.proofs.SpanFacts.{has-past}
 use Rattle.feed_sources.proofs.Members.{some-of-none}
-use Rattle.feed_sources.proofs.sources.is_any_source.Goals.{After-is_leaf_cell, After-as_slice-feeders}
+use Rattle.feed_sources.proofs.sources.is_any_source.Goals.{After-is_leaf_cell, After-as_slice-feeders, After-span_end-n}
 use Rattle.feed_sources.proofs.sources.is_any_source.Goals as goal
 
 -- it is a cell
@@ -49,10 +51,25 @@ rules-requires c =
 pub each-init : goal.each-init
 each-init c = λ one. some-of-none (λ (f : Feeder). Has c.args.model.now c.args.cell (feed_of c.args.model.now.space c.place_of-cube.result.0 f)) one
 
+-- the feeder's span, among those of its cube
+span-of : (c : After-span_end-n) → IsSpan c.as_slice-feeders.result.now c.each.n c.span_end-n.result
+span-of c =
+    let own = c.as_slice-feeders.ensures ∙ ap (λ (r : CubeRules). r.feeders) c.rules.ensures in
+    subst (λ (fs : List Feeder). IsSpan fs c.each.n c.span_end-n.result) (sym own) c.span_end-n.ensures
+
+pub span_end-n-requires-clause-place : goal.span_end-n-requires-clause-place
+span_end-n-requires-clause-place c =
+    let own = are (goal.at.span_end-n-requires-clause-place c).After-as_slice-feeders in
+    omega (arith, c.each-test.true, ap (λ (fs : List Feeder). length fs) own)
+
 pub each-preserved : goal.each-preserved
 each-preserved c =
-    has-more c.args.model.now c.args.cell c.place_of-cube.result.0 c.as_slice-feeders.result.now c.each.n c.index-feeders-n.result c.each-test.true c.index-feeders-n.is c.each.invariant
+    has-past c.args.model.now c.args.cell c.place_of-cube.result.0 c.as_slice-feeders.result.now c.each.n c.span_end-n.result c.index-feeders-n.result (span-of c) c.index-feeders-n.is
+    c.each.invariant
     (λ has. (let sure = c.is_source_of.ensures.1 has in let clash : true ≡ false = sym sure ∙ c.if-is_source_of.false in cc))
+
+pub each-smaller : goal.each-smaller
+each-smaller c = let span = span-of c in omega (arith, span.some, c.each-test.true)
 
 pub returns-then-is_source_of-clause-source : goal.returns-then-is_source_of-clause-source
 returns-then-is_source_of-clause-source c =

@@ -1,0 +1,54 @@
+ghost use Rattle.std.specs.Prelude.{◌≡◌, ℕ, ◌<◌, IfOk, length, slice_index};
+ghost use Rattle.std.specs.List.{AllZip};
+ghost use Rattle.feed_sources.specs.Spans.{IsSpan};
+ghost use Rattle.feed_sources.specs.Inside.Tables.{AreSpans, AreSpansOf};
+
+use crate::same::is_same_area;
+use lists::ListOf;
+use rule_model::{Feeder, Model};
+use std::alloc::{AllocError, Global};
+
+/// Of each cube, of each of its feeders, the place behind those in a row from it on that have its area. A feeder
+/// statement has a feeder for each of its targets, so they are as long as its list of targets.
+pub fn spans_of_cubes(alloc: Global, model: &Model) -> Result<Vec<ListOf<usize>>, AllocError>
+    ensures { IfOk result (λ ends. AllZip AreSpansOf model.now.rules ends.items) }
+{
+    let space = model.space();
+    let mut ends = Vec::new(alloc);
+    'each: for cube in 0..space.cubes() {
+        let feeders = model.rules(cube).feeders.as_slice();
+        ends.push(spans_of(alloc, feeders)?)?;
+    }
+    Ok(ends)
+}
+
+// The same of the feeders of one cube, from the last one back.
+fn spans_of(alloc: Global, feeders: &[Feeder]) -> Result<ListOf<usize>, AllocError>
+    ensures { IfOk result (λ ends. AreSpans feeders.now ends) }
+{
+    let mut ends = Vec::from_elem(alloc, 0usize, feeders.len())?;
+    'each: for behind in 0..feeders.len() {
+        let place = feeders.len() - 1 - behind;
+        let end = span_end(feeders, &ends, place);
+        ends[place] = end;
+    }
+    Ok(ListOf::new(ends))
+}
+
+// The place behind the feeders in a row from this one on that have its area, where those of later feeders are known.
+fn span_end(feeders: &[Feeder], ends: &[usize], place: usize) -> usize
+    requires place { place < length feeders.now }
+    requires whole { length ends.now ≡ length feeders.now }
+    requires later { (later : ℕ) → place < later → later < length feeders.now
+        → IsSpan feeders.now later (slice_index ends.now later) }
+    ensures { IsSpan feeders.now place result }
+{
+    let next = place + 1;
+    if next == feeders.len() {
+        return next;
+    }
+    if !is_same_area(feeders[place].area.get(), feeders[next].area.get()) {
+        return next;
+    }
+    ends[next]
+}
