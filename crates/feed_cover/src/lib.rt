@@ -19,7 +19,6 @@ mod overs;
 mod possible;
 mod reach;
 mod reference_view;
-mod same;
 mod set;
 mod source;
 mod sourced;

@@ -7,7 +7,7 @@ ghost use Rattle.feed_cover.specs.Views.{look_of, IsView, IsSourced};
 
 use crate::named::name_sources;
 use crate::reference_view::ReferenceView;
-use crate::same::is_same;
+use feed_sources::is_same_area;
 use rule_model::{Area, Model};
 
 /// An area of a feeder, and whether each leaf below what the reference names is among its sources.
@@ -34,7 +34,7 @@ pub fn has_sources<'a>(
     ensures known { IfSome known.new (IsSourced model.now view.entry) }
 {
     if let Some(last) = *known
-        && is_same(last.area, area)
+        && is_same_area(last.area, area)
     {
         return last.is;
     }

@@ -1,12 +1,15 @@
-ghost use Rattle.std.specs.Prelude.{◌≡◌, ℕ, ◌<◌, IfOk, length, slice_index};
+ghost use Rattle.std.specs.Prelude.{◌≡◌, ℕ, ◌<◌, IfOk, IsTrue, length, slice_index};
 ghost use Rattle.std.specs.List.{AllZip};
 ghost use Rattle.feed_sources.specs.Spans.{IsSpan};
 ghost use Rattle.feed_sources.specs.Inside.Tables.{AreSpans, AreSpansOf};
 
 use crate::same::is_same_area;
 use lists::ListOf;
-use rule_model::{Feeder, Model};
+use rule_model::{Area, Feeder, Model};
 use std::alloc::{AllocError, Global};
+
+// A longer list isn't compared, so that many targets of a statement with a long list cost no product.
+const MAX_COMPARED: usize = 4_096;
 
 /// Of each cube, of each of its feeders, the place behind those in a row from it on that have its area. A feeder
 /// statement has a feeder for each of its targets, so they are as long as its list of targets.
@@ -47,8 +50,28 @@ fn span_end(feeders: &[Feeder], ends: &[usize], place: usize) -> usize
     if next == feeders.len() {
         return next;
     }
-    if !is_same_area(feeders[place].area.get(), feeders[next].area.get()) {
+    if !are_alike(feeders[place].area.get(), feeders[next].area.get()) {
         return next;
     }
     ends[next]
+}
+
+// Whether two areas have the same sets, and list few elements.
+fn are_alike(one: &Area, other: &Area) -> bool
+    ensures { IsTrue result → one.now.sets ≡ other.now.sets }
+{
+    lists_few(one) && is_same_area(one, other)
+}
+
+// Whether an area lists few elements in each dimension.
+fn lists_few(area: &Area) -> bool {
+    let sets = area.sets.as_slice();
+    'each: for k in 0..sets.len() {
+        if let Some(listed) = &sets[k]
+            && listed.as_slice().len() > MAX_COMPARED
+        {
+            return false;
+        }
+    }
+    true
 }

@@ -1,5 +1,0 @@
-use Rattle.std.proofs.Common.{◌≡◌, take}
-use Rattle.feed_cover.proofs.same.are_same.Given as goal
-
-abbrev pub invariant-each : goal.invariant-each
-invariant-each l = take l.k l.one ≡ take l.k l.other
