@@ -62,11 +62,7 @@ pub fn case_of<'a>(
     }
 }
 
-fn run_case<'a>(
-    alloc: Global,
-    texts: &Texts,
-    case: RunCase<'a>,
-) -> Result<Case<'a>, AllocError> {
+fn run_case<'a>(alloc: Global, texts: &Texts, case: RunCase<'a>) -> Result<Case<'a>, AllocError> {
     match run_of(alloc, texts, case.lines)? {
         Some(run) => Ok(Case::Run(run, case)),
         None => unread(alloc, "a line of this case is none of a run"),
