@@ -1,12 +1,9 @@
-use crate::runs::{Run, run_of};
+use crate::runs::{LONGEST, Run, run_of};
 use case_lines::Texts;
 use cube_server::{Status, run_cubes};
 use std::alloc::{AllocError, Global};
 use std::sync::Wait;
 use std::thread::Threads;
-
-// No file that is broken has so many bytes.
-const LONGEST: usize = 10_000;
 
 // A way to break a text at a place.
 #[derive(Clone, Copy)]

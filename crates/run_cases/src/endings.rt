@@ -1,12 +1,9 @@
-use crate::runs::{Run, run_of};
+use crate::runs::{LONGEST, Run, run_of};
 use case_lines::Texts;
 use cube_server::run_cubes;
 use std::alloc::AllocError;
 use std::sync::Wait;
 use std::thread::Threads;
-
-// No file that is cut has so many bytes.
-const LONGEST: usize = 10_000;
 
 /// How a run ends, a line each: its status, what it wrote, and that its gate gave up.
 pub fn ending_of<R: Threads + Wait + AllocGlobal + Sync>(

@@ -6,6 +6,9 @@ use std::alloc::{AllocError, Global};
 // How often a user who is held asks whether it is time: enough for the other to come there, on any machine.
 const TURNS: u64 = 10_000_000_000;
 
+/// No file that is cut or broken has so many bytes.
+pub const LONGEST: usize = 10_000;
+
 /// What a run is made of.
 #[derive(Drop)]
 pub struct Run {
