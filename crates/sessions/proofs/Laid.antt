@@ -1,5 +1,5 @@
 -- The private state of a user's sandbox, while the history goes on.
-use Rattle.std.proofs.Common.{◌≡◌, ◌⊎◌, ℕ, ◌≤◌, Bool, true, false, List, ◌++◌, length, length-append, append-nil, Option, None, Some, refl, ap, sym, ◌∙◌, subst, arith, inl, inr}
+use Rattle.std.proofs.Common.{◌≡◌, ◌⊎◌, ℕ, ◌≤◌, Bool, true, false, List, [], ◌++◌, length, length-append, append-nil, Option, None, Some, Result, Ok, Err, OnErr, refl, ap, sym, ◌∙◌, subst, arith, inl, inr}
 use Rattle.history.specs.declared.entry.Entry.{Entry}
 use Rattle.history.specs.Version.{version, content_after}
 use Rattle.history.proofs.Runs.{version-append, version-all}
@@ -9,6 +9,11 @@ use Rattle.version_book.specs.Lists.{GoesOn}
 use Rattle.sessions.specs.Inside.Decided.{layer_left, without_private}
 use Rattle.sessions.specs.Sessions.{IsLaidAt}
 use Rattle.sessions.specs.declared.own.OwnOf.{OwnOf}
+
+-- what holds in any case holds where there is an error
+pub told_if_err : {A E : Type 0} (result : Result A E) (P : Type 0) → P → OnErr result P
+told_if_err (Ok x) P holds = tt
+told_if_err (Err e) P holds = holds
 
 -- the newest version is the content after all entries
 pub version_here : {C T : Type 0} (after : C → T → C) (first : C) (log : List (Entry T)) (place : ℕ) → place ≡ length log → version after first log place ≡ content_after after first log

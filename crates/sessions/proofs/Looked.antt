@@ -34,7 +34,7 @@ pub each_looked : {H S C T K R Q Y : Type 0} (answer : C → Option T → K → 
     (sessions : List (SessionOf H S T K R Y)) (told : List (List (Told R))) (passes : List (Snapshot (PassOf H S T)))
     → AreRunning answer after content unfit kept book sessions → told ≡ map (λ s. s.told.items) sessions → map (λ p. p.value) passes ≡ map (λ s. s.pass) sessions
     → EachHasLooked answer after content (opening_of book) (commands_of sessions) told passes
-each_looked {H = H} {S = S} {C = C} {K = K} {T = T} {R = R} answer after content unfit kept book sessions told passes running are same index commands replies pass is told_is pass_is =
+each_looked {H = H} {S = S} {C = C} {T = T} {K = K} {R = R} answer after content unfit kept book sessions told passes running are same index commands replies pass is told_is pass_is =
     let own = mapped_from (λ s. s.commands) sessions index commands is in
     let s = own.0 in
     let its = mapped_from (λ s. s.told.items) sessions index replies (ap (λ ts. slice_get ts index) (sym are) ∙ told_is) in

@@ -13,10 +13,10 @@ returns-in_ok-settled-in-None-Do-clause-answered g c =
     let w = g.W.World in
     let kept = g.W.Layered.kept_writes in
     let sandbox_is : c.args.own.now.sandbox ≡ None = search rules in
-    let act_is : c.args.act.now ≡ Do c.in-None-Do.command.now = search rules in
-    alone_answered w.effect w.after g.W.Layered.sandbox (w.content (opening_of c.args.book.now)) (sight c.args.pass.now) (sight c.decide-in-None-Do.new.pass) c.args.by.0 c.args.by.1
-    (layer_in kept c.args.own.now.sandbox) c.in-None-Do.command.now c.args.act.now c.in_ok-settled-in-None-Do.settled c.told_of-in-None-Do.result
-    (ap (layer_in kept) sandbox_is) act_is c.told_of-in-None-Do.ensures c.in_ok-settled-in-None-Do.ensures.decided
+    let act_is : c.args.act.now ≡ Do c.in-None-Do.command = search rules in
+    alone_answered w.effect w.after g.W.Layered.sandbox (w.content (opening_of c.args.book.now)) (sight c.args.pass.now) (sight c.decide.new.pass) c.args.by.0 c.args.by.1
+    (layer_in kept c.args.own.now.sandbox) c.in-None-Do.command c.args.act.now c.in_ok-settled-in-None-Do.settled c.told_of.result
+    (ap (layer_in kept) sandbox_is) act_is c.told_of.ensures c.in_ok-settled-in-None-Do.ensures.decided
 
 pub returns-in_ok-settled-in-Some-Publish-clause-answered : goal.returns-in_ok-settled-in-Some-Publish-clause-answered
 returns-in_ok-settled-in-Some-Publish-clause-answered g c =
@@ -36,13 +36,13 @@ returns-in_ok-settled-in-None-Do-clause-laid g c =
     let w = g.W.World in
     let first = w.content (opening_of c.args.book.now) in
     let adds = settles_adds w.effect w.after first _ _ _ _ _ _ _ c.in_ok-settled-in-None-Do.ensures.decided.settles in
-    laid_on w.content w.after g.W.Layered.sandbox.unfit g.W.Layered.kept_writes first (seen c.args.pass.now) (seen c.decide-in-None-Do.new.pass) adds.0 c.args.own.now adds.1 c.requires.laid
+    laid_on w.content w.after g.W.Layered.sandbox.unfit g.W.Layered.kept_writes first (seen c.args.pass.now) (seen c.decide.new.pass) adds.0 c.args.own.now adds.1 c.requires.laid
 
 pub returns-in_err-settled-in-None-Do-clause-laid : goal.returns-in_err-settled-in-None-Do-clause-laid
 returns-in_err-settled-in-None-Do-clause-laid g c =
     let w = g.W.World in
     let goes = c.in_err-settled-in-None-Do.ensures.err in
-    laid_on w.content w.after g.W.Layered.sandbox.unfit g.W.Layered.kept_writes (w.content (opening_of c.args.book.now)) (seen c.args.pass.now) (seen c.decide-in-None-Do.new.pass) goes.added c.args.own.now goes.is c.requires.laid
+    laid_on w.content w.after g.W.Layered.sandbox.unfit g.W.Layered.kept_writes (w.content (opening_of c.args.book.now)) (seen c.args.pass.now) (seen c.decide.new.pass) goes.added c.args.own.now goes.is c.requires.laid
 
 pub returns-in_ok-settled-in-Some-Publish-clause-laid : goal.returns-in_ok-settled-in-Some-Publish-clause-laid
 returns-in_ok-settled-in-Some-Publish-clause-laid g c =
