@@ -71,17 +71,15 @@ module _ {S C T R Y : Type 0} (content : S → C) (after : C → T → C) (unfit
         → IsLaidAt content after unfit kept first before own
         → IsLaid content after unfit kept (content_after after first later) next.sandbox × (layer_in kept next.sandbox ≡ layer_in kept own.sandbox)
     laid_newest before later more own next place is here (inl same) at =
-        let on = laid_on before later more own is at in
-        (
+        let on = laid_on before later more own is at in (
           subst (λ (s : Option (SandboxOf Y S)). IsLaid content after unfit kept (content_after after first later) s) (sym same.1)
               (subst (λ (below : C). IsLaid content after unfit kept below own.sandbox) (version_here after first later own.laid_at (same.0 ∙ here)) on.laid),
           ap (layer_in kept) same.1,
         )
-    laid_newest before later more own next place is here (inr without) at =
-        (
-          subst (λ (s : Option (SandboxOf Y S)). IsLaid content after unfit kept (content_after after first later) s) (sym without) (laid_without (content_after after first later) own.sandbox),
-          ap (layer_in kept) without ∙ layer_without kept own.sandbox,
-        )
+    laid_newest before later more own next place is here (inr without) at = (
+      subst (λ (s : Option (SandboxOf Y S)). IsLaid content after unfit kept (content_after after first later) s) (sym without) (laid_without (content_after after first later) own.sandbox),
+      ap (layer_in kept) without ∙ layer_without kept own.sandbox,
+    )
 
     -- what is laid over the newest version
     pub laid_here : (log : List (Entry T)) (own : OwnOf Y S) (below : C) → own.laid_at ≡ length log → below ≡ content_after after first log

@@ -28,8 +28,8 @@ pub(crate) fn close_all<W: Layered, R: Wait>(
 ) -> Result<Served<W>, AllocError>
     requires of { IsOf book first }
     requires giver { IsGiver first (vec_len sessions + 1) }
-    requires running { AreRunning (answer W.effect W.after W.sandbox) W.after W.content W.sandbox.unfit W.kept_writes book
-        sessions.items }
+    requires running { AreRunning (answer W.effect W.after W.sandbox) W.after W.content W.sandbox.unfit
+        W.kept_writes book sessions.items }
     ensures history { IfOk result (λ served. IsLayeredHistoryOf (answer W.effect W.after W.sandbox) W.after
         (W.content (opening_of book)) None (commands_of sessions.items) served.told.items served.log.items) }
     ensures state { IfOk result (λ served.
@@ -87,8 +87,8 @@ fn meet_all<W: Layered, R: Wait>(
 ) -> Pass<W>
     requires of { IsOf book.now first }
     requires giver { IsGiver first (vec_len sessions + 1) }
-    requires running { AreRunning (answer W.effect W.after W.sandbox) W.after W.content W.sandbox.unfit W.kept_writes book.now
-        sessions.items }
+    requires running { AreRunning (answer W.effect W.after W.sandbox) W.after W.content W.sandbox.unfit
+        W.kept_writes book.now sessions.items }
     requires answered { All HasAnsweredAll sessions.items }
     requires empty { told.old.items ≡ [] }
     requires room { vec_len sessions ≤ vec_capacity told.old }

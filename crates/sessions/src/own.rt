@@ -1,8 +1,8 @@
 ghost use Rattle.std.specs.Prelude.{◌≡◌, ◌⊎◌};
 ghost use Rattle.sessions.specs.Inside.Decided.{without_private};
 
-use sandbox::{Layered, SandboxOf};
 use history::World;
+use sandbox::{Layered, SandboxOf};
 
 /// A user's sandbox, if one is open, and the number of the version over which it was laid last.
 #[derive(Drop)]

@@ -14,8 +14,8 @@ use std::alloc::{AllocError, Global};
 use std::sync::Wait;
 use version_book::{Book, Ledger, Pass, PassOf};
 
-/// One user's acts, the pass by which they act, the replies so far, and the user's sandbox, if one is open. It may go to
-/// another thread.
+/// One user's acts, the pass by which they act, the replies so far, and the user's sandbox, if one is open. It may go
+/// to another thread.
 #[derive(Drop)]
 pub struct SessionOf<L, C, T, K, R, Y> {
     pub(crate) pass: PassOf<L, C, T>,

@@ -33,11 +33,11 @@ where
     W::Reply: Send + Sync,
     W::Writes: Send + Sync,
     W::Layer: Send + Sync,
-    requires running { AreRunning (answer W.effect W.after W.sandbox) W.after W.content W.sandbox.unfit W.kept_writes book.now
-        sessions.old }
+    requires running { AreRunning (answer W.effect W.after W.sandbox) W.after W.content W.sandbox.unfit
+        W.kept_writes book.now sessions.old }
     ensures len { length sessions.new ≡ length sessions.old }
-    ensures running { AreRunning (answer W.effect W.after W.sandbox) W.after W.content W.sandbox.unfit W.kept_writes book.now
-        sessions.new }
+    ensures running { AreRunning (answer W.effect W.after W.sandbox) W.after W.content W.sandbox.unfit
+        W.kept_writes book.now sessions.new }
     ensures commands { commands_of sessions.new ≡ commands_of sessions.old }
 {
     run_each(rt, alloc, book, gate, sessions);
@@ -59,8 +59,8 @@ where
     W::Reply: Send + Sync,
     W::Writes: Send + Sync,
     W::Layer: Send + Sync,
-    requires running { AreRunning (answer W.effect W.after W.sandbox) W.after W.content W.sandbox.unfit W.kept_writes book.now
-        sessions.old }
+    requires running { AreRunning (answer W.effect W.after W.sandbox) W.after W.content W.sandbox.unfit
+        W.kept_writes book.now sessions.old }
     ensures len { length sessions.new ≡ length sessions.old }
     ensures each { (index : ℕ) (session : _) → index < length sessions.old
         → IsFurther (answer W.effect W.after W.sandbox) W.after W.content W.sandbox.unfit W.kept_writes book.now
