@@ -1,4 +1,4 @@
-//! A gate for tests that holds one user until another has come somewhere.
+//! A gate for tests that holds users until others have come somewhere.
 //!
 //! Nothing is proved of it but that each call returns: what is in an atomic no clause can say.
 #![tactic(auto)]

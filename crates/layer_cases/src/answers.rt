@@ -36,7 +36,7 @@ fn answer<R: Threads + Wait + Sync>(
     match kind {
         "read" => write_answer(out, &read_cases::readings(alloc, lines)?),
         "load" => script_cases::answer_load(alloc, lines, out),
-        "memo" | "run" | "told" => match texts.text_of(alloc, lines)? {
+        "memo" | "run" | "told" | "commits" => match texts.text_of(alloc, lines)? {
             Some(text) => answer_at_once(rt, alloc, kind, text, out),
             None => write_answer(out, b"a line of this case is none of a text"),
         },
@@ -59,15 +59,13 @@ fn answer_at_once<R: Threads + Wait + Sync>(
         let told = memo_cases::readings(rt, alloc, &text)?;
         return write_answer(out, told.as_bytes());
     }
-    match String::from_utf8(text) {
-        Ok(users) => {
-            let told = if kind == "told" {
-                session_cases::replies_of(rt, alloc, &users)?
-            } else {
-                session_cases::ending_of(rt, alloc, &users)?
-            };
-            write_answer(out, told.as_bytes())
-        }
-        Err(_) => write_answer(out, b"this case is no text"),
-    }
+    let Ok(text) = String::from_utf8(text) else {
+        return write_answer(out, b"this case is no text");
+    };
+    let told = match kind {
+        "commits" => session_cases::commits(rt, alloc, text.trim_end())?,
+        "told" => session_cases::replies_of(rt, alloc, &text)?,
+        _ => session_cases::ending_of(rt, alloc, &text)?,
+    };
+    write_answer(out, told.as_bytes())
 }

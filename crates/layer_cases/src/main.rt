@@ -11,6 +11,7 @@
 //! - `load`: load scripts over cells that the case lists ([`script_cases`]).
 //! - `memo`: two readers at one memo, over a model text ([`memo_cases`]).
 //! - `run`, `told`: users on threads, a line each, and how they ended, or all that they were told ([`session_cases`]).
+//! - `commits`: commits one after another, of which one finds no memory, and the history ([`session_cases::commits`]).
 #![tactic(auto)]
 
 mod answers;

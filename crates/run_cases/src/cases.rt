@@ -1,3 +1,4 @@
+use crate::faults::RunCase;
 use crate::runs::{Run, run_of};
 use crate::stores;
 use case_lines::Texts;
@@ -10,10 +11,14 @@ pub enum Case<'a> {
     Silent,
     /// This is the answer.
     Answer(Vec<u8>),
-    /// A run, whose answer is how it ends.
-    Run(Run),
+    /// A run, whose answer is how it ends, and the case that it is of.
+    Run(Run, RunCase<'a>),
     /// A run of these lines for each beginning of this file.
     Cuts { file: &'a str, lines: &'a str },
+    /// Runs of these lines with this file broken at each place in each way.
+    Broken { file: &'a str, lines: &'a str },
+    /// Each run before, but those with a title among these lines, again and again with a fault.
+    Faults { but: &'a str },
 }
 
 /// What a case asks for. The text of a case `text: NAME` gets that name, and so do the files of a case `files: NAME`.
@@ -28,13 +33,16 @@ pub fn case_of<'a>(
     let (heading, lines) = case.split_once('\n').unwrap_or((case, ""));
     let (kind, title) = heading.split_once(": ").unwrap_or((heading, ""));
     if kind == "run" {
-        return match run_of(alloc, texts, lines)? {
-            Some(run) => Ok(Case::Run(run)),
-            None => unread(alloc, "a line of this case is none of a run"),
-        };
+        return run_case(alloc, texts, RunCase { title, lines });
     }
     if let Some(file) = kind.strip_prefix("cuts ") {
         return Ok(Case::Cuts { file, lines });
+    }
+    if let Some(file) = kind.strip_prefix("broken ") {
+        return Ok(Case::Broken { file, lines });
+    }
+    if kind == "faults" {
+        return Ok(Case::Faults { but: lines });
     }
     if kind == "files" {
         let lines = Vec::from_slice(alloc, lines.as_bytes())?;
@@ -51,6 +59,13 @@ pub fn case_of<'a>(
         }
         "store" => Ok(Case::Answer(stores::answer(alloc, &text)?)),
         _ => unread(alloc, "no kind of case"),
+    }
+}
+
+fn run_case<'a>(alloc: Global, texts: &Texts, case: RunCase<'a>) -> Result<Case<'a>, AllocError> {
+    match run_of(alloc, texts, case.lines)? {
+        Some(run) => Ok(Case::Run(run, case)),
+        None => unread(alloc, "a line of this case is none of a run"),
     }
 }
 

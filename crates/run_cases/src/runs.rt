@@ -17,12 +17,11 @@ pub struct Run {
 
 /// The run of these lines, first those without a file and then those of each file. None where a line is none of a run.
 pub fn run_of(alloc: Global, texts: &Texts, lines: &str) -> Result<Option<Run>, AllocError> {
-    // Users count from 1, so nobody reaches a place of user 0 and waits there.
     let mut run = Run {
         words: Vec::new(alloc),
         files: MemoryFiles::new(alloc),
         out: MemorySink::new(alloc),
-        gate: HeldGate::new((0, 0, 0), (0, 0, 0), TURNS),
+        gate: HeldGate::new(alloc),
     };
     let (settings, files) = match lines.split_once("\nfile ") {
         Some((settings, files)) => (settings, Some(files)),
@@ -74,8 +73,8 @@ impl Run {
                 passed,
                 limit @ ..,
             ] => {
-                let (hold, until) = (place(user, command, part), place(other, reached, passed));
-                self.gate = HeldGate::new(hold, until, turns(limit));
+                let (at, until) = (place(user, command, part), place(other, reached, passed));
+                self.gate.hold(at, until, turns(limit))?;
             }
             _ => return Ok(false),
         }
@@ -107,13 +106,19 @@ impl Run {
         Ok(true)
     }
 
+    /// What a file has, if it is there.
+    pub fn file(&self, name: &str) -> Option<&[u8]> {
+        let (_name, bytes) = self
+            .files
+            .pairs
+            .iter()
+            .find(|pair| pair.0.as_slice() == name.as_bytes())?;
+        Some(bytes)
+    }
+
     /// Leaves of a file its first bytes, so many, and says whether it has so many.
     pub fn cut(&mut self, alloc: Global, name: &str, length: usize) -> Result<bool, AllocError> {
-        let pairs = &self.files.pairs;
-        let Some((_name, bytes)) = pairs
-            .iter()
-            .find(|pair| pair.0.as_slice() == name.as_bytes())
-        else {
+        let Some(bytes) = self.file(name) else {
             return Ok(false);
         };
         if bytes.len() < length {

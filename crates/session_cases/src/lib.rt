@@ -3,15 +3,21 @@
 //! In a user's line a number is added, where it is at most 100, and `?` asks for the total. `[` opens a sandbox, `]`
 //! publishes it and `x` discards it. A case prints how it ended, which no order of the users changes, or all that was
 //! told, where no order changes that.
+//!
+//! [`commits`] shows a commit that finds no memory: nothing is added to the history, and the same number is set at the
+//! next try.
 #![tactic(auto)]
 
 mod adding;
 mod cases;
+mod refused_commit;
+mod refusing;
 mod restless;
 
 use crate::adding::Adding;
 use crate::cases::{ending, replies, users_of};
 use crate::restless::Restless;
+pub use refused_commit::commits;
 use std::alloc::{AllocError, Global};
 use std::sync::Wait;
 use std::thread::Threads;
