@@ -9,6 +9,7 @@ use Rattle.sandbox.specs.declared.act.Note.{Note}
 use Rattle.sandbox.specs.declared.act.Note.TheVariants.{Opened, AlreadyOpen, NoSandbox, Discarded}
 use Rattle.sandbox.specs.declared.layered.Over.{Over}
 use Rattle.sandbox.specs.declared.layered.Over.TheVariants.{Fits, Unfit}
+use Rattle.sandbox.specs.declared.open.SandboxOf.{SandboxOf}
 
 -- what a world says of sandboxes
 pub record Sandboxing (C K T R : Type 0) : Type 0 where
@@ -66,11 +67,6 @@ Reads (Some layer) Publish = ⊥
 Reads (Some layer) Discard = ⊤
 Reads (Some layer) (Do command) = ⊤
 
--- the writes that are kept now: these others, if there are others
-abbrev pub or_kept : {T : Type 0} → T → Option T → T
-or_kept kept None = kept
-or_kept kept (Some next) = next
-
 -- what a world promises of its sandboxes, besides: the laws on publishing stand on it
 pub record IsSandboxing {C K T R : Type 0} (effect : C → K → Effect T R) (after : C → T → C) (s : Sandboxing C K T R)
     : Type 0 where
@@ -88,3 +84,28 @@ pub record IsSandboxing {C K T R : Type 0} (effect : C → K → Effect T R) (af
 abbrev pub IsOver : {S C R : Type 0} → (S → C) → C → Option R → Over S R → Type 0
 IsOver content over unfit (Fits private) = (unfit ≡ None) × (content private ≡ over)
 IsOver content over unfit (Unfit reply) = unfit ≡ Some reply
+
+-- A state over which a layer was laid goes on by these writes: over whichever content that was, the next state is the
+-- one with the layer that has these writes too.
+abbrev pub GoesOnWith : {S C K T R : Type 0} → (S → C) → (C → T → C) → Sandboxing C K T R → S → T → S → Type 0
+GoesOnWith {C = C} {T = T} content after s private writes next =
+    (below : C) (layer : T) → content private ≡ after below layer → s.unfit below layer ≡ None
+    → (s.unfit below (s.join layer writes) ≡ None) × (content next ≡ after below (s.join layer writes))
+
+-- the user's layer, where what the code keeps of it means these writes
+abbrev pub layer_in : {Y S T : Type 0} → (Y → T) → Option (SandboxOf Y S) → Option T
+layer_in kept None = None
+layer_in kept (Some sandbox) = Some (kept sandbox.layer)
+
+-- the private state, if there is one, is that of this content with the layer laid over it
+abbrev pub IsPrivate : {S C T R : Type 0} → (S → C) → (C → T → C) → (C → T → Option R) → C → T → Option S → Type 0
+IsPrivate content after unfit below layer None = ⊤
+IsPrivate content after unfit below layer (Some private) =
+    (unfit below layer ≡ None) × (content private ≡ after below layer)
+
+-- the sandbox, if one is open, has no private state but that
+abbrev pub IsLaid : {Y S C T R : Type 0} → (S → C) → (C → T → C) → (C → T → Option R) → (Y → T) → C
+    → Option (SandboxOf Y S) → Type 0
+IsLaid content after unfit kept below None = ⊤
+IsLaid content after unfit kept below (Some sandbox) =
+    IsPrivate content after unfit below (kept sandbox.layer) sandbox.private

@@ -1,5 +1,6 @@
-ghost use Rattle.std.specs.Prelude.{◌≡◌, IfOk};
-ghost use Rattle.sandbox.specs.Sandboxes.{Sandboxing, IsOver};
+ghost use Rattle.std.specs.Prelude.{◌≡◌, IfOk, IfSome, OnOk, OnErr};
+ghost use Rattle.history.specs.declared.effect.Effect.TheVariants.{Commit};
+ghost use Rattle.sandbox.specs.Sandboxes.{GoesOnWith, IsOver, Sandboxing};
 
 use crate::act::Note;
 use history::World;
@@ -14,33 +15,48 @@ pub enum Over<S, R> {
 
 /// A world whose users may have sandboxes.
 pub trait Layered: World {
+    /// What the code of a sandbox keeps. It means writes.
+    type Layer: Drop;
+
     /// What this world says of sandboxes.
     ghost sandbox: { Sandboxing Self.Content Self.Command Self.Writes Self.Reply };
+    /// The writes that a layer means.
+    ghost kept_writes: { Self.Layer → Self.Writes };
 
-    /// No writes.
-    fn none(alloc: Global) -> Result<Self::Writes, AllocError>
-        ensures none { IfOk result (λ writes. writes ≡ sandbox.none) };
+    /// A layer of no writes.
+    fn none(alloc: Global) -> Result<Self::Layer, AllocError>
+        ensures none { IfOk result (λ layer. kept_writes layer ≡ sandbox.none) };
 
-    /// The first writes and then the second, as one.
-    fn join(
-        alloc: Global,
-        first: &Self::Writes,
-        second: &Self::Writes,
-    ) -> Result<Self::Writes, AllocError>
-        ensures joined { IfOk result (λ writes. writes ≡ sandbox.join first.now second.now) };
+    /// Keeps these writes too, after those that are kept. Where memory runs out the layer is as it was.
+    fn keep(alloc: Global, layer: &mut Self::Layer, writes: &Self::Writes) -> Result<(), AllocError>
+        ensures joined { OnOk result (kept_writes layer.new ≡ sandbox.join (kept_writes layer.old) writes.now) }
+        ensures err { OnErr result (kept_writes layer.new ≡ kept_writes layer.old) };
 
-    /// The command that commits just these writes.
-    fn fixed(alloc: Global, writes: &Self::Writes) -> Result<Self::Command, AllocError>
-        ensures fixed { IfOk result (λ command. command ≡ sandbox.fixed writes.now) };
+    /// The command that commits just the kept writes.
+    fn fixed(alloc: Global, layer: &Self::Layer) -> Result<Self::Command, AllocError>
+        ensures fixed { IfOk result (λ command. command ≡ sandbox.fixed (kept_writes layer.now)) };
 
-    /// A state of the content after these writes. It shares nothing with the state below that a call could change.
+    /// A state of the content after the kept writes. It shares nothing with the state below that a call could change.
     fn over(
         alloc: Global,
         state: &Self::State,
-        layer: &Self::Writes,
+        layer: &Self::Layer,
     ) -> Result<Over<Self::State, Self::Reply>, AllocError>
-        ensures over { IfOk result (λ over. IsOver Self.content (Self.after (Self.content state.now) layer.now)
-            (sandbox.unfit (Self.content state.now) layer.now) over) };
+        ensures over { IfOk result (λ over.
+            IsOver Self.content (Self.after (Self.content state.now) (kept_writes layer.now))
+            (sandbox.unfit (Self.content state.now) (kept_writes layer.now)) over) };
+
+    /// The state over which a layer is laid, after the writes of a command that is accepted on it: the state with these
+    /// writes kept too. None where that passes a limit, or where it is cheaper to lay the layer anew.
+    fn go_on(
+        alloc: Global,
+        private: &Self::State,
+        writes: &Self::Writes,
+    ) -> Result<Option<Self::State>, AllocError>
+        requires accepted { (command : Self.Command) × (reply : Self.Reply)
+            × (Self.effect (Self.content private.now) command ≡ Commit writes.now reply) }
+        ensures goes_on { IfOk result (λ next. IfSome next (λ next.
+            GoesOnWith Self.content Self.after sandbox private.now writes.now next)) };
 
     /// The reply to an act that opens or ends a sandbox.
     fn note(alloc: Global, note: Note) -> Result<Self::Reply, AllocError>

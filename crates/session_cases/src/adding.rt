@@ -107,6 +107,9 @@ impl Layered for Adding {
     ghost use Rattle.session_cases.specs.declared.adding.Order.TheVariants.{Give};
     ghost use Rattle.session_cases.specs.declared.adding.Answer.TheVariants.{Kept, NoRoom, Noted};
 
+    /// How much is kept.
+    type Layer = u64;
+
     ghost sandbox = { record {
       none = 0;
       join = λ first second. first + second;
@@ -116,16 +119,19 @@ impl Layered for Adding {
       kept = λ number. Kept number;
     } };
 
+    ghost kept_writes = { λ layer. layer };
+
     fn none(_alloc: Global) -> Result<u64, AllocError> {
         Ok(0)
     }
 
-    fn join(_alloc: Global, first: &u64, second: &u64) -> Result<u64, AllocError> {
-        sum(*first, *second)
+    fn keep(_alloc: Global, layer: &mut u64, writes: &u64) -> Result<(), AllocError> {
+        *layer = sum(*layer, *writes)?;
+        Ok(())
     }
 
-    fn fixed(_alloc: Global, writes: &u64) -> Result<Order, AllocError> {
-        Ok(Order::Give(*writes))
+    fn fixed(_alloc: Global, layer: &u64) -> Result<Order, AllocError> {
+        Ok(Order::Give(*layer))
     }
 
     fn over(_alloc: Global, state: &u64, layer: &u64) -> Result<Over<u64, Answer>, AllocError> {
@@ -133,6 +139,14 @@ impl Layered for Adding {
             Ok(Over::Fits(*state + *layer))
         } else {
             Ok(Over::Unfit(Answer::NoRoom))
+        }
+    }
+
+    fn go_on(_alloc: Global, private: &u64, writes: &u64) -> Result<Option<u64>, AllocError> {
+        if has_room(*private, *writes) {
+            Ok(Some(*private + *writes))
+        } else {
+            Ok(None)
         }
     }
 

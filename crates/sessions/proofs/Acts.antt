@@ -44,6 +44,13 @@ module _ {C K T R : Type 0} (effect : C → K → Effect T R) (after : C → T �
     looked = decided.looked;
   }
 
+  pub alone_answered : (layer : Option T) (command : K) (act : Act K) (settled : Settled R) (told : Told R) → layer ≡ None → act ≡ Do command → told ≡ told_of settled
+      → IsDecided effect after first before later user number command settled → IsAnswered (answer effect after s) after first before later user number layer act told layer
+  alone_answered layer command act settled told layer_is act_is told_is decided =
+      subst (λ (l : Option T). IsAnswered (answer effect after s) after first before later user number l act told l) (sym layer_is)
+      (subst (λ (k : Act K). IsAnswered (answer effect after s) after first before later user number None k told None) (sym act_is)
+      (subst (λ (t : Told R). IsAnswered (answer effect after s) after first before later user number None (Do command) t None) (sym told_is) (answered_alone command settled decided)))
+
   -- PUBLISH with one
   pub answered_published : (layer : T) (command : K) (settled : Settled R) → command ≡ s.fixed layer → IsDecided effect after first before later user number command settled
       → IsAnswered (answer effect after s) after first before later user number (Some layer) Publish (told_of settled) (layer_left settled.accepted (Some layer))

@@ -17,7 +17,7 @@ use Rattle.version_book.specs.Lists.{GoesOn}
 use Rattle.version_book.specs.Passes.{looks, seen}
 use Rattle.version_book.proofs.Lists.{has-first, goes-on, same-goes}
 use Rattle.sessions.specs.declared.session.SessionOf.{SessionOf}
-use Rattle.sessions.specs.Answers.{Sight, sight, IsAnswered, AreAnswered, HasAnsweredNext, HasAnsweredMore, HasGoneOn, HasLooked}
+use Rattle.sessions.specs.Answers.{Sight, sight, IsAnswered, AreAnswered, HasAnsweredNext, HasAnsweredMore, HasGoneOn, HasLooked, layer_of}
 
 get_dropped : {A : Type 0} (n : ℕ) (xs : List A) (k : ℕ) (y : A) → slice_get xs (n + k) ≡ Some y → slice_get (drop n xs) k ≡ Some y
 get_dropped zero xs k y is = let same : zero + k ≡ k = omega arith in rw same at is
@@ -182,41 +182,41 @@ module _ {C K T R : Type 0} (answer : C → Option T → K → Effect T R × Opt
     looks = omega arith;
   }
 
-  module _ {H S : Type 0} where
+  module _ {H S Y : Type 0} (kept : Y → T) where
     -- none yet
-    pub more_none : (session : SessionOf H S T K R) → HasAnsweredMore answer after first session session
+    pub more_none : (session : SessionOf H S T K R Y) → HasAnsweredMore answer after kept first session session
     more_none session = record { told = []; is_told = sym (append-nil session.told.items); are_answered = (refl, refl) }
 
     -- and the next one
-    pub more_next : (before between later : SessionOf H S T K R) → HasAnsweredMore answer after first before between → HasAnsweredNext answer after first between later
-        → between.user ≡ before.user → between.commands ≡ before.commands → HasAnsweredMore answer after first before later
+    pub more_next : (before between later : SessionOf H S T K R Y) → HasAnsweredMore answer after kept first before between → HasAnsweredNext answer after kept first between later
+        → between.user ≡ before.user → between.commands ≡ before.commands → HasAnsweredMore answer after kept first before later
     more_next before between later more next user commands =
         let place : length between.told.items ≡ length before.told.items + length more.told = ap length more.is_told ∙ length-append before.told.items more.told in
         let is : slice_get before.commands (length before.told.items + length more.told) ≡ Some next.command = rw (← place, ← commands) next.is_next in
         let number : length between.told.items + 1 ≡ length more.told + (length before.told.items + 1) = omega arith in
-        let answered : IsAnswered answer after first (sight between.pass) (sight later.pass) before.user (length more.told + (length before.told.items + 1)) between.layer next.command next.told later.layer =
-        subst (λ (u : ℕ). IsAnswered answer after first (sight between.pass) (sight later.pass) u (length more.told + (length before.told.items + 1)) between.layer next.command next.told later.layer) user
-        (answered_as answer after first (sight between.pass) (sight later.pass) between.user _ _ between.layer next.command next.told later.layer number next.is_answered) in
+        let answered : IsAnswered answer after first (sight between.pass) (sight later.pass) before.user (length more.told + (length before.told.items + 1)) (layer_of kept between) next.command next.told (layer_of kept later) =
+        subst (λ (u : ℕ). IsAnswered answer after first (sight between.pass) (sight later.pass) u (length more.told + (length before.told.items + 1)) (layer_of kept between) next.command next.told (layer_of kept later)) user
+        (answered_as answer after first (sight between.pass) (sight later.pass) between.user _ _ (layer_of kept between) next.command next.told (layer_of kept later) number next.is_answered) in
         record {
           told = more.told ++ next.told ∷ [];
           is_told = next.is_told ∙ ap (λ ts. ts ++ next.told ∷ []) more.is_told ∙ append_assoc before.told.items more.told (next.told ∷ []);
           are_answered =
-              answered_more answer after first (sight before.pass) (sight between.pass) (sight later.pass) before.user (length before.told.items + 1) before.layer more.told (drop (length before.told.items) before.commands)
-              between.layer next.command next.told later.layer
+              answered_more answer after first (sight before.pass) (sight between.pass) (sight later.pass) before.user (length before.told.items + 1) (layer_of kept before) more.told (drop (length before.told.items) before.commands)
+              (layer_of kept between) next.command next.told (layer_of kept later)
               more.are_answered (get_dropped (length before.told.items) before.commands (length more.told) next.command is) answered;
         }
 
     -- where it was told whether there was a next one, and there was
-    pub next_left : (before later : SessionOf H S T K R) (more : Bool) → length before.told.items < length before.commands
-        → MatchBool more (HasAnsweredNext answer after first before later)
-        ((length before.told.items ≡ length before.commands) × (later.told.items ≡ before.told.items) × (later.layer ≡ before.layer))
-        → HasAnsweredNext answer after first before later
+    pub next_left : (before later : SessionOf H S T K R Y) (more : Bool) → length before.told.items < length before.commands
+        → MatchBool more (HasAnsweredNext answer after kept first before later)
+        ((length before.told.items ≡ length before.commands) × (later.told.items ≡ before.told.items) × ((layer_of kept later) ≡ (layer_of kept before)))
+        → HasAnsweredNext answer after kept first before later
     next_left before later true left told = told
     next_left before later false left told = absurd (omega (arith, left, told.0))
 
-module _ {L S T K R : Type 0} where
+module _ {L S T K R Y : Type 0} where
   -- the session as it was
-  pub gone_nowhere : (session : SessionOf L S T K R) → HasGoneOn session session
+  pub gone_nowhere : (session : SessionOf L S T K R Y) → HasGoneOn session session
   gone_nowhere session = record {
     told = ([], sym (append-nil session.told.items));
     seen = ([], sym (append-nil (seen session.pass)));
@@ -224,7 +224,7 @@ module _ {L S T K R : Type 0} where
   }
 
   -- no reply came, and the pass went on
-  pub gone_on_by : (before later : SessionOf L S T K R) (ns : List ℕ) → later.told.items ≡ before.told.items → GoesOn (seen before.pass) (seen later.pass) ns
+  pub gone_on_by : (before later : SessionOf L S T K R Y) (ns : List ℕ) → later.told.items ≡ before.told.items → GoesOn (seen before.pass) (seen later.pass) ns
       → looks before.pass ≤ looks later.pass → HasGoneOn before later
   gone_on_by before later ns same goes fewer = record {
     told = ([], same ∙ sym (append-nil before.told.items));
@@ -233,7 +233,7 @@ module _ {L S T K R : Type 0} where
   }
 
   -- further and further
-  pub gone_on_then : (before between later : SessionOf L S T K R) → HasGoneOn before between → HasGoneOn between later → HasGoneOn before later
+  pub gone_on_then : (before between later : SessionOf L S T K R Y) → HasGoneOn before between → HasGoneOn between later → HasGoneOn before later
   gone_on_then before between later one two = record {
     told = (one.told.0 ++ two.told.0, two.told.1 ∙ ap (λ ts. ts ++ two.told.0) one.told.1 ∙ append_assoc before.told.items one.told.0 two.told.0);
     seen = (one.seen.0 ++ two.seen.0, two.seen.1 ∙ ap (λ log. log ++ two.seen.0) one.seen.1 ∙ append_assoc (seen before.pass) one.seen.0 two.seen.0);

@@ -97,7 +97,7 @@ module _ {C K T R : Type 0} (answer : C → Option T → K → Effect T R × Opt
         }
 
   -- a session that has answered all is met
-  pub met_more : {L S : Type 0} (sessions : List (SessionOf L S T K R)) (session : SessionOf L S T K R) (told : List (List (Told R))) (replies : List (Told R)) (all pass later : PassOf L S T)
+  pub met_more : {L S Y : Type 0} (sessions : List (SessionOf L S T K R Y)) (session : SessionOf L S T K R Y) (told : List (List (Told R))) (replies : List (Told R)) (all pass later : PassOf L S T)
       → IsGathered answer after first (commands_of sessions) told (numbers_of all) (seen all)
       → pass ≡ session.pass → replies ≡ session.told.items → session.user ≡ length sessions + 1 → numbers_of session.pass ≡ session.user ∷ [] → length session.told.items ≡ length session.commands
       → LayeredSoFar answer after first (seen session.pass) session.user None session.told.items session.commands

@@ -1,5 +1,6 @@
 mod Answered
 mod Acts
+mod Laid
 mod Opened
 mod Gathered
 mod Looked

@@ -30,11 +30,11 @@ mapped_more f xs i x low is =
     let longer : take (i + 1) xs ≡ take i xs ++ x ∷ [] = rw (add-one, take-suc xs i x low, ← is) refl in
     sym (ap (map f) longer ∙ map_push f (take i xs) x)
 
-pub each_looked : {H S C T K R Q : Type 0} (answer : C → Option T → K → Effect T R × Option T) (after : C → T → C) (content : S → C) (book : BookOf H (PassView S T) (Snapshot S) Q)
-    (sessions : List (SessionOf H S T K R)) (told : List (List (Told R))) (passes : List (Snapshot (PassOf H S T)))
-    → AreRunning answer after content book sessions → told ≡ map (λ s. s.told.items) sessions → map (λ p. p.value) passes ≡ map (λ s. s.pass) sessions
+pub each_looked : {H S C T K R Q Y : Type 0} (answer : C → Option T → K → Effect T R × Option T) (after : C → T → C) (content : S → C) (unfit : C → T → Option R) (kept : Y → T) (book : BookOf H (PassView S T) (Snapshot S) Q)
+    (sessions : List (SessionOf H S T K R Y)) (told : List (List (Told R))) (passes : List (Snapshot (PassOf H S T)))
+    → AreRunning answer after content unfit kept book sessions → told ≡ map (λ s. s.told.items) sessions → map (λ p. p.value) passes ≡ map (λ s. s.pass) sessions
     → EachHasLooked answer after content (opening_of book) (commands_of sessions) told passes
-each_looked {H} {S} {C} {T} {K} {R} answer after content book sessions told passes running are same index commands replies pass is told_is pass_is =
+each_looked {H = H} {S = S} {C = C} {T = T} {K = K} {R = R} answer after content unfit kept book sessions told passes running are same index commands replies pass is told_is pass_is =
     let own = mapped_from (λ s. s.commands) sessions index commands is in
     let s = own.0 in
     let its = mapped_from (λ s. s.told.items) sessions index replies (ap (λ ts. slice_get ts index) (sym are) ∙ told_is) in

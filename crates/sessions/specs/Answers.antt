@@ -12,6 +12,7 @@ use Rattle.version_book.specs.declared.book.PassOf.{PassOf}
 use Rattle.version_book.specs.Commits.{Settles}
 use Rattle.version_book.specs.Lists.{GoesOn}
 use Rattle.version_book.specs.Passes.{looks, seen}
+use Rattle.sandbox.specs.Sandboxes.{layer_in}
 use Rattle.sessions.specs.declared.session.SessionOf.{SessionOf}
 
 -- the beginning of the history that a pass has seen, and how often it has looked
@@ -33,15 +34,19 @@ pub record IsAnswered {C L K T R : Type 0} (answer : C → L → K → Effect T 
   pub is_next : next ≡ (answer (content_after after first settles.log) layer command).1
   pub looked : before.looks < later.looks
 
+-- the layer of the session's user, where what the code keeps of it means these writes
+abbrev pub layer_of : {H S T K R Y : Type 0} → (Y → T) → SessionOf H S T K R Y → Option T
+layer_of kept session = layer_in kept session.own.sandbox
+
 -- the next command of the session was answered
-pub record HasAnsweredNext {H S C K T R : Type 0} (answer : C → Option T → K → Effect T R × Option T)
-    (after : C → T → C) (first : C) (before later : SessionOf H S T K R) : Type 0 where
+pub record HasAnsweredNext {H S C K T R Y : Type 0} (answer : C → Option T → K → Effect T R × Option T)
+    (after : C → T → C) (kept : Y → T) (first : C) (before later : SessionOf H S T K R Y) : Type 0 where
   pub command : K
   pub told : Told R
   pub is_next : slice_get before.commands (length before.told.items) ≡ Some command
   pub is_told : later.told.items ≡ before.told.items ++ told ∷ []
   pub is_answered : IsAnswered answer after first (sight before.pass) (sight later.pass) before.user
-      (length before.told.items + 1) before.layer command told later.layer
+      (length before.told.items + 1) (layer_of kept before) command told (layer_of kept later)
 
 -- the first of these commands were answered one after another, from this number and this layer on
 abbrev pub AreAnswered : {C L K T R : Type 0} → (C → L → K → Effect T R × L) → (C → T → C) → C → Sight T → Sight T
@@ -53,15 +58,16 @@ AreAnswered {L = L} {T = T} answer after first before later user number layer (t
     × AreAnswered answer after first between later user (number + 1) left more commands next
 
 -- the next commands of the session were answered one after another
-pub record HasAnsweredMore {H S C K T R : Type 0} (answer : C → Option T → K → Effect T R × Option T)
-    (after : C → T → C) (first : C) (before later : SessionOf H S T K R) : Type 0 where
+pub record HasAnsweredMore {H S C K T R Y : Type 0} (answer : C → Option T → K → Effect T R × Option T)
+    (after : C → T → C) (kept : Y → T) (first : C) (before later : SessionOf H S T K R Y) : Type 0 where
   pub told : List (Told R)
   pub is_told : later.told.items ≡ before.told.items ++ told
   pub are_answered : AreAnswered answer after first (sight before.pass) (sight later.pass) before.user
-      (length before.told.items + 1) before.layer told (drop (length before.told.items) before.commands) later.layer
+      (length before.told.items + 1) (layer_of kept before) told (drop (length before.told.items) before.commands)
+      (layer_of kept later)
 
 -- no reply of the session was taken away, its pass has seen what it had seen and maybe more, and no look is forgotten
-pub record HasGoneOn {L S T K R : Type 0} (before later : SessionOf L S T K R) : Type 0 where
+pub record HasGoneOn {L S T K R Y : Type 0} (before later : SessionOf L S T K R Y) : Type 0 where
   pub told : (more : List (Told R)) × (later.told.items ≡ before.told.items ++ more)
   pub seen : (more : List (Entry T)) × (seen later.pass ≡ seen before.pass ++ more)
   pub looks : looks before.pass ≤ looks later.pass

@@ -8,7 +8,7 @@ ghost use Rattle.sessions.specs.Inside.AllSessions.{AreRunning, HasAnsweredAll, 
 ghost use Rattle.sessions.specs.Inside.Gathered.{IsGathered, IsGiver};
 
 use crate::serving::{Served, ServedOf};
-use crate::session::Session;
+use crate::session::{Session, SessionOf};
 use history::Told;
 use lists::ListOf;
 use sandbox::Layered;
@@ -28,7 +28,8 @@ pub(crate) fn close_all<W: Layered, R: Wait>(
 ) -> Result<Served<W>, AllocError>
     requires of { IsOf book first }
     requires giver { IsGiver first (vec_len sessions + 1) }
-    requires running { AreRunning (answer W.effect W.after W.sandbox) W.after W.content book sessions.items }
+    requires running { AreRunning (answer W.effect W.after W.sandbox) W.after W.content W.sandbox.unfit
+        W.kept_writes book sessions.items }
     ensures history { IfOk result (λ served. IsLayeredHistoryOf (answer W.effect W.after W.sandbox) W.after
         (W.content (opening_of book)) None (commands_of sessions.items) served.told.items served.log.items) }
     ensures state { IfOk result (λ served.
@@ -45,7 +46,7 @@ pub(crate) fn close_all<W: Layered, R: Wait>(
         drop(book);
         return Err(AllocError);
     };
-    if room.is_err() || !all_answered::<W>(sessions.as_slice()) {
+    if room.is_err() || !all_answered(sessions.as_slice()) {
         drop(sessions);
         drop(first);
         drop(book);
@@ -86,7 +87,8 @@ fn meet_all<W: Layered, R: Wait>(
 ) -> Pass<W>
     requires of { IsOf book.now first }
     requires giver { IsGiver first (vec_len sessions + 1) }
-    requires running { AreRunning (answer W.effect W.after W.sandbox) W.after W.content book.now sessions.items }
+    requires running { AreRunning (answer W.effect W.after W.sandbox) W.after W.content W.sandbox.unfit
+        W.kept_writes book.now sessions.items }
     requires answered { All HasAnsweredAll sessions.items }
     requires empty { told.old.items ≡ [] }
     requires room { vec_len sessions ≤ vec_capacity told.old }
@@ -105,7 +107,7 @@ fn meet_all<W: Layered, R: Wait>(
     all
 }
 
-fn all_answered<W: Layered>(sessions: &[Session<W>]) -> bool
+fn all_answered<L, C, T, K, R, Y>(sessions: &[SessionOf<L, C, T, K, R, Y>]) -> bool
     ensures { IsTrue result → All HasAnsweredAll sessions.now }
 {
     sessions.iter().all(|session| session.told.len() == session.commands.as_slice().len())

@@ -11,10 +11,12 @@
 mod answer;
 mod closing;
 mod opening;
+mod own;
 mod serving;
 mod session;
 mod threads;
 
+pub use own::{Own, OwnOf};
 pub use serving::{Served, ServedOf, serve};
 pub use session::{Session, SessionOf};
 pub use threads::MAX_THREADS;

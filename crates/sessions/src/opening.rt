@@ -24,7 +24,8 @@ pub(crate) fn open_all<W: Layered>(
     ensures giver { IfOk result (λ sessions. IsGiver giver.new (vec_len sessions + 1)) }
     ensures commands { IfOk result (λ sessions. commands_of sessions.items ≡ users.items) }
     ensures running { IfOk result (λ sessions.
-        AreRunning (answer W.effect W.after W.sandbox) W.after W.content book.now sessions.items) }
+        AreRunning (answer W.effect W.after W.sandbox) W.after W.content W.sandbox.unfit W.kept_writes book.now
+        sessions.items) }
 {
     let mut sessions = Vec::new(alloc);
     for commands in users {

@@ -52,6 +52,7 @@ where
     W::Command: Send + Sync,
     W::Reply: Send + Sync,
     W::Writes: Send + Sync,
+    W::Layer: Send + Sync,
     // each user begins without a sandbox
     ensures history { IfOk result (λ served. IsLayeredHistoryOf (answer W.effect W.after W.sandbox) W.after
         (W.content state) None users.items served.told.items served.log.items) }

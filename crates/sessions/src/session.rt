@@ -2,9 +2,10 @@ ghost use Rattle.std.specs.Prelude.{◌≡◌, ◌<◌, [], None, length, MatchB
 ghost use Rattle.sandbox.specs.Sandboxes.{answer as answer_of};
 ghost use Rattle.version_book.specs.Passes.{opening_of};
 ghost use Rattle.sessions.specs.Sessions.{IsRunning};
-ghost use Rattle.sessions.specs.Answers.{HasAnsweredNext, HasAnsweredMore, HasGoneOn};
+ghost use Rattle.sessions.specs.Answers.{HasAnsweredNext, HasAnsweredMore, HasGoneOn, layer_of};
 
 use crate::answer::{answer, number_after};
+use crate::own::OwnOf;
 use cube_outside::Gate;
 use history::{Told, World};
 use lists::ListOf;
@@ -13,15 +14,15 @@ use std::alloc::{AllocError, Global};
 use std::sync::Wait;
 use version_book::{Book, Ledger, Pass, PassOf};
 
-/// One user's acts, the pass by which they act, the replies so far, and what the user's sandbox keeps, if one is open.
-/// It may go to another thread.
+/// One user's acts, the pass by which they act, the replies so far, and the user's sandbox, if one is open. It may go
+/// to another thread.
 #[derive(Drop)]
-pub struct SessionOf<L, C, T, K, R> {
+pub struct SessionOf<L, C, T, K, R, Y> {
     pub(crate) pass: PassOf<L, C, T>,
     pub(crate) user: u32,
     pub(crate) commands: ListOf<K>,
     pub(crate) told: Vec<Told<R>>,
-    pub(crate) layer: Option<T>,
+    pub(crate) own: OwnOf<Y, C>,
 }
 
 /// A session at the book of a world.
@@ -31,6 +32,7 @@ pub type Session<W> = SessionOf<
     <W as World>::Writes,
     Act<<W as World>::Command>,
     <W as World>::Reply,
+    <W as Layered>::Layer,
 >;
 
 impl<W: Layered> Session<W> {
@@ -45,14 +47,17 @@ impl<W: Layered> Session<W> {
         ensures user { result.user ≡ user }
         ensures commands { result.commands ≡ commands }
         ensures told { result.told.items ≡ [] }
-        ensures layer { result.layer ≡ None }
+        ensures own { result.own ≡ record { sandbox = None; laid_at = 0 } }
     {
         SessionOf {
             pass,
             user,
             commands,
             told: Vec::new(alloc),
-            layer: None,
+            own: OwnOf {
+                sandbox: None,
+                laid_at: 0,
+            },
         }
     }
 
@@ -64,17 +69,21 @@ impl<W: Layered> Session<W> {
         book: &Book<W>,
         gate: &G,
     ) -> Result<bool, AllocError>
-        requires running { IsRunning (answer_of W.effect W.after W.sandbox) W.after W.content book.now self.old }
-        ensures running { IsRunning (answer_of W.effect W.after W.sandbox) W.after W.content book.now self.new }
+        requires running { IsRunning (answer_of W.effect W.after W.sandbox) W.after W.content W.sandbox.unfit
+            W.kept_writes book.now self.old }
+        ensures running { IsRunning (answer_of W.effect W.after W.sandbox) W.after W.content W.sandbox.unfit
+            W.kept_writes book.now self.new }
         ensures user { self.new.user ≡ self.old.user }
         ensures commands { self.new.commands ≡ self.old.commands }
         ensures told { IfOk result (λ more. MatchBool more
-            (HasAnsweredNext (answer_of W.effect W.after W.sandbox) W.after (W.content (opening_of book.now))
-            self.old self.new)
+            (HasAnsweredNext (answer_of W.effect W.after W.sandbox) W.after W.kept_writes
+            (W.content (opening_of book.now)) self.old self.new)
             ((length self.old.told.items ≡ length self.old.commands)
-            × (self.new.told.items ≡ self.old.told.items) × (self.new.layer ≡ self.old.layer))) }
+            × (self.new.told.items ≡ self.old.told.items)
+            × (layer_of W.kept_writes self.new ≡ layer_of W.kept_writes self.old))) }
         ensures err { OnErr result ((length self.old.told.items < length self.old.commands)
-            × (self.new.told.items ≡ self.old.told.items) × (self.new.layer ≡ self.old.layer)) }
+            × (self.new.told.items ≡ self.old.told.items)
+            × (layer_of W.kept_writes self.new ≡ layer_of W.kept_writes self.old)) }
         ensures gone_on { HasGoneOn self.old self.new }
     {
         let Some(command) = self.commands.as_slice().get(self.told.len()) else {
@@ -89,7 +98,7 @@ impl<W: Layered> Session<W> {
             book,
             gate,
             &mut self.pass,
-            &mut self.layer,
+            &mut self.own,
             (self.user, number),
             command,
         )?;
@@ -106,11 +115,13 @@ impl<W: Layered> Session<W> {
         book: &Book<W>,
         gate: &G,
     ) -> Result<(), AllocError>
-        requires running { IsRunning (answer_of W.effect W.after W.sandbox) W.after W.content book.now self.old }
-        ensures running { IsRunning (answer_of W.effect W.after W.sandbox) W.after W.content book.now self.new }
+        requires running { IsRunning (answer_of W.effect W.after W.sandbox) W.after W.content W.sandbox.unfit
+            W.kept_writes book.now self.old }
+        ensures running { IsRunning (answer_of W.effect W.after W.sandbox) W.after W.content W.sandbox.unfit
+            W.kept_writes book.now self.new }
         ensures user { self.new.user ≡ self.old.user }
         ensures commands { self.new.commands ≡ self.old.commands }
-        ensures told { OnOk result (HasAnsweredMore (answer_of W.effect W.after W.sandbox) W.after
+        ensures told { OnOk result (HasAnsweredMore (answer_of W.effect W.after W.sandbox) W.after W.kept_writes
             (W.content (opening_of book.now)) self.old self.new) }
         ensures all { OnOk result (length self.new.told.items ≡ length self.new.commands) }
         // out of memory, too, nothing that was told is taken away
@@ -132,7 +143,7 @@ impl<W: Layered> Session<W> {
             user: _,
             commands: _,
             told,
-            layer: _,
+            own: _,
         } = self;
         (pass, ListOf::new(told))
     }

@@ -32,9 +32,12 @@ where
     W::Command: Send + Sync,
     W::Reply: Send + Sync,
     W::Writes: Send + Sync,
-    requires running { AreRunning (answer W.effect W.after W.sandbox) W.after W.content book.now sessions.old }
+    W::Layer: Send + Sync,
+    requires running { AreRunning (answer W.effect W.after W.sandbox) W.after W.content W.sandbox.unfit
+        W.kept_writes book.now sessions.old }
     ensures len { length sessions.new ≡ length sessions.old }
-    ensures running { AreRunning (answer W.effect W.after W.sandbox) W.after W.content book.now sessions.new }
+    ensures running { AreRunning (answer W.effect W.after W.sandbox) W.after W.content W.sandbox.unfit
+        W.kept_writes book.now sessions.new }
     ensures commands { commands_of sessions.new ≡ commands_of sessions.old }
 {
     run_each(rt, alloc, book, gate, sessions);
@@ -55,10 +58,12 @@ where
     W::Command: Send + Sync,
     W::Reply: Send + Sync,
     W::Writes: Send + Sync,
-    requires running { AreRunning (answer W.effect W.after W.sandbox) W.after W.content book.now sessions.old }
+    W::Layer: Send + Sync,
+    requires running { AreRunning (answer W.effect W.after W.sandbox) W.after W.content W.sandbox.unfit
+        W.kept_writes book.now sessions.old }
     ensures len { length sessions.new ≡ length sessions.old }
     ensures each { (index : ℕ) (session : _) → index < length sessions.old
-        → IsFurther (answer W.effect W.after W.sandbox) W.after W.content book.now
+        → IsFurther (answer W.effect W.after W.sandbox) W.after W.content W.sandbox.unfit W.kept_writes book.now
         (slice_index_or sessions.old index session) (slice_index_or sessions.new index session) }
 {
     thread::for_each_mut(
@@ -66,9 +71,10 @@ where
         sessions,
         MAX_THREADS,
         &|_: usize, session: &mut Session<W>|
-            requires { IsRunning (answer W.effect W.after W.sandbox) W.after W.content book.now session.old }
-            ensures { IsFurther (answer W.effect W.after W.sandbox) W.after W.content book.entry.now
-                session.old session.new }
+            requires { IsRunning (answer W.effect W.after W.sandbox) W.after W.content W.sandbox.unfit W.kept_writes
+                book.now session.old }
+            ensures { IsFurther (answer W.effect W.after W.sandbox) W.after W.content W.sandbox.unfit W.kept_writes
+                book.entry.now session.old session.new }
         {
             let _ = session.run(rt, alloc, book, gate);
         },

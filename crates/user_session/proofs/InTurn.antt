@@ -1,20 +1,26 @@
 -- What a sandbox keeps is writes in turn, and what PUBLISH does with them.
-use Rattle.std.proofs.Common.{◌≡◌, ◌∙◌, refl, ap, ℕ, ℤ, List, ◌++◌, Option, Some, None}
+use Rattle.std.proofs.Common.{◌≡◌, ◌∙◌, refl, ap, sym, subst, true, ℕ, ℤ, List, ◌++◌, Option, Some, None}
 use Rattle.std.specs.Option.{option_map}
+use Rattle.std.proofs.lemmas.List.Elements.{All-append}
 use Rattle.std.proofs.lemmas.List.Sums.{fold-append}
+use Rattle.cell_reader.specs.Limits.{IsWithinLimits}
 use Rattle.cell_store.specs.declared.entry.Entry.{Entry}
 use Rattle.cell_store.specs.Entries.{after_writes, with_write}
+use Rattle.cell_versions.specs.Versions.{AreLeafWrites}
 use Rattle.cell_writes.specs.Writes.{last_writes}
+use Rattle.cube_space.specs.Cells.{IsCell, is_leaf_cell}
 use Rattle.history.specs.declared.effect.Effect.TheVariants.{Commit, Rejected}
 use Rattle.sandbox.specs.Sandboxes.{IsSandboxing}
 use Rattle.user_session.specs.Content.{after}
-use Rattle.user_session.specs.Layers.{sandbox}
+use Rattle.user_session.specs.Layers.{sandbox, unfit}
 use Rattle.user_session.specs.Planning.{effect, misfit, unless_reason}
 use Rattle.user_session.specs.Replies.{reply_text}
 use Rattle.user_session.specs.declared.content.Content.{Content}
 use Rattle.user_session.specs.declared.reply.CommandReason.{CommandReason}
 use Rattle.user_session.specs.declared.reply.Reply.TheVariants as replies
-use Rattle.user_session.proofs.LastWrites.{leave_the_same}
+use Rattle.user_session.proofs.LastWrites.{each_last, leave_the_same}
+use Rattle.user_session.proofs.Limits.{fits-both, fits-leaves, fits-limits}
+use Rattle.user_session.proofs.Within.{AreWithin}
 
 in_turn : (stored : List Entry) (first second : List (ℕ × ℤ)) → after_writes stored (last_writes (first ++ second)) ≡ after_writes (after_writes stored first) second
 in_turn stored first second =
@@ -47,3 +53,20 @@ sandbox_is = record {
   fits = λ content layer is. published (misfit content layer) layer (replied (misfit content layer) is);
   unfits = λ content layer reason is. refused (misfit content layer) layer reason is;
 }
+
+-- a version with a layer over it, after writes that are accepted there, is one with the layer that has these writes too
+pub goes_on : (private next below : Content) (layer writes : List (ℕ × ℤ)) → AreWithin private writes → next ≡ after private writes → private ≡ after below layer → unfit below layer ≡ None
+    → (unfit below (last_writes (layer ++ writes)) ≡ None) × (next ≡ after below (last_writes (layer ++ writes)))
+goes_on private next below layer writes accepted is same fitted =
+    let fits : misfit below layer ≡ None = replied (misfit below layer) fitted in
+    let within : AreWithin (after below layer) writes = subst (λ c. AreWithin c writes) same accepted in
+    let leaves : AreLeafWrites below.model.space (last_writes (layer ++ writes)) =
+    each_last (IsLeaf below) (layer ++ writes) (All-append (λ write. IsLeaf below write.0) layer writes (fits-leaves below layer fits) within.leaves) in
+    let limits : IsWithinLimits below.model (after_writes below.stored (last_writes (layer ++ writes))) =
+    subst (IsWithinLimits below.model) (sym (in_turn below.stored layer writes)) (within.within (fits-limits below layer fits)) in (
+      ap (option_map (λ reason. reply_text (replies.Refused reason))) (fits-both below (last_writes (layer ++ writes)) leaves limits),
+      is ∙ ap (λ c. after c writes) same ∙ sym (kept_joined below layer writes),
+    )
+  where
+    IsLeaf : Content → ℕ → Type 0
+    IsLeaf content cell = IsCell content.model.space cell × (is_leaf_cell content.model.space cell ≡ true)

@@ -4,6 +4,7 @@ use Rattle.std.specs.Ordering.{int_eq}
 use Rattle.std.specs.BTreeMap.{insert_entry}
 use Rattle.std.proofs.lemmas.Cmp.{ranked}
 use Rattle.std.proofs.lemmas.Bool.Decides.{nat_tests}
+use Rattle.std.proofs.lemmas.List.Sums.{fold-append}
 use Rattle.std.proofs.lemmas.List.Elements.{All-nil, All-cons, All-head, All-tail, filter-append, filter_agree}
 use Rattle.cell_store.specs.declared.entry.Entry.{Entry}
 use Rattle.cell_store.specs.Entries.{above, after_writes, below, kept_of, with_write}
@@ -147,6 +148,34 @@ all_put stored last (w ∷ writes) order =
 
 pub leave_the_same : (stored : List Entry) (writes : List (ℕ × ℤ)) → after_writes stored (last_writes writes) ≡ after_writes stored writes
 leave_the_same stored writes = all_put stored [] writes tt
+
+-- ---- writes after these count the same behind the last of these
+
+-- behind a write of a lower cell
+behind : (w : ℕ × ℤ) (last writes : List (ℕ × ℤ)) → AllOver w.0 writes → put_all (w ∷ last) writes ≡ w ∷ put_all last writes
+behind w last [] all = refl
+behind w last (v ∷ writes) all =
+    let here : nat_cmp v.0 w.0 ≡ Greater = grind (arith, nat_tests, all.0) in
+    rw here (behind w (insert_entry nat_cmp last v.0 v.1) writes all.1)
+
+-- writes in the order of their cells are their last writes
+again : (writes : List (ℕ × ℤ)) → InOrder writes → put_all [] writes ≡ writes
+again [] order = refl
+again (w ∷ writes) order = behind w [] writes order.0 ∙ ap (λ ws. w ∷ ws) (again writes order.1)
+
+in_order_all : (last writes : List (ℕ × ℤ)) → InOrder last → InOrder (put_all last writes)
+in_order_all last [] order = order
+in_order_all last (w ∷ writes) order = in_order_all (insert_entry nat_cmp last w.0 w.1) writes (in_order-inserted w.0 w.1 last order)
+
+pub last_twice : (writes : List (ℕ × ℤ)) → last_writes (last_writes writes) ≡ last_writes writes
+last_twice writes = again (last_writes writes) (in_order_all [] writes tt)
+
+pub last_of_more : (kept writes : List (ℕ × ℤ)) → last_writes (kept ++ writes) ≡ last_writes (last_writes kept ++ writes)
+last_of_more kept writes =
+    let put : List (ℕ × ℤ) → ℕ × ℤ → List (ℕ × ℤ) = λ before write. insert_entry nat_cmp before write.0 write.1 in
+    fold-append put [] kept writes
+    ∙ ap (λ last. put_all last writes) (sym (last_twice kept))
+    ∙ sym (fold-append put [] (last_writes kept) writes)
 
 -- ---- what holds of the cell of each write holds of the cells of the last writes
 

@@ -1,8 +1,8 @@
 -- What it says of writes that no reason holds against them.
-use Rattle.std.proofs.Common.{◌≡◌, refl, ℕ, ℤ, Bool, true, false, ◌&&◌, if◌then◌else◌, List, length, Option, Some, None}
+use Rattle.std.proofs.Common.{◌≡◌, ◌∙◌, refl, ℕ, ℤ, Bool, true, false, ◌&&◌, if◌then◌else◌, List, length, Option, Some, None}
 use Rattle.std.specs.Prelude.{nat_lt}
-use Rattle.std.proofs.lemmas.Bool.{and_parts, ltb-true, ltb-false as at_most}
-use Rattle.std.proofs.lemmas.List.Sums.{AllPass-from_list_all}
+use Rattle.std.proofs.lemmas.Bool.{and_from, and_parts, le-ltb, lt-ltb, ltb-true, ltb-false as at_most}
+use Rattle.std.proofs.lemmas.List.Sums.{AllPass-from_list_all, list_all-from_AllPass}
 use Rattle.cell_reader.specs.FedCount.{fed_count}
 use Rattle.cell_reader.specs.Limits.{IsWithinLimits}
 use Rattle.cell_store.specs.declared.entry.Entry.{Entry}
@@ -34,6 +34,17 @@ leaf-writes space writes is k d less =
     let both = and_parts _ _ (AllPass-from_list_all (λ (write : ℕ × ℤ). nat_lt write.0 (size_of space) && is_leaf_cell space write.0) writes is k d less) in
     (ltb-true _ _ both.0, both.1)
 
+-- and writes of leaf cells pass it
+leaves-pass : (space : Layout) (writes : List (ℕ × ℤ)) → AreLeafWrites space writes → all_leaf_cells space writes ≡ true
+leaves-pass space writes leaves =
+    list_all-from_AllPass (λ (write : ℕ × ℤ). nat_lt write.0 (size_of space) && is_leaf_cell space write.0) writes
+    (λ k d less. and_from _ _ (lt-ltb _ _ (leaves k d less).0) (leaves k d less).1)
+
+-- no limit is passed
+within-passes : (model : BoundModel) (stored : List Entry) → IsWithinLimits model stored → passed_limit model stored ≡ None
+within-passes model stored within =
+    rw (le-ltb most_cells (length stored) within.few_stored, le-ltb most_fed (fed_count model stored) within.few_fed) refl
+
 -- no reason holds: the writes are of leaf cells, and no limit is passed
 fits-parts : (content : Content) (writes : List (ℕ × ℤ)) → misfit content writes ≡ None
     → (all_leaf_cells content.model.space writes ≡ true) × (passed_limit content.model (after_writes content.stored writes) ≡ None)
@@ -57,3 +68,9 @@ misfit-name content writes is = rw is refl
 pub misfit-limit : (content : Content) (writes : List (ℕ × ℤ)) → all_leaf_cells content.model.space writes ≡ true
     → misfit content writes ≡ passed_limit content.model (after_writes content.stored writes)
 misfit-limit content writes is = rw is refl
+
+-- nor does one hold against writes of leaf cells, where no limit is passed with them
+pub fits-both : (content : Content) (writes : List (ℕ × ℤ)) → AreLeafWrites content.model.space writes → IsWithinLimits content.model (after_writes content.stored writes)
+    → misfit content writes ≡ None
+fits-both content writes leaves within =
+    misfit-limit content writes (leaves-pass content.model.space writes leaves) ∙ within-passes content.model (after_writes content.stored writes) within

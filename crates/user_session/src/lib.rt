@@ -26,4 +26,5 @@ pub use command::PlanCommand;
 pub use content::Content;
 pub use laws::layers_are_writes_in_turn;
 pub use reply::{CommandReason, Reply, ReplyText};
+pub use sandboxes::KeptWrites;
 pub use world::{CellWrites, PlanWorld};

@@ -1,4 +1,5 @@
 ghost use Rattle.std.specs.Prelude.{◌≡◌};
+ghost use Rattle.cell_writes.specs.Writes.{last_writes};
 ghost use Rattle.user_session.specs.Layers.{noted};
 
 use crate::command::PlanCommand;
@@ -7,43 +8,59 @@ use crate::reply::{CommandReason, Reply, ReplyText};
 use crate::world::{CellWrites, PlanWorld};
 use cell_reader::Snapshot;
 use cell_writes::last_writes;
+use cube_fixed::Money;
+use history::World;
 use lists::ListOf;
 use sandbox::{Layered, Note, Over};
 use std::alloc::{AllocError, Global};
 
+/// The writes of the commands in a sandbox, one after another. The last of each cell counts.
+pub type KeptWrites = Vec<(u64, Money)>;
+
 impl Layered for PlanWorld {
+    ghost use Rattle.cell_writes.specs.Writes.{last_writes};
     ghost use Rattle.user_session.specs.Layers.{sandbox};
+
+    type Layer = KeptWrites;
 
     ghost sandbox = { sandbox };
 
-    fn none(alloc: Global) -> Result<CellWrites, AllocError> {
-        Ok(ListOf::new(Vec::new(alloc)))
+    ghost kept_writes = { λ layer. last_writes layer.items };
+
+    fn none(alloc: Global) -> Result<KeptWrites, AllocError> {
+        Ok(Vec::new(alloc))
     }
 
-    fn join(
-        alloc: Global,
-        first: &CellWrites,
-        second: &CellWrites,
-    ) -> Result<CellWrites, AllocError> {
-        let mut writes = Vec::from_slice(alloc, first.as_slice())?;
-        writes.extend_from_slice(second.as_slice())?;
-        Ok(ListOf::new(last_writes(alloc, &writes)?))
+    fn keep(alloc: Global, layer: &mut KeptWrites, writes: &CellWrites) -> Result<(), AllocError> {
+        make_room(alloc, layer, writes.as_slice().len())?;
+        layer.extend_from_slice(writes.as_slice())?;
+        Ok(())
     }
 
-    fn fixed(alloc: Global, writes: &CellWrites) -> Result<PlanCommand, AllocError> {
-        let writes = Vec::from_slice(alloc, writes.as_slice())?;
+    fn fixed(alloc: Global, layer: &KeptWrites) -> Result<PlanCommand, AllocError> {
+        let writes = last_writes(alloc, layer)?;
         Ok(PlanCommand::Fixed(ListOf::new(writes)))
     }
 
     fn over(
         alloc: Global,
         state: &Snapshot,
-        layer: &CellWrites,
+        layer: &KeptWrites,
     ) -> Result<Over<Snapshot, ReplyText>, AllocError> {
-        match lay_over(alloc, state, layer.as_slice())? {
+        let writes = last_writes(alloc, layer)?;
+        match lay_over(alloc, state, &writes)? {
             Laid::Over(private) => Ok(Over::Fits(private)),
             Laid::Misfit(reason) => Ok(Over::Unfit(Reply::Refused(reason).text(alloc)?)),
         }
+    }
+
+    fn go_on(
+        alloc: Global,
+        private: &Snapshot,
+        writes: &CellWrites,
+    ) -> Result<Option<Snapshot>, AllocError> {
+        let next = PlanWorld::next(alloc, private, writes)?;
+        Ok(Some(next))
     }
 
     fn note(alloc: Global, note: Note) -> Result<ReplyText, AllocError> {
@@ -53,6 +70,21 @@ impl Layered for PlanWorld {
     fn kept(alloc: Global, writes: &CellWrites) -> Result<ReplyText, AllocError> {
         Reply::Kept(writes.as_slice().len() as u64).text(alloc)
     }
+}
+
+// Room for so many writes more. Where there is none, the writes that no longer count are dropped first, and there is
+// then room for as many again as count: so each write is sorted a few times at most.
+fn make_room(alloc: Global, layer: &mut KeptWrites, more: usize) -> Result<(), AllocError>
+    ensures { last_writes layer.new.items ≡ last_writes layer.old.items }
+{
+    if more <= layer.capacity() - layer.len() {
+        return Ok(());
+    }
+    let mut last = last_writes(alloc, layer)?;
+    let counting = last.len();
+    last.reserve(more.max(counting))?;
+    *layer = last;
+    Ok(())
 }
 
 // The reply to SANDBOX and DISCARD, and to a PUBLISH without a sandbox.

@@ -1,6 +1,7 @@
 -- A command that the book decides.
-use Rattle.std.specs.Prelude.{ℕ, ◌<◌, Bool, true, false, [], ◌∷◌, Option, None}
+use Rattle.std.specs.Prelude.{ℕ, ◌<◌, Bool, true, false, [], ◌∷◌, Option, None, Some}
 use Rattle.history.specs.declared.effect.Effect.{Effect}
+use Rattle.sandbox.specs.declared.open.SandboxOf.{SandboxOf}
 use Rattle.version_book.specs.declared.book.Settled.{Settled}
 use Rattle.version_book.specs.Commits.{Settles}
 use Rattle.sessions.specs.Answers.{Sight}
@@ -11,7 +12,12 @@ pub record IsDecided {C K T R : Type 0} (effect : C → K → Effect T R) (after
   pub settles : Settles effect after first before.seen later.seen (user ∷ []) user number command settled
   pub looked : before.looks < later.looks
 
--- no layer is left where it was published
+-- nothing is left of what was published
 abbrev pub layer_left : {T : Type 0} → Bool → Option T → Option T
 layer_left true layer = None
 layer_left false layer = layer
+
+-- the sandbox, if one is open, without its private state
+abbrev pub without_private : {Y S : Type 0} → Option (SandboxOf Y S) → Option (SandboxOf Y S)
+without_private None = None
+without_private (Some sandbox) = Some (record { layer = sandbox.layer; private = None })

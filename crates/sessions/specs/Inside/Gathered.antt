@@ -21,10 +21,10 @@ pub record IsGiver {L C T : Type 0} (pass : PassOf L C T) (next : ℕ) : Type 0 
   pub gives : next_of pass ≡ Some next
 
 -- the session has run on with the same commands
-pub record IsFurther {H S C T K R Q : Type 0} (answer : C → Option T → K → Effect T R × Option T) (after : C → T → C)
-    (content : S → C) (book : BookOf H (PassView S T) (Snapshot S) Q) (before later : SessionOf H S T K R)
-    : Type 0 where
-  pub running : IsRunning answer after content book later
+pub record IsFurther {H S C K T R Q Y : Type 0} (answer : C → Option T → K → Effect T R × Option T)
+    (after : C → T → C) (content : S → C) (unfit : C → T → Option R) (kept : Y → T)
+    (book : BookOf H (PassView S T) (Snapshot S) Q) (before later : SessionOf H S T K R Y) : Type 0 where
+  pub running : IsRunning answer after content unfit kept book later
   pub user : later.user ≡ before.user
   pub commands : later.commands ≡ before.commands
 

@@ -21,7 +21,7 @@ pub returns-clause-looks : goal.returns-clause-looks
 returns-clause-looks g c =
     let w = g.W.World in
     let a = answer w.effect w.after g.W.Layered.sandbox in
-    each_looked a w.after w.content c.args.book c.args.sessions.items c.meet_all-all.new.told.items c.in-Ok.passes.items c.requires.running c.meet_all-all.ensures.told (c.in-Ok.ensures ∙ ap (map (λ s. s.pass)) c.as_slice.ensures.value)
+    each_looked a w.after w.content g.W.Layered.sandbox.unfit g.W.Layered.kept_writes c.args.book c.args.sessions.items c.meet_all-all.new.told.items c.in-Ok.passes.items c.requires.running c.meet_all-all.ensures.told (c.in-Ok.ensures ∙ ap (map (λ s. s.pass)) c.as_slice.ensures.value)
 
 pub returns-clause-passes : goal.returns-clause-passes
 returns-clause-passes g c =

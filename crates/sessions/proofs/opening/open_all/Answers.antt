@@ -16,8 +16,8 @@ loop-commands-preserved g c =
     let number : number_of c.split-pass.result ≡ length c.loop-commands.sessions.items + 1 = same_number _ _ (c.split-pass.ensures.number ∙ c.loop-commands.invariant.giver.gives) in
     let user : c.in_ok-user.user ≡ length c.loop-commands.sessions.items + 1 = omega (arith, c.in_ok-user.ensures, c.len.ensures, c.reserve.ensures.len, c.loop-commands.sessions.ok.0) in
     let next : number_of c.split-pass.result + 1 ≡ length c.push_reserved.new.self.items + 1 = omega (arith, number, longer) in
-    let running = running_at a w.after w.content c.args.book.now c.split-pass.result session (number_of c.split-pass.result) c.split-pass.ensures.of c.split-pass.ensures.numbers (c.split-pass.ensures.seen ∙ c.loop-commands.invariant.giver.seen_none)
-    c.new.ensures.pass (c.new.ensures.user ∙ (user ∙ sym number)) c.new.ensures.told c.new.ensures.layer in
+    let running = running_at a w.after w.content g.W.Layered.sandbox.unfit g.W.Layered.kept_writes c.args.book.now c.split-pass.result session (number_of c.split-pass.result) c.split-pass.ensures.of c.split-pass.ensures.numbers (c.split-pass.ensures.seen ∙ c.loop-commands.invariant.giver.seen_none)
+    c.new.ensures.pass (c.new.ensures.user ∙ (user ∙ sym number)) c.new.ensures.told c.new.ensures.own in
     record {
       can_next = tt;
       is_finite = tt;
@@ -31,6 +31,6 @@ loop-commands-preserved g c =
           ap commands_of items ∙ (commands-append before.items session ∙ (ap (λ ks. ks ++ session.commands ∷ []) c.loop-commands.invariant.commands
           ∙ ap (λ k. c.loop-commands.yielded ++ k ∷ []) c.new.ensures.commands));
       running =
-          subst (λ xs. AreRunning a w.after w.content c.args.book.now xs) (sym items)
-          (running_more a w.after w.content c.args.book.now before.items session c.loop-commands.invariant.running running (c.new.ensures.user ∙ user));
+          subst (λ xs. AreRunning a w.after w.content g.W.Layered.sandbox.unfit g.W.Layered.kept_writes c.args.book.now xs) (sym items)
+          (running_more a w.after w.content g.W.Layered.sandbox.unfit g.W.Layered.kept_writes c.args.book.now before.items session c.loop-commands.invariant.running running (c.new.ensures.user ∙ user));
     }

@@ -13,5 +13,5 @@ invariant-loop-commands g l = record {
   of : IsOf l.book l.giver;
   giver : IsGiver l.giver (length l.sessions.items + 1);
   commands : commands_of l.sessions.items ≡ l.yielded;
-  running : AreRunning (answer g.W.World.effect g.W.World.after g.W.Layered.sandbox) g.W.World.after g.W.World.content l.book l.sessions.items;
+  running : AreRunning (answer g.W.World.effect g.W.World.after g.W.Layered.sandbox) g.W.World.after g.W.World.content g.W.Layered.sandbox.unfit g.W.Layered.kept_writes l.book l.sessions.items;
 }

@@ -13,7 +13,7 @@ loop-alloc-init g c =
       running = c.requires.running;
       user = refl;
       commands = refl;
-      more = more_none a w.after (w.content (opening_of c.args.book.now)) c.args.self.now;
+      more = more_none a w.after (w.content (opening_of c.args.book.now)) g.W.Layered.kept_writes c.args.self.now;
       gone_on = gone_nowhere c.args.self.now;
     }
 
@@ -28,8 +28,8 @@ loop-alloc-preserved g c =
       user = c.step.ensures.user ∙ c.loop-alloc.invariant.user;
       commands = c.step.ensures.commands ∙ c.loop-alloc.invariant.commands;
       more =
-          more_next a w.after (w.content (opening_of c.args.book.now)) c.args.self.now s c.step.new.self c.loop-alloc.invariant.more
-          (next_left a w.after (w.content (opening_of c.args.book.now)) s c.step.new.self c.in_ok-step.field-0 left c.in_ok-step.ensures.told) c.loop-alloc.invariant.user c.loop-alloc.invariant.commands;
+          more_next a w.after (w.content (opening_of c.args.book.now)) g.W.Layered.kept_writes c.args.self.now s c.step.new.self c.loop-alloc.invariant.more
+          (next_left a w.after (w.content (opening_of c.args.book.now)) g.W.Layered.kept_writes s c.step.new.self c.in_ok-step.field-0 left c.in_ok-step.ensures.told) c.loop-alloc.invariant.user c.loop-alloc.invariant.commands;
       gone_on = gone_on_then c.args.self.now s c.step.new.self c.loop-alloc.invariant.gone_on c.step.ensures.gone_on;
     }
 

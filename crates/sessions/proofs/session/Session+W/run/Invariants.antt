@@ -7,10 +7,10 @@ use Rattle.sessions.proofs.session.Session+W.run.Given as goal
 
 abbrev pub invariant-loop-alloc : goal.invariant-loop-alloc
 invariant-loop-alloc g l = record {
-  running : IsRunning (answer g.W.World.effect g.W.World.after g.W.Layered.sandbox) g.W.World.after g.W.World.content l.book l.self;
+  running : IsRunning (answer g.W.World.effect g.W.World.after g.W.Layered.sandbox) g.W.World.after g.W.World.content g.W.Layered.sandbox.unfit g.W.Layered.kept_writes l.book l.self;
   user : l.self.user ≡ l.fn.self.user;
   commands : l.self.commands ≡ l.fn.self.commands;
-  more : HasAnsweredMore (answer g.W.World.effect g.W.World.after g.W.Layered.sandbox) g.W.World.after (g.W.World.content (opening_of l.book)) l.fn.self l.self;
+  more : HasAnsweredMore (answer g.W.World.effect g.W.World.after g.W.Layered.sandbox) g.W.World.after g.W.Layered.kept_writes (g.W.World.content (opening_of l.book)) l.fn.self l.self;
   gone_on : HasGoneOn l.fn.self l.self;
 }
 
