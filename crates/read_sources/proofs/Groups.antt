@@ -267,7 +267,7 @@ parted-more m sources k s old new at so put = record {
   ];
 }
 
--- what is read makes the arrows of its source, and that which stands for it makes them too
+-- what is read makes the arrows of its source, and the source that was kept for it makes them too
 pub joined-by : (m : BoundModel) (cube : ℕ) (area : Area) (kind : Bool) (read : Precedent) (s : Source) → s.cube ≡ cube → s.area.now ≡ area → s.kind ≡ kind → precedent s ≡ read → (from to : Node)
     → IsJoinedByDimension m cube area kind read from to → Joins m s from to
 joined-by m cube area kind read s own same_area same_kind same_read from to joined =

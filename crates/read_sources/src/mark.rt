@@ -15,8 +15,8 @@ pub const MARKS: usize = 4_096;
 // The elements by whose targets maps are told apart.
 const SAMPLES: [usize; 3] = [0, 64, 4_096];
 
-/// A mark by which sources find each other that are alike, or of which one stands for the other. Others may have the
-/// same.
+/// A mark by which sources find each other that are alike, or of which one makes the arrows of the other. Others may
+/// have the same.
 pub fn mark_of(model: &Model, source: Source) -> usize
     requires { IsSource model.now source }
     ensures { result < 4_096 }

@@ -18,7 +18,7 @@ const MANY: u32 = 16;
 /// What is read at the same lag, parted.
 #[derive(Drop)]
 pub struct Parted<'a> {
-    /// The single sources. Each stands for all that make the same arrows.
+    /// The single sources. Of those that make the same arrows one is kept.
     pub singles: Vec<Source<'a>>,
     /// The first source of each group.
     pub heads: Vec<Source<'a>>,
@@ -98,7 +98,7 @@ fn put<'a>(
     }
 }
 
-// Places a source as a single one, unless this one stands for it, and says which makes its arrows.
+// Places a source as a single one, unless this one makes its arrows, and says which makes them.
 fn put_single<'a>(
     model: &Model,
     source: Source<'a>,
@@ -118,7 +118,7 @@ fn put_single<'a>(
     }
 }
 
-// Whether it is known at once that the single source of this number stands for a source.
+// Whether it is known at once that the single source of this number makes the arrows of a source.
 fn is_stood_for(model: &Model, source: Source, k: u32, parted: &Parted) -> bool
     requires source { IsSource model.now source }
     requires read { IsRead model.now source }
