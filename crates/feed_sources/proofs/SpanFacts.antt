@@ -7,6 +7,7 @@ use Rattle.std.proofs.lemmas.List.{take-append-drop, take-take, drop-take}
 use Rattle.std.proofs.lemmas.Option.{slice_get-get_or}
 use Rattle.cube_space.specs.Layout.{axes}
 use Rattle.cube_space.specs.Cells.{cube_of, elements_of, is_leaf_cell}
+use Rattle.rule_laws.proofs.StatementFacts.{slice_get-drop_at}
 use Rattle.rule_model.specs.declared.rules.Feeder.{Feeder}
 use Rattle.rule_model.specs.Areas.{in_source_sets}
 use Rattle.rule_model.specs.BoundModel.{BoundModel}
@@ -63,12 +64,6 @@ got-take (suc n) [] k low = refl
 got-take (suc n) (x ∷ xs) zero low = refl
 got-take (suc n) (x ∷ xs) (suc k) low = got-take n xs k (omega (arith, low))
 
-got-drop : {X : Type 0} (n : ℕ) (xs : List X) (k there : ℕ) → there ≡ n + k → slice_get (drop n xs) k ≡ slice_get xs there
-got-drop zero xs k there is = let same : k ≡ there = omega (arith, is) in ap (slice_get xs) same
-got-drop (suc n) [] k there is = refl
-got-drop (suc n) (x ∷ xs) k zero is = absurd (omega (arith, is))
-got-drop (suc n) (x ∷ xs) k (suc there) is = got-drop n xs k there (omega (arith, is))
-
 pub sets-there : (feeders : List Feeder) (place : ℕ) (feeder : Feeder) → place < length feeders → feeder ≡ get_or feeders place feeder
     → sets_at feeders place ≡ Some feeder.area.sets
 sets-there feeders place feeder low is =
@@ -87,7 +82,7 @@ module _ (feeders : List Feeder) (place end : ℕ) (span : IsSpan feeders place 
 
   sets-within : (k : ℕ) → k < end - place → sets_at (slice_range feeders place end) k ≡ sets_at feeders place
   sets-within k low =
-      ap (option_map (λ (f : Feeder). f.area.sets)) (got-take (end - place) (drop place feeders) k low ∙ got-drop place feeders k (place + k) refl)
+      ap (option_map (λ (f : Feeder). f.area.sets)) (got-take (end - place) (drop place feeders) k low ∙ slice_get-drop_at feeders place k)
       ∙ span.alike (place + k) (omega arith) (omega (arith, low))
 
   -- a feeder of the span has the area of the first

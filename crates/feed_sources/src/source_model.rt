@@ -16,12 +16,12 @@ use rule_model::{CubeRules, Model, place_of};
 use std::alloc::{AllocError, Global};
 
 /// A model in which sources of feeders are found fast: with, of each leaf of its dimensions, the elements that the leaf
-/// counts in, and the feeders in a row that have the same area.
+/// counts in, and feeders in a row that are known to have the same area.
 #[derive(Drop)]
 pub struct SourceModel {
     model: Model,
     above: Vec<Above>,
-    // Of each cube, of each of its feeders, the place behind those in a row from it on that have its area.
+    // Of each cube, of each of its feeders, a place up to which those from it on have its area.
     ends: Vec<ListOf<usize>>,
 }
 
@@ -75,8 +75,8 @@ impl SourceModel {
         self.model.rules(cube)
     }
 
-    /// The place behind the feeders of a cube that stand in a row from this place on and have the same area. Those
-    /// of one feeder statement do.
+    /// A place behind this one, up to which the feeders of a cube from this one on have the same area. It may come
+    /// before the end of them: long lists of elements aren't compared.
     pub fn span_end(&self, cube: u32, place: usize) -> usize
         requires cube { cube < length self.now.space.cubes }
         requires place { place < length (rules_of self.now cube).feeders }

@@ -11,8 +11,8 @@ use std::alloc::{AllocError, Global};
 // A longer list isn't compared, so that many targets of a statement with a long list cost no product.
 const MAX_COMPARED: usize = 4_096;
 
-/// Of each cube, of each of its feeders, the place behind those in a row from it on that have its area. A feeder
-/// statement has a feeder for each of its targets, so they are as long as its list of targets.
+/// Of each cube, of each of its feeders, a place up to which those from it on have its area. A feeder statement has a
+/// feeder for each of its targets, so a row is as long as its list of targets.
 pub fn spans_of_cubes(alloc: Global, model: &Model) -> Result<Vec<ListOf<usize>>, AllocError>
     ensures { IfOk result (λ ends. AllZip AreSpansOf model.now.rules ends.items) }
 {
@@ -38,7 +38,7 @@ fn spans_of(alloc: Global, feeders: &[Feeder]) -> Result<ListOf<usize>, AllocErr
     Ok(ListOf::new(ends))
 }
 
-// The place behind the feeders in a row from this one on that have its area, where those of later feeders are known.
+// A place up to which the feeders from this one on have its area, where those of later feeders are known.
 fn span_end(feeders: &[Feeder], ends: &[usize], place: usize) -> usize
     requires place { place < length feeders.now }
     requires whole { length ends.now ≡ length feeders.now }
@@ -56,7 +56,7 @@ fn span_end(feeders: &[Feeder], ends: &[usize], place: usize) -> usize
     ends[next]
 }
 
-// Whether two areas have the same sets, and list few elements.
+// Whether it is known at once that two areas have the same sets: both list few elements.
 fn are_alike(one: &Area, other: &Area) -> bool
     ensures { IsTrue result → one.now.sets ≡ other.now.sets }
 {

@@ -18,9 +18,9 @@ use Rattle.read_sources.specs.declared.parting.Parted.{Parted}
 use Rattle.read_sources.specs.Ways.{precedent, way_of}
 use Rattle.read_sources.specs.Sources.{IsRead, IsReadBy, AreSourcesOf, most_sources}
 use Rattle.read_sources.specs.Parts.{IsAlike, IsShared, IsMember, IsPlaced, AreParts, IsOfGroup, IsPut, ArePartsOfAll, members_in}
-use Rattle.read_sources.specs.Parts.{IsReadLike, IsStoodFor, Joins}
+use Rattle.read_sources.specs.Parts.{IsReadLike, SomeMakesArrowsOf, Joins}
 use Rattle.read_sources.proofs.Placed.{get-either, get-first, get-second}
-use Rattle.read_sources.proofs.StoodFor.{stands-itself}
+use Rattle.read_sources.proofs.SameArrows.{makes-own}
 
 -- ---- lists
 
@@ -91,19 +91,19 @@ module _ (m : BoundModel) (s : Source) (old new : Parted) (read : IsRead m s) wh
       few_members = λ g. omega (arith, ap (λ gs. length (row gs g)) groups, h.few_members g);
     };
     keeps = λ t placed. elim placed [
-      | inl was ↦ inl (stays-for t singles was)
+      | inl was ↦ inl (stays-made t singles was)
       | inr member ↦ inr (kept-member t (omega (arith, ap (λ (xs : List Source). length xs) heads)) (λ g has. subst (λ gs. Contains (row gs g) t) (sym groups) has) member)
     ];
     placed = inl (record {
       k = length old.singles.items;
       one = s;
       here = ap (λ xs. slice_get xs (length old.singles.items)) singles ∙ get-second old.singles.items (s ∷ []) (length old.singles.items) 0 s (omega arith) refl;
-      stands = stands-itself m s;
+      makes = makes-own m s;
     });
   }
     where
-      stays-for : (t : Source) → new.singles.items ≡ old.singles.items ++ s ∷ [] → IsStoodFor m old.singles.items t → IsStoodFor m new.singles.items t
-      stays-for t singles was = record {
+      stays-made : (t : Source) → new.singles.items ≡ old.singles.items ++ s ∷ [] → SomeMakesArrowsOf m old.singles.items t → SomeMakesArrowsOf m new.singles.items t
+      stays-made t singles was = record {
         k = was.k;
         one = was.one;
         here = ap (λ xs. slice_get xs was.k) singles ∙ get-first old.singles.items (s ∷ []) was.k was.one was.here;
@@ -124,7 +124,7 @@ module _ (m : BoundModel) (s : Source) (old new : Parted) (read : IsRead m s) wh
       few_members = λ g. omega (arith, ap (λ gs. length (row gs g)) groups, more-long old.groups.items (s ∷ []) g (suc count) (λ h'. omega (arith, h.few_members h')) (omega arith));
     };
     keeps = λ t placed. elim placed [
-      | inl was ↦ inl (subst (λ xs. IsStoodFor m xs t) (sym singles) was)
+      | inl was ↦ inl (subst (λ xs. SomeMakesArrowsOf m xs t) (sym singles) was)
       | inr member ↦ inr (kept-member t (omega (arith, ap (λ (xs : List Source). length xs) heads, length-append old.heads.items (s ∷ []))) (λ g has. subst (λ gs. Contains (row gs g) t) (sym groups) (has-more old.groups.items (s ∷ []) g t has)) member)
     ];
     placed = inr (record {
@@ -165,7 +165,7 @@ module _ (m : BoundModel) (s : Source) (old new : Parted) (read : IsRead m s) wh
       few_members = λ i. long count h i (eqb_tells g i);
     };
     keeps = λ t placed. elim placed [
-      | inl was ↦ inl (subst (λ xs. IsStoodFor m xs t) (sym singles) was)
+      | inl was ↦ inl (subst (λ xs. SomeMakesArrowsOf m xs t) (sym singles) was)
       | inr member ↦ inr (kept-member t (omega (arith, ap (λ (xs : List Source). length xs) heads)) (λ i has. on i t has (eqb_tells g i)) member)
     ];
     placed = inr (record {
@@ -212,8 +212,8 @@ module _ (m : BoundModel) (s : Source) (old new : Parted) (read : IsRead m s) wh
           subst (IsAlike m head) own (subst (λ x. IsAlike m x s) equal of_group.alike)
 
 -- a source for which a single one stands
-pub put-stood : (m : BoundModel) (s : Source) (parted : Parted) → IsStoodFor m parted.singles.items s → IsPut m s parted parted
-put-stood m s parted stood = record {
+pub put-made : (m : BoundModel) (s : Source) (parted : Parted) → SomeMakesArrowsOf m parted.singles.items s → IsPut m s parted parted
+put-made m s parted made = record {
   parts = λ count h. record {
     singles = h.singles;
     heads = h.heads;
@@ -225,7 +225,7 @@ put-stood m s parted stood = record {
     few_members = λ g. omega (arith, h.few_members g);
   };
   keeps = λ t placed. placed;
-  placed = inl stood;
+  placed = inl made;
 }
 
 -- ---- all of them
@@ -282,13 +282,13 @@ weak-by m cube area kind read s own same_area same_kind same_read is =
     ∙ ap (is_weak m cube area kind) same_read
 
 read-like : (m : BoundModel) (singles sources : List Source) (cube : ℕ) (statement : Statement) (kind : Bool) (read : Precedent) (by : IsReadBy sources cube statement kind read) → IsRead m by.source
-    → IsStoodFor m singles by.source → IsReadLike m singles cube statement kind read
-read-like m singles sources cube statement kind read by is stood = record {
-  k = stood.k;
-  source = stood.one;
-  here = stood.here;
-  weak = stood.stands.weak ∙ weak-by m cube statement.area kind read by.source by.own by.area by.same_kind by.same_read is;
-  joins = λ from to joined. stood.stands.joins from to (joined-by m cube statement.area kind read by.source by.own by.area by.same_kind by.same_read from to joined);
+    → SomeMakesArrowsOf m singles by.source → IsReadLike m singles cube statement kind read
+read-like m singles sources cube statement kind read by is made = record {
+  k = made.k;
+  source = made.one;
+  here = made.here;
+  weak = made.makes.weak ∙ weak-by m cube statement.area kind read by.source by.own by.area by.same_kind by.same_read is;
+  joins = λ from to joined. made.makes.joins from to (joined-by m cube statement.area kind read by.source by.own by.area by.same_kind by.same_read from to joined);
 }
 
 pub parts-of-all : (m : BoundModel) (sources : List Source) (k : ℕ) (parted : Parted) → length sources ≤ k → k ≤ most_sources → AreSourcesOf m sources → AreParted m sources k parted → ArePartsOfAll m parted
@@ -305,7 +305,7 @@ parts-of-all m sources k parted long few are so = record {
   };
   all = λ cube statement kind read there stands reads level not_lagged. (let by = are.all cube statement kind read there stands reads level not_lagged in
       elim (so.each by.k by.source (omega (arith, slice_get_within sources by.k by.source by.here, long)) by.here) [
-        | inl stood ↦ inl (read-like m parted.singles.items sources cube statement kind read by (are.read by.k by.source by.here) stood)
+        | inl made ↦ inl (read-like m parted.singles.items sources cube statement kind read by (are.read by.k by.source by.here) made)
         | inr member ↦ inr (record { source = by.source; member = member; own = by.own; area = by.area; same_kind = by.same_kind; same_read = by.same_read })
       ]);
 }

@@ -6,8 +6,8 @@ pub mod Likeness
 pub mod Lists
 pub mod Named
 pub mod Placed
+pub mod SameArrows
 pub mod Serving
 pub mod Sourced
-pub mod StoodFor
 pub mod Weak
 pub mod Within

@@ -44,16 +44,16 @@ abbrev pub Joins : BoundModel → Source → Node → Node → Type 0
 Joins m s = IsJoinedByDimension m s.cube s.area.now s.kind (precedent s)
 
 -- a source makes each arrow that another one makes
-pub record StandsFor (m : BoundModel) (one other : Source) : Type 0 where
+pub record MakesArrowsOf (m : BoundModel) (one other : Source) : Type 0 where
   pub weak : one.weak ≡ other.weak
   pub joins : (from to : Node) → Joins m other from to → Joins m one from to
 
 -- and one of these sources does
-pub record IsStoodFor (m : BoundModel) (sources : List Source) (other : Source) : Type 0 where
+pub record SomeMakesArrowsOf (m : BoundModel) (sources : List Source) (other : Source) : Type 0 where
   pub k : ℕ
   pub one : Source
   pub here : slice_get sources k ≡ Some one
-  pub stands : StandsFor m one other
+  pub makes : MakesArrowsOf m one other
 
 -- a source that always reads the node of one element
 abbrev pub IsShared : Follows → Type 0
@@ -76,7 +76,7 @@ pub record IsMember (m : BoundModel) (heads : List Source) (groups : List (List 
 
 -- a single source makes the arrows of a source, or that is in a group
 abbrev pub IsPlaced : BoundModel → Parted → Source → Type 0
-IsPlaced m parted s = IsStoodFor m parted.singles.items s ⊎ IsMember m parted.heads.items parted.groups.items s
+IsPlaced m parted s = SomeMakesArrowsOf m parted.singles.items s ⊎ IsMember m parted.heads.items parted.groups.items s
 
 -- all are read, and those of a group are like its head; there are at most so many
 pub record AreParts (m : BoundModel) (count : ℕ) (parted : Parted) : Type 0 where

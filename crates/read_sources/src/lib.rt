@@ -14,9 +14,9 @@ mod part;
 mod parting;
 mod reading;
 mod reads;
+mod same_arrows;
 mod source;
 mod sources;
-mod standing;
 mod tables;
 mod ways;
 

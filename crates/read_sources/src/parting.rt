@@ -2,13 +2,13 @@ ghost use Rattle.std.specs.Prelude.{◌≡◌, ◌<◌, ◌≤◌, [], ◌∷◌
 ghost use Rattle.std.specs.Prelude.{slice_index_or, slice_set};
 ghost use Rattle.read_sources.specs.Ways.{IsSource, way_of};
 ghost use Rattle.read_sources.specs.Sources.{IsRead, AreSourcesOf, most_sources};
-ghost use Rattle.read_sources.specs.Parts.{IsShared, IsOfGroup, IsStoodFor, IsPut, ArePartsOfAll};
+ghost use Rattle.read_sources.specs.Parts.{IsShared, IsOfGroup, SomeMakesArrowsOf, IsPut, ArePartsOfAll};
 
 use crate::alike::{is_shared, serve_alike};
 use crate::group::Group;
 use crate::mark::{MARKS, mark_of};
 use crate::source::Source;
-use crate::standing::stands_for;
+use crate::same_arrows::makes_arrows_of;
 use rule_model::Model;
 use std::alloc::{AllocError, Global};
 
@@ -113,21 +113,21 @@ fn put_single<'a>(
     ensures { OnOk result (IsPut model.now source.entry parted.old parted.new) }
 {
     match last {
-        Some(k) if is_stood_for(model, source, k, parted) => Ok(last),
+        Some(k) if is_made_by_single(model, source, k, parted) => Ok(last),
         _ => Ok(Some(add_single(source, parted)?)),
     }
 }
 
 // Whether it is known at once that the single source of this number makes the arrows of a source.
-fn is_stood_for(model: &Model, source: Source, k: u32, parted: &Parted) -> bool
+fn is_made_by_single(model: &Model, source: Source, k: u32, parted: &Parted) -> bool
     requires source { IsSource model.now source }
     requires read { IsRead model.now source }
     requires singles { All (IsSource model.now) parted.now.singles.items }
     requires single { All (IsRead model.now) parted.now.singles.items }
-    ensures { IsTrue result → IsStoodFor model.now parted.now.singles.items source.entry }
+    ensures { IsTrue result → SomeMakesArrowsOf model.now parted.now.singles.items source.entry }
 {
     match single_of(parted, k) {
-        Some(one) => stands_for(model, one, source),
+        Some(one) => makes_arrows_of(model, one, source),
         None => false,
     }
 }

@@ -92,6 +92,12 @@ GoesOnWith {C = C} {T = T} content after s private writes next =
     (below : C) (layer : T) → content private ≡ after below layer → s.unfit below layer ≡ None
     → (s.unfit below (s.join layer writes) ≡ None) × (content next ≡ after below (s.join layer writes))
 
+-- over whichever content the layer of such a state was laid, it no longer fits with these writes
+abbrev pub FitsNoMore : {S C K T R : Type 0} → (S → C) → (C → T → C) → Sandboxing C K T R → S → T → Type 0
+FitsNoMore {C = C} {T = T} content after s private writes =
+    (below : C) (layer : T) → content private ≡ after below layer → s.unfit below layer ≡ None
+    → s.unfit below (s.join layer writes) ≡ None → ⊥
+
 -- the user's layer, where what the code keeps of it means these writes
 abbrev pub layer_in : {Y S T : Type 0} → (Y → T) → Option (SandboxOf Y S) → Option T
 layer_in kept None = None

@@ -1,6 +1,6 @@
-ghost use Rattle.std.specs.Prelude.{◌≡◌, IfOk, IfSome, OnOk, OnErr};
+ghost use Rattle.std.specs.Prelude.{◌≡◌, IfOk, IfSome, None, OnOk, OnErr};
 ghost use Rattle.history.specs.declared.effect.Effect.TheVariants.{Commit};
-ghost use Rattle.sandbox.specs.Sandboxes.{GoesOnWith, IsOver, Sandboxing};
+ghost use Rattle.sandbox.specs.Sandboxes.{FitsNoMore, GoesOnWith, IsOver, Sandboxing};
 
 use crate::act::Note;
 use history::World;
@@ -47,7 +47,7 @@ pub trait Layered: World {
             (sandbox.unfit (Self.content state.now) (kept_writes layer.now)) over) };
 
     /// The state over which a layer is laid, after the writes of a command that is accepted on it: the state with these
-    /// writes kept too. None where that passes a limit, or where it is cheaper to lay the layer anew.
+    /// writes kept too. None where the layer no longer fits with them.
     fn go_on(
         alloc: Global,
         private: &Self::State,
@@ -56,7 +56,9 @@ pub trait Layered: World {
         requires accepted { (command : Self.Command) × (reply : Self.Reply)
             × (Self.effect (Self.content private.now) command ≡ Commit writes.now reply) }
         ensures goes_on { IfOk result (λ next. IfSome next (λ next.
-            GoesOnWith Self.content Self.after sandbox private.now writes.now next)) };
+            GoesOnWith Self.content Self.after sandbox private.now writes.now next)) }
+        ensures none { IfOk result (λ next. next ≡ None
+            → FitsNoMore Self.content Self.after sandbox private.now writes.now) };
 
     /// The reply to an act that opens or ends a sandbox.
     fn note(alloc: Global, note: Note) -> Result<Self::Reply, AllocError>

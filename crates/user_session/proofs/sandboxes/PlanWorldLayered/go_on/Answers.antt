@@ -10,4 +10,5 @@ returns c =
       goes_on = λ below layer same fits.
           goes_on (content_of c.args.private.now) (content_of c.in_ok-next.next) below layer c.args.writes.now
           (accepted-within (content_of c.args.private.now) accepted.0 c.args.writes.now accepted.1 accepted.2) c.in_ok-next.ensures.next same fits;
+      none = λ is. absurd (cc);
     }

@@ -11,7 +11,7 @@ use Rattle.arrow_laws.specs.ByDimension.{is_from, HasOtherTotal, SuitsKind}
 use Rattle.read_sources.specs.declared.source.Source.{Source}
 use Rattle.read_sources.specs.Ways.{Follows, Same, Component, Always, Sent, SentOver, IsSource, precedent, way_of, reads_from, cube_read}
 use Rattle.read_sources.specs.Sources.{IsRead, found_in}
-use Rattle.read_sources.specs.Parts.{IsAlike, AreSetsSame, Joins, StandsFor}
+use Rattle.read_sources.specs.Parts.{IsAlike, AreSetsSame, Joins, MakesArrowsOf}
 use Rattle.read_sources.proofs.Named.{IsNamedAs, named-as, as-named}
 
 -- where other dimensions have a consolidated element by the one test, they have one by the other
@@ -70,8 +70,8 @@ module _ (m : BoundModel) (valid : IsSpace m.space) (one other : Source) (is : I
       let at_cube = subst (λ c. IsNamedAs m c other.area.now one.kind (precedent other) (way_of m one) from to) (sym alike.cube) at_kind in
       named-alike m one.cube one.kind other.area.now one.area.now (precedent other) (precedent one) (way_of m one) from to tests others at_cube
 
-  pub stands-for : one.weak ≡ other.weak → cube_read one ≡ cube_read other → StandsFor m one other
-  stands-for weak target = record { weak = weak; joins = joins }
+  pub makes-arrows-of : one.weak ≡ other.weak → cube_read one ≡ cube_read other → MakesArrowsOf m one other
+  makes-arrows-of weak target = record { weak = weak; joins = joins }
     where
       joins : (from to : Node) → Joins m other from to → Joins m one from to
       joins from to j =
@@ -85,5 +85,5 @@ module _ (m : BoundModel) (valid : IsSpace m.space) (one other : Source) (is : I
                 (named from.element to.element (named-as m other.cube other.area.now other.kind (precedent other) from.element to.element j.named));
           }
 
-pub stands-itself : (m : BoundModel) (s : Source) → StandsFor m s s
-stands-itself m s = record { weak = refl; joins = λ from to j. j }
+pub makes-own : (m : BoundModel) (s : Source) → MakesArrowsOf m s s
+makes-own m s = record { weak = refl; joins = λ from to j. j }

@@ -1,7 +1,7 @@
 ghost use Rattle.std.specs.Prelude.{◌≡◌, IsTrue};
 ghost use Rattle.read_sources.specs.Ways.{IsSource, follows_of};
 ghost use Rattle.read_sources.specs.Sources.{IsRead};
-ghost use Rattle.read_sources.specs.Parts.{StandsFor};
+ghost use Rattle.read_sources.specs.Parts.{MakesArrowsOf};
 
 use crate::alike::{list_alike, serve_alike};
 use crate::follows::Way;
@@ -12,12 +12,12 @@ use rule_model::Model;
 
 /// Whether it is known at once that a source makes each arrow that another one makes: both read from the same elements,
 /// and what they read follows in the same way.
-pub fn stands_for(model: &Model, one: Source, other: Source) -> bool
+pub fn makes_arrows_of(model: &Model, one: Source, other: Source) -> bool
     requires one { IsSource model.now one }
     requires other { IsSource model.now other }
     requires read { IsRead model.now one }
     requires its { IsRead model.now other }
-    ensures { IsTrue result → StandsFor model.now one.entry other.entry }
+    ensures { IsTrue result → MakesArrowsOf model.now one.entry other.entry }
 {
     let _space = model.space();
     if one.weak != other.weak || cube_read(one) != cube_read(other) {
