@@ -7,8 +7,8 @@ ghost use Rattle.read_sources.specs.Parts.{IsShared, IsOfGroup, SomeMakesArrowsO
 use crate::alike::{is_shared, serve_alike};
 use crate::group::Group;
 use crate::mark::{MARKS, mark_of};
-use crate::source::Source;
 use crate::same_arrows::makes_arrows_of;
+use crate::source::Source;
 use rule_model::Model;
 use std::alloc::{AllocError, Global};
 
