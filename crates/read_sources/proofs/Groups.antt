@@ -107,7 +107,7 @@ module _ (m : BoundModel) (s : Source) (old new : Parted) (read : IsRead m s) wh
         k = was.k;
         one = was.one;
         here = ap (λ xs. slice_get xs was.k) singles ∙ get-first old.singles.items (s ∷ []) was.k was.one was.here;
-        stands = was.stands;
+        makes = was.makes;
       }
 
   pub put-begin : new.singles.items ≡ old.singles.items → new.heads.items ≡ old.heads.items ++ s ∷ [] → new.groups.items ≡ old.groups.items ++ (s ∷ []) ∷ []
@@ -211,7 +211,7 @@ module _ (m : BoundModel) (s : Source) (old new : Parted) (read : IsRead m s) wh
           let equal : of_group.head ≡ head = some_same (sym of_group.at ∙ ap (slice_get old.heads.items) is ∙ at) in
           subst (IsAlike m head) own (subst (λ x. IsAlike m x s) equal of_group.alike)
 
--- a source for which a single one stands
+-- a source whose arrows a single one makes
 pub put-made : (m : BoundModel) (s : Source) (parted : Parted) → SomeMakesArrowsOf m parted.singles.items s → IsPut m s parted parted
 put-made m s parted made = record {
   parts = λ count h. record {
