@@ -1,22 +1,9 @@
-ghost use Rattle.std.specs.Prelude.{◌≡◌, ◌<◌, length, slice_get, slice_index_or, Some, All, IsTrue};
-ghost use Rattle.dim_core.specs.Outline.{Outline};
-ghost use Rattle.dim_weights.specs.Table.{IsWeightsOf};
+ghost use Rattle.std.specs.Prelude.{◌≡◌, ◌<◌, length, slice_get, slice_index_or, All, IsTrue};
 ghost use Rattle.cube_space.specs.Layout.{axes, sizes};
 ghost use Rattle.cover_laws.specs.Covered.{leaves_at, counts_in};
 
-use dim_weights::Weights;
-use ref_order::axis;
+use ref_order::{axis, weights};
 use rule_model::Model;
-
-// How much the leaves of a dimension of a cube, by its place, count in its elements.
-fn weights(model: &Model, cube: u32, dim: usize) -> &Weights
-    requires cube { cube < length model.now.space.cubes }
-    requires dim { dim < length (axes model.now.space cube) }
-    ensures { (d : Outline) → slice_get (axes model.now.space cube) dim ≡ Some d → IsWeightsOf d result.now }
-{
-    let number = model.space().shape(cube).dims.as_slice()[dim];
-    &model.weights()[number as usize]
-}
 
 /// The leaves that count in an element of a dimension of a cube, each with how much.
 pub fn leaves(model: &Model, cube: u32, dim: usize, element: u32) -> &[(u32, i64)]

@@ -12,7 +12,7 @@ pub use known::Known;
 pub use most::{count, element_at, has_total, most_excess};
 pub use number::{is_below, is_within};
 pub use reads::Read;
-pub use scale::{MAX_POSITIONS, axis, axis_count};
+pub use scale::{MAX_POSITIONS, axis, axis_count, weights};
 
 mod alike;
 mod area_cells;

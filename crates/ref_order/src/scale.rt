@@ -1,10 +1,13 @@
 ghost use Rattle.std.specs.Prelude.{◌≡◌, ◌<◌, ◌≤◌, length, Some, slice_get, slice_index_or};
+ghost use Rattle.dim_core.specs.Outline.{Outline};
+ghost use Rattle.dim_weights.specs.Table.{IsWeightsOf};
 ghost use Rattle.cube_space.specs.Layout.{axes, sizes, most_dimensions};
 ghost use Rattle.cube_space.specs.Cells.{IsSpace};
 ghost use Rattle.rule_model.specs.declared.order.Position.TheVariants.{Constant};
 ghost use Rattle.order_laws.specs.Earlier.{scale_of, position_scale, rank_at, level_in};
 
 use dim_core::Dimension;
+use dim_weights::Weights;
 use rule_model::{Model, Position};
 
 /// How many positions the order of a cube has at most. At the place after the last one stands the level.
@@ -20,6 +23,16 @@ pub fn axis(model: &Model, cube: u32, dim: usize) -> &Dimension
 {
     let space = model.space();
     space.dimension(space.shape(cube).dims.as_slice()[dim])
+}
+
+/// How much the leaves of a dimension of a cube, by its place, count in its elements.
+pub fn weights(model: &Model, cube: u32, dim: usize) -> &Weights
+    requires cube { cube < length model.now.space.cubes }
+    requires dim { dim < length (axes model.now.space cube) }
+    ensures { (d : Outline) → slice_get (axes model.now.space cube) dim ≡ Some d → IsWeightsOf d result.now }
+{
+    let number = model.space().shape(cube).dims.as_slice()[dim];
+    &model.weights()[number as usize]
 }
 
 /// How many dimensions a cube has.

@@ -1,7 +1,7 @@
 use Rattle.std.proofs.Common.{arith}
 use Rattle.ref_order.proofs.Axes.{axis-low}
-use Rattle.feed_cover.proofs.Tables.{table-at}
-use Rattle.feed_cover.proofs.table.weights.Goals as goal
+use Rattle.ref_order.proofs.Weighing.{table-at}
+use Rattle.ref_order.proofs.scale.weights.Goals as goal
 
 pub offset_bounds-as_slice-dim : goal.offset_bounds-as_slice-dim
 offset_bounds-as_slice-dim c =
