@@ -2,7 +2,7 @@
 //!
 //! - [`spread`] gives the writes, or why there are none.
 //! - [`How`] says whether each cell gets the same or in proportion to what is stored in it.
-//! - The laws say what the writes come to: just the amount, each within a millionth of its share, and nothing else.
+//! - The laws say that the writes are just the amount, each within a millionth of its share, and nothing else.
 //!
 //! `specs/Spread.antt` says which writes these are, and `specs/Shares.antt` how an amount is shared out.
 #![tactic(auto)]

@@ -14,7 +14,7 @@ pub struct Hints {
 }
 
 impl Hints {
-    /// None is known yet: the first feeder of each cube stands for it.
+    /// None is known yet: the first feeder of each cube is tried first.
     pub fn new() -> Hints {
         Hints {
             feeders: Cell::new([0; SLOTS]),

@@ -18,8 +18,8 @@ pub fn layered_runs_make_a_history<W: Answering>()
     ensures runs { LayeredHistoryHasRuns W.answer W.after }
 {}
 
-/// What a user is told follows from the writes of the history, the places and the user's own commands. So what another
-/// user keeps in a layer changes none of it.
+/// The replies to a user follow from the writes of the history, the places and the user's own commands. So what another
+/// user keeps in a layer changes none of them.
 pub fn a_layer_is_seen_by_its_user_alone<W: Answering>()
     ensures determined { RepliesAreDetermined W.answer W.after }
     ensures alone { LayerIsSeenAlone W.answer W.after }

@@ -2,7 +2,7 @@
 //! model.
 //!
 //! A node is a cube and an element of its last dimension. [`find`] gives the orders, or why there are none;
-//! `specs/Found.antt` says what it comes to, and `specs/Circles.antt` what a circle of arrows is. [`NodeGraph`] has the
+//! `specs/Found.antt` says what it finds, and `specs/Circles.antt` what a circle of arrows is. [`NodeGraph`] has the
 //! arrows that the statements of a model make between nodes, as `least_ranks` asks for them; `specs/Slots.antt` says
 //! which. Ranks that fit the graph are ranks that fit the arrows of the model (`arrow_laws`), and the other way round.
 #![tactic(auto)]

@@ -43,7 +43,7 @@ pub fn the_bytes_tell_the_history()
     ensures { TheBytesTellTheHistory }
 {}
 
-/// What another user keeps in a sandbox and doesn't publish changes nothing that a user is told.
+/// What another user keeps in a sandbox and doesn't publish changes none of a user's replies.
 pub fn a_sandbox_is_seen_by_its_user_alone()
     ensures { SandboxIsSeenByItsUserAlone }
 {

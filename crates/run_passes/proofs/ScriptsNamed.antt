@@ -1,4 +1,4 @@
--- The scripts that a model's files stand for are those that it names.
+-- The scripts that a model's files mean are those that it names.
 use Rattle.std.proofs.Common.{◌≡◌, ◌≤◌, ℕ, List, length, ◌∙◌}
 use Rattle.file_passes.specs.Pass.{Readings}
 use Rattle.judged_files.specs.Scripts.{AreNamed}

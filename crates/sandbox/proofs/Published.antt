@@ -55,7 +55,7 @@ module _ {C K T R : Type 0} (effect : C → K → Effect T R) (after : C → T �
   in_turn : (content : C) (kept : List T) → after content (joined s kept) ≡ fold after content kept
   in_turn content kept = from_joined content s.none kept ∙ ap (λ c. fold after c kept) (lawful.nothing content)
 
-  -- the same reply, and lists that stand for the same layers
+  -- the same reply, and lists that mean the same layers
   kept_alike : (kept : List T) (found : Effect T R)
       → ((kept_in s (joined s kept) found).0 ≡ (added_in s kept found).0) × ((kept_in s (joined s kept) found).1 ≡ layer_of s (added_in s kept found).1)
   kept_alike kept (Commit writes reply) = (refl, ap Some (sym (fold_push s.join s.none kept writes)))

@@ -137,7 +137,7 @@ module _ {S C K T R V : Type 0} (content : S → C) (effect : C → K → Effect
       let p = (user_sound effect after value core number user stored.sound here).pin place pin in
       omega (arith, p.within, stored.all)
 
-  -- a state stands for the version of its place
+  -- a state has the content of the version of its place
   pub version_here : (core : CoreState C K T R V) (versions : List S) (place : ℕ) (state : S) → IsStored content effect after value core versions
       → place < length versions → state ≡ slice_index_or versions place state → content state ≡ version after core.first core.log place
   version_here core versions place state stored below is = stored.are_versions place state (slice_get_read versions (length versions) place state refl below is)
