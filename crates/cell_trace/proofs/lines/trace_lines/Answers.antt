@@ -1,0 +1,28 @@
+use Rattle.std.proofs.Common.{◌≡◌, ◌++◌, [], sym, ap, ◌∙◌, if◌then◌else◌}
+use Rattle.std.specs.Prelude.{reverse}
+use Rattle.std.proofs.lemmas.List.{append-nil}
+use Rattle.cell_trace.specs.Trace.{trace_lines}
+use Rattle.cell_trace.specs.Inside.Items.{entered_lines_at}
+use Rattle.cell_trace.specs.Inside.Parts.{own_lines_at}
+use Rattle.cell_trace.specs.Inside.Place.{scene_at}
+use Rattle.cell_trace.proofs.ListingFacts.{trace_is}
+use Rattle.cell_trace.proofs.lines.trace_lines.Goals as goal
+use Rattle.cell_trace.proofs.lines.trace_lines.Goals.{then-chain+in_ok-put_own_lines, else-chain}
+
+pub returns-clause-lines : goal.returns-clause-lines
+returns-clause-lines c =
+    let p = c.new-here.result in
+    let chain = c.in_ok-chain.chain in
+    let entered = entered_lines_at p [] (reverse chain.entered.items) in
+    let so_far : c.put_entered.new.lines.items ≡ entered = c.in_ok-put_entered.ensures.lines ∙ ap (λ ls. ls ++ entered) c.new-lines.ensures.items in
+    let all : c.if-chain.lines.items ≡ entered ++ (if chain.takes_own then own_lines_at p else []) =
+    elim c.if-chain.branch [
+      | then-chain+in_ok-put_own_lines w ↦
+          ap (λ v. v.items) w.lines-is ∙ w.in_ok-put_own_lines.ensures.lines ∙ ap (λ ls. ls ++ own_lines_at p) so_far
+          ∙ ap (λ b. entered ++ (if b then own_lines_at p else [])) (sym w.if-chain.true)
+      | else-chain w ↦
+          ap (λ v. v.items) w.lines-is ∙ so_far ∙ sym (append-nil entered)
+          ∙ ap (λ b. entered ++ (if b then own_lines_at p else [])) (sym w.if-chain.false)
+    ] in
+    all ∙ trace_is p chain.takes_own (reverse chain.entered.items) c.in_ok-chain.ensures.chain.takes_own c.in_ok-chain.ensures.chain.entered
+    ∙ ap (λ q. trace_lines (scene_at q)) c.new-here.ensures
