@@ -10,9 +10,11 @@
 //! |['Sales'] = N: ['Units'] * ['Price'];
 //! file user                                          PUT and GET commands
 //! |GET 'Plan' ('Actual', 'Q1', 'Sales');
+//! file trace                                         GET commands, whose cells are traced after all others
 //! ```
 //!
-//! A case prints, for each command, whether its number is stored, or the value that the snapshot reads; and last how
+//! A case prints, for each command, whether its number is stored, or the value that the snapshot reads; then the traces
+//! that are asked for, with an empty name in place of the rule file's; and last how
 //! many cells there are, where every way of reading gives each of them the same value, or else the first cell that is
 //! read otherwise.
 #![tactic(auto)]
@@ -23,6 +25,7 @@ mod models;
 use crate::compared::compared;
 use crate::models::{file, snapshot_of};
 use cell_reader::Snapshot;
+use cell_trace::trace;
 use cube_fixed::print;
 use rule_model::{cell_of, is_input};
 use std::alloc::{AllocError, Global};
@@ -41,6 +44,7 @@ pub fn readings(alloc: Global, lines: &str) -> Result<Vec<u8>, AllocError> {
         snapshot = after(alloc, snapshot, &command.body, &mut told)?;
         told.push(b'\n')?;
     }
+    traces(alloc, lines, &mut snapshot, &mut told)?;
     compared(alloc, &mut snapshot, &mut told)?;
     Ok(told)
 }
@@ -69,4 +73,35 @@ fn after(
     }
     told.extend_from_slice(b"refused")?;
     Ok(snapshot)
+}
+
+// The traces that the file `trace` asks for, where a case has one.
+fn traces(
+    alloc: Global,
+    lines: &str,
+    snapshot: &mut Snapshot,
+    told: &mut Vec<u8>,
+) -> Result<(), AllocError> {
+    let Ok(commands) = user_text::parse(alloc, &file(alloc, lines, "trace")?, 0) else {
+        return Ok(());
+    };
+    for command in &commands {
+        put_trace(alloc, snapshot, &command.body, told)?;
+    }
+    Ok(())
+}
+
+fn put_trace(
+    alloc: Global,
+    snapshot: &mut Snapshot,
+    command: &UserBody,
+    told: &mut Vec<u8>,
+) -> Result<(), AllocError> {
+    if let UserBody::Get(at) = command
+        && let Some(cell) = cell_of(snapshot.model(), &at.cube, at.elements.as_slice())
+    {
+        told.extend_from_slice(&trace(alloc, snapshot, &[], cell)?)?;
+        told.push(b'\n')?;
+    }
+    Ok(())
 }
