@@ -1,4 +1,3 @@
-mod Splits
 pub mod Rising
 mod InOrder
 mod Runs

@@ -1,7 +1,7 @@
 -- The feeders of a cube as they are filed, and what a number finds among them.
-use Rattle.std.proofs.Common.{◌≡◌, ◌↔◌, ℕ, ℤ, IsTrue, zero, suc, ◌+◌, ◌-◌, ◌*◌, ◌^◌, ◌<◌, ◌≤◌, Bool, true, false, not, ◌&&◌, cond, List, [], ◌∷◌, ◌++◌, length, map, filter, get_or, take, drop, drop-cons, append_assoc, Option, Some, None, IfSome, inl, inr, refl, sym, ap, ◌∙◌, subst, arith, eqb, leb, ltb, All, slice_get}
+use Rattle.std.proofs.Common.{◌≡◌, ◌↔◌, ℕ, ℤ, IsTrue, zero, suc, ◌+◌, ◌-◌, ◌*◌, ◌^◌, ◌<◌, ◌≤◌, Bool, true, false, ◌&&◌, cond, List, [], ◌∷◌, ◌++◌, length, map, filter, get_or, take, drop, drop-cons, append_assoc, Option, Some, None, IfSome, inl, inr, refl, sym, ap, ◌∙◌, subst, arith, eqb, leb, ltb, All, slice_get}
 use Rattle.std.specs.Prelude.{slice_index_or}
-use Rattle.std.specs.List.{AllWithin, AllZip, range_with_len, cons_option}
+use Rattle.std.specs.List.{AllZip, range_with_len, cons_option}
 use Rattle.std.specs.List.Sorted.{IsStableByKey}
 use Rattle.std.specs.Ordering.{nat_cmp}
 use Rattle.std.proofs.lemmas.Bool.{and_parts, and_from, ne_eqb, cases_lt}
@@ -32,33 +32,7 @@ use Rattle.rule_model.specs.Inside.Files.{NamesElements, IsFile, AreFiles, IsLow
 use Rattle.rule_model.proofs.Shapes.{few_sizes, shape_dims, dims_within}
 use Rattle.rule_model.proofs.Components.{axis_at}
 
--- ---- what a partition point splits a list into
-
-abbrev Passes : {X : Type 0} → (X → Bool) → List X → ℕ → Type 0
-Passes p xs i = AllWithin (λ x. p x ≡ true) xs 0 i
-
-abbrev Fails : {X : Type 0} → (X → Bool) → List X → ℕ → Type 0
-Fails p xs i = AllWithin (λ x. p x ≡ false) xs i (length xs)
-
-pub take_at_point : {X : Type 0} (p : X → Bool) (xs : List X) (i : ℕ) → i ≤ length xs → Passes p xs i → Fails p xs i → take i xs ≡ filter p xs
-take_at_point p [] zero h passes fails = refl
-take_at_point p [] (suc i) h passes fails = refl
-take_at_point p (x ∷ xs) zero h passes fails =
-    let here : p x ≡ false = fails 0 x (omega arith) (omega arith) in
-    rw here (take_at_point p xs zero (omega arith) (λ k d low high. absurd (omega arith)) (λ k d low high. fails (suc k) d (omega arith) (omega arith)))
-take_at_point p (x ∷ xs) (suc i) h passes fails =
-    let here : p x ≡ true = passes 0 x (omega arith) (omega arith) in
-    rw here (ap (λ ys. x ∷ ys) (take_at_point p xs i (omega arith) (λ k d low high. passes (suc k) d (omega arith) (omega arith)) (λ k d low high. fails (suc k) d (omega arith) (omega arith))))
-
-pub drop_at_point : {X : Type 0} (p q : X → Bool) → ((x : X) → q x ≡ not (p x)) → (xs : List X) (i : ℕ) → i ≤ length xs → Passes p xs i → Fails p xs i → drop i xs ≡ filter q xs
-drop_at_point p q other [] zero h passes fails = refl
-drop_at_point p q other [] (suc i) h passes fails = refl
-drop_at_point p q other (x ∷ xs) zero h passes fails =
-    let here : p x ≡ false = fails 0 x (omega arith) (omega arith) in
-    rw (other x, here) (ap (λ ys. x ∷ ys) (drop_at_point p q other xs zero (omega arith) (λ k d low high. absurd (omega arith)) (λ k d low high. fails (suc k) d (omega arith) (omega arith))))
-drop_at_point p q other (x ∷ xs) (suc i) h passes fails =
-    let here : p x ≡ true = passes 0 x (omega arith) (omega arith) in
-    rw (other x, here) (drop_at_point p q other xs i (omega arith) (λ k d low high. passes (suc k) d (omega arith) (omega arith)) (λ k d low high. fails (suc k) d (omega arith) (omega arith)))
+-- ---- what stands from a place on
 
 pub rest_taken : {X : Type 0} (n : ℕ) (xs : List X) → take (length xs - n) (drop n xs) ≡ drop n xs
 rest_taken n xs = ap (λ m. take m (drop n xs)) (sym (length-drop n xs)) ∙ take-length (drop n xs)

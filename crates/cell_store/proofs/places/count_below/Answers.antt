@@ -1,7 +1,7 @@
 -- The tests of the cells split the items at the point that is found.
 use Rattle.std.proofs.Common.{ltb, leb, rules}
 use Rattle.std.proofs.lemmas.List.Sorted.{IsPartitionPoint-from_clause, IsPartitionedBy-ltb}
-use Rattle.cell_store.proofs.Splits.{take_at_point, drop_at_point}
+use Rattle.lists.proofs.Point.{take_at_point, drop_at_point}
 use Rattle.cell_store.proofs.InOrder.{IsNonDecreasingBy-from_rising, leb_not_ltb}
 use Rattle.cell_store.proofs.places.count_below.Goals as goal
 

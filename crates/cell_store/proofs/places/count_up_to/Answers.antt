@@ -1,7 +1,7 @@
 -- The tests of the cells split the items at the point that is found.
 use Rattle.std.proofs.Common.{leb, ltb, rules}
 use Rattle.std.proofs.lemmas.List.Sorted.{IsPartitionPoint-from_clause, IsPartitionedBy-leb}
-use Rattle.cell_store.proofs.Splits.{take_at_point, drop_at_point}
+use Rattle.lists.proofs.Point.{take_at_point, drop_at_point}
 use Rattle.cell_store.proofs.InOrder.{IsNonDecreasingBy-from_rising, ltb_not_leb}
 use Rattle.cell_store.proofs.places.count_up_to.Goals as goal
 

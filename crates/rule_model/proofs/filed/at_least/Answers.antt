@@ -2,7 +2,8 @@ use Rattle.std.proofs.Common.{leb, ltb, not, ◌≡◌, ℕ, ◌∙◌, rules, a
 use Rattle.std.proofs.lemmas.Bool.Decides.{nat_tests}
 use Rattle.std.proofs.lemmas.List.Sorted.{IsPartitionPoint-from_clause, IsPartitionedBy-ltb}
 use Rattle.rule_model.specs.declared.filed.FiledFeeder.{FiledFeeder}
-use Rattle.rule_model.proofs.Filing.{drop_at_point, rest_taken}
+use Rattle.lists.proofs.Point.{drop_at_point}
+use Rattle.rule_model.proofs.Filing.{rest_taken}
 use Rattle.rule_model.proofs.filed.at_least.Goals as goal
 
 other : (n key : ℕ) → leb key n ≡ not (ltb n key)

@@ -1,7 +1,7 @@
 use Rattle.std.proofs.Common.{leb, rules}
 use Rattle.std.proofs.lemmas.List.Sorted.{IsPartitionPoint-from_clause, IsPartitionedBy-leb}
 use Rattle.rule_model.specs.declared.filed.FiledFeeder.{FiledFeeder}
-use Rattle.rule_model.proofs.Filing.{take_at_point}
+use Rattle.lists.proofs.Point.{take_at_point}
 use Rattle.rule_model.proofs.filed.at_most.Goals as goal
 
 pub returns-clause-those : goal.returns-clause-those

@@ -2,10 +2,10 @@
 use Rattle.std.proofs.Common.{◌≡◌, ℕ, zero, suc, ◌≤◌, Bool, true, false, not, List, [], ◌∷◌, length, take, drop, refl, ap, arith, filter}
 use Rattle.std.specs.List.{AllWithin}
 
-abbrev Passes : {X : Type 0} → (X → Bool) → List X → ℕ → Type 0
+abbrev pub Passes : {X : Type 0} → (X → Bool) → List X → ℕ → Type 0
 Passes p xs i = AllWithin (λ x. p x ≡ true) xs 0 i
 
-abbrev Fails : {X : Type 0} → (X → Bool) → List X → ℕ → Type 0
+abbrev pub Fails : {X : Type 0} → (X → Bool) → List X → ℕ → Type 0
 Fails p xs i = AllWithin (λ x. p x ≡ false) xs i (length xs)
 
 -- the part before the point is what passes
