@@ -41,6 +41,10 @@ fn add_command(alloc: Global, lines: &mut Lines, command: &UserCommand) -> Resul
             let cube = shown(cell.cube.shown());
             lines.add(&(line, "SPREAD", cube, elements, amount.millionths(), how));
         }
+        UserBody::Trace(cell) => {
+            let elements = names(alloc, cell.elements.as_slice())?;
+            lines.add(&(line, "TRACE", shown(cell.cube.shown()), elements));
+        }
         UserBody::Sandbox => lines.add(&(line, "SANDBOX")),
         UserBody::Publish => lines.add(&(line, "PUBLISH")),
         UserBody::Discard => lines.add(&(line, "DISCARD")),

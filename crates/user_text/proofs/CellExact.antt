@@ -1,4 +1,4 @@
--- The readers of names, cells and numbers are exact, and so are those of PUT and GET.
+-- The readers of names, cells and numbers are exact, and so are those of PUT, GET and TRACE.
 use Rattle.std.proofs.Common.{ℕ, List, false, codes}
 use Rattle.std.specs.Str.{bytes_eq}
 use Rattle.cube_lex.specs.Lexeme.{Lexeme}
@@ -9,8 +9,8 @@ use Rattle.grammar.proofs.Begins.{Begins, begins_both, exact_before_next}
 use Rattle.grammar.proofs.Lists.{names_exact, minus_exact}
 use Rattle.grammar.proofs.Tokens.{exact_sign, exact_word, exact_name, exact_money, sign_begins, sign_no_word, value_no_sign, money_is_value}
 use Rattle.user_text.specs.Counting.{count, counting}
-use Rattle.user_text.specs.UserText.{cell, signed, amount, put, get}
-use Rattle.user_text.specs.Readers.Reading.{read_cell, read_amount, read_put, read_get}
+use Rattle.user_text.specs.UserText.{cell, signed, amount, put, get, trace}
+use Rattle.user_text.specs.Readers.Reading.{read_cell, read_amount, read_put, read_get, read_trace}
 use Rattle.user_text.specs.declared.command.UserBody.TheVariants as bodies
 use Rattle.user_text.specs.declared.command.UserCommand.{UserCommand}
 
@@ -35,6 +35,11 @@ pub get_exact : Exact counting get get read_get Always
 unfolding read_get
 get_exact = exact_then (exact_word count (codes "GET")) (λ line. exact_then cell_exact (λ target. exact_then (exact_sign count (codes ";"))
     (λ _. exact_gives counting (record { line = line; body = bodies.Get target }))))
+
+pub trace_exact : Exact counting trace trace read_trace Always
+unfolding read_trace
+trace_exact = exact_then (exact_word count (codes "TRACE")) (λ line. exact_then cell_exact (λ target. exact_then (exact_sign count (codes ";"))
+    (λ _. exact_gives counting (record { line = line; body = bodies.Trace target }))))
 
 -- `;` at a command's end
 abbrev pub closed : UserCommand → Grammar Lexeme UserCommand

@@ -4,7 +4,7 @@ use Rattle.grammar.specs.Tokens.{is_sign, is_word}
 use Rattle.grammar.proofs.Lists.{listed_settles, names_settle, minus_settles}
 use Rattle.grammar.proofs.Settles.{Settles, settles_one, settles_gives, settles_both, settles_choose, settles_all, settles_all_after}
 use Rattle.user_text.specs.Counting.{count}
-use Rattle.user_text.specs.Readers.Reading.{is_command_word, read_cell, read_amount, read_put, read_get, read_skip, read_source, read_value, read_param, read_next_param, read_further_params, read_params, read_load, read_elements, read_set, read_next_set, read_axis, read_point, read_points, read_nozeros, read_view, read_spread_word, read_spread, read_alone, read_of_sandboxes, read_command, read_user}
+use Rattle.user_text.specs.Readers.Reading.{is_command_word, read_cell, read_amount, read_put, read_get, read_skip, read_source, read_value, read_param, read_next_param, read_further_params, read_params, read_load, read_elements, read_set, read_next_set, read_axis, read_point, read_points, read_nozeros, read_view, read_spread_word, read_spread, read_trace, read_alone, read_of_sandboxes, read_command, read_user}
 use Rattle.user_text.specs.declared.command.ParamText.{ParamText}
 use Rattle.user_text.specs.declared.command.UserBody.{UserBody}
 
@@ -93,6 +93,10 @@ spread_settles : Settles read_spread
 unfolding read_spread
 spread_settles = settles_both (settles_one _ _) (λ line. settles_both cell_settles (λ target. settles_both (settles_one _ _) (λ _. settles_both amount_settles (λ value. settles_both spread_word_settles (λ how. settles_both (settles_one _ _) (λ _. settles_gives _))))))
 
+trace_settles : Settles read_trace
+unfolding read_trace
+trace_settles = settles_both (settles_one _ _) (λ line. settles_both cell_settles (λ target. settles_both (settles_one _ _) (λ _. settles_gives _)))
+
 alone_settles : (called : List ℕ) (body : UserBody) → Settles (read_alone called body)
 unfolding read_alone
 alone_settles called body = settles_both (settles_one _ _) (λ line. settles_both (settles_one _ _) (λ _. settles_gives _))
@@ -103,7 +107,7 @@ sandboxes_settle = settles_choose _ (alone_settles _ _) (settles_choose _ (alone
 
 command_settles : Settles read_command
 unfolding read_command
-command_settles = settles_choose _ put_settles (settles_choose _ get_settles (settles_choose _ load_settles (settles_choose _ view_settles (settles_choose _ spread_settles sandboxes_settle))))
+command_settles = settles_choose _ put_settles (settles_choose _ get_settles (settles_choose _ load_settles (settles_choose _ view_settles (settles_choose _ spread_settles (settles_choose _ trace_settles sandboxes_settle)))))
 
 pub user_settles : Settles read_user
 unfolding read_user

@@ -200,6 +200,14 @@ spread = do
   one (sign (codes ";"))
   done (record { line = line; body = bodies.Spread target value how })
 
+-- "TRACE" cell ";"
+abbrev pub trace : Grammar Lexeme UserCommand
+trace = do
+  line ← one (word (codes "TRACE"))
+  target ← cell
+  one (sign (codes ";"))
+  done (record { line = line; body = bodies.Trace target })
+
 -- a word that is a whole command
 abbrev pub alone : List ℕ → UserBody → Grammar Lexeme UserCommand
 alone called body = do
@@ -224,7 +232,7 @@ abbrev pub of_sandboxes : Grammar Lexeme UserCommand
 of_sandboxes = either sandbox (either publish discard)
 
 abbrev pub command : Grammar Lexeme UserCommand
-command = either put (either get (either load (either view (either spread of_sandboxes))))
+command = either put (either get (either load (either view (either spread (either trace of_sandboxes)))))
 
 -- { command }
 abbrev pub user : Grammar Lexeme (List UserCommand)

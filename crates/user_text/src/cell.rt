@@ -68,3 +68,18 @@ pub fn get_at(alloc: Global, cursor: &mut Cursor<'_, Counted>) -> Result<UserCom
     let body = UserBody::Get(target);
     Ok(UserCommand { line, body })
 }
+
+/// Reads `TRACE cell ;`.
+#[tactic(auto, unfolding(crate::specs::Readers::Reading::read_trace))]
+pub fn trace_at(
+    alloc: Global,
+    cursor: &mut Cursor<'_, Counted>,
+) -> Result<UserCommand, Stop<TooMany>>
+    ensures { Reads (λ command. command) reading.read_trace cursor.old result cursor.new }
+{
+    let line = word(cursor, b"TRACE")?;
+    let target = cell_at(alloc, cursor)?;
+    sign(cursor, b";")?;
+    let body = UserBody::Trace(target);
+    Ok(UserCommand { line, body })
+}

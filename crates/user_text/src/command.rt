@@ -67,6 +67,8 @@ pub enum UserBody {
     Load(LoadText),
     View(ViewText),
     Spread(CellText, Money, SpreadWord),
+    /// Asks why a cell has its value.
+    Trace(CellText),
     /// Opens a sandbox: what the user writes from here on is kept apart, and only this user sees it.
     Sandbox,
     /// Commits what the sandbox has, as one commit, and closes it.

@@ -1,5 +1,5 @@
-//! A user's commands, read from their text: `PUT`, `GET`, `LOAD`, `VIEW`, `SPREAD`, and `SANDBOX`, `PUBLISH` and
-//! `DISCARD`.
+//! A user's commands, read from their text: `PUT`, `GET`, `LOAD`, `VIEW`, `SPREAD`, `TRACE`, and `SANDBOX`, `PUBLISH`
+//! and `DISCARD`.
 //!
 //! Read in this order: [`parse`], which reads a whole text; [`UserCommand`], what it gives; [`UserFault`], why it
 //! refuses. [`LoadParams`] are the parameters of a load. [`rows`] reads the [`Records`] of a load's

@@ -4,7 +4,7 @@ ghost use Rattle.user_text.specs.Answers.{Answers};
 ghost use Rattle.user_text.specs.Counting.{most_commands};
 ghost use Rattle.user_text.specs.Readers.Reading as reading;
 
-use crate::cell::{get_at, put_at};
+use crate::cell::{get_at, put_at, trace_at};
 use crate::command::UserCommand;
 use crate::counted::Counted;
 use crate::fault::{TooMany, UserFault};
@@ -31,6 +31,8 @@ fn command_at(alloc: Global, cursor: &mut Cursor<'_, Counted>) -> Result<UserCom
         view_at(alloc, cursor)
     } else if word_comes(cursor, b"SPREAD") {
         spread_at(alloc, cursor)
+    } else if word_comes(cursor, b"TRACE") {
+        trace_at(alloc, cursor)
     } else {
         of_sandboxes_at(cursor)
     }
@@ -54,6 +56,7 @@ impl RepeatedItem<UserCommand, TooMany, Counted> for NextCommand {
             || word_comes(cursor, b"LOAD")
             || word_comes(cursor, b"VIEW")
             || word_comes(cursor, b"SPREAD")
+            || word_comes(cursor, b"TRACE")
             || of_sandboxes_comes(cursor)
     }
 

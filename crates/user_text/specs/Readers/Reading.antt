@@ -159,6 +159,13 @@ read_spread = do
   take_sign (codes ";")
   gives (record { line = line; body = bodies.Spread target value how })
 
+unfoldable pub read_trace : Plan UserCommand
+read_trace = do
+  line ← take_word (codes "TRACE")
+  target ← read_cell
+  take_sign (codes ";")
+  gives (record { line = line; body = bodies.Trace target })
+
 unfoldable pub read_alone : List ℕ → UserBody → Plan UserCommand
 read_alone called body = do
   line ← take_word called
@@ -178,13 +185,13 @@ read_of_sandboxes =
 abbrev pub is_command_word : Lexeme → Bool
 is_command_word t =
     is_word (codes "PUT") t || (is_word (codes "GET") t || (is_word (codes "LOAD") t || (is_word (codes "VIEW") t ||
-    (is_word (codes "SPREAD") t || is_sandbox_word t))))
+    (is_word (codes "SPREAD") t || (is_word (codes "TRACE") t || is_sandbox_word t)))))
 
 unfoldable pub read_command : Plan UserCommand
 read_command =
     choose (is_word (codes "PUT")) read_put (choose (is_word (codes "GET")) read_get (choose (is_word
     (codes "LOAD")) read_load (choose (is_word (codes "VIEW")) read_view (choose (is_word
-    (codes "SPREAD")) read_spread read_of_sandboxes))))
+    (codes "SPREAD")) read_spread (choose (is_word (codes "TRACE")) read_trace read_of_sandboxes)))))
 
 unfoldable pub read_user : Plan (List UserCommand)
 read_user = all_of is_command_word read_command
