@@ -1,5 +1,6 @@
 -- The statements of the cell's cube, one after another.
-use Rattle.std.proofs.Common.{inl, inr, All, ◌++◌, ◌≡◌, refl, sym, ap, ◌∙◌, subst, ℕ, zero, suc, ◌+◌, ◌<◌, ◌≤◌, arith, Bool, true, false, ◌&&◌, ◌||◌, List, [], ◌∷◌, length, map, drop, get_or, Option, Some, None}
+use Rattle.std.proofs.Common.{inl, inr, All, ◌++◌, ◌≡◌, refl, sym, ap, ◌∙◌, subst, ℕ, zero, suc, ◌+◌, ◌<◌, ◌≤◌, arith, Bool, true, false, ◌&&◌, ◌||◌, List, [], ◌∷◌, length, map, drop, get_or, Option, Some, None, Result, Ok, Err, IfOk}
+use Rattle.std.specs.declared.alloc.AllocError.{AllocError}
 use Rattle.std.specs.Prelude.{is_some, option_map, option_and_then, slice_get, if◌then◌else◌}
 use Rattle.std.specs.List.{position}
 use Rattle.std.specs.Option.{option_map_or}
@@ -27,7 +28,7 @@ use Rattle.cell_trace.specs.declared.item.Item.{Item}
 use Rattle.cell_trace.specs.declared.next.Next.{Next}
 use Rattle.cell_trace.specs.Visits.{Visit, visit}
 use Rattle.cell_trace.specs.Trace.{Scene, reaches_own, reaches_rest, first_number, formula_of, given, items_of, statements, system, takes_own, value_of}
-use Rattle.cell_trace.specs.Inside.Chain.{IsChain, IsFound, IsNext, IsPart, entered_from, takes_from, value_from, visit_at}
+use Rattle.cell_trace.specs.Inside.Chain.{IsChain, IsFound, IsNext, IsPart, entered_from, entered_with, takes_from, takes_with, value_from, visit_at}
 use Rattle.cell_trace.specs.Inside.Entering.{entered, entry}
 use Rattle.cell_trace.specs.Inside.Items.{IsItem, IsListable, numbered}
 use Rattle.cell_trace.specs.Inside.Place.{Place, children_at, given_at, has_components_at, named_at, scene_at, stet_at, target_at}
@@ -310,14 +311,17 @@ module _ (p : Place) where
     listable-by true e = All-push (IsListable p) later.entered.items one (after_this e).listable one-listable
     listable-by false e = All-cons (IsListable p) one [] one-listable (All-nil (IsListable p))
 
-    pub at-next : (chain : Chain) → chain.value ≡ found.value
-        → chain.takes_own ≡ (reaches_own items || (reaches_rest items && later.takes_own))
-        → chain.entered.items ≡ (if reaches_rest items then later.entered.items else []) ++ one ∷ []
+    at-entry : (chain : Chain) → chain.value ≡ found.value → chain.takes_own ≡ takes_with found later → chain.entered.items ≡ entered_with next found later
         → IsChain p next.place chain
-    at-next chain value own entered =
+    at-entry chain value own entered =
         record {
           value = value ∙ value-found;
           takes_own = own ∙ ap (λ b. reaches_own items || b) (takes-by (reaches_rest items) refl) ∙ takes-found;
           entered = ap reverse entered ∙ entered-by (reaches_rest items) refl ∙ entered-found;
           listable = subst (All (IsListable p)) (sym entered) (listable-by (reaches_rest items) refl);
         }
+
+    pub at-next : (r : Result Chain AllocError) → IfOk r (λ chain. chain.value ≡ found.value) → IfOk r (λ chain. chain.takes_own ≡ takes_with found later)
+        → IfOk r (λ chain. chain.entered.items ≡ entered_with next found later) → IfOk r (IsChain p next.place)
+    at-next (Ok chain) value own entered = at-entry chain value own entered
+    at-next (Err e) value own entered = tt

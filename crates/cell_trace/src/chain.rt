@@ -1,5 +1,5 @@
-ghost use Rattle.std.specs.Prelude.{◌≡◌, ◌+◌, [], true, IfOk};
-ghost use Rattle.cell_trace.specs.Inside.Chain.{IsChain, IsFound, IsPart, visit_at};
+ghost use Rattle.std.specs.Prelude.{◌≡◌, [], IfOk};
+ghost use Rattle.cell_trace.specs.Inside.Chain.{IsChain, IsFound, IsPart, entered_with, takes_with};
 ghost use Rattle.cell_trace.specs.Inside.Place.{given_at};
 ghost use Rattle.cell_trace.specs.Inside.Sums.{IsReady};
 ghost use Rattle.cell_trace.specs.Trace.{reaches_own, reaches_rest};
@@ -91,11 +91,11 @@ pub(crate) fn chain_from(
     let alone = find(here, &next, &Value::ZERO, known, reader)?;
     if !reaches_rest(alone.visited.as_slice()) {
         let later = Chain::none(here.alloc(), Value::ZERO, false);
-        return with_entered(here, &next, alone, later);
+        return with_entered(&next, alone, later);
     }
     let later = chain_from(here, next.place as usize + 1, known, reader)?;
     let found = find(here, &next, &later.value, known, reader)?;
-    with_entered(here, &next, found, later)
+    with_entered(&next, found, later)
 }
 
 // Finds what a statement's formula gives, where the statements after it give `rest`.
@@ -119,13 +119,12 @@ fn find(
     })
 }
 
-// What a statement gives the cell before those that come after it. What these give doesn't matter where evaluation
-// doesn't reach `CONTINUE`.
-fn with_entered(here: &Here, next: &Next, found: Found, later: Chain) -> Result<Chain, AllocError>
-    requires part { IsPart here.now next.now }
-    requires found { IsFound (visit_at here.now next.now) found }
-    requires later { reaches_rest found.visited ≡ true → IsChain here.now (next.now.place + 1) later }
-    ensures chain { IfOk result (IsChain here.now next.now.place) }
+// What a statement gives the cell, where this is found in it, before those that come after it. What these give doesn't
+// matter where evaluation doesn't reach `CONTINUE`.
+fn with_entered(next: &Next, found: Found, later: Chain) -> Result<Chain, AllocError>
+    ensures value { IfOk result (λ chain. chain.value ≡ found.value) }
+    ensures own { IfOk result (λ chain. chain.takes_own ≡ takes_with found later) }
+    ensures entered { IfOk result (λ chain. chain.entered.items ≡ entered_with next.now found later) }
 {
     let continued = reaches_rest(found.visited.as_slice());
     let takes_own = reaches_own(found.visited.as_slice()) || continued && later.takes_own;
