@@ -1,5 +1,6 @@
 -- The statements of the cell's cube, one after another.
-use Rattle.std.proofs.Common.{inl, inr, All, ◌++◌, ◌≡◌, refl, sym, ap, ◌∙◌, subst, ℕ, zero, suc, ◌+◌, ◌<◌, ◌≤◌, arith, Bool, true, false, ◌&&◌, ◌||◌, List, [], ◌∷◌, length, map, drop, get_or, Option, Some, None}
+use Rattle.std.proofs.Common.{inl, inr, All, ◌++◌, ◌≡◌, refl, sym, ap, ◌∙◌, subst, ℕ, zero, suc, ◌+◌, ◌<◌, ◌≤◌, arith, Bool, true, false, ◌&&◌, ◌||◌, List, [], ◌∷◌, length, map, drop, get_or, Option, Some, None, Result, Ok, Err, IfOk}
+use Rattle.std.specs.declared.alloc.AllocError.{AllocError}
 use Rattle.std.specs.Prelude.{is_some, option_map, option_and_then, slice_get, if◌then◌else◌}
 use Rattle.std.specs.List.{position}
 use Rattle.std.specs.Option.{option_map_or}
@@ -19,17 +20,21 @@ use Rattle.rule_laws.specs.RuleSystem.{Rule, base, part_at, value_at}
 use Rattle.rule_laws.proofs.StatementRuns.{some-none}
 use Rattle.rule_model.specs.declared.rules.Statement.{Statement}
 use Rattle.rule_model.specs.Governing.{governing_from, has_part}
-use Rattle.rule_model.specs.Input.{has_continue}
 use Rattle.rule_model.specs.System.{rule_of, system_of}
 use Rattle.cell_trace.specs.declared.chain.Chain.{Chain}
+use Rattle.cell_trace.specs.declared.chain.Found.{Found}
 use Rattle.cell_trace.specs.declared.entered.Entered.{Entered}
+use Rattle.cell_trace.specs.declared.item.Item.{Item}
 use Rattle.cell_trace.specs.declared.next.Next.{Next}
 use Rattle.cell_trace.specs.Visits.{Visit, visit}
-use Rattle.cell_trace.specs.Trace.{Scene, reaches_own, reaches_rest, entered, first_number, formula_of, given, items_of, statements, system, takes_own, value_of}
-use Rattle.cell_trace.specs.Inside.Chain.{IsChain, IsNext, IsPart, entered_from, takes_from, value_from}
-use Rattle.cell_trace.specs.Inside.Items.{IsListable}
+use Rattle.cell_trace.specs.Trace.{Scene, reaches_own, reaches_rest, first_number, formula_of, given, items_of, statements, system, takes_own, value_of}
+use Rattle.cell_trace.specs.Inside.Chain.{IsChain, IsFound, IsNext, IsPart, entered_from, entered_with, takes_from, takes_with, value_from, visit_at}
+use Rattle.cell_trace.specs.Inside.Entering.{entered, entry}
+use Rattle.cell_trace.specs.Inside.Items.{IsItem, IsListable, numbered}
 use Rattle.cell_trace.specs.Inside.Place.{Place, children_at, given_at, has_components_at, named_at, scene_at, stet_at, target_at}
-use Rattle.cell_trace.proofs.VisitFacts.{visit_items, visit_numbered, visit_value, without_continue}
+use Rattle.cell_trace.proofs.VisitFacts.{visit_items, visit_numbered}
+use Rattle.cell_trace.proofs.RestFacts.{without_rest}
+use Rattle.cell_trace.proofs.VisitLaws.{meaning}
 
 off-none : {X : Type 0} (o : Option X) → is_some o ≡ false → o ≡ None
 off-none None is = refl
@@ -144,7 +149,7 @@ module _ (p : Place) where
 
   entered_step : ℕ → Statement → List Statement → List Entered → Formula → List Entered
   entered_step place st later x f =
-      record { place = place; first = first_number ((system s).is_leaf s.cell) st; visited = items_of s later f }
+      entry s place st later f
       ∷ (if reaches_rest (items_of s later f) then x else [])
 
   entered-turns : (place : ℕ) (sts : List Statement) → entered s place sts ≡ turns [] entered_step place sts
@@ -179,27 +184,24 @@ module _ (p : Place) where
   )
 
   -- what evaluation reaches in the formula
-  abbrev pub visit_at : Next → Visit
-  visit_at next = visit (given_at p (value_from p (suc next.place))) next.formula.now
-
-  visit_is : (next : Next) → visit (given s (value_of s (drop (suc next.place) all))) next.formula.now ≡ visit_at next
+  visit_is : (next : Next) → visit (given s (value_of s (drop (suc next.place) all))) next.formula.now ≡ visit_at p next
   unfolding value_from
   visit_is next = ap (λ g. visit g next.formula.now) (given_is p (value_of s (drop (suc next.place) all)))
 
   -- what the statement at a place gives, before those after it
-  pub value-at : (next : Next) → IsPart p next → value_from p next.place ≡ (visit_at next).value
+  pub value-at : (next : Next) → IsPart p next → value_from p next.place ≡ (visit_at p next).value
   unfolding value_from value_step
   value-at next part =
       let later = drop (suc next.place) all in
       let at = at-part base_value value_step next part in
       value-turns next.place (drop next.place all) ∙ at.3
       ∙ ap (λ x. value_at (system s) s.stored s.values s.cell x next.formula.now) (sym (value-turns (suc next.place) later))
-      ∙ sym (visit_value (given s (value_of s later)) next.formula.now)
+      ∙ sym (meaning (given s (value_of s later)) next.formula.now)
       ∙ ap (λ v. v.value) (visit_is next)
 
   pub entered-at : (next : Next) → IsPart p next
-      → entered_from p next.place ≡ record { place = next.place; first = next.first; visited = (visit_at next).items }
-      ∷ (if reaches_rest (visit_at next).items then entered_from p (suc next.place) else [])
+      → entered_from p next.place ≡ record { place = next.place; first = next.first; visited = (visit_at p next).items }
+      ∷ (if reaches_rest (visit_at p next).items then entered_from p (suc next.place) else [])
   unfolding entered_from entered_step system_of
   entered-at next part =
       let later = drop (suc next.place) all in
@@ -214,7 +216,7 @@ module _ (p : Place) where
       (visit_is next)
 
   pub takes-at : (next : Next) → IsPart p next
-      → takes_from p next.place ≡ (reaches_own (visit_at next).items || (reaches_rest (visit_at next).items && takes_from p (suc next.place)))
+      → takes_from p next.place ≡ (reaches_own (visit_at p next).items || (reaches_rest (visit_at p next).items && takes_from p (suc next.place)))
   unfolding takes_from takes_step
   takes-at next part =
       let later = drop (suc next.place) all in
@@ -247,74 +249,79 @@ module _ (p : Place) where
         listable = subst (All (IsListable p)) (sym entered) (All-nil (IsListable p));
       }
 
-  -- a statement with a part, where this is found of those after it, which don't matter where CONTINUE isn't in its formula
-  module _ (next : Next) (part : IsPart p next) (later : Chain) (after : has_continue next.formula.now ≡ true → IsChain p (next.place + 1) later) where
-    abbrev found : Visit
-    found = visit (given_at p later.value) next.formula.now
+  -- what is found in the formula before any value, where evaluation doesn't reach CONTINUE
+  pub found-alone : (next : Next) (rest : Value) (found : Found) → IsFound (visit (given_at p rest) next.formula.now) found
+      → reaches_rest found.visited ≡ false → IsFound (visit_at p next) found
+  found-alone next rest found is off =
+      let same = without_rest p rest (value_from p (suc next.place)) next.formula.now (ap reaches_rest (sym is.visited) ∙ off) in
+      subst (λ v. IsFound v found) (sym same) is
 
-    with-later : (on : Bool) → has_continue next.formula.now ≡ on → found ≡ visit_at next
-    with-later true is = ap (λ v. visit (given_at p v) next.formula.now) ((after is).value ∙ ap (value_from p) (omega arith))
-    with-later false is = (without_continue (given_at p later.value) (value_from p (suc next.place)) next.formula.now is).0
+  -- and before what those after it give
+  pub found-before : (next : Next) (later : Chain) (found : Found) → IsChain p (next.place + 1) later
+      → IsFound (visit (given_at p later.value) next.formula.now) found → IsFound (visit_at p next) found
+  found-before next later found after is =
+      let next_place : next.place + 1 ≡ suc next.place = omega arith in
+      subst (λ v. IsFound v found) (ap (λ x. visit (given_at p x) next.formula.now) (after.value ∙ ap (value_from p) next_place)) is
 
-    visit_found : found ≡ visit_at next
-    visit_found = with-later (has_continue next.formula.now) refl
+  -- a statement with a part, of which this is found, and that of those after it, which don't matter where evaluation
+  -- doesn't reach CONTINUE
+  module _ (next : Next) (part : IsPart p next) (found : Found) (is : IsFound (visit_at p next) found) (later : Chain)
+      (after : reaches_rest found.visited ≡ true → IsChain p (next.place + 1) later) where
+    abbrev items : List (Option Item)
+    items = found.visited
 
-    kept : (on : Bool) → has_continue next.formula.now ≡ on → (rests : Bool) → reaches_rest found.items ≡ rests → rests ≡ true → IsChain p (suc next.place) later
-    kept true is rests e on = subst (λ n. IsChain p n later) (omega arith) (after is)
-    kept false is rests e on =
-        let off = (without_continue (given_at p later.value) later.value next.formula.now is).1 in
-        let clash : false ≡ true = sym off ∙ e ∙ on in
-        absurd (cc clash)
+    after_this : reaches_rest items ≡ true → IsChain p (suc next.place) later
+    after_this on = let next_place : next.place + 1 ≡ suc next.place = omega arith in subst (λ n. IsChain p n later) next_place (after on)
 
     abbrev one : Entered
-    one = record { place = next.place; first = next.first; visited = found.items }
+    one = record { place = next.place; first = next.first; visited = items }
 
     one-listable : IsListable p one
     one-listable =
-        let own = visit_numbered (given_at p later.value) next.formula.now in
+        let rest = value_from p (suc next.place) in
+        let own = ap numbered is.visited ∙ visit_numbered (given_at p rest) next.formula.now in
         record {
           place = omega (arith, part.within, part.few_statements);
           references = omega (arith, own, part.few_references);
-          cells = visit_items p later.value next.formula.now;
+          cells = subst (All (IsItem p)) (sym is.visited) (visit_items p rest next.formula.now);
         }
 
     value-found : found.value ≡ value_from p next.place
-    value-found = ap (λ v. v.value) visit_found ∙ sym (value-at next part)
+    value-found = is.value ∙ sym (value-at next part)
 
-    takes-found : (reaches_own found.items || (reaches_rest found.items && takes_from p (suc next.place))) ≡ takes_from p next.place
-    takes-found =
-        ap (λ (v : Visit). reaches_own v.items || (reaches_rest v.items && takes_from p (suc next.place))) visit_found
-        ∙ sym (takes-at next part)
+    takes-found : (reaches_own items || (reaches_rest items && takes_from p (suc next.place))) ≡ takes_from p next.place
+    takes-found = ap (λ xs. reaches_own xs || (reaches_rest xs && takes_from p (suc next.place))) is.visited ∙ sym (takes-at next part)
 
-    entered-found : one ∷ (if reaches_rest found.items then entered_from p (suc next.place) else []) ≡ entered_from p next.place
+    entered-found : one ∷ (if reaches_rest items then entered_from p (suc next.place) else []) ≡ entered_from p next.place
     entered-found =
-        ap (λ (v : Visit). record { place = next.place; first = next.first; visited = v.items } ∷ (if reaches_rest v.items then entered_from p (suc next.place) else []))
-        visit_found
+        ap (λ xs. record { place = next.place; first = next.first; visited = xs } ∷ (if reaches_rest xs then entered_from p (suc next.place) else []))
+        is.visited
         ∙ sym (entered-at next part)
 
-    takes-by : (rests : Bool) → reaches_rest found.items ≡ rests → (rests && later.takes_own) ≡ (rests && takes_from p (suc next.place))
-    takes-by true e = (kept (has_continue next.formula.now) refl true e refl).takes_own
+    takes-by : (rests : Bool) → reaches_rest items ≡ rests → (rests && later.takes_own) ≡ (rests && takes_from p (suc next.place))
+    takes-by true e = (after_this e).takes_own
     takes-by false e = refl
 
-    entered-by : (rests : Bool) → reaches_rest found.items ≡ rests
+    entered-by : (rests : Bool) → reaches_rest items ≡ rests
         → reverse ((if rests then later.entered.items else []) ++ one ∷ []) ≡ one ∷ (if rests then entered_from p (suc next.place) else [])
-    entered-by true e =
-        reverse-append later.entered.items (one ∷ []) ∙ ap (λ es. one ∷ es) (kept (has_continue next.formula.now) refl true e refl).entered
+    entered-by true e = reverse-append later.entered.items (one ∷ []) ∙ ap (λ es. one ∷ es) (after_this e).entered
     entered-by false e = refl
 
-    listable-by : (rests : Bool) → reaches_rest found.items ≡ rests → All (IsListable p) ((if rests then later.entered.items else []) ++ one ∷ [])
-    listable-by true e =
-        All-push (IsListable p) later.entered.items one (kept (has_continue next.formula.now) refl true e refl).listable one-listable
+    listable-by : (rests : Bool) → reaches_rest items ≡ rests → All (IsListable p) ((if rests then later.entered.items else []) ++ one ∷ [])
+    listable-by true e = All-push (IsListable p) later.entered.items one (after_this e).listable one-listable
     listable-by false e = All-cons (IsListable p) one [] one-listable (All-nil (IsListable p))
 
-    pub at-next : (chain : Chain) → chain.value ≡ found.value
-        → chain.takes_own ≡ (reaches_own found.items || (reaches_rest found.items && later.takes_own))
-        → chain.entered.items ≡ (if reaches_rest found.items then later.entered.items else []) ++ one ∷ []
+    at-entry : (chain : Chain) → chain.value ≡ found.value → chain.takes_own ≡ takes_with found later → chain.entered.items ≡ entered_with next found later
         → IsChain p next.place chain
-    at-next chain value own entered =
+    at-entry chain value own entered =
         record {
           value = value ∙ value-found;
-          takes_own = own ∙ ap (λ b. reaches_own found.items || b) (takes-by (reaches_rest found.items) refl) ∙ takes-found;
-          entered = ap reverse entered ∙ entered-by (reaches_rest found.items) refl ∙ entered-found;
-          listable = subst (All (IsListable p)) (sym entered) (listable-by (reaches_rest found.items) refl);
+          takes_own = own ∙ ap (λ b. reaches_own items || b) (takes-by (reaches_rest items) refl) ∙ takes-found;
+          entered = ap reverse entered ∙ entered-by (reaches_rest items) refl ∙ entered-found;
+          listable = subst (All (IsListable p)) (sym entered) (listable-by (reaches_rest items) refl);
         }
+
+    pub at-next : (r : Result Chain AllocError) → IfOk r (λ chain. chain.value ≡ found.value) → IfOk r (λ chain. chain.takes_own ≡ takes_with found later)
+        → IfOk r (λ chain. chain.entered.items ≡ entered_with next found later) → IfOk r (IsChain p next.place)
+    at-next (Ok chain) value own entered = at-entry chain value own entered
+    at-next (Err e) value own entered = tt

@@ -24,8 +24,10 @@ use Rattle.cell_trace.specs.declared.entered.Entered.{Entered}
 use Rattle.cell_trace.specs.declared.item.Item.{Item}
 use Rattle.cell_trace.specs.declared.item.Item.TheVariants as items
 use Rattle.cell_trace.specs.declared.line.Line.TheVariants as lines
-use Rattle.cell_trace.specs.Trace.{Scene, children_lines, reaches_rest, dimensions_in, entered, entered_lines, first_number, formula_of, given, item_lines, items_of, most_parts, own_lines, part_lines, scene_of, statements, system, takes_own, trace_lines, value_of}
+use Rattle.cell_trace.specs.Trace.{Scene, children_lines, reaches_rest, dimensions_in, formula_of, given, item_lines, items_of, lines_from, most_parts, own_lines, part_lines, scene_of, statements, system, takes_own, trace_lines, value_of}
 use Rattle.cell_trace.specs.Visits.{Given, Test, Visit, passed, test_step, visit, visit_step}
+use Rattle.cell_trace.specs.Inside.Entering.{entered, entered_lines, entry}
+use Rattle.cell_trace.proofs.EnteringFacts.{lines_are_entered}
 
 -- ---- what is read
 
@@ -194,10 +196,10 @@ module _ (s : Scene) where
         go false rest = All-nil IsShort
 
         by : (o : Option Formula) → formula_of s statement ≡ o → All IsShort (entered s (suc place) later)
-            → All IsShort (option_map_or (λ f. record { place = place; first = first_number ((system s).is_leaf s.cell) statement; visited = items_of s later f } ∷ (if reaches_rest (items_of s later f) then entered s (suc place) later else [])) o (entered s (suc place) later))
+            → All IsShort (option_map_or (λ f. entry s place statement later f ∷ (if reaches_rest (items_of s later f) then entered s (suc place) later else [])) o (entered s (suc place) later))
         by None is rest = rest
         by (Some f) is rest =
-            All-cons IsShort (record { place = place; first = first_number ((system s).is_leaf s.cell) statement; visited = items_of s later f }) (if reaches_rest (items_of s later f) then entered s (suc place) later else [])
+            All-cons IsShort (entry s place statement later f) (if reaches_rest (items_of s later f) then entered s (suc place) later else [])
             (let own = formula_few statement f (All-head ReadsFew statement later all) is in omega (arith, read_few (given s (value_of s later)) f, own)) (go (reaches_rest (items_of s later f)) rest)
 
     entered_few : (place : ℕ) (rules : List Statement) → length (entered s place rules) ≤ length rules
@@ -209,7 +211,7 @@ module _ (s : Scene) where
         go false rest = omega arith
 
         by : (o : Option Formula) → length (entered s (suc place) later) ≤ length later
-            → length (option_map_or (λ f. record { place = place; first = first_number ((system s).is_leaf s.cell) statement; visited = items_of s later f } ∷ (if reaches_rest (items_of s later f) then entered s (suc place) later else [])) o (entered s (suc place) later)) ≤ suc (length later)
+            → length (option_map_or (λ f. entry s place statement later f ∷ (if reaches_rest (items_of s later f) then entered s (suc place) later else [])) o (entered s (suc place) later)) ≤ suc (length later)
         by None rest = omega arith
         by (Some f) rest = let after = go (reaches_rest (items_of s later f)) rest in omega (arith, after)
 
@@ -225,8 +227,10 @@ module _ (s : Scene) where
     trace_few all =
         let these = entered s 0 (statements s) in
         let last = if takes_own s (statements s) then own_lines s else [] in
+        let own = lines_from s [] 0 (statements s) in
+        let same = ap (λ ls. length ls) (lines_are_entered s [] 0 (statements s)) in
         let wide = mul-le-mul_right (1 + 1002 * most) (entered_few 0 (statements s)) in
-        omega (arith, length-append (entered_lines s [] these) last, lines_few [] these (entered_short 0 (statements s) all), wide, by (takes_own s (statements s)))
+        omega (arith, length-append own last, same, lines_few [] these (entered_short 0 (statements s) all), wide, by (takes_own s (statements s)))
       where
         by : (b : Bool) → length (if b then own_lines s else []) ≤ 1002
         by true = own_few

@@ -1,5 +1,5 @@
 -- The lines of a trace name what is there.
-use Rattle.std.proofs.Common.{◌≡◌, ◌++◌, ◌∷◌, ◌-◌, ℕ, suc, Bool, true, false, not, List, [], Option, Some, None, ℤ, length, take, map, filter, refl, All, if◌then◌else◌, nat_lt}
+use Rattle.std.proofs.Common.{◌≡◌, ◌++◌, ◌∷◌, ◌-◌, ℕ, suc, Bool, true, false, not, List, [], Option, Some, None, ℤ, length, take, map, filter, refl, sym, subst, All, if◌then◌else◌, nat_lt}
 use Rattle.std.specs.Prelude.{◌==◌, is_some}
 use Rattle.std.specs.List.{list_any}
 use Rattle.std.specs.Option.{option_map_or}
@@ -17,8 +17,10 @@ use Rattle.cell_trace.specs.declared.item.Item.{Item}
 use Rattle.cell_trace.specs.declared.item.Item.TheVariants as items
 use Rattle.cell_trace.specs.declared.line.Line.{Line}
 use Rattle.cell_trace.specs.declared.line.Line.TheVariants as lines
-use Rattle.cell_trace.specs.Inside.Lines.{IsLineOf}
-use Rattle.cell_trace.specs.Trace.{Scene, children_lines, reaches_rest, dimensions_in, entered, entered_lines, first_number, formula_of, item_lines, items_of, most_parts, own_lines, part_lines, read_line, scene_of, statements, system, takes_own, trace_lines}
+use Rattle.cell_trace.specs.Lines.{IsLineOf}
+use Rattle.cell_trace.specs.Trace.{Scene, children_lines, reaches_rest, dimensions_in, formula_of, item_lines, items_of, lines_from, most_parts, own_lines, part_lines, read_line, scene_of, statements, system, takes_own, trace_lines}
+use Rattle.cell_trace.specs.Inside.Entering.{entered, entered_lines, entry}
+use Rattle.cell_trace.proofs.EnteringFacts.{lines_are_entered}
 use Rattle.cell_trace.proofs.ItemFacts.{Names, IsItem, items_are, names}
 
 module _ (s : Scene) (n : Names (system_of s.model) s.model.space s.cell) where
@@ -98,10 +100,10 @@ module _ (s : Scene) (n : Names (system_of s.model) s.model.space s.cell) where
       go false all = All-nil Visits
 
       by : (o : Option Formula) → All Visits (entered s (suc place) later)
-          → All Visits (option_map_or (λ f. record { place = place; first = first_number ((system s).is_leaf s.cell) statement; visited = items_of s later f } ∷ (if reaches_rest (items_of s later f) then entered s (suc place) later else [])) o (entered s (suc place) later))
+          → All Visits (option_map_or (λ f. entry s place statement later f ∷ (if reaches_rest (items_of s later f) then entered s (suc place) later else [])) o (entered s (suc place) later))
       by None all = all
       by (Some f) all =
-          All-cons Visits (record { place = place; first = first_number ((system s).is_leaf s.cell) statement; visited = items_of s later f }) (if reaches_rest (items_of s later f) then entered s (suc place) later else [])
+          All-cons Visits (entry s place statement later f) (if reaches_rest (items_of s later f) then entered s (suc place) later else [])
           (items_are s later f n) (go (reaches_rest (items_of s later f)) all)
 
   of_entered : (seen : List ℕ) (these : List Entered) → All Visits these → All Is (entered_lines s seen these)
@@ -117,10 +119,13 @@ module _ (s : Scene) (n : Names (system_of s.model) s.model.space s.cell) where
   last true = own
   last false = none
 
+  of_statements : All Is (lines_from s [] 0 (statements s))
+  of_statements =
+      subst (All Is) (sym (lines_are_entered s [] 0 (statements s))) (of_entered [] (entered s 0 (statements s)) (all_visits 0 (statements s)))
+
   of_scene : All Is (trace_lines s)
   of_scene =
-      All-append Is (entered_lines s [] (entered s 0 (statements s))) (if takes_own s (statements s) then own_lines s else [])
-      (of_entered [] (entered s 0 (statements s)) (all_visits 0 (statements s))) (last (takes_own s (statements s)))
+      All-append Is (lines_from s [] 0 (statements s)) (if takes_own s (statements s) then own_lines s else []) of_statements (last (takes_own s (statements s)))
 
 pub lines_are : (m : BoundModel) (stored : List Entry) (cell : ℕ) → IsSpace m.space → AreRules m.space m.rules → IsCell m.space cell
     → All (IsLineOf m.space cell) (trace_lines (scene_of m stored cell))

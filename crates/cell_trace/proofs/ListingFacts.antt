@@ -10,11 +10,12 @@ use Rattle.cell_trace.specs.declared.item.Item.{Item}
 use Rattle.cell_trace.specs.declared.item.Item.TheVariants.{Read, Children, Own, Rest}
 use Rattle.cell_trace.specs.declared.line.Line.{Line}
 use Rattle.cell_trace.specs.declared.line.Line.TheVariants as lines
-use Rattle.cell_trace.specs.Trace.{dimensions_in, trace_lines}
+use Rattle.cell_trace.specs.Trace.{dimensions_in, statements, trace_lines}
 use Rattle.cell_trace.specs.Inside.Chain.{entered_from, takes_from}
 use Rattle.cell_trace.specs.Inside.Items.{AreSameDimensions, entered_lines_at, item_lines_at, lines_of, number_after, numbered, seen_after}
 use Rattle.cell_trace.specs.Inside.Parts.{own_lines_at, part_lines_at}
 use Rattle.cell_trace.specs.Inside.Place.{Place, scene_at}
+use Rattle.cell_trace.proofs.EnteringFacts.{lines_are_entered}
 
 -- ---- the dimensions that are seen
 
@@ -143,7 +144,10 @@ module _ (p : Place) where
 pub trace_is : (p : Place) (on : Bool) (entered : List Entered) → on ≡ takes_from p 0 → entered ≡ entered_from p 0
     → entered_lines_at p [] entered ++ (if on then own_lines_at p else []) ≡ trace_lines (scene_at p)
 unfolding takes_from entered_from own_lines_at entered_lines_at
-trace_is p on entered takes is = ap (λ es. entered_lines_at p [] es ++ (if on then own_lines_at p else [])) is ∙ ap (λ b. entered_lines_at p [] (entered_from p 0) ++ (if b then own_lines_at p else [])) takes
+trace_is p on entered takes is =
+    ap (λ es. entered_lines_at p [] es ++ (if on then own_lines_at p else [])) is
+    ∙ ap (λ b. entered_lines_at p [] (entered_from p 0) ++ (if b then own_lines_at p else [])) takes
+    ∙ ap (λ ls. ls ++ (if takes_from p 0 then own_lines_at p else [])) (sym (lines_are_entered (scene_at p) [] 0 (statements (scene_at p))))
 
 -- what is popped comes first
 pub reverse-popped : {X : Type 0} (all rest : List X) (x : X) → all ≡ rest ++ x ∷ [] → reverse all ≡ x ∷ reverse rest

@@ -1,4 +1,4 @@
--- What is printed of a value is all that it rests on.
+-- What a value rests on: of a sum its parts, of a formula what evaluation reaches in it.
 use Rattle.std.specs.Prelude.{◌≡◌, ℕ, ◌≤◌, ℤ, false, not, List, length, filter, fold, Option, Some, Contains}
 use Rattle.cube_fixed.specs.declared.value.Value.{Value}
 use Rattle.cube_fixed.specs.Arithmetic.{is_zero}
@@ -25,9 +25,9 @@ with_line total lines.Sum = total
 with_line total (lines.Part part) = with_term total part.weight part.value
 with_line total (lines.More count) = total
 
--- the exact weighted sum of the parts that are printed
+-- the exact weighted sum of the parts among these lines
 abbrev pub sum_of_lines : List Line → Value
-sum_of_lines printed = value_of (fold with_line no_terms printed)
+sum_of_lines these = value_of (fold with_line no_terms these)
 
 -- parts that are all listed add up to the sum over the cells, also where cells of the value 0 are left out
 abbrev pub TheSumsAddUp : Type 0

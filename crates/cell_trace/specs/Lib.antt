@@ -1,6 +1,5 @@
 pub mod Visits
 pub mod Trace
-pub mod TraceText
+pub mod Lines
 pub mod Laws
 pub mod Inside
-pub mod TextLaws

@@ -16,7 +16,6 @@ use Rattle.rule_model.specs.declared.rules.Statement.{Statement}
 use Rattle.rule_model.specs.BoundModel.{BoundModel, rules_of}
 use Rattle.rule_model.specs.System.{system_of, rule_of}
 use Rattle.stored_laws.specs.Stored.{stored_in}
-use Rattle.cell_trace.specs.declared.entered.Entered.{Entered}
 use Rattle.cell_trace.specs.declared.item.Item.{Item}
 use Rattle.cell_trace.specs.declared.item.Item.TheVariants as items
 use Rattle.cell_trace.specs.declared.line.Line.{Line}
@@ -109,7 +108,7 @@ abbrev pub formula_of : Scene → Statement → Option Formula
 formula_of s statement =
     part_at (system s) s.cell (rule_of s.model.space (cube_of s.model.space s.cell) statement)
 
--- whether evaluation reaches CONTINUE, and whether to STET
+-- whether evaluation reaches CONTINUE, and whether it reaches STET
 abbrev pub reaches_rest : List (Option Item) → Bool
 reaches_rest visited = list_any (λ item. option_map_or is_rest item false) visited
   where
@@ -143,19 +142,6 @@ first_number leaf statement = by statement.form leaf
     by ConsFirst true = behind statement.cons
     by ConsFirst false = 1
 
--- the statements that are entered, of these, which begin at this place
-abbrev pub entered : Scene → ℕ → List Statement → List Entered
-entered s place [] = []
-entered s place (statement ∷ later) =
-    option_map_or
-    (λ f. record {
-      place = place;
-      first = first_number ((system s).is_leaf s.cell) statement;
-      visited = items_of s later f;
-    }
-    ∷ (if reaches_rest (items_of s later f) then entered s (suc place) later else []))
-    (formula_of s statement) (entered s (suc place) later)
-
 -- whether the cell is given what it would have if no statement governed it: by STET, or where no statement is left
 abbrev pub takes_own : Scene → List Statement → Bool
 takes_own s [] = true
@@ -173,12 +159,17 @@ dimensions_in (Some (items.Children dim) ∷ rest) = dim ∷ dimensions_in rest
 dimensions_in (Some items.Own ∷ rest) = dimensions_in rest
 dimensions_in (Some items.Rest ∷ rest) = dimensions_in rest
 
--- the lines of statements that are entered, one after another
-abbrev pub entered_lines : Scene → List ℕ → List Entered → List Line
-entered_lines s seen [] = []
-entered_lines s seen (one ∷ rest) =
-    lines.Rule (suc one.place)
-    ∷ (item_lines s seen one.first one.visited ++ entered_lines s (dimensions_in one.visited ++ seen) rest)
+-- the lines of these statements, which begin at this place: the first that has a formula for the cell is entered, and
+-- those after it where evaluation reaches CONTINUE. Parts are listed where the dimension isn't one of those seen
+abbrev pub lines_from : Scene → List ℕ → ℕ → List Statement → List Line
+lines_from s seen place [] = []
+lines_from s seen place (statement ∷ later) =
+    option_map_or
+    (λ f. let visited = items_of s later f in
+    lines.Rule (suc place)
+    ∷ (item_lines s seen (first_number ((system s).is_leaf s.cell) statement) visited
+    ++ (if reaches_rest visited then lines_from s (dimensions_in visited ++ seen) (suc place) later else [])))
+    (formula_of s statement) (lines_from s seen (suc place) later)
 
 -- the statements of the cell's cube
 abbrev pub statements : Scene → List Statement
@@ -186,5 +177,4 @@ statements s = (rules_of s.model (cube_of s.model.space s.cell)).statements
 
 -- the trace: the statements that are entered, and at the end what the cell would have without them, where it takes that
 abbrev pub trace_lines : Scene → List Line
-trace_lines s =
-    entered_lines s [] (entered s 0 (statements s)) ++ (if takes_own s (statements s) then own_lines s else [])
+trace_lines s = lines_from s [] 0 (statements s) ++ (if takes_own s (statements s) then own_lines s else [])

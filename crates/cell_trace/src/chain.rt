@@ -1,10 +1,10 @@
-ghost use Rattle.std.specs.Prelude.{◌≡◌, ◌+◌, [], true, IfOk};
-ghost use Rattle.cell_trace.specs.Inside.Chain.{IsChain, IsPart};
+ghost use Rattle.std.specs.Prelude.{◌≡◌, [], IfOk};
+ghost use Rattle.cell_trace.specs.Inside.Chain.{IsChain, IsFound, IsPart, entered_with, takes_with};
+ghost use Rattle.cell_trace.specs.Inside.Place.{given_at};
 ghost use Rattle.cell_trace.specs.Inside.Sums.{IsReady};
 ghost use Rattle.cell_trace.specs.Trace.{reaches_own, reaches_rest};
-ghost use Rattle.rule_model.specs.Input.{has_continue};
+ghost use Rattle.cell_trace.specs.Visits.{visit};
 
-use crate::continues::continues;
 use crate::entered::Entered;
 use crate::here::Here;
 use crate::item::Item;
@@ -41,6 +41,13 @@ impl Chain {
     }
 }
 
+/// What a statement's formula gives, and what evaluation reaches in it.
+#[derive(Drop)]
+pub(crate) struct Found {
+    pub value: Value,
+    pub visited: ListOf<Option<Item>>,
+}
+
 // Whether evaluation reaches `CONTINUE`.
 fn reaches_rest(visited: &[Option<Item>]) -> bool
     ensures { result ≡ reaches_rest visited.now }
@@ -65,7 +72,8 @@ fn reaches_own(visited: &[Option<Item>]) -> bool
     false
 }
 
-/// What the statements from a place on give the cell.
+/// What the statements from a place on give the cell. The later ones are worked out where evaluation reaches
+/// `CONTINUE`, and then the formula is evaluated once more.
 pub(crate) fn chain_from(
     here: &Here,
     from: usize,
@@ -80,40 +88,46 @@ pub(crate) fn chain_from(
         let value = stet(here, known, reader)?;
         return Ok(Chain::none(here.alloc(), value, true));
     };
-    if !continues(next.formula) {
+    let alone = find(here, &next, &Value::ZERO, known, reader)?;
+    if !reaches_rest(alone.visited.as_slice()) {
         let later = Chain::none(here.alloc(), Value::ZERO, false);
-        return with_entered(here, &next, later, known, reader);
+        return with_entered(&next, alone, later);
     }
     let later = chain_from(here, next.place as usize + 1, known, reader)?;
-    with_entered(here, &next, later, known, reader)
+    let found = find(here, &next, &later.value, known, reader)?;
+    with_entered(&next, found, later)
 }
 
-// What a statement gives the cell before those that come after it. What these give doesn't matter where `CONTINUE`
-// doesn't stand in its formula.
-fn with_entered(
+// Finds what a statement's formula gives, where the statements after it give `rest`.
+fn find(
     here: &Here,
     next: &Next,
-    later: Chain,
+    rest: &Value,
     known: &mut Known,
     reader: &mut Snapshot,
-) -> Result<Chain, AllocError>
+) -> Result<Found, AllocError>
     requires part { IsPart here.now next.now }
-    requires later { has_continue next.now.formula.now ≡ true → IsChain here.now (next.now.place + 1) later }
     requires ready { IsReady here.now known.old reader.old }
-    ensures chain { IfOk result (IsChain here.now next.now.place) }
+    ensures found { IfOk result (IsFound (visit (given_at here.now rest.now) next.now.formula.now)) }
     ensures ready { IsReady here.now known.new reader.new }
 {
     let mut visited = Vec::new(here.alloc());
-    let value = visit(
-        here,
-        &later.value,
-        next.formula,
-        known,
-        reader,
-        &mut visited,
-    )?;
-    let continued = reaches_rest(&visited);
-    let takes_own = reaches_own(&visited) || continued && later.takes_own;
+    let value = visit(here, rest, next.formula, known, reader, &mut visited)?;
+    Ok(Found {
+        value,
+        visited: ListOf::new(visited),
+    })
+}
+
+// What a statement gives the cell, where this is found in it, before those that come after it. What these give doesn't
+// matter where evaluation doesn't reach `CONTINUE`.
+fn with_entered(next: &Next, found: Found, later: Chain) -> Result<Chain, AllocError>
+    ensures value { IfOk result (λ chain. chain.value ≡ found.value) }
+    ensures own { IfOk result (λ chain. chain.takes_own ≡ takes_with found later) }
+    ensures entered { IfOk result (λ chain. chain.entered.items ≡ entered_with next.now found later) }
+{
+    let continued = reaches_rest(found.visited.as_slice());
+    let takes_own = reaches_own(found.visited.as_slice()) || continued && later.takes_own;
     let mut entered = later.entered;
     if !continued {
         entered.clear();
@@ -121,10 +135,10 @@ fn with_entered(
     entered.push(Entered {
         place: next.place,
         first: next.first,
-        visited: ListOf::new(visited),
+        visited: found.visited,
     })?;
     Ok(Chain {
-        value,
+        value: found.value,
         takes_own,
         entered,
     })

@@ -1,7 +1,7 @@
 ghost use Rattle.cell_trace.specs.Laws.{TheFormulasGive, TheScenesGiveOwn, TheSumsAddUp, TheVisitsMean};
 
-/// The values that a trace prints give the cell's value: parts that are all listed add up to their sum, and the value
-/// of a formula rests on what is evaluated in it alone, which is what is printed.
+/// What a value rests on. Parts that are all listed add up to the sum over the cells. A formula has the same value
+/// whatever else is given, where the same is given in what evaluation reaches in it; that value is its meaning.
 pub fn printed_values_give_the_value()
     ensures sums { TheSumsAddUp }
     ensures formulas { TheFormulasGive }

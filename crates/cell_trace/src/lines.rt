@@ -1,5 +1,6 @@
-ghost use Rattle.std.specs.Prelude.{◌≡◌, IfOk};
+ghost use Rattle.std.specs.Prelude.{◌≡◌, All, IfOk};
 ghost use Rattle.cell_reader.specs.Snapshots.{version_of};
+ghost use Rattle.cell_trace.specs.Lines.{IsLineOf};
 ghost use Rattle.cell_trace.specs.Trace.{scene_of, trace_lines};
 ghost use Rattle.cube_space.specs.Cells.{IsCell};
 
@@ -24,6 +25,7 @@ pub(crate) fn trace_lines(
     requires same { version_of reader.old ≡ version_of version.now }
     ensures lines { IfOk result (λ lines. let v = version_of version.now in
         lines.items ≡ trace_lines (scene_of v.model v.stored cell)) }
+    ensures names { IfOk result (λ lines. All (IsLineOf (version_of version.now).model.space cell) lines.items) }
     ensures version { version_of reader.new ≡ version_of reader.old }
 {
     let mut at = [0u32; MAX_DIMENSIONS];

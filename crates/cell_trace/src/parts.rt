@@ -3,7 +3,7 @@ ghost use Rattle.cell_trace.specs.Inside.Listed.{lines_of, none_listed, with_par
 ghost use Rattle.cell_trace.specs.Trace.{most_parts};
 ghost use Rattle.cube_fixed.specs.Arithmetic.{is_zero};
 
-use crate::line::{Line, MAX_PARTS, Part};
+use crate::line::{Line, MAX_PARTS, Part, put};
 use crate::sums::Summed;
 use cube_fixed::Value;
 use std::alloc::{AllocError, Global};
@@ -75,8 +75,7 @@ impl Parts {
         ensures lines { IfOk result (λ sum. sum.lines.items ≡ lines_of self) }
     {
         if self.more > 0 {
-            // a lone `push` of a line gets no proof where no part is at hand
-            self.lines.extend_from_slice(&[Line::More(self.more)])?;
+            put(&mut self.lines, Line::More(self.more))?;
         }
         Ok(Summed {
             value,

@@ -7,7 +7,7 @@ use Rattle.history.specs.declared.entry.Entry.{Entry}
 use Rattle.dim_name.specs.Bytes.{newline, space}
 use Rattle.cube_server.specs.Output.{numbered, entry_line}
 use Rattle.output_laws.proofs.Lines.{split_at, empty_not}
-use Rattle.output_laws.proofs.Plain.{decimal_lacks}
+use Rattle.trace_text.proofs.Plain.{decimal_lacks}
 
 -- entry by entry the same command of the same user
 abbrev pub AreOfSame : {T : Type 0} → List (Entry T) → List (Entry T) → Type 0

@@ -52,7 +52,7 @@ use Rattle.view_query.specs.declared.fault.ViewFault.TheVariants as faults
 use Rattle.view_query.specs.declared.shape.View as views
 use Rattle.view_query.proofs.BoundFacts.{answers_view}
 use Rattle.output_laws.proofs.Lines.{lacks, EndAlike, plain_ends, same_ends}
-use Rattle.output_laws.proofs.Plain.{lacks-append, decimal_lacks, printed_plain}
+use Rattle.trace_text.proofs.Plain.{lacks-append, decimal_lacks, printed_plain}
 use Rattle.output_laws.proofs.Tables.{table_apart, tables_end}
 
 -- ---- replies in one line

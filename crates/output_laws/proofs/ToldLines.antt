@@ -12,7 +12,7 @@ use Rattle.history.proofs.Runs.{least_after_le, place_le}
 use Rattle.dim_name.specs.Bytes.{newline, space}
 use Rattle.cube_server.specs.Output.{numbered, told_line, told_lines, user_text}
 use Rattle.output_laws.proofs.Lines.{split_at, EndAlike}
-use Rattle.output_laws.proofs.Plain.{decimal_lacks}
+use Rattle.trace_text.proofs.Plain.{decimal_lacks}
 
 -- ---- the parts of the texts
 

@@ -25,10 +25,10 @@ mod models;
 use crate::compared::compared;
 use crate::models::{file, snapshot_of};
 use cell_reader::Snapshot;
-use cell_trace::trace;
 use cube_fixed::print;
 use rule_model::{cell_of, is_input};
 use std::alloc::{AllocError, Global};
+use trace_text::trace;
 use user_text::UserBody;
 
 /// What is printed of the commands of a case, and of reading all cells after them.

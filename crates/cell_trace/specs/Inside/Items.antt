@@ -9,7 +9,8 @@ use Rattle.cell_trace.specs.declared.item.Item.{Item}
 use Rattle.cell_trace.specs.declared.item.Item.TheVariants.{Read, Children, Own, Rest}
 use Rattle.cell_trace.specs.declared.line.Line.{Line}
 use Rattle.cell_trace.specs.declared.line.Line.TheVariants as lines
-use Rattle.cell_trace.specs.Trace.{item_lines, entered_lines}
+use Rattle.cell_trace.specs.Trace.{item_lines}
+use Rattle.cell_trace.specs.Inside.Entering.{entered_lines}
 use Rattle.cell_trace.specs.Inside.Place.{Place, scene_at}
 use Rattle.cell_trace.specs.Inside.Parts.{part_lines_at}
 

@@ -1,10 +1,14 @@
-use Rattle.std.proofs.Common.{◌≡◌, ◌++◌, [], sym, ap, ◌∙◌, if◌then◌else◌}
+use Rattle.std.proofs.Common.{◌≡◌, ◌++◌, [], All, List, sym, ap, ◌∙◌, if◌then◌else◌, subst}
 use Rattle.std.specs.Prelude.{reverse}
 use Rattle.std.proofs.lemmas.List.{append-nil}
-use Rattle.cell_trace.specs.Trace.{trace_lines}
+use Rattle.cell_reader.specs.Snapshots.{version_of}
+use Rattle.cell_trace.specs.declared.line.Line.{Line}
+use Rattle.cell_trace.specs.Lines.{IsLineOf}
+use Rattle.cell_trace.specs.Trace.{scene_of, trace_lines}
 use Rattle.cell_trace.specs.Inside.Items.{entered_lines_at}
 use Rattle.cell_trace.specs.Inside.Parts.{own_lines_at}
 use Rattle.cell_trace.specs.Inside.Place.{scene_at}
+use Rattle.cell_trace.proofs.LineFacts.{lines_are}
 use Rattle.cell_trace.proofs.ListingFacts.{trace_is}
 use Rattle.cell_trace.proofs.lines.trace_lines.Goals as goal
 use Rattle.cell_trace.proofs.lines.trace_lines.Goals.{then-chain+in_ok-put_own_lines, else-chain}
@@ -26,3 +30,10 @@ returns-clause-lines c =
     ] in
     all ∙ trace_is p chain.takes_own (reverse chain.entered.items) c.in_ok-chain.ensures.chain.takes_own c.in_ok-chain.ensures.chain.entered
     ∙ ap (λ q. trace_lines (scene_at q)) c.new-here.ensures
+
+pub returns-clause-names : goal.returns-clause-names
+returns-clause-names c =
+    let v = version_of c.args.version.now in
+    let lines : c.if-chain.lines.items ≡ trace_lines (scene_of v.model v.stored c.args.cell) = returns-clause-lines (goal.at.returns-clause-names c) in
+    subst (All (IsLineOf v.model.space c.args.cell)) (sym lines)
+    (lines_are v.model v.stored c.args.cell c.model.ensures.accepted.valid c.model.ensures.accepted.rules c.requires.cell)

@@ -1,5 +1,0 @@
-use Rattle.cell_trace.proofs.PlainLines.{reply_counted}
-use Rattle.cell_trace.proofs.laws_of_text.a_trace_has_as_many_lines_as_it_says.Goals as goal
-
-pub returns : goal.returns
-returns c = reply_counted

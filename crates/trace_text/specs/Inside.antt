@@ -1,0 +1,2 @@
+-- What the code keeps while it works. No public clause cites it.
+pub mod Names
