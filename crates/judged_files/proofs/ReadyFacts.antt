@@ -16,7 +16,8 @@ use Rattle.user_text.specs.declared.command.UserBody.TheVariants as bodies
 use Rattle.user_text.specs.declared.command.UserCommand.{UserCommand}
 use Rattle.judged_files.specs.Loads.{file_of, user_files, record_files, IsReady, AreReady}
 use Rattle.judged_files.specs.Refusals.{refused_on}
-use Rattle.judged_files.specs.Scripts.{Scripts, AreScripts}
+use Rattle.judged_files.specs.ModelFiles.{ModelFiles}
+use Rattle.judged_files.specs.Scripts.{AreScripts}
 use Rattle.judged_files.specs.Users.{AreUserTexts, AreUsers, is_unknown_load, is_unknown, AreKnown, unknown_script}
 pub use Rattle.std.proofs.lemmas.List.Elements.{All-tail as all-rest}
 use Rattle.check_order.proofs.Walks.{all-first as all-before, all-second as all-behind}
@@ -109,13 +110,14 @@ is-known : (b : Bool) → not b ≡ false → IsTrue b
 is-known true is = refl
 is-known false is = (let clash : true ≡ false = is in cc)
 
-module _ (scripts : Scripts) (sources : List Source) where
-  ready-body : (body : UserBody) → is_unknown_load scripts.names body ≡ false → IfSome (file_of body) (λ name. IsSome (source_of sources name)) → IsReady scripts sources body
+module _ (model_files : ModelFiles) (sources : List Source) where
+  ready-body : (body : UserBody) → is_unknown_load model_files.script_names body ≡ false → IfSome (file_of body) (λ name. IsSome (source_of sources name)) → IsReady model_files sources body
   ready-body (bodies.Put cell number) known read = tt
   ready-body (bodies.Get cell) known read = tt
-  ready-body (bodies.Load load) known read = record { known = is-known (has_name scripts.names load.script) known; read = read }
+  ready-body (bodies.Load load) known read = record { known = is-known (has_name model_files.script_names load.script) known; read = read }
   ready-body (bodies.View view) known read = tt
   ready-body (bodies.Spread cell amount how) known read = tt
+  ready-body (bodies.Trace cell) known read = tt
   ready-body bodies.Sandbox known read = tt
   ready-body bodies.Publish known read = tt
   ready-body bodies.Discard known read = tt
@@ -131,26 +133,26 @@ module _ (scripts : Scripts) (sources : List Source) where
       let here : All Is (name ∷ user_files commands) = subst (λ f. All Is (cons_option f (user_files commands))) is all in
       (all-first Is name (user_files commands) here, all-rest Is name (user_files commands) here)
 
-  ready-user : (commands : List UserCommand) → All (λ command. is_unknown scripts.names command ≡ false) commands → All Is (user_files commands) → AreReady scripts sources commands
-  ready-user [] known read = all-none (λ command. IsReady scripts sources command.body)
+  ready-user : (commands : List UserCommand) → All (λ command. is_unknown model_files.script_names command ≡ false) commands → All Is (user_files commands) → AreReady model_files sources commands
+  ready-user [] known read = all-none (λ command. IsReady model_files sources command.body)
   ready-user (command ∷ commands) known read =
-      let K : UserCommand → Type 0 = λ c. is_unknown scripts.names c ≡ false in
+      let K : UserCommand → Type 0 = λ c. is_unknown model_files.script_names c ≡ false in
       let split = file-first (file_of command.body) command commands refl read in
-      all-more (λ c. IsReady scripts sources c.body) command commands
+      all-more (λ c. IsReady model_files sources c.body) command commands
       (ready-body command.body (all-first K command commands known) split.0)
       (ready-user commands (all-rest K command commands known) split.1)
 
-  ready-users : (users : List (List UserCommand)) → AreKnown scripts.names users → All Is (record_files users) → All (AreReady scripts sources) users
-  ready-users [] known read = all-none (AreReady scripts sources)
+  ready-users : (users : List (List UserCommand)) → AreKnown model_files.script_names users → All Is (record_files users) → All (AreReady model_files sources) users
+  ready-users [] known read = all-none (AreReady model_files sources)
   ready-users (commands ∷ rest) known read =
-      let K : List UserCommand → Type 0 = All (λ c. is_unknown scripts.names c ≡ false) in
-      all-more (AreReady scripts sources) commands rest
+      let K : List UserCommand → Type 0 = All (λ c. is_unknown model_files.script_names c ≡ false) in
+      all-more (AreReady model_files sources) commands rest
       (ready-user commands (all-first K commands rest known) (all-before Is (user_files commands) (record_files rest) read))
       (ready-users rest (all-rest K commands rest known) (all-behind Is (user_files commands) (record_files rest) read))
 
   -- each load is ready, once its script is known and the files of all records were read
-  pub all-ready : (extent : Extent) (readings : Readings) (users : List (List UserCommand)) → AreKnown scripts.names users → (files extent (record_files users)).finds readings sources
-      → All (AreReady scripts sources) users
+  pub all-ready : (extent : Extent) (readings : Readings) (users : List (List UserCommand)) → AreKnown model_files.script_names users → (files extent (record_files users)).finds readings sources
+      → All (AreReady model_files sources) users
   all-ready extent readings users known finds = ready-users users known (files-there extent readings (record_files users) sources finds)
 
 -- ---- how many scripts there are

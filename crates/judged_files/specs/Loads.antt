@@ -1,5 +1,5 @@
--- Users' commands as they are run: with the scripts of their loads, and the records. What opens or ends a sandbox is no
--- command of the model.
+-- Users' commands as they are run: with the scripts of their loads, the records, and the names of the rule files. What
+-- opens or ends a sandbox is no command of the model.
 use Rattle.std.specs.Prelude.{◌≡◌, ℕ, List, [], Option, Some, None, IsSome, IfSome, IsTrue, All}
 use Rattle.std.specs.Prelude.{option_map, filter_map, slice_get}
 use Rattle.std.specs.Arc.{arc_value}
@@ -16,11 +16,12 @@ use Rattle.sandbox.specs.declared.act.Act.{Act}
 use Rattle.sandbox.specs.declared.act.Act.TheVariants as acts
 use Rattle.user_session.specs.declared.command.PlanCommand.{PlanCommand}
 use Rattle.user_session.specs.declared.command.PlanCommand.TheVariants as plans
+use Rattle.user_text.specs.declared.command.CellText.{CellText}
 use Rattle.user_text.specs.declared.command.LoadText.{LoadText}
 use Rattle.user_text.specs.declared.command.UserBody.{UserBody}
 use Rattle.user_text.specs.declared.command.UserBody.TheVariants as bodies
 use Rattle.user_text.specs.declared.command.UserCommand.{UserCommand}
-use Rattle.judged_files.specs.Scripts.{Scripts}
+use Rattle.judged_files.specs.ModelFiles.{ModelFiles}
 
 -- the file of a load's records
 abbrev pub file_of : UserBody → Option (List ℕ)
@@ -29,6 +30,7 @@ file_of (bodies.Get cell) = None
 file_of (bodies.Load load) = load.file
 file_of (bodies.View view) = None
 file_of (bodies.Spread cell amount how) = None
+file_of (bodies.Trace cell) = None
 file_of bodies.Sandbox = None
 file_of bodies.Publish = None
 file_of bodies.Discard = None
@@ -47,56 +49,63 @@ records_of sources None skip = Some []
 records_of sources (Some name) skip = option_map (λ source. rows_of skip source.1) (source_of sources name)
 
 -- a load's script is one of the model, and its file is one of those that were read
-pub record IsReadyLoad (scripts : Scripts) (sources : List Source) (load : LoadText) : Type 0 where
-  pub known : IsTrue (has_name scripts.names load.script)
+pub record IsReadyLoad (files : ModelFiles) (sources : List Source) (load : LoadText) : Type 0 where
+  pub known : IsTrue (has_name files.script_names load.script)
   pub read : IfSome load.file (λ name. IsSome (source_of sources name))
 
 -- the same of a command, where it is a load
-abbrev pub IsReady : Scripts → List Source → UserBody → Type 0
-IsReady scripts sources (bodies.Put cell number) = Unit {0}
-IsReady scripts sources (bodies.Get cell) = Unit {0}
-IsReady scripts sources (bodies.Load load) = IsReadyLoad scripts sources load
-IsReady scripts sources (bodies.View view) = Unit {0}
-IsReady scripts sources (bodies.Spread cell amount how) = Unit {0}
-IsReady scripts sources bodies.Sandbox = Unit {0}
-IsReady scripts sources bodies.Publish = Unit {0}
-IsReady scripts sources bodies.Discard = Unit {0}
+abbrev pub IsReady : ModelFiles → List Source → UserBody → Type 0
+IsReady files sources (bodies.Put cell number) = Unit {0}
+IsReady files sources (bodies.Get cell) = Unit {0}
+IsReady files sources (bodies.Load load) = IsReadyLoad files sources load
+IsReady files sources (bodies.View view) = Unit {0}
+IsReady files sources (bodies.Spread cell amount how) = Unit {0}
+IsReady files sources (bodies.Trace cell) = Unit {0}
+IsReady files sources bodies.Sandbox = Unit {0}
+IsReady files sources bodies.Publish = Unit {0}
+IsReady files sources bodies.Discard = Unit {0}
 
-abbrev pub AreReady : Scripts → List Source → List UserCommand → Type 0
-AreReady scripts sources commands = All (λ command. IsReady scripts sources command.body) commands
+abbrev pub AreReady : ModelFiles → List Source → List UserCommand → Type 0
+AreReady files sources commands = All (λ command. IsReady files sources command.body) commands
 
 -- a load as it is run: by the place of its script in the model, with its records and what is set
-pub record IsLoad (scripts : Scripts) (sources : List Source) (load : LoadText) (job : LoadJob) (bound : BoundScript)
+pub record IsLoad (files : ModelFiles) (sources : List Source) (load : LoadText) (job : LoadJob) (bound : BoundScript)
     : Type 0 where
-  pub place : place_of scripts.names load.script ≡ Some job.script
-  pub script : slice_get scripts.bound job.script ≡ Some bound
+  pub place : place_of files.script_names load.script ≡ Some job.script
+  pub script : slice_get files.bound job.script ≡ Some bound
   pub records : records_of sources load.file load.skip ≡ Some (rows_in job)
   pub params : job.params ≡ load.params
 
-abbrev pub IsLoadCommand : Scripts → List Source → LoadText → Act PlanCommand → Type 0
-IsLoadCommand scripts sources load command = (job : LoadJob) × (script : Arc BoundScript Global)
-    × (command ≡ acts.Do (plans.Load job script)) × IsLoad scripts sources load job (arc_value script)
+abbrev pub IsLoadCommand : ModelFiles → List Source → LoadText → Act PlanCommand → Type 0
+IsLoadCommand files sources load command = (job : LoadJob) × (script : Arc BoundScript Global)
+    × (command ≡ acts.Do (plans.Load job script)) × IsLoad files sources load job (arc_value script)
+
+-- a trace as it is run: with the names of the rule files
+abbrev pub IsTraceCommand : ModelFiles → CellText → Act PlanCommand → Type 0
+IsTraceCommand files cell command = (names : Arc (List (List ℕ)) Global)
+    × (command ≡ acts.Do (plans.Trace cell names)) × (arc_value names ≡ files.rule_files)
 
 -- a command as it is run
-abbrev pub IsCommand : Scripts → List Source → UserBody → Act PlanCommand → Type 0
-IsCommand scripts sources (bodies.Put cell number) command = command ≡ acts.Do (plans.Put cell number)
-IsCommand scripts sources (bodies.Get cell) command = command ≡ acts.Do (plans.Get cell)
-IsCommand scripts sources (bodies.Load load) command = IsLoadCommand scripts sources load command
-IsCommand scripts sources (bodies.View view) command = command ≡ acts.Do (plans.View view)
-IsCommand scripts sources (bodies.Spread cell amount how) command = command ≡ acts.Do (plans.Spread cell amount how)
-IsCommand scripts sources bodies.Sandbox command = command ≡ acts.Open
-IsCommand scripts sources bodies.Publish command = command ≡ acts.Publish
-IsCommand scripts sources bodies.Discard command = command ≡ acts.Discard
+abbrev pub IsCommand : ModelFiles → List Source → UserBody → Act PlanCommand → Type 0
+IsCommand files sources (bodies.Put cell number) command = command ≡ acts.Do (plans.Put cell number)
+IsCommand files sources (bodies.Get cell) command = command ≡ acts.Do (plans.Get cell)
+IsCommand files sources (bodies.Load load) command = IsLoadCommand files sources load command
+IsCommand files sources (bodies.View view) command = command ≡ acts.Do (plans.View view)
+IsCommand files sources (bodies.Spread cell amount how) command = command ≡ acts.Do (plans.Spread cell amount how)
+IsCommand files sources (bodies.Trace cell) command = IsTraceCommand files cell command
+IsCommand files sources bodies.Sandbox command = command ≡ acts.Open
+IsCommand files sources bodies.Publish command = command ≡ acts.Publish
+IsCommand files sources bodies.Discard command = command ≡ acts.Discard
 
 -- the commands of a user, each as it is run
-abbrev pub AreCommands : Scripts → List Source → List UserCommand → List (Act PlanCommand) → Type 0
-AreCommands scripts sources texts commands =
-    AllZip (λ text command. IsCommand scripts sources text.body command) texts commands
+abbrev pub AreCommands : ModelFiles → List Source → List UserCommand → List (Act PlanCommand) → Type 0
+AreCommands files sources texts commands =
+    AllZip (λ text command. IsCommand files sources text.body command) texts commands
 
 -- the commands of all users; nothing of it is refused
 abbrev pub commands_judgement :
-    Scripts → List Source → List (List UserCommand) → Judgement (List (List (Act PlanCommand)))
-commands_judgement scripts sources users = record {
-  stands_for = AllZip (AreCommands scripts sources) users;
+    ModelFiles → List Source → List (List UserCommand) → Judgement (List (List (Act PlanCommand)))
+commands_judgement files sources users = record {
+  stands_for = AllZip (AreCommands files sources) users;
   refused_for = λ _. ⊥;
 }

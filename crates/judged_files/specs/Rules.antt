@@ -1,5 +1,6 @@
 -- What a model and the files of its cubes' rules are judged to be.
-use Rattle.std.specs.Prelude.{◌≡◌, ℕ, List, map, filter_map, Option, Some, option_map, option_and_then}
+use Rattle.std.specs.Prelude.{◌≡◌, ℕ, List, [], map, filter_map, Option, Some, option_map}
+use Rattle.std.specs.Prelude.{option_and_then, unwrap_or}
 use Rattle.model_text.specs.Contents.{Contents}
 use Rattle.model_text.specs.declared.parts.CubeText.{CubeText}
 use Rattle.model_deploy.specs.Deployment.{deployment}
@@ -17,6 +18,10 @@ rule_name cube = option_map (λ rules. rules.1) cube.rules
 -- the names of the rule files, in cube order
 abbrev pub rule_names : List CubeText → List (List ℕ)
 rule_names cubes = filter_map rule_name cubes
+
+-- the name of the rule file of each cube, empty where a cube has none
+abbrev pub all_rule_names : List CubeText → List (List ℕ)
+all_rule_names cubes = map (λ cube. unwrap_or (rule_name cube) []) cubes
 
 abbrev pub rule_file_of : Source → RuleFile
 rule_file_of source = record { name = source.0; bytes = source.1 }

@@ -1,8 +1,6 @@
--- The scripts of a model, and what the bytes of all script files are judged to be, in the order of the model.
-use Rattle.std.specs.Prelude.{◌≡◌, ℕ, ◌≤◌, List, [], ◌∷◌, length, map, Some, Ok, Err, ◌⊎◌}
-use Rattle.model_text.specs.Contents.{most_scripts}
+-- What the bytes of all script files are judged to be, in the order of the model.
+use Rattle.std.specs.Prelude.{◌≡◌, ℕ, List, [], ◌∷◌, map, Some, Ok, Err, ◌⊎◌}
 use Rattle.model_text.specs.declared.parts.ScriptText.{ScriptText}
-use Rattle.rule_model.specs.BoundModel.{BoundModel}
 use Rattle.script_reader.specs.Answers.{Answers}
 use Rattle.script_reader.specs.declared.fault.ScriptFault.{ScriptFault}
 use Rattle.script_bind.specs.Binding.{bound_of}
@@ -11,21 +9,6 @@ use Rattle.script_tree.specs.declared.script.Script.{Script}
 use Rattle.file_passes.specs.declared.refusal.Refusal.{Refusal}
 use Rattle.file_passes.specs.Pass.{Source, Judgement}
 use Rattle.judged_files.specs.Refusals.{script_refusal}
-
--- the scripts of a model, in its order: their names, and what their files mean
-pub record Scripts : Type 0 where
-  pub names : List (List ℕ)
-  pub bound : List BoundScript
-
--- each name has its script, and there are no more than a model may have
-pub record AreNamed (names : List (List ℕ)) (scripts : List BoundScript) : Type 0 where
-  pub each : length scripts ≡ length names
-  pub few : length names ≤ most_scripts
-
--- a model that was accepted, with its scripts
-pub record Checked : Type 0 where
-  pub model : BoundModel
-  pub scripts : Scripts
 
 -- the names of the script files, in the order of the model
 abbrev pub script_files : List ScriptText → List (List ℕ)

@@ -48,6 +48,7 @@ is_unknown_load scripts (bodies.Get cell) = false
 is_unknown_load scripts (bodies.Load load) = not (has_name scripts load.script)
 is_unknown_load scripts (bodies.View view) = false
 is_unknown_load scripts (bodies.Spread cell amount how) = false
+is_unknown_load scripts (bodies.Trace cell) = false
 is_unknown_load scripts bodies.Sandbox = false
 is_unknown_load scripts bodies.Publish = false
 is_unknown_load scripts bodies.Discard = false

@@ -2,11 +2,12 @@
 //!
 //! Read `specs/Models.antt`, `specs/Rules.antt`, `specs/Scripts.antt` and `specs/Users.antt`, a file of each kind after
 //! the other: what its bytes mean, or why they are refused. Which refusal a fault of a text is stands in
-//! `specs/Refusals.antt`, and which commands are run in `specs/Loads.antt`.
+//! `specs/Refusals.antt`, and which commands are run in `specs/Loads.antt`, over what stands in `specs/ModelFiles.antt`.
 #![tactic(auto)]
 
 mod file_records;
 mod loads;
+mod model_files;
 mod models;
 mod refusing;
 mod rules;
@@ -14,7 +15,8 @@ mod scripts;
 mod users;
 
 pub use loads::{commands_of, record_files};
+pub use model_files::ModelFiles;
 pub use models::text_of;
-pub use rules::{model_of, rule_names};
-pub use scripts::{Scripts, script_files, script_names, scripts_of};
+pub use rules::{all_rule_names, model_of, rule_names};
+pub use scripts::{script_files, script_names, scripts_of};
 pub use users::users_of;

@@ -2,19 +2,19 @@ ghost use Rattle.std.specs.Prelude.{◌≡◌, ◌++◌, ℕ, All, IfOk, IfSome,
 ghost use Rattle.std.specs.List.{AllZip};
 ghost use Rattle.cube_words.specs.Words.{texts_of};
 ghost use Rattle.file_passes.specs.Pass.{source_of};
-ghost use Rattle.judged_files.specs.Loads.{user_files, record_files, records_of, IsLoadCommand, IsCommand};
+ghost use Rattle.judged_files.specs.Loads.{user_files, record_files, records_of, IsLoadCommand, IsTraceCommand};
 ghost use Rattle.user_text.specs.Jobs.{shared_records};
-ghost use Rattle.judged_files.specs.Loads.{AreCommands, IsReady, IsReadyLoad, AreReady};
+ghost use Rattle.judged_files.specs.Loads.{AreCommands, IsCommand, IsReady, IsReadyLoad, AreReady};
 
 use crate::file_records::{FileRecords, SharedRecords};
-use crate::scripts::Scripts;
+use crate::model_files::ModelFiles;
 use file_passes::{Source, file_name};
 use lists::ListOf;
 use sandbox::Act;
 use std::alloc::{AllocError, Global};
 use std::sync::Arc;
 use user_session::PlanCommand;
-use user_text::{LoadJob, LoadText, UserBody, UserCommand};
+use user_text::{CellText, LoadJob, LoadText, UserBody, UserCommand};
 
 /// The names of the files of all records, in the order of users and commands.
 pub fn record_files(alloc: Global, users: &[ListOf<UserCommand>]) -> Result<Vec<String>, AllocError>
@@ -54,32 +54,32 @@ fn add_files(
 /// and the files of their loads are there. Each file of records is read as records once, for all loads of it.
 pub fn commands_of(
     alloc: Global,
-    scripts: &Scripts,
+    files: &ModelFiles,
     sources: &[Source<'_>],
     users: ListOf<ListOf<UserCommand>>,
 ) -> Result<ListOf<ListOf<Act<PlanCommand>>>, AllocError>
-    requires { All (AreReady scripts.now sources.now) users }
-    ensures { IfOk result (λ commands. AllZip (AreCommands scripts.now sources.now) users commands) }
+    requires { All (AreReady files.now sources.now) users }
+    ensures { IfOk result (λ commands. AllZip (AreCommands files.now sources.now) users commands) }
 {
     let Ok(sources) = FileRecords::new(alloc, sources) else {
         return Err(AllocError);
     };
-    all_commands(alloc, scripts, &sources, users)
+    all_commands(alloc, files, &sources, users)
 }
 
 // The commands of all users.
 fn all_commands(
     alloc: Global,
-    scripts: &Scripts,
+    files: &ModelFiles,
     sources: &FileRecords<'_, '_>,
     users: ListOf<ListOf<UserCommand>>,
 ) -> Result<ListOf<ListOf<Act<PlanCommand>>>, AllocError>
-    requires { All (AreReady scripts.now sources.now) users }
-    ensures { IfOk result (λ commands. AllZip (AreCommands scripts.now sources.now) users commands) }
+    requires { All (AreReady files.now sources.now) users }
+    ensures { IfOk result (λ commands. AllZip (AreCommands files.now sources.now) users commands) }
 {
     let mut all = Vec::new(alloc);
     for texts in users.into_vec() {
-        let commands = user_commands(alloc, scripts, sources, texts)?;
+        let commands = user_commands(alloc, files, sources, texts)?;
         all.push(commands)?;
     }
     Ok(ListOf::new(all))
@@ -88,16 +88,16 @@ fn all_commands(
 // The commands of one user.
 fn user_commands(
     alloc: Global,
-    scripts: &Scripts,
+    files: &ModelFiles,
     sources: &FileRecords<'_, '_>,
     texts: ListOf<UserCommand>,
 ) -> Result<ListOf<Act<PlanCommand>>, AllocError>
-    requires { AreReady scripts.now sources.now texts }
-    ensures { IfOk result (λ commands. AreCommands scripts.now sources.now texts commands) }
+    requires { AreReady files.now sources.now texts }
+    ensures { IfOk result (λ commands. AreCommands files.now sources.now texts commands) }
 {
     let mut commands = Vec::new(alloc);
     for text in texts.into_vec() {
-        let command = command_of(alloc, scripts, sources, text.body)?;
+        let command = command_of(alloc, files, sources, text.body)?;
         commands.push(command)?;
     }
     Ok(ListOf::new(commands))
@@ -105,19 +105,20 @@ fn user_commands(
 
 fn command_of(
     alloc: Global,
-    scripts: &Scripts,
+    files: &ModelFiles,
     sources: &FileRecords<'_, '_>,
     body: UserBody,
 ) -> Result<Act<PlanCommand>, AllocError>
-    requires { IsReady scripts.now sources.now body }
-    ensures { IfOk result (λ command. IsCommand scripts.now sources.now body command) }
+    requires { IsReady files.now sources.now body }
+    ensures { IfOk result (λ command. IsCommand files.now sources.now body command) }
 {
     match body {
         UserBody::Put(cell, number) => Ok(Act::Do(PlanCommand::Put(cell, number))),
         UserBody::Get(cell) => Ok(Act::Do(PlanCommand::Get(cell))),
-        UserBody::Load(load) => load_command(alloc, scripts, sources, load),
+        UserBody::Load(load) => load_command(alloc, files, sources, load),
         UserBody::View(view) => Ok(Act::Do(PlanCommand::View(view))),
         UserBody::Spread(cell, amount, how) => Ok(Act::Do(PlanCommand::Spread(cell, amount, how))),
+        UserBody::Trace(cell) => trace_command(files, cell),
         UserBody::Sandbox => Ok(Act::Open),
         UserBody::Publish => Ok(Act::Publish),
         UserBody::Discard => Ok(Act::Discard),
@@ -127,14 +128,14 @@ fn command_of(
 // A load by the place of its script in the model, with its records.
 fn load_command(
     alloc: Global,
-    scripts: &Scripts,
+    files: &ModelFiles,
     sources: &FileRecords<'_, '_>,
     load: LoadText,
 ) -> Result<Act<PlanCommand>, AllocError>
-    requires { IsReadyLoad scripts.now sources.now load }
-    ensures { IfOk result (λ command. IsLoadCommand scripts.now sources.now load command) }
+    requires { IsReadyLoad files.now sources.now load }
+    ensures { IfOk result (λ command. IsLoadCommand files.now sources.now load command) }
 {
-    let (script, bound) = scripts.named(&load.script);
+    let (script, bound) = files.named(&load.script);
     let job = LoadJob {
         script,
         records: records_of(sources, &load.file)?,
@@ -142,6 +143,14 @@ fn load_command(
         params: load.params,
     };
     Ok(Act::Do(PlanCommand::Load(job, Arc::try_clone(bound)?)))
+}
+
+// A trace, with the names of the rule files.
+fn trace_command(files: &ModelFiles, cell: CellText) -> Result<Act<PlanCommand>, AllocError>
+    ensures { IfOk result (λ command. IsTraceCommand files.now cell command) }
+{
+    let names = files.rule_files()?;
+    Ok(Act::Do(PlanCommand::Trace(cell, names)))
 }
 
 // The records of a load's file, which is among those that were read.

@@ -1,9 +1,9 @@
-ghost use Rattle.std.specs.Prelude.{◌≡◌, ◌+◌, ◌<◌, length, take, IfOk, IfSome, OnOk};
+ghost use Rattle.std.specs.Prelude.{◌≡◌, ◌+◌, ◌<◌, [], length, take, IfOk, IfSome, OnOk, unwrap_or};
 ghost use Rattle.file_passes.specs.Halting.{Judges};
 ghost use Rattle.judged_files.specs.Inside.Judging.{IsHaltFor};
 ghost use Rattle.judged_files.specs.Inside.RuleFiles.{IsEarlierWith};
 ghost use Rattle.judged_files.specs.Refusals.{deploy_refusal, file_or, place_of};
-ghost use Rattle.judged_files.specs.Rules.{rule_names, rule_files};
+ghost use Rattle.judged_files.specs.Rules.{all_rule_names, rule_name, rule_names, rule_files};
 ghost use Rattle.judged_files.specs.Rules.{deployment_judgement};
 ghost use Rattle.cube_words.specs.Words.{texts_of};
 
@@ -26,6 +26,27 @@ pub fn rule_names(alloc: Global, cubes: &[CubeText]) -> Result<Vec<String>, Allo
         }
     }
     Ok(names)
+}
+
+/// The name of the rule file of each cube, empty where a cube has none.
+pub fn all_rule_names(alloc: Global, cubes: &[CubeText]) -> Result<ListOf<ListOf<u8>>, AllocError>
+    ensures { IfOk result (λ names. names ≡ all_rule_names cubes.now) }
+{
+    let mut names = Vec::with_capacity(alloc, cubes.len())?;
+    for cube in cubes {
+        names.push(rule_name_or_empty(alloc, cube)?)?;
+    }
+    Ok(ListOf::new(names))
+}
+
+fn rule_name_or_empty(alloc: Global, cube: &CubeText) -> Result<ListOf<u8>, AllocError>
+    ensures { IfOk result (λ name. name ≡ unwrap_or (rule_name cube.now) []) }
+{
+    let name = match &cube.rules {
+        Some((_, file)) => Vec::from_slice(alloc, file.as_slice())?,
+        None => Vec::new(alloc),
+    };
+    Ok(ListOf::new(name))
 }
 
 /// The model of a model text, which stands in this file, and of the rule files of its cubes among those that were read.

@@ -111,6 +111,7 @@ fn is_unknown(scripts: &[Name], command: &UserBody) -> bool
     match command {
         UserBody::Load(load) => !has_name(scripts, &load.script),
         UserBody::Put(..) | UserBody::Get(_) | UserBody::View(_) | UserBody::Spread(..) => false,
+        UserBody::Trace(_) => false,
         UserBody::Sandbox | UserBody::Publish | UserBody::Discard => false,
     }
 }

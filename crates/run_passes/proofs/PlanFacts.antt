@@ -14,8 +14,9 @@ use Rattle.file_passes.proofs.PassFacts.{AreAlike, alike-found, alike-bind, alik
 use Rattle.file_passes.proofs.Steady.{IsSteady, IsSettled, steady-file, steady-files, steady-judged, steady-bind, worded-judged, worded-behind}
 use Rattle.judged_files.specs.Loads.{record_files, commands_judgement}
 use Rattle.judged_files.specs.Models.{text_judgement}
-use Rattle.judged_files.specs.Rules.{rule_names, deployment_judgement}
-use Rattle.judged_files.specs.Scripts.{Scripts, Checked, script_files, scripts_judgement}
+use Rattle.judged_files.specs.Rules.{rule_names, all_rule_names, deployment_judgement}
+use Rattle.judged_files.specs.ModelFiles.{ModelFiles, Checked}
+use Rattle.judged_files.specs.Scripts.{script_files, scripts_judgement}
 use Rattle.judged_files.specs.Users.{users_judgement}
 use Rattle.judged_files.proofs.Judgements.{one_text_judgement, one_deployment_judgement, no_scripts_refused, one_users_judgement}
 use Rattle.model_text.specs.Contents.{script_names, Contents as Text}
@@ -52,31 +53,31 @@ settled-scripts names = record {
       (λ sources. worded-judged (scripts_judgement sources));
 }
 
-kept-behind_rules : (files names : List (List ℕ)) (bound : BoundModel) → IsKept (behind_rules files names bound)
-kept-behind_rules files names bound =
-    kept-bind (scripts_pass files) (behind_scripts names bound) (kept-scripts files) (λ trees. kept-found (checked_of bound names trees))
+kept-behind_rules : (files names rules : List (List ℕ)) (bound : BoundModel) → IsKept (behind_rules files names rules bound)
+kept-behind_rules files names rules bound =
+    kept-bind (scripts_pass files) (behind_scripts names rules bound) (kept-scripts files) (λ trees. kept-found (checked_of bound names rules trees))
 
 kept-behind_text : (name : List ℕ) (contents : Text) → IsKept (behind_text name contents)
 kept-behind_text name contents =
-    kept-bind (deploy_pass name contents) (behind_rules (script_files contents.scripts) (script_names contents.scripts)) (steady-deploy name contents).kept
-    (kept-behind_rules (script_files contents.scripts) (script_names contents.scripts))
+    kept-bind (deploy_pass name contents) (behind_rules (script_files contents.scripts) (script_names contents.scripts) (all_rule_names contents.cubes)) (steady-deploy name contents).kept
+    (kept-behind_rules (script_files contents.scripts) (script_names contents.scripts) (all_rule_names contents.cubes))
 
 pub kept-model : (name : List ℕ) → IsKept (model_pass name)
 kept-model name = kept-bind (text_pass name) (behind_text name) (steady-text name).kept (kept-behind_text name)
 
-settled-behind_rules : (files names : List (List ℕ)) (bound : BoundModel) → IsSettled (behind_rules files names bound)
-settled-behind_rules files names bound =
+settled-behind_rules : (files names rules : List (List ℕ)) (bound : BoundModel) → IsSettled (behind_rules files names rules bound)
+settled-behind_rules files names rules bound =
     let scripts = settled-scripts files in
     record {
-      alike = alike-bind (scripts_pass files) (scripts_pass files) (behind_scripts names bound) (behind_scripts names bound) scripts.alike scripts.alike
-          (λ readings a b p q. alike-found (checked_of bound names a) (checked_of bound names b));
-      worded = worded-behind (scripts_pass files) (behind_scripts names bound) scripts.worded (λ trees readings stops. stops);
+      alike = alike-bind (scripts_pass files) (scripts_pass files) (behind_scripts names rules bound) (behind_scripts names rules bound) scripts.alike scripts.alike
+          (λ readings a b p q. alike-found (checked_of bound names rules a) (checked_of bound names rules b));
+      worded = worded-behind (scripts_pass files) (behind_scripts names rules bound) scripts.worded (λ trees readings stops. stops);
     }
 
 settled-behind_text : (name : List ℕ) (contents : Text) → IsSettled (behind_text name contents)
 settled-behind_text name contents =
-    let behind = behind_rules (script_files contents.scripts) (script_names contents.scripts) in
-    let settled = settled-behind_rules (script_files contents.scripts) (script_names contents.scripts) in
+    let behind = behind_rules (script_files contents.scripts) (script_names contents.scripts) (all_rule_names contents.cubes) in
+    let settled = settled-behind_rules (script_files contents.scripts) (script_names contents.scripts) (all_rule_names contents.cubes) in
     record {
       alike = alike-behind (deploy_pass name contents) behind behind (steady-deploy name contents).one (λ bound. (settled bound).alike);
       worded = worded-behind (deploy_pass name contents) behind (steady-deploy name contents).worded (λ bound. (settled bound).worded);
@@ -90,11 +91,11 @@ settled-model name = record {
 
 -- the names of the scripts are told by the model's text
 same-names : (name : List ℕ) (readings : Readings) (a b : Checked) → (model_pass name).finds readings a → (model_pass name).finds readings b
-    → a.scripts.names ≡ b.scripts.names
+    → a.files.script_names ≡ b.files.script_names
 same-names name readings a b p q =
     let text : p.0 ≡ q.0 = (steady-text name).one.one_found readings p.0 q.0 p.1 q.1 in
     let names_in : Text → List (List ℕ) = λ contents. script_names contents.scripts in
-    let names_of : Checked → List (List ℕ) = λ checked. checked.scripts.names in
+    let names_of : Checked → List (List ℕ) = λ checked. checked.files.script_names in
     ap names_of p.2.2.2 ∙ ap names_in text ∙ sym (ap names_of q.2.2.2)
 
 -- ---- of users
@@ -104,32 +105,32 @@ steady-users scripts names =
     steady-bind (files as_text names) (λ sources. judged (users_judgement scripts sources)) (steady-files as_text names)
     (λ sources. steady-judged (users_judgement scripts sources) (one_users_judgement scripts sources))
 
-alike-records : (a b : Scripts) (texts : List (List UserCommand)) → AreAlike (records_pass a texts) (records_pass b texts)
+alike-records : (a b : ModelFiles) (texts : List (List UserCommand)) → AreAlike (records_pass a texts) (records_pass b texts)
 alike-records a b texts =
     alike-behind (files Whole (record_files texts)) (λ sources. judged (commands_judgement a sources texts)) (λ sources. judged (commands_judgement b sources texts))
     (one-files Whole (record_files texts))
     (λ sources. alike-judged (commands_judgement a sources texts) (commands_judgement b sources texts) (λ r never. never) (λ r never. never))
 
-worded-records : (scripts : Scripts) (texts : List (List UserCommand)) (readings : Readings) → (records_pass scripts texts).stops readings NotWords → ⊥
-worded-records scripts texts =
-    worded-behind (files Whole (record_files texts)) (λ sources. judged (commands_judgement scripts sources texts)) (steady-files Whole (record_files texts)).worded
-    (λ sources. worded-judged (commands_judgement scripts sources texts))
+worded-records : (model_files : ModelFiles) (texts : List (List UserCommand)) (readings : Readings) → (records_pass model_files texts).stops readings NotWords → ⊥
+worded-records model_files texts =
+    worded-behind (files Whole (record_files texts)) (λ sources. judged (commands_judgement model_files sources texts)) (steady-files Whole (record_files texts)).worded
+    (λ sources. worded-judged (commands_judgement model_files sources texts))
 
 alike-behind_users : (a b : Checked) (texts : List (List UserCommand)) → AreAlike (behind_users a texts) (behind_users b texts)
 alike-behind_users a b texts =
-    alike-bind (records_pass a.scripts texts) (records_pass b.scripts texts) (served a) (served b)
-    (alike-records a.scripts b.scripts texts) (alike-records b.scripts a.scripts texts)
+    alike-bind (records_pass a.files texts) (records_pass b.files texts) (served a) (served b)
+    (alike-records a.files b.files texts) (alike-records b.files a.files texts)
     (λ readings x y p q. alike-found (jobs.Serve a.model x) (jobs.Serve b.model y))
 
-alike-behind_model : (users : List (List ℕ)) (a b : Checked) → a.scripts.names ≡ b.scripts.names → AreAlike (behind_model users a) (behind_model users b)
+alike-behind_model : (users : List (List ℕ)) (a b : Checked) → a.files.script_names ≡ b.files.script_names → AreAlike (behind_model users a) (behind_model users b)
 alike-behind_model users a b same =
     subst (λ names. AreAlike (behind_model users a) (users_pass names users >>= behind_users b)) same
-    (alike-behind (users_pass a.scripts.names users) (behind_users a) (behind_users b) (steady-users a.scripts.names users).one (alike-behind_users a b))
+    (alike-behind (users_pass a.files.script_names users) (behind_users a) (behind_users b) (steady-users a.files.script_names users).one (alike-behind_users a b))
 
 worded-behind_model : (users : List (List ℕ)) (checked : Checked) (readings : Readings) → (behind_model users checked).stops readings NotWords → ⊥
 worded-behind_model users checked =
-    worded-behind (users_pass checked.scripts.names users) (behind_users checked) (steady-users checked.scripts.names users).worded
-    (λ texts. worded-behind (records_pass checked.scripts texts) (served checked) (worded-records checked.scripts texts) (λ commands readings stops. stops))
+    worded-behind (users_pass checked.files.script_names users) (behind_users checked) (steady-users checked.files.script_names users).worded
+    (λ texts. worded-behind (records_pass checked.files texts) (served checked) (worded-records checked.files texts) (λ commands readings stops. stops))
 
 -- ---- of each plan
 

@@ -1,7 +1,7 @@
 -- The scripts that a model's files mean are those that it names.
 use Rattle.std.proofs.Common.{◌≡◌, ◌≤◌, ℕ, List, length, ◌∙◌}
 use Rattle.file_passes.specs.Pass.{Readings}
-use Rattle.judged_files.specs.Scripts.{AreNamed}
+use Rattle.judged_files.specs.ModelFiles.{AreNamed}
 use Rattle.judged_files.proofs.ReadyFacts.{as-many-files, as-many-scripts}
 use Rattle.model_text.specs.Contents.{most_scripts}
 use Rattle.script_bound.specs.declared.script.BoundScript.{BoundScript}

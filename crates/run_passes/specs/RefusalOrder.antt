@@ -13,8 +13,9 @@ use Rattle.user_text.specs.declared.command.UserCommand.{UserCommand}
 use Rattle.run_passes.specs.declared.run_job.RunJob.{RunJob}
 use Rattle.run_passes.specs.declared.run_job.RunJob.TheVariants as jobs
 use Rattle.judged_files.specs.Models.{text_judgement}
-use Rattle.judged_files.specs.Rules.{rule_names, deployment_judgement}
-use Rattle.judged_files.specs.Scripts.{Scripts, Checked, script_files, scripts_judgement}
+use Rattle.judged_files.specs.Rules.{rule_names, all_rule_names, deployment_judgement}
+use Rattle.judged_files.specs.ModelFiles.{ModelFiles, Checked}
+use Rattle.judged_files.specs.Scripts.{script_files, scripts_judgement}
 use Rattle.judged_files.specs.Users.{users_judgement}
 use Rattle.judged_files.specs.Loads.{record_files, commands_judgement}
 
@@ -46,7 +47,14 @@ model_pass name = do
   contents ← text_pass name
   bound ← deploy_pass name contents
   scripts ← scripts_pass (script_files contents.scripts)
-  found (record { model = bound; scripts = record { names = script_names contents.scripts; bound = scripts } })
+  found (record {
+    model = bound;
+    files = record {
+      script_names = script_names contents.scripts;
+      bound = scripts;
+      rule_files = all_rule_names contents.cubes;
+    };
+  })
 
 -- all user files are read, and are users' texts, in which each load is one of a script of these names
 abbrev pub users_pass : List (List ℕ) → List (List ℕ) → Pass (List (List UserCommand))
@@ -55,17 +63,17 @@ users_pass scripts names = do
   judged (users_judgement scripts sources)
 
 -- the files of all records are read whole, and with them the commands are run
-abbrev pub records_pass : Scripts → List (List UserCommand) → Pass (List (List (Act PlanCommand)))
-records_pass scripts users = do
+abbrev pub records_pass : ModelFiles → List (List UserCommand) → Pass (List (List (Act PlanCommand)))
+records_pass model_files users = do
   sources ← files Whole (record_files users)
-  judged (commands_judgement scripts sources users)
+  judged (commands_judgement model_files sources users)
 
 -- the passes of each plan
 abbrev pub plan_pass : Plan → Pass RunJob
 plan_pass (Run model users) = do
   checked ← model_pass model
-  texts ← users_pass checked.scripts.names users
-  commands ← records_pass checked.scripts texts
+  texts ← users_pass checked.files.script_names users
+  commands ← records_pass checked.files texts
   found (jobs.Serve checked.model commands)
 plan_pass (Check model) = do
   checked ← model_pass model

@@ -11,7 +11,8 @@ use cube_outside::{Extent, Files};
 use dim_name::Name;
 use file_passes::{Halt, Readings, obtain, obtain_all};
 use judged_files::{
-    Scripts, model_of, rule_names, script_files, script_names, scripts_of, text_of,
+    ModelFiles, all_rule_names, model_of, rule_names, script_files, script_names, scripts_of,
+    text_of,
 };
 use lists::ListOf;
 use model_text::ModelText;
@@ -22,16 +23,16 @@ use std::marker::Model;
 /// How much of a text is read: one byte more than it may have, so that a longer one is seen to be too long.
 pub(crate) const AS_TEXT: Extent = Extent::Front((1 << 30) + 1);
 
-/// A model that was accepted, with its scripts.
+/// A model that was accepted, with its files.
 #[derive(Drop)]
 pub(crate) struct Checked {
     pub(crate) model: Accepted,
-    pub(crate) scripts: Scripts,
+    pub(crate) files: ModelFiles,
 }
 
 impl Model for Checked {
     ghost use Rattle.std.specs.Coded.{codes};
-    ghost use Rattle.judged_files.specs.Scripts.{Checked as CheckedOf};
+    ghost use Rattle.judged_files.specs.ModelFiles.{Checked as CheckedOf};
     ghost use Rattle.rule_laws.specs.contracts.formula.Formula as formula;
     ghost use Rattle.script_bound.specs.contracts.script.BoundScript as script;
 
@@ -39,7 +40,7 @@ impl Model for Checked {
 
     ghost coded = { Prim.hlevel (codes, formula.the_row.coded, script.the_row.coded) };
 
-    ghost view = { λ checked. record { model = checked.model; scripts = checked.scripts } };
+    ghost view = { λ checked. record { model = checked.model; files = checked.files } };
 }
 
 // The model file.
@@ -137,33 +138,38 @@ fn behind_text<F: Files>(
     let Ok(names) = script_names(alloc, text.scripts()) else {
         return Err(Halt::Memory);
     };
+    let Ok(rules) = all_rule_names(alloc, text.cubes()) else {
+        return Err(Halt::Memory);
+    };
     match deploy_pass(alloc, files, readings, name, text) {
-        Ok(model) => behind_rules(alloc, files, readings, &scripts, names, model),
+        Ok(model) => behind_rules(alloc, files, readings, &scripts, names, rules, model),
         Err(halt) => Err(halt),
     }
 }
 
-// The pass behind that of the rule files, of the scripts of these files and names.
+// The pass behind that of the rule files, of the scripts of these files and names. `rules` has the name of the rule file
+// of each cube.
 fn behind_rules<F: Files>(
     alloc: Global,
     files: &mut F,
     readings: &mut Readings,
     scripts: &[String],
     names: ListOf<Name>,
+    rules: ListOf<ListOf<u8>>,
     model: Accepted,
 ) -> Result<Checked, Halt>
     requires each { length scripts.now ≡ length names }
     requires few { length names ≤ most_scripts }
     ensures known { (F.seen files.new).known ≡ (F.seen files.old).known }
-    ensures comes { Comes (behind_rules (texts_of scripts.now) names model)
+    ensures comes { Comes (behind_rules (texts_of scripts.now) names rules model)
         (outside F.seen files.old files.new) readings.old readings.new result }
 {
     let trees = match scripts_pass(alloc, files, readings, scripts) {
         Ok(trees) => trees,
         Err(halt) => return Err(halt),
     };
-    match Scripts::new(alloc, names, trees) {
-        Ok(scripts) => Ok(Checked { model, scripts }),
+    match ModelFiles::new(alloc, names, trees, rules) {
+        Ok(files) => Ok(Checked { model, files }),
         Err(_) => Err(Halt::Memory),
     }
 }

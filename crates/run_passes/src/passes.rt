@@ -12,7 +12,7 @@ use cube_outside::{Extent, Files};
 use cube_words::{Plan, WordsFault, words as plan_of};
 use dim_name::Name;
 use file_passes::{Halt, Readings, obtain_all};
-use judged_files::{Scripts, commands_of, record_files, users_of};
+use judged_files::{ModelFiles, commands_of, record_files, users_of};
 use lists::ListOf;
 use sandbox::Act;
 use std::alloc::Global;
@@ -45,12 +45,12 @@ fn records_pass<F: Files>(
     alloc: Global,
     files: &mut F,
     readings: &mut Readings,
-    scripts: &Scripts,
+    model_files: &ModelFiles,
     users: ListOf<ListOf<UserCommand>>,
 ) -> Result<ListOf<ListOf<Act<PlanCommand>>>, Halt>
-    requires { AreKnown scripts.now.names users }
+    requires { AreKnown model_files.now.script_names users }
     ensures known { (F.seen files.new).known ≡ (F.seen files.old).known }
-    ensures comes { Comes (records_pass scripts.now users)
+    ensures comes { Comes (records_pass model_files.now users)
         (outside F.seen files.old files.new) readings.old readings.new result }
 {
     let names = match record_files(alloc, users.as_slice()) {
@@ -64,7 +64,7 @@ fn records_pass<F: Files>(
         Ok(sources) => sources,
         Err(_) => return Err(Halt::Memory),
     };
-    match commands_of(alloc, scripts, &sources, users) {
+    match commands_of(alloc, model_files, &sources, users) {
         Ok(commands) => Ok(commands),
         Err(_) => Err(Halt::Memory),
     }
@@ -128,7 +128,7 @@ fn behind_model<F: Files>(
         (outside F.seen files.old files.new) readings.old readings.new result }
 {
     let whole = &checked;
-    let scripts = whole.scripts.names.as_slice();
+    let scripts = whole.files.script_names.as_slice();
     let texts = users_pass(alloc, files, readings, scripts, users)?;
     behind_users(alloc, files, readings, checked, texts)
 }
@@ -141,11 +141,11 @@ fn behind_users<F: Files>(
     checked: Checked,
     texts: ListOf<ListOf<UserCommand>>,
 ) -> Result<RunJob, Halt>
-    requires { AreKnown checked.scripts.names texts }
+    requires { AreKnown checked.files.script_names texts }
     ensures { Comes (behind_users checked texts) (outside F.seen files.old files.new)
         readings.old readings.new result }
 {
-    let commands = records_pass(alloc, files, readings, &checked.scripts, texts)?;
+    let commands = records_pass(alloc, files, readings, &checked.files, texts)?;
     Ok(RunJob::Serve(checked.model, commands))
 }
 

@@ -22,8 +22,8 @@ use Rattle.script_bound.specs.declared.script.BoundScript.{BoundScript}
 use Rattle.std.specs.Arc.{arc_value}
 use Rattle.user_session.specs.declared.content.Content.{Content}
 use Rattle.user_session.specs.declared.command.PlanCommand.{PlanCommand}
-use Rattle.user_session.specs.declared.command.PlanCommand.TheVariants.{Put, Get, Load, View, Spread, Fixed}
-use Rattle.user_session.specs.Planning.{effect, ended_effect, fixed_effect, get_effect, how_of, load_effect, misfit, named_cell, passed_limit, put_effect, spread_effect, table_effect, unless_closed, unless_fault, unless_reason, write_effect}
+use Rattle.user_session.specs.declared.command.PlanCommand.TheVariants.{Put, Get, Load, View, Spread, Trace, Fixed}
+use Rattle.user_session.specs.Planning.{effect, ended_effect, fixed_effect, get_effect, how_of, load_effect, misfit, named_cell, passed_limit, put_effect, spread_effect, table_effect, trace_effect, unless_closed, unless_fault, unless_reason, write_effect}
 use Rattle.view_query.specs.Binding.{bound}
 use Rattle.view_query.specs.declared.fault.ViewFault.{ViewFault}
 use Rattle.view_query.specs.declared.shape.View as views
@@ -109,6 +109,10 @@ view-never : (content : Content) (meant : Result views.View ViewFault) (writes :
 view-never content (Ok view) writes reply is = absurd (cc)
 view-never content (Err fault) writes reply is = absurd (cc)
 
+trace-never : (content : Content) (files : List (List ℕ)) (named : Option ℕ) (writes : List (ℕ × ℤ)) (reply : List ℕ) → trace_effect content files named ≡ Commit writes reply → AreWithin content writes
+trace-never content files None writes reply is = absurd (cc)
+trace-never content files (Some c) writes reply is = absurd (cc)
+
 pub accepted-within : (content : Content) (command : PlanCommand) (writes : List (ℕ × ℤ)) (reply : List ℕ) → effect content command ≡ Commit writes reply
     → AreWithin content writes
 accepted-within content (Put text number) writes reply is =
@@ -117,4 +121,5 @@ accepted-within content (Get text) writes reply is = get-never content (named_ce
 accepted-within content (Load job script) writes reply is = load-within content job (arc_value script) writes reply is
 accepted-within content (View text) writes reply is = view-never content (bound content.model.space text) writes reply is
 accepted-within content (Spread text amount how) writes reply is = spread-within content (named_cell content.model text) amount how writes reply is
+accepted-within content (Trace text files) writes reply is = trace-never content (arc_value files) (named_cell content.model text) writes reply is
 accepted-within content (Fixed layer) writes reply is = fixed-within content layer writes reply is

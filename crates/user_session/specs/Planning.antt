@@ -35,11 +35,12 @@ use Rattle.script_run.specs.declared.ran.Ran.{Ran}
 use Rattle.script_run.specs.declared.ran.Ran.TheVariants.{Done, Rejected as Stopped}
 use Rattle.script_bound.specs.declared.script.BoundScript.{BoundScript}
 use Rattle.stored_laws.specs.Stored.{stored_in}
+use Rattle.trace_text.specs.TraceText.{reply_text as traced_text}
 use Rattle.user_session.specs.declared.content.Content.{Content}
 use Rattle.user_session.specs.Replies.{fault_text, reply_text, spread_fault_text}
 use Rattle.user_session.specs.RejectedLoad.{stopped_text}
 use Rattle.user_session.specs.declared.command.PlanCommand.{PlanCommand}
-use Rattle.user_session.specs.declared.command.PlanCommand.TheVariants.{Put, Get, Load, View, Spread, Fixed}
+use Rattle.user_session.specs.declared.command.PlanCommand.TheVariants.{Put, Get, Load, View, Spread, Trace, Fixed}
 use Rattle.user_session.specs.declared.reply.CommandReason.{CommandReason}
 use Rattle.user_session.specs.declared.reply.CommandReason.TheVariants.{UnknownName, NotALeaf, RuleDerived}
 use Rattle.user_session.specs.declared.reply.CommandReason.TheVariants.{StoreLimit, FedLimit}
@@ -150,6 +151,11 @@ spread_effect content (Some cell) amount how =
     unless_fault (refusal_of content.model content.stored cell amount (how_of how))
     (write_effect content (shares_of content.model.space content.stored cell amount (how_of how)))
 
+-- a question for why a cell has its value, where these are the names of the rule files, one of each cube
+abbrev pub trace_effect : Content → List (List ℕ) → Option ℕ → PlanEffect
+trace_effect content files None = effects.Read (reply_text (Refused UnknownName))
+trace_effect content files (Some cell) = effects.Read (traced_text content.model content.stored files cell)
+
 -- whether each of these writes is of a leaf cell
 abbrev pub all_leaf_cells : Layout → List (ℕ × ℤ) → Bool
 all_leaf_cells space writes =
@@ -171,4 +177,5 @@ effect content (Get text) = get_effect content (named_cell content.model text)
 effect content (Load job script) = load_effect content job (arc_value script)
 effect content (View text) = view_effect content text
 effect content (Spread text amount how) = spread_effect content (named_cell content.model text) amount how
+effect content (Trace text files) = trace_effect content (arc_value files) (named_cell content.model text)
 effect content (Fixed writes) = fixed_effect content writes

@@ -1,9 +1,13 @@
 use crate::world::CellWrites;
 use cube_fixed::Money;
+use lists::ListOf;
 use script_bound::BoundScript;
 use std::alloc::Global;
 use std::sync::Arc;
 use user_text::{CellText, LoadJob, SpreadWord, ViewText};
+
+/// The name of the rule file of each cube, empty where a cube has none. All traces share the names.
+pub type RuleFileNames = Arc<ListOf<ListOf<u8>>, Global>;
 
 /// A command that is run on a version of the numbers.
 #[derive(Drop)]
@@ -19,6 +23,8 @@ pub enum PlanCommand {
     View(ViewText),
     /// Spreads an amount over the leaf cells below a cell, and stores their shares.
     Spread(CellText, Money, SpreadWord),
+    /// Asks why a cell has its value.
+    Trace(CellText, RuleFileNames),
     /// Stores just these numbers, all of them or none: what a sandbox has kept, when it is published. No text means it.
     Fixed(CellWrites),
 }

@@ -17,12 +17,13 @@ mod put_command;
 mod reply;
 mod sandboxes;
 mod spread_command;
+mod trace_command;
 mod view_command;
 mod world;
 mod writes;
 
 pub use acts::PlanActs;
-pub use command::PlanCommand;
+pub use command::{PlanCommand, RuleFileNames};
 pub use content::Content;
 pub use laws::layers_are_writes_in_turn;
 pub use reply::{CommandReason, Reply, ReplyText};

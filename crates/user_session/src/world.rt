@@ -6,6 +6,7 @@ use crate::load_command::load;
 use crate::put_command::put;
 use crate::reply::ReplyText;
 use crate::spread_command::spread;
+use crate::trace_command::trace;
 use crate::view_command::view;
 use cell_reader::Snapshot;
 use cube_fixed::{Money, Value};
@@ -62,6 +63,7 @@ impl World for PlanWorld {
             PlanCommand::Load(job, script) => load(alloc, state, job, script),
             PlanCommand::View(text) => view(alloc, state, text),
             PlanCommand::Spread(cell, amount, how) => spread(alloc, state, cell, *amount, *how),
+            PlanCommand::Trace(cell, files) => trace(alloc, state, files, cell),
             PlanCommand::Fixed(writes) => fixed(alloc, state, writes),
         }
     }

@@ -10,22 +10,29 @@ use Rattle.user_text.specs.declared.command.UserCommand.{UserCommand}
 use Rattle.run_passes.specs.declared.run_job.RunJob.{RunJob}
 use Rattle.run_passes.specs.declared.run_job.RunJob.TheVariants as jobs
 use Rattle.run_passes.specs.RefusalOrder.{deploy_pass, scripts_pass, users_pass, records_pass}
-use Rattle.judged_files.specs.Scripts.{Checked, script_files}
+use Rattle.judged_files.specs.ModelFiles.{Checked}
+use Rattle.judged_files.specs.Rules.{all_rule_names}
+use Rattle.judged_files.specs.Scripts.{script_files}
 
 -- ---- of a model
 
-abbrev pub checked_of : BoundModel → List (List ℕ) → List BoundScript → Checked
-checked_of model names scripts = record { model = model; scripts = record { names = names; bound = scripts } }
+-- the model with the scripts of these names, where these are the names of the rule files, one of each cube
+abbrev pub checked_of : BoundModel → List (List ℕ) → List (List ℕ) → List BoundScript → Checked
+checked_of model names rules scripts = record {
+  model = model;
+  files = record { script_names = names; bound = scripts; rule_files = rules };
+}
 
-abbrev pub behind_scripts : List (List ℕ) → BoundModel → List BoundScript → Pass Checked
-behind_scripts names model scripts = found (checked_of model names scripts)
+abbrev pub behind_scripts : List (List ℕ) → List (List ℕ) → BoundModel → List BoundScript → Pass Checked
+behind_scripts names rules model scripts = found (checked_of model names rules scripts)
 
-abbrev pub behind_rules : List (List ℕ) → List (List ℕ) → BoundModel → Pass Checked
-behind_rules files names bound = scripts_pass files >>= behind_scripts names bound
+abbrev pub behind_rules : List (List ℕ) → List (List ℕ) → List (List ℕ) → BoundModel → Pass Checked
+behind_rules files names rules bound = scripts_pass files >>= behind_scripts names rules bound
 
 abbrev pub behind_text : List ℕ → Contents → Pass Checked
 behind_text name contents =
-    deploy_pass name contents >>= behind_rules (script_files contents.scripts) (script_names contents.scripts)
+    deploy_pass name contents
+    >>= behind_rules (script_files contents.scripts) (script_names contents.scripts) (all_rule_names contents.cubes)
 
 -- ---- of a run
 
@@ -33,7 +40,7 @@ abbrev pub served : Checked → List (List (Act PlanCommand)) → Pass RunJob
 served checked commands = found (jobs.Serve checked.model commands)
 
 abbrev pub behind_users : Checked → List (List UserCommand) → Pass RunJob
-behind_users checked texts = records_pass checked.scripts texts >>= served checked
+behind_users checked texts = records_pass checked.files texts >>= served checked
 
 abbrev pub behind_model : List (List ℕ) → Checked → Pass RunJob
-behind_model users checked = users_pass checked.scripts.names users >>= behind_users checked
+behind_model users checked = users_pass checked.files.script_names users >>= behind_users checked

@@ -12,7 +12,7 @@ user_commands-requires c =
     let rest = into_iter_items c.next.new.self in
     let parts : c.args.users ≡ before ++ here ∷ rest =
     sym c.into_vec-texts-items.ensures ∙ sym c.into_iter-texts-iterator.ensures.into_iter_gives.0 ∙ taken_front c.into_iter-texts-iterator.result before c.loop-texts.texts-iterator c.loop-texts.yielded_by ∙ ap (λ l. before ++ l) c.in-Some.ensures.steps.0 in
-    all-here (AreReady c.args.scripts.now c.args.sources.now) before here rest (subst (All (AreReady c.args.scripts.now c.args.sources.now)) parts c.requires)
+    all-here (AreReady c.args.files.now c.args.sources.now) before here rest (subst (All (AreReady c.args.files.now c.args.sources.now)) parts c.requires)
 
 pub returns : goal.returns
 returns c =

@@ -8,5 +8,5 @@ use Rattle.judged_files.proofs.loads.all_commands.Given as goal
 -- whatever the rest comes to comes behind the users so far
 abbrev pub invariant-loop-texts : goal.invariant-loop-texts
 invariant-loop-texts l = (more : List (List (Act PlanCommand)))
-    → AllZip (AreCommands l.scripts l.sources) l.texts-iterator.rest.items more
-    → AllZip (AreCommands l.scripts l.sources) l.fn.users (l.all.items ++ more)
+    → AllZip (AreCommands l.files l.sources) l.texts-iterator.rest.items more
+    → AllZip (AreCommands l.files l.sources) l.fn.users (l.all.items ++ more)

@@ -12,7 +12,7 @@ command_of-requires c =
     let rest = into_iter_items c.next.new.self in
     let parts : c.args.texts ≡ before ++ here ∷ rest =
     sym c.into_vec-text-items.ensures ∙ sym c.into_iter-text-iterator.ensures.into_iter_gives.0 ∙ taken_front c.into_iter-text-iterator.result before c.loop-text.text-iterator c.loop-text.yielded_by ∙ ap (λ l. before ++ l) c.in-Some.ensures.steps.0 in
-    all-here (λ command. IsReady c.args.scripts.now c.args.sources.now command.body) before here rest (subst (All (λ command. IsReady c.args.scripts.now c.args.sources.now command.body)) parts c.requires)
+    all-here (λ command. IsReady c.args.files.now c.args.sources.now command.body) before here rest (subst (All (λ command. IsReady c.args.files.now c.args.sources.now command.body)) parts c.requires)
 
 pub returns : goal.returns
 returns c =

@@ -6,5 +6,5 @@ use Rattle.judged_files.proofs.loads.user_commands.Given as goal
 
 -- whatever the rest comes to comes behind the commands so far
 abbrev pub invariant-loop-text : goal.invariant-loop-text
-invariant-loop-text l = (more : List (Act PlanCommand)) → AreCommands l.scripts l.sources l.text-iterator.rest.items more
-    → AreCommands l.scripts l.sources l.fn.texts (l.commands.items ++ more)
+invariant-loop-text l = (more : List (Act PlanCommand)) → AreCommands l.files l.sources l.text-iterator.rest.items more
+    → AreCommands l.files l.sources l.fn.texts (l.commands.items ++ more)

@@ -6,7 +6,7 @@ use Rattle.file_passes.specs.Halting.{Comes}
 use Rattle.file_passes.specs.Outside.{outside}
 use Rattle.file_passes.proofs.Coming.{comes-stopped, comes-mapped}
 use Rattle.file_passes.proofs.Going.{on-later}
-use Rattle.judged_files.specs.Scripts.{Checked}
+use Rattle.judged_files.specs.ModelFiles.{Checked}
 use Rattle.run_passes.specs.RefusalOrder.{scripts_pass}
 use Rattle.run_passes.specs.Inside.Plans.{checked_of, behind_scripts, behind_rules}
 use Rattle.run_passes.proofs.ScriptsNamed.{scripts-named}
@@ -19,22 +19,22 @@ new-requires g c =
 
 pub returns-in-Err-clause-comes : goal.returns-in-Err-clause-comes
 returns-in-Err-clause-comes g c =
-    comes-stopped (scripts_pass (texts_of c.args.scripts.now)) (behind_scripts c.args.names c.args.model)
+    comes-stopped (scripts_pass (texts_of c.args.scripts.now)) (behind_scripts c.args.names c.args.rules c.args.model)
     (outside g.F.Files.seen c.args.files.now c.scripts_pass.new.files)
     c.args.readings.now c.scripts_pass.new.readings c.in-Err.halt c.in-Err.ensures.comes
 
 pub returns-in-Ok-new-clause-comes : goal.returns-in-Ok-new-clause-comes
 returns-in-Ok-new-clause-comes g c =
     let o = outside g.F.Files.seen c.args.files.now c.scripts_pass.new.files in
-    let whole : Checked = record { model = c.args.model; scripts = c.in-Ok-new.scripts } in
-    let same : checked_of c.args.model c.args.names c.in-Ok.trees ≡ whole = rw (← c.in-Ok-new.ensures.names, ← c.in-Ok-new.ensures.bound) refl in
-    let came = comes-mapped (scripts_pass (texts_of c.args.scripts.now)) (checked_of c.args.model c.args.names) o
+    let whole : Checked = record { model = c.args.model; files = c.in-Ok-new.files } in
+    let same : checked_of c.args.model c.args.names c.args.rules c.in-Ok.trees ≡ whole = rw (← c.in-Ok-new.ensures.names, ← c.in-Ok-new.ensures.bound, ← c.in-Ok-new.ensures.rules) refl in
+    let came = comes-mapped (scripts_pass (texts_of c.args.scripts.now)) (checked_of c.args.model c.args.names c.args.rules) o
     c.args.readings.now c.scripts_pass.new.readings c.in-Ok.trees c.in-Ok.ensures.comes in
-    subst (λ x. Comes (behind_rules (texts_of c.args.scripts.now) c.args.names c.args.model) o c.args.readings.now c.scripts_pass.new.readings (Ok x)) same came
+    subst (λ x. Comes (behind_rules (texts_of c.args.scripts.now) c.args.names c.args.rules c.args.model) o c.args.readings.now c.scripts_pass.new.readings (Ok x)) same came
 
 pub returns-in-Err-new-clause-comes : goal.returns-in-Err-new-clause-comes
 returns-in-Err-new-clause-comes g c = (
-  on-later (scripts_pass (texts_of c.args.scripts.now)) (behind_scripts c.args.names c.args.model) (g.F.Files.seen c.args.files.now).known
+  on-later (scripts_pass (texts_of c.args.scripts.now)) (behind_scripts c.args.names c.args.rules c.args.model) (g.F.Files.seen c.args.files.now).known
       c.args.readings.now c.scripts_pass.new.readings c.in-Ok.ensures.comes.0.0,
   inl c.in-Ok.ensures.comes.0.2,
 )

@@ -1,6 +1,6 @@
 use Rattle.std.proofs.Common.{◌≡◌, ◌++◌, map}
 use Rattle.std.specs.Arc.{arc_value}
-use Rattle.judged_files.proofs.scripts.kept.Given as goal
+use Rattle.judged_files.proofs.model_files.kept.Given as goal
 
 -- the scripts so far, and then those that are left
 abbrev pub invariant-loop-script : goal.invariant-loop-script

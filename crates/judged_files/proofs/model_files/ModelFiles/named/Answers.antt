@@ -5,18 +5,18 @@ use Rattle.std.proofs.lemmas.List.Quantifiers.{position-Some}
 use Rattle.std.proofs.lemmas.Option.{slice_get-map, slice_get_read}
 use Rattle.dim_name.specs.Name.{has_name, is_same_name, place_of}
 use Rattle.judged_files.proofs.ReadyFacts.{place-there}
-use Rattle.judged_files.proofs.scripts.Scripts.named.Goals as goal
+use Rattle.judged_files.proofs.model_files.ModelFiles.named.Goals as goal
 
 pub unwrap-place-requires : goal.unwrap-place-requires
 unwrap-place-requires c =
-    let names = c.self.inside.names in
+    let names = c.self.inside.script_names in
     let is : c.place_of.result ≡ place_of names c.args.name.now = search rules in
     let known : IsTrue (has_name names c.args.name.now) = rw (← c.self.view_is) at c.requires in
     subst IsSome (sym is) (place-there names c.args.name.now known)
 
 pub returns-clause-script : goal.returns-clause-script
 returns-clause-script c =
-    let names = c.self.inside.names in
+    let names = c.self.inside.script_names in
     let bound = c.self.inside.bound.items in
     let place = c.unwrap-place.result in
     let is : c.place_of.result ≡ place_of names c.args.name.now = search rules in
