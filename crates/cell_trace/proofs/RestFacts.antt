@@ -1,12 +1,10 @@
 -- Where evaluation doesn't reach CONTINUE, what comes after a statement makes no difference.
-use Rattle.std.proofs.Common.{◌≡◌, refl, sym, ◌∙◌, ap, arith, ℕ, zero, suc, ◌<◌, Bool, true, false, ◌||◌, List, [], ◌∷◌, length, get_or, Option, Some}
+use Rattle.std.proofs.Common.{◌≡◌, refl, sym, ◌∙◌, arith, ℕ, zero, suc, ◌<◌, true, false, List, [], ◌∷◌, length, get_or, Option, Some, None}
 use Rattle.std.specs.List.{Contains}
-use Rattle.std.proofs.Math.Bool.{or-true}
-use Rattle.std.proofs.lemmas.List.Folds.{list_any-append}
 use Rattle.cube_fixed.specs.declared.value.Value.{Value}
 use Rattle.rule_laws.specs.declared.formula.Formula.{Formula}
 use Rattle.cell_trace.specs.declared.item.Item.{Item}
-use Rattle.cell_trace.specs.declared.item.Item.TheVariants.{Rest}
+use Rattle.cell_trace.specs.declared.item.Item.TheVariants.{Read, Children, Own, Rest}
 use Rattle.cell_trace.specs.Inside.Place.{Place, given_at}
 use Rattle.cell_trace.specs.Laws.{AreOfOneCell}
 use Rattle.cell_trace.specs.Trace.{reaches_rest}
@@ -16,9 +14,15 @@ use Rattle.cell_trace.proofs.VisitLaws.{alike}
 
 rest_at : (items : List (Option Item)) (k : ℕ) → k < length items → get_or items k (Some Rest) ≡ Some Rest → reaches_rest items ≡ true
 rest_at [] k low is = absurd (omega arith)
-rest_at (item ∷ items) zero low is = rw is refl
-rest_at (item ∷ items) (suc k) low is =
-    list_any-append _ (item ∷ []) items ∙ ap (λ b. reaches_rest (item ∷ []) || b) (rest_at items k (omega arith) is) ∙ or-true (reaches_rest (item ∷ []))
+rest_at (item ∷ items) zero low is = let here : item ≡ Some Rest = is in rw here refl
+rest_at (item ∷ items) (suc k) low is = by item (rest_at items k (omega arith) is)
+  where
+    by : (item : Option Item) → reaches_rest items ≡ true → reaches_rest (item ∷ items) ≡ true
+    by None more = more
+    by (Some (Read target)) more = more
+    by (Some (Children dim)) more = more
+    by (Some Own) more = more
+    by (Some Rest) more = refl
 
 module _ (p : Place) (rest other : Value) where
   of_one_cell : AreOfOneCell (given_at p rest) (given_at p other)

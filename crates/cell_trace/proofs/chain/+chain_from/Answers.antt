@@ -14,7 +14,7 @@ returns-then-not-reaches_rest-clause-chain t c =
     let p = c.args.here.now in
     let next = c.in-Some.next in
     let off = sym (c.reaches_rest.ensures ∙ ap reaches_rest c.as_slice.ensures) ∙ c.if-not-reaches_rest.true in
-    let found = found-alone p next c.ZERO.result c.in_ok-alone.alone c.in_ok-alone.ensures.found off in
+    let found = found-alone p next _ c.in_ok-alone.alone c.in_ok-alone.ensures.found off in
     IfOk-weaker c.with_entered.result _ _ (λ chain at. from-next p c.args.from next chain c.in-Some.ensures at)
     (at-next p next c.in-Some.ensures.part c.in_ok-alone.alone found c.none-later.result (λ on. let clash : false ≡ true = sym off ∙ on in absurd (cc clash))
     c.with_entered.result c.with_entered.ensures.value c.with_entered.ensures.own c.with_entered.ensures.entered)

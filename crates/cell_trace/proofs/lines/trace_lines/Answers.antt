@@ -34,6 +34,6 @@ returns-clause-lines c =
 pub returns-clause-names : goal.returns-clause-names
 returns-clause-names c =
     let v = version_of c.args.version.now in
-    let lines : c.if-chain.lines.items ≡ trace_lines (scene_of v.model v.stored c.args.cell) = returns-clause-lines (goal.at.returns-clause-names c) in
+    let lines : c.if-chain.lines.items ≡ trace_lines (scene_of v.model v.stored c.args.cell) = returns-clause-lines c in
     subst (All (IsLineOf v.model.space c.args.cell)) (sym lines)
     (lines_are v.model v.stored c.args.cell c.model.ensures.accepted.valid c.model.ensures.accepted.rules c.requires.cell)
