@@ -11,6 +11,7 @@ use Rattle.layers.specs.Layered.{effect_of, layered, all_layered, IsLayeredHisto
 use Rattle.layers.proofs.Runs.{layered_few}
 use Rattle.lists.proofs.Found.{found_holds}
 use Rattle.rule_model.specs.BoundModel.{BoundModel}
+use Rattle.rule_model.specs.Conditions.{AreRules}
 use Rattle.sandbox.specs.declared.act.Act.{Act}
 use Rattle.user_session.specs.Content.{opening, after}
 use Rattle.user_session.specs.Layers.{answer}
@@ -34,12 +35,12 @@ entries_few model users told log few history place entry is =
 
 -- ---- the replies to each act end alike, whichever layers it has in the two histories
 
-module _ (model : BoundModel) (is : IsSpace model.space) (log other : List (Entry (List (ℕ × ℤ)))) (few : length log < 2 ^ 64) (few_too : length other < 2 ^ 64) where
+module _ (model : BoundModel) (is : IsSpace model.space) (rules : AreRules model.space model.rules) (log other : List (Entry (List (ℕ × ℤ)))) (few : length log < 2 ^ 64) (few_too : length other < 2 ^ 64) where
   abbrev Alike : Option (List (ℕ × ℤ)) × Act PlanCommand → Option (List (ℕ × ℤ)) × Act PlanCommand → Type 0
   Alike a b = HaveRepliesAlike (effect_of answer) after (opening model) log other few few_too a b
 
   alike : (act : Act PlanCommand) (layer more : Option (List (ℕ × ℤ))) → Alike (layer, act) (more, act)
-  alike act layer more p q = replies_end model is log other act layer more p q
+  alike act layer more p q = replies_end model is rules log other act layer more p q
 
   acts_alike : (told replies : List (Told (List ℕ))) (layer more : Option (List (ℕ × ℤ))) (commands : List (Act PlanCommand))
       → AllZip Alike (layered answer after (opening model) log layer told commands) (layered answer after (opening model) other more replies commands)
@@ -60,15 +61,15 @@ module _ (model : BoundModel) (is : IsSpace model.space) (log other : List (Entr
   users_alike (a ∷ told) [] (commands ∷ users) = (acts_alike a [] None None commands, users_alike told [] users)
   users_alike (a ∷ told) (b ∷ replies) (commands ∷ users) = (acts_alike a b None None commands, users_alike told replies users)
 
-pub history_told : (model : BoundModel) → IsSpace model.space → (users : List (List (Act PlanCommand))) (told replies : List (List (Told (List ℕ))))
+pub history_told : (model : BoundModel) → IsSpace model.space → AreRules model.space model.rules → (users : List (List (Act PlanCommand))) (told replies : List (List (Told (List ℕ))))
     (log other : List (Entry (List (ℕ × ℤ)))) → AreFew users log → AreFew users other
     → IsLayeredHistoryOf answer after (opening model) None users told log → IsLayeredHistoryOf answer after (opening model) None users replies other
     → output told log ≡ output replies other → (told ≡ replies) × (log ≡ other)
-history_told model is users told replies log other few few_too h k e =
+history_told model is rules users told replies log other few few_too h k e =
     let pairs = all_layered answer after (opening model) log None told users in
     let pairs_too = all_layered answer after (opening model) other None replies users in
     let texts = users_tell (effect_of answer) after (opening model) log other few.few_entries few_too.few_entries pairs pairs_too
-    (users_alike model is log other few.few_entries few_too.few_entries told replies users) told replies h.all k.all
+    (users_alike model is rules log other few.few_entries few_too.few_entries told replies users) told replies h.all k.all
     (λ index commands own here there. (index + 1, h.runs index commands own here there))
     (λ index commands own here there. (index + 1, k.runs index commands own here there))
     1 (history_text log) (history_text other) e in

@@ -4,7 +4,7 @@ use Rattle.std.specs.Arc.{arc_value}
 use Rattle.std.specs.List.{AllZip, slice_get}
 use Rattle.file_passes.specs.Pass.{Source}
 use Rattle.judged_files.specs.Loads.{IsLoad, IsCommand, AreCommands}
-use Rattle.judged_files.specs.Scripts.{Scripts}
+use Rattle.judged_files.specs.ModelFiles.{ModelFiles}
 use Rattle.lists.proofs.Found.{some_same}
 use Rattle.sandbox.specs.declared.act.Act.{Act}
 use Rattle.script_bound.specs.declared.script.BoundScript.{BoundScript}
@@ -28,25 +28,26 @@ zip_alike R Same one (a ∷ texts) (x ∷ xs) [] p q = absurd q
 zip_alike R Same one (a ∷ texts) (x ∷ xs) (y ∷ ys) p q =
     (one a x y p.0 q.0, zip_alike R Same one texts xs ys p.1 q.1)
 
-module _ (scripts : Scripts) (sources : List Source) where
+module _ (files : ModelFiles) (sources : List Source) where
   same_load : (load : LoadText) (job other : LoadJob) (bound again : BoundScript)
-      → IsLoad scripts sources load job bound → IsLoad scripts sources load other again
+      → IsLoad files sources load job bound → IsLoad files sources load other again
       → IsSameLoad job other bound again
   same_load load job other bound again p q =
       let place = some_same (sym p.place ∙ q.place) in
       record {
         place = place;
-        script = some_same (sym p.script ∙ ap (slice_get scripts.bound) place ∙ q.script);
+        script = some_same (sym p.script ∙ ap (slice_get files.bound) place ∙ q.script);
         records = some_same (sym p.records ∙ q.records);
         params = p.params ∙ sym q.params;
       }
 
   same_command : (body : UserBody) (x y : Act PlanCommand)
-      → IsCommand scripts sources body x → IsCommand scripts sources body y → IsSameAct x y
+      → IsCommand files sources body x → IsCommand files sources body y → IsSameAct x y
   same_command (bodies.Put cell number) x y p q = rw (p, q) refl
   same_command (bodies.Get cell) x y p q = rw (p, q) refl
   same_command (bodies.View view) x y p q = rw (p, q) refl
   same_command (bodies.Spread cell amount how) x y p q = rw (p, q) refl
+  same_command (bodies.Trace cell) x y (names, is, named) (again, too, called) = rw (is, too) (refl, named ∙ sym called)
   same_command bodies.Sandbox x y p q = rw p q
   same_command bodies.Publish x y p q = rw p q
   same_command bodies.Discard x y p q = rw p q
@@ -54,14 +55,14 @@ module _ (scripts : Scripts) (sources : List Source) where
       rw (is, too) (same_load load job other (arc_value script) (arc_value again) loads runs)
 
   same_commands : (texts : List UserCommand) (xs ys : List (Act PlanCommand))
-      → AreCommands scripts sources texts xs → AreCommands scripts sources texts ys
+      → AreCommands files sources texts xs → AreCommands files sources texts ys
       → AllZip IsSameAct xs ys
   same_commands texts xs ys p q =
-      zip_alike (λ text command. IsCommand scripts sources text.body command) IsSameAct
+      zip_alike (λ text command. IsCommand files sources text.body command) IsSameAct
       (λ text x y. same_command text.body x y) texts xs ys p q
 
   pub same_users : (users : List (List UserCommand)) (xs ys : List (List (Act PlanCommand)))
-      → AllZip (AreCommands scripts sources) users xs → AllZip (AreCommands scripts sources) users ys
+      → AllZip (AreCommands files sources) users xs → AllZip (AreCommands files sources) users ys
       → AllZip (AllZip IsSameAct) xs ys
   same_users users xs ys p q =
-      zip_alike (AreCommands scripts sources) (AllZip IsSameAct) same_commands users xs ys p q
+      zip_alike (AreCommands files sources) (AllZip IsSameAct) same_commands users xs ys p q

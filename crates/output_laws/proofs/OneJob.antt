@@ -6,7 +6,9 @@ use Rattle.cube_words.specs.Words.{Plan, Run, Check, Sample, IsPlan}
 use Rattle.file_passes.specs.Pass.{Readings, NotWords, Pass, the, files, judged, ◌>>=◌}
 use Rattle.file_passes.proofs.PassFacts.{one-files}
 use Rattle.judged_files.specs.Loads.{record_files, commands_judgement}
-use Rattle.judged_files.specs.Scripts.{Scripts, Checked, script_files, scripts_judgement}
+use Rattle.judged_files.specs.ModelFiles.{ModelFiles, Checked}
+use Rattle.judged_files.specs.Rules.{all_rule_names}
+use Rattle.judged_files.specs.Scripts.{script_files, scripts_judgement}
 use Rattle.model_text.specs.Contents.{script_names, Contents as Text}
 use Rattle.rule_model.specs.BoundModel.{BoundModel}
 use Rattle.run_passes.specs.Inside.Plans.{behind_scripts, behind_rules, behind_text, behind_users, behind_model}
@@ -44,12 +46,12 @@ one-behind P K one next = same-behind (λ a b. a ≡ b) P K one next
 
 -- ---- of users
 
-same-records : (scripts : Scripts) (texts : List (List UserCommand))
-    → FindsSame (AllZip (AllZip IsSameAct)) (records_pass scripts texts)
-same-records scripts texts =
+same-records : (model_files : ModelFiles) (texts : List (List UserCommand))
+    → FindsSame (AllZip (AllZip IsSameAct)) (records_pass model_files texts)
+same-records model_files texts =
     same-behind (AllZip (AllZip IsSameAct)) (files Whole (record_files texts))
-    (λ sources. judged (commands_judgement scripts sources texts)) (one-files Whole (record_files texts)).one_found
-    (λ sources readings a b. same_users scripts sources texts a b)
+    (λ sources. judged (commands_judgement model_files sources texts)) (one-files Whole (record_files texts)).one_found
+    (λ sources readings a b. same_users model_files sources texts a b)
 
 same-served : (model : BoundModel) (xs ys : List (List (Act PlanCommand))) (a b : RunJob)
     → AllZip (AllZip IsSameAct) xs ys → a ≡ jobs.Serve model xs → b ≡ jobs.Serve model ys → IsSameJob a b
@@ -58,12 +60,12 @@ same-served model xs ys a b same p q = rw (p, q) (refl, same)
 same-behind_users : (checked : Checked) (texts : List (List UserCommand))
     → FindsSame IsSameJob (behind_users checked texts)
 same-behind_users checked texts readings a b (xs, is, p) (ys, too, q) =
-    same-served checked.model xs ys a b (same-records checked.scripts texts readings xs ys is too) p q
+    same-served checked.model xs ys a b (same-records checked.files texts readings xs ys is too) p q
 
 same-behind_model : (users : List (List ℕ)) (checked : Checked) → FindsSame IsSameJob (behind_model users checked)
 same-behind_model users checked =
-    same-behind IsSameJob (users_pass checked.scripts.names users) (behind_users checked)
-    (steady-users checked.scripts.names users).one.one_found (same-behind_users checked)
+    same-behind IsSameJob (users_pass checked.files.script_names users) (behind_users checked)
+    (steady-users checked.files.script_names users).one.one_found (same-behind_users checked)
 
 -- ---- of each plan
 
@@ -81,17 +83,19 @@ module _ (answers : (bytes : List ℕ) → OneScriptAnswer bytes) where
       one-behind (files as_text names) (λ sources. judged (scripts_judgement sources))
       (one-files as_text names).one_found (λ sources readings a b. one_list answers sources a b)
 
-  one-behind_rules : (files names : List (List ℕ)) (bound : BoundModel) → FindsOne (behind_rules files names bound)
-  one-behind_rules files names bound =
-      one-behind (scripts_pass files) (behind_scripts names bound) (one-scripts files)
+  one-behind_rules : (files names rules : List (List ℕ)) (bound : BoundModel)
+      → FindsOne (behind_rules files names rules bound)
+  one-behind_rules files names rules bound =
+      one-behind (scripts_pass files) (behind_scripts names rules bound) (one-scripts files)
       (λ scripts readings a b p q. p ∙ sym q)
 
   one-behind_text : (name : List ℕ) (contents : Text) → FindsOne (behind_text name contents)
   one-behind_text name contents =
       let files = script_files contents.scripts in
       let names = script_names contents.scripts in
-      one-behind (deploy_pass name contents) (behind_rules files names)
-      (steady-deploy name contents).one.one_found (one-behind_rules files names)
+      let rules = all_rule_names contents.cubes in
+      one-behind (deploy_pass name contents) (behind_rules files names rules)
+      (steady-deploy name contents).one.one_found (one-behind_rules files names rules)
 
   one-model : (name : List ℕ) → FindsOne (model_pass name)
   one-model name =

@@ -38,7 +38,7 @@ plan_serves_one model user readings job it =
     let texts = it.2 in
     let commands = texts.2 in
     let sources = texts.1 in
-    let long = zip_long (AreCommands it.0.scripts commands.1.0) texts.0 commands.0 commands.1.2 in
+    let long = zip_long (AreCommands it.0.files commands.1.0) texts.0 commands.0 commands.1.2 in
     subst ServesOneUser (sym commands.2)
     (sym long ∙ texts_long 0 sources.0 texts.0 sources.2.texts ∙ files_long as_text (user ∷ []) readings sources.0 sources.1)
 

@@ -1,5 +1,6 @@
 -- What a user sees in a sandbox is what everyone sees after its PUBLISH.
 use Rattle.std.proofs.Common.{◌≡◌, ◌∙◌, refl, sym, ap, subst, ℕ, ◌+◌, ℤ, List, take, Option, Some, None, Result, Ok, Err, arith}
+use Rattle.std.specs.Arc.{arc_value}
 use Rattle.std.specs.List.{slice_get}
 use Rattle.history.specs.declared.entry.Entry.{Entry}
 use Rattle.history.specs.declared.told.Told.{Told}
@@ -18,9 +19,9 @@ use Rattle.sandbox.specs.declared.act.Act.{Act}
 use Rattle.sandbox.specs.declared.act.Act.TheVariants.{Publish, Do}
 use Rattle.user_session.specs.Content.{opening, after}
 use Rattle.user_session.specs.Layers.{answer, sandbox, unfit}
-use Rattle.user_session.specs.Planning.{effect, fixed_effect, get_effect, named_cell, table_effect}
+use Rattle.user_session.specs.Planning.{effect, fixed_effect, get_effect, named_cell, table_effect, trace_effect}
 use Rattle.user_session.specs.declared.command.PlanCommand.{PlanCommand}
-use Rattle.user_session.specs.declared.command.PlanCommand.TheVariants.{Put, Get, Load, View, Spread, Fixed}
+use Rattle.user_session.specs.declared.command.PlanCommand.TheVariants.{Put, Get, Load, View, Spread, Trace, Fixed}
 use Rattle.user_session.specs.declared.content.Content.{Content}
 use Rattle.view_query.specs.Binding.{bound}
 use Rattle.view_query.specs.declared.fault.ViewFault.{ViewFault}
@@ -38,13 +39,19 @@ table_reply : (layer : List (ℕ × ℤ)) (content : Content) (meant : Result vi
 table_reply layer content (Ok view) = refl
 table_reply layer content (Err fault) = refl
 
-question_reply : (layer : List (ℕ × ℤ)) (content : Content) (question : PlanCommand) → IsQuestion question
+trace_reply : (layer : List (ℕ × ℤ)) (content : Content) (files : List (List ℕ)) (named : Option ℕ)
+    → reply_of (kept_in sandbox layer (trace_effect content files named)).0 ≡ reply_of (trace_effect content files named)
+trace_reply layer content files None = refl
+trace_reply layer content files (Some cell) = refl
+
+pub question_reply : (layer : List (ℕ × ℤ)) (content : Content) (question : PlanCommand) → IsQuestion question
     → reply_of (kept_in sandbox layer (effect content question)).0 ≡ reply_of (effect content question)
 question_reply layer content (Put text number) is = absurd is
 question_reply layer content (Get text) is = get_reply layer content (named_cell content.model text)
 question_reply layer content (Load job script) is = absurd is
 question_reply layer content (View text) is = table_reply layer content (bound content.model.space text)
 question_reply layer content (Spread text amount how) is = absurd is
+question_reply layer content (Trace text files) is = trace_reply layer content (arc_value files) (named_cell content.model text)
 question_reply layer content (Fixed writes) is = absurd is
 
 -- ---- what was committed could be had

@@ -1,7 +1,9 @@
 -- The replies to one act on any two versions of a model, whatever its user's sandbox keeps, end alike.
-use Rattle.std.proofs.Common.{◌≡◌, ℕ, ℤ, true, List, [], ◌∷◌, ◌++◌, length, take, codes, decimal, Option, Some, None, Result, Ok, Err, ◌⊎◌, inl, inr, refl, sym, ap, ◌∙◌, subst, arith}
+use Rattle.std.proofs.Common.{◌≡◌, ℕ, ℤ, true, List, [], ◌∷◌, ◌++◌, length, take, codes, decimal, get_or, Option, Some, None, Result, Ok, Err, ◌⊎◌, inl, inr, refl, sym, ap, ◌∙◌, subst, arith}
 use Rattle.std.specs.Arc.{arc_value}
 use Rattle.std.specs.Option.{option_map}
+use Rattle.std.specs.declared.alloc.Global.{Global}
+use Rattle.std.specs.declared.sync.Arc.{Arc}
 use Rattle.history.specs.declared.entry.Entry.{Entry}
 use Rattle.history.specs.declared.effect.Effect.TheVariants.{Commit, Rejected, Read}
 use Rattle.history.specs.Version.{content_after, version}
@@ -20,6 +22,7 @@ use Rattle.dim_name.specs.Bytes.{newline}
 use Rattle.layers.specs.Layered.{effect_of}
 use Rattle.load_cells.specs.Loads.{store_of}
 use Rattle.rule_model.specs.BoundModel.{BoundModel}
+use Rattle.rule_model.specs.Conditions.{AreRules}
 use Rattle.sandbox.specs.Sandboxes.{kept_in, where_fit}
 use Rattle.sandbox.specs.declared.act.Act.{Act}
 use Rattle.sandbox.specs.declared.act.Act.TheVariants as acts
@@ -31,18 +34,22 @@ use Rattle.script_tree.specs.declared.script.Section.{Section}
 use Rattle.script_tree.specs.declared.script.Section.TheVariants as sections
 use Rattle.script_values.specs.declared.load_reason.LoadReason.{LoadReason}
 use Rattle.script_values.specs.declared.load_reason.LoadReason.TheVariants as stops
+use Rattle.trace_text.specs.TraceText.{reply_text as traced_text}
+use Rattle.trace_text.proofs.Ends.{replies_end as traced_end}
 use Rattle.user_session.specs.Content.{opening, after}
 use Rattle.user_session.specs.Layers.{answer, sandbox, unfit}
-use Rattle.user_session.specs.Planning.{effect, fixed_effect, misfit, named_cell, passed_limit, put_effect, get_effect, load_effect, spread_effect, how_of, table_effect, view_effect, ended_effect, unless_closed, unless_fault, unless_reason, write_effect, committed, value_at, PlanEffect}
+use Rattle.user_session.specs.Planning.{effect, fixed_effect, misfit, named_cell, passed_limit, put_effect, get_effect, load_effect, spread_effect, how_of, table_effect, trace_effect, view_effect, ended_effect, unless_closed, unless_fault, unless_reason, write_effect, committed, value_at, PlanEffect}
 use Rattle.user_session.specs.RejectedLoad.{stopped_text, section_text, cause_text}
 use Rattle.user_session.specs.Replies.{reason_text, reply_text, fault_text, spread_fault_text}
 use Rattle.user_session.specs.declared.command.PlanCommand.{PlanCommand}
-use Rattle.user_session.specs.declared.command.PlanCommand.TheVariants.{Put, Get, Load, View, Spread, Fixed}
+use Rattle.user_session.specs.declared.command.PlanCommand.TheVariants.{Put, Get, Load, View, Spread, Trace, Fixed}
 use Rattle.user_session.specs.declared.content.Content.{Content}
 use Rattle.user_session.specs.declared.reply.CommandReason.{CommandReason}
 use Rattle.user_session.specs.declared.reply.CommandReason.TheVariants as reasons
 use Rattle.user_session.specs.declared.reply.Reply.TheVariants as replies
 use Rattle.user_text.specs.Jobs.{rows_in}
+use Rattle.user_session.proofs.Within.{named-cell}
+use Rattle.user_text.specs.declared.command.CellText.{CellText}
 use Rattle.user_text.specs.declared.command.SpreadWord.{SpreadWord}
 use Rattle.user_text.specs.declared.command.ViewText.{ViewText}
 use Rattle.user_text.specs.declared.load_job.LoadJob.{LoadJob}
@@ -51,8 +58,10 @@ use Rattle.view_query.specs.declared.fault.ViewFault.{ViewFault}
 use Rattle.view_query.specs.declared.fault.ViewFault.TheVariants as faults
 use Rattle.view_query.specs.declared.shape.View as views
 use Rattle.view_query.proofs.BoundFacts.{answers_view}
+use Rattle.output_laws.specs.Laws.{IsQuestion}
 use Rattle.output_laws.proofs.Lines.{lacks, EndAlike, plain_ends, same_ends}
 use Rattle.trace_text.proofs.Plain.{lacks-append, decimal_lacks, printed_plain}
+use Rattle.output_laws.proofs.Published.{question_reply}
 use Rattle.output_laws.proofs.Tables.{table_apart, tables_end}
 
 -- ---- replies in one line
@@ -186,16 +195,54 @@ do_plain : (command : PlanCommand) → ((content : Content) → IsPlain (effect 
 do_plain command plain content None = plain content
 do_plain command plain content (Some layer) = fit_plain layer (misfit content layer) (effect (after content layer) command) (plain (after content layer))
 
--- ---- tables
+-- ---- questions
 
 content_of : BoundModel → List stored.Entry → Content
 content_of model cells = record { model = model; stored = cells }
 
--- the reply to a view: its table or why there is none, on some content of the model, or why the sandbox isn't to be had
-abbrev IsViewReply : BoundModel → ViewText → List ℕ → Type 0
-IsViewReply model text reply =
-    ((cells : List stored.Entry) × (reply ≡ reply_of (view_effect (content_of model cells) text)))
+-- the reply to a question on some content of the model, or why the sandbox isn't to be had
+abbrev IsToldOn : BoundModel → PlanCommand → List ℕ → Type 0
+IsToldOn model question reply =
+    ((cells : List stored.Entry) × (reply ≡ reply_of (effect (content_of model cells) question)))
     ⊎ ((reason : CommandReason) × (reply ≡ codes "refused " ++ reason_text reason))
+
+-- a question only reads, so its reply in a sandbox is that on the content with the layer
+fit_told : (model : BoundModel) (cells : List stored.Entry) (layer : List (ℕ × ℤ)) (question : PlanCommand) → IsQuestion question → (reason : Option CommandReason)
+    → IsToldOn model question (reply_of (where_fit sandbox layer (option_map (λ reason. reply_text (replies.Refused reason)) reason) (effect (content_of model cells) question)).0)
+fit_told model cells layer question asks None = inl (cells, question_reply layer (content_of model cells) question asks)
+fit_told model cells layer question asks (Some reason) = inr (reason, refl)
+
+told_on : (model : BoundModel) (cells : List stored.Entry) (layer : Option (List (ℕ × ℤ))) (question : PlanCommand) → IsQuestion question
+    → IsToldOn model question (reply_of (answer (content_of model cells) layer (acts.Do question)).0)
+unfolding content_of
+told_on model cells None question asks = inl (cells, refl)
+told_on model cells (Some layer) question asks = fit_told model (after_writes cells layer) layer question asks (misfit (content_of model cells) layer)
+
+turned : (a b : List ℕ) → EndAlike a b → EndAlike b a
+turned a b alike x y e = let ends = alike y x (sym e) in (sym ends.0, sym ends.1)
+
+-- a question whose replies on contents of one model end alike, also where one is a refusal
+record EndsAlike (model : BoundModel) (question : PlanCommand) : Type 0 where
+  told : (cells others : List stored.Entry) → EndAlike (reply_of (effect (content_of model cells) question)) (reply_of (effect (content_of model others) question))
+  refused : (cells : List stored.Entry) (reason : CommandReason) → EndAlike (reply_of (effect (content_of model cells) question)) (codes "refused " ++ reason_text reason)
+
+questions_end : (model : BoundModel) (question : PlanCommand) → EndsAlike model question → (a b : List ℕ) → IsToldOn model question a → IsToldOn model question b → EndAlike a b
+questions_end model question ends a b (inl one) (inl two) =
+    subst (λ l. EndAlike l b) (sym one.1) (subst (λ l. EndAlike (reply_of (effect (content_of model one.0) question)) l) (sym two.1) (ends.told one.0 two.0))
+questions_end model question ends a b (inl one) (inr two) =
+    subst (λ l. EndAlike l b) (sym one.1) (subst (λ l. EndAlike (reply_of (effect (content_of model one.0) question)) l) (sym two.1) (ends.refused one.0 two.0))
+questions_end model question ends a b (inr one) (inl two) =
+    turned b a (subst (λ l. EndAlike l a) (sym two.1) (subst (λ l. EndAlike (reply_of (effect (content_of model two.0) question)) l) (sym one.1) (ends.refused two.0 one.0)))
+questions_end model question ends a b (inr one) (inr two) =
+    plain_ends a b (rw one.1 (refused_plain one.0)) (rw two.1 (refused_plain two.0))
+
+question_ends : (model : BoundModel) (question : PlanCommand) → IsQuestion question → EndsAlike model question → (cells others : List stored.Entry) (layer more : Option (List (ℕ × ℤ)))
+    → EndAlike (reply_of (answer (content_of model cells) layer (acts.Do question)).0) (reply_of (answer (content_of model others) more (acts.Do question)).0)
+question_ends model question asks ends cells others layer more =
+    questions_end model question ends (reply_of (answer (content_of model cells) layer (acts.Do question)).0) (reply_of (answer (content_of model others) more (acts.Do question)).0)
+    (told_on model cells layer question asks) (told_on model others more question asks)
+
+-- ---- tables
 
 -- on contents of one model a view has tables that end alike, or is refused for one cause
 views_end : (model : BoundModel) → IsSpace model.space → (text : ViewText) (cells others : List stored.Entry)
@@ -226,36 +273,41 @@ view_refusal model text cells reason = by (bound model.space text)
     by (Ok view) = table_apart model.space view (value_at (record { model = model; stored = cells })) (reason_text reason)
     by (Err fault) = plain_ends (codes "refused " ++ fault_text fault) (codes "refused " ++ reason_text reason) (fault_plain fault) (refused_plain reason)
 
-turned : (a b : List ℕ) → EndAlike a b → EndAlike b a
-turned a b alike x y e = let ends = alike y x (sym e) in (sym ends.0, sym ends.1)
+view_ends : (model : BoundModel) → IsSpace model.space → (text : ViewText) → EndsAlike model (View text)
+view_ends model is text = record { told = views_end model is text; refused = view_refusal model text }
 
-view_replies_end : (model : BoundModel) → IsSpace model.space → (text : ViewText) (a b : List ℕ) → IsViewReply model text a → IsViewReply model text b → EndAlike a b
-view_replies_end model is text a b (inl one) (inl two) =
-    subst (λ l. EndAlike l b) (sym one.1) (subst (λ l. EndAlike (reply_of (view_effect (content_of model one.0) text)) l) (sym two.1) (views_end model is text one.0 two.0))
-view_replies_end model is text a b (inl one) (inr two) =
-    subst (λ l. EndAlike l b) (sym one.1) (subst (λ l. EndAlike (reply_of (view_effect (content_of model one.0) text)) l) (sym two.1) (view_refusal model text one.0 two.0))
-view_replies_end model is text a b (inr one) (inl two) =
-    turned b a (subst (λ l. EndAlike l a) (sym two.1) (subst (λ l. EndAlike (reply_of (view_effect (content_of model two.0) text)) l) (sym one.1) (view_refusal model text two.0 one.0)))
-view_replies_end model is text a b (inr one) (inr two) =
-    plain_ends a b (rw one.1 (refused_plain one.0)) (rw two.1 (refused_plain two.0))
+-- ---- traces
 
--- a view only reads, so its reply in a sandbox is that on the content with the layer
-kept_view : (layer : List (ℕ × ℤ)) (content : Content) (meant : Result views.View ViewFault)
-    → reply_of (kept_in sandbox layer (table_effect content meant)).0 ≡ reply_of (table_effect content meant)
-kept_view layer content (Ok view) = refl
-kept_view layer content (Err fault) = refl
-
-fit_view : (model : BoundModel) (cells : List stored.Entry) (layer : List (ℕ × ℤ)) (text : ViewText) (reason : Option CommandReason)
-    → IsViewReply model text (reply_of (where_fit sandbox layer (option_map (λ reason. reply_text (replies.Refused reason)) reason) (view_effect (content_of model cells) text)).0)
+-- on contents of one model a cell has traces that end alike, or there is no such cell
+traces_end : (model : BoundModel) → AreRules model.space model.rules → (text : CellText) (names : List (List ℕ)) (cells others : List stored.Entry)
+    → EndAlike (reply_of (trace_effect (content_of model cells) names (named_cell model text))) (reply_of (trace_effect (content_of model others) names (named_cell model text)))
 unfolding content_of
-fit_view model cells layer text None = inl (cells, kept_view layer (content_of model cells) (bound model.space text))
-fit_view model cells layer text (Some reason) = inr (reason, refl)
+traces_end model rules text names cells others = by (named_cell model text) refl
+  where
+    by : (named : Option ℕ) → named_cell model text ≡ named
+        → EndAlike (reply_of (trace_effect (record { model = model; stored = cells }) names named)) (reply_of (trace_effect (record { model = model; stored = others }) names named))
+    by None found = same_ends (codes "refused UnknownName") (codes "refused UnknownName") refl
+    by (Some cell) found = traced_end model names cell rules (named-cell model.space text.cube text.elements cell found) cells others
 
-view_reply : (model : BoundModel) (cells : List stored.Entry) (layer : Option (List (ℕ × ℤ))) (text : ViewText)
-    → IsViewReply model text (reply_of (answer (content_of model cells) layer (acts.Do (View text))).0)
+-- no trace begins as a refusal does: a trace begins with a `t`, and a refusal with an `r`
+trace_apart : (model : BoundModel) (cells : List stored.Entry) (names : List (List ℕ)) (cell : ℕ) (reason : List ℕ) → EndAlike (traced_text model cells names cell) (codes "refused " ++ reason)
+unfolding traced_text
+trace_apart model cells names cell reason x y e =
+    let first_byte : 116 ≡ 114 = ap (λ (text : List ℕ). get_or text 0 0) e in
+    absurd (omega (arith, first_byte))
+
+trace_refusal : (model : BoundModel) (text : CellText) (names : List (List ℕ)) (cells : List stored.Entry) (reason : CommandReason)
+    → EndAlike (reply_of (trace_effect (content_of model cells) names (named_cell model text))) (codes "refused " ++ reason_text reason)
 unfolding content_of
-view_reply model cells None text = inl (cells, refl)
-view_reply model cells (Some layer) text = fit_view model (after_writes cells layer) layer text (misfit (content_of model cells) layer)
+trace_refusal model text names cells reason = by (named_cell model text)
+  where
+    by : (named : Option ℕ) → EndAlike (reply_of (trace_effect (record { model = model; stored = cells }) names named)) (codes "refused " ++ reason_text reason)
+    by None = plain_ends (codes "refused UnknownName") (codes "refused " ++ reason_text reason) refl (refused_plain reason)
+    by (Some cell) = trace_apart model cells names cell (reason_text reason)
+
+trace_ends : (model : BoundModel) → AreRules model.space model.rules → (text : CellText) (files : Arc (List (List ℕ)) Global) → EndsAlike model (Trace text files)
+unfolding content_of
+trace_ends model rules text files = record { told = traces_end model rules text (arc_value files); refused = trace_refusal model text (arc_value files) }
 
 -- ---- versions
 
@@ -286,38 +338,39 @@ discard_plain : (content : Content) (layer : Option (List (ℕ × ℤ))) → IsP
 discard_plain content None = refl
 discard_plain content (Some layer) = refl
 
-on_one_model : (model : BoundModel) → IsSpace model.space → (act : Act PlanCommand) (cells others : List stored.Entry) (layer more : Option (List (ℕ × ℤ)))
+on_one_model : (model : BoundModel) → IsSpace model.space → AreRules model.space model.rules → (act : Act PlanCommand) (cells others : List stored.Entry) (layer more : Option (List (ℕ × ℤ)))
     → EndAlike (reply_of (answer (content_of model cells) layer act).0) (reply_of (answer (content_of model others) more act).0)
-on_one_model model is acts.Open cells others layer more =
+on_one_model model is rules acts.Open cells others layer more =
     plain_ends (reply_of (answer (content_of model cells) layer acts.Open).0) (reply_of (answer (content_of model others) more acts.Open).0)
     (open_plain (content_of model cells) layer) (open_plain (content_of model others) more)
-on_one_model model is acts.Publish cells others layer more =
+on_one_model model is rules acts.Publish cells others layer more =
     plain_ends (reply_of (answer (content_of model cells) layer acts.Publish).0) (reply_of (answer (content_of model others) more acts.Publish).0)
     (publish_plain (content_of model cells) layer) (publish_plain (content_of model others) more)
-on_one_model model is acts.Discard cells others layer more =
+on_one_model model is rules acts.Discard cells others layer more =
     plain_ends (reply_of (answer (content_of model cells) layer acts.Discard).0) (reply_of (answer (content_of model others) more acts.Discard).0)
     (discard_plain (content_of model cells) layer) (discard_plain (content_of model others) more)
-on_one_model model is (acts.Do (Put text number)) cells others layer more =
+on_one_model model is rules (acts.Do (Put text number)) cells others layer more =
     in_one_line (Put text number) (λ content. put_plain content (named_cell content.model text) number) (content_of model cells) (content_of model others) layer more
-on_one_model model is (acts.Do (Get text)) cells others layer more =
+on_one_model model is rules (acts.Do (Get text)) cells others layer more =
     in_one_line (Get text) (λ content. get_plain content (named_cell content.model text)) (content_of model cells) (content_of model others) layer more
-on_one_model model is (acts.Do (Load job script)) cells others layer more =
+on_one_model model is rules (acts.Do (Load job script)) cells others layer more =
     in_one_line (Load job script) (λ content. load_plain content job (arc_value script)) (content_of model cells) (content_of model others) layer more
-on_one_model model is (acts.Do (View text)) cells others layer more =
-    view_replies_end model is text (reply_of (answer (content_of model cells) layer (acts.Do (View text))).0) (reply_of (answer (content_of model others) more (acts.Do (View text))).0)
-    (view_reply model cells layer text) (view_reply model others more text)
-on_one_model model is (acts.Do (Spread text amount how)) cells others layer more =
+on_one_model model is rules (acts.Do (View text)) cells others layer more =
+    question_ends model (View text) tt (view_ends model is text) cells others layer more
+on_one_model model is rules (acts.Do (Spread text amount how)) cells others layer more =
     in_one_line (Spread text amount how) (λ content. spread_plain content (named_cell content.model text) amount how) (content_of model cells) (content_of model others) layer more
-on_one_model model is (acts.Do (Fixed writes)) cells others layer more =
+on_one_model model is rules (acts.Do (Trace text files)) cells others layer more =
+    question_ends model (Trace text files) tt (trace_ends model rules text files) cells others layer more
+on_one_model model is rules (acts.Do (Fixed writes)) cells others layer more =
     in_one_line (Fixed writes) (λ content. fixed_plain content writes) (content_of model cells) (content_of model others) layer more
 
-pub replies_end : (model : BoundModel) → IsSpace model.space → (log other : List (Entry (List (ℕ × ℤ)))) (act : Act PlanCommand) (layer more : Option (List (ℕ × ℤ))) (p q : ℕ)
+pub replies_end : (model : BoundModel) → IsSpace model.space → AreRules model.space model.rules → (log other : List (Entry (List (ℕ × ℤ)))) (act : Act PlanCommand) (layer more : Option (List (ℕ × ℤ))) (p q : ℕ)
     → EndAlike (reply_of (effect_of answer (version after (opening model) log p) (layer, act))) (reply_of (effect_of answer (version after (opening model) other q) (more, act)))
-replies_end model is log other act layer more p q =
+replies_end model is rules log other act layer more p q =
     let one = version after (opening model) log p in
     let two = version after (opening model) other q in
     let one_is = of_model model one (model_kept (opening model) (take p log)) in
     let two_is = of_model model two (model_kept (opening model) (take q other)) in
     subst (λ c. EndAlike (reply_of (answer c layer act).0) (reply_of (answer two more act).0)) (sym one_is)
     (subst (λ c. EndAlike (reply_of (answer (content_of model one.stored) layer act).0) (reply_of (answer c more act).0)) (sym two_is)
-    (on_one_model model is act one.stored two.stored layer more))
+    (on_one_model model is rules act one.stored two.stored layer more))

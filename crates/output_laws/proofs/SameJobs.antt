@@ -13,9 +13,9 @@ use Rattle.sandbox.specs.declared.act.Act.TheVariants.{Open, Publish, Discard, D
 use Rattle.script_run.specs.Load.{load, ran_of, writes_of}
 use Rattle.user_session.specs.Content.{opening, after}
 use Rattle.user_session.specs.Layers.{answer, sandbox, unfit}
-use Rattle.user_session.specs.Planning.{effect, ended_effect}
+use Rattle.user_session.specs.Planning.{effect, ended_effect, named_cell, trace_effect}
 use Rattle.user_session.specs.declared.command.PlanCommand.{PlanCommand}
-use Rattle.user_session.specs.declared.command.PlanCommand.TheVariants.{Put, Get, Load, View, Spread, Fixed}
+use Rattle.user_session.specs.declared.command.PlanCommand.TheVariants.{Put, Get, Load, View, Spread, Trace, Fixed}
 use Rattle.user_session.specs.declared.content.Content.{Content}
 use Rattle.user_text.specs.Jobs.{rows_in}
 use Rattle.output_laws.specs.SameJob.{IsSameCommand, IsSameAct}
@@ -27,11 +27,21 @@ same_effect (Put text number) b same content = ap (λ command. effect content co
 same_effect (Get text) b same content = ap (λ command. effect content command) (sym same)
 same_effect (View text) b same content = ap (λ command. effect content command) (sym same)
 same_effect (Spread text amount how) b same content = ap (λ command. effect content command) (sym same)
+same_effect (Trace text files) (Put other number) same content = absurd same
+same_effect (Trace text files) (Get other) same content = absurd same
+same_effect (Trace text files) (Load job script) same content = absurd same
+same_effect (Trace text files) (View other) same content = absurd same
+same_effect (Trace text files) (Spread other amount how) same content = absurd same
+same_effect (Trace text files) (Fixed writes) same content = absurd same
+same_effect (Trace text files) (Trace other again) same content =
+    ap (λ cell. trace_effect content (arc_value files) (named_cell content.model cell)) same.0
+    ∙ ap (λ names. trace_effect content names (named_cell content.model other)) same.1
 same_effect (Fixed writes) b same content = ap (λ command. effect content command) (sym same)
 same_effect (Load job script) (Put text number) same content = absurd same
 same_effect (Load job script) (Get text) same content = absurd same
 same_effect (Load job script) (View text) same content = absurd same
 same_effect (Load job script) (Spread text amount how) same content = absurd same
+same_effect (Load job script) (Trace text files) same content = absurd same
 same_effect (Load job script) (Fixed writes) same content = absurd same
 same_effect (Load job script) (Load other again) same content =
     let store = store_of content.model content.stored in

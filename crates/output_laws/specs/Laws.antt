@@ -8,13 +8,14 @@ use Rattle.layers.specs.Layered.{IsLayeredHistoryOf, layer_after, places_in, wri
 use Rattle.cube_server.specs.Output.{output}
 use Rattle.cube_space.specs.Cells.{IsSpace}
 use Rattle.rule_model.specs.BoundModel.{BoundModel}
+use Rattle.rule_model.specs.Conditions.{AreRules}
 use Rattle.user_session.specs.Content.{opening, after}
 use Rattle.sandbox.specs.declared.act.Act.{Act}
 use Rattle.sandbox.specs.declared.act.Act.TheVariants.{Publish, Do}
 use Rattle.user_session.specs.Layers.{answer}
 use Rattle.user_session.specs.Planning.{effect}
 use Rattle.user_session.specs.declared.command.PlanCommand.{PlanCommand}
-use Rattle.user_session.specs.declared.command.PlanCommand.TheVariants.{Put, Get, Load, View, Spread, Fixed}
+use Rattle.user_session.specs.declared.command.PlanCommand.TheVariants.{Put, Get, Load, View, Spread, Trace, Fixed}
 
 -- users, the commands of each user and entries are few enough to be counted in 64 bits
 pub record AreFew (users : List (List (Act PlanCommand))) (log : List (Entry (List (ℕ × ℤ)))) : Type 0 where
@@ -28,7 +29,7 @@ abbrev pub TheBytesTellTheHistory : Type 0
 TheBytesTellTheHistory =
     (model : BoundModel) (users : List (List (Act PlanCommand))) (told replies : List (List (Told (List ℕ))))
     (log other : List (Entry (List (ℕ × ℤ))))
-    → IsSpace model.space → AreFew users log → AreFew users other
+    → IsSpace model.space → AreRules model.space model.rules → AreFew users log → AreFew users other
     → IsLayeredHistoryOf answer after (opening model) None users told log
     → IsLayeredHistoryOf answer after (opening model) None users replies other
     → output told log ≡ output replies other → (told ≡ replies) × (log ≡ other)
@@ -54,6 +55,7 @@ IsQuestion (Get cell) = Unit {0}
 IsQuestion (Load job script) = ⊥
 IsQuestion (View view) = Unit {0}
 IsQuestion (Spread cell amount how) = ⊥
+IsQuestion (Trace cell files) = Unit {0}
 IsQuestion (Fixed writes) = ⊥
 
 -- Where a user's PUBLISH at a place has an entry, the entry has just the writes that the sandbox kept; and each

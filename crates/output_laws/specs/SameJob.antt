@@ -1,4 +1,4 @@
--- When two jobs of a run are the same, however loads keep their scripts and records.
+-- When two jobs of a run are the same, however loads keep their scripts and records, and traces the names of rule files.
 use Rattle.std.specs.Prelude.{◌≡◌}
 use Rattle.std.specs.Arc.{arc_value}
 use Rattle.std.specs.List.{AllZip}
@@ -19,7 +19,7 @@ pub record IsSameLoad (job other : LoadJob) (bound again : BoundScript) : Type 0
   pub records : rows_in job ≡ rows_in other
   pub params : job.params ≡ other.params
 
--- two commands are equal; two loads run alike
+-- two commands are equal; two loads run alike, and two traces of one cell have the same names of rule files
 abbrev pub IsSameCommand : PlanCommand → PlanCommand → Type 0
 IsSameCommand (plans.Put cell number) command = command ≡ plans.Put cell number
 IsSameCommand (plans.Get cell) command = command ≡ plans.Get cell
@@ -29,9 +29,18 @@ IsSameCommand (plans.Load job script) (plans.Load other again) =
     IsSameLoad job other (arc_value script) (arc_value again)
 IsSameCommand (plans.Load job script) (plans.View view) = ⊥
 IsSameCommand (plans.Load job script) (plans.Spread cell amount how) = ⊥
+IsSameCommand (plans.Load job script) (plans.Trace cell files) = ⊥
 IsSameCommand (plans.Load job script) (plans.Fixed writes) = ⊥
 IsSameCommand (plans.View view) command = command ≡ plans.View view
 IsSameCommand (plans.Spread cell amount how) command = command ≡ plans.Spread cell amount how
+IsSameCommand (plans.Trace cell files) (plans.Put other number) = ⊥
+IsSameCommand (plans.Trace cell files) (plans.Get other) = ⊥
+IsSameCommand (plans.Trace cell files) (plans.Load job script) = ⊥
+IsSameCommand (plans.Trace cell files) (plans.View view) = ⊥
+IsSameCommand (plans.Trace cell files) (plans.Spread other amount how) = ⊥
+IsSameCommand (plans.Trace cell files) (plans.Trace other again) =
+    (cell ≡ other) × (arc_value files ≡ arc_value again)
+IsSameCommand (plans.Trace cell files) (plans.Fixed writes) = ⊥
 IsSameCommand (plans.Fixed writes) command = command ≡ plans.Fixed writes
 
 -- the same of what a user does, with commands or with the sandbox

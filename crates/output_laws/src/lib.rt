@@ -1,8 +1,9 @@
 //! The words and the files that a run reads fix its job, the text that it prints tells its history, and one user's text
 //! follows from the bytes of the files.
 //!
-//! Two jobs that the passes of a run find differ only in how loads keep their scripts and records: they run the same
-//! scripts over the same records. `specs/SameJob.antt` says when two jobs are the same.
+//! Two jobs that the passes of a run find differ only in how loads keep their scripts and records, and traces the names
+//! of rule files: they run the same scripts over the same records, with the same names. `specs/SameJob.antt` says when
+//! two jobs are the same.
 //!
 //! The bytes that are written when all users are done fix what each user was told, and the one history: where two runs
 //! of the same users' commands on a model have the same text, each command had the same reply at the same place, and
