@@ -39,14 +39,14 @@ pub fn all_rule_names(alloc: Global, cubes: &[CubeText]) -> Result<ListOf<ListOf
     Ok(ListOf::new(names))
 }
 
+// The name of the rule file of a cube, empty where it has none.
 fn rule_name_or_empty(alloc: Global, cube: &CubeText) -> Result<ListOf<u8>, AllocError>
     ensures { IfOk result (λ name. name ≡ unwrap_or (rule_name cube.now) []) }
 {
-    let name = match &cube.rules {
-        Some((_, file)) => Vec::from_slice(alloc, file.as_slice())?,
-        None => Vec::new(alloc),
-    };
-    Ok(ListOf::new(name))
+    match &cube.rules {
+        Some((_, file)) => Ok(ListOf::new(Vec::from_slice(alloc, file.as_slice())?)),
+        None => Ok(ListOf::new(Vec::new(alloc))),
+    }
 }
 
 /// The model of a model text, which stands in this file, and of the rule files of its cubes among those that were read.

@@ -222,11 +222,11 @@ turned : (a b : List ℕ) → EndAlike a b → EndAlike b a
 turned a b alike x y e = let ends = alike y x (sym e) in (sym ends.0, sym ends.1)
 
 -- a question whose replies on contents of one model end alike, also where one is a refusal
-record EndsAlike (model : BoundModel) (question : PlanCommand) : Type 0 where
+record RepliesEndAlike (model : BoundModel) (question : PlanCommand) : Type 0 where
   told : (cells others : List stored.Entry) → EndAlike (reply_of (effect (content_of model cells) question)) (reply_of (effect (content_of model others) question))
   refused : (cells : List stored.Entry) (reason : CommandReason) → EndAlike (reply_of (effect (content_of model cells) question)) (codes "refused " ++ reason_text reason)
 
-questions_end : (model : BoundModel) (question : PlanCommand) → EndsAlike model question → (a b : List ℕ) → IsToldOn model question a → IsToldOn model question b → EndAlike a b
+questions_end : (model : BoundModel) (question : PlanCommand) → RepliesEndAlike model question → (a b : List ℕ) → IsToldOn model question a → IsToldOn model question b → EndAlike a b
 questions_end model question ends a b (inl one) (inl two) =
     subst (λ l. EndAlike l b) (sym one.1) (subst (λ l. EndAlike (reply_of (effect (content_of model one.0) question)) l) (sym two.1) (ends.told one.0 two.0))
 questions_end model question ends a b (inl one) (inr two) =
@@ -236,7 +236,7 @@ questions_end model question ends a b (inr one) (inl two) =
 questions_end model question ends a b (inr one) (inr two) =
     plain_ends a b (rw one.1 (refused_plain one.0)) (rw two.1 (refused_plain two.0))
 
-question_ends : (model : BoundModel) (question : PlanCommand) → IsQuestion question → EndsAlike model question → (cells others : List stored.Entry) (layer more : Option (List (ℕ × ℤ)))
+question_ends : (model : BoundModel) (question : PlanCommand) → IsQuestion question → RepliesEndAlike model question → (cells others : List stored.Entry) (layer more : Option (List (ℕ × ℤ)))
     → EndAlike (reply_of (answer (content_of model cells) layer (acts.Do question)).0) (reply_of (answer (content_of model others) more (acts.Do question)).0)
 question_ends model question asks ends cells others layer more =
     questions_end model question ends (reply_of (answer (content_of model cells) layer (acts.Do question)).0) (reply_of (answer (content_of model others) more (acts.Do question)).0)
@@ -273,7 +273,7 @@ view_refusal model text cells reason = by (bound model.space text)
     by (Ok view) = table_apart model.space view (value_at (record { model = model; stored = cells })) (reason_text reason)
     by (Err fault) = plain_ends (codes "refused " ++ fault_text fault) (codes "refused " ++ reason_text reason) (fault_plain fault) (refused_plain reason)
 
-view_ends : (model : BoundModel) → IsSpace model.space → (text : ViewText) → EndsAlike model (View text)
+view_ends : (model : BoundModel) → IsSpace model.space → (text : ViewText) → RepliesEndAlike model (View text)
 view_ends model is text = record { told = views_end model is text; refused = view_refusal model text }
 
 -- ---- traces
@@ -286,7 +286,7 @@ traces_end model rules text names cells others = by (named_cell model text) refl
   where
     by : (named : Option ℕ) → named_cell model text ≡ named
         → EndAlike (reply_of (trace_effect (record { model = model; stored = cells }) names named)) (reply_of (trace_effect (record { model = model; stored = others }) names named))
-    by None found = same_ends (codes "refused UnknownName") (codes "refused UnknownName") refl
+    by None found = same_ends (codes "refused " ++ reason_text reasons.UnknownName) (codes "refused " ++ reason_text reasons.UnknownName) refl
     by (Some cell) found = traced_end model names cell rules (named-cell model.space text.cube text.elements cell found) cells others
 
 -- no trace begins as a refusal does: a trace begins with a `t`, and a refusal with an `r`
@@ -302,10 +302,10 @@ unfolding content_of
 trace_refusal model text names cells reason = by (named_cell model text)
   where
     by : (named : Option ℕ) → EndAlike (reply_of (trace_effect (record { model = model; stored = cells }) names named)) (codes "refused " ++ reason_text reason)
-    by None = plain_ends (codes "refused UnknownName") (codes "refused " ++ reason_text reason) refl (refused_plain reason)
+    by None = plain_ends (codes "refused " ++ reason_text reasons.UnknownName) (codes "refused " ++ reason_text reason) (refused_plain reasons.UnknownName) (refused_plain reason)
     by (Some cell) = trace_apart model cells names cell (reason_text reason)
 
-trace_ends : (model : BoundModel) → AreRules model.space model.rules → (text : CellText) (files : Arc (List (List ℕ)) Global) → EndsAlike model (Trace text files)
+trace_ends : (model : BoundModel) → AreRules model.space model.rules → (text : CellText) (files : Arc (List (List ℕ)) Global) → RepliesEndAlike model (Trace text files)
 unfolding content_of
 trace_ends model rules text files = record { told = traces_end model rules text (arc_value files); refused = trace_refusal model text (arc_value files) }
 

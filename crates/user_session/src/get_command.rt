@@ -31,7 +31,8 @@ pub(crate) fn get(
     }
 }
 
-fn read(alloc: Global, reply: Reply) -> Result<PlanEffect, AllocError>
+/// The effect of a reading command that is replied this.
+pub(crate) fn read(alloc: Global, reply: Reply) -> Result<PlanEffect, AllocError>
     ensures { IfOk result (λ found. found ≡ Read (reply_text reply)) }
 {
     let text = reply.text(alloc)?;

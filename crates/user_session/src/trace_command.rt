@@ -2,6 +2,7 @@ ghost use Rattle.std.specs.Prelude.{◌≡◌, IfOk};
 ghost use Rattle.user_session.specs.Content.{content_of};
 ghost use Rattle.user_session.specs.Planning.{named_cell, trace_effect};
 
+use crate::get_command::read;
 use crate::reply::{CommandReason, Reply};
 use crate::world::PlanEffect;
 use cell_reader::Snapshot;
@@ -27,9 +28,6 @@ pub(crate) fn trace(
             let lines = trace_text::trace(alloc, state, files.as_slice(), cell)?;
             Ok(Effect::Read(ListOf::new(lines)))
         }
-        None => {
-            let reply = Reply::Refused(CommandReason::UnknownName).text(alloc)?;
-            Ok(Effect::Read(reply))
-        }
+        None => read(alloc, Reply::Refused(CommandReason::UnknownName)),
     }
 }
