@@ -20,22 +20,27 @@ pub struct Trace {
     pub lines: Vec<Line>,
 }
 
-/// The trace of a cell on the snapshot's version.
-pub fn trace_of(alloc: Global, snapshot: &mut Snapshot, cell: u64) -> Result<Trace, AllocError>
-    requires { IsCell (version_of snapshot.old).model.space cell }
-    ensures value { IfOk result (λ trace. trace.value ≡ value_on (version_of snapshot.old) cell) }
-    ensures lines { IfOk result (λ trace. let v = version_of snapshot.old in
+/// The trace of a cell of this version. `reader` reads its values: a snapshot of the same version, which shares what it
+/// finds.
+pub fn trace_of(
+    alloc: Global,
+    version: &Snapshot,
+    reader: &mut Snapshot,
+    cell: u64,
+) -> Result<Trace, AllocError>
+    requires cell { IsCell (version_of version.now).model.space cell }
+    requires same { version_of reader.old ≡ version_of version.now }
+    ensures value { IfOk result (λ trace. trace.value ≡ value_on (version_of version.now) cell) }
+    ensures lines { IfOk result (λ trace. let v = version_of version.now in
         trace.lines.items ≡ trace_lines (scene_of v.model v.stored cell)) }
 
     // what they name is there
     ensures names { IfOk result (λ trace.
-        All (IsLineOf (version_of snapshot.old).model.space cell) trace.lines.items) }
-    ensures version { version_of snapshot.new ≡ version_of snapshot.old }
+        All (IsLineOf (version_of version.now).model.space cell) trace.lines.items) }
+    ensures version { version_of reader.new ≡ version_of reader.old }
 {
-    // it is read by a state of its own, whose values this one finds
-    let mut reader = snapshot.share()?;
     // the value first, so that it is worked out once
     let value = reader.value_at(alloc, cell)?;
-    let lines = trace_lines(alloc, snapshot, &mut reader, cell)?;
+    let lines = trace_lines(alloc, version, reader, cell)?;
     Ok(Trace { value, lines })
 }

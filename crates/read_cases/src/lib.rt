@@ -100,7 +100,8 @@ fn put_trace(
     if let UserBody::Get(at) = command
         && let Some(cell) = cell_of(snapshot.model(), &at.cube, at.elements.as_slice())
     {
-        told.extend_from_slice(&trace(alloc, snapshot, &[], cell)?)?;
+        let mut reader = snapshot.share()?;
+        told.extend_from_slice(&trace(alloc, snapshot, &mut reader, &[], cell)?)?;
         told.push(b'\n')?;
     }
     Ok(())

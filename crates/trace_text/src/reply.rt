@@ -9,23 +9,26 @@ use cell_trace::trace_of;
 use lists::ListOf;
 use std::alloc::{AllocError, Global};
 
-/// The trace of a cell, as a user reads it, without the end of its last line. `files` has the name of the rule file of
-/// each cube.
+/// The trace of a cell of this version, as a user reads it, without the end of its last line. `reader` reads the
+/// values: a snapshot of the same version, which shares what it finds. `files` has the name of the rule file of each
+/// cube.
 pub fn trace(
     alloc: Global,
-    snapshot: &mut Snapshot,
+    version: &Snapshot,
+    reader: &mut Snapshot,
     files: &[ListOf<u8>],
     cell: u64,
 ) -> Result<Vec<u8>, AllocError>
-    requires { IsCell (version_of snapshot.old).model.space cell }
-    ensures text { IfOk result (λ text. let v = version_of snapshot.old in
+    requires cell { IsCell (version_of version.now).model.space cell }
+    requires same { version_of reader.old ≡ version_of version.now }
+    ensures text { IfOk result (λ text. let v = version_of version.now in
         text.items ≡ reply_text v.model v.stored files.now cell) }
-    ensures version { version_of snapshot.new ≡ version_of snapshot.old }
+    ensures version { version_of reader.new ≡ version_of reader.old }
 {
-    let traced = trace_of(alloc, snapshot, cell)?;
+    let traced = trace_of(alloc, version, reader, cell)?;
     trace_text(
         alloc,
-        snapshot.model(),
+        version.model(),
         files,
         cell,
         traced.value,

@@ -7,14 +7,14 @@ use Rattle.trace_text.proofs.reply.trace.Goals as goal
 
 pub trace_text-requires-clause-lines : goal.trace_text-requires-clause-lines
 trace_text-requires-clause-lines c =
-    own_lines_are (version_of c.args.snapshot.now) (version_of c.trace_of.new.snapshot) c.in_ok-traced.ensures.version c.model.result.now c.model.ensures.model c.args.cell
+    own_lines_are (version_of c.args.version.now) c.model.result.now c.model.ensures.model c.args.cell
     c.deref.result.now c.in_ok-traced.traced.lines.items c.deref.ensures.value c.in_ok-traced.ensures.names
 
 pub returns-clause-text : goal.returns-clause-text
 returns-clause-text c =
     IfOk-weaker c.trace_text.result (λ text. text.items ≡ trace_text c.model.result.now.space c.args.files.now c.args.cell c.in_ok-traced.traced.value c.deref.result.now)
-    (λ text. text.items ≡ reply_text (version_of c.args.snapshot.now).model (version_of c.args.snapshot.now).stored c.args.files.now c.args.cell)
-    (λ text is. is ∙ own_reply (version_of c.args.snapshot.now) (version_of c.trace_of.new.snapshot) c.in_ok-traced.ensures.version c.model.result.now c.model.ensures.model c.args.cell
+    (λ text. text.items ≡ reply_text (version_of c.args.version.now).model (version_of c.args.version.now).stored c.args.files.now c.args.cell)
+    (λ text is. is ∙ own_reply (version_of c.args.version.now) c.model.result.now c.model.ensures.model c.args.cell
     c.deref.result.now c.in_ok-traced.traced.lines.items c.deref.ensures.value
     c.in_ok-traced.traced.value c.args.files.now c.in_ok-traced.ensures.value c.in_ok-traced.ensures.lines)
     c.trace_text.ensures
