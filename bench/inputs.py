@@ -447,6 +447,11 @@ def ruled_total(folder, n):
     return write(folder, u_txt=u, **plan(n, ""))
 
 
+def traced_total(folder, n):
+    """n cells are loaded, and their total is traced."""
+    return write(folder, u_txt="LOAD 'put' FROM 'x.csv';\nTRACE 'C' ('All', 'Year', 'Units');\n", **plan(n, ""))
+
+
 def empty_axis(folder, n):
     """A view whose rows are n by n, and whose columns have no element."""
     m = model(dimension("A", leaves("a", n)), dimension("B", leaves("b", n)), dimension("E", ""), "CUBE 'C' ('A', 'B', 'E'); END;\n")
@@ -524,6 +529,6 @@ SHAPES = [
     (continued, 900), (puts_of_0, 30000), (puts, 800000), (zeros, 800000), (opened_total, 100000), (opened_zeros, 100000), (overfed_total, 1000000),
     (clearing_load, 100000), (adding_load, 100000), (paired_load, 100000), (large_plan, 800000), (plain_increments, 1000000), (equal_loads, 2000),
     (variables, 100000), (parameters, 100000), (joins, 40),
-    (recurrence, 240), (stock, 20000), (wide_formula, 900), (ruled_total, 800000), (empty_axis, 90000), (many_views, 2000),
+    (recurrence, 240), (stock, 20000), (wide_formula, 900), (ruled_total, 800000), (traced_total, 800000), (empty_axis, 90000), (many_views, 2000),
     (semicolons, 100000000), (semicolon_model, 2**30), (semicolon_rules, 100000000), (semicolon_script, 100000000), (load_files, 65000),
 ]

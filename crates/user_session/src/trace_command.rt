@@ -25,7 +25,8 @@ pub(crate) fn trace(
 {
     match cell_of(state.model(), &text.cube, text.elements.as_slice()) {
         Some(cell) => {
-            let lines = trace_text::trace(alloc, state, files.as_slice(), cell)?;
+            let mut reader = state.share()?;
+            let lines = trace_text::trace(alloc, state, &mut reader, files.as_slice(), cell)?;
             Ok(Effect::Read(ListOf::new(lines)))
         }
         None => read(alloc, Reply::Refused(CommandReason::UnknownName)),
