@@ -12,6 +12,7 @@ pub mod NextFacts
 pub mod PartLines
 pub mod PlaceFacts
 pub mod RestFacts
+pub mod ValueFacts
 pub mod VisitFacts
 pub mod VisitLaws
 pub mod VisitParts

@@ -18,7 +18,6 @@ mod item;
 mod known;
 mod laws;
 mod line;
-mod lines;
 mod listing;
 mod next;
 mod parts;

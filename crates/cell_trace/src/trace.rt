@@ -5,10 +5,15 @@ ghost use Rattle.cell_trace.specs.Trace.{scene_of, trace_lines};
 ghost use Rattle.cell_values.specs.Reading.{value_on};
 ghost use Rattle.cube_space.specs.Cells.{IsCell};
 
+use crate::chain::chain_from;
+use crate::here::Here;
+use crate::known::{Known, put_own_lines};
 use crate::line::Line;
-use crate::lines::trace_lines;
+use crate::listing::put_entered;
 use cell_reader::Snapshot;
 use cube_fixed::Value;
+use cube_space::MAX_DIMENSIONS;
+use rule_model::place_of;
 use std::alloc::{AllocError, Global};
 
 /// The trace of a cell.
@@ -20,8 +25,8 @@ pub struct Trace {
     pub lines: Vec<Line>,
 }
 
-/// The trace of a cell of this version. `reader` reads its values: a snapshot of the same version, which shares what it
-/// finds.
+/// The trace of a cell of this version. `reader` reads the values of other cells: a snapshot of the same version, which
+/// shares what it finds.
 pub fn trace_of(
     alloc: Global,
     version: &Snapshot,
@@ -39,8 +44,16 @@ pub fn trace_of(
         All (IsLineOf (version_of version.now).model.space cell) trace.lines.items) }
     ensures version { version_of reader.new ≡ version_of reader.old }
 {
-    // the value first, so that it is worked out once
-    let value = reader.value_at(alloc, cell)?;
-    let lines = trace_lines(alloc, version, reader, cell)?;
+    let mut at = [0u32; MAX_DIMENSIONS];
+    let (cube, len) = place_of(version.model(), cell, &mut at);
+    let here = Here::new(alloc, version, cell, cube, &at[..len]);
+    let mut known = Known::new(alloc);
+    let chain = chain_from(&here, 0, &mut known, reader)?;
+    let value = chain.value;
+    let mut lines = Vec::new(alloc);
+    put_entered(&here, chain.entered, &mut known, reader, &mut lines)?;
+    if chain.takes_own {
+        put_own_lines(&here, &mut known, reader, &mut lines)?;
+    }
     Ok(Trace { value, lines })
 }

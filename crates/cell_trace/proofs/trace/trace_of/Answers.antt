@@ -5,13 +5,22 @@ use Rattle.cell_reader.specs.Snapshots.{version_of}
 use Rattle.cell_trace.specs.declared.line.Line.{Line}
 use Rattle.cell_trace.specs.Lines.{IsLineOf}
 use Rattle.cell_trace.specs.Trace.{scene_of, trace_lines}
+use Rattle.cell_values.specs.Reading.{value_on}
+use Rattle.cell_trace.specs.Inside.Chain.{value_from}
 use Rattle.cell_trace.specs.Inside.Items.{entered_lines_at}
 use Rattle.cell_trace.specs.Inside.Parts.{own_lines_at}
 use Rattle.cell_trace.specs.Inside.Place.{scene_at}
 use Rattle.cell_trace.proofs.LineFacts.{lines_are}
 use Rattle.cell_trace.proofs.ListingFacts.{trace_is}
-use Rattle.cell_trace.proofs.lines.trace_lines.Goals as goal
-use Rattle.cell_trace.proofs.lines.trace_lines.Goals.{then-chain+in_ok-put_own_lines, else-chain}
+use Rattle.cell_trace.proofs.ValueFacts.{value_is}
+use Rattle.cell_trace.proofs.trace.trace_of.Goals as goal
+use Rattle.cell_trace.proofs.trace.trace_of.Goals.{then-chain+in_ok-put_own_lines, else-chain}
+
+pub returns-clause-value : goal.returns-clause-value
+returns-clause-value c =
+    let p = c.new-here.result in
+    c.in_ok-chain.ensures.chain.value ∙ ap (λ q. value_from q 0) c.new-here.ensures
+    ∙ value_is (record { version = version_of c.args.version.now; cell = c.args.cell }) c.model.ensures.accepted c.requires.cell
 
 pub returns-clause-lines : goal.returns-clause-lines
 returns-clause-lines c =
