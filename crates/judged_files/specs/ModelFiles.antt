@@ -4,8 +4,8 @@ use Rattle.model_text.specs.Contents.{most_scripts}
 use Rattle.rule_model.specs.BoundModel.{BoundModel}
 use Rattle.script_bound.specs.declared.script.BoundScript.{BoundScript}
 
--- the names of a model's scripts, in its order, what their files mean, and the name of the rule file of each cube, empty
--- where a cube has none
+-- the names of a model's scripts, in its order, what their files mean, and the name of the rule file of each cube,
+-- empty where a cube has none
 pub record ModelFiles : Type 0 where
   pub script_names : List (List ℕ)
   pub bound : List BoundScript

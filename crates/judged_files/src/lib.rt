@@ -2,7 +2,8 @@
 //!
 //! Read `specs/Models.antt`, `specs/Rules.antt`, `specs/Scripts.antt` and `specs/Users.antt`, a file of each kind after
 //! the other: what its bytes mean, or why they are refused. Which refusal a fault of a text is stands in
-//! `specs/Refusals.antt`, and which commands are run in `specs/Loads.antt`, over what stands in `specs/ModelFiles.antt`.
+//! `specs/Refusals.antt`, and which commands are run in `specs/Loads.antt`, over what `specs/ModelFiles.antt` has of
+//! the model.
 #![tactic(auto)]
 
 mod file_records;

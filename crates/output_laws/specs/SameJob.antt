@@ -1,4 +1,5 @@
--- When two jobs of a run are the same, however loads keep their scripts and records, and traces the names of rule files.
+-- When two jobs of a run are the same, however loads keep their scripts and records, and traces the names of rule
+-- files.
 use Rattle.std.specs.Prelude.{◌≡◌}
 use Rattle.std.specs.Arc.{arc_value}
 use Rattle.std.specs.List.{AllZip}

@@ -147,8 +147,8 @@ fn behind_text<F: Files>(
     }
 }
 
-// The pass behind that of the rule files, of the scripts of these files and names. `rules` has the name of the rule file
-// of each cube.
+// The pass behind that of the rule files, of the scripts of these files and names. `rules` has the name of the rule
+// file of each cube.
 fn behind_rules<F: Files>(
     alloc: Global,
     files: &mut F,
