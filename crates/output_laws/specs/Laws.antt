@@ -35,8 +35,8 @@ TheBytesTellTheHistory =
     → output told log ≡ output replies other → (told ≡ replies) × (log ≡ other)
 
 -- In two runs on one model, whose users differ but for one of them: where the same writes were committed, and that
--- user's commands had the same places, the user was told the same. So what another user keeps in a sandbox and doesn't
--- publish changes nothing that a user is told.
+-- user's commands had the same places, the user got the same replies. So what another user keeps in a sandbox and
+-- doesn't publish changes no reply to a user.
 abbrev pub SandboxIsSeenByItsUserAlone : Type 0
 SandboxIsSeenByItsUserAlone =
     (model : BoundModel) (users others : List (List (Act PlanCommand))) (told replies : List (List (Told (List ℕ))))
