@@ -7,3 +7,4 @@ pub mod Statements
 mod GoverningFacts
 mod OpenFacts
 pub mod Filing
+pub mod LeafCells

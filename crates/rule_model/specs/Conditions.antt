@@ -1,12 +1,14 @@
 -- What holds of the rules of a model.
-use Rattle.std.specs.Prelude.{◌≡◌, ℕ, ◌<◌, ◌≤◌, ◌^◌, ◌+◌, pos, ⊤, Option, Some, None, IfSome}
+use Rattle.std.specs.Prelude.{◌≡◌, ℕ, ◌<◌, ◌≤◌, ◌^◌, ◌+◌, pos, ⊤, Bool, true, false, Option, Some, None, IfSome}
 use Rattle.std.specs.Prelude.{List, length, All, slice_get, slice_index_or}
 use Rattle.std.specs.List.{AllZip}
 use Rattle.std.specs.List.Sorted.{IsStrictlyIncreasing}
 use Rattle.std.specs.Option.{option_map_or}
 use Rattle.dim_core.specs.Outline.{Outline, IsElement}
 use Rattle.dim_weights.specs.Coefficients.{coef}
-use Rattle.cube_space.specs.Layout.{Layout, axes, sizes}
+use Rattle.cube_space.specs.Layout.{Layout, axes, sizes, sizes_of}
+use Rattle.cube_space.specs.Cells.{are_leaves}
+use Rattle.cube_space.specs.Radix.{are_digits}
 use Rattle.rule_laws.specs.declared.reference.Reference.{Reference}
 use Rattle.rule_laws.specs.declared.reference.Arg.{Arg}
 use Rattle.rule_laws.specs.declared.reference.Arg.TheVariants.{Fixed, Moved}
@@ -21,7 +23,8 @@ use Rattle.rule_model.specs.declared.rules.CubeRules.{CubeRules}
 use Rattle.rule_model.specs.declared.rules.Statement.{Statement}
 use Rattle.rule_model.specs.declared.rules.Feeder.{Feeder}
 use Rattle.rule_model.specs.BoundModel.{no_rules}
-use Rattle.rule_model.specs.Order.{most_positions}
+use Rattle.rule_model.specs.Weights.{coef_product}
+use Rattle.rule_model.specs.Order.{most_positions, positions_for, position_in, number_by}
 
 -- a set of an area in a dimension of this size lists elements of it, rising, or has all
 abbrev pub IsSet : ℕ → Option (List ℕ) → Type 0
@@ -98,7 +101,6 @@ HoldsLeaves dimension ranks =
 pub record AreRanks (dimension : Outline) (ranks : List ℕ) : Type 0 where
   pub each : length ranks ≡ length dimension.elements
   pub small : All (λ rank. rank ≤ greatest_rank) ranks
-  pub holds_leaves : HoldsLeaves dimension ranks
 
 -- a position of an order of a cube with these dimensions
 abbrev pub IsPosition : List Outline → Position → Type 0
@@ -106,9 +108,31 @@ IsPosition dimensions (Constant number) = number ≤ greatest_rank
 IsPosition dimensions (Ranks dim ranks) =
     (dimension : Outline) × (slice_get dimensions dim ≡ Some dimension) × AreRanks dimension ranks
 
+-- these are the elements of a consolidated cell, and of a leaf cell that counts in it
+pub record IsLeafBelow (dimensions : List Outline) (cell leaf : List ℕ) : Type 0 where
+  pub cell : are_digits (sizes_of dimensions) cell ≡ true
+  pub leaf : are_digits (sizes_of dimensions) leaf ≡ true
+  pub total : are_leaves dimensions cell ≡ false
+  pub leaves : are_leaves dimensions leaf ≡ true
+  pub counts : coef_product dimensions cell leaf ≡ pos 0 → ⊥
+
+-- up to this position, the numbers of the leaf cell are those of the consolidated cell
+abbrev pub AreEqualBefore : Order → List ℕ → List ℕ → ℕ → Type 0
+AreEqualBefore order cell leaf place =
+    (before : ℕ) → before < place
+    → number_by (position_in order true before) leaf ≡ number_by (position_in order false before) cell
+
+-- no leaf cell comes behind a consolidated cell in which it counts: at each position where both are equal before, it
+-- has no greater number
+abbrev pub HoldsLeafCells : List Outline → Order → Type 0
+HoldsLeafCells dimensions order =
+    (cell leaf : List ℕ) (place : ℕ) → IsLeafBelow dimensions cell leaf → AreEqualBefore order cell leaf place
+    → number_by (position_in order true place) leaf ≤ number_by (position_in order false place) cell
+
 pub record IsOrderOf (space : Layout) (cube : ℕ) (order : Order) : Type 0 where
-  pub few : length order.positions ≤ most_positions
-  pub each : All (IsPosition (axes space cube)) order.positions
+  pub few : (kind : Bool) → length (positions_for kind order) ≤ most_positions
+  pub each : (kind : Bool) → All (IsPosition (axes space cube)) (positions_for kind order)
+  pub holds_leaf_cells : HoldsLeafCells (axes space cube) order
 
 -- the rules of a cube
 pub record AreCubeRules (space : Layout) (cube : ℕ) (rules : CubeRules) : Type 0 where

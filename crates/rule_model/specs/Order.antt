@@ -1,10 +1,11 @@
 -- Where a cell stands in the declared order.
-use Rattle.std.specs.Prelude.{ℕ, suc, max, List, [], ◌∷◌, map, slice_index_or, sum_by}
+use Rattle.std.specs.Prelude.{ℕ, suc, max, Bool, true, false, unwrap_or, List, [], ◌∷◌, map, slice_index_or, sum_by}
 use Rattle.std.specs.List.{range_with_len, zip}
 use Rattle.dim_core.specs.Outline.{level}
 use Rattle.cube_space.specs.Layout.{Layout, axes}
-use Rattle.cube_space.specs.Cells.{cube_of, elements_of, size_of}
+use Rattle.cube_space.specs.Cells.{cube_of, elements_of, size_of, is_leaf_cell}
 use Rattle.cube_space.specs.Radix.{number_of}
+use Rattle.rule_model.specs.declared.order.Order.{Order}
 use Rattle.rule_model.specs.declared.order.Position.{Position}
 use Rattle.rule_model.specs.declared.order.Position.TheVariants.{Constant, Ranks}
 use Rattle.rule_model.specs.BoundModel.{BoundModel, rules_of}
@@ -13,9 +14,18 @@ use Rattle.rule_model.specs.BoundModel.{BoundModel, rules_of}
 abbrev pub most_positions : ℕ
 most_positions = 8
 
--- what the order of a cube has at a position
-abbrev pub position_of : BoundModel → ℕ → ℕ → Position
-position_of model cube place = slice_index_or (rules_of model cube).order.positions place (Constant 0)
+-- the positions of an order for cells of a kind, `true` for leaf cells
+abbrev pub positions_for : Bool → Order → List Position
+positions_for true order = order.positions
+positions_for false order = unwrap_or order.totals order.positions
+
+-- what an order has at a position for cells of a kind
+abbrev pub position_in : Order → Bool → ℕ → Position
+position_in order kind place = slice_index_or (positions_for kind order) place (Constant 0)
+
+-- what the order of a cube has there
+abbrev pub position_of : BoundModel → ℕ → Bool → ℕ → Position
+position_of model cube kind place = position_in (rules_of model cube).order kind place
 
 -- the number of a cell with these elements at a position
 abbrev pub number_by : Position → List ℕ → ℕ
@@ -25,7 +35,8 @@ number_by (Ranks dim ranks) elements = slice_index_or ranks (slice_index_or elem
 -- the number of a cell at a position of the order
 unfoldable pub number_at : BoundModel → ℕ → ℕ → ℕ
 number_at model place cell =
-    number_by (position_of model (cube_of model.space cell) place) (elements_of model.space cell)
+    number_by (position_of model (cube_of model.space cell) (is_leaf_cell model.space cell) place)
+    (elements_of model.space cell)
 
 -- the greatest of these numbers, 0 where there are none
 abbrev pub greatest : List ℕ → ℕ

@@ -3,7 +3,10 @@ use lists::ListOf;
 /// The declared order of a cube's cells: cells are compared at the first position, then at the next.
 #[derive(Drop)]
 pub struct Order {
+    /// The positions of leaf cells, and of consolidated cells too where those have none of their own.
     pub positions: ListOf<Position>,
+    /// The positions of consolidated cells, where they aren't those of leaf cells.
+    pub totals: Option<ListOf<Position>>,
 }
 
 /// What a cell has at a position of the order.
