@@ -1,141 +1,136 @@
 -- Whether what a formula reads stands before its cell in the declared order, decided dimension by dimension. At each
 -- position, and at the level, 'the cell that is read less the cell' is a start plus one number for each dimension, so
--- the greatest of it over all cells of a kind is found from the greatest numbers of each dimension.
-use Rattle.std.specs.Prelude.{ℕ, zero, suc, ◌+◌, ◌==◌, Bool, true, false, not, ◌&&◌, ◌||◌, nat_lt}
-use Rattle.std.specs.Prelude.{if◌then◌else◌, ℤ, pos, ◌-ℤ◌}
-use Rattle.std.specs.Prelude.{neg_ℤ, int_lt, int_le, Option, Some, None, option_map, unwrap_or, List, [], ◌∷◌, length}
-use Rattle.std.specs.Prelude.{slice_get, slice_index_or}
-use Rattle.std.specs.Prelude.{◌≡◌, ◌<◌, All, IsTrue}
+-- the greatest of it over all cells of a kind is found from the greatest numbers of each dimension. An order may have
+-- positions of its own for consolidated cells. So the cells are parted by their kind and by the kind of what they read.
+use Rattle.std.specs.Prelude.{◌≡◌, ℕ, zero, suc, ◌+◌, ◌<◌, ◌==◌, Bool, true, false, not, ◌&&◌, ◌||◌, if◌then◌else◌, IsTrue}
+use Rattle.std.specs.Prelude.{ℤ, pos, neg_ℤ, ◌-ℤ◌, int_lt, int_le, Option, Some, None, unwrap_or}
+use Rattle.std.specs.Prelude.{List, [], ◌∷◌, All, length, slice_get, slice_index_or}
 use Rattle.std.specs.Option.{option_map_or}
-use Rattle.dim_core.specs.Outline.{Outline, level, components_of}
+use Rattle.dim_core.specs.Outline.{Outline}
 use Rattle.dim_weights.specs.Table.{is_nonzero}
 use Rattle.cube_space.specs.Layout.{axes, sizes}
-use Rattle.cube_space.specs.Cells.{is_leaf}
 use Rattle.rule_laws.specs.declared.reference.Arg.{Arg}
 use Rattle.rule_laws.specs.declared.reference.Arg.TheVariants.{Fixed, Moved}
 use Rattle.rule_laws.specs.declared.formula.Formula.{Formula}
 use Rattle.rule_laws.specs.Meaning.{Precedent, Named, Components, precedents}
 use Rattle.rule_laws.specs.RuleSystem.{part_of}
 use Rattle.rule_model.specs.declared.rules.Statement.{Statement}
-use Rattle.rule_model.specs.System.{rule_of}
-use Rattle.rule_model.specs.declared.order.Position.{Position}
-use Rattle.rule_model.specs.declared.order.Position.TheVariants.{Constant, Ranks}
 use Rattle.rule_model.specs.declared.area.Area.{Area}
+use Rattle.rule_model.specs.System.{rule_of}
 use Rattle.rule_model.specs.BoundModel.{BoundModel, rules_of}
-use Rattle.rule_model.specs.Order.{most_positions, position_of}
-use Rattle.order_laws.specs.Greatest.{plus, greatest, greatest_sum, greatest_passing_sum, only}
+use Rattle.rule_model.specs.Order.{most_positions}
+use Rattle.order_laws.specs.Greatest.{plus, larger, greatest, only}
+use Rattle.order_laws.specs.Scales.{scale_of, fixed_sum, moved_sum, parts_in, greatest_in, is_leaf_element}
 
--- what a cell has at a position or as its level: a base, and what its element in each dimension adds
-pub record Scale : Type 0 where
-  pub base : ℕ
-  pub worth : ℕ → ℕ → ℕ
+-- two kinds, `true` for leaf cells: of a cell, and of the cell that it reads. Of one dimension: whether their elements
+-- there are leaves
+pub record Kinds : Type 0 where
+  pub own : Bool
+  pub its : Bool
 
-abbrev pub rank_at : List ℕ → ℕ → ℕ → ℕ → ℕ
-rank_at ranks dim i element = if i == dim then slice_index_or ranks element 0 else 0
+abbrev pub is_same : Bool → Bool → Bool
+is_same true b = b
+is_same false b = not b
 
-abbrev pub position_scale : Position → Scale
-position_scale (Constant number) = record { base = number; worth = λ i element. 0 }
-position_scale (Ranks dim ranks) = record { base = 0; worth = rank_at ranks dim }
+abbrev pub are_same : Kinds → Kinds → Bool
+are_same a b = is_same a.own b.own && is_same a.its b.its
 
-abbrev pub level_in : List Outline → ℕ → ℕ → ℕ
-level_in dimensions i element = option_map_or (λ d. level d element) (slice_get dimensions i) 0
+-- a leaf cell has leaves alone
+abbrev pub both : Kinds → Kinds → Kinds
+both a b = record { own = a.own && b.own; its = a.its && b.its }
 
-abbrev pub level_scale : List Outline → Scale
-level_scale dimensions = record { base = 0; worth = level_in dimensions }
+-- whether the fixed arguments of a reference name leaves alone, from this argument on
+abbrev pub fixed_leaves : List Outline → ℕ → List Arg → Bool
+fixed_leaves dimensions j [] = true
+fixed_leaves dimensions j (Fixed element ∷ args) =
+    is_leaf_element dimensions j element && fixed_leaves dimensions (suc j) args
+fixed_leaves dimensions j (Moved from to ∷ args) = fixed_leaves dimensions (suc j) args
 
--- the scale of a cube at a position of the order, and at the place after the last one that of the levels
-unfoldable pub scale_of : BoundModel → ℕ → ℕ → Scale
-scale_of model cube place = if nat_lt place most_positions then position_scale (position_of model cube place)
-    else level_scale (axes model.space cube)
+-- whether the arguments that follow a dimension of the source name leaves alone from an element
+abbrev pub moved_leaves : List Outline → ℕ → List Arg → ℕ → ℕ → Bool
+moved_leaves dimensions j [] i element = true
+moved_leaves dimensions j (Fixed fixed ∷ args) i element = moved_leaves dimensions (suc j) args i element
+moved_leaves dimensions j (Moved from to ∷ args) i element = if i == from
+    then option_map_or (is_leaf_element dimensions j) (unwrap_or (slice_get to element) None) true
+    && moved_leaves dimensions (suc j) args i element
+    else moved_leaves dimensions (suc j) args i element
 
--- what the fixed arguments of a reference add, from this argument on
-abbrev pub fixed_sum : (ℕ → ℕ → ℕ) → ℕ → List Arg → ℕ
-fixed_sum worth j [] = 0
-fixed_sum worth j (Fixed element ∷ args) = worth j element + fixed_sum worth (suc j) args
-fixed_sum worth j (Moved from to ∷ args) = fixed_sum worth (suc j) args
+-- by the scales of these kinds, what a component adds more than the element that it is a component of: where its weight
+-- isn't 0, and it is a leaf (`true`), or isn't
+abbrev pub component_number : BoundModel → ℕ → Kinds → ℕ → ℕ → ℕ → Bool → ℕ × ℤ → Option ℤ
+component_number model cube kinds place dim element leaf part =
+    only (is_nonzero part.1 && is_same leaf (is_leaf_element (axes model.space cube) dim part.0))
+    (Some (pos ((scale_of model cube kinds.its place).worth dim part.0)
+    -ℤ pos ((scale_of model cube kinds.own place).worth dim element)))
 
--- what an element of a dimension of the source adds to the target by the arguments that follow that dimension; None
--- where one of them names nothing from it
-abbrev pub moved_sum : (ℕ → ℕ → ℕ) → ℕ → List Arg → ℕ → ℕ → Option ℤ
-moved_sum worth j [] i element = Some (pos 0)
-moved_sum worth j (Fixed fixed ∷ args) i element = moved_sum worth (suc j) args i element
-moved_sum worth j (Moved from to ∷ args) i element = if i == from
-    then plus (option_map (λ target. pos (worth j target)) (unwrap_or (slice_get to element) None))
-    (moved_sum worth (suc j) args i element)
-    else moved_sum worth (suc j) args i element
+abbrev pub components_number : BoundModel → ℕ → Kinds → ℕ → ℕ → ℕ → Bool → List (ℕ × ℤ) → Option ℤ
+components_number model cube kinds place dim element leaf parts =
+    greatest (λ k. component_number model cube kinds place dim element leaf (slice_index_or parts k (0, pos 0)))
+    (length parts)
 
--- what a component adds more than the element that it is a component of, where its weight isn't 0
-abbrev pub component_excess : (ℕ → ℕ) → ℕ → ℕ × ℤ → Option ℤ
-component_excess worth element part = only (is_nonzero part.1) (Some (pos (worth part.0) -ℤ pos (worth element)))
-
-abbrev pub components_excess : (ℕ → ℕ) → ℕ → List (ℕ × ℤ) → Option ℤ
-components_excess worth element parts =
-    greatest (λ k. component_excess worth element (slice_index_or parts k (0, pos 0))) (length parts)
-
-abbrev pub parts_in : List Outline → ℕ → ℕ → List (ℕ × ℤ)
-parts_in dimensions i element = option_map_or (λ d. components_of d element) (slice_get dimensions i) []
-
--- what an element of a dimension of the source adds to the cell that is read more than to its own cell
-abbrev pub excess : BoundModel → ℕ → ℕ → Precedent → ℕ → ℕ → Option ℤ
-excess model cube place (Named r) i element =
-    plus (moved_sum (scale_of model r.cube place).worth 0 r.args i element)
-    (Some (neg_ℤ (pos ((scale_of model cube place).worth i element))))
-excess model cube place (Components dim) i element = if i == dim
-    then components_excess ((scale_of model cube place).worth dim) element
-    (parts_in (axes model.space cube) dim element)
-    else Some (pos 0)
+-- by the scales of these kinds, what an element of a dimension of the source adds to the cell that is read more than to
+-- its own cell: where all that is named from it is a leaf (`true`), or isn't
+abbrev pub number_by_kinds : BoundModel → ℕ → Kinds → ℕ → Precedent → ℕ → ℕ → Bool → Option ℤ
+number_by_kinds model cube kinds place (Named r) i element leaf =
+    only (is_same leaf (moved_leaves (axes model.space r.cube) 0 r.args i element))
+    (plus (moved_sum (scale_of model r.cube kinds.its place).worth 0 r.args i element)
+    (Some (neg_ℤ (pos ((scale_of model cube kinds.own place).worth i element)))))
+number_by_kinds model cube kinds place (Components dim) i element leaf = if i == dim
+    then components_number model cube kinds place dim element leaf (parts_in (axes model.space cube) dim element)
+    else only (is_same leaf (is_leaf_element (axes model.space cube) i element))
+    (Some (pos ((scale_of model cube kinds.its place).worth i element)
+    -ℤ pos ((scale_of model cube kinds.own place).worth i element)))
 
 -- what the cell that is read has more than its cell, whatever elements that has
-abbrev pub start : BoundModel → ℕ → ℕ → Precedent → ℤ
-start model cube place (Named r) =
-    pos ((scale_of model r.cube place).base + fixed_sum (scale_of model r.cube place).worth 0 r.args)
-    -ℤ pos (scale_of model cube place).base
-start model cube place (Components dim) = pos 0
+abbrev pub start_by_kinds : BoundModel → ℕ → Kinds → ℕ → Precedent → ℤ
+start_by_kinds model cube kinds place (Named r) =
+    pos ((scale_of model r.cube kinds.its place).base + fixed_sum (scale_of model r.cube kinds.its place).worth 0 r.args)
+    -ℤ pos (scale_of model cube kinds.own place).base
+start_by_kinds model cube kinds place (Components dim) =
+    pos (scale_of model cube kinds.its place).base -ℤ pos (scale_of model cube kinds.own place).base
 
--- the elements that a set of an area has in a dimension of this size: how many, and which is at a place
-abbrev pub set_count : ℕ → Option (List ℕ) → ℕ
-set_count size None = size
-set_count size (Some listed) = length listed
+-- the kinds as far as no element of the source says more
+abbrev pub kinds_before : BoundModel → Precedent → Kinds
+kinds_before model (Named r) = record { own = true; its = fixed_leaves (axes model.space r.cube) 0 r.args }
+kinds_before model (Components dim) = record { own = true; its = true }
 
-abbrev pub set_element : Option (List ℕ) → ℕ → ℕ
-set_element None place = place
-set_element (Some listed) place = slice_index_or listed place 0
+-- the greatest of these numbers over the elements of an area in a dimension that have the kinds `here`
+abbrev pub greatest_of_kinds : BoundModel → ℕ → Area → Kinds → ℕ → Precedent → ℕ → Kinds → Option ℤ
+greatest_of_kinds model cube area kinds place p i here =
+    greatest_in (λ element. number_by_kinds model cube kinds place p i element here.its)
+    (λ element. is_same here.own (is_leaf_element (axes model.space cube) i element))
+    (slice_index_or (sizes model.space cube) i 0) (slice_index_or area.sets i None)
 
--- whether an element of a dimension of a cube is consolidated
-abbrev pub is_total : List Outline → ℕ → ℕ → Bool
-is_total dimensions i element = option_map_or (λ d. not (is_leaf d element)) (slice_get dimensions i) false
+-- the four kinds that the elements of a dimension may have
+abbrev pub of_leaf : Bool → Kinds
+of_leaf its = record { own = true; its = its }
 
--- the greatest number of the elements of a set that pass
-abbrev pub greatest_in : (ℕ → Option ℤ) → (ℕ → Bool) → ℕ → Option (List ℕ) → Option ℤ
-greatest_in number test size set =
-    greatest (λ k. only (test (set_element set k)) (number (set_element set k))) (set_count size set)
+abbrev pub of_total : Bool → Kinds
+of_total its = record { own = false; its = its }
 
--- the greatest excess of the elements of an area in a dimension, of all, the consolidated ones, or the leaves
-abbrev pub greatest_by : BoundModel → ℕ → Area → ℕ → Precedent → (ℕ → ℕ → Bool) → ℕ → Option ℤ
-greatest_by model cube area place p test i =
-    greatest_in (excess model cube place p i) (test i) (slice_index_or (sizes model.space cube) i 0)
-    (slice_index_or area.sets i None)
+-- the greatest sum of one number a dimension, over so many dimensions from this one on, by the greatest number of each
+-- kinds: the kinds of all dimensions together, with those before, are the wanted ones
+abbrev pub greatest_ending : (ℕ → Kinds → Option ℤ) → Kinds → Kinds → ℕ → ℕ → Option ℤ
+greatest_ending most wanted before dim zero = only (are_same wanted before) (Some (pos 0))
+greatest_ending most wanted before dim (suc count) =
+    larger
+    (larger (plus (most dim (of_leaf true)) (greatest_ending most wanted (both before (of_leaf true)) (suc dim) count))
+    (plus (most dim (of_leaf false)) (greatest_ending most wanted (both before (of_leaf false)) (suc dim) count)))
+    (larger (plus (most dim (of_total true)) (greatest_ending most wanted (both before (of_total true)) (suc dim) count))
+    (plus (most dim (of_total false)) (greatest_ending most wanted (both before (of_total false)) (suc dim) count)))
 
-abbrev pub each : ℕ → ℕ → Bool
-each i element = true
+-- the most that a cell that is read has more than its cell, over the cells of an area where both are of these kinds
+abbrev pub excess_of_kinds : BoundModel → ℕ → Area → Kinds → Precedent → ℕ → Option ℤ
+excess_of_kinds model cube area kinds p place =
+    plus (Some (start_by_kinds model cube kinds place p))
+    (greatest_ending (greatest_of_kinds model cube area kinds place p) kinds (kinds_before model p) 0
+    (length (axes model.space cube)))
 
-abbrev pub is_leaf_element : List Outline → ℕ → ℕ → Bool
-is_leaf_element dimensions i element = not (is_total dimensions i element)
-
--- the greatest sum of excesses over the cells of an area of this kind, `true` for leaf cells
-abbrev pub excess_sum : BoundModel → ℕ → Area → Bool → Precedent → ℕ → Option ℤ
-excess_sum model cube area true p place =
-    greatest_sum (greatest_by model cube area place p (is_leaf_element (axes model.space cube))) 0
-    (length (axes model.space cube))
-excess_sum model cube area false p place =
-    greatest_passing_sum (greatest_by model cube area place p each)
-    (greatest_by model cube area place p (is_total (axes model.space cube))) 0 (length (axes model.space cube))
-
--- the most that a cell that is read has more than its cell, over the cells of an area of this kind; None where there is
--- no such cell
+-- the same over the cells of an area of this kind, whatever the kind of what they read; None where there is no such cell
 unfoldable pub most_excess : BoundModel → ℕ → Area → Bool → Precedent → ℕ → Option ℤ
 most_excess model cube area kind p place =
-    plus (Some (start model cube place p)) (excess_sum model cube area kind p place)
+    larger (excess_of_kinds model cube area (record { own = kind; its = true }) p place)
+    (excess_of_kinds model cube area (record { own = kind; its = false }) p place)
 
 -- every cell that is read is smaller, or at most equal
 abbrev pub is_below : Option ℤ → Bool
