@@ -15,7 +15,7 @@ use Rattle.rule_laws.specs.Meaning.{Components}
 use Rattle.rule_model.specs.declared.rules.Statement.{Statement}
 use Rattle.rule_model.specs.BoundModel.{BoundModel}
 use Rattle.rule_model.specs.Conditions.{IsArea, AreRules}
-use Rattle.order_laws.specs.Earlier.{is_total, parts_in}
+use Rattle.order_laws.specs.Scales.{is_total, parts_in}
 use Rattle.order_laws.proofs.Decided.{cell-of, of-cell}
 use Rattle.order_laws.proofs.Components.{read-part, part-read}
 use Rattle.arrow_laws.specs.Nodes.{Node, last_of}

@@ -15,7 +15,7 @@ use Rattle.rule_model.specs.Conditions.{IsArea, AreRules}
 use Rattle.cube_space.proofs.AxisFacts.{axes_count}
 use Rattle.lists.proofs.Found.{there as place-there, found_holds}
 use Rattle.order_laws.specs.Greatest.{any_from}
-use Rattle.order_laws.specs.Earlier.{is_total}
+use Rattle.order_laws.specs.Scales.{is_total}
 use Rattle.order_laws.proofs.CellFacts.{IsAt, area-each}
 use Rattle.order_laws.proofs.Decided.{IsOf}
 use Rattle.cover_laws.proofs.Pairs.{all-at, all-of, any-not, choose}

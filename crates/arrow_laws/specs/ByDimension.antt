@@ -12,7 +12,8 @@ use Rattle.rule_model.specs.declared.area.Area.{Area}
 use Rattle.rule_model.specs.Areas.{in_set}
 use Rattle.rule_model.specs.BoundModel.{BoundModel}
 use Rattle.rule_model.specs.Order.{most_positions}
-use Rattle.order_laws.specs.Earlier.{most_excess, is_below, is_within, is_total, parts_in}
+use Rattle.order_laws.specs.Scales.{is_total, parts_in}
+use Rattle.order_laws.specs.Earlier.{most_excess, is_below, is_within}
 use Rattle.cover_laws.specs.Looking.{sent}
 use Rattle.arrow_laws.specs.Nodes.{Node, last_of}
 

@@ -8,7 +8,7 @@ use Rattle.cube_space.specs.Layout.{sizes}
 use Rattle.rule_laws.specs.declared.reference.Arg.{Arg}
 use Rattle.rule_laws.specs.declared.reference.Arg.TheVariants.{Fixed, Moved}
 use Rattle.rule_model.specs.Conditions.{IsArea}
-use Rattle.order_laws.specs.Earlier.{set_element}
+use Rattle.order_laws.specs.Scales.{set_element}
 use Rattle.order_laws.proofs.SetFacts.{place-of, place-in, set-at}
 use Rattle.order_laws.proofs.CellFacts.{is_in_area}
 use Rattle.cover_laws.specs.Looking.{Look, each_below, some_below, sent, each_in, some_in, names_one, name_each, is_narrow, each_narrow, fixed_count, each_named, all_named}

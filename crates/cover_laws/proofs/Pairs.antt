@@ -15,7 +15,7 @@ use Rattle.rule_model.specs.Areas.{in_sets}
 use Rattle.rule_model.specs.Targets.{element_by, elements_by}
 use Rattle.rule_model.specs.Conditions.{IsArea, IsReference, AreRules}
 use Rattle.order_laws.specs.Greatest.{any_from}
-use Rattle.order_laws.specs.Earlier.{is_total, is_leaf_element}
+use Rattle.order_laws.specs.Scales.{is_total, is_leaf_element}
 use Rattle.order_laws.proofs.SumFacts.{all_from}
 use Rattle.order_laws.proofs.ReferenceFacts.{AllFollow, moved-element}
 use Rattle.order_laws.proofs.SetFacts.{follow-all, with-parts}

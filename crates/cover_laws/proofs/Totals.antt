@@ -23,7 +23,7 @@ use Rattle.rule_model.specs.Governing.{rules_for, has_part}
 use Rattle.rule_model.specs.Governing as model
 use Rattle.model_laws.proofs.Statements.{governing-all, split}
 use Rattle.model_laws.specs.Statements.{statements_before}
-use Rattle.order_laws.specs.Earlier.{is_total, is_leaf_element}
+use Rattle.order_laws.specs.Scales.{is_total, is_leaf_element}
 use Rattle.order_laws.proofs.SumFacts.{all_from, zip-each}
 use Rattle.order_laws.proofs.SetFacts.{zip-long}
 use Rattle.order_laws.proofs.CellFacts.{IsAt, axes-sizes, leaf-is}

@@ -16,7 +16,7 @@ use Rattle.rule_model.specs.declared.rules.Statement.{Statement}
 use Rattle.rule_model.specs.BoundModel.{BoundModel, rules_of}
 use Rattle.rule_model.specs.Areas.{in_set, in_source_set}
 use Rattle.rule_model.specs.System.{cubes_of}
-use Rattle.order_laws.specs.Earlier.{is_leaf_element}
+use Rattle.order_laws.specs.Scales.{is_leaf_element}
 use Rattle.cover_laws.specs.Looking.{Look, sent, each_narrow, is_possible, each_named, all_named}
 
 -- the leaves that count in an element, in the dimension at a place

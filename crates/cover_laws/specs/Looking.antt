@@ -6,7 +6,7 @@ use Rattle.cube_space.specs.Layout.{Layout, axes, sizes}
 use Rattle.rule_laws.specs.declared.reference.Arg.{Arg}
 use Rattle.rule_laws.specs.declared.reference.Arg.TheVariants.{Fixed, Moved}
 use Rattle.rule_model.specs.declared.area.Area.{Area}
-use Rattle.order_laws.specs.Earlier.{set_count, set_element, is_leaf_element}
+use Rattle.order_laws.specs.Scales.{set_count, set_element, is_leaf_element}
 
 -- whether each of the numbers below this passes, and whether some does
 abbrev pub each_below : (ℕ → Bool) → ℕ → Bool

@@ -25,7 +25,7 @@ use Rattle.rule_model.specs.BoundModel.{BoundModel, rules_of}
 use Rattle.rule_model.specs.Conditions.{IsArg, IsFeeder, AreRules}
 use Rattle.rule_model.specs.Filed.{is_leaf_at, wider, widest_leaf, leaf_of, is_same_leaf, is_filed, filed_places}
 use Rattle.model_laws.proofs.Levels.{axis-is}
-use Rattle.order_laws.specs.Earlier.{set_count, set_element}
+use Rattle.order_laws.specs.Scales.{set_count, set_element}
 use Rattle.ref_order.proofs.Args.{args-long, arg-at}
 use Rattle.ref_order.proofs.Axes.{size-of-axis}
 use Rattle.cover_laws.specs.Looking.{Look, some_below, is_narrow, is_possible, some_in}

@@ -16,7 +16,7 @@ use Rattle.rule_laws.specs.declared.reference.Arg.{Arg}
 use Rattle.rule_laws.specs.declared.reference.Arg.TheVariants.{Fixed, Moved}
 use Rattle.rule_model.specs.Conditions.{IsArea}
 use Rattle.model_laws.proofs.Levels.{axis-is}
-use Rattle.order_laws.specs.Earlier.{is_leaf_element}
+use Rattle.order_laws.specs.Scales.{is_leaf_element}
 use Rattle.order_laws.proofs.SetFacts.{place-of}
 use Rattle.ref_order.proofs.Axes.{size-of-axis}
 use Rattle.ref_order.proofs.Sums.{element-below}

@@ -11,7 +11,7 @@ use Rattle.rule_model.specs.declared.area.Area.{Area}
 use Rattle.rule_model.specs.declared.rules.Statement.{Statement}
 use Rattle.rule_model.specs.BoundModel.{BoundModel}
 use Rattle.rule_model.specs.Conditions.{IsArea}
-use Rattle.order_laws.specs.Earlier.{is_leaf_element}
+use Rattle.order_laws.specs.Scales.{is_leaf_element}
 use Rattle.cover_laws.specs.Looking.{Look, sent, names_one, name_each, is_narrow, each_narrow, each_named, all_named}
 use Rattle.cover_laws.specs.Covered.{look_within, names_no_total}
 use Rattle.cover_laws.proofs.Looks.{not-or, or-not, each_narrow-elim, each_narrow-intro}

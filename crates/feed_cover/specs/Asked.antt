@@ -1,7 +1,7 @@
 -- Which feeders of a cube are asked about a reference.
 use Rattle.std.specs.Prelude.{◌≡◌, ℕ, ◌<◌, ◌==◌, Bool, true, false, Option, None, Some, slice_get, slice_index_or}
 use Rattle.std.specs.Option.{option_map_or}
-use Rattle.order_laws.specs.Earlier.{set_element}
+use Rattle.order_laws.specs.Scales.{set_element}
 use Rattle.rule_model.specs.declared.filed.FixedLeaf.{FixedLeaf}
 use Rattle.rule_model.specs.declared.rules.Feeder.{Feeder}
 use Rattle.rule_model.specs.BoundModel.{BoundModel, rules_of}

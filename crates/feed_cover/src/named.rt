@@ -2,7 +2,7 @@ ghost use Rattle.std.specs.Prelude.{◌≡◌, ℕ, ◌<◌, ◌≤◌, length, 
 ghost use Rattle.cube_space.specs.Layout.{axes, sizes};
 ghost use Rattle.rule_laws.specs.declared.reference.Arg.TheVariants.{Fixed};
 ghost use Rattle.rule_model.specs.Conditions.{IsArea};
-ghost use Rattle.order_laws.specs.Earlier.{is_leaf_element};
+ghost use Rattle.order_laws.specs.Scales.{is_leaf_element};
 ghost use Rattle.cover_laws.specs.Looking.{each_named, all_named};
 ghost use Rattle.cover_laws.specs.Covered.{are_sources};
 ghost use Rattle.feed_cover.specs.Views.{look_of, IsView};

@@ -2,7 +2,7 @@ ghost use Rattle.std.specs.Prelude.{◌≡◌, ◌<◌, length, slice_index_or, 
 ghost use Rattle.cube_space.specs.Layout.{axes, sizes};
 ghost use Rattle.rule_model.specs.Areas.{in_set};
 ghost use Rattle.rule_model.specs.Conditions.{IsSet};
-ghost use Rattle.order_laws.specs.Earlier.{set_count, set_element};
+ghost use Rattle.order_laws.specs.Scales.{set_count, set_element};
 ghost use Rattle.feed_cover.specs.Views.{IsView};
 
 use crate::reference_view::ReferenceView;

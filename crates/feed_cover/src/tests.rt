@@ -2,7 +2,7 @@ ghost use Rattle.std.specs.Prelude.{◌≡◌, ◌<◌, ℕ, None, Some, slice_i
 ghost use Rattle.std.specs.Option.{option_map_or};
 ghost use Rattle.cube_space.specs.Layout.{axes, sizes};
 ghost use Rattle.rule_model.specs.Conditions.{IsArea};
-ghost use Rattle.order_laws.specs.Earlier.{is_leaf_element};
+ghost use Rattle.order_laws.specs.Scales.{is_leaf_element};
 ghost use Rattle.cover_laws.specs.Looking.{sent};
 ghost use Rattle.cover_laws.specs.Covered.{counts_in, stands_over, each_sent, are_sources};
 ghost use Rattle.feed_cover.specs.Views.{look_of, IsView};

@@ -10,7 +10,7 @@ use Rattle.rule_laws.specs.Meaning.{Precedent}
 use Rattle.rule_model.specs.declared.area.Area.{Area}
 use Rattle.rule_model.specs.Areas.{in_set}
 use Rattle.rule_model.specs.BoundModel.{BoundModel}
-use Rattle.order_laws.specs.Earlier.{is_total, set_count, set_element}
+use Rattle.order_laws.specs.Scales.{is_total, set_count, set_element}
 use Rattle.order_laws.proofs.SetFacts.{place-of}
 use Rattle.cover_laws.specs.Looking.{sent}
 use Rattle.least_ranks.specs.declared.arrow.Arrow.{Arrow}

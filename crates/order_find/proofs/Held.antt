@@ -8,7 +8,7 @@ use Rattle.std.proofs.lemmas.List.FromFn.{get_or-map-range_with_len, length-map-
 use Rattle.std.proofs.lemmas.Option.{unwrap_or-slice_get}
 use Rattle.cube_space.specs.Layout.{sizes}
 use Rattle.rule_model.specs.Conditions.{IsSet}
-use Rattle.order_laws.specs.Earlier.{set_count, set_element}
+use Rattle.order_laws.specs.Scales.{set_count, set_element}
 use Rattle.least_ranks.specs.declared.arrow.Arrow.{Arrow}
 use Rattle.read_sources.specs.declared.source.Source.{Source}
 use Rattle.read_sources.specs.Ways.{SentOver}

@@ -7,7 +7,7 @@ use Rattle.std.proofs.lemmas.Option.{cond_some, same_Some}
 use Rattle.dim_weights.specs.Table.{is_nonzero}
 use Rattle.cube_space.specs.Layout.{axes, sizes}
 use Rattle.lists.proofs.Found.{mapped}
-use Rattle.order_laws.specs.Earlier.{set_count, set_element}
+use Rattle.order_laws.specs.Scales.{set_count, set_element}
 use Rattle.cover_laws.specs.Looking.{sent}
 use Rattle.least_ranks.specs.declared.arrow.Arrow.{Arrow}
 use Rattle.arrow_laws.specs.Nodes.{last_of}

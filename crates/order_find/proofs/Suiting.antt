@@ -5,7 +5,7 @@ use Rattle.std.proofs.lemmas.Bool.{or_cases, or_left, or_right, and_parts, and_f
 use Rattle.std.proofs.lemmas.List.Folds.{Any-from_list_any, list_any_at}
 use Rattle.dim_core.specs.Outline.{Outline}
 use Rattle.dim_weights.specs.Table.{is_nonzero, nonzero_among}
-use Rattle.order_laws.specs.Earlier.{is_total, parts_in}
+use Rattle.order_laws.specs.Scales.{is_total, parts_in}
 use Rattle.arrow_laws.specs.ByDimension.{is_part, HasOtherTotal, SuitsKind}
 
 pub suits-of : (dims : List Outline) (test : ℕ → ℕ → Bool) (kind : Bool) (last e i u : ℕ) (elsewhere : Bool) → IsTrue elsewhere ↔ HasOtherTotal dims test last i

@@ -9,7 +9,7 @@ use Rattle.cube_space.specs.Layout.{Layout, axes, sizes}
 use Rattle.cube_space.specs.Cells.{is_leaf, IsSpace}
 use Rattle.rule_model.specs.BoundModel.{BoundModel}
 use Rattle.rule_model.specs.Conditions.{AreRules}
-use Rattle.order_laws.specs.Earlier.{parts_in, set_count, set_element}
+use Rattle.order_laws.specs.Scales.{parts_in, set_count, set_element}
 use Rattle.cover_laws.specs.Looking.{sent}
 use Rattle.least_ranks.specs.declared.arrow.Arrow.{Arrow}
 use Rattle.least_ranks.specs.Graph.{Arrows}

@@ -1,6 +1,6 @@
 ghost use Rattle.std.specs.Prelude.{◌≡◌, ◌<◌, ◌≤◌, All, length};
 ghost use Rattle.dim_core.specs.Outline.{most_elements, most_components};
-ghost use Rattle.order_laws.specs.Earlier.{is_total};
+ghost use Rattle.order_laws.specs.Scales.{is_total};
 ghost use Rattle.arrow_laws.specs.Nodes.{last_of};
 ghost use Rattle.arrow_laws.specs.ByDimension.{has_part};
 ghost use Rattle.order_find.specs.Numbers.{IsPlace, width};

@@ -18,7 +18,7 @@ use Rattle.rule_model.specs.Areas.{in_set, in_sets}
 use Rattle.rule_model.specs.Conditions.{IsSet, IsArea, AreRules, IsPosition}
 use Rattle.rule_model.specs.Order.{most_positions, position_of, number_by, number_at, cell_level}
 use Rattle.order_laws.specs.Greatest.{any_from}
-use Rattle.order_laws.specs.Earlier.{scale_of, position_scale, level_scale, level_in, is_total}
+use Rattle.order_laws.specs.Scales.{scale_of, position_scale, level_scale, level_in, is_total}
 use Rattle.order_laws.proofs.SumFacts.{all_from, all-and, digits-each, zip-each, any-shift}
 use Rattle.order_laws.proofs.ReferenceFacts.{reading, added, position-reading, levels-reading}
 use Rattle.order_laws.proofs.SetFacts.{is_in, zip-long}

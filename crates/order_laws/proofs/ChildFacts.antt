@@ -9,7 +9,7 @@ use Rattle.cube_space.specs.Radix.{are_digits}
 use Rattle.cube_space.specs.Layout.{Layout, axes, axes_of, dims_of, sizes, sizes_of}
 use Rattle.cube_space.specs.Cells.{IsSpace}
 use Rattle.rule_model.specs.Targets.{with_components, parts_at, component_cells}
-use Rattle.order_laws.specs.Earlier.{parts_in}
+use Rattle.order_laws.specs.Scales.{parts_in}
 use Rattle.order_laws.proofs.ReferenceFacts.{added}
 pub use Rattle.dim_weights.proofs.Nonzero.{counts-nonzero, nonzero-counts}
 

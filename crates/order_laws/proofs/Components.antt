@@ -15,7 +15,9 @@ use Rattle.rule_model.specs.Targets.{with_element_at, with_components, parts_at}
 use Rattle.rule_model.specs.System.{system_of, rule_of}
 use Rattle.rule_model.specs.Conditions.{IsArea, AreRules}
 use Rattle.order_laws.specs.Greatest.{IsAtMost, sum_from, only}
-use Rattle.order_laws.specs.Earlier.{scale_of, component_excess, components_excess, parts_in, most_excess}
+use Rattle.order_laws.specs.Scales.{scale_of, parts_in}
+use Rattle.order_laws.specs.Earlier.{most_excess}
+use Rattle.order_laws.specs.Plain.{component_excess, components_excess}
 use Rattle.order_laws.proofs.GreatestFacts.{greatest-top}
 use Rattle.order_laws.proofs.SumFacts.{sum-dim, zero-plus, at_dim}
 use Rattle.order_laws.proofs.ReferenceFacts.{added, reading}

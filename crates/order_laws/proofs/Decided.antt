@@ -18,7 +18,9 @@ use Rattle.rule_model.specs.Targets.{elements_by, target}
 use Rattle.rule_model.specs.System.{system_of, rule_of}
 use Rattle.rule_model.specs.Conditions.{IsArea, IsReference, AreRules}
 use Rattle.order_laws.specs.Greatest.{plus, IsAtMost, sum_from, any_from, only}
-use Rattle.order_laws.specs.Earlier.{Scale, scale_of, fixed_sum, moved_sum, excess, start, greatest_by, each, is_total, is_leaf_element, excess_sum, most_excess}
+use Rattle.order_laws.specs.Scales.{Scale, scale_of, fixed_sum, moved_sum, is_total, is_leaf_element}
+use Rattle.order_laws.specs.Earlier.{most_excess}
+use Rattle.order_laws.specs.Plain.{excess, start, greatest_by, each, excess_sum}
 use Rattle.order_laws.proofs.GreatestFacts.{IsTop, Among, passing-top, failing-top}
 use Rattle.order_laws.proofs.SumFacts.{sum-plus, sum-only, all_from}
 use Rattle.order_laws.proofs.ReferenceFacts.{added, reading, taken-sum, named-sum}

@@ -14,7 +14,7 @@ use Rattle.rule_model.specs.Order.{number_by}
 use Rattle.rule_model.specs.Named.{with_element}
 use Rattle.rule_model.specs.Targets.{element_by, elements_by}
 use Rattle.order_laws.specs.Greatest.{plus, sum_from}
-use Rattle.order_laws.specs.Earlier.{Scale, position_scale, level_in, rank_at, fixed_sum, moved_sum}
+use Rattle.order_laws.specs.Scales.{Scale, position_scale, level_in, rank_at, fixed_sum, moved_sum}
 use Rattle.order_laws.proofs.SumFacts.{zero-plus, sum-plus, sum-zero, sum-same, at_dim, sum-dim}
 
 -- what elements add by a scale

@@ -12,7 +12,7 @@ use Rattle.rule_model.specs.Named.{with_element}
 use Rattle.rule_model.specs.Targets.{element_by, elements_by}
 use Rattle.rule_model.specs.Conditions.{IsArg, IsSet}
 use Rattle.order_laws.specs.Greatest.{IsAtMost, only}
-use Rattle.order_laws.specs.Earlier.{set_count, set_element, greatest_in}
+use Rattle.order_laws.specs.Scales.{set_count, set_element, greatest_in}
 use Rattle.order_laws.proofs.GreatestFacts.{IsTop, greatest-top}
 use Rattle.order_laws.proofs.ReferenceFacts.{AllFollow, moved-element}
 pub use Rattle.std.proofs.lemmas.Slice.Zip.{AllZip-long as zip-long}

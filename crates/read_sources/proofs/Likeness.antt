@@ -13,7 +13,7 @@ use Rattle.rule_model.specs.declared.area.Area.{Area}
 use Rattle.rule_model.specs.declared.rules.Statement.{Statement}
 use Rattle.rule_model.specs.Areas.{in_set}
 use Rattle.rule_model.specs.BoundModel.{BoundModel, rules_of}
-use Rattle.order_laws.specs.Earlier.{is_total}
+use Rattle.order_laws.specs.Scales.{is_total}
 use Rattle.cover_laws.specs.Looking.{sent}
 use Rattle.arrow_laws.specs.Nodes.{last_of}
 use Rattle.arrow_laws.specs.ByDimension.{names_from, serves, is_from}

@@ -15,7 +15,9 @@ use Rattle.rule_model.specs.declared.area.Area.{Area}
 use Rattle.rule_model.specs.BoundModel.{BoundModel}
 use Rattle.rule_model.specs.Conditions.{IsArea}
 use Rattle.order_laws.specs.Greatest.{plus, larger, greatest, greatest_sum, greatest_passing_sum, only}
-use Rattle.order_laws.specs.Earlier.{scale_of, moved_sum, component_excess, components_excess, parts_in, excess, start, set_count, set_element, is_total, is_leaf_element, each, greatest_by, most_excess, is_below}
+use Rattle.order_laws.specs.Scales.{scale_of, moved_sum, parts_in, set_count, set_element, is_total, is_leaf_element}
+use Rattle.order_laws.specs.Earlier.{most_excess, is_below}
+use Rattle.order_laws.specs.Plain.{component_excess, components_excess, excess, start, each, greatest_by}
 use Rattle.order_laws.proofs.SetFacts.{is_in, place-of, place-in, set-at}
 use Rattle.cover_laws.specs.Looking.{sent}
 use Rattle.arrow_laws.specs.ByDimension.{names_from, has_part, serves, is_from, is_lagged, HasEach, HasOtherTotal}

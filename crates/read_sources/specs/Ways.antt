@@ -7,7 +7,7 @@ use Rattle.rule_laws.specs.declared.reference.Arg.TheVariants.{Fixed, Moved}
 use Rattle.rule_laws.specs.Meaning.{Precedent, Named, Components}
 use Rattle.rule_model.specs.BoundModel.{BoundModel}
 use Rattle.rule_model.specs.Conditions.{IsArea, IsPrecedent}
-use Rattle.order_laws.specs.Earlier.{is_total}
+use Rattle.order_laws.specs.Scales.{is_total}
 use Rattle.cover_laws.specs.Looking.{sent}
 use Rattle.ref_order.specs.Reads.{precedent_of}
 use Rattle.arrow_laws.specs.Nodes.{last_of}

@@ -1,7 +1,7 @@
 ghost use Rattle.std.specs.Prelude.{◌≡◌, ◌<◌, length, slice_index_or};
 ghost use Rattle.dim_weights.specs.Table.{is_nonzero};
 ghost use Rattle.cube_space.specs.Layout.{axes, sizes};
-ghost use Rattle.order_laws.specs.Earlier.{is_total};
+ghost use Rattle.order_laws.specs.Scales.{is_total};
 ghost use Rattle.arrow_laws.specs.Nodes.{last_of};
 ghost use Rattle.arrow_laws.specs.ByDimension.{has_part};
 

@@ -8,7 +8,7 @@ use Rattle.std.specs.Option.{option_map_or}
 use Rattle.dim_core.specs.Outline.{Outline, components_of}
 use Rattle.cube_space.specs.Cells.{IsSpace}
 use Rattle.rule_model.specs.Conditions.{IsPrecedent}
-use Rattle.order_laws.specs.Earlier.{parts_in}
+use Rattle.order_laws.specs.Scales.{parts_in}
 use Rattle.order_laws.proofs.ChildFacts.{part-below}
 use Rattle.ref_order.specs.declared.reads.Read.{Read}
 use Rattle.ref_order.specs.declared.reads.Read.TheVariants.{Cell, Children}

@@ -11,7 +11,8 @@ use Rattle.rule_model.specs.declared.area.Area.{Area}
 use Rattle.rule_model.specs.BoundModel.{BoundModel}
 use Rattle.rule_model.specs.Conditions.{IsReference}
 use Rattle.order_laws.specs.Greatest.{plus, larger, greatest, only}
-use Rattle.order_laws.specs.Earlier.{scale_of, moved_sum, excess, greatest_in, set_count, set_element}
+use Rattle.order_laws.specs.Scales.{scale_of, moved_sum, greatest_in, set_count, set_element}
+use Rattle.order_laws.specs.Plain.{excess}
 use Rattle.ref_order.specs.declared.question.Question.{Question}
 use Rattle.ref_order.specs.declared.question.Answer.{Answer}
 use Rattle.ref_order.specs.Reads.{precedent_of, test_of}

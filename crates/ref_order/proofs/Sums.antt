@@ -7,7 +7,7 @@ use Rattle.rule_model.specs.declared.area.Area.{Area}
 use Rattle.rule_model.specs.Areas.{in_set}
 use Rattle.rule_model.specs.Conditions.{IsSet, IsArea}
 use Rattle.order_laws.specs.Greatest.{plus, larger, greatest_sum, greatest_passing_sum}
-use Rattle.order_laws.specs.Earlier.{set_count, set_element}
+use Rattle.order_laws.specs.Scales.{set_count, set_element}
 use Rattle.order_laws.proofs.SetFacts.{place-in, set-at, zip-long}
 use Rattle.order_laws.proofs.CellFacts.{axes-sizes}
 

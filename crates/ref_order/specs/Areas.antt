@@ -2,7 +2,7 @@
 use Rattle.std.specs.Prelude.{ℕ, ◌<◌, ℤ, Option, length}
 use Rattle.cube_space.specs.Layout.{axes}
 use Rattle.rule_model.specs.Conditions.{IsArea}
-use Rattle.order_laws.specs.Earlier.{greatest_by}
+use Rattle.order_laws.specs.Plain.{greatest_by}
 use Rattle.ref_order.specs.declared.area_cells.AreaCells.{AreaCells}
 use Rattle.ref_order.specs.declared.question.Question.{Question}
 use Rattle.ref_order.specs.declared.question.Which.{Which}

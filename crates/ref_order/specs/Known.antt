@@ -7,7 +7,7 @@ use Rattle.rule_laws.specs.declared.reference.Arg.TheVariants.{Fixed, Moved}
 use Rattle.rule_model.specs.declared.area.Area.{Area}
 use Rattle.rule_model.specs.BoundModel.{BoundModel}
 use Rattle.rule_model.specs.Conditions.{IsPrecedent}
-use Rattle.order_laws.specs.Earlier.{greatest_by}
+use Rattle.order_laws.specs.Plain.{greatest_by}
 use Rattle.ref_order.specs.declared.known.Known.{Known}
 use Rattle.ref_order.specs.declared.question.Answer.{Answer}
 use Rattle.ref_order.specs.declared.question.Question.{Question}

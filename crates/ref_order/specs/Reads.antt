@@ -1,7 +1,8 @@
 -- What a formula reads, as the code has it.
 use Rattle.std.specs.Prelude.{ℕ, Bool, List}
 use Rattle.dim_core.specs.Outline.{Outline}
-use Rattle.order_laws.specs.Earlier.{each, is_leaf_element, is_total}
+use Rattle.order_laws.specs.Scales.{is_leaf_element, is_total}
+use Rattle.order_laws.specs.Plain.{each}
 use Rattle.rule_laws.specs.Meaning.{Precedent, Named, Components}
 use Rattle.ref_order.specs.declared.reads.Read.{Read}
 use Rattle.ref_order.specs.declared.reads.Read.TheVariants.{Cell, Children}

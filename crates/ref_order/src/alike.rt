@@ -1,7 +1,7 @@
 ghost use Rattle.std.specs.Prelude.{◌≡◌, ℕ, ◌≤◌, IsTrue, Some, None, MatchOption, length, map, drop};
 ghost use Rattle.rule_model.specs.declared.area.Area.{Area as AnyArea};
 ghost use Rattle.rule_model.specs.Conditions.{IsReference, IsPrecedent};
-ghost use Rattle.order_laws.specs.Earlier.{excess};
+ghost use Rattle.order_laws.specs.Plain.{excess};
 ghost use Rattle.ref_order.specs.Reads.{precedent_of};
 ghost use Rattle.ref_order.specs.Known.{followed_by, answer_of};
 

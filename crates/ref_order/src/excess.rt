@@ -3,8 +3,10 @@ ghost use Rattle.std.specs.Prelude.{Some, length, drop, unsigned_abs, IfSome, sl
 ghost use Rattle.std.specs.List.{AllZip};
 ghost use Rattle.cube_space.specs.Layout.{axes, sizes, most_dimensions};
 ghost use Rattle.rule_model.specs.Conditions.{IsArg, IsReference, IsPrecedent};
-ghost use Rattle.order_laws.specs.Earlier.{scale_of, fixed_sum, moved_sum, component_excess, components_excess};
-ghost use Rattle.order_laws.specs.Earlier.{parts_in, excess, start};
+ghost use Rattle.order_laws.specs.Scales.{scale_of, fixed_sum, moved_sum};
+ghost use Rattle.order_laws.specs.Plain.{component_excess, components_excess};
+ghost use Rattle.order_laws.specs.Scales.{parts_in};
+ghost use Rattle.order_laws.specs.Plain.{excess, start};
 ghost use Rattle.ref_order.specs.Reads.{precedent_of};
 
 use crate::number::{larger, plus};

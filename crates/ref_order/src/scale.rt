@@ -4,7 +4,7 @@ ghost use Rattle.dim_weights.specs.Table.{IsWeightsOf};
 ghost use Rattle.cube_space.specs.Layout.{axes, sizes, most_dimensions};
 ghost use Rattle.cube_space.specs.Cells.{IsSpace};
 ghost use Rattle.rule_model.specs.declared.order.Position.TheVariants.{Constant};
-ghost use Rattle.order_laws.specs.Earlier.{scale_of, position_scale, rank_at, level_in};
+ghost use Rattle.order_laws.specs.Scales.{scale_of, position_scale, rank_at, level_in};
 
 use dim_core::Dimension;
 use dim_weights::Weights;
@@ -45,7 +45,7 @@ pub fn axis_count(model: &Model, cube: u32) -> usize
 }
 
 /// What a cell has at a position, or as its level, whatever its elements are.
-#[tactic(auto, unfolding(order_laws::specs::Earlier::scale_of))]
+#[tactic(auto, unfolding(order_laws::specs::Scales::scale_of))]
 pub fn base(model: &Model, cube: u32, place: u32) -> u32
     requires { cube < length model.now.space.cubes }
     ensures { result ≡ (scale_of model.now cube place).base }
@@ -58,7 +58,7 @@ pub fn base(model: &Model, cube: u32, place: u32) -> u32
 }
 
 /// What an element adds to it.
-#[tactic(auto, unfolding(order_laws::specs::Earlier::scale_of))]
+#[tactic(auto, unfolding(order_laws::specs::Scales::scale_of))]
 pub fn worth(model: &Model, cube: u32, place: u32, dim: usize, element: u32) -> u32
     requires cube { cube < length model.now.space.cubes }
     requires dim { dim < length (axes model.now.space cube) }

@@ -3,7 +3,7 @@ use Rattle.std.specs.Prelude.{slice_index_or}
 use Rattle.std.proofs.Common.{None}
 use Rattle.cube_space.specs.Layout.{axes}
 use Rattle.rule_model.specs.Areas.{in_set}
-use Rattle.order_laws.specs.Earlier.{is_leaf_element}
+use Rattle.order_laws.specs.Scales.{is_leaf_element}
 use Rattle.feed_cover.proofs.Wider.{all-wider, no-total}
 use Rattle.feed_cover.proofs.covered.names_only_leaves.Goals as goal
 

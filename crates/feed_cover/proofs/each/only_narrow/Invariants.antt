@@ -1,6 +1,6 @@
 use Rattle.std.proofs.Common.{◌≡◌, false, None, IfSome}
 use Rattle.std.specs.Prelude.{slice_index_or}
-use Rattle.order_laws.specs.Earlier.{set_element}
+use Rattle.order_laws.specs.Scales.{set_element}
 use Rattle.cover_laws.specs.Looking.{some_below, is_narrow}
 use Rattle.feed_cover.specs.Views.{look_of}
 use Rattle.feed_cover.specs.Asked.{IsNarrowBelow}

@@ -3,7 +3,7 @@ use Rattle.std.specs.Prelude.{slice_get}
 use Rattle.cube_space.specs.Layout.{axes}
 use Rattle.rule_laws.specs.Maps.{identity}
 use Rattle.rule_laws.specs.declared.reference.Arg.TheVariants.{Fixed, Moved}
-use Rattle.order_laws.specs.Earlier.{is_leaf_element}
+use Rattle.order_laws.specs.Scales.{is_leaf_element}
 use Rattle.cover_laws.specs.Looking.{each_named}
 use Rattle.feed_cover.specs.Views.{look_of}
 use Rattle.feed_cover.proofs.Ways.{move-at, any-arg}

@@ -1,7 +1,7 @@
 use Rattle.std.proofs.Common.{◌<◌, sym, subst}
 use Rattle.std.specs.Prelude.{slice_index_or}
 use Rattle.cube_space.specs.Layout.{sizes}
-use Rattle.order_laws.specs.Earlier.{set_count}
+use Rattle.order_laws.specs.Scales.{set_count}
 use Rattle.ref_order.proofs.Sums.{element-below}
 use Rattle.feed_cover.proofs.set.element_in.Goals as goal
 

@@ -1,7 +1,7 @@
 use Rattle.std.proofs.Common.{◌≡◌, ◌∙◌, sym, ap, arith, length}
 use Rattle.std.specs.Prelude.{slice_index_or}
 use Rattle.cube_space.specs.Layout.{sizes}
-use Rattle.order_laws.specs.Earlier.{set_count}
+use Rattle.order_laws.specs.Scales.{set_count}
 use Rattle.order_laws.proofs.SetFacts.{set-at}
 use Rattle.read_sources.specs.Ways.{SentOver, way_of}
 use Rattle.order_find.specs.Slots.{reached_by}

@@ -1,5 +1,5 @@
 use Rattle.std.proofs.Common.{◌∙◌, sym, ap}
-use Rattle.order_laws.specs.Earlier.{excess}
+use Rattle.order_laws.specs.Plain.{excess}
 use Rattle.ref_order.specs.declared.reads.Read.{Read}
 use Rattle.ref_order.specs.Reads.{precedent_of}
 use Rattle.ref_order.proofs.Likeness.{excess-alike}

@@ -1,6 +1,7 @@
 use Rattle.std.proofs.Common.{◌≡◌, ◌≤◌, ◌^◌, pos, unsigned_abs, IfSome, slice_index_or}
 use Rattle.order_laws.specs.Greatest.{greatest}
-use Rattle.order_laws.specs.Earlier.{scale_of, component_excess}
+use Rattle.order_laws.specs.Scales.{scale_of}
+use Rattle.order_laws.specs.Plain.{component_excess}
 use Rattle.ref_order.proofs.excess.components_excess.Given as goal
 
 abbrev pub invariant-each : goal.invariant-each

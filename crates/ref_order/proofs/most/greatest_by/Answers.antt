@@ -1,7 +1,8 @@
 use Rattle.std.proofs.Common.{◌≡◌, ◌∙◌, refl, sym, ap, arith, ◌<◌, length, None, List, Option, ℕ}
 use Rattle.std.specs.Prelude.{slice_index_or}
 use Rattle.cube_space.specs.Layout.{axes, sizes}
-use Rattle.order_laws.specs.Earlier.{excess, greatest_in}
+use Rattle.order_laws.specs.Scales.{greatest_in}
+use Rattle.order_laws.specs.Plain.{excess}
 use Rattle.ref_order.specs.Known.{whole_area}
 use Rattle.ref_order.specs.Reads.{precedent_of, test_of}
 use Rattle.ref_order.proofs.Sums.{sets-long, set-found}

@@ -3,7 +3,8 @@ use Rattle.std.specs.Prelude.{slice_index_or}
 use Rattle.std.proofs.Common.{ℕ, ◌≤◌}
 use Rattle.cube_space.specs.Layout.{sizes, axes}
 use Rattle.order_laws.specs.Greatest.{greatest}
-use Rattle.order_laws.specs.Earlier.{excess, set_count, greatest_in}
+use Rattle.order_laws.specs.Scales.{set_count, greatest_in}
+use Rattle.order_laws.specs.Plain.{excess}
 use Rattle.ref_order.specs.Reads.{precedent_of, test_of}
 use Rattle.ref_order.proofs.Sums.{sets-long, set-found, element-below}
 use Rattle.ref_order.proofs.most.greatest_of.Goals as goal

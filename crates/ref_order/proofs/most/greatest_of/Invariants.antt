@@ -1,7 +1,8 @@
 use Rattle.std.proofs.Common.{◌≡◌, ◌≤◌, ◌^◌, unsigned_abs, IfSome}
 use Rattle.cube_space.specs.Layout.{axes}
 use Rattle.order_laws.specs.Greatest.{greatest, only}
-use Rattle.order_laws.specs.Earlier.{excess, set_element}
+use Rattle.order_laws.specs.Scales.{set_element}
+use Rattle.order_laws.specs.Plain.{excess}
 use Rattle.ref_order.specs.Reads.{precedent_of, test_of}
 use Rattle.ref_order.proofs.most.greatest_of.Given as goal
 
