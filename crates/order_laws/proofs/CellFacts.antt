@@ -1,5 +1,5 @@
 -- The cells of an area and what they have on a scale, by the lists of their elements.
-use Rattle.std.proofs.Common.{◌≡◌, refl, sym, ap, ◌∙◌, arith, subst, ℕ, zero, suc, ◌+◌, ◌<◌, Bool, true, false, ◌||◌, ◌&&◌, not, Some, None, List, [], ◌∷◌, length, nat_lt, if◌then◌else◌, inl, inr, ℤ, Option}
+use Rattle.std.proofs.Common.{◌≡◌, refl, sym, ap, ◌∙◌, arith, subst, ℕ, zero, suc, ◌+◌, ◌<◌, Bool, true, false, ◌&&◌, not, Some, None, List, [], ◌∷◌, length, nat_lt, if◌then◌else◌, inl, inr, ℤ, Option}
 use Rattle.std.specs.Prelude.{slice_get, slice_index_or}
 use Rattle.std.specs.List.{zip}
 use Rattle.std.proofs.lemmas.Bool.{cases_lt}
@@ -19,7 +19,7 @@ use Rattle.rule_model.specs.Conditions.{IsSet, IsArea, AreRules, IsPosition}
 use Rattle.rule_model.specs.Order.{most_positions, positions_for, position_of, number_by, number_at, cell_level}
 use Rattle.order_laws.specs.Greatest.{any_from, sum_from, only}
 use Rattle.order_laws.specs.Scales.{scale_of, position_scale, level_scale, level_in, is_total, is_leaf_element}
-use Rattle.order_laws.proofs.SumFacts.{all_from, all-and, all-not, sum-only, digits-each, zip-each, any-shift}
+use Rattle.order_laws.proofs.SumFacts.{all_from, all-and, any-not, all-shift, sum-only, digits-each, zip-each}
 use Rattle.order_laws.proofs.ReferenceFacts.{reading, added, position-reading, levels-reading}
 use Rattle.order_laws.proofs.SetFacts.{is_in, zip-long}
 
@@ -63,25 +63,26 @@ cell-cube space c h = (cell-place space c h).place.there
 pub digits-long : (space : Layout) (cube : ℕ) (es : List ℕ) → are_digits (sizes space cube) es ≡ true → length es ≡ length (axes space cube)
 digits-long space cube es h = digits-length (sizes space cube) es h ∙ axes-sizes space cube
 
--- leaf cells have no consolidated element
-leaves-each : (dims : List Outline) (es : List ℕ) → length es ≡ length dims → are_leaves dims es ≡ not (any_from (is_total dims) 0 es)
+pub not-not : (t : Bool) → not (not t) ≡ t
+not-not true = refl
+not-not false = refl
+
+-- leaf cells have leaves alone, and no consolidated element
+leaves-each : (dims : List Outline) (es : List ℕ) → length es ≡ length dims → are_leaves dims es ≡ all_from (is_leaf_element dims) 0 es
 leaves-each [] [] h = refl
 leaves-each [] (e ∷ es) h = absurd (omega arith)
 leaves-each (d ∷ dims) [] h = absurd (omega arith)
 leaves-each (d ∷ dims) (e ∷ es) h =
-    ap (λ t. is_leaf d e && t) (leaves-each dims es (omega arith) ∙ ap not (sym (any-shift (is_total (d ∷ dims)) 0 es))) ∙ joined (is_leaf d e) (any_from (is_total (d ∷ dims)) 1 es)
-  where
-    joined : (t u : Bool) → t && not u ≡ not (not t || u)
-    joined true u = refl
-    joined false u = refl
-
-pub leaf-is : (space : Layout) (cube : ℕ) (es : List ℕ) (c : ℕ) → IsAt space cube es c → length es ≡ length (axes space cube) → is_leaf_cell space c ≡ not (any_from (is_total (axes space cube)) 0 es)
-unfolding is_leaf_cell
-leaf-is space cube es c at long =
-    ap (λ k. are_leaves (axes space k) (elements_of space c)) at.own ∙ ap (are_leaves (axes space cube)) at.elements ∙ leaves-each (axes space cube) es long
+    ap (λ t. is_leaf d e && t) (leaves-each dims es (omega arith) ∙ sym (all-shift (is_leaf_element (d ∷ dims)) 0 es))
+    ∙ ap (λ t. t && all_from (is_leaf_element (d ∷ dims)) 1 es) (sym (not-not (is_leaf d e)))
 
 pub leaf-all : (space : Layout) (cube : ℕ) (es : List ℕ) (c : ℕ) → IsAt space cube es c → length es ≡ length (axes space cube) → is_leaf_cell space c ≡ all_from (is_leaf_element (axes space cube)) 0 es
-leaf-all space cube es c at long = leaf-is space cube es c at long ∙ sym (all-not (is_total (axes space cube)) 0 es)
+unfolding is_leaf_cell
+leaf-all space cube es c at long =
+    ap (λ k. are_leaves (axes space k) (elements_of space c)) at.own ∙ ap (are_leaves (axes space cube)) at.elements ∙ leaves-each (axes space cube) es long
+
+pub leaf-is : (space : Layout) (cube : ℕ) (es : List ℕ) (c : ℕ) → IsAt space cube es c → length es ≡ length (axes space cube) → is_leaf_cell space c ≡ not (any_from (is_total (axes space cube)) 0 es)
+leaf-is space cube es c at long = leaf-all space cube es c at long ∙ sym (any-not (is_total (axes space cube)) 0 es)
 
 -- an element of an area in a dimension
 abbrev pub is_in_area : Layout → ℕ → Area → ℕ → ℕ → Bool
@@ -110,15 +111,11 @@ pub record IsOf (space : Layout) (cube : ℕ) (area : Area) (kind : Bool) (es : 
   pub inside : in_sets area.sets es ≡ true
   pub kind_is : any_from (is_total (axes space cube)) 0 es ≡ not kind
 
-pub not-not : (t : Bool) → not (not t) ≡ t
-not-not true = refl
-not-not false = refl
-
 pub leaves-of : (space : Layout) (cube : ℕ) (area : Area) (kind : Bool) (es : List ℕ) → IsOf space cube area kind es → all_from (is_leaf_element (axes space cube)) 0 es ≡ kind
-leaves-of space cube area kind es of = all-not (is_total (axes space cube)) 0 es ∙ ap not of.kind_is ∙ not-not kind
+leaves-of space cube area kind es of = sym (any-not (is_total (axes space cube)) 0 es) ∙ ap not of.kind_is ∙ not-not kind
 
 pub of-leaves : (space : Layout) (cube : ℕ) (kind : Bool) (es : List ℕ) → all_from (is_leaf_element (axes space cube)) 0 es ≡ kind → any_from (is_total (axes space cube)) 0 es ≡ not kind
-of-leaves space cube kind es h = sym (not-not (any_from (is_total (axes space cube)) 0 es)) ∙ ap not (sym (all-not (is_total (axes space cube)) 0 es) ∙ h)
+of-leaves space cube kind es h = sym (not-not (any_from (is_total (axes space cube)) 0 es)) ∙ ap not (any-not (is_total (axes space cube)) 0 es ∙ h)
 
 -- what a cell has at a position, and as its level at the place after the last one
 abbrev pub measure : BoundModel → ℕ → ℕ → ℕ

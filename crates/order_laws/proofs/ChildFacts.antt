@@ -1,5 +1,5 @@
 -- The components of an element, as cells.
-use Rattle.std.proofs.Common.{◌≡◌, refl, ap, ◌∙◌, arith, subst, ℕ, zero, suc, ◌+◌, ◌<◌, true, ℤ, pos, Option, Some, None, List, [], ◌∷◌, length, get_or, set, nat_lt, All, Contains}
+use Rattle.std.proofs.Common.{◌≡◌, refl, ap, ◌∙◌, arith, subst, ℕ, zero, suc, ◌<◌, true, ℤ, pos, Option, Some, None, List, [], ◌∷◌, length, get_or, set, nat_lt, All, Contains}
 use Rattle.std.specs.Prelude.{slice_get, slice_index_or, option_map}
 use Rattle.std.specs.Option.{option_map_or}
 use Rattle.std.specs.List.{filter_map}

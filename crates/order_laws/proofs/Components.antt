@@ -1,5 +1,5 @@
 -- The most that a cell which is read has more bounds just what each component's cell has more than its cell.
-use Rattle.std.proofs.Common.{◌≡◌, refl, sym, ap, ◌∙◌, arith, subst, ℕ, zero, suc, ◌+◌, ◌<◌, Bool, true, false, ◌&&◌, ℤ, pos, neg_ℤ, ◌+ℤ◌, ◌-ℤ◌, ◌≤ℤ◌, Option, Some, List, [], ◌∷◌, length, get_or, set, Contains, ◌==◌, if◌then◌else◌}
+use Rattle.std.proofs.Common.{◌≡◌, refl, sym, ap, ◌∙◌, arith, subst, ℕ, zero, suc, ◌+◌, ◌<◌, Bool, true, false, ◌&&◌, ℤ, pos, ◌+ℤ◌, ◌-ℤ◌, ◌≤ℤ◌, Option, Some, None, List, [], ◌∷◌, length, get_or, set, Contains, ◌==◌, if◌then◌else◌}
 use Rattle.std.specs.Prelude.{⊤, slice_set}
 use Rattle.std.proofs.lemmas.Int.{ints}
 use Rattle.std.proofs.lemmas.List.{length-set}
@@ -17,10 +17,10 @@ use Rattle.rule_model.specs.Targets.{with_element_at, with_components, parts_at}
 use Rattle.rule_model.specs.System.{system_of, rule_of}
 use Rattle.rule_model.specs.Conditions.{IsArea, AreRules}
 use Rattle.order_laws.specs.Greatest.{plus, IsAtMost, sum_from, only}
-use Rattle.order_laws.specs.Scales.{Scale, scale_of, parts_in, is_leaf_element}
+use Rattle.order_laws.specs.Scales.{scale_of, parts_in, is_leaf_element}
 use Rattle.order_laws.specs.Earlier.{Kinds, is_same, component_number, components_number, start_by_kinds, most_excess}
 use Rattle.order_laws.proofs.GreatestFacts.{IsTop, greatest-top, plus-over, plus-least}
-use Rattle.order_laws.proofs.SumFacts.{all_from, all-later, sum-same, sum-only, sum-split, but_dim, other-dim, later-dim}
+use Rattle.order_laws.proofs.SumFacts.{all_from, sum-same, sum-only, sum-split, but_dim, other-dim, later-dim}
 use Rattle.order_laws.proofs.ReferenceFacts.{added, reading}
 use Rattle.order_laws.proofs.LeafFacts.{all-self, all-agree}
 use Rattle.order_laws.proofs.CellFacts.{IsAt, IsOf, axes-sizes, cell-there, number-there, leaf-all, measure, measure-is}
@@ -208,7 +208,7 @@ module _ (m : BoundModel) (valid : IsSpace m.space) (ruled : AreRules m.space m.
       let gap = pos (added (scale_of m cube its q).worth 0 (set es dim (part_of es k).0)) -ℤ pos (added (scale_of m cube kind q).worth 0 es) in
       let most = most-over m cube statement.area is_area q (Components dim) kind its z h es flags own (child-leaf es (part_of es k).0 t own.long at_t) in
       let sum = up-to s (plus (components_number m cube kinds q dim (get_or es dim 0) (flags dim (get_or es dim 0)) (parts_by es)) (rest q kinds flags es)) z
-          (subst (λ a. IsAtMost a z) (children-chosen q kinds flags es own.long) most) in
+      (subst (λ a. IsAtMost a z) (children-chosen q kinds flags es own.long) most) in
       let here = (number-top q kinds flags es).over (z -ℤ s) sum k low in
       let same = part-chosen q kinds flags es k own.long nonzero ∙ ap (λ b. only b (Some gap)) (all-self flags 0 es) in
       let shown : (s +ℤ gap) ≤ℤ z = up-from s (Some gap) z (subst (λ a. IsAtMost a (z -ℤ s)) same here) in
@@ -234,7 +234,7 @@ module _ (m : BoundModel) (valid : IsSpace m.space) (ruled : AreRules m.space m.
           gap : ℕ → ℤ
           gap k = pos (added (scale_of m cube its q).worth 0 (set es dim k)) -ℤ pos (added (scale_of m cube kind q).worth 0 es)
 
-          none : (e : ℕ) (k : ℕ) (f : Bool) → is_nonzero (part_of es k).1 ≡ false → plus (component_number m cube kinds q dim e f (part_of es k)) (rest q kinds flags es) ≡ Rattle.std.specs.Prelude.None
+          none : (e : ℕ) (k : ℕ) (f : Bool) → is_nonzero (part_of es k).1 ≡ false → plus (component_number m cube kinds q dim e f (part_of es k)) (rest q kinds flags es) ≡ None
           none e k f zero_is = ap (λ t. plus (only (t && is_same f (is_leaf_element (axes m.space cube) dim (part_of es k).0)) (Some (pos ((scale_of m cube its q).worth dim (part_of es k).0) -ℤ pos ((scale_of m cube kind q).worth dim e)))) (rest q kinds flags es)) zero_is
 
           at-part : (k : ℕ) → k < length (parts_by es) → IsAtMost (plus (number_of q kinds flags es k) (rest q kinds flags es)) (z -ℤ s)

@@ -140,7 +140,7 @@ module _ (m : BoundModel) (ruled : AreRules m.space m.rules) (cube : ℕ) (there
       let kinds : Kinds = record { own = kind; its = its } in
       let low = most-over m cube statement.area is_area q (Named r) kind its z h es (named_flags r) own (named-leaf r es ts t is own.long named there_t long_t) in
       let same = reference-chosen q r kinds (named_flags r) es is own.long ∙ ap (λ b. only b (named_gap q r kinds es)) (all-self (named_flags r) 0 es)
-          ∙ ap (option_map (λ ts. pos (reading (scale_of m r.cube its q) ts) -ℤ pos (reading (scale_of m cube kind q) es))) named in
+      ∙ ap (option_map (λ ts. pos (reading (scale_of m r.cube its q) ts) -ℤ pos (reading (scale_of m cube kind q) es))) named in
       subst (λ n. (pos n -ℤ pos (measure m q c)) ≤ℤ z) (sym (measure-is m q r.cube its ts t ruled is.0 there_t refl long_t))
       (subst (λ n. (pos (reading (scale_of m r.cube its q) ts) -ℤ pos n) ≤ℤ z) (sym (measure-is m q cube kind es c ruled there at of.kind_is own.long)) (subst (λ s. IsAtMost s z) same low))
 

@@ -1,6 +1,6 @@
 -- The most that a cell which is read has more bounds just what the elements of a cell add up to, with flags that say by
 -- which elements it reads a leaf.
-use Rattle.std.proofs.Common.{◌≡◌, refl, sym, ap, ◌∙◌, arith, subst, ℕ, Bool, true, false, ◌&&◌, ℤ, pos, ◌+ℤ◌, ◌-ℤ◌, ◌≤ℤ◌, Option, Some, None, List, length}
+use Rattle.std.proofs.Common.{◌≡◌, refl, sym, ap, ◌∙◌, arith, subst, ℕ, Bool, true, false, ◌&&◌, ℤ, ◌+ℤ◌, ◌-ℤ◌, ◌≤ℤ◌, Option, Some, None, List, length}
 use Rattle.std.specs.Prelude.{slice_index_or}
 use Rattle.std.proofs.lemmas.Int.{ints}
 use Rattle.std.proofs.lemmas.Bool.{and_parts, and_from}
@@ -11,7 +11,7 @@ use Rattle.rule_model.specs.declared.area.Area.{Area}
 use Rattle.rule_model.specs.BoundModel.{BoundModel}
 use Rattle.rule_model.specs.Areas.{in_sets}
 use Rattle.rule_model.specs.Conditions.{IsArea}
-use Rattle.order_laws.specs.Greatest.{plus, IsAtMost, sum_from, only}
+use Rattle.order_laws.specs.Greatest.{plus, IsAtMost, only}
 use Rattle.order_laws.specs.Scales.{is_leaf_element}
 use Rattle.order_laws.specs.Earlier.{Kinds, is_same, number_by_kinds, start_by_kinds, kinds_before, greatest_of_kinds, greatest_ending, excess_of_kinds, most_excess}
 use Rattle.order_laws.proofs.GreatestFacts.{IsTop, larger-parts, larger-from}

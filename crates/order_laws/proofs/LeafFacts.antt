@@ -1,5 +1,5 @@
 -- Whether a cell that a reference names is a leaf cell, by what the source's elements name.
-use Rattle.std.proofs.Common.{◌≡◌, refl, sym, ap, ◌∙◌, ℕ, zero, suc, Bool, true, false, ◌&&◌, Option, Some, List, [], ◌∷◌, length, get_or, ◌<◌, ◌==◌, if◌then◌else◌, arith}
+use Rattle.std.proofs.Common.{◌≡◌, refl, sym, ap, ◌∙◌, ℕ, suc, Bool, true, false, ◌&&◌, Option, Some, List, [], ◌∷◌, length, get_or, ◌<◌, ◌==◌, if◌then◌else◌, arith}
 use Rattle.std.specs.Prelude.{slice_get, unwrap_or, None}
 use Rattle.std.specs.Option.{option_map_or}
 use Rattle.std.proofs.Math.Bool.{and_assoc}

@@ -1,24 +1,24 @@
 -- Where what cells have at a position doesn't rest on their kind, the most that a cell which is read has more than its
 -- cell needs no kinds.
 use Rattle.std.proofs.Common.{◌≡◌, refl, sym, ap, ◌∙◌, arith, subst, ℕ, zero, suc, ◌+◌, ◌<◌, Bool, true, false, not, ◌&&◌, ℤ, pos, neg_ℤ, ◌-ℤ◌, ◌≤ℤ◌, Option, Some, None, List, length, ◌==◌, if◌then◌else◌, nat_lt}
-use Rattle.std.specs.Prelude.{⊤, slice_index_or}
+use Rattle.std.specs.Prelude.{⊤, slice_index_or, unwrap_or}
 use Rattle.std.proofs.lemmas.Int.{ints}
 use Rattle.std.proofs.lemmas.Bool.{and_parts, and_from, not-true, not_from_false as not-false}
 use Rattle.dim_weights.specs.Table.{is_nonzero}
 use Rattle.cube_space.specs.Radix.{are_digits}
 use Rattle.cube_space.specs.Layout.{axes, sizes}
 use Rattle.rule_laws.specs.Meaning.{Precedent, Named, Components}
-use Rattle.rule_model.specs.declared.order.Order.{Order}
 use Rattle.rule_model.specs.declared.order.Position.{Position}
+use Rattle.rule_model.specs.declared.order.Position.TheVariants.{Constant}
 use Rattle.rule_model.specs.declared.area.Area.{Area}
 use Rattle.rule_model.specs.BoundModel.{BoundModel, rules_of}
 use Rattle.rule_model.specs.Areas.{in_sets}
 use Rattle.rule_model.specs.Order.{most_positions}
 use Rattle.rule_model.specs.Conditions.{IsArea}
-use Rattle.order_laws.specs.Greatest.{plus, IsAtMost, greatest, sum_from, only}
+use Rattle.order_laws.specs.Greatest.{plus, larger, IsAtMost, greatest, sum_from, only}
 use Rattle.order_laws.specs.Scales.{Scale, scale_of, position_scale, level_scale, fixed_sum, moved_sum, parts_in, is_total, is_leaf_element}
 use Rattle.order_laws.specs.Earlier.{Kinds, is_same, moved_leaves, component_number, components_number, number_by_kinds, start_by_kinds, kinds_before, most_excess}
-use Rattle.order_laws.specs.Plain.{component_excess, components_excess, excess, start, greatest_by, each, excess_sum, plain_excess, read_cube, HasOneScale}
+use Rattle.order_laws.specs.Plain.{components_excess, excess, start, greatest_by, each, excess_sum, plain_excess, read_cube, HasOneScale}
 use Rattle.order_laws.proofs.GreatestFacts.{IsTop, greatest-top, Among, passing-top, failing-top}
 use Rattle.order_laws.proofs.SumFacts.{all_from, plus-same, sum-same}
 use Rattle.order_laws.proofs.EndingFacts.{sum_by, flags-top, to-same}
@@ -45,7 +45,7 @@ one-level m cube = refl
 pub one-order : (m : BoundModel) (cube place : ℕ) → (rules_of m cube).order.totals ≡ None → HasOneScale m cube place
 unfolding scale_of
 one-order m cube place is =
-    ap (λ (o : Option (List Position)). if nat_lt place most_positions then position_scale (slice_index_or (Rattle.std.specs.Prelude.unwrap_or o (rules_of m cube).order.positions) place (Rattle.rule_model.specs.declared.order.Position.TheVariants.Constant 0))
+    ap (λ (o : Option (List Position)). if nat_lt place most_positions then position_scale (slice_index_or (unwrap_or o (rules_of m cube).order.positions) place (Constant 0))
     else level_scale (axes m.space cube)) is
 
 -- the number of an element, whatever its flag
@@ -58,7 +58,7 @@ flag-top b x = record { over = λ z h flag q. within (is_same flag b) z h; least
 
 greatest-same : (f g : ℕ → Option ℤ) → ((k : ℕ) → f k ≡ g k) → (n : ℕ) → greatest f n ≡ greatest g n
 greatest-same f g same zero = refl
-greatest-same f g same (suc n) = ap (λ a. Rattle.order_laws.specs.Greatest.larger a (greatest f n)) (same n) ∙ ap (Rattle.order_laws.specs.Greatest.larger (g n)) (greatest-same f g same n)
+greatest-same f g same (suc n) = ap (λ a. larger a (greatest f n)) (same n) ∙ ap (larger (g n)) (greatest-same f g same n)
 
 module _ (m : BoundModel) (cube : ℕ) (area : Area) (is_area : IsArea m.space cube area) where
   -- an element's excess, where the area has it

@@ -129,13 +129,13 @@ all-dim dim test i (suc k) (x ∷ es) e h =
     ∙ all-dim dim test (suc i) k es (omega arith) (omega arith)
 
 -- all fail where none passes
-pub all-not : (test : ℕ → ℕ → Bool) (i : ℕ) (es : List ℕ) → all_from (λ i e. not (test i e)) i es ≡ not (any_from test i es)
-all-not test i [] = refl
-all-not test i (e ∷ es) = ap (λ t. not (test i e) && t) (all-not test (suc i) es) ∙ joined (test i e) (any_from test (suc i) es)
+pub any-not : (test : ℕ → ℕ → Bool) (i : ℕ) (es : List ℕ) → not (any_from test i es) ≡ all_from (λ i e. not (test i e)) i es
+any-not test i [] = refl
+any-not test i (e ∷ es) = parted (test i e) (any_from test (suc i) es) ∙ ap (λ t. not (test i e) && t) (any-not test (suc i) es)
   where
-    joined : (t u : Bool) → not t && not u ≡ not (t || u)
-    joined true u = refl
-    joined false u = refl
+    parted : (t u : Bool) → not (t || u) ≡ not t && not u
+    parted true u = refl
+    parted false u = refl
 
 only-plus : (t u : Bool) (a b : Option ℤ) → plus (only t a) (only u b) ≡ only (t && u) (plus a b)
 only-plus true true a b = refl
@@ -158,10 +158,6 @@ sum-shift f i (e ∷ es) = ap (plus (f (suc i) e)) (sum-shift f (suc i) es)
 pub all-shift : (test : ℕ → ℕ → Bool) (i : ℕ) (es : List ℕ) → all_from test (suc i) es ≡ all_from (λ i e. test (suc i) e) i es
 all-shift test i [] = refl
 all-shift test i (e ∷ es) = ap (λ t. test (suc i) e && t) (all-shift test (suc i) es)
-
-pub any-shift : (test : ℕ → ℕ → Bool) (i : ℕ) (es : List ℕ) → any_from test (suc i) es ≡ any_from (λ i e. test (suc i) e) i es
-any-shift test i [] = refl
-any-shift test i (e ∷ es) = ap (λ t. test (suc i) e || t) (any-shift test (suc i) es)
 
 and-swap : (a b c d : Bool) → (a && b) && (c && d) ≡ (a && c) && (b && d)
 and-swap true true c d = refl
