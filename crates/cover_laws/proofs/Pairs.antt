@@ -1,6 +1,6 @@
 -- A cell of an area and a cell at or below what arguments name from it: what is known of one element of each is just that
 -- the one is narrow, and that the other is reached with it.
-use Rattle.std.proofs.Common.{◌≡◌, refl, sym, ap, ◌∙◌, arith, subst, ℕ, zero, suc, ◌+◌, ◌<◌, Bool, true, false, not, ◌&&◌, Option, Some, List, [], ◌∷◌, length, get_or, ◌==◌}
+use Rattle.std.proofs.Common.{◌≡◌, refl, sym, ap, ◌∙◌, arith, subst, ℕ, zero, suc, ◌+◌, ◌<◌, Bool, true, false, not, Option, Some, List, [], ◌∷◌, length, get_or, ◌==◌}
 use Rattle.std.specs.Prelude.{slice_get}
 use Rattle.std.proofs.lemmas.Bool.{and_parts, and_from, not-true as not-false}
 use Rattle.std.proofs.lemmas.Bool.Decides.{Decides-eqb}

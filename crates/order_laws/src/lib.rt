@@ -35,8 +35,8 @@ pub fn models_are_ordered_by_dimension()
         → IsOrderedByDimension m ↔ IsOrderedByPlace (system_of m) (positions_of m) }
 {}
 
-/// Where what cells of both cubes have at a position, or as their level, doesn't rest on their kind, the most that a cell
-/// which is read has more than its cell needs no kinds.
+/// Where what cells of both cubes have at a position, or as their level, doesn't rest on their kind, the most that a
+/// cell which is read has more than its cell needs no kinds.
 pub fn plain_orders_need_no_kinds()
     ensures { (m : BoundModel) (cube : ℕ) (area : Area) (kind : Bool) (p : Precedent) (place : ℕ)
         → IsArea m.space cube area → HasOneScale m cube place → HasOneScale m (read_cube cube p) place
