@@ -1,5 +1,5 @@
 -- The rules of a text that are bound meet the conditions.
-use Rattle.std.proofs.Common.{◌≡◌, ◌<◌, ◌+◌, ℕ, List, [], ◌∷◌, ◌++◌, length, Some, None, Ok, IfSome, All, subst, arith}
+use Rattle.std.proofs.Common.{◌≡◌, ◌<◌, ◌≤◌, ◌+◌, ℕ, Bool, true, false, List, [], ◌∷◌, ◌++◌, length, Some, None, Ok, IfSome, All, subst, arith}
 use Rattle.std.proofs.lemmas.List.Elements.{All-nil, All-cons, All-append, All-weaker}
 use Rattle.cube_space.specs.Layout.{Layout, axes}
 use Rattle.cube_space.specs.Cells.{IsSpace}
@@ -12,6 +12,8 @@ use Rattle.rule_model.specs.declared.rules.CubeRules.{CubeRules}
 use Rattle.rule_model.specs.declared.rules.Statement.{Statement}
 use Rattle.rule_model.specs.declared.rules.Feeder.{Feeder}
 use Rattle.rule_model.specs.Conditions.{IsArea, IsReference, IsPrecedent, IsNamed, IsLeafPart, IsConsolidatedPart, IsStatement, IsFeeder, IsPosition, IsOrderOf, AreCubeRules}
+use Rattle.rule_model.specs.Order.{most_positions, positions_for}
+use Rattle.rule_model.proofs.LeafCells.{HoldsLeavesAt, leaf_cells-held}
 use Rattle.rule_tree.specs.declared.rule.BodyText.{BodyText}
 use Rattle.rule_tree.specs.declared.rule.BodyText.TheVariants as bodies
 use Rattle.rule_tree.specs.declared.rule.FeederText.{FeederText}
@@ -132,10 +134,22 @@ module _ (space : Layout) (cube : ℕ) (valid : IsSpace space) (low : cube < len
       subst AreFeeders same (All-append (IsFeeder space cube) some others fed (feeders_valid (before + 1) texts others second))
 
   abbrev no_order : Order
-  no_order = record { positions = [] }
+  no_order = record { positions = []; totals = None }
+
+  few_for : (kind : Bool) → length (positions_for kind no_order) ≤ most_positions
+  few_for true = omega arith
+  few_for false = omega arith
+
+  each_for : (kind : Bool) → All (IsPosition (axes space cube)) (positions_for kind no_order)
+  each_for true = All-nil (IsPosition (axes space cube))
+  each_for false = All-nil (IsPosition (axes space cube))
 
   unordered : IsOrderOf space cube no_order
-  unordered = record { few = omega arith; each = All-nil (IsPosition (axes space cube)) }
+  unordered = record {
+    few = few_for;
+    each = each_for;
+    holds_leaf_cells = leaf_cells-held (axes space cube) [] (All-nil (IsPosition (axes space cube))) (All-nil (HoldsLeavesAt (axes space cube)));
+  }
 
   pub rules_valid : (text : RuleText) (rules : CubeRules) → IsWithinLimits text → rules_of space cube text ≡ Ok rules → AreCubeRules space cube rules
   unfolding rules_of most_text_bytes

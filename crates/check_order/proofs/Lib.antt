@@ -1,6 +1,8 @@
 pub mod Walks
 pub mod FirstLate
 pub mod Firsts
+pub mod Greatest
+pub mod KindTops
 pub mod TopFacts
 pub mod HeightFacts
 pub mod OrderedFacts

@@ -1,36 +1,16 @@
-ghost use Rattle.std.specs.Prelude.{◌≡◌, suc, ◌<◌, ◌≤◌, ◌^◌, length, slice_index_or};
-ghost use Rattle.rule_model.specs.declared.order.Position.TheVariants.{Constant};
+ghost use Rattle.std.specs.Prelude.{◌≡◌, suc, ◌<◌, ◌≤◌, ◌^◌, length};
+ghost use Rattle.cube_space.specs.Cells.{IsSpace};
 ghost use Rattle.rule_model.specs.Conditions.{greatest_rank, AreRules};
-ghost use Rattle.rule_model.specs.Order.{greatest, most_height, most_positions, position_size};
+ghost use Rattle.rule_model.specs.Order.{most_height, most_positions, position_size};
 ghost use Rattle.check_order.specs.Heights.{first_too_high};
-ghost use Rattle.check_order.specs.Inside.Tops.{position_top, cube_top, top};
+ghost use Rattle.check_order.specs.Inside.Tops.{cube_top, top};
 
+use crate::tops::kind_top;
 use ref_order::MAX_POSITIONS;
-use rule_model::{Model, Position};
+use rule_model::Model;
 
 /// The greatest height that a declared order may have.
 pub const MAX_HEIGHT: u64 = 65_536;
-
-fn greatest(numbers: &[u32]) -> u32
-    ensures { result ≡ greatest numbers.now }
-{
-    let mut most = 0;
-    'each: for k in 0..numbers.len() {
-        most = numbers[k].max(most);
-    }
-    most
-}
-
-// The greatest number that an element gives at a position.
-fn position_top(positions: &[Position], place: usize) -> u32
-    ensures { result ≡ position_top (slice_index_or positions.now place (Constant 0)) }
-{
-    match positions.get(place) {
-        Some(Position::Constant(number)) => *number,
-        Some(Position::Ranks { dim: _, ranks }) => greatest(ranks.as_slice()),
-        None => 0,
-    }
-}
 
 // The greatest number that a cell of a cube has at a position.
 fn cube_top(model: &Model, cube: u32, place: u32) -> u32
@@ -40,12 +20,14 @@ fn cube_top(model: &Model, cube: u32, place: u32) -> u32
     if model.space().cells(cube) == 0 {
         return 0;
     }
-    position_top(model.rules(cube).order.positions.as_slice(), place as usize)
+    let leaves = kind_top(model, cube, true, place);
+    kind_top(model, cube, false, place).max(leaves)
 }
 
 // The greatest number that a cell has at a position.
 fn top(model: &Model, place: u32) -> u32
     ensures value { result ≡ top model.now place }
+    ensures valid { IsSpace model.now.space }
     ensures rules { AreRules model.now.space model.now.rules }
 {
     let mut most = 0;

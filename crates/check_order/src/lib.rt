@@ -13,4 +13,5 @@ mod check;
 mod fault;
 mod height;
 mod late;
+mod tops;
 mod walk;

@@ -65,12 +65,12 @@ module _ (m : BoundModel) (valid : IsSpace m.space) where
       omega (arith, up, down))
 
   abbrev by-row : ℕ → List ℕ → Order
-  by-row cube row = record { positions = position_of m cube 0 ∷ Ranks (last_of m.space cube) row ∷ [] }
+  by-row cube row = record { positions = position_of m cube true 0 ∷ Ranks (last_of m.space cube) row ∷ []; totals = None }
 
   one-order : (a b : List Order) → AreFound m a → AreFound m b → a ≡ b
   one-order a b x y =
       let n = length m.space.cubes in
-      let none : Order = record { positions = [] } in
+      let none : Order = record { positions = []; totals = None } in
       x.made
       ∙ fill_by_all (order_by m y.ranks) (map (order_by m x.ranks) (cubes_of m)) n none (length-map-range_with_len (order_by m x.ranks) 0 n)
       (λ k low. get_or-map-range_with_len (order_by m x.ranks) 0 n k k none low (omega arith) ∙ same k low)
@@ -81,7 +81,7 @@ module _ (m : BoundModel) (valid : IsSpace m.space) where
 
 one-ranked : (m a b : BoundModel) → IsRanked m a → IsRanked m b → a ≡ b
 one-ranked m a b x y =
-    let none : Order = record { positions = [] } in
+    let none : Order = record { positions = []; totals = None } in
     x.with_them ∙ ap (λ orders. with_orders m (λ cube. slice_index_or orders cube none)) (one-order m x.space x.orders y.orders x.found y.found) ∙ sym y.with_them
 
 -- ---- references at a greater lag

@@ -8,55 +8,59 @@ use Rattle.cube_space.specs.Axes.{axis_called}
 use Rattle.model_text.specs.declared.order.OrderLine.{OrderLine}
 use Rattle.model_text.specs.declared.order.OrderWord.{OrderWord}
 use Rattle.model_text.specs.declared.order.OrderWord.TheVariants as words
+use Rattle.model_text.specs.Orders.{has_kinds}
 use Rattle.rule_model.specs.declared.order.Order.{Order}
 use Rattle.rule_model.specs.declared.order.Position.{Position}
 use Rattle.rule_model.specs.Order.{most_positions}
-use Rattle.bind_order.specs.Orders.{all_of, are_writable, listed_rank, listed_ranks, ranks_of, may_list, entry_element, are_listed, list_ranks, position_by, position_of, order_of}
+use Rattle.bind_order.specs.Ranks.{all_of, are_writable, listed_rank, listed_ranks, ranks_of, may_list, entry_element, are_listed, list_ranks}
+use Rattle.bind_order.specs.ByKind.{order_by_kind}
+use Rattle.bind_order.specs.Orders.{position_by, position_of, plain_order, order_by, order_of}
 use Rattle.model_format_laws.specs.Versions.{line_in}
 
--- what may be listed in version 1 may be in version 2
-may_too : (d : Outline) (before : Option ℕ) (element : ℕ) → may_list d 1 before element ≡ true → may_list d 2 before element ≡ true
-may_too d before element may = by (is_some before) (is_leaf d element) refl may
+-- what may be listed where consolidated elements may not, as in version 1, may be where they may, as in version 2
+may_too : (d : Outline) (before : Option ℕ) (element : ℕ) → may_list d false before element ≡ true → may_list d true before element ≡ true
+may_too d before element may = by (is_some before) (is_leaf d element) may
   where
-    by : (b leaf : Bool) → is_leaf d element ≡ leaf → (not b && (leaf || not (1 == 1))) ≡ true → (not b && (is_leaf d element || not (2 == 1))) ≡ true
-    by true leaf is may = absurd (let e : false ≡ true = may in cc e)
-    by false true is may = ap (λ l. true && (l || not (2 == 1))) is
-    by false false is may = absurd (let e : false ≡ true = may in cc e)
+    by : (b leaf : Bool) → (not b && (leaf || false)) ≡ true → (not b && (leaf || true)) ≡ true
+    by true leaf may = absurd (let e : false ≡ true = may in cc e)
+    by false true may = refl
+    by false false may = refl
 
-entry_too : (d : Outline) (before : List (List ℕ × ℕ)) (name : List ℕ) → is_some (entry_element d 1 before name) ≡ true → is_some (entry_element d 2 before name) ≡ true
-entry_too d before name some = by (index_of d name) refl some
+entry_too : (d : Outline) (before : List (List ℕ × ℕ)) (name : List ℕ) → is_some (entry_element d false before name) ≡ true → is_some (entry_element d true before name) ≡ true
+entry_too d before name some = by (index_of d name) some
   where
-    listed : (version : ℕ) → Option ℕ → Option ℕ
-    listed version at = option_and_then (λ element. if may_list d version (listed_rank d before element) element then Some element else None) at
+    listed : Bool → Option ℕ → Option ℕ
+    listed totals at = option_and_then (λ element. if may_list d totals (listed_rank d before element) element then Some element else None) at
 
-    by : (o : Option ℕ) → index_of d name ≡ o → is_some (entry_element d 1 before name) ≡ true → is_some (entry_element d 2 before name) ≡ true
-    by None is some = absurd (let e : false ≡ true = sym (ap (λ o. is_some (listed 1 o)) is) ∙ some in cc e)
-    by (Some element) is some = may (may_list d 1 (listed_rank d before element) element) refl
+    kept : ℕ → Bool → Option ℕ
+    kept element may = if may then Some element else None
+
+    by : (o : Option ℕ) → is_some (listed false o) ≡ true → is_some (listed true o) ≡ true
+    by None some = some
+    by (Some element) some = may (may_list d false (listed_rank d before element) element) refl
       where
-        may : (b : Bool) → may_list d 1 (listed_rank d before element) element ≡ b → is_some (entry_element d 2 before name) ≡ true
-        may true m = ap (λ o. is_some (listed 2 o)) is ∙ ap (λ b. is_some (if b then Some element else None)) (may_too d (listed_rank d before element) element m)
-        may false m = absurd (let e : false ≡ true = sym (ap (λ b. is_some (if b then Some element else None)) m) ∙ sym (ap (λ o. is_some (listed 1 o)) is) ∙ some in cc e)
+        may : (b : Bool) → may_list d false (listed_rank d before element) element ≡ b → is_some (listed true (Some element)) ≡ true
+        may true m = ap (λ b. is_some (kept element b)) (may_too d (listed_rank d before element) element m)
+        may false m = absurd (let e : false ≡ true = sym (ap (λ b. is_some (kept element b)) m) ∙ some in cc e)
 
-listed_too : (d : Outline) (before list : List (List ℕ × ℕ)) → are_listed d 1 before list ≡ true → are_listed d 2 before list ≡ true
+listed_too : (d : Outline) (before list : List (List ℕ × ℕ)) → are_listed d false before list ≡ true → are_listed d true before list ≡ true
 listed_too d before [] all = refl
 listed_too d before (entry ∷ list) all =
-    let both = and_parts (is_some (entry_element d 1 before entry.0)) (are_listed d 1 (before ++ entry ∷ []) list) all in
+    let both = and_parts (is_some (entry_element d false before entry.0)) (are_listed d false (before ++ entry ∷ []) list) all in
     and_from _ _ (entry_too d before entry.0 both.0) (listed_too d (before ++ entry ∷ []) list both.1)
 
 ranks_too : (list : List (List ℕ × ℕ)) (d : Outline) (ranks : List ℕ) → list_ranks 1 list d ≡ Some ranks → list_ranks 2 list d ≡ Some ranks
 unfolding list_ranks
-ranks_too list d ranks is = by (are_writable list) refl (are_listed d 1 [] list) refl
+ranks_too list d ranks is = by (are_writable list && are_listed d false [] list) refl is
   where
     given : Bool → Option (List ℕ)
     given b = if b then ranks_of d (listed_ranks d list) else None
 
-    by : (w : Bool) → are_writable list ≡ w → (l : Bool) → are_listed d 1 [] list ≡ l → given (are_writable list && are_listed d 2 [] list) ≡ Some ranks
-    by true w true l =
-        let one : (are_writable list && are_listed d 1 [] list) ≡ true = and_from _ _ w l in
-        let two : (are_writable list && are_listed d 2 [] list) ≡ true = and_from _ _ w (listed_too d [] list l) in
-        ap given two ∙ sym (ap given one) ∙ is
-    by true w false l = absurd (let none : given (are_writable list && are_listed d 1 [] list) ≡ None = rw (w, l) refl in let e : None ≡ Some ranks = sym none ∙ is in cc e)
-    by false w l here = absurd (let none : given (are_writable list && are_listed d 1 [] list) ≡ None = rw w refl in let e : None ≡ Some ranks = sym none ∙ is in cc e)
+    by : (b : Bool) → (are_writable list && are_listed d false [] list) ≡ b → given b ≡ Some ranks → given (are_writable list && are_listed d true [] list) ≡ Some ranks
+    by true all is =
+        let both = and_parts (are_writable list) (are_listed d false [] list) all in
+        ap given (and_from (are_writable list) (are_listed d true [] list) both.0 (listed_too d [] list both.1)) ∙ is
+    by false all is = absurd (let e : None ≡ Some ranks = is in cc e)
 
 -- what is made of two answers, where the second gives what the first does
 pub mapped_too : {A B : Type 0} (f : A → B) (one two : Option A) (b : B) → ((a : A) → one ≡ Some a → two ≡ Some a) → option_map f one ≡ Some b → option_map f two ≡ Some b
@@ -82,24 +86,22 @@ all_too {A} {B} f g (x ∷ xs) bs same is = by (λ later rest. all_too f g xs la
 position_too : (space : Layout) (cube : ℕ) (word : OrderWord) (p : Position) → position_of space cube 1 word ≡ Some p → position_of space cube 2 word ≡ Some p
 position_too space cube (words.Constant number) p is = is
 position_too space cube (words.Index name) p is = is
+position_too space cube (words.RanksByKind name leaves totals) p is = is
+position_too space cube words.Totals p is = is
 position_too space cube (words.Auto lag) p is = is
 position_too space cube (words.Ranks name list) p is =
     then_too (position_by (axes space cube) (list_ranks 1 list)) (position_by (axes space cube) (list_ranks 2 list)) (axis_called (axes space cube) name) p
     (λ place here. mapped_too _ _ _ p (λ ranks found. then_too (list_ranks 1 list) (list_ranks 2 list) _ ranks (λ d. ranks_too list d ranks) found) here) is
 
 pub order_too : (space : Layout) (cube : ℕ) (line : OrderLine) (order : Order) → line.version ≡ 1 → order_of space cube line ≡ Some order → order_of space cube (line_in 2 line) ≡ Some order
-order_too space cube line order first is = by (nat_lt most_positions (length line.words)) refl (subst (λ v. order_by v (nat_lt most_positions (length line.words)) ≡ Some order) first is)
+order_too space cube line order first is = by (nat_lt most_positions (length line.words)) (has_kinds line.words) (subst (λ v. meant v (nat_lt most_positions (length line.words)) (has_kinds line.words) ≡ Some order) first is)
   where
-    made : List Position → Order
-    made list = record { positions = list }
+    meant : ℕ → Bool → Bool → Option Order
+    meant version many kinds =
+        if many then None else if kinds then order_by_kind space cube line.words else order_by space cube version line.words
 
-    order_by : ℕ → Bool → Option Order
-    order_by version many = if many then None else option_map made (all_of (map (position_of space cube version) line.words))
-
-    by : (b : Bool) → nat_lt most_positions (length line.words) ≡ b → order_by 1 (nat_lt most_positions (length line.words)) ≡ Some order → order_by 2 (nat_lt most_positions (length line.words)) ≡ Some order
-    by true many is = absurd (let e : None ≡ Some order = sym (ap (order_by 1) many) ∙ is in cc e)
-    by false few is =
-        let here : order_by 1 false ≡ Some order = sym (ap (order_by 1) few) ∙ is in
-        let next : order_by 2 false ≡ Some order =
-        mapped_too made _ _ order (λ positions all. all_too (position_of space cube 1) (position_of space cube 2) line.words positions (position_too space cube) all) here in
-        ap (order_by 2) few ∙ next
+    by : (many kinds : Bool) → meant 1 many kinds ≡ Some order → meant 2 many kinds ≡ Some order
+    by true kinds is = is
+    by false true is = is
+    by false false is =
+        mapped_too plain_order _ _ order (λ positions all. all_too (position_of space cube 1) (position_of space cube 2) line.words positions (position_too space cube) all) is

@@ -16,7 +16,7 @@ use Rattle.bind_order.specs.Orders.{order_of}
 -- line
 abbrev pub declared_order : Layout → ℕ → CubeText → Option Order
 declared_order space cube text =
-    option_map_or (λ line. order_of space cube line.1) text.order (Some (record { positions = [] }))
+    option_map_or (λ line. order_of space cube line.1) text.order (Some (record { positions = []; totals = None }))
 
 -- the rules of a cube: what its rule text means, with the order that it declares; None where one of both is refused
 abbrev pub cube_bound : Layout → ℕ → CubeText → Option CubeRules → Option CubeRules

@@ -114,7 +114,7 @@ rules_of space cube text = do
     skipcheck = text.skipcheck;
     statements = statements;
     feeders = feeders;
-    order = record { positions = [] };
+    order = record { positions = []; totals = None };
   })
 
 -- an answer is what the text means; out of memory may come in its place

@@ -176,6 +176,7 @@ pub fn bind(
     let feeders = all_feeders_of(alloc, space, maps, cube, text.feeders.as_slice())?;
     let order = Order {
         positions: ListOf::new(Vec::new(alloc)),
+        totals: None,
     };
     Ok(CubeRules {
         skipcheck: text.skipcheck,

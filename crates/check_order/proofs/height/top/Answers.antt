@@ -1,7 +1,7 @@
 use Rattle.std.proofs.Common.{◌≡◌, ap, arith, ℕ, suc, ◌+◌, ◌-◌, length}
 use Rattle.cube_space.specs.Layout.{Layout}
 use Rattle.check_order.specs.Inside.Tops.{cube_top}
-use Rattle.check_order.proofs.TopFacts.{mapped-from}
+use Rattle.check_order.proofs.Greatest.{mapped-from}
 use Rattle.check_order.proofs.height.top.Goals as goal
 
 pub each-preserved : goal.each-preserved
