@@ -4,7 +4,7 @@ use Rattle.std.specs.Option.{option_map_or, option_or}
 use Rattle.std.proofs.lemmas.List.Elements.{All-tail}
 use Rattle.cube_space.specs.declared.shape.CubeShape.{CubeShape}
 use Rattle.cube_space.specs.Layout.{Layout}
-use Rattle.model_text.specs.Contents.{Contents, IsContents, IsOrderedIn}
+use Rattle.model_text.specs.Contents.{Contents, IsContents, IsLineIn, IsOrderedIn}
 use Rattle.model_text.specs.declared.order.OrderLine.{OrderLine}
 use Rattle.model_text.specs.declared.parts.CubeText.{CubeText}
 use Rattle.model_deploy.specs.Foundation.{shape_of, layout_of, cube_lines, foundation_refusal, dimensions_refusal, space_refusal, products_refusal}
@@ -44,9 +44,9 @@ declared_too space cube text order one is = by text.order one is
     declared : Option (ℕ × OrderLine) → Option Order
     declared line = option_map_or (λ line. order_of space cube line.1) line (Some (record { positions = [] }))
 
-    by : (o : Option (ℕ × OrderLine)) → IfSome o (λ order. order.1.version ≡ 1) → declared o ≡ Some order → declared (option_map (λ order. (order.0, line_in 2 order.1)) o) ≡ Some order
+    by : (o : Option (ℕ × OrderLine)) → IfSome o (λ order. IsLineIn 1 order.1) → declared o ≡ Some order → declared (option_map (λ order. (order.0, line_in 2 order.1)) o) ≡ Some order
     by None one is = is
-    by (Some line) one is = order_too space cube line.1 order one is
+    by (Some line) one is = order_too space cube line.1 order one.version is
 
 cube_too : (space : Layout) (cube : ℕ) (text : CubeText) (rules : Option CubeRules) (bound : CubeRules) → IsOrderedIn 1 text → cube_bound space cube text rules ≡ Some bound
     → cube_bound space cube (cube_in 2 text) rules ≡ Some bound
