@@ -26,11 +26,11 @@ use Rattle.dim_text.specs.Spelled.{head_spelled, body_spelled}
 use Rattle.dim_text.proofs.PrintedBack.{body_of}
 use Rattle.dim_text.specs.Statement.{body}
 use Rattle.model_text.specs.Readers.Views.{IsValid}
-use Rattle.model_text.specs.Contents.{most_model_dimensions, most_cubes, most_scripts, AreDimensions, IsOrderedIn, cube_names, script_names}
+use Rattle.model_text.specs.Contents.{most_model_dimensions, most_cubes, most_scripts, AreDimensions, IsLineIn, IsOrderedIn, cube_names, script_names}
 use Rattle.model_text.specs.Gathering.{Current, Nothing, DimensionDue, DimensionOpen, DimensionBody, CubeDue, CubeOpen, ScriptDue, ScriptOpen, ScriptWhole, Parts, at, unless, order_of, cube_of, with_cube, with_script, with_dimension, gathered, dimensions_are_full, cubes_are_full, scripts_are_full, has_dimension, has_cube, has_script}
 use Rattle.model_text.specs.Printed.{IsSameCube, IsSameScript}
 use Rattle.model_text.specs.Spelled.{dim_spelled, cube_head_spelled, dimension_spelled, cube_dimensions_spelled, cube_end_spelled, next_dimension_spelled, cube_spelled, script_spelled}
-use Rattle.model_text.specs.Statement.{Piece, piece, closing, naming, dimension_behind, dimension_head, dimension, next_dimension, cube_head, cube_dimensions, cube, script}
+use Rattle.model_text.specs.Statement.{Piece, piece, has_totals, closing, naming, dimension_behind, dimension_head, dimension, next_dimension, cube_head, cube_dimensions, cube, script}
 use Rattle.model_text.specs.Watching.{Seen, watching}
 use Rattle.model_text.specs.Writable.{IsFileText, IsWritableOrder, IsWritableCube, IsWritableScript}
 use Rattle.model_text.specs.declared.fault.ModelTextCause.{ModelTextCause}
@@ -40,9 +40,9 @@ use Rattle.model_text.specs.declared.order.OrderWord.{OrderWord}
 use Rattle.model_text.specs.declared.parts.CubeText.{CubeText}
 use Rattle.model_text.specs.declared.parts.ScriptText.{ScriptText}
 use Rattle.model_text.proofs.Going.{Goes, goes_piece, goes_both, goes_unit, goes_as, goes_many}
-use Rattle.model_text.proofs.ModelExact.{naming_into, file_into}
+use Rattle.model_text.proofs.ModelExact.{naming_into, file_into, into_end}
 use Rattle.model_text.proofs.Sound.{any-map}
-use Rattle.model_text.proofs.SpelledPieces.{IsSameBehind, HasPositions, closing_spells, dimension_word_spells, cube_word_spells, script_word_spells, naming_spells, script_file_spells, dimension_behind_spells, cube_end_spells}
+use Rattle.model_text.proofs.SpelledPieces.{IsSameBehind, HasPositions, MayStand, closing_spells, dimension_word_spells, cube_word_spells, script_word_spells, naming_spells, script_file_spells, dimension_behind_spells, cube_end_spells}
 
 -- Lists.
 
@@ -200,13 +200,18 @@ module _ (blocks : List Progress) (parts : Parts) (line : ℕ) (shown : List ℕ
       so_far same))
 
 -- in a text of the version that it had, an order line is as it was
-same_order : (version : ℕ) (o : Option (ℕ × OrderLine)) (again : Option (ℕ × List OrderWord)) → IfSome o (λ x. x.1.version ≡ version) → HasPositions o again → IsSameBehind o (order_of version again)
+same_order : (version : ℕ) (o : Option (ℕ × OrderLine)) (again : Option (ℕ × List OrderWord)) → IfSome o (λ x. IsLineIn version x.1) → HasPositions o again → IsSameBehind o (order_of version again)
 same_order version None None is same = refl
 same_order version None (Some a) is same = cc
 same_order version (Some o) None is same = cc
 same_order version (Some o) (Some a) is same =
     let positions : a.1 ≡ o.1.words = cc in
-    ap (λ list. Some (record { version = version; words = list })) positions ∙ ap (λ v. Some (record { version = v; words = o.1.words })) (sym is)
+    ap (λ list. Some (record { version = version; words = list })) positions ∙ ap (λ v. Some (record { version = v; words = o.1.words })) (sym is.version)
+
+-- in version 2 all words may stand
+may_stand : (version : ℕ) (o : Option (ℕ × OrderLine)) → IfSome o (λ x. IsLineIn version x.1) → MayStand (has_totals version) o
+may_stand version None is = tt
+may_stand version (Some o) is = λ has. ap has_totals (is.kinds has)
 
 -- it has this name, these dimensions and this end
 record Has (shown numbers : List ℕ) (r : Option (ℕ × List ℕ)) (o : Option (ℕ × OrderLine)) (c : CubeText) : Type 0 where
@@ -217,13 +222,13 @@ record Has (shown numbers : List ℕ) (r : Option (ℕ × List ℕ)) (o : Option
 
 cube_goes : (blocks : List Progress) (parts : Parts) (shown numbers : List ℕ) (r : Option (ℕ × List ℕ)) (o : Option (ℕ × OrderLine))
     → All (λ name. IsTrue (is_name name)) parts.names → IsDistinct is_same_name parts.names → AreDimensions (length parts.names) numbers → 0 < length numbers → IsTrue (is_name shown)
-    → IfSome r (λ x. IsFileText x.1) → IfSome o (λ x. IsWritableOrder x.1.words) → IfSome o (λ x. x.1.version ≡ parts.version) → cubes_are_full parts ≡ false → has_cube parts shown ≡ false
-    → Goes {E = CubeText} cube (cube_head_spelled shown ++ (cube_dimensions_spelled parts.names numbers ++ cube_end_spelled r o)) (outside_of blocks parts Nothing) (λ again. outside_of blocks (with_cube parts again) Nothing) (Has shown numbers r o)
+    → IfSome r (λ x. IsFileText x.1) → IfSome o (λ x. IsWritableOrder x.1.words) → IfSome o (λ x. IsLineIn parts.version x.1) → cubes_are_full parts ≡ false → has_cube parts shown ≡ false
+    → Goes {E = CubeText} (cube (has_totals parts.version)) (cube_head_spelled shown ++ (cube_dimensions_spelled parts.names numbers ++ cube_end_spelled r o)) (outside_of blocks parts Nothing) (λ again. outside_of blocks (with_cube parts again) Nothing) (Has shown numbers r o)
 cube_goes blocks parts shown [] r o named distinct are some is r_is o_is in_version few new = absurd (omega (arith, some))
 cube_goes blocks parts shown (first ∷ rest) r o named distinct are some is r_is o_is in_version few new =
     goes_both {xs = cube_head_spelled shown} {ys = cube_dimensions_spelled parts.names (first ∷ rest) ++ cube_end_spelled r o} (cube_head_goes blocks parts shown is few new)
     (λ line _. goes_both {xs = cube_dimensions_spelled parts.names (first ∷ rest)} {ys = cube_end_spelled r o} (numbers_go blocks parts line shown named distinct first rest are)
-    (λ numbers same. goes_unit (goes_piece (outside_of blocks parts (CubeOpen line shown numbers)) (λ again. at (with_cube parts again) Nothing) (λ u x h. inr (inr (inr (inr (inr (inr (inr (inr h)))))))) (cube_end_spells r o r_is o_is)
+    (λ numbers same. goes_unit (goes_piece (outside_of blocks parts (CubeOpen line shown numbers)) (λ again. at (with_cube parts again) Nothing) (into_end (has_totals parts.version)) (cube_end_spells (has_totals parts.version) r o r_is o_is (may_stand parts.version o in_version))
     (λ x end. (
       cube_of parts line shown numbers end.r_again end.o_again,
       ap (gathered (at parts (CubeOpen line shown numbers))) end.is,
@@ -241,8 +246,8 @@ module _ (blocks : List Progress) (version : ℕ) (names : List (List ℕ)) wher
   cubes_seen cubes = outside_of blocks (record { version = version; names = names; cubes = cubes; scripts = [] }) Nothing
 
   pub cubes_go : (all : List CubeText) → All (λ name. IsTrue (is_name name)) names → IsDistinct is_same_name names → All (λ (c : CubeText). AreDimensions (length names) c.dims) all → All (IsOrderedIn version) all → All IsWritableCube all → length all ≤ most_cubes → IsDistinct is_same_name (cube_names all)
-      → Goes {E = List CubeText} (many cube) (flat_map (cube_spelled names) all) (cubes_seen []) cubes_seen (AllZip IsSameCube all)
-  cubes_go all named distinct dims ordered good few apart = goes_many cube (cube_spelled names) cubes_seen (AllZip IsSameCube) all
+      → Goes {E = List CubeText} (many (cube (has_totals version))) (flat_map (cube_spelled names) all) (cubes_seen []) cubes_seen (AllZip IsSameCube all)
+  cubes_go all named distinct dims ordered good few apart = goes_many (cube (has_totals version)) (cube_spelled names) cubes_seen (AllZip IsSameCube) all
       (λ front rest x split so_far zip.
       let now : Parts = record { version = version; names = names; cubes = so_far; scripts = [] } in
       let is : IsWritableCube x = among IsWritableCube all front rest x split good in

@@ -37,6 +37,17 @@ goes_both {xs = xs} {ys = ys} {from = from} {between = between} {to = to} g k = 
       (b, f, (u, v, a, parts, h, l), subst (λ w. Passes watching from w (to f)) (sym parts) (passes-append watching from (between e) (to f) u v first second), q));
 }
 
+-- a text whose tree is known, and then one of what it leads to
+pub goes_behind : {A B F : Type 0} {G : Grammar Lexeme A} {K : A → Grammar Lexeme B} {xs ys : List Spelling} {from between : Seen} {to : F → Seen} {Q : F → Type 0} (a : A)
+    → ((ts : List Lexeme) → map spelling_of ts ≡ xs → G ts a × Passes watching from ts between) → Goes (K a) ys between to Q → Goes (both G K) (xs ++ ys) from to Q
+goes_behind {xs = xs} {ys = ys} {from = from} {between = between} {to = to} a g k = record {
+  at = λ ts is. (
+      let (u, v, parts, front, back) = split_at ts xs ys is in
+      let (h, first) = g u front in
+      let (b, f, l, second, q) = k.at v back in
+      (b, f, (u, v, a, parts, h, l), subst (λ w. Passes watching from w (to f)) (sym parts) (passes-append watching from between (to f) u v first second), q));
+}
+
 -- the tree isn't kept
 pub goes_unit : {A E : Type 0} {G : Grammar Lexeme A} {tokens : List Spelling} {from : Seen} {to : E → Seen} {P : E → Type 0} → Goes G tokens from to P → Goes (unit G) tokens from to P
 goes_unit g = record { at = λ ts is. (let (a, e, h, passes, p) = g.at ts is in (tt, e, (ts, [], a, sym (append-nil ts), h, (refl, refl)), passes, p)) }

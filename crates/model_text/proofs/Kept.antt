@@ -1,5 +1,5 @@
 -- What is read of cubes and scripts can be written as tokens again.
-use Rattle.std.proofs.Common.{◌≡◌, ◌<◌, ◌^◌, ℕ, List, [], ◌∷◌, length, true, false, Ok, refl, Option, Some, None, IfSome, sym, ap, ◌∙◌, subst, ◌&&◌, arith}
+use Rattle.std.proofs.Common.{◌≡◌, ◌<◌, ◌^◌, ℕ, Bool, IsTrue, List, [], ◌∷◌, length, slice_index_or, true, false, true≢false, Ok, refl, Option, Some, None, IfSome, sym, ap, ◌∙◌, subst, ◌&&◌, arith}
 use Rattle.std.proofs.lemmas.Bool.{ltb-true}
 use Rattle.std.proofs.lemmas.List.Elements.{All-nil, All-cons}
 use Rattle.std.proofs.lemmas.List.Folds.{list_any_none}
@@ -19,11 +19,12 @@ use Rattle.grammar.proofs.Kept.{AreTokens, first_tokens, Keeps, keeps_any, keeps
 use Rattle.grammar.proofs.Tokens.{when_picks, and_is}
 use Rattle.grammar.proofs.Top.{read_told}
 use Rattle.dim_text.proofs.Quotable.{text_quotable, name_quotable}
+use Rattle.model_text.specs.Contents.{IsLineIn}
 use Rattle.model_text.specs.Gathering.{order_of}
 use Rattle.model_text.specs.Readers.Reading.{Plain, read_naming, read_script_file, read_cube_end}
-use Rattle.model_text.specs.Statement.{Piece, QuotedText, CubeEnd, naming, script_file, rules, rank, rank_list, position, position_list, lag, order_words, order, cube_end}
-use Rattle.model_text.specs.Orders.{is_auto}
-use Rattle.model_text.specs.Writable.{IsNameText, IsFileText, IsWritableRank, IsWritableWord, IsWritableOrder}
+use Rattle.model_text.specs.Statement.{Piece, QuotedText, CubeEnd, has_totals, only_if, naming, script_file, rules, rank, rank_list, in_parentheses, behind_ranks, ranks, position, position_list, lag, order_words, order, cube_end}
+use Rattle.model_text.specs.Orders.{is_auto, is_by_kind, has_kinds}
+use Rattle.model_text.specs.Writable.{IsNameText, IsFileText, IsWritableRank, IsWritableList, IsWritableWord, IsWritableOrder}
 use Rattle.model_text.specs.declared.fault.ModelTextFault.{ModelTextFault}
 use Rattle.model_text.specs.declared.order.OrderWord.{OrderWord}
 use Rattle.model_text.specs.declared.order.OrderWord.TheVariants as words
@@ -70,23 +71,55 @@ some_more first rest = omega arith
 rank_list_kept : Keeps rank_list (λ list. (0 < length list) × All IsWritableRank list)
 rank_list_kept = keeps_both rank_kept (λ first is. keeps_both (keeps_many (keeps_both keeps_any (λ _ _. rank_kept))) (λ rest all. keeps_done (some_more first rest, All-cons IsWritableRank first rest is all)))
 
--- a word that is a position
-abbrev IsWritablePosition : OrderWord → Type 0
-IsWritablePosition p = IsWritableWord p × (is_auto p ≡ false)
+in_parentheses_kept : Keeps in_parentheses IsWritableList
+in_parentheses_kept = keeps_both keeps_any (λ _ _. keeps_both rank_list_kept (λ list all. keeps_both keeps_any (λ _ _. keeps_done all)))
 
-position_kept : Keeps position IsWritablePosition
-position_kept = keeps_either (keeps_both whole_kept (λ n small. keeps_done (small, refl)))
-    (keeps_both name_kept (λ shown is. keeps_either (keeps_both keeps_any (λ _ _. keeps_both rank_list_kept (λ list all. keeps_both keeps_any (λ _ _. keeps_done ((is, all.0, all.1), refl))))) (keeps_done (is, refl))))
+keeps_allowed : {A : Type 0} {G : Grammar Lexeme A} {allowed : Bool} {P : A → Type 0} → (IsTrue allowed → Keeps G P) → Keeps (only_if allowed G) P
+keeps_allowed k = record { at = λ u a tokens h. (k h.0).at u a tokens h.1 }
 
-positions_writable : (first : OrderWord) (rest : List OrderWord) → All IsWritablePosition (first ∷ rest) → IsWritableOrder (first ∷ rest)
-positions_writable first rest all = record {
-  some = some_more first rest;
-  each = λ k d here. (all k d here).0;
-  auto_alone = λ has. absurd (let e : false ≡ true = sym (list_any_none is_auto (first ∷ rest) (λ k d here. (all k d here).1)) ∙ has in cc e);
-}
+never : {A : Type 0} → false ≡ true → A
+never e = absurd (true≢false (sym e))
 
-position_list_kept : Keeps position_list IsWritableOrder
-position_list_kept = keeps_both position_kept (λ first is. keeps_both (keeps_many (keeps_both keeps_any (λ _ _. position_kept))) (λ rest all. keeps_done (positions_writable first rest (All-cons IsWritablePosition first rest is all))))
+-- a word that is a position, and that may stand there
+abbrev IsWritablePosition : Bool → OrderWord → Type 0
+IsWritablePosition totals p = IsWritableWord p × (is_auto p ≡ false) × (IsTrue (is_by_kind p) → IsTrue totals)
+
+behind_ranks_kept : (totals : Bool) (shown : List ℕ) (leaves : List (List ℕ × ℕ)) → IsNameText shown → IsWritableList leaves → Keeps (behind_ranks totals shown leaves) (IsWritablePosition totals)
+behind_ranks_kept totals shown leaves is all = keeps_either
+    (keeps_allowed (λ can. keeps_both keeps_any (λ _ _. keeps_both in_parentheses_kept (λ others more. keeps_done ((is, all, more), refl, λ _. can)))))
+    (keeps_done ((is, all), refl, never))
+
+ranks_kept : (totals : Bool) (shown : List ℕ) → IsNameText shown → Keeps (ranks totals shown) (IsWritablePosition totals)
+ranks_kept totals shown is = keeps_either (keeps_both in_parentheses_kept (λ leaves all. behind_ranks_kept totals shown leaves is all)) (keeps_done (is, refl, never))
+
+position_kept : (totals : Bool) → Keeps (position totals) (IsWritablePosition totals)
+position_kept totals = keeps_either (keeps_allowed (λ can. keeps_both keeps_any (λ _ _. keeps_done (tt, refl, λ _. can))))
+    (keeps_either (keeps_both whole_kept (λ n small. keeps_done (small, refl, never))) (keeps_both name_kept (λ shown is. ranks_kept totals shown is)))
+
+-- the words of an order line that may stand there
+abbrev pub IsWritableLine : Bool → List OrderWord → Type 0
+IsWritableLine totals list = IsWritableOrder list × (IsTrue (has_kinds list) → IsTrue totals)
+
+none_of : (b : Bool) → (IsTrue b → false ≡ true) → b ≡ false
+none_of true h = sym (h refl)
+none_of false h = refl
+
+kinds_may_stand : (totals : Bool) (list : List OrderWord) → All (IsWritablePosition totals) list → IsTrue (has_kinds list) → IsTrue totals
+kinds_may_stand true list all has = refl
+kinds_may_stand false list all has = never (sym (list_any_none is_by_kind list (λ k d here. none_of (is_by_kind (slice_index_or list k d)) (all k d here).2)) ∙ has)
+
+positions_writable : (totals : Bool) (first : OrderWord) (rest : List OrderWord) → All (IsWritablePosition totals) (first ∷ rest) → IsWritableLine totals (first ∷ rest)
+positions_writable totals first rest all = (
+  record {
+    some = some_more first rest;
+    each = λ k d here. (all k d here).0;
+    auto_alone = λ has. never (sym (list_any_none is_auto (first ∷ rest) (λ k d here. (all k d here).1)) ∙ has);
+  },
+  kinds_may_stand totals (first ∷ rest) all,
+)
+
+position_list_kept : (totals : Bool) → Keeps (position_list totals) (IsWritableLine totals)
+position_list_kept totals = keeps_both (position_kept totals) (λ first is. keeps_both (keeps_many (keeps_both keeps_any (λ _ _. position_kept totals))) (λ rest all. keeps_done (positions_writable totals first rest (All-cons (IsWritablePosition totals) first rest is all))))
 
 lag_kept : Keeps lag (λ l. IfSome l IsNameText)
 lag_kept = keeps_either (keeps_both name_kept (λ shown is. keeps_done is)) (keeps_done tt)
@@ -98,18 +131,18 @@ auto_writable l is = record {
   auto_alone = λ _. refl;
 }
 
-order_words_kept : Keeps order_words IsWritableOrder
-order_words_kept = keeps_either (keeps_both keeps_any (λ _ _. keeps_both lag_kept (λ l is. keeps_done (auto_writable l is)))) position_list_kept
+order_words_kept : (totals : Bool) → Keeps (order_words totals) (IsWritableLine totals)
+order_words_kept totals = keeps_either (keeps_both keeps_any (λ _ _. keeps_both lag_kept (λ l is. keeps_done (auto_writable l is, never)))) (position_list_kept totals)
 
-order_kept : Keeps order (λ o. IfSome o (λ x. IsWritableOrder x.1))
-order_kept = keeps_either (keeps_both keeps_any (λ line _. keeps_both order_words_kept (λ list is. keeps_both keeps_any (λ _ _. keeps_done is)))) (keeps_done tt)
+order_kept : (totals : Bool) → Keeps (order totals) (λ o. IfSome o (λ x. IsWritableLine totals x.1))
+order_kept totals = keeps_either (keeps_both keeps_any (λ line _. keeps_both (order_words_kept totals) (λ list is. keeps_both keeps_any (λ _ _. keeps_done is)))) (keeps_done tt)
 
-abbrev IsWritableEnd : Piece → Type 0
-IsWritableEnd (CubeEnd r o) = IfSome r (λ x. IsFileText x.1) × IfSome o (λ x. IsWritableOrder x.1)
-IsWritableEnd other = Unit {0}
+abbrev IsWritableEnd : Bool → Piece → Type 0
+IsWritableEnd totals (CubeEnd r o) = IfSome r (λ x. IsFileText x.1) × IfSome o (λ x. IsWritableLine totals x.1)
+IsWritableEnd totals other = Unit {0}
 
-cube_end_kept : Keeps cube_end IsWritableEnd
-cube_end_kept = keeps_both keeps_any (λ _ _. keeps_both keeps_any (λ _ _. keeps_both rules_kept (λ r r_is. keeps_both order_kept (λ o o_is. keeps_both keeps_any (λ _ _. keeps_both keeps_any (λ _ _. keeps_done (r_is, o_is)))))))
+cube_end_kept : (totals : Bool) → Keeps (cube_end totals) (IsWritableEnd totals)
+cube_end_kept totals = keeps_both keeps_any (λ _ _. keeps_both keeps_any (λ _ _. keeps_both rules_kept (λ r r_is. keeps_both (order_kept totals) (λ o o_is. keeps_both keeps_any (λ _ _. keeps_both keeps_any (λ _ _. keeps_done (r_is, o_is)))))))
 
 -- Names and files.
 
@@ -147,9 +180,16 @@ taken_name ts left n u v read tokens = naming_told ts left n.0 n.1 u v (ap (λ r
 pub script_file_told : (ts left : List Lexeme) (line : ℕ) (bytes : List ℕ) (u v : Unwatched) → read_script_file u ts ≡ Ok (QuotedText line bytes, v, left) → AreTokens ts → IsFileText bytes
 script_file_told ts left line bytes u v read tokens = told script_file_exact script_file_kept ts left (QuotedText line bytes) u v read tokens
 
-pub cube_end_told : (ts left : List Lexeme) (r : Option (ℕ × List ℕ)) (o : Option (ℕ × List OrderWord)) (u v : Unwatched) → read_cube_end u ts ≡ Ok (CubeEnd r o, v, left) → AreTokens ts → IfSome r (λ x. IsFileText x.1) × IfSome o (λ x. IsWritableOrder x.1)
-cube_end_told ts left r o u v read tokens = told cube_end_exact cube_end_kept ts left (CubeEnd r o) u v read tokens
+pub cube_end_told : (totals : Bool) (ts left : List Lexeme) (r : Option (ℕ × List ℕ)) (o : Option (ℕ × List OrderWord)) (u v : Unwatched) → read_cube_end totals u ts ≡ Ok (CubeEnd r o, v, left) → AreTokens ts → IfSome r (λ x. IsFileText x.1) × IfSome o (λ x. IsWritableLine totals x.1)
+cube_end_told totals ts left r o u v read tokens = told (cube_end_exact totals) (cube_end_kept totals) ts left (CubeEnd r o) u v read tokens
 
-pub order_written : (version : ℕ) (o : Option (ℕ × List OrderWord)) → IfSome o (λ x. IsWritableOrder x.1) → IfSome (order_of version o) (λ x. IsWritableOrder x.1.words)
+pub order_written : (version : ℕ) (o : Option (ℕ × List OrderWord)) → IfSome o (λ x. IsWritableLine (has_totals version) x.1) → IfSome (order_of version o) (λ x. IsWritableOrder x.1.words)
 order_written version None is = tt
-order_written version (Some o) is = is
+order_written version (Some o) is = is.0
+
+second_version : (version : ℕ) → IsTrue (has_totals version) → version ≡ 2
+second_version version e = grind (arith, e)
+
+pub order_stands : (version : ℕ) (o : Option (ℕ × List OrderWord)) → IfSome o (λ x. IsWritableLine (has_totals version) x.1) → IfSome (order_of version o) (λ x. IsLineIn version x.1)
+order_stands version None is = tt
+order_stands version (Some o) is = record { version = refl; kinds = λ has. second_version version (is.1 has) }

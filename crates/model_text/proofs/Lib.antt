@@ -6,6 +6,7 @@ pub mod Gathered
 pub mod Heads
 mod Later
 pub mod PieceExact
+pub mod Versions
 pub mod ModelExact
 pub mod Kept
 pub mod SpelledPieces

@@ -4,11 +4,11 @@ use Rattle.std.specs.Str.{str_eq_ignore_ascii_case}
 use Rattle.cube_lex.specs.Lexeme.{Lexeme}
 use Rattle.grammar.specs.Grammar.{Grammar, both, many}
 use Rattle.grammar.specs.Watch.{Watch, AllPass, Passes, Within, each_text}
-use Rattle.grammar.specs.Reading.{Unexpected, Refused, OutOfTurns, Read, starts, inside_result}
+use Rattle.grammar.specs.Reading.{Unexpected, Refused, OutOfTurns, Read, Reader, starts, inside_result}
 use Rattle.grammar.specs.Tokens.{text, name, file, located, is_sign, is_word, is_text_kind, is_file}
 use Rattle.cube_lex.specs.Quoted.{unquoted}
 use Rattle.dim_name.specs.Name.{is_name}
-use Rattle.grammar.proofs.Exact.{Exact, Always, Not, Outcome, Agrees, IsStuck, passes_one, passes_nothing, refuses_one, exact_then, exact_both, exact_made, exact_before}
+use Rattle.grammar.proofs.Exact.{Exact, Always, Not, Outcome, Agrees, IsStuck, passes_one, passes_nothing, refuses_one, exact_gives, exact_then, exact_both, exact_made, exact_before}
 use Rattle.grammar.proofs.Begins.{Begins, HasToken, begins_both, exact_before_next, has_token, starts_many, made_is}
 use Rattle.grammar.proofs.Many.{Shortens, shortens, exact_rest}
 use Rattle.grammar.proofs.Checked.{exact_checked}
@@ -21,11 +21,12 @@ use Rattle.dim_text.specs.Readers.Reading.{read_body}
 use Rattle.dim_text.specs.declared.fault.Refusal.{Refusal}
 use Rattle.dim_text.proofs.BlockExact.{body_exact}
 use Rattle.model_text.specs.declared.fault.ModelTextFault.{ModelTextFault}
-use Rattle.model_text.specs.Statement.{Piece, version, closing, dimension_word, cube_word, script_word, naming, script_file, first_dimension, next_dimension, cube_end, shown_text, piece, dimension_head, dimension, cube_head, cube_dimensions, cube, script, opening, model}
+use Rattle.model_text.specs.Statement.{Piece, has_totals, number_of, version_number, closing, dimension_word, cube_word, script_word, naming, script_file, first_dimension, next_dimension, cube_end, shown_text, piece, dimension_head, dimension, cube_head, cube_dimensions, cube, script, opening, model}
 use Rattle.model_text.specs.Gathering.{Given, gathered}
 use Rattle.model_text.specs.Watching.{Seen, with_given, added, head_of, with_block, of_block, watching}
-use Rattle.model_text.specs.Readers.Reading.{Plain, Gatherer, gather, outside, body_from, read_dimension_behind, gather_version, gather_closing, gather_dimension_word, gather_cube_word, gather_script_word, gather_naming, gather_script_file, gather_first_dimension, gather_further_dimensions, gather_cube_end, read_opening, read_dimension_head, read_cube_head, read_cube_dimensions, read_cube, read_script, read_cubes, read_scripts, read_dimension_body, read_dimension, read_dimensions, read_model}
+use Rattle.model_text.specs.Readers.Reading.{Plain, gather, outside, body_from, read_dimension_behind, gather_version, gather_closing, gather_dimension_word, gather_cube_word, gather_script_word, gather_naming, gather_script_file, gather_first_dimension, gather_further_dimensions, gather_cube_end, read_opening, read_dimension_head, read_cube_head, read_cube_dimensions, read_cube, read_script, read_cubes, read_scripts, read_dimension_body, read_dimension, read_dimensions, read_model}
 use Rattle.model_text.proofs.PieceExact.{free, mapped, located_is_value, version_exact, closing_exact, dimension_word_exact, cube_word_exact, script_word_exact, naming_exact, script_file_exact, dimension_behind_exact, cube_end_exact}
+use Rattle.model_text.proofs.Versions.{cube_end_into}
 
 -- Pieces.
 
@@ -35,9 +36,9 @@ pieces = each_text piece gathered
 piece_exact : {G : Grammar Lexeme Piece} {P : Plain Piece} → ((u : List Lexeme) (x : Piece) → G u x → piece u x) → HasToken G → Exact free G G P Always → Exact pieces G G (gather P) Always
 piece_exact into some e = exact_checked (record {}) gathered into some e
 
-gathers_version : Exact pieces (unit version) (unit version) gather_version Always
+gathers_version : Exact pieces version_number version_number gather_version Always
 unfolding gather_version
-gathers_version = exact_made (λ _. tt) (piece_exact (λ u x h. inl h) (has_token (begins_both (word_begins (codes "MODEL") (codes "MODEL")))) version_exact)
+gathers_version = exact_made number_of (piece_exact (λ u x h. inl h) (has_token (begins_both (word_begins (codes "MODEL") (codes "MODEL")))) version_exact)
 
 gathers_closing : Exact pieces (unit closing) (unit closing) gather_closing Always
 gathers_closing = exact_made (λ _. tt) (piece_exact (λ u x h. inr (inl h)) (has_token (begins_both (sign_begins (codes ";") (codes ";")))) closing_exact)
@@ -98,15 +99,19 @@ gathers_further_dimensions : Exact pieces (unit (many next_dimension)) (unit (ma
 unfolding gather_further_dimensions
 gathers_further_dimensions = exact_made (λ _. tt) (exact_rest (is_sign (codes ",")) next_dimension_begins next_dimension_begins next_dimension_exact)
 
-gathers_cube_end : Exact pieces (unit cube_end) (unit cube_end) gather_cube_end Always
+-- the end of a cube in a text of some version
+pub into_end : (totals : Bool) (u : List Lexeme) (x : Piece) → cube_end totals u x → piece u x
+into_end totals u x h = inr (inr (inr (inr (inr (inr (inr (inr ((cube_end_into totals).at u x h))))))))
+
+gathers_cube_end : (totals : Bool) → Exact pieces (unit (cube_end totals)) (unit (cube_end totals)) (gather_cube_end totals) Always
 unfolding gather_cube_end
-gathers_cube_end = exact_made (λ _. tt) (piece_exact (λ u x h. inr (inr (inr (inr (inr (inr (inr (inr h)))))))) (has_token (begins_both (sign_begins (codes ")") (codes ")")))) cube_end_exact)
+gathers_cube_end totals = exact_made (λ _. tt) (piece_exact (into_end totals) (has_token (begins_both (sign_begins (codes ")") (codes ")")))) (cube_end_exact totals))
 
 -- Statements.
 
 pub opening_exact : Exact pieces opening opening read_opening Always
 unfolding read_opening
-opening_exact = exact_then gathers_version (λ _. gathers_closing)
+opening_exact = exact_then gathers_version (λ number. exact_then gathers_closing (λ _. exact_gives pieces number))
 
 pub dimension_head_exact : Exact pieces dimension_head dimension_head read_dimension_head Always
 unfolding read_dimension_head
@@ -120,9 +125,9 @@ pub cube_dimensions_exact : Exact pieces cube_dimensions cube_dimensions read_cu
 unfolding read_cube_dimensions
 cube_dimensions_exact = exact_then gathers_first_dimension (λ _. gathers_further_dimensions)
 
-pub cube_exact : Exact pieces cube cube read_cube Always
+pub cube_exact : (totals : Bool) → Exact pieces (cube totals) (cube totals) (read_cube totals) Always
 unfolding read_cube
-cube_exact = exact_then cube_head_exact (λ _. exact_before_next cube_dimensions_exact (λ _. gathers_cube_end) (λ _. begins_both (begins_both (sign_begins (codes ")") (codes ",")))))
+cube_exact totals = exact_then cube_head_exact (λ _. exact_before_next cube_dimensions_exact (λ _. gathers_cube_end totals) (λ _. begins_both (begins_both (sign_begins (codes ")") (codes ",")))))
 
 pub script_exact : Exact pieces script script read_script Always
 unfolding read_script
@@ -131,15 +136,15 @@ script_exact = exact_then gathers_script_word (λ _. exact_then gathers_naming (
 pub dimension_begins : (w : List ℕ) → Begins dimension (is_word w) (str_eq_ignore_ascii_case (codes "DIM") w)
 dimension_begins w = begins_both (begins_both (begins_both (begins_both (word_begins (codes "DIM") w))))
 
-pub cube_begins : (w : List ℕ) → Begins cube (is_word w) (str_eq_ignore_ascii_case (codes "CUBE") w)
-cube_begins w = begins_both (begins_both (begins_both (begins_both (word_begins (codes "CUBE") w))))
+pub cube_begins : (totals : Bool) (w : List ℕ) → Begins (cube totals) (is_word w) (str_eq_ignore_ascii_case (codes "CUBE") w)
+cube_begins totals w = begins_both (begins_both (begins_both (begins_both (word_begins (codes "CUBE") w))))
 
 pub script_begins : (w : List ℕ) → Begins script (is_word w) (str_eq_ignore_ascii_case (codes "SCRIPT") w)
 script_begins w = begins_both (begins_both (begins_both (word_begins (codes "SCRIPT") w)))
 
-pub cubes_exact : Exact pieces (unit (many cube)) (unit (many cube)) read_cubes (Not (is_word (codes "CUBE")))
+pub cubes_exact : (totals : Bool) → Exact pieces (unit (many (cube totals))) (unit (many (cube totals))) (read_cubes totals) (Not (is_word (codes "CUBE")))
 unfolding read_cubes
-cubes_exact = exact_made (λ _. tt) (exact_rest (is_word (codes "CUBE")) (cube_begins (codes "CUBE")) (cube_begins (codes "CUBE")) cube_exact)
+cubes_exact totals = exact_made (λ _. tt) (exact_rest (is_word (codes "CUBE")) (cube_begins totals (codes "CUBE")) (cube_begins totals (codes "CUBE")) (cube_exact totals))
 
 scripts_exact : Exact pieces (unit (many script)) (unit (many script)) read_scripts (Not (is_word (codes "SCRIPT")))
 unfolding read_scripts
@@ -182,7 +187,7 @@ is_outside = record {
   };
 }
 
-outside_exact : {G H : Grammar Lexeme (Unit {0})} {P : Gatherer} {S : List Lexeme → Type 0} → Exact pieces G H P S → Exact watching G H (outside P) S
+outside_exact : {A : Type 0} {G H : Grammar Lexeme A} {P : Reader Lexeme Given ModelTextFault A} {S : List Lexeme → Type 0} → Exact pieces G H P S → Exact watching G H (outside P) S
 outside_exact e = exact_inside (λ s. s.given) with_given (λ s fault. fault) is_outside e
 
 -- Bodies.
@@ -283,23 +288,23 @@ scripts_follow v rest a h w other stops =
     let (list, each) = made_is (many script) (λ _. tt) v a h in
     starts_many (begins_as (script_begins w) other) list v rest each stops
 
-cubes_follow : (v rest : List Lexeme) (a : Unit {0}) → unit (many cube) v a → (w : List ℕ) → str_eq_ignore_ascii_case (codes "CUBE") w ≡ false → Not (is_word w) rest → Not (is_word w) (v ++ rest)
-cubes_follow v rest a h w other stops =
-    let (list, each) = made_is (many cube) (λ _. tt) v a h in
-    starts_many (begins_as (cube_begins w) other) list v rest each stops
+cubes_follow : (totals : Bool) (v rest : List Lexeme) (a : Unit {0}) → unit (many (cube totals)) v a → (w : List ℕ) → str_eq_ignore_ascii_case (codes "CUBE") w ≡ false → Not (is_word w) rest → Not (is_word w) (v ++ rest)
+cubes_follow totals v rest a h w other stops =
+    let (list, each) = made_is (many (cube totals)) (λ _. tt) v a h in
+    starts_many (begins_as (cube_begins totals w) other) list v rest each stops
 
-cubes_and_scripts_follow : (v rest : List Lexeme) (b : Unit {0}) → both (unit (many cube)) (λ _. unit (many script)) v b → Ends rest → Not (is_word (codes "DIM")) (v ++ rest)
-cubes_and_scripts_follow v rest b (x, y, a, parts, h, k) ends =
+cubes_and_scripts_follow : (totals : Bool) (v rest : List Lexeme) (b : Unit {0}) → both (unit (many (cube totals))) (λ _. unit (many script)) v b → Ends rest → Not (is_word (codes "DIM")) (v ++ rest)
+cubes_and_scripts_follow totals v rest b (x, y, a, parts, h, k) ends =
     let behind : Not (is_word (codes "DIM")) (y ++ rest) = scripts_follow y rest b k (codes "DIM") refl ends.dimension in
-    ap (λ z. starts (is_word (codes "DIM")) (z ++ rest)) parts ∙ ap (starts (is_word (codes "DIM"))) (append_assoc x y rest) ∙ cubes_follow x (y ++ rest) a h (codes "DIM") refl behind
+    ap (λ z. starts (is_word (codes "DIM")) (z ++ rest)) parts ∙ ap (starts (is_word (codes "DIM"))) (append_assoc x y rest) ∙ cubes_follow totals x (y ++ rest) a h (codes "DIM") refl behind
 
 pub model_exact : Exact watching model model read_model Ends
 unfolding read_model
-model_exact = exact_then (outside_exact opening_exact) (λ _. exact_both dimensions_exact
-    (λ _. exact_both (outside_exact cubes_exact)
+model_exact = exact_then (outside_exact opening_exact) (λ number. exact_both dimensions_exact
+    (λ _. exact_both (outside_exact (cubes_exact (has_totals number)))
     (λ _. exact_before (λ rest ends. ends.script) (outside_exact scripts_exact))
     (λ _ v b rest l ends. scripts_follow v rest b l (codes "CUBE") refl ends.cube))
-    (λ _ v b rest l ends. cubes_and_scripts_follow v rest b l ends))
+    (λ _ v b rest l ends. cubes_and_scripts_follow (has_totals number) v rest b l ends))
 
 -- each has a token
 
@@ -309,8 +314,8 @@ dimension_shortens = shortens (is_word (codes "DIM")) true (dimension_begins (co
 pub dimension_head_shortens : Shortens read_dimension_head
 dimension_head_shortens = shortens (is_word (codes "DIM")) true (begins_both (begins_both (begins_both (word_begins (codes "DIM") (codes "DIM"))))) dimension_head_exact
 
-pub cube_shortens : Shortens read_cube
-cube_shortens = shortens (is_word (codes "CUBE")) true (cube_begins (codes "CUBE")) cube_exact
+pub cube_shortens : (totals : Bool) → Shortens (read_cube totals)
+cube_shortens totals = shortens (is_word (codes "CUBE")) true (cube_begins totals (codes "CUBE")) (cube_exact totals)
 
 pub script_shortens : Shortens read_script
 script_shortens = shortens (is_word (codes "SCRIPT")) true (script_begins (codes "SCRIPT")) script_exact

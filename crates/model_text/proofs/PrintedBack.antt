@@ -1,14 +1,19 @@
 -- What is written of a model text is read as a text with equal contents, but for lines.
-use Rattle.std.proofs.Common.{◌≡◌, ◌<◌, ◌^◌, ℕ, Bool, true, false, List, [], ◌∷◌, ◌++◌, length, map, codes, Result, Ok, Err, is_ok, OnOk, if◌then◌else◌, refl, sym, ap, ◌∙◌, subst, inl, arith, IsTrue}
+use Rattle.std.proofs.Common.{◌≡◌, ◌<◌, ◌^◌, ℕ, Bool, true, false, List, [], ◌∷◌, ◌++◌, length, map, codes, Result, Ok, Err, is_ok, OnOk, if◌then◌else◌, refl, sym, ap, ◌∙◌, subst, inl, append-nil, arith, IsTrue}
 use Rattle.std.proofs.lemmas.List.{length-map}
 use Rattle.std.proofs.lemmas.List.Elements.{All-map, All-weaker}
 use Rattle.std.specs.List.{All, AllZip, flat_map}
 use Rattle.std.proofs.lemmas.List.{append_cancel_left}
 use Rattle.cube_lex.proofs.WrittenTexts.{written-reading}
-use Rattle.cube_lex.specs.Written.{Spelling, IsWritten, Writes}
+use Rattle.cube_lex.specs.Lexeme.{Lexeme}
+use Rattle.cube_lex.specs.Written.{Spelling, spelling_of, IsWritten, Writes}
 use Rattle.dim_name.specs.Name.{is_name}
 use Rattle.grammar.specs.Grammar.{many}
+use Rattle.grammar.specs.Watch.{Passes}
 use Rattle.grammar.specs.Whole.{IsWholeText}
+use Rattle.grammar.proofs.Exact.{passes-append, passes_one}
+use Rattle.grammar.proofs.Spells.{split_at}
+use Rattle.dim_text.specs.Statement.{unit}
 use Rattle.dim_text.specs.Progress.{IsBuilt}
 use Rattle.cube_lex.specs.Written.{word_token, sign_token}
 use Rattle.dim_text.specs.Spelled.{whole_token}
@@ -18,15 +23,16 @@ use Rattle.model_text.specs.Gathering.{Nothing, Parts, Given, at, refused, gathe
 use Rattle.model_text.specs.Printed.{IsSameCube, IsSameScript, AreSameContents, IsTextOf, IsPrinted}
 use Rattle.model_text.specs.Spelled.{dim_spelled, opening_spelled, cube_spelled, script_spelled, contents_spelled}
 use Rattle.model_text.specs.Readers.Views.{IsValid}
-use Rattle.model_text.specs.Statement.{opening, dimension, model}
-use Rattle.model_text.specs.Watching.{Seen, no_parts, nothing_seen, watching}
+use Rattle.model_text.specs.Statement.{Piece, Version, Closing, number_of, version_number, closing, opening, dimension, model}
+use Rattle.model_text.specs.Statement as statement
+use Rattle.model_text.specs.Watching.{Seen, no_parts, nothing_seen, added, watching}
 use Rattle.model_text.specs.declared.fault.ModelTextFault.{ModelTextFault}
 use Rattle.model_text.specs.declared.fault.ModelTextCause.TheVariants as causes
 use Rattle.model_text.specs.declared.parts.CubeText.{CubeText}
 use Rattle.model_text.specs.declared.parts.ScriptText.{ScriptText}
-use Rattle.model_text.proofs.Going.{Goes, goes_piece, goes_both, goes_unit, goes_as}
+use Rattle.model_text.proofs.Going.{Goes, goes_behind, goes_both, goes_unit, goes_as}
 use Rattle.model_text.proofs.Again.{outside_of, into_closing, Dims, dims_seen, block_name, AreDims, dims_go, cubes_seen, cubes_go, scripts_seen, scripts_go}
-use Rattle.model_text.proofs.SpelledPieces.{version_spells, closing_spells}
+use Rattle.model_text.proofs.SpelledPieces.{IsOnLine, version_spells, closing_spells}
 
 -- the versions are small numbers
 small_version : (n : ℕ) → IsTrue (is_version n) → n < 2 ^ 31
@@ -35,17 +41,29 @@ small_version n known = grind (arith, known)
 abbrev no_dims : Dims
 no_dims = record { blocks = []; names = []; texts = [] }
 
-opening_goes : (version : ℕ) → IsTrue (is_version version) → Goes {E = Unit {0}} opening (opening_spelled version) nothing_seen (λ _. dims_seen version no_dims) (λ _. Unit {0})
-opening_goes version known =
-    let first : Parts = record { version = version; names = []; cubes = []; scripts = [] } in
-    goes_both {xs = word_token (codes "MODEL") ∷ whole_token version ∷ []} {ys = sign_token (codes ";") ∷ []}
-    (goes_unit (goes_piece {P = λ (_ : Unit {0}). Unit {0}} nothing_seen (λ _. at first Nothing) (λ u x h. inl h) (version_spells version (small_version version known))
-    (λ x (line, same). (tt, ap (gathered (at no_parts Nothing)) same ∙ taken (is_version version) version line known, tt))))
-    (λ _ _. goes_unit (goes_piece {P = λ (_ : Unit {0}). Unit {0}} (outside_of [] first Nothing) (λ _. at first Nothing) into_closing closing_spells
-    (λ x same. (tt, ap (gathered (at first Nothing)) same, tt)))) where
-      taken : (known : Bool) (n line : ℕ) → known ≡ true → ◌≡◌ {A = Result Given ModelTextFault} (if known then Ok (at (record no_parts { version = n }) Nothing) else refused line causes.WrongVersion) (Ok (at (record { version = n; names = []; cubes = []; scripts = [] }) Nothing))
-      taken true n line e = refl
-      taken false n line e = cc
+abbrev in_version : ℕ → Seen
+in_version version = dims_seen version no_dims
+
+version_passes : (version : ℕ) → IsTrue (is_version version) → (u : List Lexeme) (x : Piece) → statement.version u x → IsOnLine (λ line. Version line version) x → Passes watching nothing_seen u (in_version version)
+version_passes version known u x h (line, same) = passes_one watching nothing_seen (in_version version) u (inl (x, inl h, ap (added nothing_seen) (ap (gathered (at no_parts Nothing)) same ∙ taken (is_version version) version line known))) where
+  taken : (known : Bool) (n line : ℕ) → known ≡ true → ◌≡◌ {A = Result Given ModelTextFault} (if known then Ok (at (record no_parts { version = n }) Nothing) else refused line causes.WrongVersion) (Ok (at (record { version = n; names = []; cubes = []; scripts = [] }) Nothing))
+  taken true n line e = refl
+  taken false n line e = cc
+
+closing_passes : (version : ℕ) (v : List Lexeme) (y : Piece) → closing v y → y ≡ Closing → Passes watching (in_version version) v (in_version version)
+closing_passes version v y h same = passes_one watching (in_version version) (in_version version) v (inl (y, into_closing v y h, ap (added (in_version version)) (ap (gathered (in_version version).given) same)))
+
+-- the first statement, whose number is the version
+opening_goes : (version : ℕ) → IsTrue (is_version version) → (ts : List Lexeme) → map spelling_of ts ≡ opening_spelled version → opening ts version × Passes watching nothing_seen ts (in_version version)
+opening_goes version known ts is =
+    let (u, v, parts, front, back) = split_at ts (word_token (codes "MODEL") ∷ whole_token version ∷ []) (sign_token (codes ";") ∷ []) is in
+    let (x, h, first) = (version_spells version (small_version version known)).at u front in
+    let (y, k, second) = closing_spells.at v back in
+    let numbered : version_number u version = (u, [], x, sym (append-nil u), h, (refl, sym (ap number_of first.1))) in
+    let closed : unit closing v tt = (v, [], y, sym (append-nil v), k, (refl, refl)) in (
+      (u, v, version, parts, numbered, (v, [], tt, sym (append-nil v), closed, (refl, refl))),
+      subst (λ w. Passes watching nothing_seen w (in_version version)) (sym parts) (passes-append watching nothing_seen (in_version version) (in_version version) u v (version_passes version known u x h first) (closing_passes version v y k second)),
+    )
 
 -- the whole text: the blocks as they were built, the dimensions that they are, the cubes and the scripts
 record Whole : Type 0 where
@@ -80,8 +98,8 @@ model_goes contents is each =
     let named : All (λ name. IsTrue (is_name name)) names = All-map (λ name. IsTrue (is_name name)) block_name contents.dims (All-weaker IsValid (λ text. IsTrue (is_name (block_name text))) (λ text valid. valid.is_named) contents.dims each) in
     let counted : length contents.dims ≡ length names = sym (length-map contents.dims block_name) in
     let in_cubes : All (λ (c : CubeText). AreDimensions (length names) c.dims) contents.cubes = subst (λ k. All (λ (c : CubeText). AreDimensions k c.dims) contents.cubes) counted is.cube_dims in
-    goes_both {xs = opening_spelled n} {ys = dims_tokens ++ (cubes_tokens ++ scripts_tokens)} (opening_goes n is.known_version)
-    (λ _ _. goes_both {xs = dims_tokens} {ys = cubes_tokens ++ scripts_tokens} (goes_unit (named_dims_go contents is each))
+    goes_behind {xs = opening_spelled n} {ys = dims_tokens ++ (cubes_tokens ++ scripts_tokens)} n (opening_goes n is.known_version)
+    (goes_both {xs = dims_tokens} {ys = cubes_tokens ++ scripts_tokens} (goes_unit (named_dims_go contents is each))
     (λ dims are. goes_both {xs = cubes_tokens} {ys = scripts_tokens} (goes_unit (cubes_go dims.blocks n names contents.cubes named is.dims in_cubes is.cube_orders is.writable_cubes is.few_cubes is.cubes))
     (λ cubes same. goes_as (λ scripts equal. (
       record { dims = dims; cubes = cubes; scripts = scripts },

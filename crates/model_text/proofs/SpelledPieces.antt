@@ -1,5 +1,5 @@
 -- Each piece as it is written is read as that piece again, on its new line.
-use Rattle.std.proofs.Common.{◌≡◌, ◌<◌, ◌^◌, ℕ, List, [], ◌∷◌, ◌++◌, true, Option, Some, None, option_map, IfSome, ◌&&◌, refl, ap, ◌∙◌, length, codes, IsTrue, Bool, false, arith}
+use Rattle.std.proofs.Common.{◌≡◌, ◌<◌, ◌^◌, ℕ, List, [], ◌∷◌, ◌++◌, true, Option, Some, None, option_map, IfSome, ◌&&◌, ◌||◌, refl, ap, ◌∙◌, subst, inl, append-nil, length, codes, IsTrue, Bool, false, arith}
 use Rattle.std.proofs.lemmas.List.Elements.{All-nil, All-cons, All-head, All-tail}
 use Rattle.std.specs.List.{All, AllZip, flat_map}
 use Rattle.cube_lex.specs.Lexeme.{Lexeme}
@@ -7,16 +7,17 @@ use Rattle.cube_lex.specs.Quoted.{unquoted}
 use Rattle.cube_lex.specs.Written.{Spelling}
 use Rattle.cube_lex.proofs.Quotes.{unquoted-quoted}
 use Rattle.dim_name.specs.Name.{is_name}
+use Rattle.grammar.specs.Grammar.{Grammar, either}
 use Rattle.grammar.specs.Tokens.{is_text_kind, is_file, file, located}
 use Rattle.cube_lex.specs.Written.{word_token, sign_token, text_token}
 use Rattle.dim_text.specs.Spelled.{whole_token}
 use Rattle.grammar.proofs.Spells.{Spells, Picks, spells_done, spells_next, spells_both, spells_left, spells_right, spells_made, spells_many}
 use Rattle.dim_text.proofs.SpelledStatements.{picks_word, picks_sign, picks_name, picks_whole}
 use Rattle.grammar.specs.Lists.{next}
-use Rattle.model_text.specs.Spelled.{dimension_spelled, rules_spelled, rank_spelled, next_rank_spelled, ranks_spelled, position_spelled, next_position_spelled, positions_spelled, order_spelled, ending_spelled, cube_end_spelled}
-use Rattle.model_text.specs.Statement.{Piece, Version, Closing, DimensionWord, CubeWord, ScriptWord, QuotedText, CubeDimension, CubeEnd, version, closing, dimension_word, cube_word, script_word, naming, script_file, dimension_behind, rules, rank, rank_list, in_parentheses, position, position_list, auto, order_words, order, cube_end}
-use Rattle.model_text.specs.Orders.{is_auto, has_auto}
-use Rattle.model_text.specs.Writable.{IsNameText, IsFileText, IsWritableRank, IsWritableWord, IsWritableOrder}
+use Rattle.model_text.specs.Spelled.{dimension_spelled, rules_spelled, rank_spelled, next_rank_spelled, ranks_spelled, list_spelled, position_spelled, next_position_spelled, positions_spelled, order_spelled, ending_spelled, cube_end_spelled}
+use Rattle.model_text.specs.Statement.{Piece, only_if, Version, Closing, DimensionWord, CubeWord, ScriptWord, QuotedText, CubeDimension, CubeEnd, version, closing, dimension_word, cube_word, script_word, naming, script_file, dimension_behind, rules, rank, rank_list, in_parentheses, given_ranks, position, position_list, auto, order_words, order, cube_end}
+use Rattle.model_text.specs.Orders.{is_auto, has_auto, is_by_kind, has_kinds}
+use Rattle.model_text.specs.Writable.{IsNameText, IsFileText, IsWritableRank, IsWritableList, IsWritableWord, IsWritableOrder}
 use Rattle.model_text.specs.declared.order.OrderLine.{OrderLine}
 use Rattle.model_text.specs.declared.order.OrderWord.{OrderWord}
 use Rattle.model_text.specs.declared.order.OrderWord.TheVariants as words
@@ -97,36 +98,58 @@ rank_list_spells (first ∷ rest) some all = spells_both {xs = rank_spelled firs
     (λ head same. spells_made (λ more. head ∷ more) (spells_many next_rank_spelled IsWritableRank (λ r x. x ≡ r) next_rank_spells rest (All-tail IsWritableRank first rest all))
     (λ more zip. ap (λ x. x ∷ more) same ∙ ap (λ xs. first ∷ xs) (same_list rest more zip)))
 
-listed_spells : (shown head : List ℕ) (list : List (List ℕ × ℕ)) → head ≡ shown → 0 < length list → All IsWritableRank list
-    → Spells (in_parentheses head) (sign_token (codes "(") ∷ (ranks_spelled list ++ sign_token (codes ")") ∷ [])) (λ x. x ≡ words.Ranks shown list)
-listed_spells shown head list same some all = spells_next (picks_sign (codes "(")) (λ _ _. spells_both {xs = ranks_spelled list} {ys = sign_token (codes ")") ∷ []} (rank_list_spells list some all)
-    (λ more equal. spells_next (picks_sign (codes ")")) (λ _ _. spells_done (words.Ranks head more) (ap (λ x. words.Ranks x more) same ∙ ap (words.Ranks shown) equal))))
+in_parentheses_spells : (list : List (List ℕ × ℕ)) → IsWritableList list → Spells in_parentheses (list_spelled list) (λ x. x ≡ list)
+in_parentheses_spells list (some, all) = spells_next (picks_sign (codes "(")) (λ _ _. spells_both {xs = ranks_spelled list} {ys = sign_token (codes ")") ∷ []} (rank_list_spells list some all)
+    (λ more equal. spells_next (picks_sign (codes ")")) (λ _ _. spells_done more equal)))
 
--- a word that is a position
-abbrev IsWritablePosition : OrderWord → Type 0
-IsWritablePosition p = IsWritableWord p × (is_auto p ≡ false)
+spells_allowed : {A : Type 0} {G H : Grammar Lexeme A} {allowed : Bool} {tokens : List Spelling} {P : A → Type 0} → IsTrue allowed → Spells G tokens P → Spells (either (only_if allowed G) H) tokens P
+spells_allowed can g = record { at = λ ts e. (let (a, h, p) = g.at ts e in (a, inl (can, h), p)) }
 
-position_spells : (p : OrderWord) → IsWritablePosition p → Spells position (position_spelled p) (λ x. x ≡ p)
-position_spells (words.Constant n) (is, none) = spells_left (spells_next (picks_whole n is) (λ m same. spells_done (words.Constant m) (ap words.Constant same)))
-position_spells (words.Index shown) (is, none) = spells_right (spells_next (picks_name shown is.0) (λ head same. spells_right (spells_done (words.Index head) (ap words.Index same))))
-position_spells (words.Ranks shown list) (is, none) = spells_right (spells_next (picks_name shown is.0.0) (λ head same. spells_left (listed_spells shown head list same is.1 is.2)))
-position_spells (words.Auto lag) (is, none) = cc
+-- the ranks of leaf cells alone
+listed_spells : (totals : Bool) (shown head : List ℕ) (list : List (List ℕ × ℕ)) → head ≡ shown → IsWritableList list
+    → Spells (given_ranks totals head) (list_spelled list) (λ x. x ≡ words.Ranks shown list)
+listed_spells totals shown head list same is = subst (λ tokens. Spells (given_ranks totals head) tokens (λ x. x ≡ words.Ranks shown list)) (append-nil (list_spelled list))
+    (spells_both {xs = list_spelled list} {ys = []} (in_parentheses_spells list is) (λ more equal. spells_right (spells_done (words.Ranks head more) (ap (λ x. words.Ranks x more) same ∙ ap (words.Ranks shown) equal))))
 
-next_position_spells : (p : OrderWord) → IsWritablePosition p → Spells (next position) (next_position_spelled p) (λ x. x ≡ p)
-next_position_spells p is = spells_next (picks_sign (codes ",")) (λ _ _. position_spells p is)
+-- and those of consolidated cells behind them
+by_kind_spells : (totals : Bool) (shown head : List ℕ) (leaves others : List (List ℕ × ℕ)) → IsTrue totals → head ≡ shown → IsWritableList leaves → IsWritableList others
+    → Spells (given_ranks totals head) (list_spelled leaves ++ word_token (codes "TOTALS") ∷ list_spelled others) (λ x. x ≡ words.RanksByKind shown leaves others)
+by_kind_spells totals shown head leaves others can same is more = spells_both {xs = list_spelled leaves} {ys = word_token (codes "TOTALS") ∷ list_spelled others} (in_parentheses_spells leaves is)
+    (λ before equal. spells_allowed can (spells_next (picks_word (codes "TOTALS")) (λ _ _. spells_made (λ list. words.RanksByKind head before list) (in_parentheses_spells others more)
+    (λ list also. ap (λ x. words.RanksByKind x before list) same ∙ ap (λ x. words.RanksByKind shown x list) equal ∙ ap (words.RanksByKind shown leaves) also))))
 
-position_list_spells : (list : List OrderWord) → 0 < length list → All IsWritablePosition list → Spells position_list (positions_spelled list) (λ x. x ≡ list)
-position_list_spells [] some all = absurd (omega (arith, some))
-position_list_spells (first ∷ rest) some all = spells_both {xs = position_spelled first} {ys = flat_map next_position_spelled rest} (position_spells first (All-head IsWritablePosition first rest all))
-    (λ head same. spells_made (λ more. head ∷ more) (spells_many next_position_spelled IsWritablePosition (λ p x. x ≡ p) next_position_spells rest (All-tail IsWritablePosition first rest all))
+-- a word that is a position, and that may stand there
+abbrev IsWritablePosition : Bool → OrderWord → Type 0
+IsWritablePosition totals p = IsWritableWord p × (is_auto p ≡ false) × (IsTrue (is_by_kind p) → IsTrue totals)
+
+position_spells : (totals : Bool) (p : OrderWord) → IsWritablePosition totals p → Spells (position totals) (position_spelled p) (λ x. x ≡ p)
+position_spells totals (words.Constant n) (is, none, can) = spells_right (spells_left (spells_next (picks_whole n is) (λ m same. spells_done (words.Constant m) (ap words.Constant same))))
+position_spells totals (words.Index shown) (is, none, can) = spells_right (spells_right (spells_next (picks_name shown is.0) (λ head same. spells_right (spells_done (words.Index head) (ap words.Index same)))))
+position_spells totals (words.Ranks shown list) (is, none, can) = spells_right (spells_right (spells_next (picks_name shown is.0.0) (λ head same. spells_left (listed_spells totals shown head list same is.1))))
+position_spells totals (words.RanksByKind shown leaves others) (is, none, can) = spells_right (spells_right (spells_next (picks_name shown is.0.0) (λ head same. spells_left (by_kind_spells totals shown head leaves others (can refl) same is.1 is.2))))
+position_spells totals words.Totals (is, none, can) = spells_allowed (can refl) (spells_next (picks_word (codes "TOTALS")) (λ _ _. spells_done words.Totals refl))
+position_spells totals (words.Auto lag) (is, none, can) = cc
+
+next_position_spells : (totals : Bool) (p : OrderWord) → IsWritablePosition totals p → Spells (next (position totals)) (next_position_spelled p) (λ x. x ≡ p)
+next_position_spells totals p is = spells_next (picks_sign (codes ",")) (λ _ _. position_spells totals p is)
+
+position_list_spells : (totals : Bool) (list : List OrderWord) → 0 < length list → All (IsWritablePosition totals) list → Spells (position_list totals) (positions_spelled list) (λ x. x ≡ list)
+position_list_spells totals [] some all = absurd (omega (arith, some))
+position_list_spells totals (first ∷ rest) some all = spells_both {xs = position_spelled first} {ys = flat_map next_position_spelled rest} (position_spells totals first (All-head (IsWritablePosition totals) first rest all))
+    (λ head same. spells_made (λ more. head ∷ more) (spells_many next_position_spelled (IsWritablePosition totals) (λ p x. x ≡ p) (next_position_spells totals) rest (All-tail (IsWritablePosition totals) first rest all))
     (λ more zip. ap (λ x. x ∷ more) same ∙ ap (λ xs. first ∷ xs) (same_list rest more zip)))
 
+or_right : (b c : Bool) → c ≡ true → (b || c) ≡ true
+or_right true c e = refl
+or_right false c e = e
+
 -- where no word is `AUTO`, they are positions
-are_positions : (list : List OrderWord) → All IsWritableWord list → has_auto list ≡ false → All IsWritablePosition list
-are_positions [] all none = All-nil IsWritablePosition
-are_positions (x ∷ rest) all none =
+are_positions : (totals : Bool) (list : List OrderWord) → All IsWritableWord list → has_auto list ≡ false → (IsTrue (has_kinds list) → IsTrue totals) → All (IsWritablePosition totals) list
+are_positions totals [] all none can = All-nil (IsWritablePosition totals)
+are_positions totals (x ∷ rest) all none can =
     let (first, others) = or_parts (is_auto x) (has_auto rest) none in
-    All-cons IsWritablePosition x rest (All-head IsWritableWord x rest all, first) (are_positions rest (All-tail IsWritableWord x rest all) others)
+    All-cons (IsWritablePosition totals) x rest (All-head IsWritableWord x rest all, first, λ is. can (ap (λ b. b || has_kinds rest) is))
+    (are_positions totals rest (All-tail IsWritableWord x rest all) others (λ has. can (or_right (is_by_kind x) (has_kinds rest) has)))
 
 auto_spells : (lag : Option (List ℕ)) → IfSome lag IsNameText → Spells auto (position_spelled (words.Auto lag)) (λ x. x ≡ words.Auto lag ∷ [])
 auto_spells None is = spells_next (picks_word (codes "AUTO")) (λ _ _. spells_made (λ l. words.Auto l ∷ []) (spells_right (spells_done None refl)) (λ l same. ap (λ m. words.Auto m ∷ []) same))
@@ -140,23 +163,29 @@ alone_spells (x ∷ y ∷ rest) has one all = absurd (omega (arith, one))
 alone_spells (words.Constant n ∷ []) has one all = cc
 alone_spells (words.Index shown ∷ []) has one all = cc
 alone_spells (words.Ranks shown list ∷ []) has one all = cc
+alone_spells (words.RanksByKind shown leaves others ∷ []) has one all = cc
+alone_spells (words.Totals ∷ []) has one all = cc
 alone_spells (words.Auto None ∷ []) has one all = auto_spells None tt
 alone_spells (words.Auto (Some shown) ∷ []) has one all = auto_spells (Some shown) (All-head IsWritableWord (words.Auto (Some shown)) [] all)
 
-order_words_spells : (list : List OrderWord) → IsWritableOrder list → Spells order_words (positions_spelled list) (λ x. x ≡ list)
-order_words_spells list is = by (has_auto list) refl
+order_words_spells : (totals : Bool) (list : List OrderWord) → IsWritableOrder list → (IsTrue (has_kinds list) → IsTrue totals) → Spells (order_words totals) (positions_spelled list) (λ x. x ≡ list)
+order_words_spells totals list is can = by (has_auto list) refl
   where
-    by : (b : Bool) → has_auto list ≡ b → Spells order_words (positions_spelled list) (λ x. x ≡ list)
+    by : (b : Bool) → has_auto list ≡ b → Spells (order_words totals) (positions_spelled list) (λ x. x ≡ list)
     by true has = spells_left (alone_spells list has (is.auto_alone has) is.each)
-    by false none = spells_right (position_list_spells list is.some (are_positions list is.each none))
+    by false none = spells_right (position_list_spells totals list is.some (are_positions totals list is.each none can))
 
 -- the words of this order line, whatever the line of its first word
 abbrev pub HasPositions : Option (ℕ × OrderLine) → Option (ℕ × List OrderWord) → Type 0
 HasPositions o again = option_map (λ a. a.1) again ≡ option_map (λ a. a.1.words) o
 
-order_spells : (o : Option (ℕ × OrderLine)) → IfSome o (λ x. IsWritableOrder x.1.words) → Spells order (order_spelled o) (HasPositions o)
-order_spells None is = spells_right (spells_done None refl)
-order_spells (Some o) is = spells_left (spells_next (picks_word (codes "ORDER")) (λ line _. spells_both {xs = positions_spelled o.1.words} {ys = sign_token (codes ";") ∷ []} (order_words_spells o.1.words is)
+-- what tells leaf cells and consolidated cells apart may stand in it
+abbrev pub MayStand : Bool → Option (ℕ × OrderLine) → Type 0
+MayStand totals o = IfSome o (λ x. IsTrue (has_kinds x.1.words) → IsTrue totals)
+
+order_spells : (totals : Bool) (o : Option (ℕ × OrderLine)) → IfSome o (λ x. IsWritableOrder x.1.words) → MayStand totals o → Spells (order totals) (order_spelled o) (HasPositions o)
+order_spells totals None is can = spells_right (spells_done None refl)
+order_spells totals (Some o) is can = spells_left (spells_next (picks_word (codes "ORDER")) (λ line _. spells_both {xs = positions_spelled o.1.words} {ys = sign_token (codes ";") ∷ []} (order_words_spells totals o.1.words is can)
     (λ list same. spells_next (picks_sign (codes ";")) (λ _ _. spells_done (Some (line, list)) (ap (λ x. Some x) same)))))
 
 -- The end of a cube.
@@ -169,8 +198,8 @@ pub record IsEnd (r : Option (ℕ × List ℕ)) (o : Option (ℕ × OrderLine)) 
   pub r_same : IsSameBehind r r_again
   pub o_same : HasPositions o o_again
 
-pub cube_end_spells : (r : Option (ℕ × List ℕ)) (o : Option (ℕ × OrderLine)) → IfSome r (λ x. IsFileText x.1) → IfSome o (λ x. IsWritableOrder x.1.words) → Spells cube_end (cube_end_spelled r o) (IsEnd r o)
-cube_end_spells r o r_is o_is = spells_next (picks_sign (codes ")")) (λ _ _. spells_next (picks_sign (codes ";")) (λ _ _. spells_both {xs = rules_spelled r} {ys = order_spelled o ++ ending_spelled} (rules_spells r r_is)
-    (λ r_again r_same. spells_both {xs = order_spelled o} {ys = ending_spelled} (order_spells o o_is)
+pub cube_end_spells : (totals : Bool) (r : Option (ℕ × List ℕ)) (o : Option (ℕ × OrderLine)) → IfSome r (λ x. IsFileText x.1) → IfSome o (λ x. IsWritableOrder x.1.words) → MayStand totals o → Spells (cube_end totals) (cube_end_spelled r o) (IsEnd r o)
+cube_end_spells totals r o r_is o_is can = spells_next (picks_sign (codes ")")) (λ _ _. spells_next (picks_sign (codes ";")) (λ _ _. spells_both {xs = rules_spelled r} {ys = order_spelled o ++ ending_spelled} (rules_spells r r_is)
+    (λ r_again r_same. spells_both {xs = order_spelled o} {ys = ending_spelled} (order_spells totals o o_is can)
     (λ o_again o_same. spells_next (picks_word (codes "END")) (λ _ _. spells_next (picks_sign (codes ";"))
     (λ _ _. spells_done (CubeEnd r_again o_again) (record { r_again = r_again; o_again = o_again; is = refl; r_same = r_same; o_same = o_same })))))))

@@ -7,7 +7,7 @@ use Rattle.cube_lex.specs.Lexed.{Lexed}
 use Rattle.cube_lex.specs.Lexeme.{Lexeme}
 use Rattle.cube_lex.specs.Reading.{IsReading}
 use Rattle.cube_lex.specs.declared.fault.LexFault.{LexFault}
-use Rattle.grammar.specs.Reading.{bound, both_of, inside_result}
+use Rattle.grammar.specs.Reading.{Reader, bound, both_of, inside_result}
 use Rattle.grammar.specs.Whole.{IsWholeText, IsWholeRefused, answer_of_text}
 use Rattle.grammar.specs.declared.stop.Stop.{Stop}
 use Rattle.grammar.specs.declared.stop.Stop.TheVariants as stops
@@ -18,7 +18,7 @@ use Rattle.dim_name.specs.Name.{is_same_name, place_of}
 use Rattle.model_text.specs.Answers.{IsModelText, IsFault}
 use Rattle.model_text.specs.Contents.{Contents, IsContents, is_version, AreDimensions, IsOrderedIn, dimension_names}
 use Rattle.model_text.specs.Gathering.{Current, Nothing, DimensionDue, CubeDue, ScriptDue, DimensionOpen, CubeOpen, ScriptOpen, DimensionBody, ScriptWhole, Parts, Given, at, refused, unless, dimensions_are_full, cubes_are_full, scripts_are_full, has_dimension, has_cube, has_script, with_text, with_dimension, gathered}
-use Rattle.model_text.specs.Statement.{Piece, Version, Closing, DimensionWord, CubeWord, ScriptWord, QuotedText, CubeDimension, CubeEnd, model}
+use Rattle.model_text.specs.Statement.{Piece, Version, Closing, DimensionWord, CubeWord, ScriptWord, QuotedText, CubeDimension, CubeEnd, has_totals, model}
 use Rattle.model_text.specs.Watching.{Seen, with_given, no_parts, nothing_seen, added, watching}
 use Rattle.model_text.specs.Readers.Reading.{outside, read_opening, read_dimensions, read_cubes, read_scripts, read_model}
 use Rattle.model_text.specs.Readers.Views.{Stops, GivesBlocks, seen, fault_from}
@@ -33,31 +33,41 @@ use Rattle.model_text.proofs.Stopping.{stops_bound, stops_outside}
 
 -- The parts, one after the other.
 
-pub opening_read : (ts rest : List Lexeme) (w : Parts) → read_opening (at no_parts Nothing) ts ≡ Ok (tt, at w Nothing, rest) → read_model nothing_seen ts ≡ bound (read_dimensions (seen [] w) rest) (λ _. both_of (outside read_cubes) (λ _. outside read_scripts))
+-- behind the opening, in a text of this version
+abbrev behind_opening : ℕ → Reader Lexeme Seen ModelTextFault (Unit {0})
+behind_opening number = both_of read_dimensions (λ _. both_of (outside (read_cubes (has_totals number))) (λ _. outside read_scripts))
+
+-- behind the dimensions
+abbrev behind_dimensions : ℕ → Reader Lexeme Seen ModelTextFault (Unit {0})
+behind_dimensions number = both_of (outside (read_cubes (has_totals number))) (λ _. outside read_scripts)
+
+pub opening_read : (ts rest : List Lexeme) (w : Parts) → read_opening (at no_parts Nothing) ts ≡ Ok (w.version, at w Nothing, rest) → read_model nothing_seen ts ≡ bound (read_dimensions (seen [] w) rest) (λ _. behind_dimensions w.version)
 unfolding read_model
-opening_read ts rest w e = ap (λ r. bound (inside_result (with_given nothing_seen) (λ fault. fault) r) (λ _. both_of read_dimensions (λ _. both_of (outside read_cubes) (λ _. outside read_scripts)))) e
+opening_read ts rest w e = ap (λ r. bound (inside_result (with_given nothing_seen) (λ fault. fault) r) behind_opening) e
 
 pub opening_stops : (ts : List Lexeme) (stop : Stop ModelTextFault) → Stops stop (read_opening (at no_parts Nothing) ts) → Stops stop (read_model nothing_seen ts)
 unfolding read_model
-opening_stops ts stop e = stops_bound stop _ (λ _. both_of read_dimensions (λ _. both_of (outside read_cubes) (λ _. outside read_scripts))) (stops_outside nothing_seen stop (read_opening (at no_parts Nothing) ts) e)
+opening_stops ts stop e = stops_bound stop _ behind_opening (stops_outside nothing_seen stop (read_opening (at no_parts Nothing) ts) e)
 
-pub dimensions_stop : (ts rest : List Lexeme) (w : Parts) (stop : Stop ModelTextFault) → read_opening (at no_parts Nothing) ts ≡ Ok (tt, at w Nothing, rest) → Stops stop (read_dimensions (seen [] w) rest) → Stops stop (read_model nothing_seen ts)
-dimensions_stop ts rest w stop opened e = subst (Stops stop) (sym (opening_read ts rest w opened)) (stops_bound stop (read_dimensions (seen [] w) rest) (λ _. both_of (outside read_cubes) (λ _. outside read_scripts)) e)
+pub dimensions_stop : (ts rest : List Lexeme) (w : Parts) (stop : Stop ModelTextFault) → read_opening (at no_parts Nothing) ts ≡ Ok (w.version, at w Nothing, rest) → Stops stop (read_dimensions (seen [] w) rest) → Stops stop (read_model nothing_seen ts)
+dimensions_stop ts rest w stop opened e = subst (Stops stop) (sym (opening_read ts rest w opened)) (stops_bound stop (read_dimensions (seen [] w) rest) (λ _. behind_dimensions w.version) e)
 
-pub dimensions_read : (ts rest left : List Lexeme) (w v : Parts) (blocks : List Progress) → read_opening (at no_parts Nothing) ts ≡ Ok (tt, at w Nothing, rest) → read_dimensions (seen [] w) rest ≡ Ok (tt, seen blocks v, left) → read_model nothing_seen ts ≡ bound (inside_result (with_given (seen blocks v)) (λ fault. fault) (read_cubes (at v Nothing) left)) (λ _. outside read_scripts)
-dimensions_read ts rest left w v blocks opened e = opening_read ts rest w opened ∙ ap (λ r. bound r (λ _. both_of (outside read_cubes) (λ _. outside read_scripts))) e
+-- The version stays the same.
+module _ (ts rest left : List Lexeme) (w v : Parts) (blocks : List Progress) (opened : read_opening (at no_parts Nothing) ts ≡ Ok (w.version, at w Nothing, rest)) (dims : read_dimensions (seen [] w) rest ≡ Ok (tt, seen blocks v, left)) (same : v.version ≡ w.version) where
+  pub dimensions_read : read_model nothing_seen ts ≡ bound (inside_result (with_given (seen blocks v)) (λ fault. fault) (read_cubes (has_totals v.version) (at v Nothing) left)) (λ _. outside read_scripts)
+  dimensions_read = opening_read ts rest w opened ∙ ap (λ r. bound r (λ _. behind_dimensions w.version)) dims ∙ ap (λ n. behind_dimensions n (seen blocks v) left) (sym same)
 
-pub cubes_stop : (ts rest left : List Lexeme) (w v : Parts) (blocks : List Progress) (stop : Stop ModelTextFault) → read_opening (at no_parts Nothing) ts ≡ Ok (tt, at w Nothing, rest) → read_dimensions (seen [] w) rest ≡ Ok (tt, seen blocks v, left) → Stops stop (read_cubes (at v Nothing) left) → Stops stop (read_model nothing_seen ts)
-cubes_stop ts rest left w v blocks stop opened dims e = subst (Stops stop) (sym (dimensions_read ts rest left w v blocks opened dims)) (stops_bound stop _ (λ _. outside read_scripts) (stops_outside (seen blocks v) stop (read_cubes (at v Nothing) left) e))
+  pub cubes_stop : (stop : Stop ModelTextFault) → Stops stop (read_cubes (has_totals v.version) (at v Nothing) left) → Stops stop (read_model nothing_seen ts)
+  cubes_stop stop e = subst (Stops stop) (sym dimensions_read) (stops_bound stop _ (λ _. outside read_scripts) (stops_outside (seen blocks v) stop (read_cubes (has_totals v.version) (at v Nothing) left) e))
 
-pub cubes_read : (ts rest left more : List Lexeme) (w v u : Parts) (blocks : List Progress) → read_opening (at no_parts Nothing) ts ≡ Ok (tt, at w Nothing, rest) → read_dimensions (seen [] w) rest ≡ Ok (tt, seen blocks v, left) → read_cubes (at v Nothing) left ≡ Ok (tt, at u Nothing, more) → read_model nothing_seen ts ≡ inside_result (with_given (seen blocks u)) (λ fault. fault) (read_scripts (at u Nothing) more)
-cubes_read ts rest left more w v u blocks opened dims e = dimensions_read ts rest left w v blocks opened dims ∙ ap (λ r. bound (inside_result (with_given (seen blocks v)) (λ fault. fault) r) (λ _. outside read_scripts)) e
+  pub cubes_read : (more : List Lexeme) (u : Parts) → read_cubes (has_totals v.version) (at v Nothing) left ≡ Ok (tt, at u Nothing, more) → read_model nothing_seen ts ≡ inside_result (with_given (seen blocks u)) (λ fault. fault) (read_scripts (at u Nothing) more)
+  cubes_read more u e = dimensions_read ∙ ap (λ r. bound (inside_result (with_given (seen blocks v)) (λ fault. fault) r) (λ _. outside read_scripts)) e
 
-pub scripts_stop : (ts rest left more : List Lexeme) (w v u : Parts) (blocks : List Progress) (stop : Stop ModelTextFault) → read_opening (at no_parts Nothing) ts ≡ Ok (tt, at w Nothing, rest) → read_dimensions (seen [] w) rest ≡ Ok (tt, seen blocks v, left) → read_cubes (at v Nothing) left ≡ Ok (tt, at u Nothing, more) → Stops stop (read_scripts (at u Nothing) more) → Stops stop (read_model nothing_seen ts)
-scripts_stop ts rest left more w v u blocks stop opened dims cubes e = subst (Stops stop) (sym (cubes_read ts rest left more w v u blocks opened dims cubes)) (stops_outside (seen blocks u) stop (read_scripts (at u Nothing) more) e)
+  pub scripts_stop : (more : List Lexeme) (u : Parts) (stop : Stop ModelTextFault) → read_cubes (has_totals v.version) (at v Nothing) left ≡ Ok (tt, at u Nothing, more) → Stops stop (read_scripts (at u Nothing) more) → Stops stop (read_model nothing_seen ts)
+  scripts_stop more u stop cubes e = subst (Stops stop) (sym (cubes_read more u cubes)) (stops_outside (seen blocks u) stop (read_scripts (at u Nothing) more) e)
 
-pub scripts_read : (ts rest left more last : List Lexeme) (w v u x : Parts) (blocks : List Progress) → read_opening (at no_parts Nothing) ts ≡ Ok (tt, at w Nothing, rest) → read_dimensions (seen [] w) rest ≡ Ok (tt, seen blocks v, left) → read_cubes (at v Nothing) left ≡ Ok (tt, at u Nothing, more) → read_scripts (at u Nothing) more ≡ Ok (tt, at x Nothing, last) → read_model nothing_seen ts ≡ Ok (tt, seen blocks x, last)
-scripts_read ts rest left more last w v u x blocks opened dims cubes e = cubes_read ts rest left more w v u blocks opened dims cubes ∙ ap (inside_result (with_given (seen blocks u)) (λ fault. fault)) e
+  pub scripts_read : (more last : List Lexeme) (u x : Parts) → read_cubes (has_totals v.version) (at v Nothing) left ≡ Ok (tt, at u Nothing, more) → read_scripts (at u Nothing) more ≡ Ok (tt, at x Nothing, last) → read_model nothing_seen ts ≡ Ok (tt, seen blocks x, last)
+  scripts_read more last u x cubes e = cubes_read more u cubes ∙ ap (inside_result (with_given (seen blocks u)) (λ fault. fault)) e
 
 -- What the watch refuses is neither Syntax nor Memory.
 

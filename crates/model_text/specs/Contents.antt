@@ -3,6 +3,8 @@ use Rattle.std.specs.Prelude.{◌≡◌, ℕ, ◌<◌, ◌≤◌, ◌==◌, ◌|
 use Rattle.std.specs.List.{IsDistinct}
 use Rattle.dim_name.specs.Name.{is_same_name}
 use Rattle.dim_text.specs.Progress.{Text}
+use Rattle.model_text.specs.Orders.{has_kinds}
+use Rattle.model_text.specs.declared.order.OrderLine.{OrderLine}
 use Rattle.model_text.specs.declared.parts.CubeText.{CubeText}
 use Rattle.model_text.specs.declared.parts.ScriptText.{ScriptText}
 use Rattle.model_text.specs.Writable.{IsWritableCube, IsWritableScript}
@@ -46,9 +48,14 @@ pub record AreDimensions (count : ℕ) (numbers : List ℕ) : Type 0 where
   pub there : All (λ number. number < count) numbers
   pub distinct : IsDistinct nat_eq numbers
 
+-- an order line in a text of this version: only in version 2 it may tell leaf cells and consolidated cells apart
+pub record IsLineIn (number : ℕ) (line : OrderLine) : Type 0 where
+  pub version : line.version ≡ number
+  pub kinds : IsTrue (has_kinds line.words) → number ≡ 2
+
 -- the order line of a cube, where it has one, stands in a text of this version
 abbrev pub IsOrderedIn : ℕ → CubeText → Type 0
-IsOrderedIn version cube = IfSome cube.order (λ order. order.1.version ≡ version)
+IsOrderedIn version cube = IfSome cube.order (λ order. IsLineIn version order.1)
 
 -- what holds of every model text that is read
 pub record IsContents (contents : Contents) : Type 0 where

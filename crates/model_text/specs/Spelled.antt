@@ -53,11 +53,17 @@ abbrev pub ranks_spelled : List (List ℕ × ℕ) → List Spelling
 ranks_spelled [] = []
 ranks_spelled (first ∷ rest) = rank_spelled first ++ flat_map next_rank_spelled rest
 
+-- ranks in parentheses
+abbrev pub list_spelled : List (List ℕ × ℕ) → List Spelling
+list_spelled list = sign_token (codes "(") ∷ (ranks_spelled list ++ sign_token (codes ")") ∷ [])
+
 abbrev pub position_spelled : OrderWord → List Spelling
 position_spelled (words.Constant n) = whole_token n ∷ []
 position_spelled (words.Index shown) = text_token shown ∷ []
-position_spelled (words.Ranks shown list) =
-    text_token shown ∷ sign_token (codes "(") ∷ (ranks_spelled list ++ sign_token (codes ")") ∷ [])
+position_spelled (words.Ranks shown list) = text_token shown ∷ list_spelled list
+position_spelled (words.RanksByKind shown leaves totals) =
+    text_token shown ∷ (list_spelled leaves ++ word_token (codes "TOTALS") ∷ list_spelled totals)
+position_spelled words.Totals = word_token (codes "TOTALS") ∷ []
 position_spelled (words.Auto None) = word_token (codes "AUTO") ∷ []
 position_spelled (words.Auto (Some shown)) = word_token (codes "AUTO") ∷ text_token shown ∷ []
 

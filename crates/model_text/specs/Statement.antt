@@ -1,5 +1,5 @@
 -- The grammar of a model text. Its pieces are those by which it is watched: each ends where something may be refused.
-use Rattle.std.specs.Prelude.{ℕ, List, [], ◌∷◌, Option, Some, None, codes}
+use Rattle.std.specs.Prelude.{ℕ, Bool, true, ◌==◌, IsTrue, List, [], ◌∷◌, Option, Some, None, codes}
 use Rattle.cube_lex.specs.Lexeme.{Lexeme}
 use Rattle.grammar.specs.Grammar.{Grammar, done, one, either, many, ◌>>=◌, ◌>>◌}
 use Rattle.grammar.specs.Lists.{listed}
@@ -100,16 +100,41 @@ abbrev pub rank_list : Grammar Lexeme (List (List ℕ × ℕ))
 rank_list = listed rank rank
 
 -- "(" name whole { "," name whole } ")"
-abbrev pub in_parentheses : List ℕ → Grammar Lexeme OrderWord
-in_parentheses shown = do
+abbrev pub in_parentheses : Grammar Lexeme (List (List ℕ × ℕ))
+in_parentheses = do
   one (sign (codes "("))
   list ← rank_list
   one (sign (codes ")"))
-  done (words.Ranks shown list)
+  done list
 
--- [ "(" name whole { "," name whole } ")" ]
-abbrev pub ranks : List ℕ → Grammar Lexeme OrderWord
-ranks shown = either (in_parentheses shown) (done (words.Index shown))
+-- the word `TOTALS` may stand in texts of version 2
+abbrev pub has_totals : ℕ → Bool
+has_totals version = version == 2
+
+-- a text of G, where it may stand
+abbrev pub only_if : {A : Type 0} → Bool → Grammar Lexeme A → Grammar Lexeme A
+only_if allowed G ts a = IsTrue allowed × G ts a
+
+-- "TOTALS" "(" name whole { "," name whole } ")"
+abbrev pub total_ranks : List ℕ → List (List ℕ × ℕ) → Grammar Lexeme OrderWord
+total_ranks shown leaves = do
+  one (word (codes "TOTALS"))
+  totals ← in_parentheses
+  done (words.RanksByKind shown leaves totals)
+
+-- [ "TOTALS" "(" name whole { "," name whole } ")" ]
+abbrev pub behind_ranks : Bool → List ℕ → List (List ℕ × ℕ) → Grammar Lexeme OrderWord
+behind_ranks totals shown leaves = either (only_if totals (total_ranks shown leaves)) (done (words.Ranks shown leaves))
+
+-- "(" name whole { "," name whole } ")" [ "TOTALS" "(" name whole { "," name whole } ")" ]
+abbrev pub given_ranks : Bool → List ℕ → Grammar Lexeme OrderWord
+given_ranks totals shown = do
+  leaves ← in_parentheses
+  behind_ranks totals shown leaves
+
+-- [ "(" name whole { "," name whole } ")" [ "TOTALS" "(" name whole { "," name whole } ")" ] ]
+abbrev pub ranks : Bool → List ℕ → Grammar Lexeme OrderWord
+ranks totals shown = either (given_ranks totals shown) (done (words.Index shown))
 
 -- whole
 abbrev pub constant : Grammar Lexeme OrderWord
@@ -117,18 +142,25 @@ constant = do
   n ← one whole
   done (words.Constant n)
 
--- name [ "(" name whole { "," name whole } ")" ]
-abbrev pub index : Grammar Lexeme OrderWord
-index = do
+-- name [ "(" name whole { "," name whole } ")" [ "TOTALS" "(" name whole { "," name whole } ")" ] ]
+abbrev pub index : Bool → Grammar Lexeme OrderWord
+index totals = do
   shown ← one name
-  ranks shown
+  ranks totals shown
 
-abbrev pub position : Grammar Lexeme OrderWord
-position = either constant index
+-- "TOTALS"
+abbrev pub cell_kind : Grammar Lexeme OrderWord
+cell_kind = do
+  one (word (codes "TOTALS"))
+  done words.Totals
+
+-- a position, with the word `TOTALS` or without
+abbrev pub position : Bool → Grammar Lexeme OrderWord
+position totals = either (only_if totals cell_kind) (either constant (index totals))
 
 -- position { "," position }
-abbrev pub position_list : Grammar Lexeme (List OrderWord)
-position_list = listed position position
+abbrev pub position_list : Bool → Grammar Lexeme (List OrderWord)
+position_list totals = listed (position totals) (position totals)
 
 -- name
 abbrev pub lag_name : Grammar Lexeme (Option (List ℕ))
@@ -148,28 +180,28 @@ auto = do
   done (words.Auto shown ∷ [])
 
 -- "AUTO" [ name ] | position { "," position }
-abbrev pub order_words : Grammar Lexeme (List OrderWord)
-order_words = either auto position_list
+abbrev pub order_words : Bool → Grammar Lexeme (List OrderWord)
+order_words totals = either auto (position_list totals)
 
 -- "ORDER" ( "AUTO" [ name ] | position { "," position } ) ";"
-abbrev pub order_line : Grammar Lexeme (Option (ℕ × List OrderWord))
-order_line = do
+abbrev pub order_line : Bool → Grammar Lexeme (Option (ℕ × List OrderWord))
+order_line totals = do
   line ← one (word (codes "ORDER"))
-  list ← order_words
+  list ← order_words totals
   one (sign (codes ";"))
   done (Some (line, list))
 
 -- [ "ORDER" ( "AUTO" [ name ] | position { "," position } ) ";" ]
-abbrev pub order : Grammar Lexeme (Option (ℕ × List OrderWord))
-order = either order_line (done None)
+abbrev pub order : Bool → Grammar Lexeme (Option (ℕ × List OrderWord))
+order totals = either (order_line totals) (done None)
 
 -- ")" ";" [ "RULES" file ";" ] [ "ORDER" ( "AUTO" [ name ] | position { "," position } ) ";" ] "END" ";"
-abbrev pub cube_end : Grammar Lexeme Piece
-cube_end = do
+abbrev pub cube_end : Bool → Grammar Lexeme Piece
+cube_end totals = do
   one (sign (codes ")"))
   one (sign (codes ";"))
   r ← rules
-  o ← order
+  o ← order totals
   one (word (codes "END"))
   one (sign (codes ";"))
   done (CubeEnd r o)
@@ -207,11 +239,11 @@ cube_dimensions = do
 
 -- "CUBE" name "(" name { "," name } ")" ";" [ "RULES" file ";" ]
 -- [ "ORDER" ( "AUTO" [ name ] | position { "," position } ) ";" ] "END" ";"
-abbrev pub cube : Grammar Lexeme (Unit {0})
-cube = do
+abbrev pub cube : Bool → Grammar Lexeme (Unit {0})
+cube totals = do
   cube_head
   cube_dimensions
-  unit cube_end
+  unit (cube_end totals)
 
 -- "SCRIPT" name file ";"
 abbrev pub script : Grammar Lexeme (Unit {0})
@@ -221,18 +253,30 @@ script = do
   unit script_file
   unit closing
 
+-- the number of the version
+abbrev pub number_of : Piece → ℕ
+number_of (Version line number) = number
+number_of other = 0
+
+-- "MODEL" whole
+abbrev pub version_number : Grammar Lexeme ℕ
+version_number = do
+  p ← version
+  done (number_of p)
+
 -- "MODEL" whole ";"
-abbrev pub opening : Grammar Lexeme (Unit {0})
+abbrev pub opening : Grammar Lexeme ℕ
 opening = do
-  unit version
+  number ← version_number
   unit closing
+  done number
 
 -- "MODEL" whole ";" { dimension } { cube } { script }
 abbrev pub model : Grammar Lexeme (Unit {0})
 model = do
-  opening
+  number ← opening
   unit (many dimension)
-  unit (many cube)
+  unit (many (cube (has_totals number)))
   unit (many script)
 
 -- a quoted text
@@ -242,7 +286,7 @@ shown_text = do
   done (QuotedText n.0 n.1)
 
 -- The pieces by which a model text is watched, outside of the bodies of its dimensions. Their first tokens differ, and
--- none begins another, so a text can be cut in one way only.
+-- none begins another, so a text can be cut in one way only. The end of a cube may have the words of any version.
 abbrev pub piece : Grammar Lexeme Piece
 piece = either version (either closing (either dimension_word (either cube_word (either script_word
-    (either shown_text (either first_dimension (either next_dimension cube_end)))))))
+    (either shown_text (either first_dimension (either next_dimension (cube_end true))))))))

@@ -20,10 +20,16 @@ IsFileText bytes = IsTrue (is_file bytes) × IsQuotable bytes
 abbrev pub IsWritableRank : List ℕ × ℕ → Type 0
 IsWritableRank rank = IsNameText rank.0 × (rank.1 < whole_end)
 
+abbrev pub IsWritableList : List (List ℕ × ℕ) → Type 0
+IsWritableList list = (0 < length list) × All IsWritableRank list
+
 abbrev pub IsWritableWord : OrderWord → Type 0
 IsWritableWord (words.Constant n) = n < whole_end
 IsWritableWord (words.Index shown) = IsNameText shown
-IsWritableWord (words.Ranks shown list) = IsNameText shown × (0 < length list) × All IsWritableRank list
+IsWritableWord (words.Ranks shown list) = IsNameText shown × IsWritableList list
+IsWritableWord (words.RanksByKind shown leaves totals) =
+    IsNameText shown × IsWritableList leaves × IsWritableList totals
+IsWritableWord words.Totals = Unit {0}
 IsWritableWord (words.Auto lag) = IfSome lag IsNameText
 
 -- the words of an order line: `AUTO` is the only word of its line

@@ -4,6 +4,7 @@ ghost use Rattle.cube_lex.specs.Lexed.{IsWellFormed};
 ghost use Rattle.dim_text.specs.Readers.Views.{ahead};
 ghost use Rattle.model_text.specs.Readers.Reading as reading;
 ghost use Rattle.model_text.specs.Gathering.{Nothing, CubeOpen};
+ghost use Rattle.model_text.specs.Statement.{has_totals};
 ghost use Rattle.model_text.specs.Readers.Views.{LeadsTo, Collects, GathersDimension, ReadsDimension, AreSame};
 ghost use Rattle.model_text.specs.Writable.{IsNameText};
 
@@ -128,12 +129,12 @@ pub fn cube_at(
     partial: &mut PartialModel,
 ) -> Result<(), Stop<ModelTextFault>>
     requires { All IsWellFormed (ahead cursor.old) }
-    ensures read { Collects reading.read_cube partial.old (λ _. partial.new) cursor.old result cursor.new }
+    ensures read { Collects (reading.read_cube (has_totals partial.old.version)) partial.old (λ _. partial.new) cursor.old result cursor.new }
     ensures same { OnOk result (AreSame partial.old partial.new) }
 {
     let (line, name) = head_at(alloc, cursor, partial)?;
     let dims = dimensions_at(alloc, cursor, partial)?;
-    let (rules, order) = cube_end_at(alloc, cursor)?;
+    let (rules, order) = cube_end_at(alloc, cursor, partial.has_totals())?;
     let dims = ListOf::new(dims);
     let order = order_of(partial.version(), order);
     partial.add_cube(CubeText {

@@ -20,12 +20,25 @@ impl OrderLine {
     {
         self.words.as_slice().iter().any(|word| is_auto(word))
     }
+
+    /// Whether one of its positions tells leaf cells and consolidated cells apart.
+    pub fn has_kinds(&self) -> bool
+        ensures { result ≡ orders.has_kinds self.now.words }
+    {
+        self.words.as_slice().iter().any(|word| is_by_kind(word))
+    }
 }
 
 fn is_auto(word: &OrderWord) -> bool
     ensures { result ≡ orders.is_auto word.now }
 {
     matches!(word, OrderWord::Auto(_))
+}
+
+fn is_by_kind(word: &OrderWord) -> bool
+    ensures { result ≡ orders.is_by_kind word.now }
+{
+    matches!(word, OrderWord::RanksByKind(..) | OrderWord::Totals)
 }
 
 /// One position of an order line, or the word that stands in place of all positions. Numbers are below 2^31.
@@ -37,6 +50,11 @@ pub enum OrderWord {
     Index(Name),
     /// Ranks of elements of this dimension; those that aren't listed have rank 0.
     Ranks(Name, ListOf<(Name, u32)>),
+    /// Ranks of elements of this dimension for leaf cells, and others for consolidated cells. Those that aren't listed
+    /// have rank 0.
+    RanksByKind(Name, ListOf<(Name, u32)>, ListOf<(Name, u32)>),
+    /// 0 for a leaf cell, 1 for a consolidated cell.
+    Totals,
     /// The order of the cube is to be found, behind the element's index in this dimension where one is named. It is
     /// the only word of its line.
     Auto(Option<Name>),

@@ -1,5 +1,7 @@
-ghost use Rattle.std.specs.Prelude.{◌≡◌, ◌∷◌, [], IfOk, codes};
+ghost use Rattle.std.specs.Prelude.{◌≡◌, ◌∷◌, ◌&&◌, [], IfOk, codes};
 ghost use Rattle.grammar.specs.Cursor.{Reads};
+ghost use Rattle.grammar.specs.Reading.{starts};
+ghost use Rattle.grammar.specs.Tokens.{is_word};
 ghost use Rattle.model_text.specs.Gathering as gathering;
 ghost use Rattle.model_text.specs.Readers.Reading as reading;
 ghost use Rattle.model_text.specs.Statement.{CubeEnd};
@@ -54,34 +56,117 @@ impl Item<(Name, u32), ModelTextFault, Unwatched> for Rank {
     }
 }
 
+/// Reads the ranks of elements in parentheses.
+#[tactic(auto, unfolding(crate::specs::Readers::Reading::read_in_parentheses))]
+fn in_parentheses(
+    alloc: Global,
+    cursor: &mut Cursor<'_, Unwatched>,
+) -> Result<ListOf<(Name, u32)>, Stop<ModelTextFault>>
+    ensures { Reads (λ list. list) reading.read_in_parentheses cursor.old result cursor.new }
+{
+    sign(cursor, b"(")?;
+    let list = listed(alloc, cursor, &Rank)?;
+    sign(cursor, b")")?;
+    Ok(list)
+}
+
+/// Whether the word `TOTALS` comes, where it may stand.
+fn totals_come(cursor: &Cursor<'_, Unwatched>, totals: bool) -> bool
+    ensures { result ≡ (totals && starts (is_word (codes "TOTALS")) cursor.now.tokens) }
+{
+    totals && word_comes(cursor, b"TOTALS")
+}
+
+/// Reads `TOTALS` and the ranks for consolidated cells, behind those for leaf cells.
+#[tactic(auto, unfolding(crate::specs::Readers::Reading::read_total_ranks))]
+fn total_ranks_at(
+    alloc: Global,
+    cursor: &mut Cursor<'_, Unwatched>,
+    shown: Name,
+    leaves: ListOf<(Name, u32)>,
+) -> Result<OrderWord, Stop<ModelTextFault>>
+    ensures { Reads (λ word. word) (reading.read_total_ranks shown leaves) cursor.old result cursor.new }
+{
+    word(cursor, b"TOTALS")?;
+    let totals = in_parentheses(alloc, cursor)?;
+    Ok(OrderWord::RanksByKind(shown, leaves, totals))
+}
+
+/// Reads what stands behind the ranks for leaf cells: those for consolidated cells, or nothing.
+#[tactic(auto, unfolding(crate::specs::Readers::Reading::read_behind_ranks))]
+fn behind_ranks(
+    alloc: Global,
+    cursor: &mut Cursor<'_, Unwatched>,
+    totals: bool,
+    shown: Name,
+    leaves: ListOf<(Name, u32)>,
+) -> Result<OrderWord, Stop<ModelTextFault>>
+    ensures { Reads (λ word. word) (reading.read_behind_ranks totals shown leaves) cursor.old result cursor.new }
+{
+    if totals_come(cursor, totals) {
+        total_ranks_at(alloc, cursor, shown, leaves)
+    } else {
+        Ok(OrderWord::Ranks(shown, leaves))
+    }
+}
+
 /// Reads what stands behind the name of a position's dimension: the ranks of its elements in parentheses, or nothing.
 #[tactic(auto, unfolding(crate::specs::Readers::Reading::read_ranks))]
 fn ranks_at(
     alloc: Global,
     cursor: &mut Cursor<'_, Unwatched>,
+    totals: bool,
     shown: Name,
 ) -> Result<OrderWord, Stop<ModelTextFault>>
-    ensures { Reads (λ word. word) (reading.read_ranks shown) cursor.old result cursor.new }
+    ensures { Reads (λ word. word) (reading.read_ranks totals shown) cursor.old result cursor.new }
 {
     if sign_comes(cursor, b"(") {
-        sign(cursor, b"(")?;
-        let list = listed(alloc, cursor, &Rank)?;
-        sign(cursor, b")")?;
-        Ok(OrderWord::Ranks(shown, list))
+        let leaves = in_parentheses(alloc, cursor)?;
+        behind_ranks(alloc, cursor, totals, shown, leaves)
     } else {
         Ok(OrderWord::Index(shown))
     }
 }
 
+/// Reads `TOTALS`, which is a position.
+#[tactic(auto, unfolding(crate::specs::Readers::Reading::read_cell_kind))]
+fn cell_kind_at(cursor: &mut Cursor<'_, Unwatched>) -> Result<OrderWord, Stop<ModelTextFault>>
+    ensures { Reads (λ word. word) reading.read_cell_kind cursor.old result cursor.new }
+{
+    word(cursor, b"TOTALS")?;
+    Ok(OrderWord::Totals)
+}
+
 /// Reads a position: a constant, or one that goes by a dimension.
-struct Position;
+#[tactic(auto, unfolding(crate::specs::Readers::Reading::read_ranked))]
+fn ranked_at(
+    alloc: Global,
+    cursor: &mut Cursor<'_, Unwatched>,
+    totals: bool,
+) -> Result<OrderWord, Stop<ModelTextFault>>
+    ensures { Reads (λ word. word) (reading.read_ranked totals) cursor.old result cursor.new }
+{
+    if number_comes(cursor) {
+        let n = whole(cursor)?;
+        Ok(OrderWord::Constant(n))
+    } else {
+        let shown = name(alloc, cursor)?;
+        ranks_at(alloc, cursor, totals, shown)
+    }
+}
+
+/// Reads a position.
+struct Position {
+    /// Whether the word `TOTALS` may stand in it.
+    totals: bool,
+}
 
 impl Item<OrderWord, ModelTextFault, Unwatched> for Position {
     ghost use Rattle.model_text.specs.Readers.Reading.{read_position};
 
     ghost may_read = { λ _. Unit {0} };
 
-    ghost reads = { λ _. read_position };
+    ghost reads = { λ position. read_position position.totals };
 
     #[tactic(auto, unfolding(crate::specs::Readers::Reading::read_position))]
     fn read(
@@ -89,12 +174,10 @@ impl Item<OrderWord, ModelTextFault, Unwatched> for Position {
         alloc: Global,
         cursor: &mut Cursor<'_, Unwatched>,
     ) -> Result<OrderWord, Stop<ModelTextFault>> {
-        if number_comes(cursor) {
-            let n = whole(cursor)?;
-            Ok(OrderWord::Constant(n))
+        if totals_come(cursor, self.totals) {
+            cell_kind_at(cursor)
         } else {
-            let shown = name(alloc, cursor)?;
-            ranks_at(alloc, cursor, shown)
+            ranked_at(alloc, cursor, self.totals)
         }
     }
 }
@@ -143,13 +226,14 @@ fn auto_at(
 fn words_at(
     alloc: Global,
     cursor: &mut Cursor<'_, Unwatched>,
+    totals: bool,
 ) -> Result<ListOf<OrderWord>, Stop<ModelTextFault>>
-    ensures { Reads (λ words. words) reading.read_order_words cursor.old result cursor.new }
+    ensures { Reads (λ words. words) (reading.read_order_words totals) cursor.old result cursor.new }
 {
     if word_comes(cursor, b"AUTO") {
         auto_at(alloc, cursor)
     } else {
-        listed(alloc, cursor, &Position)
+        listed(alloc, cursor, &Position { totals })
     }
 }
 
@@ -158,12 +242,13 @@ fn words_at(
 fn order_at(
     alloc: Global,
     cursor: &mut Cursor<'_, Unwatched>,
+    totals: bool,
 ) -> Result<Option<(u32, ListOf<OrderWord>)>, Stop<ModelTextFault>>
-    ensures { Reads (λ order. order) reading.read_order cursor.old result cursor.new }
+    ensures { Reads (λ order. order) (reading.read_order totals) cursor.old result cursor.new }
 {
     if word_comes(cursor, b"ORDER") {
         let line = word(cursor, b"ORDER")?;
-        let words = words_at(alloc, cursor)?;
+        let words = words_at(alloc, cursor, totals)?;
         sign(cursor, b";")?;
         Ok(Some((line, words)))
     } else {
@@ -174,18 +259,19 @@ fn order_at(
 /// The rule file of a cube and the words of its order line, where they are given, each with the line of its first word.
 pub type CubeEnd = (Option<(u32, ListOf<u8>)>, Option<(u32, ListOf<OrderWord>)>);
 
-/// Reads the rest of a cube, from the `)` behind its dimensions on.
+/// Reads the rest of a cube, from the `)` behind its dimensions on, where the word `TOTALS` may stand in it or not.
 #[tactic(auto, unfolding(crate::specs::Readers::Reading::read_cube_end))]
 pub fn cube_end_at(
     alloc: Global,
     cursor: &mut Cursor<'_, Unwatched>,
+    totals: bool,
 ) -> Result<CubeEnd, Stop<ModelTextFault>>
-    ensures { Reads (λ end. CubeEnd end.0 end.1) reading.read_cube_end cursor.old result cursor.new }
+    ensures { Reads (λ end. CubeEnd end.0 end.1) (reading.read_cube_end totals) cursor.old result cursor.new }
 {
     sign(cursor, b")")?;
     sign(cursor, b";")?;
     let rules = rules_at(alloc, cursor)?;
-    let order = order_at(alloc, cursor)?;
+    let order = order_at(alloc, cursor, totals)?;
     word(cursor, b"END")?;
     sign(cursor, b";")?;
     Ok((rules, order))

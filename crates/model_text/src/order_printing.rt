@@ -2,7 +2,7 @@ ghost use Rattle.std.specs.Prelude.{◌∷◌, ◌++◌, [], All, IfSome, OnOk, 
 ghost use Rattle.std.specs.List.{flat_map};
 ghost use Rattle.cube_lex.specs.Written.{Spaces, Writes};
 ghost use Rattle.cube_lex.specs.Written.{word_token, sign_token};
-ghost use Rattle.model_text.specs.Spelled.{rank_spelled, next_rank_spelled, ranks_spelled};
+ghost use Rattle.model_text.specs.Spelled.{rank_spelled, next_rank_spelled, ranks_spelled, list_spelled};
 ghost use Rattle.model_text.specs.Spelled.{position_spelled, next_position_spelled, positions_spelled, order_spelled};
 ghost use Rattle.model_text.specs.Writable.{IsWritableRank, IsWritableWord, IsWritableOrder};
 
@@ -60,6 +60,16 @@ fn write_ranks(alloc: Global, out: &mut Vec<u8>, ranks: &[(Name, u32)]) -> Resul
     write_further_ranks(alloc, out, further)
 }
 
+// Writes the ranks of elements in parentheses.
+fn write_list(alloc: Global, out: &mut Vec<u8>, ranks: &[(Name, u32)]) -> Result<(), AllocError>
+    requires { All IsWritableRank ranks.now }
+    ensures { OnOk result (Spaces out.old.items out.new.items (list_spelled ranks.now)) }
+{
+    write_pieces(alloc, out, &[Piece::Sign(b"(")])?;
+    write_ranks(alloc, out, ranks)?;
+    write_pieces(alloc, out, &[Piece::Sign(b")")])
+}
+
 // Writes a dimension and the ranks of its elements.
 fn write_listed(
     alloc: Global,
@@ -70,13 +80,41 @@ fn write_listed(
     requires { IsWritableWord (OrderWord.Ranks name.now ranks.now) }
     ensures { OnOk result (Spaces out.old.items out.new.items (position_spelled (OrderWord.Ranks name.now ranks.now))) }
 {
-    write_pieces(
-        alloc,
-        out,
-        &[Piece::Quoted(name.shown()), Piece::Sign(b"(")],
-    )?;
-    write_ranks(alloc, out, ranks)?;
-    write_pieces(alloc, out, &[Piece::Sign(b")")])
+    write_pieces(alloc, out, &[Piece::Quoted(name.shown())])?;
+    write_list(alloc, out, ranks)
+}
+
+// Writes the ranks for leaf cells, `TOTALS` and those for consolidated cells.
+fn write_lists(
+    alloc: Global,
+    out: &mut Vec<u8>,
+    leaves: &[(Name, u32)],
+    totals: &[(Name, u32)],
+) -> Result<(), AllocError>
+    requires leaves { All IsWritableRank leaves.now }
+    requires totals { All IsWritableRank totals.now }
+    ensures { OnOk result (Spaces out.old.items out.new.items
+        (list_spelled leaves.now ++ word_token (codes "TOTALS") ∷ list_spelled totals.now)) }
+{
+    write_list(alloc, out, leaves)?;
+    write_pieces(alloc, out, &[Piece::Word(b"TOTALS")])?;
+    write_list(alloc, out, totals)
+}
+
+// Writes a dimension and the ranks of its elements, for leaf cells and for consolidated cells.
+fn write_by_kind(
+    alloc: Global,
+    out: &mut Vec<u8>,
+    name: &Name,
+    leaves: &[(Name, u32)],
+    totals: &[(Name, u32)],
+) -> Result<(), AllocError>
+    requires { IsWritableWord (OrderWord.RanksByKind name.now leaves.now totals.now) }
+    ensures { OnOk result (Spaces out.old.items out.new.items
+        (position_spelled (OrderWord.RanksByKind name.now leaves.now totals.now))) }
+{
+    write_pieces(alloc, out, &[Piece::Quoted(name.shown())])?;
+    write_lists(alloc, out, leaves, totals)
 }
 
 // Writes `AUTO` and the name behind it, where there is one.
@@ -105,6 +143,10 @@ fn write_position(alloc: Global, out: &mut Vec<u8>, position: &OrderWord) -> Res
         }
         OrderWord::Index(name) => write_pieces(alloc, out, &[Piece::Quoted(name.shown())]),
         OrderWord::Ranks(name, ranks) => write_listed(alloc, out, name, ranks.as_slice()),
+        OrderWord::RanksByKind(name, leaves, totals) => {
+            write_by_kind(alloc, out, name, leaves.as_slice(), totals.as_slice())
+        }
+        OrderWord::Totals => write_pieces(alloc, out, &[Piece::Word(b"TOTALS")]),
         OrderWord::Auto(lag) => write_auto(alloc, out, lag),
     }
 }

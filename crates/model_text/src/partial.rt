@@ -4,6 +4,7 @@ ghost use Rattle.model_text.specs.Contents.{most_model_dimensions, IsOrderedIn};
 ghost use Rattle.model_text.specs.Gathering as gathering;
 ghost use Rattle.model_text.specs.Gathering.{with_name, with_cube, with_script};
 ghost use Rattle.model_text.specs.Readers.Sections as sections;
+ghost use Rattle.model_text.specs.Statement as statement;
 ghost use Rattle.model_text.specs.Writable.{IsWritableCube, IsWritableScript};
 
 use crate::parts::{CubeText, ScriptText};
@@ -79,6 +80,13 @@ impl PartialModel {
         ensures { result ≡ self.now.version }
     {
         self.version
+    }
+
+    /// Whether the word `TOTALS` may stand in the text.
+    pub fn has_totals(&self) -> bool
+        ensures { result ≡ statement.has_totals self.now.version }
+    {
+        self.version == 2
     }
 
     /// Whether a further statement in this section would be one too many.

@@ -5,7 +5,8 @@ ghost use Rattle.model_text.specs.Answers.{Answers};
 ghost use Rattle.model_text.specs.Contents as contents;
 ghost use Rattle.model_text.specs.Contents.{dimension_names};
 ghost use Rattle.model_text.specs.Readers.Reading as reading;
-ghost use Rattle.model_text.specs.Readers.Views.{Collects, GivesBlocks, fault_from};
+ghost use Rattle.model_text.specs.Gathering.{Nothing, at};
+ghost use Rattle.model_text.specs.Readers.Views.{Opens, GivesBlocks, fault_from};
 ghost use Rattle.model_text.specs.Watching.{no_parts, nothing_seen};
 
 use crate::dimensions::dimensions_at;
@@ -31,8 +32,8 @@ fn is_version(number: u32) -> bool
 // Reads `MODEL whole`, where there are texts of that version.
 #[tactic(auto, unfolding(crate::specs::Readers::Reading::gather_version))]
 fn number_at(cursor: &mut Cursor<'_, Unwatched>) -> Result<u32, Stop<ModelTextFault>>
-    ensures read { Collects reading.gather_version no_parts (λ version. record no_parts { version = version })
-        cursor.old result cursor.new }
+    ensures read { Opens (λ version. record no_parts { version = version }) result (ahead cursor.new)
+        (reading.gather_version (at no_parts Nothing) (ahead cursor.old)) }
     ensures known { IfOk result (λ version. IsTrue (contents.is_version version)) }
 {
     let (line, version) = version_at(cursor)?;
@@ -48,7 +49,8 @@ fn opening_at(
     alloc: Global,
     cursor: &mut Cursor<'_, Unwatched>,
 ) -> Result<PartialModel, Stop<ModelTextFault>>
-    ensures read { Collects reading.read_opening no_parts (λ partial. partial) cursor.old result cursor.new }
+    ensures read { Opens (λ partial. partial) result (ahead cursor.new)
+        (reading.read_opening (at no_parts Nothing) (ahead cursor.old)) }
     ensures begun { IfOk result (λ partial. IsTrue (contents.is_version partial.version) × (partial.names ≡ [])) }
 {
     let version = number_at(cursor)?;

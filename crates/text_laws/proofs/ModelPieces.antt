@@ -19,7 +19,7 @@ use Rattle.dim_text.specs.Readers.Reading.{is_element_word}
 use Rattle.dim_text.proofs.ElementExact.{element_begins, end_begins}
 use Rattle.model_text.specs.Statement.{Piece, QuotedText, dimension_word, cube_word, script_word, shown_text, first_dimension, next_dimension, cube_end, piece}
 use Rattle.model_text.specs.Watching.{add}
-use Rattle.model_text.specs.Readers.Reading.{Plain, read_version, read_closing, read_dimension_word, read_cube_word, read_script_word, read_naming, read_script_file, read_dimension_behind, read_rules, read_rank, read_ranks, read_position, read_lag, read_auto, read_order_words, read_order, read_cube_end}
+use Rattle.model_text.specs.Readers.Reading.{Plain, choose_if, read_version, read_closing, read_dimension_word, read_cube_word, read_script_word, read_naming, read_script_file, read_dimension_behind, read_rules, read_rank, read_in_parentheses, read_total_ranks, read_behind_ranks, read_ranks, read_cell_kind, read_ranked, read_position, read_lag, read_auto, read_order_words, read_order, read_cube_end}
 use Rattle.model_text.proofs.PieceExact.{free, located_is, located_is_value, version_exact, closing_exact, dimension_word_exact, cube_word_exact, script_word_exact, dimension_behind_exact, cube_end_exact}
 
 -- What settles.
@@ -64,13 +64,37 @@ rank_settles : Settles read_rank
 unfolding read_rank
 rank_settles = settles_both (settles_one _ _) (λ shown. settles_both (settles_one _ _) (λ n. settles_gives _))
 
-ranks_settles : (shown : List ℕ) → Settles (read_ranks shown)
-unfolding read_ranks
-ranks_settles shown = settles_choose _ (settles_both (settles_one _ _) (λ _. settles_both (listed_settles unscanned rank_settles) (λ list. settles_both (settles_one _ _) (λ _. settles_gives _)))) (settles_gives _)
+in_parentheses_settles : Settles read_in_parentheses
+unfolding read_in_parentheses
+in_parentheses_settles = settles_both (settles_one _ _) (λ _. settles_both (listed_settles unscanned rank_settles) (λ list. settles_both (settles_one _ _) (λ _. settles_gives _)))
 
-position_settles : Settles read_position
+settles_if : {A : Type 0} {P Q : Plain A} (allowed : Bool) (p : Lexeme → Bool) → Settles P → Settles Q → Settles (choose_if allowed p P Q)
+settles_if true p e f = settles_choose p e f
+settles_if false p e f = f
+
+total_ranks_settles : (shown : List ℕ) (leaves : List (List ℕ × ℕ)) → Settles (read_total_ranks shown leaves)
+unfolding read_total_ranks
+total_ranks_settles shown leaves = settles_both (settles_one _ _) (λ _. settles_both in_parentheses_settles (λ totals. settles_gives _))
+
+behind_ranks_settles : (totals : Bool) (shown : List ℕ) (leaves : List (List ℕ × ℕ)) → Settles (read_behind_ranks totals shown leaves)
+unfolding read_behind_ranks
+behind_ranks_settles totals shown leaves = settles_if totals _ (total_ranks_settles shown leaves) (settles_gives _)
+
+ranks_settles : (totals : Bool) (shown : List ℕ) → Settles (read_ranks totals shown)
+unfolding read_ranks
+ranks_settles totals shown = settles_choose _ (settles_both in_parentheses_settles (λ leaves. behind_ranks_settles totals shown leaves)) (settles_gives _)
+
+cell_kind_settles : Settles read_cell_kind
+unfolding read_cell_kind
+cell_kind_settles = settles_both (settles_one _ _) (λ _. settles_gives _)
+
+ranked_settles : (totals : Bool) → Settles (read_ranked totals)
+unfolding read_ranked
+ranked_settles totals = settles_choose _ (settles_both (settles_one _ _) (λ n. settles_gives _)) (settles_both (settles_one _ _) (λ shown. ranks_settles totals shown))
+
+position_settles : (totals : Bool) → Settles (read_position totals)
 unfolding read_position
-position_settles = settles_choose _ (settles_both (settles_one _ _) (λ n. settles_gives _)) (settles_both (settles_one _ _) (λ shown. ranks_settles shown))
+position_settles totals = settles_if totals _ cell_kind_settles (ranked_settles totals)
 
 lag_settles : Settles read_lag
 unfolding read_lag
@@ -80,17 +104,17 @@ auto_settles : Settles read_auto
 unfolding read_auto
 auto_settles = settles_both (settles_one _ _) (λ _. settles_both lag_settles (λ shown. settles_gives _))
 
-order_words_settles : Settles read_order_words
+order_words_settles : (totals : Bool) → Settles (read_order_words totals)
 unfolding read_order_words
-order_words_settles = settles_choose _ auto_settles (listed_settles unscanned position_settles)
+order_words_settles totals = settles_choose _ auto_settles (listed_settles unscanned (position_settles totals))
 
-order_settles : Settles read_order
+order_settles : (totals : Bool) → Settles (read_order totals)
 unfolding read_order
-order_settles = settles_choose _ (settles_both (settles_one _ _) (λ line. settles_both order_words_settles (λ list. settles_both (settles_one _ _) (λ _. settles_gives _)))) (settles_gives _)
+order_settles totals = settles_choose _ (settles_both (settles_one _ _) (λ line. settles_both (order_words_settles totals) (λ list. settles_both (settles_one _ _) (λ _. settles_gives _)))) (settles_gives _)
 
-pub cube_end_settles : Settles read_cube_end
+pub cube_end_settles : (totals : Bool) → Settles (read_cube_end totals)
 unfolding read_cube_end
-cube_end_settles = settles_both (settles_one _ _) (λ _. settles_both (settles_one _ _) (λ _. settles_both rules_settles (λ r. settles_both order_settles (λ o. settles_both (settles_one _ _) (λ _. settles_both (settles_one _ _) (λ _. settles_gives _))))))
+cube_end_settles totals = settles_both (settles_one _ _) (λ _. settles_both (settles_one _ _) (λ _. settles_both rules_settles (λ r. settles_both (order_settles totals) (λ o. settles_both (settles_one _ _) (λ _. settles_both (settles_one _ _) (λ _. settles_gives _))))))
 
 -- A quoted text.
 
@@ -118,7 +142,7 @@ shown_no_sign b = begins_both (value_no_sign (located_is_value text_is_value) b)
 -- Any piece, by its first token.
 
 abbrev behind_text : Grammar Lexeme Piece
-behind_text = either first_dimension (either next_dimension cube_end)
+behind_text = either first_dimension (either next_dimension (cube_end true))
 
 behind_text_begins : (w : List ℕ) → Begins behind_text (is_word w) false
 behind_text_begins w = begins_either (begins_both (sign_no_word (codes "(") w)) (begins_either (begins_both (sign_no_word (codes ",") w)) (begins_both (sign_no_word (codes ")") w)))
@@ -145,12 +169,12 @@ words_model : Begins words (is_word (codes "MODEL")) false
 words_model = begins_either (begins_both (word_begins (codes "DIM") (codes "MODEL"))) (begins_either (begins_both (word_begins (codes "CUBE") (codes "MODEL"))) (begins_either (begins_both (word_begins (codes "SCRIPT") (codes "MODEL"))) (behind_words_begins (codes "MODEL"))))
 
 abbrev read_behind_text : Plain Piece
-read_behind_text = choose (is_sign (codes "(")) (read_dimension_behind (codes "(")) (choose (is_sign (codes ",")) (read_dimension_behind (codes ",")) read_cube_end)
+read_behind_text = choose (is_sign (codes "(")) (read_dimension_behind (codes "(")) (choose (is_sign (codes ",")) (read_dimension_behind (codes ",")) (read_cube_end true))
 
 behind_text_exact : Exact free behind_text behind_text read_behind_text Always
 behind_text_exact = exact_or (is_sign (codes "(")) (begins_both (sign_begins (codes "(") (codes "("))) (begins_either (begins_both (sign_begins (codes ",") (codes "("))) (begins_both (sign_begins (codes ")") (codes "("))))
     (dimension_behind_exact (codes "("))
-    (exact_or (is_sign (codes ",")) (begins_both (sign_begins (codes ",") (codes ","))) (begins_both (sign_begins (codes ")") (codes ","))) (dimension_behind_exact (codes ",")) cube_end_exact)
+    (exact_or (is_sign (codes ",")) (begins_both (sign_begins (codes ",") (codes ","))) (begins_both (sign_begins (codes ")") (codes ","))) (dimension_behind_exact (codes ",")) (cube_end_exact true))
 
 abbrev read_words : Plain Piece
 read_words = choose (is_word (codes "DIM")) read_dimension_word (choose (is_word (codes "CUBE")) read_cube_word (choose (is_word (codes "SCRIPT")) read_script_word (choose is_text read_shown read_behind_text)))
@@ -176,7 +200,7 @@ piece_exact = exact_or (is_word (codes "MODEL")) (begins_both (word_begins (code
 
 piece_settles : Settles read_piece
 piece_settles = settles_choose _ version_settles (settles_choose _ closing_settles (settles_choose _ dimension_word_settles (settles_choose _ cube_word_settles (settles_choose _ script_word_settles
-    (settles_choose _ shown_settles (settles_choose _ (dimension_behind_settles (codes "(")) (settles_choose _ (dimension_behind_settles (codes ",")) cube_end_settles)))))))
+    (settles_choose _ shown_settles (settles_choose _ (dimension_behind_settles (codes "(")) (settles_choose _ (dimension_behind_settles (codes ",")) (cube_end_settles true))))))))
 
 start : Unwatched
 start = record {}

@@ -12,11 +12,11 @@ use Rattle.dim_text.specs.Building.{opened, add}
 use Rattle.dim_text.specs.Readers.Reading.{read_elements, read_ending, read_closing, read_body, is_element_word}
 use Rattle.dim_text.specs.declared.fault.Refusal.{Refusal}
 use Rattle.dim_text.proofs.OneReading.{element_settles, end_settles, close_settles}
-use Rattle.model_text.specs.Statement.{Piece, DimensionWord, QuotedText, Closing}
+use Rattle.model_text.specs.Statement.{Piece, DimensionWord, QuotedText, Closing, has_totals, number_of}
 use Rattle.model_text.specs.Gathering.{Current, DimensionDue, DimensionOpen, Parts, Given, at, unless, has_dimension, dimensions_are_full, with_text, closed, gathered}
 use Rattle.model_text.specs.Watching.{Seen, with_given, head_of, with_block, of_block}
 use Rattle.model_text.specs.Readers.Reading as model
-use Rattle.model_text.specs.Readers.Reading.{Plain, Gatherer, gather, outside, body_from, read_dimension_word, read_naming, gather_version, gather_closing, gather_dimension_word, gather_cube_word, gather_script_word, gather_naming, gather_further_dimensions, gather_cube_end, read_opening, read_dimension_head, read_cube_head, read_cube_dimensions, read_cube, read_script, read_cubes, read_scripts, read_dimension_body, read_dimension, read_dimensions, read_model}
+use Rattle.model_text.specs.Readers.Reading.{Plain, gather, outside, body_from, read_dimension_word, read_naming, gather_version, gather_closing, gather_dimension_word, gather_cube_word, gather_script_word, gather_naming, gather_further_dimensions, gather_cube_end, read_opening, read_dimension_head, read_cube_head, read_cube_dimensions, read_cube, read_script, read_cubes, read_scripts, read_dimension_body, read_dimension, read_dimensions, read_model}
 use Rattle.model_text.specs.declared.fault.ModelTextFault.{ModelTextFault}
 use Rattle.model_text.specs.declared.fault.ModelTextCause.{ModelTextCause}
 use Rattle.model_text.specs.declared.fault.ModelTextCause.TheVariants as causes
@@ -32,7 +32,7 @@ units e = settles_both e (λ _. settles_gives tt)
 
 opening_settles : Settles read_opening
 unfolding read_opening gather_version
-opening_settles = settles_both (units (gathers version_settles)) (λ _. units (gathers closing_settles))
+opening_settles = settles_both (settles_both (gathers version_settles) (λ p. settles_gives (number_of p))) (λ number. settles_both (units (gathers closing_settles)) (λ _. settles_gives number))
 
 head_settles : Settles read_dimension_head
 unfolding read_dimension_head gather_dimension_word gather_naming
@@ -46,23 +46,23 @@ cube_dimensions_settles : Settles read_cube_dimensions
 unfolding read_cube_dimensions gather_further_dimensions
 cube_dimensions_settles = settles_both (units (gathers (dimension_behind_settles (codes "(")))) (λ _. units (settles_all (is_sign (codes ",")) (gathers (dimension_behind_settles (codes ",")))))
 
-cube_settles : Settles read_cube
+cube_settles : (totals : Bool) → Settles (read_cube totals)
 unfolding read_cube gather_cube_end
-cube_settles = settles_both cube_head_settles (λ _. settles_both cube_dimensions_settles (λ _. units (gathers cube_end_settles)))
+cube_settles totals = settles_both cube_head_settles (λ _. settles_both cube_dimensions_settles (λ _. units (gathers (cube_end_settles totals))))
 
 script_settles : Settles read_script
 unfolding read_script gather_script_word gather_naming
 script_settles = settles_both (units (gathers script_word_settles)) (λ _. settles_both (units (gathers naming_settles)) (λ _. settles_both (units (gathers script_file_settles)) (λ _. units (gathers closing_settles))))
 
-cubes_settle : Settles read_cubes
+cubes_settle : (totals : Bool) → Settles (read_cubes totals)
 unfolding read_cubes
-cubes_settle = units (settles_all (is_word (codes "CUBE")) cube_settles)
+cubes_settle totals = units (settles_all (is_word (codes "CUBE")) (cube_settles totals))
 
 scripts_settle : Settles read_scripts
 unfolding read_scripts
 scripts_settle = units (settles_all (is_word (codes "SCRIPT")) script_settles)
 
-outside_settles : {P : Gatherer} → Settles P → Settles (outside P)
+outside_settles : {A : Type 0} {P : Reader Lexeme Given ModelTextFault A} → Settles P → Settles (outside P)
 outside_settles e = settles_inside (λ s. s.given) with_given (λ s fault. fault) e
 
 -- A body.
@@ -156,4 +156,4 @@ dimensions_settle = units (settles_all (is_word (codes "DIM")) dimension_settles
 
 pub model_settles : Settles read_model
 unfolding read_model
-model_settles = settles_both (outside_settles opening_settles) (λ _. settles_both dimensions_settle (λ _. settles_both (outside_settles cubes_settle) (λ _. outside_settles scripts_settle)))
+model_settles = settles_both (outside_settles opening_settles) (λ number. settles_both dimensions_settle (λ _. settles_both (outside_settles (cubes_settle (has_totals number))) (λ _. outside_settles scripts_settle)))

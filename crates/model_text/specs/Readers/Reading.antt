@@ -1,8 +1,8 @@
 -- The readers of a model text, in the shape of the code.
-use Rattle.std.specs.Prelude.{ℕ, List, [], ◌∷◌, Option, Some, None, codes, Err}
+use Rattle.std.specs.Prelude.{ℕ, Bool, ◌&&◌, if◌then◌else◌, List, [], ◌∷◌, Option, Some, None, codes, Err}
 use Rattle.cube_lex.specs.Lexeme.{Lexeme}
 use Rattle.grammar.specs.Watch.{unscanned}
-use Rattle.grammar.specs.Reading.{unit_of, OutOfTurns, Reader, gives, take_one, choose, all_of, checked}
+use Rattle.grammar.specs.Reading.{unit_of, OutOfTurns, Reader, gives, take_one, choose, starts, all_of, checked}
 use Rattle.grammar.specs.Reading.{inside_result, inside, ◌>>=◌, ◌>>◌}
 use Rattle.grammar.specs.Lists.{read_listed}
 use Rattle.grammar.specs.Tokens.{sign, word, whole, name, file, located, is_sign, is_word, is_number, is_text}
@@ -10,7 +10,7 @@ use Rattle.grammar.specs.declared.cursor.Unwatched.{Unwatched}
 use Rattle.dim_text.specs.Progress.{Progress}
 use Rattle.dim_text.specs.Readers.Reading.{read_body}
 use Rattle.model_text.specs.Statement.{Piece, Version, Closing, DimensionWord, CubeWord, ScriptWord, QuotedText}
-use Rattle.model_text.specs.Statement.{CubeDimension, CubeEnd}
+use Rattle.model_text.specs.Statement.{CubeDimension, CubeEnd, has_totals, number_of}
 use Rattle.model_text.specs.Gathering.{Given, gathered}
 use Rattle.model_text.specs.Watching.{Seen, with_given, head_of, with_block, of_block}
 use Rattle.model_text.specs.declared.order.OrderWord.{OrderWord}
@@ -78,24 +78,53 @@ read_rank = do
   n ← take_one unscanned whole
   gives (shown, n)
 
+unfoldable pub read_in_parentheses : Plain (List (List ℕ × ℕ))
+read_in_parentheses = do
+  take_one unscanned (sign (codes "("))
+  list ← read_listed unscanned read_rank
+  take_one unscanned (sign (codes ")"))
+  gives list
+
+-- by the next token, where the first may stand
+abbrev pub choose_if : {A : Type 0} → Bool → (Lexeme → Bool) → Plain A → Plain A → Plain A
+choose_if allowed p P Q s ts = if allowed && starts p ts then P s ts else Q s ts
+
+unfoldable pub read_total_ranks : List ℕ → List (List ℕ × ℕ) → Plain OrderWord
+read_total_ranks shown leaves = do
+  take_one unscanned (word (codes "TOTALS"))
+  totals ← read_in_parentheses
+  gives (words.RanksByKind shown leaves totals)
+
+-- behind the ranks of leaf cells
+unfoldable pub read_behind_ranks : Bool → List ℕ → List (List ℕ × ℕ) → Plain OrderWord
+read_behind_ranks totals shown leaves =
+    choose_if totals (is_word (codes "TOTALS")) (read_total_ranks shown leaves) (gives (words.Ranks shown leaves))
+
 -- behind the name of a position's dimension
-unfoldable pub read_ranks : List ℕ → Plain OrderWord
-read_ranks shown = choose (is_sign (codes "("))
+unfoldable pub read_ranks : Bool → List ℕ → Plain OrderWord
+read_ranks totals shown = choose (is_sign (codes "("))
     (do
-      take_one unscanned (sign (codes "("))
-      list ← read_listed unscanned read_rank
-      take_one unscanned (sign (codes ")"))
-      gives (words.Ranks shown list))
+      leaves ← read_in_parentheses
+      read_behind_ranks totals shown leaves)
     (gives (words.Index shown))
 
-unfoldable pub read_position : Plain OrderWord
-read_position = choose is_number
+unfoldable pub read_cell_kind : Plain OrderWord
+read_cell_kind = do
+  take_one unscanned (word (codes "TOTALS"))
+  gives words.Totals
+
+-- a position other than `TOTALS`
+unfoldable pub read_ranked : Bool → Plain OrderWord
+read_ranked totals = choose is_number
     (do
       n ← take_one unscanned whole
       gives (words.Constant n))
     (do
       shown ← take_one unscanned name
-      read_ranks shown)
+      read_ranks totals shown)
+
+unfoldable pub read_position : Bool → Plain OrderWord
+read_position totals = choose_if totals (is_word (codes "TOTALS")) read_cell_kind (read_ranked totals)
 
 -- behind `AUTO`
 unfoldable pub read_lag : Plain (Option (List ℕ))
@@ -111,24 +140,24 @@ read_auto = do
   shown ← read_lag
   gives (words.Auto shown ∷ [])
 
-unfoldable pub read_order_words : Plain (List OrderWord)
-read_order_words = choose (is_word (codes "AUTO")) read_auto (read_listed unscanned read_position)
+unfoldable pub read_order_words : Bool → Plain (List OrderWord)
+read_order_words totals = choose (is_word (codes "AUTO")) read_auto (read_listed unscanned (read_position totals))
 
-unfoldable pub read_order : Plain (Option (ℕ × List OrderWord))
-read_order = choose (is_word (codes "ORDER"))
+unfoldable pub read_order : Bool → Plain (Option (ℕ × List OrderWord))
+read_order totals = choose (is_word (codes "ORDER"))
     (do
       line ← take_one unscanned (word (codes "ORDER"))
-      list ← read_order_words
+      list ← read_order_words totals
       take_one unscanned (sign (codes ";"))
       gives (Some (line, list)))
     (gives None)
 
-unfoldable pub read_cube_end : Plain Piece
-read_cube_end = do
+unfoldable pub read_cube_end : Bool → Plain Piece
+read_cube_end totals = do
   take_one unscanned (sign (codes ")"))
   take_one unscanned (sign (codes ";"))
   r ← read_rules
-  o ← read_order
+  o ← read_order totals
   take_one unscanned (word (codes "END"))
   take_one unscanned (sign (codes ";"))
   gives (CubeEnd r o)
@@ -141,8 +170,11 @@ Gatherer = Reader Lexeme Given ModelTextFault (Unit {0})
 abbrev pub gather : Plain Piece → Reader Lexeme Given ModelTextFault Piece
 gather P = checked (record {}) gathered P
 
-unfoldable pub gather_version : Gatherer
-gather_version = unit_of (gather read_version)
+-- the version, whose number is kept
+unfoldable pub gather_version : Reader Lexeme Given ModelTextFault ℕ
+gather_version = do
+  p ← gather read_version
+  gives (number_of p)
 
 abbrev pub gather_closing : Gatherer
 gather_closing = unit_of (gather read_closing)
@@ -168,13 +200,14 @@ gather_first_dimension = unit_of (gather (read_dimension_behind (codes "(")))
 unfoldable pub gather_further_dimensions : Gatherer
 gather_further_dimensions = unit_of (all_of (is_sign (codes ",")) (gather (read_dimension_behind (codes ","))))
 
-unfoldable pub gather_cube_end : Gatherer
-gather_cube_end = unit_of (gather read_cube_end)
+unfoldable pub gather_cube_end : Bool → Gatherer
+gather_cube_end totals = unit_of (gather (read_cube_end totals))
 
-unfoldable pub read_opening : Gatherer
+unfoldable pub read_opening : Reader Lexeme Given ModelTextFault ℕ
 read_opening = do
-  gather_version
+  number ← gather_version
   gather_closing
+  gives number
 
 unfoldable pub read_dimension_head : Gatherer
 read_dimension_head = do
@@ -192,11 +225,11 @@ read_cube_dimensions = do
   gather_first_dimension
   gather_further_dimensions
 
-unfoldable pub read_cube : Gatherer
-read_cube = do
+unfoldable pub read_cube : Bool → Gatherer
+read_cube totals = do
   read_cube_head
   read_cube_dimensions
-  gather_cube_end
+  gather_cube_end totals
 
 unfoldable pub read_script : Gatherer
 read_script = do
@@ -205,8 +238,8 @@ read_script = do
   gather_script_file
   gather_closing
 
-unfoldable pub read_cubes : Gatherer
-read_cubes = unit_of (all_of (is_word (codes "CUBE")) read_cube)
+unfoldable pub read_cubes : Bool → Gatherer
+read_cubes totals = unit_of (all_of (is_word (codes "CUBE")) (read_cube totals))
 
 unfoldable pub read_scripts : Gatherer
 read_scripts = unit_of (all_of (is_word (codes "SCRIPT")) read_script)
@@ -215,7 +248,7 @@ read_scripts = unit_of (all_of (is_word (codes "SCRIPT")) read_script)
 abbrev pub SeenReader : Type 0
 SeenReader = Reader Lexeme Seen ModelTextFault (Unit {0})
 
-abbrev pub outside : Gatherer → SeenReader
+abbrev pub outside : {A : Type 0} → Reader Lexeme Given ModelTextFault A → Reader Lexeme Seen ModelTextFault A
 outside P = inside (λ s. s.given) with_given (λ s fault. fault) P
 
 -- where a body begins with this, which only code behind a head answers
@@ -236,7 +269,7 @@ read_dimensions = unit_of (all_of (is_word (codes "DIM")) read_dimension)
 
 unfoldable pub read_model : SeenReader
 read_model = do
-  outside read_opening
+  number ← outside read_opening
   read_dimensions
-  outside read_cubes
+  outside (read_cubes (has_totals number))
   outside read_scripts

@@ -43,6 +43,12 @@ abbrev pub GivesPiece : {X R : Type 0} → (X → R) → Result X (Stop ModelTex
 GivesPiece state (Ok x) tokens read = (piece : Piece) × (read ≡ Ok (piece, state x, tokens))
 GivesPiece state (Err stop) tokens read = Stops stop read
 
+-- a text has begun, with these parts, and its version is kept
+abbrev pub Opens : {X : Type 0} → (X → Parts) → Result X (Stop ModelTextFault) → List Lexeme
+    → Read Lexeme Given ModelTextFault ℕ → Type 0
+Opens after (Ok x) tokens read = read ≡ Ok ((after x).version, at (after x) Nothing, tokens)
+Opens after (Err stop) tokens read = Stops stop read
+
 -- a piece was gathered, and the state that it leaves is this one
 abbrev pub Gathers : {X : Type 0} → (X → Given) → Result X (Stop ModelTextFault)
     → Result Given ModelTextFault → Type 0

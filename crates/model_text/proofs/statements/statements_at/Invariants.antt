@@ -11,7 +11,7 @@ use Rattle.model_text.proofs.statements.statements_at.Given as goal
 
 abbrev pub invariant-statement : goal.invariant-statement
 invariant-statement l = (front : List (Unit {0}))
-    × Going (is_word (word_of l.section)) (read_one l.section) front (at l.partial Nothing) l.cursor.tokens (all_of (is_word (word_of l.section)) (read_one l.section) (at l.fn.partial Nothing) l.fn.cursor.tokens)
+    × Going (is_word (word_of l.section)) (read_one l.fn.partial.version l.section) front (at l.partial Nothing) l.cursor.tokens (all_of (is_word (word_of l.section)) (read_one l.fn.partial.version l.section) (at l.fn.partial Nothing) l.fn.cursor.tokens)
     × AreSame l.fn.partial l.partial
     × All IsWellFormed l.cursor.tokens
 
