@@ -1,5 +1,5 @@
 -- A model with other orders: the lag first, and then ranks of the elements of the last dimension.
-use Rattle.std.specs.Prelude.{◌≡◌, ℕ, ◌<◌, ◌≤◌, Some, List, [], ◌∷◌, map, length, slice_get, All}
+use Rattle.std.specs.Prelude.{◌≡◌, ℕ, ◌<◌, ◌≤◌, true, Some, None, List, [], ◌∷◌, map, length, slice_get, All}
 use Rattle.dim_core.specs.Outline.{Outline}
 use Rattle.cube_space.specs.Layout.{axes}
 use Rattle.rule_model.specs.declared.order.Order.{Order}
@@ -25,10 +25,17 @@ abbrev pub with_orders : BoundModel → (ℕ → Order) → BoundModel
 with_orders m orders =
     record { space = m.space; rules = map (λ cube. with_order (rules_of m cube) (orders cube)) (cubes_of m) }
 
+-- the order of a cube has no positions of its own for consolidated cells
+abbrev pub HasOneOrder : CubeRules → Type 0
+HasOneOrder rules = rules.order.totals ≡ None
+
 -- first what the cube's order has at its first position, then the ranks
 abbrev pub order_by : BoundModel → List (List ℕ) → ℕ → Order
 order_by m ranks cube =
-    record { positions = position_of m cube 0 ∷ Ranks (last_of m.space cube) (ranks_in ranks cube) ∷ [] }
+    record {
+      positions = position_of m cube true 0 ∷ Ranks (last_of m.space cube) (ranks_in ranks cube) ∷ [];
+      totals = None;
+    }
 
 abbrev pub ranked : BoundModel → List (List ℕ) → BoundModel
 ranked m ranks = with_orders m (order_by m ranks)

@@ -6,7 +6,7 @@
 //! the orders that ranks make.
 #![tactic(auto)]
 
-ghost use Rattle.std.specs.Prelude.{◌≡◌, ℕ, ◌<◌, Bool, Some, ◌↔◌, List, length, slice_get, IsTrue};
+ghost use Rattle.std.specs.Prelude.{◌≡◌, ℕ, ◌<◌, Bool, Some, ◌↔◌, List, length, slice_get, IsTrue, All};
 ghost use Rattle.dim_core.specs.Outline.{Outline};
 ghost use Rattle.cube_space.specs.Layout.{axes};
 ghost use Rattle.cube_space.specs.Cells.{IsSpace};
@@ -18,7 +18,7 @@ ghost use Rattle.rule_model.specs.System.{system_of, positions_of};
 ghost use Rattle.rule_model.specs.Conditions.{IsArea, IsPrecedent, AreRules, HoldsLeaves};
 ghost use Rattle.arrow_laws.specs.Nodes.{Node, last_of, ranks_in};
 ghost use Rattle.arrow_laws.specs.Arrows.{IsLagged, IsLevel, IsWeak, IsJoined, IsLevelThroughout, FitArrows};
-ghost use Rattle.arrow_laws.specs.Ranked.{AreNodeRanks, ranked};
+ghost use Rattle.arrow_laws.specs.Ranked.{HasOneOrder, AreNodeRanks, ranked};
 ghost use Rattle.arrow_laws.specs.ByDimension.{is_lagged, is_level, is_weak, IsJoinedByDimension};
 
 /// Of a statement of a cube, a kind of cell and what a formula reads: whether that is lagged, level or weak is decided
@@ -40,17 +40,18 @@ pub fn arrows_are_made_by_dimension()
         → IsJoinedByDimension m cube s.area kind p from to ↔ IsJoined m cube s kind p from to }
 {}
 
-/// Where ranks fit the arrows of a model and are within the limit, what holds of the rules of a model holds with the
-/// orders that they make.
+/// Where ranks fit the arrows of a model whose cubes have one order each and are within the limit, what holds of the
+/// rules of the model holds with the orders that they make.
 pub fn fitting_ranks_make_orders()
     ensures { (m : BoundModel) (ranks : List (List ℕ)) → IsSpace m.space → AreRules m.space m.rules
-        → FitArrows m ranks → AreNodeRanks m ranks → AreRules m.space (ranked m ranks).rules }
+        → All HasOneOrder m.rules → FitArrows m ranks → AreNodeRanks m ranks
+        → AreRules m.space (ranked m ranks).rules }
 {}
 
-/// Where nothing is read at a greater lag, a model with the lag and then ranks that fit its arrows is ordered.
+/// Where nothing is read at a greater lag, such a model is ordered by the lag and then ranks that fit its arrows.
 pub fn fitting_ranks_order_a_model()
     ensures { (m : BoundModel) (ranks : List (List ℕ)) → IsSpace m.space → AreRules m.space m.rules
-        → IsLevelThroughout m → FitArrows m ranks
+        → All HasOneOrder m.rules → IsLevelThroughout m → FitArrows m ranks
         → IsOrderedByPlace (system_of (ranked m ranks)) (positions_of (ranked m ranks)) }
 {}
 
