@@ -171,7 +171,7 @@ ending-first most wanted before dim n h = elim (larger-either (larger (with_kind
     with_kinds here = plus (most dim here) (greatest_ending most wanted (both before here) (suc dim) n)
 
     parts : (here : Kinds) → is_some (with_kinds here) ≡ true → (here : Kinds) × (is_some (most dim here) ≡ true) × (is_some (greatest_ending most wanted (both before here) (suc dim) n) ≡ true)
-    parts here some = (here, plus-parts (most dim here) (greatest_ending most wanted (both before here) (suc dim) n) some)
+    parts here h = let (some, rest) = plus-parts (most dim here) (greatest_ending most wanted (both before here) (suc dim) n) h in (here, some, rest)
 
 -- leaf cells have leaves alone, before and in each dimension
 ending-before : (most : ℕ → Kinds → Option ℤ) (wanted before : Kinds) (dim n : ℕ) → is_some (greatest_ending most wanted before dim n) ≡ true → wanted.own ≡ true → before.own ≡ true
@@ -215,7 +215,8 @@ module _ (m : BoundModel) (cube : ℕ) (area : Area) (is_area : IsArea m.space c
   by-set number test i h =
       let (k, low, there) = some-greatest (λ k. only (test (set_element (set i) k)) (number (set_element (set i) k))) (set_count (size i) (set i)) h in
       let e = set_element (set i) k in
-      (e, place-in (size i) (set i) k (set-at (sizes m.space cube) area.sets i is_area) low, only-parts (test e) (number e) there)
+      let (passes, some) = only-parts (test e) (number e) there in
+      (e, place-in (size i) (set i) k (set-at (sizes m.space cube) area.sets i is_area) low, passes, some)
 
   pub by-serving : (place : ℕ) (p : Precedent) (test : ℕ → ℕ → Bool) (i : ℕ) → is_some (greatest_by m cube area place p test i) ≡ true → HasServing p test i
   by-serving place p test i h =
