@@ -236,17 +236,22 @@ module _ (m : BoundModel) (cube : ℕ) (area : Area) (is_area : IsArea m.space c
   fits-kind true false i e on alike = let wrong : false ≡ true = on refl in absurd (cc)
   fits-kind false own i e on alike = refl
 
+  from-kind : (kind own : Bool) (p : Precedent) (i e : ℕ) → (kind ≡ true → own ≡ true) → is_in (size i) (set i) e ≡ true → is_same own (is_leaf_element (axes m.space cube) i e) ≡ true
+      → serves (axes m.space cube) p i e ≡ true → is_from m cube area kind p i e ≡ true
+  unfolding is_from
+  from-kind kind own p i e on inside alike serving =
+      and_from (is_in (size i) (set i) e) _ inside
+      (and_from (not (kind && is_total (axes m.space cube) i e)) (serves (axes m.space cube) p i e) (fits-kind kind own i e on alike) serving)
+
   each-of-kinds : (kind its : Bool) (p : Precedent) (place : ℕ) → is_some (excess_of_kinds m cube area (record { own = kind; its = its }) p place) ≡ true
       → HasEach (is_from m cube area kind p) (length (axes m.space cube))
-  unfolding is_from
   each-of-kinds kind its p place h i low =
       let wanted : Kinds = record { own = kind; its = its } in
       let most = greatest_of_kinds m cube area wanted place p in
       let sum = (plus-parts (Some (start_by_kinds m cube wanted place p)) (greatest_ending most wanted (kinds_before m p) 0 (length (axes m.space cube))) h).1 in
       let (here, some, own) = ending-each most wanted (kinds_before m p) 0 (length (axes m.space cube)) sum i (omega arith) (omega (arith, low)) in
       let (e, inside, alike, number) = by-set (λ e. number_by_kinds m cube wanted place p i e here.its) (λ e. is_same here.own (is_leaf_element (axes m.space cube) i e)) i some in
-      let serving = number-serves m cube wanted place p i e here.its number in
-      (e, and_from (is_in (size i) (set i) e) _ inside (and_from (not (kind && is_total (axes m.space cube) i e)) (serves (axes m.space cube) p i e) (fits-kind kind here.own i e own alike) serving))
+      (e, from-kind kind here.own p i e own inside alike (number-serves m cube wanted place p i e here.its number))
 
   each-of-excess : (kind : Bool) (p : Precedent) (place : ℕ) → is_some (most_excess m cube area kind p place) ≡ true → HasEach (is_from m cube area kind p) (length (axes m.space cube))
   unfolding most_excess
