@@ -1,12 +1,11 @@
 -- Ranks of a plan's nodes, cut into those of each cube's elements.
-use Rattle.std.proofs.Common.{◌≡◌, sym, ap, ◌∙◌, arith, subst, ℕ, ◌<◌, ◌≤◌, ◌^◌, ◌+◌, List, [], ◌∷◌, ◌++◌, length, map, All}
+use Rattle.std.proofs.Common.{◌≡◌, sym, ap, ◌∙◌, arith, subst, ℕ, ◌<◌, ◌≤◌, ◌^◌, ◌+◌, true, None, List, [], ◌∷◌, ◌++◌, length, map, All}
 use Rattle.std.specs.Prelude.{slice_index, slice_index_or}
 use Rattle.std.specs.List.{range_with_len}
 use Rattle.std.proofs.lemmas.List.FromFn.{get_or-map-range_with_len, length-map-range_with_len, map-range_with_len_more}
 use Rattle.std.proofs.lemmas.List.Elements.{All-map}
 use Rattle.cube_space.specs.Layout.{axes}
 use Rattle.rule_model.specs.declared.order.Order.{Order}
-use Rattle.rule_model.specs.declared.order.Position.{Position}
 use Rattle.rule_model.specs.declared.order.Position.TheVariants.{Ranks}
 use Rattle.rule_model.specs.Order.{position_of}
 use Rattle.rule_model.specs.System.{cubes_of}
@@ -68,13 +67,12 @@ ranks-more p numbered cube n number own more is own_is number_is =
 -- one order more
 pub orders-more : (p : Plan) (numbered : List ℕ) (n : ℕ) (own more : List Order) (order : Order) → n < length p.model.space.cubes → more ≡ own ++ order ∷ []
     → own ≡ map (order_by p.model (all_ranks p numbered)) (range_with_len 0 n)
-    → order.positions ≡ position_of p.model n 0 ∷ Ranks (last_of p.model.space n) (ranks_of p numbered n) ∷ []
+    → order ≡ (record { positions = position_of p.model n true 0 ∷ Ranks (last_of p.model.space n) (ranks_of p numbered n) ∷ []; totals = None })
     → more ≡ map (order_by p.model (all_ranks p numbered)) (range_with_len 0 (n + 1))
 orders-more p numbered n own more order low is own_is order_is =
     let by : ℕ → Order = order_by p.model (all_ranks p numbered) in
-    let make : List Position → Order = λ positions. record { positions = positions } in
-    let same : order ≡ by n =
-    ap make (order_is ∙ ap (λ ranks. position_of p.model n 0 ∷ Ranks (last_of p.model.space n) ranks ∷ []) (sym (ranks-in p numbered n low))) in
+    let make : List ℕ → Order = λ ranks. record { positions = position_of p.model n true 0 ∷ Ranks (last_of p.model.space n) ranks ∷ []; totals = None } in
+    let same : order ≡ by n = order_is ∙ ap make (sym (ranks-in p numbered n low)) in
     is ∙ ap (λ xs. xs ++ order ∷ []) own_is ∙ ap (λ last. map by (range_with_len 0 n) ++ last ∷ []) same ∙ sym (map-range_with_len_more by 0 n n (omega arith))
 
 pub are-found : (p : Plan) (numbered : List ℕ) (orders : List Order) → IsPlanOfAll p → IsLevelThroughout p.model → Fits (arrows_of p) numbered → IsLeast (arrows_of p) numbered

@@ -9,13 +9,15 @@ use least_ranks::{RankFault, least_ranks};
 use rule_model::{Model, Order};
 use std::alloc::Global;
 
-/// The orders of a model's cubes that have as their first position what the cubes' orders have there, which is called
-/// the lag, and as their second the least ranks of the elements of the last dimension that fit the arrows of the model.
+/// The orders of a model's cubes that have as their first position what the cubes' orders have there for leaf cells,
+/// and as their second the least ranks of the elements of the last dimension that fit the arrows of the model. What a
+/// cell has at the first position is called its lag.
 ///
 /// An arrow goes from the cube and last element of a cell to those of a cell that a formula of it reads at the same
 /// lag, and from a consolidated element to each leaf that counts in it. Ranks fit where they fall along each arrow.
 /// They may stay the same where all that the formula reads is of a smaller level than its cell, and towards a leaf. No
-/// ranks that fit are smaller at any element. With these orders the model is ordered (`arrow_laws`).
+/// ranks that fit are smaller at any element. With these orders a model is ordered whose own orders have no positions
+/// for consolidated cells alone (`arrow_laws`).
 ///
 /// It goes a few times over the statements and the arrows; their number grows with the references and the elements of
 /// the last dimensions, and not with the cells.

@@ -1,4 +1,4 @@
-ghost use Rattle.std.specs.Prelude.{◌≡◌, ◌<◌, IfOk, OnOk, length, map, [], ◌∷◌};
+ghost use Rattle.std.specs.Prelude.{◌≡◌, ◌<◌, true, None, IfOk, OnOk, length, map, [], ◌∷◌};
 ghost use Rattle.rule_model.specs.declared.order.Position.TheVariants.{Ranks};
 ghost use Rattle.rule_model.specs.Order.{position_of};
 ghost use Rattle.rule_model.specs.System.{cubes_of};
@@ -14,7 +14,8 @@ use ref_order::axis;
 use rule_model::{Model, Order, Position};
 use std::alloc::{AllocError, Global};
 
-/// The order of each cube by ranks of the nodes: what its order has at the first position, and then the ranks.
+/// The order of each cube by ranks of the nodes: what its order has for leaf cells at the first position, and then the
+/// ranks.
 pub fn orders(alloc: Global, graph: &NodeGraph, ranks: &[u32]) -> Result<Vec<Order>, AllocError>
     requires { length ranks.now ≡ node_count graph.now }
     ensures made { IfOk result (λ orders. orders.items
@@ -32,8 +33,11 @@ pub fn orders(alloc: Global, graph: &NodeGraph, ranks: &[u32]) -> Result<Vec<Ord
 fn order(alloc: Global, graph: &NodeGraph, cube: u32, ranks: &[u32]) -> Result<Order, AllocError>
     requires ranks { length ranks.now ≡ node_count graph.now }
     requires cube { cube < length graph.now.model.space.cubes }
-    ensures { IfOk result (λ order. order.positions ≡ position_of graph.now.model cube 0
-        ∷ Ranks (last_of graph.now.model.space cube) (ranks_of graph.now ranks.now cube) ∷ []) }
+    ensures { IfOk result (λ order. order ≡ (record {
+        positions = position_of graph.now.model cube true 0
+            ∷ Ranks (last_of graph.now.model.space cube) (ranks_of graph.now ranks.now cube) ∷ [];
+        totals = None;
+    })) }
 {
     let model = graph.model();
     let mut positions = Vec::new(alloc);
@@ -44,13 +48,14 @@ fn order(alloc: Global, graph: &NodeGraph, cube: u32, ranks: &[u32]) -> Result<O
     })?;
     Ok(Order {
         positions: ListOf::new(positions),
+        totals: None,
     })
 }
 
-// What the order of a cube has at the first position.
+// What the order of a cube has for leaf cells at the first position.
 fn lag(alloc: Global, model: &Model, cube: u32) -> Result<Position, AllocError>
     requires { cube < length model.now.space.cubes }
-    ensures { IfOk result (λ position. position ≡ position_of model.now cube 0) }
+    ensures { IfOk result (λ position. position ≡ position_of model.now cube true 0) }
 {
     match model.rules(cube).order.positions.as_slice().first() {
         Some(Position::Ranks { dim, ranks }) => Ok(Position::Ranks {

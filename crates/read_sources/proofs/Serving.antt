@@ -14,10 +14,10 @@ use Rattle.rule_laws.specs.Meaning.{Precedent, Named, Components}
 use Rattle.rule_model.specs.declared.area.Area.{Area}
 use Rattle.rule_model.specs.BoundModel.{BoundModel}
 use Rattle.rule_model.specs.Conditions.{IsArea}
-use Rattle.order_laws.specs.Greatest.{plus, larger, greatest, greatest_sum, greatest_passing_sum, only}
-use Rattle.order_laws.specs.Scales.{scale_of, moved_sum, parts_in, set_count, set_element, is_total, is_leaf_element}
-use Rattle.order_laws.specs.Earlier.{most_excess, is_below}
-use Rattle.order_laws.specs.Plain.{component_excess, components_excess, excess, start, each, greatest_by}
+use Rattle.order_laws.specs.Greatest.{plus, larger, greatest, only}
+use Rattle.order_laws.specs.Scales.{scale_of, moved_sum, parts_in, set_count, set_element, greatest_in, is_total, is_leaf_element}
+use Rattle.order_laws.specs.Earlier.{Kinds, is_same, are_same, both, of_leaf, of_total, moved_leaves, kinds_before, component_number, components_number, number_by_kinds, start_by_kinds, greatest_of_kinds, greatest_ending, excess_of_kinds, most_excess, is_below}
+use Rattle.order_laws.specs.Plain.{component_excess, components_excess, excess, greatest_by}
 use Rattle.order_laws.proofs.SetFacts.{is_in, place-of, place-in, set-at}
 use Rattle.cover_laws.specs.Looking.{sent}
 use Rattle.arrow_laws.specs.ByDimension.{names_from, has_part, serves, is_from, is_lagged, HasEach, HasOtherTotal}
@@ -89,12 +89,17 @@ moved-some worth j (Moved from to ∷ args) i e = by (i == from) (sent to e) (mo
     by true (Some target) later = plus-some (pos (worth j target)) rest ∙ later
     by false o later = later
 
+-- a number that only components have whose weight isn't 0
+some-part : (number : ℕ × ℤ → Option ℤ) (parts : List (ℕ × ℤ)) → ((part : ℕ × ℤ) → is_some (number part) ≡ true → is_nonzero part.1 ≡ true)
+    → is_some (greatest (λ k. number (slice_index_or parts k (0, pos 0))) (length parts)) ≡ true → list_any (λ part. is_nonzero part.1) parts ≡ true
+some-part number parts counted h =
+    let (k, low, there) = some-greatest (λ k. number (slice_index_or parts k (0, pos 0))) (length parts) h in
+    let part : ℕ × ℤ = slice_index_or parts k (0, pos 0) in
+    list_any-from_Any (λ part. is_nonzero part.1) parts (k, part, low, get_or_default parts k part (0, pos 0) low, counted part there)
+
 parts-serve : (worth : ℕ → ℕ) (e : ℕ) (parts : List (ℕ × ℤ)) → is_some (components_excess worth e parts) ≡ true → list_any (λ part. is_nonzero part.1) parts ≡ true
 parts-serve worth e parts h =
-    let (k, low, there) = some-greatest (λ k. component_excess worth e (slice_index_or parts k (0, pos 0))) (length parts) h in
-    let part : ℕ × ℤ = slice_index_or parts k (0, pos 0) in
-    let counts = (only-parts (is_nonzero part.1) (Some (pos (worth part.0) -ℤ pos (worth e))) there).0 in
-    list_any-from_Any (λ part. is_nonzero part.1) parts (k, part, low, get_or_default parts k part (0, pos 0) low, counts)
+    some-part (component_excess worth e) parts (λ part some. (only-parts (is_nonzero part.1) (Some (pos (worth part.0) -ℤ pos (worth e))) some).0) h
 
 serve-parts : (worth : ℕ → ℕ) (e : ℕ) (parts : List (ℕ × ℤ)) → list_any (λ part. is_nonzero part.1) parts ≡ true → is_some (components_excess worth e parts) ≡ true
 serve-parts worth e parts h =
@@ -106,27 +111,89 @@ serve-parts worth e parts h =
 module _ (m : BoundModel) (cube place : ℕ) where
   pub excess-serves : (p : Precedent) (i e : ℕ) → is_some (excess m cube place p i e) ≡ true → serves (axes m.space cube) p i e ≡ true
   excess-serves (Named r) i e h =
-      sym (moved-some (scale_of m r.cube place).worth 0 r.args i e) ∙ sym (some-plus (moved_sum (scale_of m r.cube place).worth 0 r.args i e) _) ∙ h
+      sym (moved-some (scale_of m r.cube true place).worth 0 r.args i e) ∙ sym (some-plus (moved_sum (scale_of m r.cube true place).worth 0 r.args i e) _) ∙ h
   excess-serves (Components dim) i e h = by (i == dim) refl h
     where
-      by : (t : Bool) → (i == dim) ≡ t → is_some (if t then components_excess ((scale_of m cube place).worth dim) e (parts_in (axes m.space cube) dim e) else Some (pos 0)) ≡ true
+      by : (t : Bool) → (i == dim) ≡ t → is_some (if t then components_excess ((scale_of m cube true place).worth dim) e (parts_in (axes m.space cube) dim e) else Some (pos 0)) ≡ true
           → not t || has_part (axes m.space cube) i e ≡ true
       by true is h =
           let same : i ≡ dim = (Decides-eqb i dim).0 is in
-          ap (λ d. has_part (axes m.space cube) d e) same ∙ parts-serve ((scale_of m cube place).worth dim) e (parts_in (axes m.space cube) dim e) h
+          ap (λ d. has_part (axes m.space cube) d e) same ∙ parts-serve ((scale_of m cube true place).worth dim) e (parts_in (axes m.space cube) dim e) h
       by false is h = refl
 
   pub serves-excess : (p : Precedent) (i e : ℕ) → serves (axes m.space cube) p i e ≡ true → is_some (excess m cube place p i e) ≡ true
   serves-excess (Named r) i e h =
-      some-plus (moved_sum (scale_of m r.cube place).worth 0 r.args i e) _ ∙ moved-some (scale_of m r.cube place).worth 0 r.args i e ∙ h
+      some-plus (moved_sum (scale_of m r.cube true place).worth 0 r.args i e) _ ∙ moved-some (scale_of m r.cube true place).worth 0 r.args i e ∙ h
   serves-excess (Components dim) i e h = by (i == dim) refl h
     where
       by : (t : Bool) → (i == dim) ≡ t → not t || has_part (axes m.space cube) i e ≡ true
-          → is_some (if t then components_excess ((scale_of m cube place).worth dim) e (parts_in (axes m.space cube) dim e) else Some (pos 0)) ≡ true
+          → is_some (if t then components_excess ((scale_of m cube true place).worth dim) e (parts_in (axes m.space cube) dim e) else Some (pos 0)) ≡ true
       by true is h =
           let same : i ≡ dim = (Decides-eqb i dim).0 is in
-          serve-parts ((scale_of m cube place).worth dim) e (parts_in (axes m.space cube) dim e) (ap (λ d. has_part (axes m.space cube) d e) (sym same) ∙ h)
+          serve-parts ((scale_of m cube true place).worth dim) e (parts_in (axes m.space cube) dim e) (ap (λ d. has_part (axes m.space cube) d e) (sym same) ∙ h)
       by false is h = refl
+
+-- and so is its number by the kinds of cells
+module _ (m : BoundModel) (cube : ℕ) (kinds : Kinds) (place : ℕ) where
+  kinds-part : (dim e : ℕ) (leaf : Bool) (parts : List (ℕ × ℤ)) → is_some (components_number m cube kinds place dim e leaf parts) ≡ true → list_any (λ part. is_nonzero part.1) parts ≡ true
+  kinds-part dim e leaf parts h = some-part (component_number m cube kinds place dim e leaf) parts counted h
+    where
+      counted : (part : ℕ × ℤ) → is_some (component_number m cube kinds place dim e leaf part) ≡ true → is_nonzero part.1 ≡ true
+      counted part some =
+          let alike = is_same leaf (is_leaf_element (axes m.space cube) dim part.0) in
+          (and_parts (is_nonzero part.1) alike (only-parts (is_nonzero part.1 && alike) _ some).0).0
+
+  pub number-serves : (p : Precedent) (i e : ℕ) (leaf : Bool) → is_some (number_by_kinds m cube kinds place p i e leaf) ≡ true → serves (axes m.space cube) p i e ≡ true
+  number-serves (Named r) i e leaf h =
+      let worth : ℕ → ℕ → ℕ = (scale_of m r.cube kinds.its place).worth in
+      let some = (only-parts (is_same leaf (moved_leaves (axes m.space r.cube) 0 r.args i e)) _ h).1 in
+      sym (moved-some worth 0 r.args i e) ∙ sym (some-plus (moved_sum worth 0 r.args i e) _) ∙ some
+  number-serves (Components dim) i e leaf h = by (i == dim) _ refl h
+    where
+      by : (t : Bool) (other : Option ℤ) → (i == dim) ≡ t → is_some (if t then components_number m cube kinds place dim e leaf (parts_in (axes m.space cube) dim e) else other) ≡ true
+          → not t || has_part (axes m.space cube) i e ≡ true
+      by true other is h =
+          let same : i ≡ dim = (Decides-eqb i dim).0 is in
+          ap (λ d. has_part (axes m.space cube) d e) same ∙ kinds-part dim e leaf (parts_in (axes m.space cube) dim e) h
+      by false other is h = refl
+
+-- ---- the kinds of a greatest sum
+
+-- the kinds in the first dimension
+ending-first : (most : ℕ → Kinds → Option ℤ) (wanted before : Kinds) (dim n : ℕ) → is_some (greatest_ending most wanted before dim (suc n)) ≡ true
+    → (here : Kinds) × (is_some (most dim here) ≡ true) × (is_some (greatest_ending most wanted (both before here) (suc dim) n) ≡ true)
+ending-first most wanted before dim n h = elim (larger-either (larger (with_kinds (of_leaf true)) (with_kinds (of_leaf false))) (larger (with_kinds (of_total true)) (with_kinds (of_total false))) h) [
+  | inl leaf ↦ elim (larger-either (with_kinds (of_leaf true)) (with_kinds (of_leaf false)) leaf) [ inl one ↦ parts (of_leaf true) one | inr other ↦ parts (of_leaf false) other ]
+  | inr total ↦ elim (larger-either (with_kinds (of_total true)) (with_kinds (of_total false)) total) [ inl one ↦ parts (of_total true) one | inr other ↦ parts (of_total false) other ]
+]
+  where
+    with_kinds : Kinds → Option ℤ
+    with_kinds here = plus (most dim here) (greatest_ending most wanted (both before here) (suc dim) n)
+
+    parts : (here : Kinds) → is_some (with_kinds here) ≡ true → (here : Kinds) × (is_some (most dim here) ≡ true) × (is_some (greatest_ending most wanted (both before here) (suc dim) n) ≡ true)
+    parts here h = let (some, rest) = plus-parts (most dim here) (greatest_ending most wanted (both before here) (suc dim) n) h in (here, some, rest)
+
+-- leaf cells have leaves alone, before and in each dimension
+ending-before : (most : ℕ → Kinds → Option ℤ) (wanted before : Kinds) (dim n : ℕ) → is_some (greatest_ending most wanted before dim n) ≡ true → wanted.own ≡ true → before.own ≡ true
+ending-before most wanted before dim zero h own =
+    let same = (only-parts (are_same wanted before) (Some (pos 0)) h).0 in
+    let alike = (and_parts (is_same wanted.own before.own) (is_same wanted.its before.its) same).0 in
+    ap (λ b. is_same b before.own) (sym own) ∙ alike
+ending-before most wanted before dim (suc n) h own =
+    let (here, some, rest) = ending-first most wanted before dim n h in
+    (and_parts before.own here.own (ending-before most wanted (both before here) (suc dim) n rest own)).0
+
+ending-each : (most : ℕ → Kinds → Option ℤ) (wanted before : Kinds) (dim n : ℕ) → is_some (greatest_ending most wanted before dim n) ≡ true → (i : ℕ) → dim ≤ i → i < dim + n
+    → (here : Kinds) × (is_some (most i here) ≡ true) × (wanted.own ≡ true → here.own ≡ true)
+ending-each most wanted before dim zero h i from low = absurd (omega (arith, from, low))
+ending-each most wanted before dim (suc n) h i from low =
+    let (here, some, rest) = ending-first most wanted before dim n h in
+    elim (cases_lt dim i) [
+      | inl later ↦ ending-each most wanted (both before here) (suc dim) n rest i (omega (arith, later)) (omega (arith, low))
+      | inr now ↦
+          let same : i ≡ dim = omega (arith, from, now) in
+          (here, ap (λ j. is_some (most j here)) same ∙ some, λ own. (and_parts before.own here.own (ending-before most wanted (both before here) (suc dim) n rest own)).1)
+    ]
 
 -- ---- the greatest of an area
 
@@ -142,12 +209,19 @@ module _ (m : BoundModel) (cube : ℕ) (area : Area) (is_area : IsArea m.space c
   HasServing p test i =
       (e : ℕ) × (is_in (size i) (set i) e ≡ true) × (test i e ≡ true) × (serves (axes m.space cube) p i e ≡ true)
 
+  -- an element of the greatest number
+  by-set : (number : ℕ → Option ℤ) (test : ℕ → Bool) (i : ℕ) → is_some (greatest_in number test (size i) (set i)) ≡ true
+      → (e : ℕ) × (is_in (size i) (set i) e ≡ true) × (test e ≡ true) × (is_some (number e) ≡ true)
+  by-set number test i h =
+      let (k, low, there) = some-greatest (λ k. only (test (set_element (set i) k)) (number (set_element (set i) k))) (set_count (size i) (set i)) h in
+      let e = set_element (set i) k in
+      let (passes, some) = only-parts (test e) (number e) there in
+      (e, place-in (size i) (set i) k (set-at (sizes m.space cube) area.sets i is_area) low, passes, some)
+
   pub by-serving : (place : ℕ) (p : Precedent) (test : ℕ → ℕ → Bool) (i : ℕ) → is_some (greatest_by m cube area place p test i) ≡ true → HasServing p test i
   by-serving place p test i h =
-      let (k, low, there) = some-greatest (λ k. only (test i (set_element (set i) k)) (excess m cube place p i (set_element (set i) k))) (set_count (size i) (set i)) h in
-      let e = set_element (set i) k in
-      let (passes, some) = only-parts (test i e) (excess m cube place p i e) there in
-      (e, place-in (size i) (set i) k (set-at (sizes m.space cube) area.sets i is_area) low, passes, excess-serves m cube place p i e some)
+      let (e, inside, passes, some) = by-set (excess m cube place p i) (test i) i h in
+      (e, inside, passes, excess-serves m cube place p i e some)
 
   pub serving-by : (place : ℕ) (p : Precedent) (test : ℕ → ℕ → Bool) (i : ℕ) → HasServing p test i → is_some (greatest_by m cube area place p test i) ≡ true
   serving-by place p test i (e, inside, passes, serving) =
@@ -157,64 +231,41 @@ module _ (m : BoundModel) (cube : ℕ) (area : Area) (is_area : IsArea m.space c
 
   -- ---- where some cell reads, each dimension has an element from which it does
 
-  sum-each : (most : ℕ → Option ℤ) (dim n : ℕ) → is_some (greatest_sum most dim n) ≡ true → (i : ℕ) → dim ≤ i → i < dim + n → is_some (most i) ≡ true
-  sum-each most dim zero h i from low = absurd (omega (arith, from, low))
-  sum-each most dim (suc n) h i from low =
-      let (here, rest) = plus-parts (most dim) (greatest_sum most (suc dim) n) h in
-      elim (cases_lt dim i) [
-        | inl later ↦ sum-each most (suc dim) n rest i (omega (arith, later)) (omega (arith, low))
-        | inr now ↦ let same : i ≡ dim = omega (arith, from, now) in ap (λ j. is_some (most j)) same ∙ here
-      ]
+  fits-kind : (kind own : Bool) (i e : ℕ) → (kind ≡ true → own ≡ true) → is_same own (is_leaf_element (axes m.space cube) i e) ≡ true → not (kind && is_total (axes m.space cube) i e) ≡ true
+  fits-kind true true i e on alike = alike
+  fits-kind true false i e on alike = let wrong : false ≡ true = on refl in absurd (cc)
+  fits-kind false own i e on alike = refl
 
-  passing-each : (most passing : ℕ → Option ℤ) (dim n : ℕ) → is_some (greatest_passing_sum most passing dim n) ≡ true → (i : ℕ) → dim ≤ i → i < dim + n
-      → (is_some (most i) ≡ true) ⊎ (is_some (passing i) ≡ true)
-  passing-each most passing dim zero h i from low = absurd (omega (arith, from, low))
-  passing-each most passing dim (suc n) h i from low = elim (larger-either (plus (most dim) (greatest_passing_sum most passing (suc dim) n)) (plus (passing dim) (greatest_sum most (suc dim) n)) h) [
-    | inl pass ↦
-        let (here, rest) = plus-parts (most dim) (greatest_passing_sum most passing (suc dim) n) pass in
-        elim (cases_lt dim i) [
-          | inl later ↦ passing-each most passing (suc dim) n rest i (omega (arith, later)) (omega (arith, low))
-          | inr now ↦ let same : i ≡ dim = omega (arith, from, now) in inl (ap (λ j. is_some (most j)) same ∙ here)
-        ]
-    | inr all ↦
-        let (here, rest) = plus-parts (passing dim) (greatest_sum most (suc dim) n) all in
-        elim (cases_lt dim i) [
-          | inl later ↦ inl (sum-each most (suc dim) n rest i (omega (arith, later)) (omega (arith, low)))
-          | inr now ↦ let same : i ≡ dim = omega (arith, from, now) in inr (ap (λ j. is_some (passing j)) same ∙ here)
-        ]
-  ]
-
-  -- such an element may be that of a cell from which is read
-  from-leaf : (p : Precedent) (i : ℕ) → HasServing p (is_leaf_element (axes m.space cube)) i → (e : ℕ) × (is_from m cube area true p i e ≡ true)
+  from-kind : (kind own : Bool) (p : Precedent) (i e : ℕ) → (kind ≡ true → own ≡ true) → is_in (size i) (set i) e ≡ true → is_same own (is_leaf_element (axes m.space cube) i e) ≡ true
+      → serves (axes m.space cube) p i e ≡ true → is_from m cube area kind p i e ≡ true
   unfolding is_from
-  from-leaf p i (e, inside, leaf, serving) =
-      (e, and_from (is_in (size i) (set i) e) _ inside (and_from (not (is_total (axes m.space cube) i e)) (serves (axes m.space cube) p i e) leaf serving))
+  from-kind kind own p i e on inside alike serving =
+      and_from (is_in (size i) (set i) e) _ inside
+      (and_from (not (kind && is_total (axes m.space cube) i e)) (serves (axes m.space cube) p i e) (fits-kind kind own i e on alike) serving)
 
-  from-any : (p : Precedent) (test : ℕ → ℕ → Bool) (i : ℕ) → HasServing p test i → (e : ℕ) × (is_from m cube area false p i e ≡ true)
-  unfolding is_from
-  from-any p test i (e, inside, passes, serving) = (e, and_from (is_in (size i) (set i) e) _ inside serving)
+  each-of-kinds : (kind its : Bool) (p : Precedent) (place : ℕ) → is_some (excess_of_kinds m cube area (record { own = kind; its = its }) p place) ≡ true
+      → HasEach (is_from m cube area kind p) (length (axes m.space cube))
+  each-of-kinds kind its p place h i low =
+      let wanted : Kinds = record { own = kind; its = its } in
+      let most = greatest_of_kinds m cube area wanted place p in
+      let sum = (plus-parts (Some (start_by_kinds m cube wanted place p)) (greatest_ending most wanted (kinds_before m p) 0 (length (axes m.space cube))) h).1 in
+      let (here, some, own) = ending-each most wanted (kinds_before m p) 0 (length (axes m.space cube)) sum i (omega arith) (omega (arith, low)) in
+      let (e, inside, alike, number) = by-set (λ e. number_by_kinds m cube wanted place p i e here.its) (λ e. is_same here.own (is_leaf_element (axes m.space cube) i e)) i some in
+      (e, from-kind kind here.own p i e own inside alike (number-serves m cube wanted place p i e here.its number))
 
-  each-of-sum : (kind : Bool) (p : Precedent) (place : ℕ) → is_some (most_excess m cube area kind p place) ≡ true → HasEach (is_from m cube area kind p) (length (axes m.space cube))
+  each-of-excess : (kind : Bool) (p : Precedent) (place : ℕ) → is_some (most_excess m cube area kind p place) ≡ true → HasEach (is_from m cube area kind p) (length (axes m.space cube))
   unfolding most_excess
-  each-of-sum true p place h i low =
-      let most = greatest_by m cube area place p (is_leaf_element (axes m.space cube)) in
-      let sum = (plus-parts (Some (start m cube place p)) (greatest_sum most 0 (length (axes m.space cube))) h).1 in
-      from-leaf p i (by-serving place p (is_leaf_element (axes m.space cube)) i (sum-each most 0 (length (axes m.space cube)) sum i (omega arith) (omega (arith, low))))
-  each-of-sum false p place h i low =
-      let most = greatest_by m cube area place p each in
-      let passing = greatest_by m cube area place p (is_total (axes m.space cube)) in
-      let sum = (plus-parts (Some (start m cube place p)) (greatest_passing_sum most passing 0 (length (axes m.space cube))) h).1 in
-      elim (passing-each most passing 0 (length (axes m.space cube)) sum i (omega arith) (omega (arith, low))) [
-        | inl any ↦ from-any p each i (by-serving place p each i any)
-        | inr total ↦ from-any p (is_total (axes m.space cube)) i (by-serving place p (is_total (axes m.space cube)) i total)
-      ]
+  each-of-excess kind p place h = elim (larger-either (excess_of_kinds m cube area (record { own = kind; its = true }) p place) (excess_of_kinds m cube area (record { own = kind; its = false }) p place) h) [
+    | inl leaf ↦ each-of-kinds kind true p place leaf
+    | inr total ↦ each-of-kinds kind false p place total
+  ]
 
   pub reads-each : (kind : Bool) (p : Precedent) → is_lagged m cube area kind p ≡ false → HasEach (is_from m cube area kind p) (length (axes m.space cube))
   reads-each kind p unlagged = by (most_excess m cube area kind p 0) refl unlagged
     where
       by : (o : Option ℤ) → most_excess m cube area kind p 0 ≡ o → is_below o ≡ false → HasEach (is_from m cube area kind p) (length (axes m.space cube))
       by None is wrong = absurd (cc)
-      by (Some z) is unlagged = each-of-sum kind p 0 (ap is_some is)
+      by (Some z) is unlagged = each-of-excess kind p 0 (ap is_some is)
 
   -- ---- a consolidated element from which is read
 
