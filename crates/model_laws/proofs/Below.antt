@@ -53,7 +53,7 @@ leaf-alone d dim element leaf here lowest counts = by (components_of d element) 
 
     by : (parts : List (ℕ × ℤ)) → eqb (length parts) 0 ≡ true → coef d element leaf ≡ coef_over leaf element (λ e. coef d e leaf) parts → element ≡ leaf
     by [] none is = same (eqb element leaf) refl is
-    by (part ∷ parts) none is = absurd (cc)
+    by (part ∷ parts) none is = absurd (omega (arith, eqb-true (length (part ∷ parts)) 0 none))
 
 leaves-alone : (ds : List Outline) (cell leaf : List ℕ) → All IsDimension ds → are_digits (sizes_of ds) cell ≡ true → are_digits (sizes_of ds) leaf ≡ true → are_leaves ds cell ≡ true
     → (coef_product ds cell leaf ≡ pos 0 → ⊥) → cell ≡ leaf
