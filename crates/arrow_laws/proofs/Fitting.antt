@@ -1,5 +1,5 @@
 -- Ranks that fit the arrows of a model order it.
-use Rattle.std.proofs.Common.{◌≡◌, refl, sym, ap, arith, subst, ℕ, zero, suc, ◌+◌, ◌<◌, ◌≤◌, ◌⊎◌, Bool, true, false, Some, List, [], ◌∷◌, length, map, get_or, All, Contains, inl, inr, if◌then◌else◌}
+use Rattle.std.proofs.Common.{◌≡◌, refl, sym, ap, ◌∙◌, arith, subst, ℕ, zero, suc, ◌+◌, ◌<◌, ◌≤◌, ◌⊎◌, Bool, true, false, Some, List, [], ◌∷◌, length, map, get_or, All, Contains, inl, inr, if◌then◌else◌}
 use Rattle.std.specs.Prelude.{◌↔◌, Option, unwrap_or, slice_get, slice_index_or}
 use Rattle.std.proofs.lemmas.List.FromFn.{length-map-range_with_len, get_or-map-range_with_len}
 use Rattle.std.proofs.lemmas.List.Elements.{All-contains, Contains-get_or, All-nil, All-cons}
