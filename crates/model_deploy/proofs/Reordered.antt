@@ -1,5 +1,5 @@
 -- The rules of a model in the orders that are found.
-use Rattle.std.proofs.Common.{◌≡◌, inl, inr, refl, sym, ap, ◌∙◌, arith, subst, ℕ, ◌+◌, ◌<◌, ◌≤◌, List, [], ◌∷◌, ◌++◌, map, length, set, length-append}
+use Rattle.std.proofs.Common.{◌≡◌, inl, inr, refl, sym, ap, ◌∙◌, arith, subst, ℕ, ◌+◌, ◌<◌, ◌≤◌, None, List, [], ◌∷◌, ◌++◌, map, length, set, length-append, All}
 use Rattle.std.specs.Prelude.{slice_index_or}
 use Rattle.std.specs.List.{range_with_len}
 use Rattle.std.proofs.lemmas.Bool.{cases_lt}
@@ -11,12 +11,12 @@ use Rattle.rule_model.specs.declared.rules.CubeRules.{CubeRules}
 use Rattle.rule_model.specs.BoundModel.{BoundModel, rules_of, no_rules}
 use Rattle.rule_model.specs.Conditions.{AreRules}
 use Rattle.arrow_laws.specs.Arrows.{FitArrows}
-use Rattle.arrow_laws.specs.Ranked.{with_order, order_by, ranked, AreNodeRanks}
+use Rattle.arrow_laws.specs.Ranked.{HasOneOrder, with_order, order_by, ranked, AreNodeRanks}
 use Rattle.order_find.specs.Found.{AreFound}
 use Rattle.model_deploy.specs.Deployment.{IsRanked}
 
 abbrev no_order : Order
-no_order = record { positions = [] }
+no_order = record { positions = []; totals = None }
 
 -- the rules of a cube with another order
 abbrev pub reordered : List CubeRules → List Order → ℕ → CubeRules
@@ -86,9 +86,9 @@ module _ (m : BoundModel) (orders : List Order) (space : IsSpace m.space) (are :
       (λ k low. get_or-map-range_with_len (reordered m.rules orders) 0 (length m.rules) k k no_rules (omega (arith, low, are.each_cube)) (omega arith)
       ∙ ap (with_order (rules_of m k)) (own-is k low))
 
-  pub are-rules : ((b : BoundModel) (ranks : List (List ℕ)) → IsSpace b.space → AreRules b.space b.rules → FitArrows b ranks → AreNodeRanks b ranks → AreRules b.space (ranked b ranks).rules)
-      → AreRules m.space after
-  are-rules law = subst (AreRules m.space) (sym after-ranked) (law m found.ranks space are found.fit found.each)
+  pub are-rules : ((b : BoundModel) (ranks : List (List ℕ)) → IsSpace b.space → AreRules b.space b.rules → All HasOneOrder b.rules → FitArrows b ranks → AreNodeRanks b ranks
+      → AreRules b.space (ranked b ranks).rules) → All HasOneOrder m.rules → AreRules m.space after
+  are-rules law one = subst (AreRules m.space) (sym after-ranked) (law m found.ranks space are one found.fit found.each)
 
   pub is-ranked : IsRanked m (record { space = m.space; rules = after })
   is-ranked = record {

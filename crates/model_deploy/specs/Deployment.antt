@@ -67,7 +67,8 @@ pub record IsRanked (model ranked : BoundModel) : Type 0 where
   pub space : IsSpace model.space
   pub orders : List Order
   pub found : AreFound model orders
-  pub with_them : ranked ≡ with_orders model (λ cube. slice_index_or orders cube (record { positions = [] }))
+  pub with_them : ranked
+      ≡ with_orders model (λ cube. slice_index_or orders cube (record { positions = []; totals = None }))
 
 -- the orders of a model are found, each by its lag and by what formulas read at the same lag
 abbrev pub find_stage : List (Option RuleFile) → BoundModel → Stage BoundModel

@@ -1,9 +1,9 @@
-ghost use Rattle.std.specs.Prelude.{◌≡◌, ◌⊎◌, Some, IfOk, [], length, map, slice_index_or};
+ghost use Rattle.std.specs.Prelude.{◌≡◌, ◌⊎◌, None, Some, IsTrue, IfOk, [], All, length, map, slice_index_or};
 ghost use Rattle.std.specs.List.{range_with_len};
 ghost use Rattle.rule_model.specs.BoundModel.{no_rules};
 ghost use Rattle.rule_model.specs.Conditions.{AreRules};
 ghost use Rattle.rule_model.specs.Weights.{AreWeightsOf, HasSmallProducts};
-ghost use Rattle.arrow_laws.specs.Ranked.{with_order};
+ghost use Rattle.arrow_laws.specs.Ranked.{HasOneOrder, with_order};
 ghost use Rattle.order_find.specs.Found.{AreFound, IsFindFault};
 ghost use Rattle.model_deploy.specs.Foundation.{memory};
 ghost use Rattle.model_deploy.specs.Rules.{is_automatic};
@@ -32,6 +32,7 @@ pub fn model_of(
     requires weights { AreWeightsOf found.space.dimensions found.weights.items }
     requires products { HasSmallProducts found.space }
     requires rules { AreRules found.space rules }
+    requires one_order { IsTrue (is_automatic found.orders) → All HasOneOrder rules }
     ensures comes { Comes
         (ranked_stage (is_automatic found.orders) files.now (record { space = found.space; rules = rules })) result }
 {
@@ -47,6 +48,7 @@ pub fn model_of(
 
 // The model with the orders that are found.
 fn ranked(alloc: Global, files: &RuleFiles<'_>, model: Model) -> Result<Model, DeployFault>
+    requires { All HasOneOrder model.rules }
     ensures comes { Comes (find_stage files.now model) result }
 {
     match find(alloc, &model) {
@@ -57,7 +59,8 @@ fn ranked(alloc: Global, files: &RuleFiles<'_>, model: Model) -> Result<Model, D
 
 // The model with these orders of its cubes.
 fn with_orders(alloc: Global, model: Model, orders: Vec<Order>) -> Result<Model, AllocError>
-    requires { AreFound model orders.items }
+    requires found { AreFound model orders.items }
+    requires one_order { All HasOneOrder model.rules }
     ensures { IfOk result (IsRanked model) }
 {
     // a space says of itself that it is one, and least ranks make orders of its cubes
@@ -72,7 +75,8 @@ fn with_orders(alloc: Global, model: Model, orders: Vec<Order>) -> Result<Model,
 fn in_orders(mut rules: Vec<CubeRules>, orders: Vec<Order>) -> Vec<CubeRules>
     requires { length orders.items ≡ length rules.items }
     ensures { result.items ≡ map (λ cube. with_order (slice_index_or rules.items cube no_rules)
-        (slice_index_or orders.items cube (record { positions = [] }))) (range_with_len 0 (length rules.items)) }
+        (slice_index_or orders.items cube (record { positions = []; totals = None })))
+        (range_with_len 0 (length rules.items)) }
 {
     let mut cube = 0;
     for order in orders {

@@ -9,6 +9,7 @@ use Rattle.model_deploy.specs.Stages.{Comes}
 use Rattle.model_deploy.specs.Inside.Grouped.{checked}
 use Rattle.model_deploy.specs.declared.fault.DeployFault.{DeployFault}
 use Rattle.model_deploy.proofs.Firsts.{unrefused}
+use Rattle.model_deploy.proofs.OneOrder.{one-order}
 use Rattle.model_deploy.proofs.InStages.{unfounded, unruled, unranked, ruled, late, late-fed, overfed, passes}
 use Rattle.model_deploy.proofs.deploying.deploy.Goals.{In_ok-model}
 use Rattle.model_deploy.proofs.deploying.deploy.Goals as goal
@@ -23,6 +24,11 @@ returns-in_err-bound-clause-comes c =
     let none = unrefused _ found c.in_ok-found.ensures.answered in
     unruled c.args.text c.args.rules.now found.space found.orders none c.in_ok-found.ensures.space c.in_ok-found.ensures.orders c.in_err-bound.field-0.0 c.from_residual-in_err-bound.result
     c.from_residual-in_err-bound.ensures.1 c.in_err-bound.ensures.comes
+
+pub model_of-requires-clause-one_order : goal.model_of-requires-clause-one_order
+model_of-requires-clause-one_order c = λ automatic.
+    let found = c.in_ok-found.found in
+    one-order found.space found.orders c.args.rules.now automatic c.in_ok-bound.bound c.in_ok-bound.ensures.comes
 
 pub returns-in_err-model-clause-comes : goal.returns-in_err-model-clause-comes
 returns-in_err-model-clause-comes c =
