@@ -127,7 +127,10 @@ total_ranks_exact : (shown : List ℕ) (leaves : List (List ℕ × ℕ)) → Exa
 unfolding read_total_ranks
 total_ranks_exact shown leaves = exact_then (exact_word unscanned (codes "TOTALS")) (λ _. exact_then in_parentheses_exact (λ totals. exact_gives free (words.RanksByKind shown leaves totals)))
 
-behind_ranks_exact : (totals : Bool) (shown : List ℕ) (leaves : List (List ℕ × ℕ)) → Exact free (behind_ranks totals shown leaves) (behind_ranks totals shown leaves) (read_behind_ranks totals shown leaves) (Not (is_word (codes "TOTALS")))
+behind_given_ranks_exact : (totals : Bool) (shown : List ℕ) → Exact free (given_ranks totals shown) (given_ranks totals shown) (both_of read_in_parentheses (λ leaves. read_behind_ranks totals shown leaves)) (Not (is_word (codes "TOTALS")))
+given_ranks_exact totals shown = exact_then in_parentheses_exact (λ leaves. behind_ranks_exact totals shown leaves)
+
+ranks_exact : (totals : Bool) (shown : List ℕ) (leaves : List (List ℕ × ℕ)) → Exact free (behind_ranks totals shown leaves) (behind_ranks totals shown leaves) (read_behind_ranks totals shown leaves) (Not (is_word (codes "TOTALS")))
 unfolding read_behind_ranks
 behind_ranks_exact totals shown leaves = exact_if totals
     (exact_option (is_word (codes "TOTALS")) (words.Ranks shown leaves) (begins_both (word_begins (codes "TOTALS") (codes "TOTALS"))) (total_ranks_exact shown leaves))
@@ -148,9 +151,12 @@ no_totals (t ∷ rest) e = (or_parts (is_sign (codes "(") t) (is_word (codes "TO
 given_ranks_begin : (totals : Bool) (shown : List ℕ) → Begins (given_ranks totals shown) (is_sign (codes "(")) true
 given_ranks_begin totals shown = begins_both (begins_both (sign_begins (codes "(") (codes "(")))
 
+given_ranks_exact : (totals : Bool) (shown : List ℕ) → Exact free (given_ranks totals shown) (given_ranks totals shown) (both_of read_in_parentheses (λ leaves. read_behind_ranks totals shown leaves)) (Not (is_word (codes "TOTALS")))
+given_ranks_exact totals shown = exact_then in_parentheses_exact (λ leaves. behind_ranks_exact totals shown leaves)
+
 ranks_exact : (totals : Bool) (shown : List ℕ) → Exact free (ranks totals shown) (ranks totals shown) (read_ranks totals shown) (Not goes_on)
 unfolding read_ranks
-ranks_exact totals shown = exact_choose (is_sign (codes "(")) (exact_then in_parentheses_exact (λ leaves. behind_ranks_exact totals shown leaves)) (exact_gives free (words.Index shown))
+ranks_exact totals shown = exact_choose (is_sign (codes "(")) (given_ranks_exact totals shown) (exact_gives free (words.Index shown))
     (λ u a rest h stops. (starts_text (given_ranks_begin totals shown) u a rest h, no_totals rest stops))
     (λ u a rest h stops. (ap (λ x. starts (is_sign (codes "(")) (x ++ rest)) h.0 ∙ no_list rest stops, tt))
 

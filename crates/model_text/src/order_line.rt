@@ -156,6 +156,7 @@ fn ranked_at(
 }
 
 /// Reads a position.
+#[derive(Clone, Copy)]
 struct Position {
     /// Whether the word `TOTALS` may stand in it.
     totals: bool,
