@@ -1,9 +1,9 @@
 -- Lists of which each item may be missing.
-use Rattle.std.proofs.Common.{◌≡◌, ◌<◌, ◌≤◌, ℕ, zero, suc, ◌+◌, List, [], ◌∷◌, ◌++◌, map, length, drop, Option, Some, None, option_map, refl, sym, ap, ◌∙◌, arith, append_assoc, append-nil, get_or}
+use Rattle.std.proofs.Common.{Bool, true, false, ◌||◌, ◌≡◌, ◌<◌, ◌≤◌, ℕ, zero, suc, ◌+◌, List, [], ◌∷◌, ◌++◌, map, length, drop, Option, Some, None, option_map, refl, sym, ap, ◌∙◌, arith, append_assoc, append-nil, get_or}
 use Rattle.std.proofs.lemmas.List.{drop_more, drop_all}
 use Rattle.std.proofs.lemmas.List.FromFn.{length-range_with_len, get_or-range_with_len}
-use Rattle.std.specs.List.{range_with_len}
-use Rattle.bind_order.specs.Orders.{all_of}
+use Rattle.std.specs.List.{range_with_len, list_any}
+use Rattle.bind_order.specs.Ranks.{all_of}
 
 -- all of these behind others
 abbrev pub behind : {A : Type 0} → List A → Option (List A) → Option (List A)
@@ -73,3 +73,15 @@ next_number n i low =
 
 pub no_number : (n i : ℕ) → n ≤ i → drop i (range_with_len 0 n) ≡ []
 no_number n i past = drop_all i (range_with_len 0 n) (omega (arith, past, length-range_with_len 0 n))
+
+-- whether a number of a range passes a test, from the next on
+pub any_more : (test : ℕ → Bool) (n i : ℕ) (whole : Bool) → i < n → test i ≡ false → list_any test (drop i (range_with_len 0 n)) ≡ whole → list_any test (drop (i + 1) (range_with_len 0 n)) ≡ whole
+any_more test n i whole low off so =
+    sym (ap (list_any test) (next_number n i low) ∙ ap (λ b. b || list_any test (drop (i + 1) (range_with_len 0 n))) off) ∙ so
+
+pub any_stops : (test : ℕ → Bool) (n i : ℕ) (whole : Bool) → i < n → test i ≡ true → list_any test (drop i (range_with_len 0 n)) ≡ whole → true ≡ whole
+any_stops test n i whole low on so =
+    sym (ap (list_any test) (next_number n i low) ∙ ap (λ b. b || list_any test (drop (i + 1) (range_with_len 0 n))) on) ∙ so
+
+pub any_done : (test : ℕ → Bool) (n i : ℕ) (whole : Bool) → n ≤ i → list_any test (drop i (range_with_len 0 n)) ≡ whole → false ≡ whole
+any_done test n i whole past so = sym (ap (list_any test) (no_number n i past)) ∙ so

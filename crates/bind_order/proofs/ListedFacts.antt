@@ -9,7 +9,7 @@ use Rattle.dim_core.specs.Outline.{Outline, IsDimension, index_of}
 use Rattle.cube_space.specs.Cells.{is_leaf}
 use Rattle.rule_model.specs.Conditions.{greatest_rank}
 use Rattle.dim_core.proofs.Naming.{called_within}
-use Rattle.bind_order.specs.Orders.{most_written, is_named, listed_rank, listed_ranks, index_rank, index_ranks, may_list, entry_element, are_listed, are_writable}
+use Rattle.bind_order.specs.Ranks.{most_written, is_named, listed_rank, listed_ranks, index_rank, index_ranks, may_list, entry_element, are_listed, are_writable}
 use Rattle.bind_order.specs.Inside.Given.{AreWithin}
 
 -- the rank that a list gives an element, by the list of all
@@ -18,13 +18,13 @@ pub rank_at : (d : Outline) (before : List (List ℕ × ℕ)) (given : List (Opt
 rank_at d before given element is low =
     ap (λ l. slice_index_or l element None) is ∙ get_or-map-range_with_len (listed_rank d before) 0 (length d.elements) element element None low (omega arith)
 
-pub entry_is : (d : Outline) (version : ℕ) (before : List (List ℕ × ℕ)) (name : List ℕ) (given : List (Option ℕ)) (element : ℕ) (b : Bool) → index_of d name ≡ Some element
-    → given ≡ listed_ranks d before → may_list d version (slice_index_or given element None) element ≡ b
-    → (if b then Some element else None) ≡ entry_element d version before name
-entry_is d version before name given element b called is may =
+pub entry_is : (d : Outline) (totals : Bool) (before : List (List ℕ × ℕ)) (name : List ℕ) (given : List (Option ℕ)) (element : ℕ) (b : Bool) → index_of d name ≡ Some element
+    → given ≡ listed_ranks d before → may_list d totals (slice_index_or given element None) element ≡ b
+    → (if b then Some element else None) ≡ entry_element d totals before name
+entry_is d totals before name given element b called is may =
     let same = rank_at d before given element is (called_within d name element called) in
-    let may2 : may_list d version (listed_rank d before element) element ≡ b = ap (λ o. may_list d version o element) (sym same) ∙ may in
-    let whole : entry_element d version before name ≡ (if b then Some element else None) = rw called (ap (λ b. if b then Some element else None) may2) in
+    let may2 : may_list d totals (listed_rank d before element) element ≡ b = ap (λ o. may_list d totals o element) (sym same) ∙ may in
+    let whole : entry_element d totals before name ≡ (if b then Some element else None) = rw called (ap (λ b. if b then Some element else None) may2) in
     sym whole
 
 -- an entry that lists an element
@@ -48,20 +48,20 @@ pushed d (first ∷ before) entry k = by (is_named d k first.0) (pushed d before
     by true later = refl
     by false later = later
 
-entry_free : (d : Outline) (version : ℕ) (before : List (List ℕ × ℕ)) (name : List ℕ) (element : ℕ) → entry_element d version before name ≡ Some element
+entry_free : (d : Outline) (totals : Bool) (before : List (List ℕ × ℕ)) (name : List ℕ) (element : ℕ) → entry_element d totals before name ≡ Some element
     → (index_of d name ≡ Some element) × (listed_rank d before element ≡ None)
-entry_free d version before name element is = by (index_of d name) refl
+entry_free d totals before name element is = by (index_of d name) refl
   where
     by : (o : Option ℕ) → index_of d name ≡ o → (index_of d name ≡ Some element) × (listed_rank d before element ≡ None)
-    by None called = absurd (let none : entry_element d version before name ≡ None = rw called refl in let e : None ≡ Some element = sym none ∙ is in cc e)
-    by (Some found) called = may (listed_rank d before found) refl (may_list d version (listed_rank d before found) found) refl
+    by None called = absurd (let none : entry_element d totals before name ≡ None = rw called refl in let e : None ≡ Some element = sym none ∙ is in cc e)
+    by (Some found) called = may (listed_rank d before found) refl (may_list d totals (listed_rank d before found) found) refl
       where
-        may : (r : Option ℕ) → listed_rank d before found ≡ r → (b : Bool) → may_list d version (listed_rank d before found) found ≡ b
+        may : (r : Option ℕ) → listed_rank d before found ≡ r → (b : Bool) → may_list d totals (listed_rank d before found) found ≡ b
             → (index_of d name ≡ Some element) × (listed_rank d before element ≡ None)
-        may r rank false bad = absurd (let none : entry_element d version before name ≡ None = rw called (ap (λ b. if b then Some found else None) bad) in let e : None ≡ Some element = sym none ∙ is in cc e)
-        may (Some r) rank true good = absurd (let e : false ≡ true = ap (λ o. may_list d version o found) (sym rank) ∙ good in cc e)
+        may r rank false bad = absurd (let none : entry_element d totals before name ≡ None = rw called (ap (λ b. if b then Some found else None) bad) in let e : None ≡ Some element = sym none ∙ is in cc e)
+        may (Some r) rank true good = absurd (let e : false ≡ true = ap (λ o. may_list d totals o found) (sym rank) ∙ good in cc e)
         may None rank true good =
-            let some : entry_element d version before name ≡ Some found = rw called (ap (λ b. if b then Some found else None) good) in
+            let some : entry_element d totals before name ≡ Some found = rw called (ap (λ b. if b then Some found else None) good) in
             let e : Some found ≡ Some element = sym some ∙ is in
             let same : found ≡ element = cc in
             (called ∙ ap Some same, subst (λ k. listed_rank d before k ≡ None) same rank)
@@ -83,15 +83,15 @@ set_later f g a (suc n) (suc i) rank low here other =
     ∙ ap (λ l. g a ∷ l) (set_later f g (a + 1) n i rank (omega (arith, low)) (ap g (sym same) ∙ here) (λ k differs. other k (λ e. differs (e ∙ same))))
 
 -- the ranks with one more entry
-pub given_more : (d : Outline) (version : ℕ) (before : List (List ℕ × ℕ)) (entry : List ℕ × ℕ) (element : ℕ) (given next : List (Option ℕ)) → given ≡ listed_ranks d before
-    → entry_element d version before entry.0 ≡ Some element → next ≡ slice_set given element (Some entry.1) → next ≡ listed_ranks d (before ++ entry ∷ [])
+pub given_more : (d : Outline) (totals : Bool) (before : List (List ℕ × ℕ)) (entry : List ℕ × ℕ) (element : ℕ) (given next : List (Option ℕ)) → given ≡ listed_ranks d before
+    → entry_element d totals before entry.0 ≡ Some element → next ≡ slice_set given element (Some entry.1) → next ≡ listed_ranks d (before ++ entry ∷ [])
 unfolding or_else
-given_more d version before entry element given next is lists set =
+given_more d totals before entry element given next is lists set =
     set ∙ ap (λ l. slice_set l element (Some entry.1)) is
     ∙ set_later (listed_rank d before) (listed_rank d (before ++ entry ∷ [])) 0 (length d.elements) element (Some entry.1) (called_within d entry.0 element free.0) here other
   where
     free : (index_of d entry.0 ≡ Some element) × (listed_rank d before element ≡ None)
-    free = entry_free d version before entry.0 element lists
+    free = entry_free d totals before entry.0 element lists
 
     named : (k : ℕ) → is_named d k entry.0 ≡ eqb element k
     named k = ap (λ o. option_map_or (λ index. index == k) o false) free.0
@@ -109,17 +109,17 @@ given_more d version before entry element given next is lists set =
         ∙ ap (λ b. or_else (listed_rank d before k) (if b then Some entry.1 else None)) (named k ∙ ne_eqb element k (λ e. differs (omega (arith, e))))
         ∙ same_or (listed_rank d before k)
 
-pub listed_more : (d : Outline) (version element : ℕ) (before next : List (List ℕ × ℕ)) (rest later : List (List ℕ × ℕ)) (entry : List ℕ × ℕ) (whole : Bool) → rest ≡ entry ∷ later
-    → next ≡ before ++ entry ∷ [] → entry_element d version before entry.0 ≡ Some element → are_listed d version before rest ≡ whole → are_listed d version next later ≡ whole
-listed_more d version element before next rest later entry whole is pushed lists so =
-    let step : are_listed d version before (entry ∷ later) ≡ are_listed d version (before ++ entry ∷ []) later = ap (λ o. is_some o && are_listed d version (before ++ entry ∷ []) later) lists in
-    ap (λ l. are_listed d version l later) pushed ∙ sym step ∙ ap (are_listed d version before) (sym is) ∙ so
+pub listed_more : (d : Outline) (totals : Bool) (element : ℕ) (before next : List (List ℕ × ℕ)) (rest later : List (List ℕ × ℕ)) (entry : List ℕ × ℕ) (whole : Bool) → rest ≡ entry ∷ later
+    → next ≡ before ++ entry ∷ [] → entry_element d totals before entry.0 ≡ Some element → are_listed d totals before rest ≡ whole → are_listed d totals next later ≡ whole
+listed_more d totals element before next rest later entry whole is pushed lists so =
+    let step : are_listed d totals before (entry ∷ later) ≡ are_listed d totals (before ++ entry ∷ []) later = ap (λ o. is_some o && are_listed d totals (before ++ entry ∷ []) later) lists in
+    ap (λ l. are_listed d totals l later) pushed ∙ sym step ∙ ap (are_listed d totals before) (sym is) ∙ so
 
-pub listed_stops : (d : Outline) (version : ℕ) (before : List (List ℕ × ℕ)) (rest later : List (List ℕ × ℕ)) (entry : List ℕ × ℕ) (whole : Bool) → rest ≡ entry ∷ later
-    → entry_element d version before entry.0 ≡ None → are_listed d version before rest ≡ whole → whole ≡ false
-listed_stops d version before rest later entry whole is lists so =
-    let step : are_listed d version before (entry ∷ later) ≡ false = ap (λ o. is_some o && are_listed d version (before ++ entry ∷ []) later) lists in
-    sym so ∙ ap (are_listed d version before) is ∙ step
+pub listed_stops : (d : Outline) (totals : Bool) (before : List (List ℕ × ℕ)) (rest later : List (List ℕ × ℕ)) (entry : List ℕ × ℕ) (whole : Bool) → rest ≡ entry ∷ later
+    → entry_element d totals before entry.0 ≡ None → are_listed d totals before rest ≡ whole → whole ≡ false
+listed_stops d totals before rest later entry whole is lists so =
+    let step : are_listed d totals before (entry ∷ later) ≡ false = ap (λ o. is_some o && are_listed d totals (before ++ entry ∷ []) later) lists in
+    sym so ∙ ap (are_listed d totals before) is ∙ step
 
 -- an index is within the dimension, and a rank that is listed isn't too great to be written
 pub index_within : (d : Outline) → IsDimension d → AreWithin (index_ranks d)

@@ -1,16 +1,21 @@
 -- The ranks of elements hold the leaves below them.
 use Rattle.std.proofs.Common.{◌≡◌, ◌<◌, ◌≤◌, ℕ, zero, suc, max, Bool, true, false, cond, nat_le, eqb, ℤ, pos, List, [], ◌∷◌, map, length, Option, Some, None, IfSome, unwrap_or, if◌then◌else◌, refl, sym, ap, ◌∙◌, subst, arith, get_or, slice_index_or}
 use Rattle.std.specs.List.{range_with_len}
+use Rattle.std.specs.List.{All}
 use Rattle.std.proofs.lemmas.Bool.{leb-true, eqb-true}
+use Rattle.std.proofs.lemmas.List.{length-map}
+use Rattle.std.proofs.lemmas.List.Elements.{All-map}
 use Rattle.std.proofs.lemmas.List.FromFn.{length-range_with_len, get_or-range_with_len, length-map-range_with_len, get_or-map-range_with_len}
 use Rattle.dim_core.specs.Outline.{Outline, IsDimension, IsElement, components_of}
 use Rattle.dim_weights.specs.Coefficients.{coef, coef_over}
 use Rattle.dim_weights.specs.Table.{is_nonzero, nonzero_among}
 use Rattle.dim_weights.proofs.Equations.{coef-solves, only-leaves}
+use Rattle.cube_space.specs.Cells.{is_leaf}
 use Rattle.rule_model.specs.Order.{greatest}
 use Rattle.rule_model.specs.Conditions.{greatest_rank, AreRanks}
+use Rattle.bind_order.specs.Inside.Held.{AreHeldRanks}
 use Rattle.bind_order.specs.Inside.Given.{AreWithin}
-use Rattle.bind_order.specs.Orders.{leaf_rank, greatest_leaf, fitting, rank_of, index_ranks, ranks_by_index, ranks_of}
+use Rattle.bind_order.specs.Ranks.{leaf_rank, greatest_leaf, filled_rank, fitting, rank_of, index_ranks, ranks_by_index, ranks_of}
 use Rattle.bind_order.proofs.ListFacts.{all_at, all_long}
 use Rattle.dim_weights.proofs.Nonzero.{counts-nonzero as nonzero}
 
@@ -96,12 +101,51 @@ no_components d dim element leaf here other = by (components_of d leaf) refl
     by [] is = is
     by (part ∷ parts) is = absurd (other (only-leaves d dim leaf (λ none. let e : part ∷ parts ≡ [] = sym is ∙ none in cc e) element here))
 
-pub ranks_hold : (d : Outline) → IsDimension d → (given : List (Option ℕ)) (ranks : List ℕ) → AreWithin given → ranks_of d given ≡ Some ranks → AreRanks d ranks
+-- what counts in an element is a leaf
+pub leaf-counted : (d : Outline) → IsDimension d → (element leaf : ℕ) → IsElement d element → (coef d element leaf ≡ pos 0 → ⊥) → is_leaf d leaf ≡ true
+leaf-counted d dim element leaf here other = ap (λ (parts : List (ℕ × ℤ)). eqb (length parts) 0) (no_components d dim element leaf here other)
+
+filled-small : (d : Outline) (given : List (Option ℕ)) → AreWithin given → (k : ℕ) → filled_rank d given k ≤ greatest_rank
+filled-small d given within k = by (slice_index_or given k None) (small_at given within k)
+  where
+    by : (o : Option ℕ) → IfSome o (λ r. r ≤ greatest_rank) → unwrap_or o (greatest_leaf d given k) ≤ greatest_rank
+    by (Some rank) low = low
+    by None low = all_small (coef d k) (leaf_rank given) greatest_rank (range_with_len 0 (length d.elements)) (λ x some. small_leaf given within x)
+
+-- ranks that fill in those that aren't given, and ranks that are given, are ranks
+pub filled-are : (d : Outline) (given : List (Option ℕ)) → AreWithin given → AreRanks d (map (filled_rank d given) (range_with_len 0 (length d.elements)))
+filled-are d given within = record {
+  each = length-map-range_with_len (filled_rank d given) 0 n;
+  small = λ k x low.
+      let here : k < n = omega (arith, low, length-map-range_with_len (filled_rank d given) 0 n) in
+      let is : get_or (map (filled_rank d given) (range_with_len 0 n)) k x ≡ filled_rank d given k = get_or-map-range_with_len (filled_rank d given) 0 n k k x here (omega arith) in
+      subst (λ r. r ≤ greatest_rank) (sym is) (filled-small d given within k);
+}
+  where
+    n : ℕ
+    n = length d.elements
+
+given-small : (given : List (Option ℕ)) → AreWithin given → All (λ rank. rank ≤ greatest_rank) (map (λ rank. unwrap_or rank 0) given)
+given-small given small = All-map (λ rank. rank ≤ greatest_rank) (λ rank. unwrap_or rank 0) given (λ k x low. by (get_or given k x) (small k x low))
+  where
+    by : (o : Option ℕ) → IfSome o (λ r. r ≤ greatest_rank) → unwrap_or o 0 ≤ greatest_rank
+    by (Some rank) low = low
+    by None low = omega arith
+
+pub given-are : (d : Outline) (given : List (Option ℕ)) → length given ≡ length d.elements → AreWithin given → AreRanks d (map (λ rank. unwrap_or rank 0) given)
+given-are d given whole small = record {
+  each = length-map given (λ rank. unwrap_or rank 0) ∙ whole;
+  small = given-small given small;
+}
+
+pub ranks_hold : (d : Outline) → IsDimension d → (given : List (Option ℕ)) (ranks : List ℕ) → AreWithin given → ranks_of d given ≡ Some ranks → AreHeldRanks d ranks
 unfolding ranks_of
 ranks_hold d dim given ranks within is = record {
-  each = long ∙ length-range_with_len 0 n;
-  small = λ k x low. let e = at k x (omega (arith, low, long, length-range_with_len 0 n)) in omega (arith, e.0, most k);
-  holds_leaves = λ element leaf here below counts.
+  are = record {
+    each = long ∙ length-range_with_len 0 n;
+    small = λ k x low. let e = at k x (omega (arith, low, long, length-range_with_len 0 n)) in omega (arith, e.0, filled-small d given within k);
+  };
+  hold = λ element leaf here below counts.
       let top = at element 0 here in
       let bottom = at leaf 0 below in
       let low = leaf_low d dim given leaf below (no_components d dim element leaf here counts) in
@@ -118,7 +162,7 @@ ranks_hold d dim given ranks within is = record {
     long = all_long (rank_of d given) (range_with_len 0 n) ranks is
 
     wanted : ℕ → ℕ
-    wanted k = unwrap_or (slice_index_or given k None) (greatest_leaf d given k)
+    wanted k = filled_rank d given k
 
     at : (k x : ℕ) → k < n → (get_or ranks k x ≡ wanted k) × (greatest_leaf d given k ≤ wanted k)
     at k x low =
@@ -126,20 +170,15 @@ ranks_hold d dim given ranks within is = record {
         let same : get_or (range_with_len 0 n) k 0 ≡ k = get_or-range_with_len 0 n k 0 low ∙ (omega arith) in
         fits (greatest_leaf d given k) (wanted k) (get_or ranks k x) (subst (λ e. rank_of d given e ≡ Some (get_or ranks k x)) same here)
 
-    most : (k : ℕ) → wanted k ≤ greatest_rank
-    most k = by (slice_index_or given k None) (small_at given within k)
-      where
-        by : (o : Option ℕ) → IfSome o (λ r. r ≤ greatest_rank) → unwrap_or o (greatest_leaf d given k) ≤ greatest_rank
-        by (Some rank) low = low
-        by None low = all_small (coef d k) (leaf_rank given) greatest_rank (range_with_len 0 n) (λ x some. small_leaf given within x)
-
 -- the ranks by index hold the leaves below them
-pub index_hold : (d : Outline) → IsDimension d → AreWithin (index_ranks d) → AreRanks d (ranks_by_index d)
+pub index_hold : (d : Outline) → IsDimension d → AreWithin (index_ranks d) → AreHeldRanks d (ranks_by_index d)
 unfolding ranks_by_index
 index_hold d dim within = record {
-  each = length-map-range_with_len rank 0 n;
-  small = λ k x low. subst (λ r. r ≤ greatest_rank) (sym (at k x (omega (arith, low, length-map-range_with_len rank 0 n)))) (most k);
-  holds_leaves = λ element leaf here below counts.
+  are = record {
+    each = length-map-range_with_len rank 0 n;
+    small = λ k x low. subst (λ r. r ≤ greatest_rank) (sym (at k x (omega (arith, low, length-map-range_with_len rank 0 n)))) (most k);
+  };
+  hold = λ element leaf here below counts.
       let none = no_components d dim element leaf here counts in
       let same : get_or (range_with_len 0 n) leaf 0 ≡ leaf = get_or-range_with_len 0 n leaf 0 below ∙ (omega arith) in
       let held = counted (coef d element) (leaf_rank given) (range_with_len 0 n) leaf (omega (arith, below, length-range_with_len 0 n)) (λ z. counts (ap (coef d element) (sym same) ∙ z)) in

@@ -6,7 +6,7 @@ use Rattle.cube_space.specs.Axes.{axis_called}
 use Rattle.model_text.specs.declared.order.OrderWord.{OrderWord}
 use Rattle.model_text.specs.declared.order.OrderWord.TheVariants as words
 use Rattle.rule_model.specs.declared.order.Order.{Order}
-use Rattle.bind_order.specs.Orders.{index_position}
+use Rattle.bind_order.specs.Orders.{index_position, plain_order}
 
 -- the place of the dimension of this name, where it is one of the cube's and not its last
 abbrev pub lag_called : List Outline → List ℕ → Option ℕ
@@ -19,6 +19,8 @@ abbrev pub lag_by : List Outline → OrderWord → Option (Option ℕ)
 lag_by dimensions (words.Constant number) = None
 lag_by dimensions (words.Index name) = None
 lag_by dimensions (words.Ranks name list) = None
+lag_by dimensions (words.RanksByKind name leaves totals) = None
+lag_by dimensions words.Totals = None
 lag_by dimensions (words.Auto None) = Some None
 lag_by dimensions (words.Auto (Some name)) = option_map (λ place. Some place) (lag_called dimensions name)
 
@@ -30,4 +32,4 @@ lag_of dimensions (word ∷ next ∷ rest) = None
 
 -- the order of a lag alone: by the index of the elements of its dimension
 abbrev pub lag_order : List Outline → Option ℕ → Order
-lag_order dimensions lag = record { positions = map (index_position dimensions) (option_to_list lag) }
+lag_order dimensions lag = plain_order (map (index_position dimensions) (option_to_list lag))

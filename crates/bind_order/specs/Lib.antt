@@ -1,3 +1,6 @@
+pub mod Ranks
+pub mod LeafCells
+pub mod ByKind
 pub mod Orders
 pub mod Lags
 pub mod Inside

@@ -5,11 +5,11 @@ ghost use Rattle.rule_model.specs.Weights.{AreWeightsOf};
 ghost use Rattle.bind_order.specs.Lags.{lag_called, lag_by, lag_of, lag_order};
 
 use crate::fault::BindOrderFault;
+use crate::made::plain_order;
 use crate::word::index_position;
 use cube_space::{Space, axis_called, axis_count};
 use dim_name::Name;
 use dim_weights::Weights;
-use lists::ListOf;
 use model_text::{OrderLine, OrderWord};
 use rule_model::Order;
 use std::alloc::{AllocError, Global};
@@ -34,7 +34,11 @@ fn lag_by(space: &Space, cube: u32, word: &OrderWord) -> Option<Option<u32>>
     ensures within { IfSome result (λ lag. IfSome lag (λ place. place + 1 < length (axes space.now cube))) }
 {
     match word {
-        OrderWord::Constant(_) | OrderWord::Index(_) | OrderWord::Ranks(_, _) => None,
+        OrderWord::Constant(_)
+        | OrderWord::Index(_)
+        | OrderWord::Ranks(_, _)
+        | OrderWord::RanksByKind(_, _, _)
+        | OrderWord::Totals => None,
         OrderWord::Auto(None) => Some(None),
         OrderWord::Auto(Some(name)) => match lag_called(space, cube, name) {
             Some(place) => Some(Some(place)),
@@ -87,7 +91,5 @@ pub fn lag_order(
         let position = index_position(alloc, space, weights, cube, place)?;
         positions.push(position)?;
     }
-    Ok(Order {
-        positions: ListOf::new(positions),
-    })
+    Ok(plain_order(positions))
 }

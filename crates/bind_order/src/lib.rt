@@ -1,7 +1,8 @@
 //! Binding of order lines: the declared order of a cube that an `ORDER` line of a model text means.
 //!
 //! Read in this order: [`bind_order`]; [`BindOrderFault`], why a line means no order; [`auto_lag`] and [`lag_order`],
-//! what a line for an order that is found means. `specs/Orders.antt` and `specs/Lags.antt` say what lines mean.
+//! what a line for an order that is found means. `specs/Orders.antt`, `specs/ByKind.antt` and `specs/Lags.antt` say what
+//! lines mean.
 #![tactic(auto)]
 
 pub use bind::bind_order;
@@ -10,8 +11,11 @@ pub use lag::{auto_lag, lag_order};
 
 mod axes;
 mod bind;
+mod by_kind;
 mod fault;
 mod lag;
+mod leaf_cells;
 mod listed;
+mod made;
 mod ranks;
 mod word;

@@ -1,8 +1,8 @@
-ghost use Rattle.std.specs.Prelude.{◌≡◌, ◌<◌, ℕ, List, None, [], length, IfOk, IfSome, IfNone, false, true};
+ghost use Rattle.std.specs.Prelude.{◌≡◌, ◌<◌, ℕ, List, [], length, IfOk, IfSome, IfNone, false, true};
 ghost use Rattle.dim_name.specs.Name.{place_of};
 ghost use Rattle.cube_space.specs.Cells.{is_leaf};
-ghost use Rattle.bind_order.specs.Orders.{may_list, entry_element, are_listed, listed_ranks, index_rank, index_ranks};
-ghost use Rattle.bind_order.specs.Orders.{are_writable};
+ghost use Rattle.bind_order.specs.Ranks.{may_list, entry_element, are_listed, listed_ranks, index_rank, index_ranks};
+ghost use Rattle.bind_order.specs.Ranks.{are_writable, is_list_of};
 ghost use Rattle.bind_order.specs.Inside.Given.{AreWithin};
 
 use dim_core::Dimension;
@@ -12,14 +12,15 @@ use std::alloc::{AllocError, Global};
 /// The greatest number that an order line may write. An index, which it doesn't write, may be greater.
 pub const MAX_WRITTEN: u32 = 65_535;
 
-/// Whether no entry of a list has a rank that is too great to be written.
-pub fn are_writable(list: &[(Name, u32)]) -> bool
+// Whether no entry of a list has a rank that is too great to be written.
+fn are_writable(list: &[(Name, u32)]) -> bool
     ensures { result ≡ are_writable list.now }
 {
     list.iter().all(|entry| entry.1 <= MAX_WRITTEN)
 }
 
-fn is_leaf(dimension: &Dimension, element: u32) -> bool
+/// Whether an element is a leaf.
+pub fn is_leaf(dimension: &Dimension, element: u32) -> bool
     requires { element < length dimension.now.elements }
     ensures { result ≡ is_leaf dimension.now element }
 {
@@ -53,28 +54,28 @@ pub fn index_ranks(alloc: Global, dimension: &Dimension) -> Result<Vec<Option<u3
 }
 
 // Whether an element may be listed that has this rank from the entries before.
-fn may_list(dimension: &Dimension, version: u32, before: Option<u32>, element: u32) -> bool
+fn may_list(dimension: &Dimension, totals: bool, before: Option<u32>, element: u32) -> bool
     requires { element < length dimension.now.elements }
-    ensures { result ≡ may_list dimension.now version before element }
+    ensures { result ≡ may_list dimension.now totals before element }
 {
-    before.is_none() && (is_leaf(dimension, element) || version != 1)
+    before.is_none() && (is_leaf(dimension, element) || totals)
 }
 
 // The element that an entry lists, behind entries that give these ranks.
 fn entry_element(
     dimension: &Dimension,
-    version: u32,
+    totals: bool,
     given: &[Option<u32>],
     name: &Name,
 ) -> Option<u32>
     requires { length given.now ≡ length dimension.now.elements }
     ensures element { (before : List (List ℕ × ℕ)) → given.now ≡ listed_ranks dimension.now before
-        → result ≡ entry_element dimension.now version before name.now }
+        → result ≡ entry_element dimension.now totals before name.now }
     ensures within { IfSome result (λ element. element < length given.now) }
 {
     match dimension.index_of(name) {
         Some(element) => {
-            if may_list(dimension, version, given[element as usize], element) {
+            if may_list(dimension, totals, given[element as usize], element) {
                 Some(element)
             } else {
                 None
@@ -95,23 +96,43 @@ fn unlisted(alloc: Global, dimension: &Dimension) -> Result<Vec<Option<u32>>, Al
     Ok(given)
 }
 
-/// The ranks that a list gives, by element, or None where it lists what it may not.
-pub fn listed_ranks(
+// The ranks that a list gives, by element, or None where it lists what it may not.
+fn listed_ranks(
     alloc: Global,
     dimension: &Dimension,
-    version: u32,
+    totals: bool,
     list: &[(Name, u32)],
 ) -> Result<Option<Vec<Option<u32>>>, AllocError>
     ensures given { IfOk result (λ found. IfSome found (λ given. given.items ≡ listed_ranks dimension.now list.now)) }
-    ensures listed { IfOk result (λ found. IfSome found (λ _. are_listed dimension.now version [] list.now ≡ true)) }
-    ensures bad { IfOk result (λ found. IfNone found (are_listed dimension.now version [] list.now ≡ false)) }
+    ensures listed { IfOk result (λ found. IfSome found (λ _. are_listed dimension.now totals [] list.now ≡ true)) }
+    ensures bad { IfOk result (λ found. IfNone found (are_listed dimension.now totals [] list.now ≡ false)) }
 {
     let mut given = unlisted(alloc, dimension)?;
     for entry in list {
-        match entry_element(dimension, version, &given, &entry.0) {
+        match entry_element(dimension, totals, &given, &entry.0) {
             Some(element) => given[element as usize] = Some(entry.1),
             None => return Ok(None),
         }
     }
     Ok(Some(given))
+}
+
+/// The ranks that a list gives, by element, or None where an order line may not have the list. Consolidated elements
+/// may be listed, `totals`, or may not be.
+pub fn given_ranks(
+    alloc: Global,
+    dimension: &Dimension,
+    totals: bool,
+    list: &[(Name, u32)],
+) -> Result<Option<Vec<Option<u32>>>, AllocError>
+    ensures given { IfOk result (λ found. IfSome found (λ given. given.items ≡ listed_ranks dimension.now list.now)) }
+    ensures listed { IfOk result (λ found. IfSome found (λ _. is_list_of dimension.now totals list.now ≡ true)) }
+    ensures bad { IfOk result (λ found. IfNone found (is_list_of dimension.now totals list.now ≡ false)) }
+    ensures small { IfOk result (λ found. IfSome found (λ given. AreWithin given.items)) }
+{
+    if are_writable(list) {
+        listed_ranks(alloc, dimension, totals, list)
+    } else {
+        Ok(None)
+    }
 }

@@ -1,17 +1,15 @@
-ghost use Rattle.std.specs.Prelude.{◌≡◌, ◌<◌, Some, length, option_map, IfOk, IfSome};
-ghost use Rattle.dim_weights.specs.Table.{IsWeightsOf};
+ghost use Rattle.std.specs.Prelude.{◌≡◌, ◌<◌, length, option_map, IfOk, IfSome};
 ghost use Rattle.cube_space.specs.Layout.{axes};
-ghost use Rattle.rule_model.specs.Conditions.{AreRanks, IsPosition};
 ghost use Rattle.rule_model.specs.Weights.{AreWeightsOf};
 ghost use Rattle.rule_model.specs.declared.order.Position.TheVariants.{Ranks};
 ghost use Rattle.cube_space.specs.Axes.{axis_called};
-ghost use Rattle.bind_order.specs.Orders.{position_of, index_position, list_position, list_ranks};
+ghost use Rattle.bind_order.specs.Orders.{position_of, index_position, list_position};
+ghost use Rattle.bind_order.specs.Inside.Held.{IsHeldPosition};
 
 use crate::axes::axis_weights;
-use crate::listed::{MAX_WRITTEN, are_writable, listed_ranks};
-use crate::ranks::{ranks_by_index, ranks_of};
+use crate::listed::MAX_WRITTEN;
+use crate::ranks::{list_ranks, ranks_by_index};
 use cube_space::{Space, axis, axis_called};
-use dim_core::Dimension;
 use dim_name::Name;
 use dim_weights::Weights;
 use lists::ListOf;
@@ -41,7 +39,7 @@ pub fn index_position(
     requires weights { AreWeightsOf space.now.dimensions weights.now }
     requires place { place < length (axes space.now cube) }
     ensures bound { IfOk result (λ position. position ≡ index_position (axes space.now cube) place) }
-    ensures valid { IfOk result (IsPosition (axes space.now cube)) }
+    ensures valid { IfOk result (IsHeldPosition (axes space.now cube)) }
 {
     let dimension = axis(space, cube, place);
     let weights = axis_weights(space, weights, cube, place);
@@ -61,34 +59,13 @@ fn named_position(
     requires weights { AreWeightsOf space.now.dimensions weights.now }
     ensures bound { IfOk result (λ found. found ≡ option_map (index_position (axes space.now cube))
         (axis_called (axes space.now cube) name.now)) }
-    ensures valid { IfOk result (λ found. IfSome found (IsPosition (axes space.now cube))) }
+    ensures valid { IfOk result (λ found. IfSome found (IsHeldPosition (axes space.now cube))) }
 {
     match axis_called(space, cube, name) {
         Some(place) => {
             let position = index_position(alloc, space, weights, cube, place)?;
             Ok(Some(position))
         }
-        None => Ok(None),
-    }
-}
-
-// The ranks of a dimension by a list.
-fn list_ranks(
-    alloc: Global,
-    dimension: &Dimension,
-    weights: &Weights,
-    version: u32,
-    list: &[(Name, u32)],
-) -> Result<Option<ListOf<u32>>, AllocError>
-    requires { IsWeightsOf dimension.now weights.now }
-    ensures bound { IfOk result (λ found. found ≡ list_ranks version list.now dimension.now) }
-    ensures valid { IfOk result (λ found. IfSome found (AreRanks dimension.now)) }
-{
-    if !are_writable(list) {
-        return Ok(None);
-    }
-    match listed_ranks(alloc, dimension, version, list)? {
-        Some(given) => ranks_of(alloc, dimension, weights, &given),
         None => Ok(None),
     }
 }
@@ -107,7 +84,7 @@ fn list_position(
     requires weights { AreWeightsOf space.now.dimensions weights.now }
     ensures bound { IfOk result (λ found. found ≡ list_position (axes space.now cube) version list.now
         (axis_called (axes space.now cube) name.now)) }
-    ensures valid { IfOk result (λ found. IfSome found (IsPosition (axes space.now cube))) }
+    ensures valid { IfOk result (λ found. IfSome found (IsHeldPosition (axes space.now cube))) }
 {
     match axis_called(space, cube, name) {
         Some(place) => {
@@ -132,7 +109,7 @@ pub fn position_of(
     requires cube { cube < length space.now.cubes }
     requires weights { AreWeightsOf space.now.dimensions weights.now }
     ensures bound { IfOk result (λ found. found ≡ position_of space.now cube version word.now) }
-    ensures valid { IfOk result (λ found. IfSome found (IsPosition (axes space.now cube))) }
+    ensures valid { IfOk result (λ found. IfSome found (IsHeldPosition (axes space.now cube))) }
 {
     match word {
         OrderWord::Constant(number) => {
@@ -146,6 +123,6 @@ pub fn position_of(
         OrderWord::Ranks(name, list) => {
             list_position(alloc, space, weights, cube, version, name, list.as_slice())
         }
-        OrderWord::Auto(_) => Ok(None),
+        OrderWord::RanksByKind(_, _, _) | OrderWord::Totals | OrderWord::Auto(_) => Ok(None),
     }
 }

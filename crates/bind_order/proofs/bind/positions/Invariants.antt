@@ -1,7 +1,8 @@
 use Rattle.std.proofs.Common.{◌≡◌, map, drop, length, All}
 use Rattle.cube_space.specs.Layout.{axes}
-use Rattle.rule_model.specs.Conditions.{IsPosition}
-use Rattle.bind_order.specs.Orders.{position_of, all_of}
+use Rattle.bind_order.specs.Ranks.{all_of}
+use Rattle.bind_order.specs.Orders.{position_of}
+use Rattle.bind_order.specs.Inside.Held.{IsHeldPosition}
 use Rattle.bind_order.proofs.ListFacts.{behind}
 use Rattle.bind_order.proofs.bind.positions.Given as goal
 
@@ -9,6 +10,6 @@ abbrev pub invariant-loop-word : goal.invariant-loop-word
 invariant-loop-word l = record {
   bound : behind l.positions.items (all_of (map (position_of l.space l.cube l.version) (drop l.word-index l.words)))
       ≡ all_of (map (position_of l.space l.cube l.version) l.words);
-  each : All (IsPosition (axes l.space l.cube)) l.positions.items;
+  each : All (IsHeldPosition (axes l.space l.cube)) l.positions.items;
   count : length l.positions.items ≡ l.word-index;
 }

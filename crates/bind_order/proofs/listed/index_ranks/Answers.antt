@@ -1,7 +1,7 @@
 use Rattle.std.proofs.Common.{◌≡◌, ◌∙◌, ◌++◌, ◌∷◌, [], ap, sym, subst, arith, map, length}
 use Rattle.std.specs.List.{range_with_len}
 use Rattle.std.proofs.lemmas.List.FromFn.{map-range_with_len_more}
-use Rattle.bind_order.specs.Orders.{index_rank}
+use Rattle.bind_order.specs.Ranks.{index_rank}
 use Rattle.bind_order.specs.Inside.Given.{AreWithin}
 use Rattle.bind_order.proofs.ListedFacts.{index_within}
 use Rattle.bind_order.proofs.listed.index_ranks.Goals as goal

@@ -1,6 +1,6 @@
 use Rattle.std.proofs.Common.{◌∙◌, ◌++◌, ◌∷◌, [], ap, sym, arith, None}
 use Rattle.std.proofs.lemmas.List.FromFn.{map-range_with_len_more}
-use Rattle.bind_order.specs.Orders.{listed_rank}
+use Rattle.bind_order.specs.Ranks.{listed_rank}
 use Rattle.bind_order.proofs.listed.unlisted.Goals as goal
 
 pub loop-element-preserved : goal.loop-element-preserved

@@ -1,6 +1,6 @@
 use Rattle.std.proofs.Common.{◌≡◌, map, []}
 use Rattle.std.specs.List.{range_with_len}
-use Rattle.bind_order.specs.Orders.{listed_rank}
+use Rattle.bind_order.specs.Ranks.{listed_rank}
 use Rattle.bind_order.proofs.listed.unlisted.Given as goal
 
 abbrev pub invariant-loop-element : goal.invariant-loop-element

@@ -1,6 +1,6 @@
 use Rattle.std.proofs.Common.{◌≡◌, max, map, drop}
 use Rattle.rule_model.specs.Order.{greatest}
-use Rattle.bind_order.specs.Orders.{leaf_rank}
+use Rattle.bind_order.specs.Ranks.{leaf_rank}
 use Rattle.bind_order.proofs.ranks.greatest_leaf.Given as goal
 
 abbrev pub invariant-loop-pair : goal.invariant-loop-pair

@@ -2,7 +2,7 @@ use Rattle.std.proofs.Common.{◌≡◌, ◌∙◌, ◌++◌, ◌∷◌, [], ap,
 use Rattle.std.specs.List.{range_with_len}
 use Rattle.std.proofs.lemmas.List.FromFn.{map-range_with_len_more, length-map-range_with_len}
 use Rattle.rule_model.specs.Conditions.{AreRanks}
-use Rattle.bind_order.specs.Orders.{greatest_leaf, index_rank, index_ranks, ranks_by_index}
+use Rattle.bind_order.specs.Ranks.{greatest_leaf, index_rank, index_ranks, ranks_by_index}
 use Rattle.bind_order.proofs.ListedFacts.{index_within}
 use Rattle.bind_order.proofs.RankFacts.{index_hold}
 use Rattle.bind_order.proofs.ranks.ranks_by_index.Goals as goal

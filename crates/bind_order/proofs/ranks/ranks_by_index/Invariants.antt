@@ -1,6 +1,6 @@
 use Rattle.std.proofs.Common.{◌≡◌, map}
 use Rattle.std.specs.List.{range_with_len}
-use Rattle.bind_order.specs.Orders.{greatest_leaf, index_ranks}
+use Rattle.bind_order.specs.Ranks.{greatest_leaf, index_ranks}
 use Rattle.bind_order.proofs.ranks.ranks_by_index.Given as goal
 
 abbrev pub invariant-loop-element : goal.invariant-loop-element

@@ -1,6 +1,6 @@
 use Rattle.std.proofs.Common.{◌∙◌, Some, ap, sym, arith, map, drop, length, ◌+◌}
 use Rattle.std.specs.List.{range_with_len}
-use Rattle.bind_order.specs.Orders.{rank_of, ranks_of, all_of}
+use Rattle.bind_order.specs.Ranks.{rank_of, ranks_of, all_of}
 use Rattle.bind_order.proofs.ListFacts.{all_more, all_stops, all_done, next_number, no_number}
 use Rattle.bind_order.proofs.RankFacts.{ranks_hold}
 use Rattle.bind_order.proofs.ranks.ranks_of.Goals as goal

@@ -1,6 +1,6 @@
 use Rattle.std.proofs.Common.{◌≡◌, map, drop, length}
 use Rattle.std.specs.List.{range_with_len}
-use Rattle.bind_order.specs.Orders.{rank_of, all_of}
+use Rattle.bind_order.specs.Ranks.{rank_of, all_of}
 use Rattle.bind_order.proofs.ListFacts.{behind}
 use Rattle.bind_order.proofs.ranks.ranks_of.Given as goal
 
