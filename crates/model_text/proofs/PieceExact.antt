@@ -127,10 +127,7 @@ total_ranks_exact : (shown : List ℕ) (leaves : List (List ℕ × ℕ)) → Exa
 unfolding read_total_ranks
 total_ranks_exact shown leaves = exact_then (exact_word unscanned (codes "TOTALS")) (λ _. exact_then in_parentheses_exact (λ totals. exact_gives free (words.RanksByKind shown leaves totals)))
 
-behind_given_ranks_exact : (totals : Bool) (shown : List ℕ) → Exact free (given_ranks totals shown) (given_ranks totals shown) (both_of read_in_parentheses (λ leaves. read_behind_ranks totals shown leaves)) (Not (is_word (codes "TOTALS")))
-given_ranks_exact totals shown = exact_then in_parentheses_exact (λ leaves. behind_ranks_exact totals shown leaves)
-
-ranks_exact : (totals : Bool) (shown : List ℕ) (leaves : List (List ℕ × ℕ)) → Exact free (behind_ranks totals shown leaves) (behind_ranks totals shown leaves) (read_behind_ranks totals shown leaves) (Not (is_word (codes "TOTALS")))
+behind_ranks_exact : (totals : Bool) (shown : List ℕ) (leaves : List (List ℕ × ℕ)) → Exact free (behind_ranks totals shown leaves) (behind_ranks totals shown leaves) (read_behind_ranks totals shown leaves) (Not (is_word (codes "TOTALS")))
 unfolding read_behind_ranks
 behind_ranks_exact totals shown leaves = exact_if totals
     (exact_option (is_word (codes "TOTALS")) (words.Ranks shown leaves) (begins_both (word_begins (codes "TOTALS") (codes "TOTALS"))) (total_ranks_exact shown leaves))
@@ -228,6 +225,9 @@ comma_ends = begins_any (sign_begins (codes ",") (codes "(")) (sign_no_word (cod
 
 close_ends : Begins (one (sign (codes ";"))) goes_on false
 close_ends = begins_any (sign_begins (codes ";") (codes "(")) (sign_no_word (codes ";") (codes "TOTALS"))
+
+auto_begins : Begins auto (is_word (codes "AUTO")) true
+auto_begins = begins_both (word_begins (codes "AUTO") (codes "AUTO"))
 
 order_words_exact : (totals : Bool) → Exact free (order_words totals) (order_words totals) (read_order_words totals) BehindWords
 unfolding read_order_words
