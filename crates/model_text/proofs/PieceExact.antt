@@ -1,5 +1,5 @@
 -- The readers of pieces are exact.
-use Rattle.std.proofs.Common.{◌≡◌, ℕ, ◌<◌, ◌&&◌, ◌||◌, Bool, List, [], ◌∷◌, ◌++◌, Option, Some, None, option_map, true, false, codes, refl, sym, ◌∙◌, ap, inl, inr, ◌⊎◌, if◌then◌else◌, true≢false}
+use Rattle.std.proofs.Common.{◌≡◌, ℕ, ◌&&◌, ◌||◌, Bool, List, [], ◌∷◌, ◌++◌, Option, Some, None, option_map, true, false, codes, refl, sym, ◌∙◌, ap, inl, inr, ◌⊎◌, if◌then◌else◌, true≢false}
 use Rattle.std.proofs.lemmas.Bool.{or_parts}
 use Rattle.std.specs.Str.{str_eq_ignore_ascii_case}
 use Rattle.std.proofs.lemmas.Str.{IsUtf8-from_ascii, is_utf8-from_IsUtf8}
@@ -10,7 +10,6 @@ use Rattle.cube_lex.specs.Quoted.{unquoted}
 use Rattle.grammar.specs.Grammar.{Grammar, one, both, either, done}
 use Rattle.grammar.specs.Watch.{Watch, unwatched, unscanned}
 use Rattle.grammar.specs.Reading.{take_one, both_of, gives, choose, starts}
-use Rattle.grammar.specs.Lists.{read_listed}
 use Rattle.grammar.proofs.Lists.{BehindList, listed_exact, listed_whole_exact, behind_list}
 use Rattle.grammar.specs.Tokens.{sign, word, whole, name, file, located, is_sign, is_word, is_number, is_text, is_text_kind, is_number_kind, is_whole}
 use Rattle.grammar.specs.declared.cursor.Unwatched.{Unwatched}

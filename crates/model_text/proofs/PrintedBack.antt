@@ -19,7 +19,7 @@ use Rattle.cube_lex.specs.Written.{word_token, sign_token}
 use Rattle.dim_text.specs.Spelled.{whole_token}
 use Rattle.model_text.specs.Answers.{IsModelText}
 use Rattle.model_text.specs.Contents.{Contents, IsContents, is_version, AreDimensions, dimension_names}
-use Rattle.model_text.specs.Gathering.{Nothing, Parts, Given, at, refused, gathered}
+use Rattle.model_text.specs.Gathering.{Nothing, Given, at, refused, gathered}
 use Rattle.model_text.specs.Printed.{IsSameCube, IsSameScript, AreSameContents, IsTextOf, IsPrinted}
 use Rattle.model_text.specs.Spelled.{dim_spelled, opening_spelled, cube_spelled, script_spelled, contents_spelled}
 use Rattle.model_text.specs.Readers.Views.{IsValid}

@@ -1,5 +1,5 @@
 -- Each piece as it is written is read as that piece again, on its new line.
-use Rattle.std.proofs.Common.{◌≡◌, ◌<◌, ◌^◌, ℕ, List, [], ◌∷◌, ◌++◌, true, Option, Some, None, option_map, IfSome, ◌&&◌, ◌||◌, refl, ap, ◌∙◌, subst, inl, append-nil, length, codes, IsTrue, Bool, false, arith}
+use Rattle.std.proofs.Common.{◌≡◌, ◌<◌, ◌^◌, ℕ, List, [], ◌∷◌, ◌++◌, true, Option, Some, None, option_map, IfSome, ◌||◌, refl, ap, ◌∙◌, subst, inl, append-nil, length, codes, IsTrue, Bool, false, arith}
 use Rattle.std.proofs.lemmas.List.Elements.{All-nil, All-cons, All-head, All-tail}
 use Rattle.std.specs.List.{All, AllZip, flat_map}
 use Rattle.cube_lex.specs.Lexeme.{Lexeme}

@@ -1,8 +1,8 @@
 -- What may stand at the end of a cube in some version may stand there in version 2.
-use Rattle.std.proofs.Common.{◌≡◌, ℕ, List, [], ◌∷◌, Bool, true, refl, inl, inr}
+use Rattle.std.proofs.Common.{ℕ, List, [], ◌∷◌, Bool, true, refl, inl, inr}
 use Rattle.cube_lex.specs.Lexeme.{Lexeme}
 use Rattle.grammar.specs.Grammar.{Grammar, both, either, many}
-use Rattle.model_text.specs.Statement.{only_if, behind_ranks, given_ranks, ranks, index, position, position_list, order_words, order_line, order, cube_end}
+use Rattle.model_text.specs.Statement.{only_if, ranks, position, position_list, order, cube_end}
 
 -- each text of G is one of H with the same tree
 pub record Into {A : Type 0} (G H : Grammar Lexeme A) : Type 0 where
