@@ -62,7 +62,8 @@ fn has_total_elsewhere(space: &Space, cube: u32, place: Option<u32>) -> bool
     false
 }
 
-// The elements that cells of a kind of a cube have in a dimension, `true` for leaf cells.
+// The elements that cells of a kind of a cube have in a dimension, `true` for leaf cells. A consolidated cell has any
+// element where another dimension has a consolidated one.
 fn which_of(space: &Space, cube: u32, kind: bool, dim: u32) -> Which
     requires { cube < length space.now.cubes }
     ensures { result ≡ which_of (axes space.now cube) kind dim }
