@@ -1,12 +1,12 @@
 -- Ranks that fit the arrows of a model order it.
-use Rattle.std.proofs.Common.{◌≡◌, refl, sym, ap, arith, subst, ℕ, zero, suc, ◌+◌, ◌<◌, ◌≤◌, ◌⊎◌, Bool, true, false, Some, List, [], ◌∷◌, length, map, get_or, All, Contains, inl, inr, if◌then◌else◌}
-use Rattle.std.specs.Prelude.{◌↔◌, slice_get, slice_index_or}
+use Rattle.std.proofs.Common.{◌≡◌, refl, sym, ap, ◌∙◌, arith, subst, ℕ, zero, suc, ◌+◌, ◌<◌, ◌≤◌, ◌⊎◌, Bool, true, false, Some, List, [], ◌∷◌, length, map, get_or, All, Contains, inl, inr, if◌then◌else◌}
+use Rattle.std.specs.Prelude.{◌↔◌, Option, unwrap_or, slice_get, slice_index_or}
 use Rattle.std.proofs.lemmas.List.FromFn.{length-map-range_with_len, get_or-map-range_with_len}
 use Rattle.std.proofs.lemmas.List.Elements.{All-contains, Contains-get_or, All-nil, All-cons}
 use Rattle.dim_core.specs.Outline.{Outline}
 use Rattle.dim_weights.proofs.Nonzero.{counts-nonzero}
 use Rattle.cube_space.specs.Layout.{axes}
-use Rattle.cube_space.specs.Cells.{IsSpace, IsCell, cube_of, elements_of, is_leaf}
+use Rattle.cube_space.specs.Cells.{IsSpace, IsCell, cube_of, elements_of, is_leaf, is_leaf_cell}
 use Rattle.rule_laws.specs.declared.formula.Formula.{Formula}
 use Rattle.rule_laws.specs.Meaning.{Precedent, Named, Components, precedents}
 use Rattle.rule_laws.specs.RuleSystem.{Rule, part_of}
@@ -17,9 +17,10 @@ use Rattle.rule_model.specs.declared.order.Position.TheVariants.{Constant, Ranks
 use Rattle.rule_model.specs.declared.rules.CubeRules.{CubeRules}
 use Rattle.rule_model.specs.declared.rules.Statement.{Statement}
 use Rattle.rule_model.specs.BoundModel.{BoundModel, rules_of, no_rules}
-use Rattle.rule_model.specs.Order.{position_of, number_by, number_at, cell_level}
+use Rattle.rule_model.specs.Order.{most_positions, positions_for, position_in, position_of, number_by, number_at, cell_level}
 use Rattle.rule_model.specs.System.{system_of, positions_of, rule_of, cube_rules}
-use Rattle.rule_model.specs.Conditions.{IsPrecedent, IsStatement, IsPosition, AreCubeRules, AreRules, HoldsLeaves}
+use Rattle.rule_model.specs.Conditions.{IsPrecedent, IsStatement, IsPosition, IsLeafBelow, HoldsLeaves, HoldsLeafCells, IsOrderOf, AreCubeRules, AreRules}
+use Rattle.rule_model.proofs.LeafCells.{HoldsLeavesAt, leaf_cells-held}
 use Rattle.model_laws.proofs.Formed.{well_formed}
 use Rattle.model_laws.proofs.Levels.{axis-is}
 use Rattle.order_laws.proofs.CellFacts.{cell-cube}
@@ -27,7 +28,7 @@ use Rattle.order_laws.proofs.Ordered.{parts-flat, parts-map, part-reads}
 use Rattle.cover_laws.proofs.Counted.{only-own}
 use Rattle.arrow_laws.specs.Nodes.{node_of, last_of, ranks_in, rank_of}
 use Rattle.arrow_laws.specs.Arrows.{lag, IsLagged, IsLevel, IsWeak, Reads, FitArrows, IsLevelThroughout}
-use Rattle.arrow_laws.specs.Ranked.{with_order, order_by, ranked, AreNodeRanks}
+use Rattle.arrow_laws.specs.Ranked.{with_order, HasOneOrder, order_by, ranked, AreNodeRanks}
 use Rattle.arrow_laws.specs.ByDimension.{is_lagged, is_weak}
 use Rattle.lists.proofs.Found.{there as place-there}
 use Rattle.arrow_laws.proofs.Made.{last-there}
@@ -48,23 +49,92 @@ module _ (m : BoundModel) (valid : IsSpace m.space) (ranks : List (List ℕ)) (f
           (inr (record { within = there; same_cube = refl; dimension = d; last = last; source = own; target = other; consolidated = is; counts = counts; weak = refl })) in
           omega (arith, low)
 
+-- the rules of each cube have one order
+one-each : (rules : List CubeRules) → All HasOneOrder rules → (cube : ℕ) → HasOneOrder (get_or rules cube no_rules)
+one-each [] all cube = refl
+one-each (r ∷ rules) all zero = all 0 no_rules (omega arith)
+one-each (r ∷ rules) all (suc cube) = one-each rules (λ k d low. all (suc k) d (omega (arith, low))) cube
+
+module _ (m : BoundModel) (valid : IsSpace m.space) (ranks : List (List ℕ)) (fit : FitArrows m ranks) (one : All HasOneOrder m.rules) where
   abbrev after : BoundModel
   after = ranked m ranks
 
-  -- the numbers of a cell after
+  -- the numbers of a cell before and after, whatever its kind
+  position-before : (cube : ℕ) (kind : Bool) (q : ℕ) → position_of m cube kind q ≡ position_of m cube true q
+  position-before cube true q = refl
+  position-before cube false q = ap (λ (o : Option (List Position)). slice_index_or (unwrap_or o (rules_of m cube).order.positions) q (Constant 0)) (one-each m.rules one cube)
+
+  abbrev position_after : ℕ → ℕ → Position
+  position_after cube q = slice_index_or (order_by m ranks cube).positions q (Constant 0)
+
+  either : (cube : ℕ) (kind : Bool) (q : ℕ) → position_in (order_by m ranks cube) kind q ≡ position_after cube q
+  either cube true q = refl
+  either cube false q = refl
+
   rules-after : (cube : ℕ) → cube < length m.space.cubes → rules_of after cube ≡ with_order (rules_of m cube) (order_by m ranks cube)
   rules-after cube there = get_or-map-range_with_len (λ cube. with_order (rules_of m cube) (order_by m ranks cube)) 0 (length m.space.cubes) cube cube no_rules there (omega arith)
 
-  number-after : (q c : ℕ) → IsCell m.space c → number_at after q c ≡ number_by (slice_index_or (order_by m ranks (cube_of m.space c)).positions q (Constant 0)) (elements_of m.space c)
+  number-after : (q c : ℕ) → IsCell m.space c → number_at after q c ≡ number_by (position_after (cube_of m.space c) q) (elements_of m.space c)
   unfolding number_at
-  number-after q c cell = ap (λ (r : CubeRules). number_by (slice_index_or r.order.positions q (Constant 0)) (elements_of m.space c)) (rules-after (cube_of m.space c) (cell-cube m.space c cell))
+  number-after q c cell =
+      ap (λ (r : CubeRules). number_by (position_in r.order (is_leaf_cell m.space c) q) (elements_of m.space c)) (rules-after (cube_of m.space c) (cell-cube m.space c cell))
+      ∙ ap (λ (p : Position). number_by p (elements_of m.space c)) (either (cube_of m.space c) (is_leaf_cell m.space c) q)
 
   lag-after : (c : ℕ) → IsCell m.space c → number_at after 0 c ≡ lag m c
   unfolding number_at
-  lag-after c cell = number-after 0 c cell
+  lag-after c cell = number-after 0 c cell ∙ ap (λ (p : Position). number_by p (elements_of m.space c)) (sym (position-before (cube_of m.space c) (is_leaf_cell m.space c) 0))
 
   rank-after : (c : ℕ) → IsCell m.space c → number_at after 1 c ≡ rank_of ranks (node_of m.space c)
   rank-after c cell = number-after 1 c cell
+
+  -- the order of a cube after is one of it
+  module _ (ruled : AreRules m.space m.rules) (node_ranks : AreNodeRanks m ranks) (cube : ℕ) (there : cube < length m.space.cubes) where
+    abbrev lag_position : Position
+    lag_position = position_of m cube true 0
+
+    abbrev rank_position : Position
+    rank_position = Ranks (last_of m.space cube) (ranks_in ranks cube)
+
+    first : IsPosition (axes m.space cube) lag_position
+    first = by (rules_of m cube).order.positions ((ruled.cube cube there).order.each true)
+      where
+        by : (positions : List Position) → All (IsPosition (axes m.space cube)) positions → IsPosition (axes m.space cube) (get_or positions 0 (Constant 0))
+        by [] all = omega arith
+        by (position ∷ positions) all = all 0 position (omega arith)
+
+    second : All (IsPosition (axes m.space cube)) (rank_position ∷ [])
+    second =
+        let (d, here) = place-there (axes m.space cube) (last_of m.space cube) (last-there m.space cube valid there) in
+        All-cons (IsPosition (axes m.space cube)) rank_position [] (d, here, record { each = node_ranks.each cube d there here; small = node_ranks.small cube there })
+        (All-nil (IsPosition (axes m.space cube)))
+
+    -- a leaf cell has no greater lag than a consolidated cell in which it counts, and no greater rank
+    lag-held : (cell leaf : List ℕ) → IsLeafBelow (axes m.space cube) cell leaf → number_by lag_position leaf ≤ number_by lag_position cell
+    lag-held cell leaf below =
+        let low = (ruled.cube cube there).order.holds_leaf_cells cell leaf 0 below (λ k less. absurd (omega (arith, less))) in
+        subst (λ (p : Position). number_by lag_position leaf ≤ number_by p cell) (position-before cube false 0) low
+
+    rank-held : (cell leaf : List ℕ) → IsLeafBelow (axes m.space cube) cell leaf → number_by rank_position leaf ≤ number_by rank_position cell
+    rank-held cell leaf below =
+        leaf_cells-held (axes m.space cube) (rank_position ∷ []) second
+        (All-cons (HoldsLeavesAt (axes m.space cube)) rank_position [] (λ d here. leaves-held m valid ranks fit cube d there here) (All-nil (HoldsLeavesAt (axes m.space cube))))
+        cell leaf 0 below (λ k less. absurd (omega (arith, less)))
+
+    held : HoldsLeafCells (axes m.space cube) (order_by m ranks cube)
+    held cell leaf zero below equal = lag-held cell leaf below
+    held cell leaf (suc zero) below equal = rank-held cell leaf below
+    held cell leaf (suc (suc place)) below equal = omega arith
+
+    order-after : IsOrderOf m.space cube (order_by m ranks cube)
+    order-after = record { few = few; each = each; holds_leaf_cells = held }
+      where
+        few : (kind : Bool) → length (positions_for kind (order_by m ranks cube)) ≤ most_positions
+        few true = omega arith
+        few false = omega arith
+
+        each : (kind : Bool) → All (IsPosition (axes m.space cube)) (positions_for kind (order_by m ranks cube))
+        each true = All-cons (IsPosition (axes m.space cube)) lag_position (rank_position ∷ []) first second
+        each false = All-cons (IsPosition (axes m.space cube)) lag_position (rank_position ∷ []) first second
 
   -- what holds of the rules before holds after
   pub rules-hold : AreRules m.space m.rules → AreNodeRanks m ranks → AreRules m.space after.rules
@@ -73,18 +143,6 @@ module _ (m : BoundModel) (valid : IsSpace m.space) (ranks : List (List ℕ)) (f
     cube = λ cube there. subst (AreCubeRules m.space cube) (sym (rules-after cube there)) (each cube there);
   }
     where
-      first : (cube : ℕ) → cube < length m.space.cubes → IsPosition (axes m.space cube) (position_of m cube 0)
-      first cube there = by (rules_of m cube).order.positions ((ruled.cube cube there).order.each)
-        where
-          by : (positions : List Position) → All (IsPosition (axes m.space cube)) positions → IsPosition (axes m.space cube) (get_or positions 0 (Constant 0))
-          by [] all = omega arith
-          by (position ∷ positions) all = all 0 position (omega arith)
-
-      second : (cube : ℕ) → cube < length m.space.cubes → IsPosition (axes m.space cube) (Ranks (last_of m.space cube) (ranks_in ranks cube))
-      second cube there =
-          let (d, here) = place-there (axes m.space cube) (last_of m.space cube) (last-there m.space cube valid there) in
-          (d, here, record { each = node_ranks.each cube d there here; small = node_ranks.small cube there; holds_leaves = leaves-held cube d there here })
-
       each : (cube : ℕ) → cube < length m.space.cubes → AreCubeRules m.space cube (with_order (rules_of m cube) (order_by m ranks cube))
       each cube there =
           let before = ruled.cube cube there in
@@ -93,11 +151,7 @@ module _ (m : BoundModel) (valid : IsSpace m.space) (ranks : List (List ℕ)) (f
             few_feeders = before.few_feeders;
             statements = before.statements;
             feeders = before.feeders;
-            order = record {
-              few = omega arith;
-              each = All-cons (IsPosition (axes m.space cube)) (position_of m cube 0) (Ranks (last_of m.space cube) (ranks_in ranks cube) ∷ []) (first cube there)
-                  (All-cons (IsPosition (axes m.space cube)) (Ranks (last_of m.space cube) (ranks_in ranks cube)) [] (second cube there) (All-nil (IsPosition (axes m.space cube))));
-            };
+            order = order-after ruled node_ranks cube there;
           }
 
   -- cells that don't fall by rank, and aren't greater by lag, are nowhere greater

@@ -16,8 +16,7 @@ use Rattle.cube_space.proofs.AxisFacts.{axes_count}
 use Rattle.lists.proofs.Found.{there as place-there, found_holds}
 use Rattle.order_laws.specs.Greatest.{any_from}
 use Rattle.order_laws.specs.Scales.{is_total}
-use Rattle.order_laws.proofs.CellFacts.{IsAt, area-each}
-use Rattle.order_laws.proofs.Decided.{IsOf}
+use Rattle.order_laws.proofs.CellFacts.{IsAt, IsOf, area-each}
 use Rattle.cover_laws.proofs.Pairs.{all-at, all-of, any-not, choose}
 use Rattle.arrow_laws.specs.Nodes.{Node, last_of, node_of}
 use Rattle.arrow_laws.specs.ByDimension.{has_element, serves, is_from, HasEach, SuitsKind}
@@ -75,7 +74,7 @@ module _ (m : BoundModel) (ruled : AreRules m.space m.rules) (cube : ℕ) (there
   From = is_from m cube s.area kind p
 
   abbrev pub Of : List ℕ → Type 0
-  Of es = IsOf m ruled cube there s is_area kind es
+  Of es = IsOf m.space cube s.area kind es
 
   -- each of these elements is one from which something is read
   abbrev pub Passes : List ℕ → Type 0

@@ -14,6 +14,7 @@ use Rattle.rule_model.specs.BoundModel.{BoundModel}
 use Rattle.rule_model.specs.Order.{most_positions}
 use Rattle.order_laws.specs.Scales.{is_total, parts_in}
 use Rattle.order_laws.specs.Earlier.{most_excess, is_below, is_within}
+pub use Rattle.order_laws.specs.Plain.{read_cube}
 use Rattle.cover_laws.specs.Looking.{sent}
 use Rattle.arrow_laws.specs.Nodes.{Node, last_of}
 
@@ -95,11 +96,6 @@ IsNamedFrom m cube area kind (Named r) from to =
     × IsNamedBy (axes m.space cube) (is_from m cube area kind (Named r)) kind (last_of m.space cube) arg from to
 IsNamedFrom m cube area kind (Components dim) from to =
     IsTrue (if dim == last_of m.space cube then is_part (axes m.space cube) dim from to else from == to)
-
--- the cube of the cells that are read
-abbrev pub read_cube : ℕ → Precedent → ℕ
-read_cube cube (Named r) = r.cube
-read_cube cube (Components dim) = cube
 
 -- some cell of this kind, of the one node, reads a cell of the other
 pub record IsJoinedByDimension (m : BoundModel) (cube : ℕ) (area : Area) (kind : Bool) (p : Precedent)

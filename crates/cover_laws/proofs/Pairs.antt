@@ -1,6 +1,6 @@
 -- A cell of an area and a cell at or below what arguments name from it: what is known of one element of each is just that
 -- the one is narrow, and that the other is reached with it.
-use Rattle.std.proofs.Common.{◌≡◌, refl, sym, ap, ◌∙◌, arith, subst, ℕ, zero, suc, ◌+◌, ◌<◌, Bool, true, false, not, ◌&&◌, ◌||◌, Option, Some, List, [], ◌∷◌, length, get_or, ◌==◌}
+use Rattle.std.proofs.Common.{◌≡◌, refl, sym, ap, ◌∙◌, arith, subst, ℕ, zero, suc, ◌+◌, ◌<◌, Bool, true, false, not, Option, Some, List, [], ◌∷◌, length, get_or, ◌==◌}
 use Rattle.std.specs.Prelude.{slice_get}
 use Rattle.std.proofs.lemmas.Bool.{and_parts, and_from, not-true as not-false}
 use Rattle.std.proofs.lemmas.Bool.Decides.{Decides-eqb}
@@ -14,18 +14,17 @@ use Rattle.rule_model.specs.BoundModel.{BoundModel}
 use Rattle.rule_model.specs.Areas.{in_sets}
 use Rattle.rule_model.specs.Targets.{element_by, elements_by}
 use Rattle.rule_model.specs.Conditions.{IsArea, IsReference, AreRules}
-use Rattle.order_laws.specs.Greatest.{any_from}
 use Rattle.order_laws.specs.Scales.{is_total, is_leaf_element}
 use Rattle.order_laws.proofs.SumFacts.{all_from}
 use Rattle.order_laws.proofs.ReferenceFacts.{AllFollow, moved-element}
 use Rattle.order_laws.proofs.SetFacts.{follow-all, with-parts}
-use Rattle.order_laws.proofs.CellFacts.{axes-sizes, is_in_area, area-each}
-use Rattle.order_laws.proofs.Decided as decided
+use Rattle.order_laws.proofs.CellFacts.{IsOf, axes-sizes, is_in_area, area-each}
 use Rattle.cover_laws.specs.Looking.{Look, sent, is_narrow, is_possible}
 use Rattle.cover_laws.proofs.Looks.{NamesCounted, name_each-elim, name_each-intro, fixed-elim, fixed-intro, each-elim, each-intro, IsNarrow, some_in-elim, some_in-intro}
 pub use Rattle.std.proofs.lemmas.Option.{slice_get_within as there-low}
 pub use Rattle.rule_model.proofs.Arguments.{one_each as named-long}
 pub use Rattle.lists.proofs.Found.{there as arg-there}
+pub use Rattle.order_laws.proofs.SumFacts.{any-not}
 
 -- ---- lists of elements
 
@@ -46,14 +45,6 @@ all-at test es h k low = let own : 0 + k ≡ k = omega arith in subst (λ n. tes
 
 pub all-of : (test : ℕ → ℕ → Bool) (es : List ℕ) → ((k : ℕ) → k < length es → test k (get_or es k 0) ≡ true) → all_from test 0 es ≡ true
 all-of test es h = all_from-of test 0 es (λ k low. let own : 0 + k ≡ k = omega arith in subst (λ n. test n (get_or es k 0) ≡ true) (sym own) (h k low))
-
-pub any-not : (test : ℕ → ℕ → Bool) (base : ℕ) (es : List ℕ) → not (any_from test base es) ≡ all_from (λ i e. not (test i e)) base es
-any-not test base [] = refl
-any-not test base (e ∷ es) = parted (test base e) (any_from test (suc base) es) ∙ ap (λ t. not (test base e) && t) (any-not test (suc base) es)
-  where
-    parted : (t u : Bool) → not (t || u) ≡ not t && not u
-    parted true u = refl
-    parted false u = refl
 
 -- one for each number below this, chosen
 pub choose : (n : ℕ) (P : ℕ → ℕ → Type 0) → ((k : ℕ) → k < n → (x : ℕ) × P k x) → (xs : List ℕ) × (length xs ≡ n) × ((k : ℕ) → k < n → P k (get_or xs k 0))
@@ -107,7 +98,7 @@ module _ (m : BoundModel) (ruled : AreRules m.space m.rules) (cube : ℕ) (there
   width = length (axes m.space cube)
 
   abbrev pub Of : List ℕ → Type 0
-  Of es = decided.IsOf m ruled cube there statement is_area true es
+  Of es = IsOf m.space cube statement.area true es
 
   -- the elements of a leaf cell of the area are leaves that it has
   pub of-leaf : (es : List ℕ) → Of es → (i : ℕ) → i < width → is_in_area m.space cube statement.area i (get_or es i 0) ≡ true

@@ -23,15 +23,15 @@ use Rattle.rule_model.specs.Governing.{rules_for, has_part}
 use Rattle.rule_model.specs.Governing as model
 use Rattle.model_laws.proofs.Statements.{governing-all, split}
 use Rattle.model_laws.specs.Statements.{statements_before}
-use Rattle.order_laws.specs.Scales.{is_total, is_leaf_element}
+use Rattle.order_laws.specs.Scales.{is_leaf_element}
 use Rattle.order_laws.proofs.SumFacts.{all_from, zip-each}
 use Rattle.order_laws.proofs.SetFacts.{zip-long}
-use Rattle.order_laws.proofs.CellFacts.{IsAt, axes-sizes, leaf-is}
+use Rattle.order_laws.proofs.CellFacts.{IsAt, IsOf, axes-sizes, leaf-all}
 use Rattle.order_laws.proofs.Decided as decided
 use Rattle.cover_laws.specs.Looking.{Look, is_possible}
 use Rattle.cover_laws.specs.Covered.{look_within, names_no_total, names_no_governed}
 use Rattle.cover_laws.proofs.Pairs as pairs
-use Rattle.cover_laws.proofs.Pairs.{named-long, all-at, all-of, any-not}
+use Rattle.cover_laws.proofs.Pairs.{named-long, all-at, all-of}
 use Rattle.cover_laws.proofs.Named as naming
 
 first-of : (t u : Bool) → t || not u ≡ true → u ≡ true → t ≡ true
@@ -113,7 +113,7 @@ module _ (m : BoundModel) (valid : IsSpace m.space) (ruled : AreRules m.space m.
     inside-at ts t at long = ap (in_sets governed.sets) at.elements ∙ inside-each ts long
 
     leaf-at : (ts : List ℕ) (t : ℕ) → IsAt m.space r.cube ts t → length ts ≡ length (axes m.space r.cube) → is_leaf_cell m.space t ≡ all_from (is_leaf_element (axes m.space r.cube)) 0 ts
-    leaf-at ts t at long = leaf-is m.space r.cube ts t at long ∙ any-not (is_total (axes m.space r.cube)) 0 ts
+    leaf-at ts t at long = leaf-all m.space r.cube ts t at long
 
     -- each cell of the area that is named is a leaf cell
     abbrev pub NamesLeaves : Type 0
@@ -191,7 +191,7 @@ module _ (m : BoundModel) (valid : IsSpace m.space) (ruled : AreRules m.space m.
     unfolding system_of names_no_governed
     governed-totals h c t of named total = governs-none t at_t.cell (by_cube at_t.own ∙ list_all-map (λ rule. not (has_part m t rule)) (rule_of m.space r.cube) (rules_of m r.cube).statements ∙ all)
       where
-        found : IsAt m.space cube (elements_of m.space c) c × decided.IsOf m ruled cube there statement is_area true (elements_of m.space c)
+        found : IsAt m.space cube (elements_of m.space c) c × IsOf m.space cube statement.area true (elements_of m.space c)
         found = decided.cell-of m ruled cube there statement is_area true c of
 
         reached : (ts : List ℕ) × (Rattle.rule_model.specs.Targets.elements_by (elements_of m.space c) r.args ≡ Some ts) × IsAt m.space r.cube ts t × (length ts ≡ length (axes m.space r.cube))
@@ -228,7 +228,7 @@ module _ (m : BoundModel) (valid : IsSpace m.space) (ruled : AreRules m.space m.
             → (c t : ℕ) → IsCellOf (system_of m) (rule_of m.space cube statement) true c → target m.space r c ≡ Some t → in_area m.space (get_or (rules_of m r.cube).statements k d).area t ≡ true → is_leaf_cell m.space t ≡ true
         leaves k d low f e c t of named inside = by (is_leaf_cell m.space t) refl
           where
-            found : IsAt m.space cube (elements_of m.space c) c × decided.IsOf m ruled cube there statement is_area true (elements_of m.space c)
+            found : IsAt m.space cube (elements_of m.space c) c × IsOf m.space cube statement.area true (elements_of m.space c)
             found = decided.cell-of m ruled cube there statement is_area true c of
 
             reached : (ts : List ℕ) × (Rattle.rule_model.specs.Targets.elements_by (elements_of m.space c) r.args ≡ Some ts) × IsAt m.space r.cube ts t × (length ts ≡ length (axes m.space r.cube))

@@ -1,41 +1,27 @@
 -- What lies below a cell are leaf cells of its cube that rank no higher.
-use Rattle.std.proofs.Common.{◌≡◌, refl, sym, ◌∙◌, ap, arith, subst, ℕ, zero, suc, ◌<◌, ◌≤◌, inl, inr, ◌⊎◌, Bool, true, false, ℤ, pos, ◌*ℤ◌, List, [], ◌∷◌, length, get_or, Some, eqb}
-use Rattle.std.specs.Prelude.{slice_get}
+use Rattle.std.proofs.Common.{◌≡◌, refl, sym, ◌∙◌, ap, arith, subst, ℕ, ◌<◌, ◌≤◌, Bool, true, false, cond, ℤ, pos, ◌*ℤ◌, List, [], ◌∷◌, length, get_or, eqb, nat_lt}
 use Rattle.std.specs.List.{All, range_with_len}
-use Rattle.std.proofs.Math.IntN.{*ℤ-zero, zero-*ℤ}
-use Rattle.std.proofs.lemmas.Bool.{cases_lt, cond_both, eqb-true}
-use Rattle.std.proofs.lemmas.List.{get_or_past}
+use Rattle.std.proofs.Math.IntN.{*ℤ-zero}
+use Rattle.std.proofs.lemmas.Bool.{and_parts, ltb-true, cond_both, eqb-true}
 use Rattle.std.proofs.lemmas.List.Elements.{All-head, All-tail, All-nil, All-cons, All-filter, filter_passes}
-use Rattle.dim_core.specs.Outline.{Outline}
-use Rattle.dim_weights.specs.Coefficients.{coef}
+use Rattle.dim_core.specs.Outline.{Outline, IsDimension, IsElement, components_of}
+use Rattle.dim_weights.specs.Coefficients.{coef, coef_over}
 use Rattle.dim_weights.specs.Table.{is_nonzero, nonzero_among}
+use Rattle.dim_weights.proofs.Equations.{coef-solves}
 use Rattle.cube_space.specs.Radix.{are_digits}
 use Rattle.cube_space.specs.Layout.{Layout, axes, sizes_of}
-use Rattle.cube_space.specs.Cells.{IsCell, size_of, cube_of, elements_of, is_leaf_cell}
-use Rattle.cube_space.proofs.Places.{cell-place}
-use Rattle.rule_model.specs.declared.order.Position.{Position}
-use Rattle.rule_model.specs.declared.order.Position.TheVariants.{Constant, Ranks}
-use Rattle.rule_model.specs.BoundModel.{BoundModel, rules_of}
-use Rattle.rule_model.specs.Conditions.{AreRules, IsPosition}
+use Rattle.cube_space.specs.Cells.{IsSpace, IsCell, size_of, cube_of, elements_of, is_leaf, are_leaves, is_leaf_cell}
+use Rattle.cube_space.proofs.Places.{cell-place, place_number}
+use Rattle.rule_model.specs.BoundModel.{BoundModel}
+use Rattle.rule_model.specs.Conditions.{AreRules, IsLeafBelow}
 use Rattle.rule_model.specs.Weights.{coef_product, weight, leaf_cells, leaves_below}
 use Rattle.rule_model.specs.Order.{position_of, number_by, number_at, rank}
-use Rattle.model_laws.proofs.Levels.{element-of}
-use Rattle.model_laws.proofs.Ranks.{rank-at_most}
+use Rattle.rule_model.proofs.LeafCells.{coefs-counted}
+use Rattle.model_laws.proofs.Levels.{axes-are}
+use Rattle.model_laws.proofs.Ranks.{rank-behind_equal}
 pub use Rattle.dim_weights.proofs.ByLevel.{range-within as range-below}
 
 -- ---- weights
-
--- a product other than 0 has no factor that is
-coefs-counted : (ds : List Outline) (cell leaf : List ℕ) (k : ℕ) (d : Outline) → (coef_product ds cell leaf ≡ pos 0 → ⊥) → slice_get ds k ≡ Some d → coef d (get_or cell k 0) (get_or leaf k 0) ≡ pos 0 → ⊥
-coefs-counted [] cell leaf k d counted is none = cc
-coefs-counted (x ∷ ds) [] leaf k d counted is none = counted refl
-coefs-counted (x ∷ ds) (e ∷ cell) [] k d counted is none = counted refl
-coefs-counted (x ∷ ds) (e ∷ cell) (l ∷ leaf) zero d counted is none =
-    let same : x ≡ d = cc in
-    let here : coef x e l ≡ pos 0 = subst (λ (o : Outline). coef o e l ≡ pos 0) (sym same) none in
-    counted (ap (λ (z : ℤ). z *ℤ coef_product ds cell leaf) here ∙ zero-*ℤ (coef_product ds cell leaf))
-coefs-counted (x ∷ ds) (e ∷ cell) (l ∷ leaf) (suc k) d counted is none =
-    coefs-counted ds cell leaf k d (λ rest. counted (ap (λ (z : ℤ). coef x e l *ℤ z) rest ∙ *ℤ-zero (coef x e l))) is none
 
 -- a cell with a weight other than 0 is of the same cube, and each of its elements counts
 pub record IsCounted (space : Layout) (c leaf : ℕ) : Type 0 where
@@ -55,38 +41,91 @@ weight-counted space c leaf on = by (eqb (cube_of space c) (cube_of space leaf))
         }
     by false other = let none : is_nonzero (pos 0) ≡ true = rw other at on in absurd (cc)
 
+-- ---- leaf cells below a leaf cell
+
+-- a leaf counts in itself alone
+leaf-alone : (d : Outline) → IsDimension d → (element leaf : ℕ) → IsElement d element → is_leaf d element ≡ true → (coef d element leaf ≡ pos 0 → ⊥) → element ≡ leaf
+leaf-alone d dim element leaf here lowest counts = by (components_of d element) lowest (coef-solves d dim leaf element here)
+  where
+    same : (b : Bool) → eqb element leaf ≡ b → coef d element leaf ≡ cond b (pos 1) (pos 0) → element ≡ leaf
+    same true is one = eqb-true element leaf is
+    same false is none = absurd (counts none)
+
+    by : (parts : List (ℕ × ℤ)) → eqb (length parts) 0 ≡ true → coef d element leaf ≡ coef_over leaf element (λ e. coef d e leaf) parts → element ≡ leaf
+    by [] none is = same (eqb element leaf) refl is
+    by (part ∷ parts) none is = absurd (omega (arith, eqb-true (length (part ∷ parts)) 0 none))
+
+leaves-alone : (ds : List Outline) (cell leaf : List ℕ) → All IsDimension ds → are_digits (sizes_of ds) cell ≡ true → are_digits (sizes_of ds) leaf ≡ true → are_leaves ds cell ≡ true
+    → (coef_product ds cell leaf ≡ pos 0 → ⊥) → cell ≡ leaf
+leaves-alone [] [] [] dims upper lower leaves counted = refl
+leaves-alone [] [] (l ∷ leaf) dims upper lower leaves counted = absurd (cc)
+leaves-alone [] (e ∷ cell) leaf dims upper lower leaves counted = absurd (cc)
+leaves-alone (d ∷ ds) [] leaf dims upper lower leaves counted = absurd (cc)
+leaves-alone (d ∷ ds) (e ∷ cell) [] dims upper lower leaves counted = absurd (cc)
+leaves-alone (d ∷ ds) (e ∷ cell) (l ∷ leaf) dims upper lower leaves counted =
+    let above = and_parts (nat_lt e (length d.elements)) (are_digits (sizes_of ds) cell) upper in
+    let under = and_parts (nat_lt l (length d.elements)) (are_digits (sizes_of ds) leaf) lower in
+    let tests = and_parts (is_leaf d e) (are_leaves ds cell) leaves in
+    let first : e ≡ l = leaf-alone d (All-head IsDimension d ds dims) e l (ltb-true e (length d.elements) above.0) tests.0 (coefs-counted (d ∷ ds) (e ∷ cell) (l ∷ leaf) 0 d counted refl) in
+    let rest : cell ≡ leaf = leaves-alone ds cell leaf (All-tail IsDimension d ds dims) above.1 under.1 tests.1 (λ none. counted (ap (λ (z : ℤ). coef d e l *ℤ z) none ∙ *ℤ-zero (coef d e l))) in
+    ap (λ x. x ∷ cell) first ∙ ap (λ xs. l ∷ xs) rest
+
 -- ---- ranks
 
--- a leaf has no greater number at a position than what it counts in
-number-by : (ds : List Outline) (position : Position) (cell leaf : List ℕ) → IsPosition ds position → are_digits (sizes_of ds) cell ≡ true → are_digits (sizes_of ds) leaf ≡ true
-    → (coef_product ds cell leaf ≡ pos 0 → ⊥) → number_by position leaf ≤ number_by position cell
-number-by ds (Constant number) cell leaf is upper lower counts = omega arith
-number-by ds (Ranks dim ranks) cell leaf (d, own, are) upper lower counts =
-    are.holds_leaves (get_or cell dim 0) (get_or leaf dim 0) (element-of ds cell dim d upper own).1 (element-of ds leaf dim d lower own).1 (coefs-counted ds cell leaf dim d counts own)
+module _ (m : BoundModel) (valid : IsSpace m.space) (rules : AreRules m.space m.rules) (c leaf : ℕ) (cell : IsCell m.space c) (below : IsCell m.space leaf) (counted : IsCounted m.space c leaf) where
+  abbrev dims : List Outline
+  dims = axes m.space (cube_of m.space c)
 
-module _ (m : BoundModel) (rules : AreRules m.space m.rules) where
-  position-is : (cube place : ℕ) → cube < length m.space.cubes → IsPosition (axes m.space cube) (position_of m cube place)
-  position-is cube place there = by (cases_lt place (length (rules_of m cube).order.positions))
-    where
-      by : (place < length (rules_of m cube).order.positions) ⊎ (length (rules_of m cube).order.positions ≤ place) → IsPosition (axes m.space cube) (position_of m cube place)
-      by (inl within) = (rules.cube cube there).order.each place (Constant 0) within
-      by (inr past) =
-          let none : position_of m cube place ≡ Constant 0 = get_or_past (rules_of m cube).order.positions place (Constant 0) past in
-          subst (IsPosition (axes m.space cube)) (sym none) (omega arith)
+  leaf-digits : are_digits (sizes_of dims) (elements_of m.space leaf) ≡ true
+  leaf-digits = ap (λ cube. are_digits (sizes_of (axes m.space cube)) (elements_of m.space leaf)) counted.same_cube ∙ (cell-place m.space leaf below).place.digits
 
-  module _ (c leaf : ℕ) (cell : IsCell m.space c) (below : IsCell m.space leaf) (counted : IsCounted m.space c leaf) where
-    leaf-number : (place : ℕ) → number_at m place leaf ≤ number_at m place c
+  -- below a leaf cell lies it alone
+  same-cell : is_leaf_cell m.space c ≡ true → c ≡ leaf
+  unfolding is_leaf_cell
+  same-cell leaves =
+      let elements : elements_of m.space c ≡ elements_of m.space leaf = leaves-alone dims (elements_of m.space c) (elements_of m.space leaf) (axes-are m.space valid (cube_of m.space c)) (cell-place m.space c cell).place.digits leaf-digits leaves counted.counts in
+      sym (cell-place m.space c cell).number
+      ∙ ap (λ cube. place_number m.space cube (elements_of m.space c)) counted.same_cube
+      ∙ ap (place_number m.space (cube_of m.space leaf)) elements
+      ∙ (cell-place m.space leaf below).number
+
+  module _ (total : is_leaf_cell m.space c ≡ false) (leaves : is_leaf_cell m.space leaf ≡ true) where
+    is-below : IsLeafBelow dims (elements_of m.space c) (elements_of m.space leaf)
+    unfolding is_leaf_cell
+    is-below = record {
+      cell = (cell-place m.space c cell).place.digits;
+      leaf = leaf-digits;
+      total = total;
+      leaves = ap (λ cube. are_leaves (axes m.space cube) (elements_of m.space leaf)) counted.same_cube ∙ leaves;
+      counts = counted.counts;
+    }
+
+    abbrev number : Bool → ℕ → List ℕ → ℕ
+    number kind place elements = number_by (position_of m (cube_of m.space c) kind place) elements
+
+    leaf-number : (place : ℕ) → number_at m place leaf ≡ number true place (elements_of m.space leaf)
     unfolding number_at
     leaf-number place =
-        let upper = (cell-place m.space c cell).place in
-        let lower = (cell-place m.space leaf below).place in
-        let own : are_digits (sizes_of (axes m.space (cube_of m.space c))) (elements_of m.space leaf) ≡ true =
-        ap (λ cube. are_digits (sizes_of (axes m.space cube)) (elements_of m.space leaf)) counted.same_cube ∙ lower.digits in
-        let least = number-by (axes m.space (cube_of m.space c)) (position_of m (cube_of m.space c) place) (elements_of m.space c) (elements_of m.space leaf) (position-is (cube_of m.space c) place upper.there) upper.digits own counted.counts in
-        subst (λ cube. number_by (position_of m cube place) (elements_of m.space leaf) ≤ number_by (position_of m (cube_of m.space c) place) (elements_of m.space c)) counted.same_cube least
+        ap (λ cube. number_by (position_of m cube (is_leaf_cell m.space leaf) place) (elements_of m.space leaf)) (sym counted.same_cube)
+        ∙ ap (λ kind. number kind place (elements_of m.space leaf)) leaves
 
-    leaf-rank : rank m leaf ≤ rank m c
-    leaf-rank = rank-at_most m leaf c below cell (λ place within. leaf-number place)
+    total-number : (place : ℕ) → number_at m place c ≡ number false place (elements_of m.space c)
+    unfolding number_at
+    total-number place = ap (λ kind. number kind place (elements_of m.space c)) total
+
+    -- a leaf cell has no greater number behind equal ones
+    least-number : (place : ℕ) → ((p : ℕ) → p < place → number_at m p leaf ≡ number_at m p c) → number_at m place leaf ≤ number_at m place c
+    least-number place before =
+        let held = (rules.cube (cube_of m.space c) (cell-place m.space c cell).place.there).order.holds_leaf_cells (elements_of m.space c) (elements_of m.space leaf) place is-below
+        (λ p less. sym (leaf-number p) ∙ before p less ∙ total-number p) in
+        omega (arith, held, leaf-number place, total-number place)
+
+  leaf-rank : is_leaf_cell m.space leaf ≡ true → rank m leaf ≤ rank m c
+  leaf-rank leaves = by (is_leaf_cell m.space c) refl
+    where
+      by : (b : Bool) → is_leaf_cell m.space c ≡ b → rank m leaf ≤ rank m c
+      by true lowest = subst (λ (x : ℕ). rank m x ≤ rank m c) (same-cell lowest) (omega arith)
+      by false total = rank-behind_equal m leaf c below cell (least-number total leaves)
 
 -- ---- lists
 
@@ -108,10 +147,10 @@ leaf_cells-are space k d less = (
 
 -- ---- what lies below
 
-pub below-ranks : (m : BoundModel) → AreRules m.space m.rules → (c : ℕ) → IsCell m.space c
+pub below-ranks : (m : BoundModel) → IsSpace m.space → AreRules m.space m.rules → (c : ℕ) → IsCell m.space c
     → All (λ pair. (IsCell m.space pair.0 × (is_leaf_cell m.space pair.0 ≡ true)) × (rank m pair.0 ≤ rank m c)) (leaves_below m.space c)
-below-ranks m rules c cell =
+below-ranks m valid rules c cell =
     among (weight m.space c) (λ pair. (IsCell m.space pair.0 × (is_leaf_cell m.space pair.0 ≡ true)) × (rank m pair.0 ≤ rank m c)) (leaf_cells m.space)
     (λ k d less on.
     let leaf = leaf_cells-are m.space k d less in
-    (leaf, leaf-rank m rules c (get_or (leaf_cells m.space) k d) cell leaf.0 (weight-counted m.space c (get_or (leaf_cells m.space) k d) on)))
+    (leaf, leaf-rank m valid rules c (get_or (leaf_cells m.space) k d) cell leaf.0 (weight-counted m.space c (get_or (leaf_cells m.space) k d) on) leaf.1))

@@ -99,7 +99,7 @@ module _ (space : Layout) (valid : IsSpace space) (c dim : ℕ) (cell : IsCell s
 pub well_formed : (m : BoundModel) → IsSpace m.space → AreRules m.space m.rules → IsWellFormed (system_of m)
 unfolding system_of
 well_formed m valid rules = record {
-  leaves_below = λ c cell. below-ranks m rules c cell;
+  leaves_below = λ c cell. below-ranks m valid rules c cell;
   target_cell = λ r c t cell is. target-cell m.space r c t is;
   component_cells = λ c dim pairs cell is. lower-components m.space valid c dim cell pairs is;
   leaf_level = λ c leaf. leaf_cell-level m.space valid c leaf.0 leaf.1;

@@ -14,6 +14,7 @@ use Rattle.cube_space.specs.Cells.{IsSpace, IsCell, cube_of, elements_of, is_lea
 use Rattle.cube_space.proofs.Places.{cell-place}
 use Rattle.rule_model.specs.Order.{cell_level}
 pub use Rattle.rule_model.proofs.Shapes.{found_holds as found}
+pub use Rattle.rule_model.proofs.LeafCells.{element-of}
 
 -- what holds of all dimensions holds of those of a cube
 pub found_all : {X : Type 0} (P : X → Type 0) (xs : List X) (places : List ℕ) → All P xs → All P (filter_map (slice_get xs) places)
@@ -23,19 +24,6 @@ found_all P xs (i ∷ places) all = by (slice_get xs i) refl (found_all P xs pla
     by : (o : Option _) → slice_get xs i ≡ o → All P (filter_map (slice_get xs) places) → All P (cons_option o (filter_map (slice_get xs) places))
     by None is rest = rest
     by (Some x) is rest = All-cons P x (filter_map (slice_get xs) places) (found P xs i x all is) rest
-
--- there is an element of each dimension
-pub element-of : (ds : List Outline) (elements : List ℕ) (k : ℕ) (d : Outline) → are_digits (sizes_of ds) elements ≡ true → slice_get ds k ≡ Some d → (k < length elements) × IsElement d (get_or elements k 0)
-element-of [] elements k d are is = absurd (cc)
-element-of (x ∷ ds) [] k d are is = absurd (cc)
-element-of (x ∷ ds) (e ∷ elements) zero d are is =
-    let same : x ≡ d = cc in
-    let parts = and_parts (nat_lt e (length x.elements)) (are_digits (sizes_of ds) elements) are in
-    (omega arith, subst (λ (o : Outline). e < length o.elements) same (ltb-true e (length x.elements) parts.0))
-element-of (x ∷ ds) (e ∷ elements) (suc k) d are is =
-    let parts = and_parts (nat_lt e (length x.elements)) (are_digits (sizes_of ds) elements) are in
-    let rest = element-of ds elements k d parts.1 is in
-    (omega (arith, rest.0), rest.1)
 
 -- ---- an element
 

@@ -1,7 +1,7 @@
 -- The rank of a cell is its numbers at the positions of the declared order, read as one.
-use Rattle.std.proofs.Common.{◌≡◌, refl, arith, ℕ, zero, suc, ◌+◌, ◌<◌, ◌≤◌, true, List, [], ◌∷◌, length, map, get_or}
+use Rattle.std.proofs.Common.{◌≡◌, refl, subst, arith, ℕ, zero, suc, ◌+◌, ◌<◌, ◌≤◌, inl, inr, ◌⊎◌, true, List, [], ◌∷◌, length, map, get_or}
 use Rattle.std.specs.List.{range_with_len}
-use Rattle.std.proofs.lemmas.Bool.{and_from, lt-ltb}
+use Rattle.std.proofs.lemmas.Bool.{and_from, lt-ltb, cases_lt}
 use Rattle.std.proofs.lemmas.List.FromFn.{get_or-map-range_with_len, length-map-range_with_len}
 use Rattle.cube_space.specs.Radix.{are_digits}
 use Rattle.cube_space.specs.Cells.{IsCell}
@@ -25,6 +25,29 @@ at_most-greatest f n c less =
 digits-by : (f g : ℕ → ℕ) (a n : ℕ) → ((p : ℕ) → g p < f p) → are_digits (map f (range_with_len a n)) (map g (range_with_len a n)) ≡ true
 digits-by f g a zero below = refl
 digits-by f g a (suc n) below = and_from _ _ (lt-ltb (g a) (f a) (below a)) (digits-by f g (a + 1) n below)
+
+-- a number smaller behind equal ones
+record IsSmallerAt (f g : ℕ → ℕ) (place : ℕ) : Type 0 where
+  here : f place < g place
+  before : (p : ℕ) → p < place → f p ≡ g p
+
+-- where no number is greater behind equal ones, all are equal, or the first that differs is smaller
+first-smaller : (f g : ℕ → ℕ) → ((place : ℕ) → ((p : ℕ) → p < place → f p ≡ g p) → f place ≤ g place) → (n : ℕ) → ((p : ℕ) → p < n → f p ≡ g p) ⊎ ((place : ℕ) × (place < n) × IsSmallerAt f g place)
+first-smaller f g least zero = inl (λ p less. absurd (omega (arith, less)))
+first-smaller f g least (suc n) = from (first-smaller f g least n)
+  where
+    next : ((p : ℕ) → p < n → f p ≡ g p) → (f n < g n) ⊎ (g n ≤ f n) → ((p : ℕ) → p < suc n → f p ≡ g p) ⊎ ((place : ℕ) × (place < suc n) × IsSmallerAt f g place)
+    next same (inl less) = inr (n, omega arith, record { here = less; before = same })
+    next same (inr most) =
+        let equal : f n ≡ g n = omega (arith, most, least n same) in
+        inl (λ p less. elim (cases_lt p n) [
+          | inl before ↦ same p before
+          | inr behind ↦ subst (λ (k : ℕ). f k ≡ g k) (let e : n ≡ p = omega (arith, less, behind) in e) equal
+        ])
+
+    from : ((p : ℕ) → p < n → f p ≡ g p) ⊎ ((place : ℕ) × (place < n) × IsSmallerAt f g place) → ((p : ℕ) → p < suc n → f p ≡ g p) ⊎ ((place : ℕ) × (place < suc n) × IsSmallerAt f g place)
+    from (inl same) = next same (cases_lt (f n) (g n))
+    from (inr (place, within, smaller)) = inr (place, omega (arith, within), smaller)
 
 module _ (m : BoundModel) where
   pub number-below_size : (c place : ℕ) → IsCell m.space c → number_at m place c < position_size m place
@@ -59,6 +82,17 @@ module _ (m : BoundModel) where
       let low : p < most_positions = omega (arith, less, within) in
       omega (arith, number-of x p low, number-of c p low, before p less))
       (omega (arith, number-of x place within, number-of c place within, here))
+
+  -- a cell that has no greater number behind equal ones ranks no higher
+  pub rank-behind_equal : (x c : ℕ) → IsCell m.space x → IsCell m.space c
+      → ((place : ℕ) → ((p : ℕ) → p < place → number_at m p x ≡ number_at m p c) → number_at m place x ≤ number_at m place c) → rank m x ≤ rank m c
+  rank-behind_equal x c cell_x cell_c least = by (first-smaller (λ p. number_at m p x) (λ p. number_at m p c) least most_positions)
+    where
+      by : ((p : ℕ) → p < most_positions → number_at m p x ≡ number_at m p c) ⊎ ((place : ℕ) × (place < most_positions) × IsSmallerAt (λ p. number_at m p x) (λ p. number_at m p c) place) → rank m x ≤ rank m c
+      by (inl same) = rank-at_most x c cell_x cell_c (λ p within. omega (arith, same p within))
+      by (inr (place, within, smaller)) =
+          let lower = rank-smaller x c place cell_x cell_c within smaller.here (λ p less. omega (arith, smaller.before p less)) in
+          omega (arith, lower)
 
   pub ranked : IsRankedBy (system_of m) (positions_of m)
   unfolding system_of positions_of level_count

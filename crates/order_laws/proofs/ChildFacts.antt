@@ -1,5 +1,5 @@
 -- The components of an element, as cells.
-use Rattle.std.proofs.Common.{◌≡◌, refl, ap, ◌∙◌, arith, subst, ℕ, zero, suc, ◌+◌, ◌<◌, true, ℤ, pos, Option, Some, None, List, [], ◌∷◌, length, get_or, set, nat_lt, All, Contains}
+use Rattle.std.proofs.Common.{◌≡◌, refl, ap, ◌∙◌, arith, subst, ℕ, zero, suc, ◌<◌, true, ℤ, pos, Option, Some, None, List, [], ◌∷◌, length, get_or, set, nat_lt, All, Contains}
 use Rattle.std.specs.Prelude.{slice_get, slice_index_or, option_map}
 use Rattle.std.specs.Option.{option_map_or}
 use Rattle.std.specs.List.{filter_map}
@@ -10,7 +10,6 @@ use Rattle.cube_space.specs.Layout.{Layout, axes, axes_of, dims_of, sizes, sizes
 use Rattle.cube_space.specs.Cells.{IsSpace}
 use Rattle.rule_model.specs.Targets.{with_components, parts_at, component_cells}
 use Rattle.order_laws.specs.Scales.{parts_in}
-use Rattle.order_laws.proofs.ReferenceFacts.{added}
 pub use Rattle.dim_weights.proofs.Nonzero.{counts-nonzero, nonzero-counts}
 
 -- another element in one dimension
@@ -23,11 +22,6 @@ digits-set (s ∷ sizes) (e ∷ es) zero k h low within =
 digits-set (s ∷ sizes) (e ∷ es) (suc dim) k h low within =
     let parts = and_parts (nat_lt e s) (are_digits sizes es) h in
     and_from (nat_lt e s) (are_digits sizes (set es dim k)) parts.0 (digits-set sizes es dim k parts.1 (omega arith) within)
-
-pub added-set : (worth : ℕ → ℕ → ℕ) (i n dim k : ℕ) (es : List ℕ) → n ≡ i + dim → dim < length es → added worth i (set es dim k) + worth n (get_or es dim 0) ≡ added worth i es + worth n k
-added-set worth i n dim k [] is low = absurd (omega arith)
-added-set worth i n zero k (e ∷ es) is low = let same : i ≡ n = omega arith in rw same (omega arith)
-added-set worth i n (suc dim) k (e ∷ es) is low = omega (arith, added-set worth (suc i) n dim k es (omega arith) (omega arith))
 
 -- the components with cells, one by one
 module _ (cell : ℕ → Option ℕ) where

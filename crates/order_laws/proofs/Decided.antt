@@ -1,15 +1,14 @@
--- The greatest excess bounds just what each cell that is read has more than its cell.
-use Rattle.std.proofs.Common.{◌≡◌, refl, sym, ap, ◌∙◌, arith, subst, ℕ, ◌+◌, ◌<◌, Bool, true, false, not, ℤ, pos, neg_ℤ, ◌+ℤ◌, ◌-ℤ◌, ◌≤ℤ◌, Option, Some, None, List, length, ◌==◌}
-use Rattle.std.specs.Prelude.{slice_get, slice_index_or, option_map, option_and_then}
-use Rattle.std.specs.List.{AllZip}
+-- The most that a cell which is read has more bounds just what each cell that a reference names has more than its cell.
+use Rattle.std.proofs.Common.{◌≡◌, refl, sym, ap, ◌∙◌, arith, subst, ℕ, ◌+◌, ◌<◌, Bool, true, false, not, ◌&&◌, ℤ, pos, neg_ℤ, ◌+ℤ◌, ◌-ℤ◌, ◌≤ℤ◌, Option, Some, None, List, length, ◌==◌}
+use Rattle.std.specs.Prelude.{option_map, option_and_then}
 use Rattle.std.proofs.lemmas.Int.{ints}
-use Rattle.std.proofs.lemmas.Bool.{eq-eqb, and_parts, and_from, not-true, not_from_false as not-false}
+use Rattle.std.proofs.lemmas.Bool.{eq-eqb, and_parts, and_from}
 use Rattle.std.proofs.lemmas.Bool.Decides.{Decides-eqb}
 use Rattle.cube_space.specs.Radix.{are_digits}
 use Rattle.cube_space.specs.Layout.{axes, sizes}
-use Rattle.cube_space.specs.Cells.{cube_of, elements_of, cell_number}
+use Rattle.cube_space.specs.Cells.{cube_of, elements_of, cell_number, is_leaf_cell}
 use Rattle.rule_laws.specs.declared.reference.Reference.{Reference}
-use Rattle.rule_laws.specs.Meaning.{Precedent, Named}
+use Rattle.rule_laws.specs.Meaning.{Named}
 use Rattle.rule_laws.specs.Ordered.{IsCellOf, Throughout}
 use Rattle.rule_model.specs.declared.rules.Statement.{Statement}
 use Rattle.rule_model.specs.BoundModel.{BoundModel}
@@ -17,85 +16,21 @@ use Rattle.rule_model.specs.Areas.{in_area, in_sets}
 use Rattle.rule_model.specs.Targets.{elements_by, target}
 use Rattle.rule_model.specs.System.{system_of, rule_of}
 use Rattle.rule_model.specs.Conditions.{IsArea, IsReference, AreRules}
-use Rattle.order_laws.specs.Greatest.{plus, IsAtMost, sum_from, any_from, only}
-use Rattle.order_laws.specs.Scales.{Scale, scale_of, fixed_sum, moved_sum, is_total, is_leaf_element}
-use Rattle.order_laws.specs.Earlier.{most_excess}
-use Rattle.order_laws.specs.Plain.{excess, start, greatest_by, each, excess_sum}
-use Rattle.order_laws.proofs.GreatestFacts.{IsTop, Among, passing-top, failing-top}
-use Rattle.order_laws.proofs.SumFacts.{sum-plus, sum-only, all_from}
-use Rattle.order_laws.proofs.ReferenceFacts.{added, reading, taken-sum, named-sum}
-use Rattle.order_laws.proofs.SetFacts.{set-top, set-at, follow-all, named-digits}
-use Rattle.order_laws.proofs.CellFacts.{IsAt, axes-sizes, cell-there, number-there, cell-digits, digits-long, leaf-is, is_in_area, area-each, measure, measure-is}
-
-not-not : (t : Bool) → not (not t) ≡ t
-not-not true = refl
-not-not false = refl
+use Rattle.order_laws.specs.Greatest.{plus, IsAtMost, sum_from, only}
+use Rattle.order_laws.specs.Scales.{Scale, scale_of, fixed_sum, moved_sum}
+use Rattle.order_laws.specs.Earlier.{Kinds, is_same, fixed_leaves, moved_leaves, start_by_kinds, most_excess}
+use Rattle.order_laws.proofs.SumFacts.{sum-plus, sum-only, plus-only, all_from}
+use Rattle.order_laws.proofs.ReferenceFacts.{AllFollow, added, reading, taken-sum, named-sum}
+use Rattle.order_laws.proofs.SetFacts.{follow-all, named-digits}
+use Rattle.order_laws.proofs.LeafFacts.{all-self, all-agree, named-leaves}
+use Rattle.order_laws.proofs.CellFacts.{IsAt, IsOf, not-not, axes-sizes, cell-there, number-there, cell-digits, digits-long, leaf-is, leaf-all, measure, measure-is}
+use Rattle.order_laws.proofs.KindFacts.{chosen, most-over, most-least}
 
 -- a statement of a cube, and what its formulas read
 module _ (m : BoundModel) (ruled : AreRules m.space m.rules) (cube : ℕ) (there : cube < length m.space.cubes)
     (statement : Statement) (is_area : IsArea m.space cube statement.area) where
-  -- an element's excess, where the area has it
-  abbrev here : ℕ → Precedent → ℕ → ℕ → Option ℤ
-  here q p i e = only (is_in_area m.space cube statement.area i e) (excess m cube q p i e)
-
-  sum-of-top : (q : ℕ) (p : Precedent) (kind : Bool) → IsTop (Among (is_total (axes m.space cube)) (not kind) (length (axes m.space cube)) 0) (sum_from (here q p) 0) (excess_sum m cube statement.area kind p q)
-  sum-of-top q p true =
-      failing-top (here q p) (is_total (axes m.space cube)) (greatest_by m cube statement.area q p (is_leaf_element (axes m.space cube)))
-      (λ i. set-top (λ e. is_total (axes m.space cube) i e ≡ false) (excess m cube q p i) (is_leaf_element (axes m.space cube) i) (slice_index_or (sizes m.space cube) i 0) (slice_index_or statement.area.sets i None)
-      (set-at (sizes m.space cube) statement.area.sets i is_area) (λ e. not-false (is_total (axes m.space cube) i e)) (λ e. not-true (is_total (axes m.space cube) i e)))
-      (length (axes m.space cube)) 0
-  sum-of-top q p false =
-      passing-top (here q p) (greatest_by m cube statement.area q p each)
-      (λ i. set-top (λ (e : ℕ). Rattle.std.specs.Prelude.⊤) (excess m cube q p i) (each i) (slice_index_or (sizes m.space cube) i 0) (slice_index_or statement.area.sets i None)
-      (set-at (sizes m.space cube) statement.area.sets i is_area) (λ e h. refl) (λ e h. tt))
-      (is_total (axes m.space cube)) (greatest_by m cube statement.area q p (is_total (axes m.space cube)))
-      (λ i. set-top (λ e. is_total (axes m.space cube) i e ≡ true) (excess m cube q p i) (is_total (axes m.space cube) i) (slice_index_or (sizes m.space cube) i 0) (slice_index_or statement.area.sets i None)
-      (set-at (sizes m.space cube) statement.area.sets i is_area) (λ e h. h) (λ e h. h))
-      (length (axes m.space cube)) 0
-
-  -- what the elements of a cell add up to
-  abbrev pub excess_of : ℕ → Precedent → List ℕ → Option ℤ
-  excess_of q p es = plus (Some (start m cube q p)) (sum_from (excess m cube q p) 0 es)
-
-  -- a cell that the statement is for, by its elements
-  pub record IsOf (kind : Bool) (es : List ℕ) : Type 0 where
-    pub long : length es ≡ length (axes m.space cube)
-    pub digits : are_digits (sizes m.space cube) es ≡ true
-    pub inside : in_sets statement.area.sets es ≡ true
-    pub kind_is : any_from (is_total (axes m.space cube)) 0 es ≡ not kind
-
-  up-to : (s : ℤ) (a : Option ℤ) (z : ℤ) → IsAtMost (plus (Some s) a) z → IsAtMost a (z -ℤ s)
-  up-to s None z h = tt
-  up-to s (Some a) z h = let low : (s +ℤ a) ≤ℤ z = h in let e : a ≤ℤ (z -ℤ s) = omega (arith, ints, low) in e
-
-  up-from : (s : ℤ) (a : Option ℤ) (z : ℤ) → IsAtMost a (z -ℤ s) → IsAtMost (plus (Some s) a) z
-  up-from s None z h = tt
-  up-from s (Some a) z h = let low : a ≤ℤ (z -ℤ s) = h in let e : (s +ℤ a) ≤ℤ z = omega (arith, ints, low) in e
-
-  -- the most is at most this just where the excess of each cell is
-  pub most-over : (q : ℕ) (p : Precedent) (kind : Bool) (z : ℤ) → IsAtMost (most_excess m cube statement.area kind p q) z → (es : List ℕ) → IsOf kind es → IsAtMost (excess_of q p es) z
-  unfolding most_excess
-  most-over q p kind z h es of =
-      let all = area-each m.space cube statement.area es is_area of.long ∙ and_from _ _ of.digits of.inside in
-      let sum = sum-only (is_in_area m.space cube statement.area) (excess m cube q p) 0 es ∙ ap (λ t. only t (sum_from (excess m cube q p) 0 es)) all in
-      let low = (sum-of-top q p kind).over (z -ℤ start m cube q p) (up-to (start m cube q p) (excess_sum m cube statement.area kind p q) z h) es (of.long, of.kind_is) in
-      up-from (start m cube q p) (sum_from (excess m cube q p) 0 es) z (subst (λ s. IsAtMost s (z -ℤ start m cube q p)) sum low)
-
-  pub most-least : (q : ℕ) (p : Precedent) (kind : Bool) (z : ℤ) → ((es : List ℕ) → IsOf kind es → IsAtMost (excess_of q p es) z) → IsAtMost (most_excess m cube statement.area kind p q) z
-  unfolding most_excess
-  most-least q p kind z h = up-from (start m cube q p) (excess_sum m cube statement.area kind p q) z ((sum-of-top q p kind).least (z -ℤ start m cube q p) each-low)
-    where
-      each-low : (es : List ℕ) → Among (is_total (axes m.space cube)) (not kind) (length (axes m.space cube)) 0 es → IsAtMost (sum_from (here q p) 0 es) (z -ℤ start m cube q p)
-      each-low es among = subst (λ s. IsAtMost s (z -ℤ start m cube q p)) (sym (sum-only (is_in_area m.space cube statement.area) (excess m cube q p) 0 es)) (by (all_from (is_in_area m.space cube statement.area) 0 es) refl)
-        where
-          by : (t : Bool) → all_from (is_in_area m.space cube statement.area) 0 es ≡ t → IsAtMost (only t (sum_from (excess m cube q p) 0 es)) (z -ℤ start m cube q p)
-          by false is = tt
-          by true is =
-              let parts = and_parts (are_digits (sizes m.space cube) es) (in_sets statement.area.sets es) (sym (area-each m.space cube statement.area es is_area among.0) ∙ is) in
-              up-to (start m cube q p) (sum_from (excess m cube q p) 0 es) z (h es (record { long = among.0; digits = parts.0; inside = parts.1; kind_is = among.1 }))
-
   -- the cells that the statement is for are those of such elements
-  pub cell-of : (kind : Bool) (c : ℕ) → IsCellOf (system_of m) (rule_of m.space cube statement) kind c → IsAt m.space cube (elements_of m.space c) c × IsOf kind (elements_of m.space c)
+  pub cell-of : (kind : Bool) (c : ℕ) → IsCellOf (system_of m) (rule_of m.space cube statement) kind c → IsAt m.space cube (elements_of m.space c) c × IsOf m.space cube statement.area kind (elements_of m.space c)
   unfolding system_of
   cell-of kind c of =
       let parts = and_parts (cube == cube_of m.space c) (in_area m.space statement.area c) of.applied in
@@ -106,7 +41,7 @@ module _ (m : BoundModel) (ruled : AreRules m.space m.rules) (cube : ℕ) (there
       let leaf = leaf-is m.space cube (elements_of m.space c) c at long in
       (at, record { long = long; digits = digits; inside = parts.1; kind_is = sym (not-not _) ∙ ap not (sym leaf ∙ of.kind_is) })
 
-  pub of-cell : (kind : Bool) (es : List ℕ) → IsOf kind es → (c : ℕ) × IsAt m.space cube es c × IsCellOf (system_of m) (rule_of m.space cube statement) kind c
+  pub of-cell : (kind : Bool) (es : List ℕ) → IsOf m.space cube statement.area kind es → (c : ℕ) × IsAt m.space cube es c × IsCellOf (system_of m) (rule_of m.space cube statement) kind c
   unfolding system_of
   of-cell kind es of =
       let found = cell-there m.space cube es there of.digits in
@@ -123,17 +58,26 @@ module _ (m : BoundModel) (ruled : AreRules m.space m.rules) (cube : ℕ) (there
 
   -- ---- references
 
+  abbrev pub named_flags : Reference → ℕ → ℕ → Bool
+  named_flags r = moved_leaves (axes m.space r.cube) 0 r.args
+
+  follow-there : (r : Reference) (es : List ℕ) → IsReference m.space cube r → length es ≡ length (axes m.space cube) → AllFollow (length es) r.args
+  follow-there r es is long = subst (λ n. AllFollow n r.args) (axes-sizes m.space cube ∙ sym long) (follow-all (sizes m.space cube) (sizes m.space r.cube) r.args is.1)
+
   -- what a named cell has more than its cell
-  reference-excess : (q : ℕ) (r : Reference) (es : List ℕ) → IsReference m.space cube r → length es ≡ length (axes m.space cube)
-      → excess_of q (Named r) es ≡ option_map (λ ts. pos (reading (scale_of m r.cube q) ts) -ℤ pos (reading (scale_of m cube q) es)) (elements_by es r.args)
-  reference-excess q r es is long =
-      let its = scale_of m r.cube q in
-      let own = scale_of m cube q in
-      let follow = subst (λ n. Rattle.order_laws.proofs.ReferenceFacts.AllFollow n r.args) (axes-sizes m.space cube ∙ sym long) (follow-all (sizes m.space cube) (sizes m.space r.cube) r.args is.1) in
+  abbrev named_gap : ℕ → Reference → Kinds → List ℕ → Option ℤ
+  named_gap q r kinds es = option_map (λ ts. pos (reading (scale_of m r.cube kinds.its q) ts) -ℤ pos (reading (scale_of m cube kinds.own q) es)) (elements_by es r.args)
+
+  reference-gap : (q : ℕ) (r : Reference) (kinds : Kinds) (es : List ℕ) → IsReference m.space cube r → length es ≡ length (axes m.space cube)
+      → plus (Some (start_by_kinds m cube kinds q (Named r))) (sum_from (λ i e. plus (moved_sum (scale_of m r.cube kinds.its q).worth 0 r.args i e) (Some (neg_ℤ (pos ((scale_of m cube kinds.own q).worth i e))))) 0 es)
+      ≡ named_gap q r kinds es
+  reference-gap q r kinds es is long =
+      let its = scale_of m r.cube kinds.its q in
+      let own = scale_of m cube kinds.own q in
       let parted = sum-plus (moved_sum its.worth 0 r.args) (λ i e. Some (neg_ℤ (pos (own.worth i e)))) 0 es in
       let taken = taken-sum own.worth 0 es in
-      ap (plus (Some (start m cube q (Named r)))) (parted ∙ ap (plus (sum_from (moved_sum its.worth 0 r.args) 0 es)) taken)
-      ∙ regroup its own (fixed_sum its.worth 0 r.args) (sum_from (moved_sum its.worth 0 r.args) 0 es) (added own.worth 0 es) es (elements_by es r.args) (named-sum its.worth 0 r.args es follow)
+      ap (plus (Some (start_by_kinds m cube kinds q (Named r)))) (parted ∙ ap (plus (sum_from (moved_sum its.worth 0 r.args) 0 es)) taken)
+      ∙ regroup its own (fixed_sum its.worth 0 r.args) (sum_from (moved_sum its.worth 0 r.args) 0 es) (added own.worth 0 es) es (elements_by es r.args) (named-sum its.worth 0 r.args es (follow-there r es is long))
     where
       regroup : (its own : Scale) (fixed : ℕ) (moved : Option ℤ) (k : ℕ) (es : List ℕ) (named : Option (List ℕ)) → plus (Some (pos fixed)) moved ≡ option_map (λ ts. pos (added its.worth 0 ts)) named
           → plus (Some (pos (its.base + fixed) -ℤ pos own.base)) (plus moved (Some (neg_ℤ (pos k)))) ≡ option_map (λ ts. pos (its.base + added its.worth 0 ts) -ℤ pos (own.base + k)) named
@@ -144,6 +88,22 @@ module _ (m : BoundModel) (ruled : AreRules m.space m.rules) (cube : ℕ) (there
           let same : pos fixed +ℤ a ≡ pos (added its.worth 0 ts) = cc in
           let all : (pos (its.base + fixed) -ℤ pos own.base) +ℤ (a +ℤ neg_ℤ (pos k)) ≡ pos (its.base + added its.worth 0 ts) -ℤ pos (own.base + k) = omega (arith, ints, same) in
           ap Some all
+
+  -- what elements add up to is there where the flags are those of what they name
+  reference-chosen : (q : ℕ) (r : Reference) (kinds : Kinds) (flags : ℕ → ℕ → Bool) (es : List ℕ) → IsReference m.space cube r → length es ≡ length (axes m.space cube)
+      → chosen m cube q (Named r) kinds flags es ≡ only (all_from (λ i e. is_same (flags i e) (named_flags r i e)) 0 es) (named_gap q r kinds es)
+  reference-chosen q r kinds flags es is long =
+      let number : ℕ → ℕ → Option ℤ = λ i e. plus (moved_sum (scale_of m r.cube kinds.its q).worth 0 r.args i e) (Some (neg_ℤ (pos ((scale_of m cube kinds.own q).worth i e)))) in
+      let test : ℕ → ℕ → Bool = λ i e. is_same (flags i e) (named_flags r i e) in
+      ap (plus (Some (start_by_kinds m cube kinds q (Named r)))) (sum-only test number 0 es)
+      ∙ plus-only (start_by_kinds m cube kinds q (Named r)) (all_from test 0 es) (sum_from number 0 es)
+      ∙ ap (only (all_from test 0 es)) (reference-gap q r kinds es is long)
+
+  -- whether the named cell is a leaf cell
+  named-leaf : (r : Reference) (es ts : List ℕ) (t : ℕ) → IsReference m.space cube r → length es ≡ length (axes m.space cube) → elements_by es r.args ≡ Some ts → IsAt m.space r.cube ts t → length ts ≡ length (axes m.space r.cube)
+      → fixed_leaves (axes m.space r.cube) 0 r.args && all_from (named_flags r) 0 es ≡ is_leaf_cell m.space t
+  named-leaf r es ts t is long named there_t long_t =
+      named-leaves (axes m.space r.cube) 0 r.args es ts (follow-there r es is long) named ∙ sym (leaf-all m.space r.cube ts t there_t long_t)
 
   -- at most this more is what the cells that a precedent has have
   abbrev pub IsMore : ℕ → ℤ → ℕ → ℕ → Type 0
@@ -176,23 +136,31 @@ module _ (m : BoundModel) (ruled : AreRules m.space m.rules) (cube : ℕ) (there
       let (at, own) = cell-of kind c of in
       let es = elements_of m.space c in
       let (ts, named, there_t, long_t) = target-at r c t es is at own.long names in
-      let low = most-over q (Named r) kind z h es own in
-      let shown = subst (λ s. IsAtMost s z) (reference-excess q r es is own.long ∙ ap (option_map (λ ts. pos (reading (scale_of m r.cube q) ts) -ℤ pos (reading (scale_of m cube q) es))) named) low in
-      subst (λ n. (pos n -ℤ pos (measure m q c)) ≤ℤ z) (sym (measure-is m q r.cube ts t ruled is.0 there_t long_t))
-      (subst (λ n. (pos (reading (scale_of m r.cube q) ts) -ℤ pos n) ≤ℤ z) (sym (measure-is m q cube es c ruled there at own.long)) shown)
+      let its = is_leaf_cell m.space t in
+      let kinds : Kinds = record { own = kind; its = its } in
+      let low = most-over m cube statement.area is_area q (Named r) kind its z h es (named_flags r) own (named-leaf r es ts t is own.long named there_t long_t) in
+      let same = reference-chosen q r kinds (named_flags r) es is own.long ∙ ap (λ b. only b (named_gap q r kinds es)) (all-self (named_flags r) 0 es)
+      ∙ ap (option_map (λ ts. pos (reading (scale_of m r.cube its q) ts) -ℤ pos (reading (scale_of m cube kind q) es))) named in
+      subst (λ n. (pos n -ℤ pos (measure m q c)) ≤ℤ z) (sym (measure-is m q r.cube its ts t ruled is.0 there_t refl long_t))
+      (subst (λ n. (pos (reading (scale_of m r.cube its q) ts) -ℤ pos n) ≤ℤ z) (sym (measure-is m q cube kind es c ruled there at of.kind_is own.long)) (subst (λ s. IsAtMost s z) same low))
 
   pub reference-least : (q : ℕ) (r : Reference) (kind : Bool) (z : ℤ) → IsReference m.space cube r
       → Throughout (system_of m) (rule_of m.space cube statement) kind (Named r) (IsMore q z) → IsAtMost (most_excess m cube statement.area kind (Named r) q) z
   unfolding system_of
-  reference-least q r kind z is h = most-least q (Named r) kind z each-low
+  reference-least q r kind z is h = most-least m cube statement.area is_area q (Named r) kind z each-low
     where
-      each-low : (es : List ℕ) → IsOf kind es → IsAtMost (excess_of q (Named r) es) z
-      each-low es own = subst (λ s. IsAtMost s z) (sym (reference-excess q r es is own.long)) (by (elements_by es r.args) refl)
+      each-low : (its : Bool) (es : List ℕ) (flags : ℕ → ℕ → Bool) → IsOf m.space cube statement.area kind es → fixed_leaves (axes m.space r.cube) 0 r.args && all_from flags 0 es ≡ its
+          → IsAtMost (chosen m cube q (Named r) (record { own = kind; its = its }) flags es) z
+      each-low its es flags own ends = subst (λ s. IsAtMost s z) (sym (reference-chosen q r (record { own = kind; its = its }) flags es is own.long))
+          (by (all_from (λ i e. is_same (flags i e) (named_flags r i e)) 0 es) refl (elements_by es r.args) refl)
         where
-          by : (named : Option (List ℕ)) → elements_by es r.args ≡ named → IsAtMost (option_map (λ ts. pos (reading (scale_of m r.cube q) ts) -ℤ pos (reading (scale_of m cube q) es)) named) z
-          by None e = tt
-          by (Some ts) e =
+          by : (b : Bool) → all_from (λ i e. is_same (flags i e) (named_flags r i e)) 0 es ≡ b → (named : Option (List ℕ)) → elements_by es r.args ≡ named
+              → IsAtMost (only b (option_map (λ ts. pos (reading (scale_of m r.cube its q) ts) -ℤ pos (reading (scale_of m cube kind q) es)) named)) z
+          by false same named e = tt
+          by true same None e = tt
+          by true same (Some ts) e =
               let (c, at, of) = of-cell kind es own in
               let (t, names, there_t, long_t) = at-target r c es ts is at own.long e in
-              subst (λ n. (pos n -ℤ pos (reading (scale_of m cube q) es)) ≤ℤ z) (measure-is m q r.cube ts t ruled is.0 there_t long_t)
-              (subst (λ n. (pos (measure m q t) -ℤ pos n) ≤ℤ z) (measure-is m q cube es c ruled there at own.long) (h c t of names))
+              let leaf = sym (named-leaf r es ts t is own.long e there_t long_t) ∙ ap (λ b. fixed_leaves (axes m.space r.cube) 0 r.args && b) (sym (all-agree flags (named_flags r) 0 es same)) ∙ ends in
+              subst (λ n. (pos n -ℤ pos (reading (scale_of m cube kind q) es)) ≤ℤ z) (measure-is m q r.cube its ts t ruled is.0 there_t leaf long_t)
+              (subst (λ n. (pos (measure m q t) -ℤ pos n) ≤ℤ z) (measure-is m q cube kind es c ruled there at of.kind_is own.long) (h c t of names))

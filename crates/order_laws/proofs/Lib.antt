@@ -1,10 +1,14 @@
 pub mod GreatestFacts
 pub mod SumFacts
+pub mod EndingFacts
 pub mod ReferenceFacts
 pub mod SetFacts
+pub mod LeafFacts
 pub mod CellFacts
+pub mod KindFacts
+pub mod PlainFacts
 pub mod ChildFacts
-pub mod Components
 pub mod Decided
+pub mod Components
 pub mod Earlier
 pub mod Ordered

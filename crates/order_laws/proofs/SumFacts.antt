@@ -1,7 +1,8 @@
 -- Sums of one number a dimension.
-use Rattle.std.proofs.Common.{◌≡◌, refl, sym, ap, ◌∙◌, arith, ℕ, zero, suc, ◌+◌, ◌<◌, Bool, true, false, ◌||◌, ◌&&◌, ℤ, pos, ◌+ℤ◌, Option, Some, None, List, [], ◌∷◌, length, get_or, ◌==◌, nat_lt, if◌then◌else◌}
+use Rattle.std.proofs.Common.{◌≡◌, refl, sym, ap, ◌∙◌, arith, ℕ, zero, suc, ◌+◌, ◌<◌, Bool, true, false, not, ◌||◌, ◌&&◌, ℤ, pos, ◌+ℤ◌, Option, Some, None, List, [], ◌∷◌, length, get_or, ◌==◌, nat_lt, if◌then◌else◌}
 use Rattle.std.specs.Prelude.{slice_index_or}
 use Rattle.std.specs.List.{list_all, zip}
+use Rattle.std.proofs.Math.Bool.{and-true}
 use Rattle.std.proofs.lemmas.Int.{ints}
 use Rattle.std.proofs.lemmas.Bool.{ne_eqb, eq-eqb}
 use Rattle.cube_space.specs.Radix.{are_digits}
@@ -79,10 +80,62 @@ sum-dim dim number i (suc k) (x ∷ es) e h =
     (ap (λ t. if t then number x else Some (pos 0)) (other-dim i dim (omega arith))) (sum-dim dim number (suc i) k es (omega arith) (omega arith))
     ∙ zero-plus (number (get_or es k 0))
 
+-- of numbers that are the same in the dimensions after one
+pub sum-later : (f g : ℕ → ℕ → Option ℤ) (k i : ℕ) (es : List ℕ) → k < i → ((j e : ℕ) → k < j → f j e ≡ g j e) → sum_from f i es ≡ sum_from g i es
+sum-later f g k i [] low same = refl
+sum-later f g k i (e ∷ es) low same = plus-same (f i e) (sum_from f (suc i) es) (g i e) (sum_from g (suc i) es) (same i e low) (sum-later f g k (suc i) es (omega (arith, low)) same)
+
+-- the number of one dimension, and those of the others
+abbrev pub but_dim : ℕ → (ℕ → ℕ → Option ℤ) → ℕ → ℕ → Option ℤ
+but_dim dim g i e = if i == dim then Some (pos 0) else g i e
+
+pub sum-split : (dim : ℕ) (f : ℕ → Option ℤ) (g : ℕ → ℕ → Option ℤ) (es : List ℕ) → dim < length es
+    → sum_from (λ i e. if i == dim then f e else g i e) 0 es ≡ plus (f (get_or es dim 0)) (sum_from (but_dim dim g) 0 es)
+sum-split dim f g es low =
+    sum-same (λ i e. if i == dim then f e else g i e) (λ i e. plus (at_dim dim f i e) (but_dim dim g i e)) (λ i e. by (f e) (g i e) (i == dim)) 0 es
+    ∙ sum-plus (at_dim dim f) (but_dim dim g) 0 es ∙ ap (λ a. plus a (sum_from (but_dim dim g) 0 es)) (sum-dim dim f 0 dim es (omega arith) low)
+  where
+    by : (a b : Option ℤ) (t : Bool) → (if t then a else b) ≡ plus (if t then a else Some (pos 0)) (if t then Some (pos 0) else b)
+    by a b true = sym (plus-zero a)
+    by a b false = sym (zero-plus b)
+
 -- whether each element passes
 abbrev pub all_from : (ℕ → ℕ → Bool) → ℕ → List ℕ → Bool
 all_from test i [] = true
 all_from test i (e ∷ es) = test i e && all_from test (suc i) es
+
+pub all-same : (f g : ℕ → ℕ → Bool) → ((i e : ℕ) → f i e ≡ g i e) → (i : ℕ) (es : List ℕ) → all_from f i es ≡ all_from g i es
+all-same f g same i [] = refl
+all-same f g same i (e ∷ es) = ap (λ t. t && all_from f (suc i) es) (same i e) ∙ ap (λ t. g i e && t) (all-same f g same (suc i) es)
+
+pub all-later : (f g : ℕ → ℕ → Bool) (k i : ℕ) (es : List ℕ) → k < i → ((j e : ℕ) → k < j → f j e ≡ g j e) → all_from f i es ≡ all_from g i es
+all-later f g k i [] low same = refl
+all-later f g k i (e ∷ es) low same = ap (λ t. t && all_from f (suc i) es) (same i e low) ∙ ap (λ t. g i e && t) (all-later f g k (suc i) es (omega (arith, low)) same)
+
+pub all-true : (i : ℕ) (es : List ℕ) → all_from (λ i e. true) i es ≡ true
+all-true i [] = refl
+all-true i (e ∷ es) = all-true (suc i) es
+
+-- one test in a dimension, and none in the others
+pub all-dim : (dim : ℕ) (test : ℕ → Bool) (i k : ℕ) (es : List ℕ) → dim ≡ i + k → k < length es → all_from (λ i e. if i == dim then test e else true) i es ≡ test (get_or es k 0)
+all-dim dim test i k [] e h = absurd (omega arith)
+all-dim dim test i zero (x ∷ es) e h =
+    let same : i ≡ dim = omega arith in
+    ap (λ t. (if t then test x else true) && all_from (λ i e. if i == dim then test e else true) (suc i) es) (eq-eqb i dim same)
+    ∙ ap (λ t. test x && t) (all-later (λ i e. if i == dim then test e else true) (λ i e. true) dim (suc i) es (omega arith) (λ j y low. ap (λ t. if t then test y else true) (later-dim j dim low)) ∙ all-true (suc i) es)
+    ∙ and-true (test x)
+all-dim dim test i (suc k) (x ∷ es) e h =
+    ap (λ t. (if t then test x else true) && all_from (λ i e. if i == dim then test e else true) (suc i) es) (other-dim i dim (omega arith))
+    ∙ all-dim dim test (suc i) k es (omega arith) (omega arith)
+
+-- all fail where none passes
+pub any-not : (test : ℕ → ℕ → Bool) (i : ℕ) (es : List ℕ) → not (any_from test i es) ≡ all_from (λ i e. not (test i e)) i es
+any-not test i [] = refl
+any-not test i (e ∷ es) = parted (test i e) (any_from test (suc i) es) ∙ ap (λ t. not (test i e) && t) (any-not test (suc i) es)
+  where
+    parted : (t u : Bool) → not (t || u) ≡ not t && not u
+    parted true u = refl
+    parted false u = refl
 
 only-plus : (t u : Bool) (a b : Option ℤ) → plus (only t a) (only u b) ≡ only (t && u) (plus a b)
 only-plus true true a b = refl
@@ -94,6 +147,10 @@ sum-only test f i [] = refl
 sum-only test f i (e ∷ es) =
     ap (plus (only (test i e) (f i e))) (sum-only test f (suc i) es) ∙ only-plus (test i e) (all_from test (suc i) es) (f i e) (sum_from f (suc i) es)
 
+pub plus-only : (s : ℤ) (t : Bool) (a : Option ℤ) → plus (Some s) (only t a) ≡ only t (plus (Some s) a)
+plus-only s true a = refl
+plus-only s false a = refl
+
 pub sum-shift : (f : ℕ → ℕ → Option ℤ) (i : ℕ) (es : List ℕ) → sum_from f (suc i) es ≡ sum_from (λ i e. f (suc i) e) i es
 sum-shift f i [] = refl
 sum-shift f i (e ∷ es) = ap (plus (f (suc i) e)) (sum-shift f (suc i) es)
@@ -101,10 +158,6 @@ sum-shift f i (e ∷ es) = ap (plus (f (suc i) e)) (sum-shift f (suc i) es)
 pub all-shift : (test : ℕ → ℕ → Bool) (i : ℕ) (es : List ℕ) → all_from test (suc i) es ≡ all_from (λ i e. test (suc i) e) i es
 all-shift test i [] = refl
 all-shift test i (e ∷ es) = ap (λ t. test (suc i) e && t) (all-shift test (suc i) es)
-
-pub any-shift : (test : ℕ → ℕ → Bool) (i : ℕ) (es : List ℕ) → any_from test (suc i) es ≡ any_from (λ i e. test (suc i) e) i es
-any-shift test i [] = refl
-any-shift test i (e ∷ es) = ap (λ t. test (suc i) e || t) (any-shift test (suc i) es)
 
 and-swap : (a b c d : Bool) → (a && b) && (c && d) ≡ (a && c) && (b && d)
 and-swap true true c d = refl

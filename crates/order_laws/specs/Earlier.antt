@@ -2,9 +2,9 @@
 -- position, and at the level, 'the cell that is read less the cell' is a start plus one number for each dimension, so
 -- the greatest of it over all cells of a kind is found from the greatest numbers of each dimension. An order may have
 -- positions of its own for consolidated cells. So the cells are parted by their kind and by the kind of what they read.
-use Rattle.std.specs.Prelude.{◌≡◌, ℕ, zero, suc, ◌+◌, ◌<◌, ◌==◌, Bool, true, false, not, ◌&&◌, ◌||◌, if◌then◌else◌, IsTrue}
+use Rattle.std.specs.Prelude.{◌≡◌, ℕ, zero, suc, ◌+◌, ◌<◌, ◌==◌, Bool, true, false, not, ◌&&◌, ◌||◌, IsTrue}
 use Rattle.std.specs.Prelude.{ℤ, pos, neg_ℤ, ◌-ℤ◌, int_lt, int_le, Option, Some, None, unwrap_or}
-use Rattle.std.specs.Prelude.{List, [], ◌∷◌, All, length, slice_get, slice_index_or}
+use Rattle.std.specs.Prelude.{List, [], ◌∷◌, All, length, slice_get, slice_index_or, if◌then◌else◌}
 use Rattle.std.specs.Option.{option_map_or}
 use Rattle.dim_core.specs.Outline.{Outline}
 use Rattle.dim_weights.specs.Table.{is_nonzero}
@@ -84,7 +84,8 @@ number_by_kinds model cube kinds place (Components dim) i element leaf = if i ==
 -- what the cell that is read has more than its cell, whatever elements that has
 abbrev pub start_by_kinds : BoundModel → ℕ → Kinds → ℕ → Precedent → ℤ
 start_by_kinds model cube kinds place (Named r) =
-    pos ((scale_of model r.cube kinds.its place).base + fixed_sum (scale_of model r.cube kinds.its place).worth 0 r.args)
+    pos ((scale_of model r.cube kinds.its place).base
+    + fixed_sum (scale_of model r.cube kinds.its place).worth 0 r.args)
     -ℤ pos (scale_of model cube kinds.own place).base
 start_by_kinds model cube kinds place (Components dim) =
     pos (scale_of model cube kinds.its place).base -ℤ pos (scale_of model cube kinds.own place).base
@@ -114,9 +115,11 @@ abbrev pub greatest_ending : (ℕ → Kinds → Option ℤ) → Kinds → Kinds 
 greatest_ending most wanted before dim zero = only (are_same wanted before) (Some (pos 0))
 greatest_ending most wanted before dim (suc count) =
     larger
-    (larger (plus (most dim (of_leaf true)) (greatest_ending most wanted (both before (of_leaf true)) (suc dim) count))
+    (larger
+    (plus (most dim (of_leaf true)) (greatest_ending most wanted (both before (of_leaf true)) (suc dim) count))
     (plus (most dim (of_leaf false)) (greatest_ending most wanted (both before (of_leaf false)) (suc dim) count)))
-    (larger (plus (most dim (of_total true)) (greatest_ending most wanted (both before (of_total true)) (suc dim) count))
+    (larger
+    (plus (most dim (of_total true)) (greatest_ending most wanted (both before (of_total true)) (suc dim) count))
     (plus (most dim (of_total false)) (greatest_ending most wanted (both before (of_total false)) (suc dim) count)))
 
 -- the most that a cell that is read has more than its cell, over the cells of an area where both are of these kinds
@@ -126,7 +129,7 @@ excess_of_kinds model cube area kinds p place =
     (greatest_ending (greatest_of_kinds model cube area kinds place p) kinds (kinds_before model p) 0
     (length (axes model.space cube)))
 
--- the same over the cells of an area of this kind, whatever the kind of what they read; None where there is no such cell
+-- the same over the cells of an area of this kind, whatever the kind of what they read; None where no such cell is
 unfoldable pub most_excess : BoundModel → ℕ → Area → Bool → Precedent → ℕ → Option ℤ
 most_excess model cube area kind p place =
     larger (excess_of_kinds model cube area (record { own = kind; its = true }) p place)

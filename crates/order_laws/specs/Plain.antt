@@ -1,7 +1,7 @@
 -- The decision where a cube has one order for all its cells: what a cell has at a position doesn't rest on its kind, so
 -- the greatest excess needs one number a dimension, or two.
-use Rattle.std.specs.Prelude.{ℕ, ◌+◌, ◌==◌, Bool, true, false, if◌then◌else◌, ℤ, pos, ◌-ℤ◌, neg_ℤ, Option, Some, List}
-use Rattle.std.specs.Prelude.{length, slice_index_or}
+use Rattle.std.specs.Prelude.{◌≡◌, ℕ, ◌+◌, ◌==◌, Bool, true, false, if◌then◌else◌, ℤ, pos, ◌-ℤ◌, neg_ℤ, Option, Some}
+use Rattle.std.specs.Prelude.{None, List, length, slice_index_or}
 use Rattle.dim_weights.specs.Table.{is_nonzero}
 use Rattle.cube_space.specs.Layout.{axes, sizes}
 use Rattle.rule_laws.specs.Meaning.{Precedent, Named, Components}
@@ -57,3 +57,12 @@ excess_sum model cube area false p place =
 unfoldable pub plain_excess : BoundModel → ℕ → Area → Bool → Precedent → ℕ → Option ℤ
 plain_excess model cube area kind p place =
     plus (Some (start model cube place p)) (excess_sum model cube area kind p place)
+
+-- the cube of the cells that are read
+abbrev pub read_cube : ℕ → Precedent → ℕ
+read_cube cube (Named r) = r.cube
+read_cube cube (Components dim) = cube
+
+-- what cells of a cube have at a position, or as their level, doesn't rest on their kind
+abbrev pub HasOneScale : BoundModel → ℕ → ℕ → Type 0
+HasOneScale model cube place = scale_of model cube false place ≡ scale_of model cube true place

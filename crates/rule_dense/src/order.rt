@@ -1,6 +1,8 @@
 ghost use Rattle.std.specs.Prelude.{◌≡◌, ◌<◌, ◌≤◌, length, IfOk, OnOk};
-ghost use Rattle.cube_space.specs.Cells.{IsCell};
-ghost use Rattle.rule_model.specs.Order.{most_positions, number_by, number_at, position_size, position_sizes, rank};
+ghost use Rattle.cube_space.specs.Cells.{IsCell, is_leaf_cell};
+ghost use Rattle.rule_model.specs.BoundModel.{rules_of};
+ghost use Rattle.rule_model.specs.Order.{most_positions, positions_for, number_by, number_at};
+ghost use Rattle.rule_model.specs.Order.{position_size, position_sizes, rank};
 ghost use Rattle.rule_dense.specs.Limits.{IsLow};
 
 use crate::place::{number_in, place_of};
@@ -23,6 +25,19 @@ fn number_by(position: &Position, elements: &[u32]) -> u32
     }
 }
 
+/// The positions of the order of a cube for cells of this one's kind.
+fn positions_of(model: &Model, cube: u32, cell: u64) -> &[Position]
+    requires cube { cube < length model.now.space.cubes }
+    requires cell { IsCell model.now.space cell }
+    ensures { result.now ≡ positions_for (is_leaf_cell model.now.space cell) (rules_of model.now cube).order }
+{
+    let order = &model.rules(cube).order;
+    match &order.totals {
+        Some(totals) if !model.space().is_leaf(cell) => totals.as_slice(),
+        _ => order.positions.as_slice(),
+    }
+}
+
 /// The number of a cell at a position of the order.
 #[tactic(auto, unfolding(rule_model::specs::Order::number_at))]
 fn number_at(model: &Model, place: usize, cell: u64) -> u32
@@ -31,7 +46,7 @@ fn number_at(model: &Model, place: usize, cell: u64) -> u32
 {
     let mut at = [0u32; MAX_DIMENSIONS];
     let (cube, dims) = place_of(model.space(), cell, &mut at);
-    match model.rules(cube).order.positions.as_slice().get(place) {
+    match positions_of(model, cube, cell).get(place) {
         Some(position) => number_by(position, &at[..dims.len()]),
         None => 0,
     }
