@@ -12,7 +12,8 @@ use Rattle.order_laws.specs.Scales.{parts_in}
 use Rattle.order_laws.proofs.ChildFacts.{part-below}
 use Rattle.ref_order.specs.declared.reads.Read.{Read}
 use Rattle.ref_order.specs.declared.reads.Read.TheVariants.{Cell, Children}
-use Rattle.ref_order.specs.Reads.{precedent_of}
+use Rattle.rule_laws.specs.Meaning.{Precedent, Named, Components}
+use Rattle.ref_order.specs.Reads.{precedent_of, cube_read}
 use Rattle.ref_order.proofs.Axes.{few-axes}
 use Rattle.rule_laws.specs.declared.reference.Reference.{Reference}
 use Rattle.rule_laws.specs.declared.reference.Arg.{Arg}
@@ -23,6 +24,10 @@ use Rattle.order_laws.proofs.CellFacts.{axes-sizes}
 
 pub args-long : (space : Layout) (cube : ℕ) (r : Reference) → IsReference space cube r → length r.args ≡ length (axes space r.cube)
 args-long space cube r is = zip-long (IsArg (sizes space cube)) (sizes space r.cube) r.args is.1 ∙ axes-sizes space r.cube
+
+-- the same of a cube that is known to be the reference's
+pub args-fit : (space : Layout) (cube its : ℕ) (r : Reference) → IsReference space cube r → its ≡ r.cube → length r.args ≡ length (axes space its)
+args-fit space cube its r is same = args-long space cube r is ∙ ap (λ k. length (axes space k)) (sym same)
 
 pub arg-at : {A : Type 0} (R : ℕ → A → Type 0) (ss : List ℕ) (xs : List A) (j : ℕ) (d : A) → AllZip R ss xs → j < length xs → R (slice_index_or ss j 0) (slice_index_or xs j d)
 arg-at R ss [] j d all low = absurd (omega arith)
@@ -70,3 +75,8 @@ component-below space cube dim e k d parts valid is same low =
     let all : parts ≡ parts_in (axes space cube) dim e = same ∙ ap (λ x. option_map_or (λ d. components_of d e) x []) (sym is) in
     subst (λ (ps : List (ℕ × ℤ)). (slice_index_or {A = ℕ × ℤ} ps k (0, pos 0)).0 < slice_index_or (sizes space cube) dim 0) (sym all)
     (part-below space cube dim e k valid (subst (λ ps. k < length ps) all low))
+
+-- the cube of what a formula reads
+pub read-low : (space : Layout) (cube : ℕ) (p : Precedent) → cube < length space.cubes → IsPrecedent space cube p → cube_read cube p < length space.cubes
+read-low space cube (Named r) low is = is.0
+read-low space cube (Components dim) low is = low

@@ -1,4 +1,8 @@
 mod Likeness
+mod Scaled
+mod KindFacts
+mod TotalFacts
+mod NumberFacts
 pub mod Axes
 pub mod Args
 pub mod Sums

@@ -1,7 +1,9 @@
 -- References that name the same from the elements of a dimension, and what is remembered of them.
 use Rattle.std.proofs.Common.{◌≡◌, refl, sym, ap, ◌∙◌, arith, subst, ℕ, zero, suc, ◌+◌, ◌<◌, ◌≤◌, ◌⊎◌, inl, inr, Bool, true, false, Option, Some, None, ℤ, pos, List, [], ◌∷◌, length, map, drop}
 use Rattle.std.proofs.Math.ListN.{replicate}
-use Rattle.std.specs.Prelude.{slice_get, slice_index_or, ◌==◌, if◌then◌else◌, option_map, unwrap_or, neg_ℤ}
+use Rattle.std.specs.Prelude.{slice_get, slice_index_or, ◌==◌, ◌&&◌, if◌then◌else◌, option_map, unwrap_or, neg_ℤ}
+use Rattle.std.specs.Option.{option_map_or}
+use Rattle.dim_core.specs.Outline.{Outline}
 use Rattle.cube_space.specs.Layout.{Layout, axes, sizes}
 use Rattle.rule_laws.specs.declared.reference.Arg.{Arg}
 use Rattle.rule_laws.specs.declared.reference.Arg.TheVariants.{Fixed, Moved}
@@ -10,14 +12,18 @@ use Rattle.rule_laws.specs.Meaning.{Named}
 use Rattle.rule_model.specs.declared.area.Area.{Area}
 use Rattle.rule_model.specs.BoundModel.{BoundModel}
 use Rattle.rule_model.specs.Conditions.{IsReference}
-use Rattle.order_laws.specs.Greatest.{plus, larger, greatest, only}
-use Rattle.order_laws.specs.Scales.{scale_of, moved_sum, greatest_in, set_count, set_element}
-use Rattle.order_laws.specs.Plain.{excess}
+use Rattle.order_laws.specs.Greatest.{plus, only}
+use Rattle.order_laws.specs.Scales.{scale_of, moved_sum, set_count, set_element, is_leaf_element}
+use Rattle.order_laws.specs.Earlier.{Kinds, is_same, moved_leaves, number_by_kinds, greatest_of_kinds}
 use Rattle.ref_order.specs.declared.question.Question.{Question}
 use Rattle.ref_order.specs.declared.question.Answer.{Answer}
-use Rattle.ref_order.specs.Reads.{precedent_of, test_of}
-use Rattle.ref_order.specs.Known.{followed_by, answer_of, IsRight, AreRight}
+use Rattle.ref_order.specs.declared.kinds.ByKinds.{ByKinds}
+use Rattle.ref_order.specs.Kinds.{AreByKinds}
+use Rattle.ref_order.specs.Reads.{precedent_of}
+use Rattle.ref_order.specs.Known.{followed_by, kinds_asked, answer_of, IsRight, AreRight}
 use Rattle.ref_order.proofs.Args.{args-long}
+use Rattle.ref_order.proofs.Scaled.{greatest-alike}
+use Rattle.ref_order.proofs.KindFacts.{kinds-same}
 
 -- ---- arguments
 
@@ -78,29 +84,56 @@ module _ (dim : ℕ) where
       stepped worth j e x xs ∙ ap (λ f. step worth j e f (moved_sum worth (suc j) xs dim e)) here
       ∙ ap (step worth j e (followed_by dim y)) (sum-alike worth (suc j) e xs ys rest) ∙ sym (stepped worth j e y ys)
 
-  pub excess-alike : (model : BoundModel) (cube place e : ℕ) (one other : Reference) → one.cube ≡ other.cube → follow one.args ≡ follow other.args
-      → excess model cube place (Named one) dim e ≡ excess model cube place (Named other) dim e
-  excess-alike model cube place e one other same alike =
-      ap (λ s. plus s (Some (neg_ℤ (pos ((scale_of model cube place).worth dim e))))) (sum-alike (scale_of model one.cube place).worth 0 e one.args other.args alike ∙ ap (λ k. moved_sum (scale_of model k place).worth 0 other.args dim e) same)
+  abbrev leaf_step : List Outline → ℕ → ℕ → Option (List (Option ℕ)) → Bool → Bool
+  leaf_step dimensions j e None rest = rest
+  leaf_step dimensions j e (Some to) rest = option_map_or (is_leaf_element dimensions j) (unwrap_or (slice_get to e) None) true && rest
 
--- ---- the greatest of equal numbers
+  leaf-stepped : (dimensions : List Outline) (j e : ℕ) (arg : Arg) (args : List Arg) → moved_leaves dimensions j (arg ∷ args) dim e ≡ leaf_step dimensions j e (followed_by dim arg) (moved_leaves dimensions (suc j) args dim e)
+  leaf-stepped dimensions j e (Fixed fixed) args = refl
+  leaf-stepped dimensions j e (Moved from to) args = by (dim == from)
+    where
+      by : (b : Bool) → (if b then option_map_or (is_leaf_element dimensions j) (unwrap_or (slice_get to e) None) true && moved_leaves dimensions (suc j) args dim e else moved_leaves dimensions (suc j) args dim e)
+          ≡ leaf_step dimensions j e (if b then Some to else None) (moved_leaves dimensions (suc j) args dim e)
+      by true = refl
+      by false = refl
 
-greatest-alike : (f g : ℕ → Option ℤ) (n : ℕ) → ((k : ℕ) → f k ≡ g k) → greatest f n ≡ greatest g n
-greatest-alike f g zero same = refl
-greatest-alike f g (suc n) same = ap (λ x. larger x (greatest f n)) (same n) ∙ ap (larger (g n)) (greatest-alike f g n same)
+  leaves-alike : (dimensions : List Outline) (j e : ℕ) (xs ys : List Arg) → follow xs ≡ follow ys → moved_leaves dimensions j xs dim e ≡ moved_leaves dimensions j ys dim e
+  leaves-alike dimensions j e [] [] h = refl
+  leaves-alike dimensions j e [] (y ∷ ys) h = absurd (cc)
+  leaves-alike dimensions j e (x ∷ xs) [] h = absurd (cc)
+  leaves-alike dimensions j e (x ∷ xs) (y ∷ ys) h =
+      let here : followed_by dim x ≡ followed_by dim y = cc in
+      let rest : follow xs ≡ follow ys = cc in
+      leaf-stepped dimensions j e x xs ∙ ap (λ f. leaf_step dimensions j e f (moved_leaves dimensions (suc j) xs dim e)) here
+      ∙ ap (leaf_step dimensions j e (followed_by dim y)) (leaves-alike dimensions (suc j) e xs ys rest) ∙ sym (leaf-stepped dimensions j e y ys)
 
-pub answers-alike : (model : BoundModel) (cube : ℕ) (area : Area) (one other : Question) → one.place ≡ other.place → one.dim ≡ other.dim → one.which ≡ other.which
-    → ((place e : ℕ) → excess model cube place (precedent_of one.read) one.dim e ≡ excess model cube place (precedent_of other.read) one.dim e) → answer_of model cube area one ≡ answer_of model cube area other
-answers-alike model cube area one other place dim which same =
-    let set = slice_index_or area.sets one.dim None in
+  pub numbers-alike : (model : BoundModel) (cube : ℕ) (kinds : Kinds) (place e : ℕ) (leaf : Bool) (one other : Reference) → one.cube ≡ other.cube → follow one.args ≡ follow other.args
+      → number_by_kinds model cube kinds place (Named one) dim e leaf ≡ number_by_kinds model cube kinds place (Named other) dim e leaf
+  numbers-alike model cube kinds place e leaf one other same alike =
+      let number = λ (leaves : Bool) (sum : Option ℤ). only (is_same leaf leaves) (plus sum (Some (neg_ℤ (pos ((scale_of model cube kinds.own place).worth dim e))))) in
+      let leaves = leaves-alike (axes model.space one.cube) 0 e one.args other.args alike ∙ ap (λ k. moved_leaves (axes model.space k) 0 other.args dim e) same in
+      let sum = sum-alike (scale_of model one.cube kinds.its place).worth 0 e one.args other.args alike ∙ ap (λ k. moved_sum (scale_of model k kinds.its place).worth 0 other.args dim e) same in
+      ap (λ b. number b (moved_sum (scale_of model one.cube kinds.its place).worth 0 one.args dim e)) leaves ∙ ap (number (moved_leaves (axes model.space other.cube) 0 other.args dim e)) sum
+
+answers-alike : (model : BoundModel) (cube : ℕ) (area : Area) (here : Kinds) (one other : Question) → one.place ≡ other.place → one.dim ≡ other.dim → one.own ≡ other.own → one.its ≡ other.its
+    → ((kinds : Kinds) (place e : ℕ) (leaf : Bool) → number_by_kinds model cube kinds place (precedent_of one.read) one.dim e leaf ≡ number_by_kinds model cube kinds place (precedent_of other.read) one.dim e leaf)
+    → answer_of model cube area one here ≡ answer_of model cube area other here
+answers-alike model cube area here one other place dim own its same =
+    let set : Option (List ℕ) = slice_index_or area.sets one.dim None in
     let size = slice_index_or (sizes model.space cube) one.dim 0 in
-    let test = test_of one.which (axes model.space cube) one.dim in
-    greatest-alike (λ k. only (test (set_element set k)) (excess model cube one.place (precedent_of one.read) one.dim (set_element set k)))
-    (λ k. only (test (set_element set k)) (excess model cube one.place (precedent_of other.read) one.dim (set_element set k))) (set_count size set)
-    (λ k. ap (only (test (set_element set k))) (same one.place (set_element set k)))
-    ∙ ap (λ p. greatest_in (excess model cube p (precedent_of other.read) one.dim) test size set) place
-    ∙ ap (λ w. greatest_in (excess model cube other.place (precedent_of other.read) one.dim) (test_of w (axes model.space cube) one.dim) size set) which
-    ∙ ap (λ d. greatest_in (excess model cube other.place (precedent_of other.read) d) (test_of other.which (axes model.space cube) d) (slice_index_or (sizes model.space cube) d 0) (slice_index_or area.sets d None)) dim
+    let test = λ (k : ℕ). is_same here.own (is_leaf_element (axes model.space cube) one.dim (set_element set k)) in
+    let answer = λ (kinds : Kinds) (place i : ℕ). greatest_of_kinds model cube area kinds place (precedent_of other.read) i here in
+    greatest-alike (λ k. only (test k) (number_by_kinds model cube (kinds_asked one) one.place (precedent_of one.read) one.dim (set_element set k) here.its))
+    (λ k. only (test k) (number_by_kinds model cube (kinds_asked one) one.place (precedent_of other.read) one.dim (set_element set k) here.its)) (set_count size set)
+    (λ k. ap (only (test k)) (same (kinds_asked one) one.place (set_element set k) here.its))
+    ∙ ap (λ o. answer (record { own = o; its = one.its }) one.place one.dim) own ∙ ap (λ t. answer (record { own = other.own; its = t }) one.place one.dim) its
+    ∙ ap (λ p. answer (kinds_asked other) p one.dim) place ∙ ap (answer (kinds_asked other) other.place) dim
+
+pub asked_alike : (model : BoundModel) (cube : ℕ) (area : Area) (numbers : ByKinds) (one other : Question) → one.place ≡ other.place → one.dim ≡ other.dim → one.own ≡ other.own → one.its ≡ other.its
+    → ((kinds : Kinds) (place e : ℕ) (leaf : Bool) → number_by_kinds model cube kinds place (precedent_of one.read) one.dim e leaf ≡ number_by_kinds model cube kinds place (precedent_of other.read) one.dim e leaf)
+    → AreByKinds numbers (answer_of model cube area one) → AreByKinds numbers (answer_of model cube area other)
+asked_alike model cube area numbers one other place dim own its same are =
+    kinds-same numbers (answer_of model cube area one) (answer_of model cube area other) are (λ here. answers-alike model cube area here one other place dim own its same)
 
 -- ---- nothing is remembered at first
 

@@ -1,4 +1,4 @@
--- Steps of the sums over dimensions, and the sets of an area.
+-- The sets of an area.
 use Rattle.std.proofs.Common.{◌≡◌, refl, sym, ap, ◌∙◌, arith, subst, ℕ, zero, suc, ◌+◌, ◌-◌, ◌<◌, Option, Some, None, List, [], ◌∷◌, length, ℤ, pos, nat_lt}
 use Rattle.std.specs.Prelude.{slice_index_or}
 use Rattle.std.proofs.lemmas.Bool.{and_parts, ltb-true}
@@ -6,36 +6,9 @@ use Rattle.cube_space.specs.Layout.{Layout, axes, sizes}
 use Rattle.rule_model.specs.declared.area.Area.{Area}
 use Rattle.rule_model.specs.Areas.{in_set}
 use Rattle.rule_model.specs.Conditions.{IsSet, IsArea}
-use Rattle.order_laws.specs.Greatest.{plus, larger, greatest_sum, greatest_passing_sum}
 use Rattle.order_laws.specs.Scales.{set_count, set_element}
 use Rattle.order_laws.proofs.SetFacts.{place-in, set-at, zip-long}
 use Rattle.order_laws.proofs.CellFacts.{axes-sizes}
-
-pub sum-none : (f : ℕ → Option ℤ) (dim n : ℕ) → n ≡ 0 → Some (pos 0) ≡ greatest_sum f dim n
-sum-none f dim zero e = refl
-sum-none f dim (suc n) e = absurd (omega arith)
-
-pub sum-more : (f : ℕ → Option ℤ) (dim n : ℕ) (here rest all : Option ℤ) → (n ≡ 0 → ⊥) → here ≡ f dim → rest ≡ greatest_sum f (dim + 1) (n - 1) → all ≡ plus here rest → all ≡ greatest_sum f dim n
-sum-more f dim zero here rest all e h r a = absurd (e refl)
-sum-more f dim (suc n) here rest all e h r a =
-    let next : dim + 1 ≡ suc dim = omega arith in
-    let back : suc n - 1 ≡ n = omega arith in
-    a ∙ ap (λ x. plus x rest) h ∙ ap (plus (f dim)) (r ∙ ap (λ k. greatest_sum f k (suc n - 1)) next ∙ ap (greatest_sum f (suc dim)) back)
-
-pub passing-none : (f g : ℕ → Option ℤ) (dim n : ℕ) → n ≡ 0 → None ≡ greatest_passing_sum f g dim n
-passing-none f g dim zero e = refl
-passing-none f g dim (suc n) e = absurd (omega arith)
-
-pub passing-more : (f g : ℕ → Option ℤ) (dim n : ℕ) (here passing rest rest_passing first second all : Option ℤ) → (n ≡ 0 → ⊥) → here ≡ f dim → passing ≡ g dim → rest ≡ greatest_sum f (dim + 1) (n - 1)
-    → rest_passing ≡ greatest_passing_sum f g (dim + 1) (n - 1) → first ≡ plus here rest_passing → second ≡ plus passing rest → all ≡ larger first second → all ≡ greatest_passing_sum f g dim n
-passing-more f g dim zero here passing rest rest_passing first second all e h p r q a b c = absurd (e refl)
-passing-more f g dim (suc n) here passing rest rest_passing first second all e h p r q a b c =
-    let next : dim + 1 ≡ suc dim = omega arith in
-    let back : suc n - 1 ≡ n = omega arith in
-    let sum = r ∙ ap (λ k. greatest_sum f k (suc n - 1)) next ∙ ap (greatest_sum f (suc dim)) back in
-    let with_one = q ∙ ap (λ k. greatest_passing_sum f g k (suc n - 1)) next ∙ ap (greatest_passing_sum f g (suc dim)) back in
-    c ∙ ap (λ x. larger x second) (a ∙ ap (λ x. plus x rest_passing) h ∙ ap (plus (f dim)) with_one)
-    ∙ ap (larger (plus (f dim) (greatest_passing_sum f g (suc dim) n))) (b ∙ ap (λ x. plus x rest) p ∙ ap (plus (g dim)) sum)
 
 -- the sets of an area
 pub sets-long : (space : Layout) (cube : ℕ) (area : Area) → IsArea space cube area → length area.sets ≡ length (axes space cube)

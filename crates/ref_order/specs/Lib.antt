@@ -1,4 +1,6 @@
 pub mod Reads
+pub mod Kinds
+pub mod Scaled
 pub mod Known
 pub mod Areas
 pub mod Counted

@@ -1,46 +1,41 @@
-ghost use Rattle.std.specs.Prelude.{◌≡◌, ℕ, ◌≤◌, IsTrue, Some, None, MatchOption, length, map, drop};
+ghost use Rattle.std.specs.Prelude.{◌≡◌, ℕ, ◌≤◌, Bool, IsTrue, Some, None, MatchOption, length, map, drop};
 ghost use Rattle.rule_model.specs.declared.area.Area.{Area as AnyArea};
 ghost use Rattle.rule_model.specs.Conditions.{IsReference, IsPrecedent};
-ghost use Rattle.order_laws.specs.Plain.{excess};
+ghost use Rattle.order_laws.specs.Earlier.{Kinds, number_by_kinds};
+ghost use Rattle.ref_order.specs.declared.kinds.ByKinds.{ByKinds as AnyNumbers};
+ghost use Rattle.ref_order.specs.Kinds.{AreByKinds};
 ghost use Rattle.ref_order.specs.Reads.{precedent_of};
 ghost use Rattle.ref_order.specs.Known.{followed_by, answer_of};
 
-use crate::question::{Question, Which};
+use crate::question::Question;
 use crate::reads::Read;
 use rule_laws::{Arg, ElementMap, Reference};
 use rule_model::Model;
 
 /// Whether it is known at once that two questions have the same answer, over each area: they ask for the same of two
 /// references that name the same from the elements of the dimension.
+#[tactic(auto, using(crate::proofs::Likeness::asked_alike))]
 pub fn ask_alike(model: &Model, cube: u32, one: Question, other: Question) -> bool
     requires one { IsPrecedent model.now.space cube (precedent_of one.read) }
     requires other { IsPrecedent model.now.space cube (precedent_of other.read) }
-    ensures { IsTrue result → (area : AnyArea) → answer_of model.now cube area one.entry
-        ≡ answer_of model.now cube area other.entry }
+    ensures { IsTrue result → (area : AnyArea) (numbers : AnyNumbers)
+        → AreByKinds numbers (answer_of model.now cube area one.entry)
+        → AreByKinds numbers (answer_of model.now cube area other.entry) }
 {
     one.place == other.place
         && one.dim == other.dim
-        && take_alike(one.which, other.which)
+        && one.own == other.own
+        && one.its == other.its
         && read_alike(model, cube, one.dim, one.read, other.read)
-}
-
-fn take_alike(one: Which, other: Which) -> bool
-    ensures { IsTrue result → one ≡ other }
-{
-    match (one, other) {
-        (Which::All, Which::All) => true,
-        (Which::Leaves, Which::Leaves) => true,
-        (Which::Totals, Which::Totals) => true,
-        _ => false,
-    }
 }
 
 // Whether what two formulas read is the same as far as it comes from the elements of a dimension.
 fn read_alike(model: &Model, cube: u32, dim: usize, one: Read, other: Read) -> bool
     requires one { IsPrecedent model.now.space cube (precedent_of one) }
     requires other { IsPrecedent model.now.space cube (precedent_of other) }
-    ensures { IsTrue result → (place element : ℕ) → excess model.now cube place (precedent_of one.entry) dim element
-        ≡ excess model.now cube place (precedent_of other.entry) dim element }
+    ensures { IsTrue result → (kinds : Kinds) (place element : ℕ) (leaf : Bool)
+        → number_by_kinds model.now cube kinds place (precedent_of one.entry) dim element leaf
+        ≡ number_by_kinds model.now cube kinds place (precedent_of other.entry) dim element leaf }
 {
     match (one, other) {
         (Read::Cell(one), Read::Cell(other)) => {

@@ -1,20 +1,22 @@
-ghost use Rattle.std.specs.Prelude.{◌≡◌, ℕ, ◌+◌, ◌<◌, ◌≤◌, ◌^◌, ◌⊎◌, Some, IfSome, slice_get, unsigned_abs};
+ghost use Rattle.std.specs.Prelude.{◌≡◌, ℕ, ◌+◌, ◌<◌, ◌≤◌, ◌^◌, ◌⊎◌, Some, IfSome, slice_get};
 ghost use Rattle.rule_model.specs.declared.area.Area.{Area as AnyArea};
 ghost use Rattle.rule_model.specs.BoundModel.{BoundModel};
 ghost use Rattle.rule_model.specs.Conditions.{IsPrecedent};
 ghost use Rattle.ref_order.specs.declared.question.Answer.{Answer as AnyAnswer};
+ghost use Rattle.ref_order.specs.Kinds.{AreByKinds, AreAllWithin};
 ghost use Rattle.ref_order.specs.Reads.{precedent_of};
 ghost use Rattle.ref_order.specs.Known.{AreReads, AreRight, IsKnown, IsKnownOf, answer_of};
 
 use crate::alike::ask_alike;
-use crate::question::{Answer, Question, Which};
+use crate::kinds::ByKinds;
+use crate::question::{Answer, Question};
 use rule_model::Model;
 
-// How many questions there are of a cube, by position, dimension and kind of element, and how many answers are kept of
-// each, since references differ.
-const QUESTIONS: usize = 432;
+// How many positions and dimensions there are of a cube, and how many answers are kept of each, since references
+// differ, and so may the orders of leaf cells and of consolidated cells.
+const QUESTIONS: usize = 144;
 
-const WAYS: usize = 4;
+const WAYS: usize = 12;
 
 const SLOTS: usize = 1_728;
 
@@ -54,12 +56,7 @@ impl<'a> Known<'a> {
 fn first_slot(asked: Question) -> usize
     ensures { result + WAYS ≤ SLOTS }
 {
-    let which = match asked.which {
-        Which::All => 0,
-        Which::Leaves => 1,
-        Which::Totals => 2,
-    };
-    let number = (asked.place as usize * 3 + which) * 16 + asked.dim % 16;
+    let number = asked.place as usize * 16 + asked.dim % 16;
     number % QUESTIONS * WAYS
 }
 
@@ -69,18 +66,18 @@ pub fn recalled<'a>(
     cube: u32,
     kept: &Kept<'a>,
     asked: Question<'a>,
-) -> Option<Option<i64>>
+) -> Option<ByKinds>
     requires asked { IsPrecedent model.now.space cube (precedent_of asked.read) }
     requires reads { AreReads model.now.space cube kept.now }
-    ensures { IfSome result (λ number. (area : AnyArea) → AreRight model.now cube area kept.now
-        → (number ≡ answer_of model.now cube area asked.entry) × IfSome number (λ n. unsigned_abs n ≤ 2 ^ 40)) }
+    ensures { IfSome result (λ numbers. (area : AnyArea) → AreRight model.now cube area kept.now
+        → AreByKinds numbers (answer_of model.now cube area asked.entry) × AreAllWithin numbers (2 ^ 40)) }
 {
     let first = first_slot(asked);
     'ways: for way in 0..WAYS {
         if let Some(answer) = kept[first + way]
             && ask_alike(model, cube, answer.asked, asked)
         {
-            return Some(answer.number);
+            return Some(answer.numbers);
         }
     }
     None

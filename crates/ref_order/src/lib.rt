@@ -4,12 +4,17 @@
 //! [`is_earlier`] decides it for one [`Read`] of one part of a statement, by [`most_excess`] at each position. That its
 //! answer is right for every cell of the area is the law of `order_laws`. What it has found of the elements of a
 //! dimension is [`Known`] to the references that follow, so that a reference costs what is new in it.
+//!
+//! A cube may have an order of its own for consolidated cells. So a walk over the elements of a dimension finds four
+//! numbers at once: of leaves and of consolidated elements, where leaves alone are named from them and where not. Where
+//! a cube has one order, its numbers serve for both kinds of cells.
 #![tactic(auto)]
 
 pub use area_cells::AreaCells;
 pub use earlier::is_earlier;
+pub use greatest::{count, element_at, has_total};
 pub use known::Known;
-pub use most::{count, element_at, has_total, most_excess};
+pub use most::most_excess;
 pub use number::{is_below, is_within};
 pub use reads::Read;
 pub use scale::{MAX_POSITIONS, axis, axis_count, weights};
@@ -18,8 +23,11 @@ mod alike;
 mod area_cells;
 mod earlier;
 mod excess;
+mod greatest;
+mod kinds;
 mod known;
 mod most;
+mod named;
 mod number;
 mod question;
 mod reads;

@@ -1,12 +1,5 @@
+use crate::kinds::ByKinds;
 use crate::reads::Read;
-
-/// Which elements of a set are taken.
-#[derive(Clone, Copy)]
-pub enum Which {
-    All,
-    Leaves,
-    Totals,
-}
 
 /// A question for the most that the cell which is read has more than its cell, by their elements in one dimension.
 #[derive(Clone, Copy)]
@@ -15,13 +8,15 @@ pub struct Question<'a> {
     /// The position of the order; behind the last one stands the level.
     pub place: u32,
     pub dim: usize,
-    /// The elements of the area that count.
-    pub which: Which,
+    /// Whether the cell is a leaf cell: its number at the position is that of such a cell.
+    pub own: bool,
+    /// The same of the cell that is read.
+    pub its: bool,
 }
 
 /// A question, and its answer.
 #[derive(Clone, Copy)]
 pub struct Answer<'a> {
     pub asked: Question<'a>,
-    pub number: Option<i64>,
+    pub numbers: ByKinds,
 }

@@ -1,0 +1,24 @@
+use Rattle.std.proofs.Common.{◌≡◌, sym, ap, List, Option, ℕ}
+use Rattle.std.specs.Prelude.{slice_index_or}
+use Rattle.cube_space.specs.Layout.{axes, sizes}
+use Rattle.order_laws.specs.Scales.{greatest_in, is_leaf_element}
+use Rattle.order_laws.specs.Earlier.{is_same}
+use Rattle.ref_order.specs.Kinds.{AreByKinds}
+use Rattle.ref_order.specs.Known.{number_asked, answer_of}
+use Rattle.ref_order.proofs.KindFacts.{kinds-same}
+use Rattle.ref_order.proofs.Likeness.{right-more}
+use Rattle.ref_order.proofs.greatest.answer.Goals as goal
+
+pub returns-clause-numbers : goal.returns-clause-numbers
+returns-clause-numbers c =
+    λ area same right.
+    let model = c.args.cells.model.now in
+    let cube = c.args.cells.cube in
+    let asked = c.args.asked in
+    let numbers : AreByKinds c.greatest_of-numbers.result (answer_of model cube area asked) =
+    kinds-same c.greatest_of-numbers.result (answer_of model cube c.args.cells.area.now asked) (answer_of model cube area asked) c.greatest_of-numbers.ensures.numbers
+    (λ here. ap (greatest_in (λ element. number_asked model cube asked element here.its) (λ element. is_same here.own (is_leaf_element (axes model.space cube) asked.dim element)) (slice_index_or (sizes model.space cube) asked.dim 0)) (sym same)) in (
+      numbers,
+      c.greatest_of-numbers.ensures.size,
+      right-more model cube area c.args.kept.now c.remember.new.kept (record { asked = asked; numbers = c.greatest_of-numbers.result }) right (record { numbers = numbers; size = c.greatest_of-numbers.ensures.size }) c.remember.ensures,
+    )
