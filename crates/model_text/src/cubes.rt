@@ -129,7 +129,8 @@ pub fn cube_at(
     partial: &mut PartialModel,
 ) -> Result<(), Stop<ModelTextFault>>
     requires { All IsWellFormed (ahead cursor.old) }
-    ensures read { Collects (reading.read_cube (has_totals partial.old.version)) partial.old (λ _. partial.new) cursor.old result cursor.new }
+    ensures read { Collects (reading.read_cube (has_totals partial.old.version)) partial.old (λ _. partial.new)
+        cursor.old result cursor.new }
     ensures same { OnOk result (AreSame partial.old partial.new) }
 {
     let (line, name) = head_at(alloc, cursor, partial)?;

@@ -38,7 +38,8 @@ fn statement_at(
     section: LaterSection,
 ) -> Result<(), Stop<ModelTextFault>>
     requires { All IsWellFormed (ahead cursor.old) }
-    ensures read { Collects (later.read_one partial.old.version section) partial.old (λ _. partial.new) cursor.old result cursor.new }
+    ensures read { Collects (later.read_one partial.old.version section) partial.old (λ _. partial.new)
+        cursor.old result cursor.new }
     ensures same { OnOk result (AreSame partial.old partial.new) }
 {
     match section {
@@ -55,7 +56,8 @@ pub fn statements_at(
     section: LaterSection,
 ) -> Result<(), Stop<ModelTextFault>>
     requires { All IsWellFormed (ahead cursor.old) }
-    ensures read { Collects (later.read_all partial.old.version section) partial.old (λ _. partial.new) cursor.old result cursor.new }
+    ensures read { Collects (later.read_all partial.old.version section) partial.old (λ _. partial.new)
+        cursor.old result cursor.new }
     ensures same { OnOk result (AreSame partial.old partial.new) }
 {
     'statement: while word_comes(cursor, section.word()) {
