@@ -1,5 +1,5 @@
-ghost use Rattle.std.specs.Prelude.{◌≡◌, ℕ, ◌+◌, ◌-◌, ◌*◌, ◌<◌, ◌≤◌, ◌^◌, ◌&&◌, pos, Some, length, drop, unsigned_abs, IfSome};
-ghost use Rattle.std.specs.Prelude.{slice_index_or};
+ghost use Rattle.std.specs.Prelude.{◌≡◌, ℕ, ◌+◌, ◌-◌, ◌*◌, ◌<◌, ◌≤◌, ◌^◌, ◌&&◌, pos, Some, length, drop};
+ghost use Rattle.std.specs.Prelude.{unsigned_abs, IfSome, slice_index_or};
 ghost use Rattle.cube_space.specs.Layout.{axes, sizes, most_dimensions};
 ghost use Rattle.rule_model.specs.Conditions.{IsReference};
 ghost use Rattle.order_laws.specs.Greatest.{plus};
