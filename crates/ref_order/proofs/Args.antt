@@ -13,7 +13,8 @@ use Rattle.order_laws.proofs.ChildFacts.{part-below}
 use Rattle.ref_order.specs.declared.reads.Read.{Read}
 use Rattle.ref_order.specs.declared.reads.Read.TheVariants.{Cell, Children}
 use Rattle.rule_laws.specs.Meaning.{Precedent, Named, Components}
-use Rattle.ref_order.specs.Reads.{precedent_of, cube_read}
+use Rattle.order_laws.specs.Plain.{read_cube}
+use Rattle.ref_order.specs.Reads.{precedent_of}
 use Rattle.ref_order.proofs.Axes.{few-axes}
 use Rattle.rule_laws.specs.declared.reference.Reference.{Reference}
 use Rattle.rule_laws.specs.declared.reference.Arg.{Arg}
@@ -77,6 +78,6 @@ component-below space cube dim e k d parts valid is same low =
     (part-below space cube dim e k valid (subst (λ ps. k < length ps) all low))
 
 -- the cube of what a formula reads
-pub read-low : (space : Layout) (cube : ℕ) (p : Precedent) → cube < length space.cubes → IsPrecedent space cube p → cube_read cube p < length space.cubes
+pub read-low : (space : Layout) (cube : ℕ) (p : Precedent) → cube < length space.cubes → IsPrecedent space cube p → read_cube cube p < length space.cubes
 read-low space cube (Named r) low is = is.0
 read-low space cube (Components dim) low is = low

@@ -13,8 +13,8 @@ use Rattle.rule_model.specs.BoundModel.{BoundModel, rules_of}
 use Rattle.rule_model.specs.Order.{most_positions, positions_for, position_of}
 use Rattle.order_laws.specs.Greatest.{plus, larger, greatest, only}
 use Rattle.order_laws.specs.Scales.{Scale, scale_of, position_scale, level_scale, moved_sum, parts_in, set_count, set_element, is_leaf_element}
+use Rattle.order_laws.specs.Plain.{read_cube}
 use Rattle.order_laws.specs.Earlier.{Kinds, is_same, moved_leaves, number_by_kinds, greatest_of_kinds}
-use Rattle.ref_order.specs.Reads.{cube_read}
 
 -- ---- where kinds don't matter
 
@@ -52,20 +52,20 @@ module _ (m : BoundModel) (cube place i e : ℕ) (leaf : Bool) where
       (plus (moved_sum its.worth 0 r.args i e) (Some (neg_ℤ (pos (own.worth i e)))))
   by_scales (Components dim) its own = if i == dim
       then greatest (λ k. only (is_nonzero (slice_index_or (parts_in (axes m.space cube) dim e) k (0, pos 0)).1 && is_same leaf (is_leaf_element (axes m.space cube) dim (slice_index_or (parts_in (axes m.space cube) dim e) k (0, pos 0)).0))
-          (Some (pos (its.worth dim (slice_index_or (parts_in (axes m.space cube) dim e) k (0, pos 0)).0) -ℤ pos (own.worth dim e)))) (length (parts_in (axes m.space cube) dim e))
+      (Some (pos (its.worth dim (slice_index_or (parts_in (axes m.space cube) dim e) k (0, pos 0)).0) -ℤ pos (own.worth dim e)))) (length (parts_in (axes m.space cube) dim e))
       else only (is_same leaf (is_leaf_element (axes m.space cube) i e)) (Some (pos (its.worth i e) -ℤ pos (own.worth i e)))
 
-  scaled : (kinds : Kinds) (p : Precedent) → number_by_kinds m cube kinds place p i e leaf ≡ by_scales p (scale_of m (cube_read cube p) kinds.its place) (scale_of m cube kinds.own place)
+  scaled : (kinds : Kinds) (p : Precedent) → number_by_kinds m cube kinds place p i e leaf ≡ by_scales p (scale_of m (read_cube cube p) kinds.its place) (scale_of m cube kinds.own place)
   scaled kinds (Named r) = refl
   scaled kinds (Components dim) = refl
 
-  numbers-scaled : (one other : Kinds) (p : Precedent) → scale_of m cube one.own place ≡ scale_of m cube other.own place → scale_of m (cube_read cube p) one.its place ≡ scale_of m (cube_read cube p) other.its place
+  numbers-scaled : (one other : Kinds) (p : Precedent) → scale_of m cube one.own place ≡ scale_of m cube other.own place → scale_of m (read_cube cube p) one.its place ≡ scale_of m (read_cube cube p) other.its place
       → number_by_kinds m cube one place p i e leaf ≡ number_by_kinds m cube other place p i e leaf
   numbers-scaled one other p own its =
-      scaled one p ∙ ap (λ s. by_scales p s (scale_of m cube one.own place)) its ∙ ap (by_scales p (scale_of m (cube_read cube p) other.its place)) own ∙ sym (scaled other p)
+      scaled one p ∙ ap (λ s. by_scales p s (scale_of m cube one.own place)) its ∙ ap (by_scales p (scale_of m (read_cube cube p) other.its place)) own ∙ sym (scaled other p)
 
 pub answers-scaled : (m : BoundModel) (cube : ℕ) (area : Area) (one other : Kinds) (place : ℕ) (p : Precedent) (i : ℕ) → scale_of m cube one.own place ≡ scale_of m cube other.own place
-    → scale_of m (cube_read cube p) one.its place ≡ scale_of m (cube_read cube p) other.its place → (here : Kinds) → greatest_of_kinds m cube area one place p i here ≡ greatest_of_kinds m cube area other place p i here
+    → scale_of m (read_cube cube p) one.its place ≡ scale_of m (read_cube cube p) other.its place → (here : Kinds) → greatest_of_kinds m cube area one place p i here ≡ greatest_of_kinds m cube area other place p i here
 answers-scaled m cube area one other place p i own its here =
     let set : Option (List ℕ) = slice_index_or area.sets i None in
     let size = slice_index_or (sizes m.space cube) i 0 in

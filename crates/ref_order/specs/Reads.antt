@@ -1,5 +1,4 @@
 -- What a formula reads, as the code has it.
-use Rattle.std.specs.Prelude.{ℕ}
 use Rattle.rule_laws.specs.Meaning.{Precedent, Named, Components}
 use Rattle.ref_order.specs.declared.reads.Read.{Read}
 use Rattle.ref_order.specs.declared.reads.Read.TheVariants.{Cell, Children}
@@ -7,8 +6,3 @@ use Rattle.ref_order.specs.declared.reads.Read.TheVariants.{Cell, Children}
 abbrev pub precedent_of : Read → Precedent
 precedent_of (Cell r) = Named r.now
 precedent_of (Children dim) = Components dim
-
--- the cube of what a formula of a cube reads
-abbrev pub cube_read : ℕ → Precedent → ℕ
-cube_read cube (Named r) = r.cube
-cube_read cube (Components dim) = cube

@@ -1,12 +1,12 @@
 ghost use Rattle.std.specs.Prelude.{◌≡◌, ◌+◌, ◌*◌, ◌≤◌, ◌^◌, ◌<◌, true, false, length, IsTrue};
 ghost use Rattle.cube_space.specs.Layout.{axes, most_dimensions};
 ghost use Rattle.rule_model.specs.Conditions.{IsPrecedent};
-ghost use Rattle.order_laws.specs.Scales.{scale_of};
 ghost use Rattle.order_laws.specs.Earlier.{of_leaf, excess_of_kinds, most_excess};
+ghost use Rattle.order_laws.specs.Plain.{read_cube, HasOneScale};
 ghost use Rattle.ref_order.specs.Areas.{IsAreaCells, numbers_reading, ending_reading};
 ghost use Rattle.ref_order.specs.Kinds.{AreNumbers, AreByKinds, AreWithin, AreAllWithin};
 ghost use Rattle.ref_order.specs.Known.{IsKnown, kinds_asked};
-ghost use Rattle.ref_order.specs.Reads.{precedent_of, cube_read};
+ghost use Rattle.ref_order.specs.Reads.{precedent_of};
 
 use crate::area_cells::AreaCells;
 use crate::excess::{names_leaves, start};
@@ -28,8 +28,8 @@ struct Readings {
 }
 
 // The cube of what is read.
-fn cube_read(cube: u32, read: Read) -> u32
-    ensures { result ≡ cube_read cube (precedent_of read.entry) }
+fn read_cube(cube: u32, read: Read) -> u32
+    ensures { result ≡ read_cube cube (precedent_of read.entry) }
 {
     match read {
         Read::Cell(reference) => reference.cube,
@@ -41,13 +41,10 @@ fn cube_read(cube: u32, read: Read) -> u32
 fn reads_alike(cells: AreaCells, asked: Question) -> bool
     requires cells { IsAreaCells cells }
     requires read { IsPrecedent cells.model.now.space cells.cube (precedent_of asked.read) }
-    ensures { IsTrue result
-        → scale_of cells.entry.model.now (cube_read cells.entry.cube (precedent_of asked.entry.read)) true
-        asked.entry.place
-        ≡ scale_of cells.entry.model.now (cube_read cells.entry.cube (precedent_of asked.entry.read)) false
-        asked.entry.place }
+    ensures { IsTrue result → HasOneScale cells.entry.model.now
+        (read_cube cells.entry.cube (precedent_of asked.entry.read)) asked.entry.place }
 {
-    let cube = cube_read(cells.cube, asked.read);
+    let cube = read_cube(cells.cube, asked.read);
     kind_alike(KindScale {
         model: cells.model,
         cube,

@@ -1,5 +1,5 @@
-ghost use Rattle.std.specs.Prelude.{◌≡◌, ℕ, ◌+◌, ◌-◌, ◌*◌, ◌<◌, ◌≤◌, ◌^◌, ◌&&◌, pos, Some, length, drop, unsigned_abs, IfSome};
-ghost use Rattle.std.specs.Prelude.{slice_index_or};
+ghost use Rattle.std.specs.Prelude.{◌≡◌, ℕ, ◌+◌, ◌-◌, ◌*◌, ◌<◌, ◌≤◌, ◌^◌, ◌&&◌, pos, Some, length, drop};
+ghost use Rattle.std.specs.Prelude.{unsigned_abs, IfSome, slice_index_or};
 ghost use Rattle.cube_space.specs.Layout.{axes, sizes, most_dimensions};
 ghost use Rattle.rule_model.specs.Conditions.{IsReference};
 ghost use Rattle.order_laws.specs.Greatest.{plus};
@@ -81,10 +81,7 @@ fn with_named(target: KindScale, dim: usize, element: u32, rest: Moved) -> Moved
         → IfSome result.sum (λ n. unsigned_abs n ≤ 2 ^ 32 + most) }
 {
     Moved {
-        sum: plus(
-            Some(i64::from(worth(target, dim, element))),
-            rest.sum,
-        ),
+        sum: plus(Some(i64::from(worth(target, dim, element))), rest.sum),
         leaves: is_leaf_element(target.model, target.cube, dim, element) && rest.leaves,
     }
 }

@@ -1,4 +1,4 @@
-use Rattle.std.proofs.Common.{refl, true, false}
+use Rattle.std.proofs.Common.{refl, sym, true, false}
 use Rattle.order_laws.specs.Earlier.{greatest_of_kinds}
 use Rattle.ref_order.specs.Reads.{precedent_of}
 use Rattle.ref_order.proofs.KindFacts.{kinds-same}
@@ -23,7 +23,7 @@ returns-then-reads_alike-clause-total c =
     let asked = c.args.asked in
     let p = precedent_of asked.read in
     kinds-same c.greatest_known-leaf.result (greatest_of_kinds model cube area (record { own = c.kind_alike-own.result; its = true }) asked.place p asked.dim) (greatest_of_kinds model cube area (record { own = asked.own; its = false }) asked.place p asked.dim)
-    c.greatest_known-leaf.ensures.numbers (answers-scaled model cube area (record { own = c.kind_alike-own.result; its = true }) (record { own = asked.own; its = false }) asked.place p asked.dim c.kind_alike-own.ensures (c.reads_alike.ensures c.if-reads_alike.true))
+    c.greatest_known-leaf.ensures.numbers (answers-scaled model cube area (record { own = c.kind_alike-own.result; its = true }) (record { own = asked.own; its = false }) asked.place p asked.dim c.kind_alike-own.ensures (sym (c.reads_alike.ensures c.if-reads_alike.true)))
 
 pub returns-clause-leaf : goal.returns-clause-leaf
 returns-clause-leaf c =
