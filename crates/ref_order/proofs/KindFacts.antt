@@ -1,5 +1,5 @@
 -- Numbers by kinds.
-use Rattle.std.proofs.Common.{◌≡◌, refl, ap, ◌∙◌, arith, ℕ, zero, suc, ◌+◌, ◌-◌, ◌≤◌, Bool, true, false, ℤ, Option, Some, None, pos}
+use Rattle.std.proofs.Common.{◌≡◌, refl, ap, ◌∙◌, arith, ℕ, zero, suc, ◌+◌, ◌-◌, ◌≤◌, Bool, true, false, ℤ, Option, Some, pos}
 use Rattle.order_laws.specs.Greatest.{larger, greatest, only}
 use Rattle.order_laws.specs.Earlier.{Kinds, both, of_leaf, of_total, are_same, greatest_ending}
 use Rattle.ref_order.specs.declared.kinds.Numbers.{Numbers}

@@ -1,5 +1,5 @@
 -- References that name the same from the elements of a dimension, and what is remembered of them.
-use Rattle.std.proofs.Common.{◌≡◌, refl, sym, ap, ◌∙◌, arith, subst, ℕ, zero, suc, ◌+◌, ◌<◌, ◌≤◌, ◌⊎◌, inl, inr, Bool, true, false, Option, Some, None, ℤ, pos, List, [], ◌∷◌, length, map, drop}
+use Rattle.std.proofs.Common.{◌≡◌, refl, sym, ap, ◌∙◌, arith, subst, ℕ, zero, suc, ◌+◌, ◌<◌, ◌≤◌, ◌⊎◌, inl, inr, Bool, true, false, Option, Some, None, ℤ, pos, List, [], ◌∷◌, length, get_or, map, drop}
 use Rattle.std.proofs.Math.ListN.{replicate}
 use Rattle.std.specs.Prelude.{slice_get, slice_index_or, ◌==◌, ◌&&◌, if◌then◌else◌, option_map, unwrap_or, neg_ℤ}
 use Rattle.std.specs.Option.{option_map_or}
@@ -134,6 +134,12 @@ pub asked_alike : (model : BoundModel) (cube : ℕ) (area : Area) (numbers : ByK
     → AreByKinds numbers (answer_of model cube area one) → AreByKinds numbers (answer_of model cube area other)
 asked_alike model cube area numbers one other place dim own its same are =
     kinds-same numbers (answer_of model cube area one) (answer_of model cube area other) are (λ here. answers-alike model cube area here one other place dim own its same)
+
+-- an answer in its slot
+pub kept-at : (kept : List (Option Answer)) (k : ℕ) (other : Option Answer) (answer : Answer) → k < length kept → get_or kept k other ≡ Some answer → slice_get kept k ≡ Some (Some answer)
+kept-at [] k other answer low at = absurd (omega arith)
+kept-at (a ∷ kept) zero other answer low at = ap Some at
+kept-at (a ∷ kept) (suc k) other answer low at = kept-at kept k other answer (omega arith) at
 
 -- ---- nothing is remembered at first
 

@@ -52,7 +52,7 @@ module _ (m : BoundModel) (cube place i e : ℕ) (leaf : Bool) where
       (plus (moved_sum its.worth 0 r.args i e) (Some (neg_ℤ (pos (own.worth i e)))))
   by_scales (Components dim) its own = if i == dim
       then greatest (λ k. only (is_nonzero (slice_index_or (parts_in (axes m.space cube) dim e) k (0, pos 0)).1 && is_same leaf (is_leaf_element (axes m.space cube) dim (slice_index_or (parts_in (axes m.space cube) dim e) k (0, pos 0)).0))
-          (Some (pos (its.worth dim (slice_index_or (parts_in (axes m.space cube) dim e) k (0, pos 0)).0) -ℤ pos (own.worth dim e)))) (length (parts_in (axes m.space cube) dim e))
+      (Some (pos (its.worth dim (slice_index_or (parts_in (axes m.space cube) dim e) k (0, pos 0)).0) -ℤ pos (own.worth dim e)))) (length (parts_in (axes m.space cube) dim e))
       else only (is_same leaf (is_leaf_element (axes m.space cube) i e)) (Some (pos (its.worth i e) -ℤ pos (own.worth i e)))
 
   scaled : (kinds : Kinds) (p : Precedent) → number_by_kinds m cube kinds place p i e leaf ≡ by_scales p (scale_of m (cube_read cube p) kinds.its place) (scale_of m cube kinds.own place)

@@ -1,6 +1,6 @@
 -- Where a dimension has a number of a consolidated element, by kinds or not.
 use Rattle.std.proofs.Common.{◌≡◌, refl, sym, ap, ◌∙◌, ℕ, zero, suc, Bool, true, false, ℤ, pos, Option, Some, None, List}
-use Rattle.std.specs.Prelude.{◌==◌, ◌&&◌, ◌||◌, ◌-ℤ◌, neg_ℤ, if◌then◌else◌, slice_index_or, length, is_some}
+use Rattle.std.specs.Prelude.{◌==◌, not, ◌&&◌, ◌||◌, ◌-ℤ◌, neg_ℤ, if◌then◌else◌, slice_index_or, length, is_some}
 use Rattle.dim_weights.specs.Table.{is_nonzero}
 use Rattle.cube_space.specs.Layout.{axes, sizes}
 use Rattle.rule_laws.specs.Meaning.{Precedent, Named, Components}
@@ -46,47 +46,36 @@ part-split false false x = refl
 abbrev leaf_cells : Kinds
 leaf_cells = record { own = true; its = true }
 
-number-split : (m : BoundModel) (cube place i e : ℕ) (p : Precedent) → is_some (excess m cube place p i e) ≡ (is_some (number_by_kinds m cube leaf_cells place p i e true) || is_some (number_by_kinds m cube leaf_cells place p i e false))
-number-split m cube place i e (Named r) =
-    kind-split (moved_leaves (axes m.space r.cube) 0 r.args i e) (plus (moved_sum (scale_of m r.cube true place).worth 0 r.args i e) (Some (neg_ℤ (pos ((scale_of m cube true place).worth i e)))))
-number-split m cube place i e (Components dim) = by (i == dim)
-  where
-    abbrev parts : List (ℕ × ℤ)
-    parts = parts_in (axes m.space cube) dim e
+module _ (m : BoundModel) (cube place i e : ℕ) where
+  abbrev kept : Bool → Option ℤ
+  kept leaf = only (is_same leaf (is_leaf_element (axes m.space cube) i e)) (Some (pos ((scale_of m cube true place).worth i e) -ℤ pos ((scale_of m cube true place).worth i e)))
 
-    abbrev kept : Bool → Option ℤ
-    kept leaf = only (is_same leaf (is_leaf_element (axes m.space cube) i e)) (Some (pos ((scale_of m cube true place).worth i e) -ℤ pos ((scale_of m cube true place).worth i e)))
+  part-number : (dim : ℕ) (part : ℕ × ℤ) → is_some (component_excess ((scale_of m cube true place).worth dim) e part)
+      ≡ (is_some (component_number m cube leaf_cells place dim e true part) || is_some (component_number m cube leaf_cells place dim e false part))
+  part-number dim part = part-split (is_nonzero part.1) (is_leaf_element (axes m.space cube) dim part.0) (pos ((scale_of m cube true place).worth dim part.0) -ℤ pos ((scale_of m cube true place).worth dim e))
 
-    of : (k : ℕ) → is_some (component_excess ((scale_of m cube true place).worth dim) e (slice_index_or parts k (0, pos 0)))
-        ≡ (is_some (component_number m cube leaf_cells place dim e true (slice_index_or parts k (0, pos 0))) || is_some (component_number m cube leaf_cells place dim e false (slice_index_or parts k (0, pos 0))))
-    of k =
-        let part : ℕ × ℤ = slice_index_or parts k (0, pos 0) in
-        part-split (is_nonzero part.1) (is_leaf_element (axes m.space cube) dim part.0) (pos ((scale_of m cube true place).worth dim part.0) -ℤ pos ((scale_of m cube true place).worth dim e))
+  child-split : (b : Bool) (dim : ℕ) (parts : List (ℕ × ℤ)) → is_some (if b then components_excess ((scale_of m cube true place).worth dim) e parts else Some (pos 0))
+      ≡ (is_some (if b then components_number m cube leaf_cells place dim e true parts else kept true) || is_some (if b then components_number m cube leaf_cells place dim e false parts else kept false))
+  child-split true dim parts =
+      some-greatest (λ k. component_excess ((scale_of m cube true place).worth dim) e (slice_index_or parts k (0, pos 0))) (λ k. component_number m cube leaf_cells place dim e true (slice_index_or parts k (0, pos 0)))
+      (λ k. component_number m cube leaf_cells place dim e false (slice_index_or parts k (0, pos 0))) (length parts) (λ k. part-number dim (slice_index_or parts k (0, pos 0)))
+  child-split false dim parts = kind-split (is_leaf_element (axes m.space cube) i e) (Some (pos ((scale_of m cube true place).worth i e) -ℤ pos ((scale_of m cube true place).worth i e)))
 
-    by : (b : Bool) → is_some (if b then components_excess ((scale_of m cube true place).worth dim) e parts else Some (pos 0))
-        ≡ (is_some (if b then components_number m cube leaf_cells place dim e true parts else kept true) || is_some (if b then components_number m cube leaf_cells place dim e false parts else kept false))
-    by true =
-        some-greatest (λ k. component_excess ((scale_of m cube true place).worth dim) e (slice_index_or parts k (0, pos 0))) (λ k. component_number m cube leaf_cells place dim e true (slice_index_or parts k (0, pos 0)))
-        (λ k. component_number m cube leaf_cells place dim e false (slice_index_or parts k (0, pos 0))) (length parts) of
-    by false = kind-split (is_leaf_element (axes m.space cube) i e) (Some (pos ((scale_of m cube true place).worth i e) -ℤ pos ((scale_of m cube true place).worth i e)))
+  number-split : (p : Precedent) → is_some (excess m cube place p i e) ≡ (is_some (number_by_kinds m cube leaf_cells place p i e true) || is_some (number_by_kinds m cube leaf_cells place p i e false))
+  number-split (Named r) =
+      kind-split (moved_leaves (axes m.space r.cube) 0 r.args i e) (plus (moved_sum (scale_of m r.cube true place).worth 0 r.args i e) (Some (neg_ℤ (pos ((scale_of m cube true place).worth i e)))))
+  number-split (Components dim) = child-split (i == dim) dim (parts_in (axes m.space cube) dim e)
+
+  test-split : (b : Bool) (x y z : Option ℤ) → is_some x ≡ (is_some y || is_some z) → is_some (only b x) ≡ (is_some (only (is_same false (not b)) y) || is_some (only (is_same false (not b)) z))
+  test-split true x y z h = h
+  test-split false x y z h = refl
 
 pub total-split : (m : BoundModel) (cube : ℕ) (area : Area) (place : ℕ) (p : Precedent) (i : ℕ) → is_some (greatest_by m cube area place p (is_total (axes m.space cube)) i)
     ≡ (is_some (greatest_of_kinds m cube area leaf_cells place p i (of_total true)) || is_some (greatest_of_kinds m cube area leaf_cells place p i (of_total false)))
 total-split m cube area place p i =
-    some-greatest (λ k. only (is_total (axes m.space cube) i (at k)) (excess m cube place p i (at k))) (λ k. of true k) (λ k. of false k) (set_count (slice_index_or (sizes m.space cube) i 0) set) each
-  where
-    abbrev set : Option (List ℕ)
-    set = slice_index_or area.sets i None
-
-    abbrev at : ℕ → ℕ
-    at k = set_element set k
-
-    abbrev of : Bool → ℕ → Option ℤ
-    of leaf k = only (is_same false (is_leaf_element (axes m.space cube) i (at k))) (number_by_kinds m cube leaf_cells place p i (at k) leaf)
-
-    by : (b : Bool) (x y z : Option ℤ) → is_some x ≡ (is_some y || is_some z) → is_some (only b x) ≡ (is_some (only (is_same false (Rattle.std.specs.Prelude.not b)) y) || is_some (only (is_same false (Rattle.std.specs.Prelude.not b)) z))
-    by true x y z h = h
-    by false x y z h = refl
-
-    each : (k : ℕ) → is_some (only (is_total (axes m.space cube) i (at k)) (excess m cube place p i (at k))) ≡ (is_some (of true k) || is_some (of false k))
-    each k = by (is_total (axes m.space cube) i (at k)) (excess m cube place p i (at k)) (number_by_kinds m cube leaf_cells place p i (at k) true) (number_by_kinds m cube leaf_cells place p i (at k) false) (number-split m cube place i (at k) p)
+    let set : Option (List ℕ) = slice_index_or area.sets i None in
+    let number = λ (leaf : Bool) (k : ℕ). number_by_kinds m cube leaf_cells place p i (set_element set k) leaf in
+    let total = λ (k : ℕ). is_total (axes m.space cube) i (set_element set k) in
+    some-greatest (λ k. only (total k) (excess m cube place p i (set_element set k))) (λ k. only (is_same false (not (total k))) (number true k)) (λ k. only (is_same false (not (total k))) (number false k))
+    (set_count (slice_index_or (sizes m.space cube) i 0) set)
+    (λ k. test-split m cube place i (set_element set k) (total k) (excess m cube place p i (set_element set k)) (number true k) (number false k) (number-split m cube place i (set_element set k) p))

@@ -14,7 +14,6 @@ use rule_model::Model;
 
 /// Whether it is known at once that two questions have the same answer, over each area: they ask for the same of two
 /// references that name the same from the elements of the dimension.
-#[tactic(auto, using(crate::proofs::Likeness::asked_alike))]
 pub fn ask_alike(model: &Model, cube: u32, one: Question, other: Question) -> bool
     requires one { IsPrecedent model.now.space cube (precedent_of one.read) }
     requires other { IsPrecedent model.now.space cube (precedent_of other.read) }
@@ -22,11 +21,29 @@ pub fn ask_alike(model: &Model, cube: u32, one: Question, other: Question) -> bo
         → AreByKinds numbers (answer_of model.now cube area one.entry)
         → AreByKinds numbers (answer_of model.now cube area other.entry) }
 {
-    one.place == other.place
-        && one.dim == other.dim
-        && one.own == other.own
-        && one.its == other.its
-        && read_alike(model, cube, one.dim, one.read, other.read)
+    if one.place != other.place {
+        return false;
+    }
+    if one.dim != other.dim {
+        return false;
+    }
+    if !same_kind(one.own, other.own) {
+        return false;
+    }
+    if !same_kind(one.its, other.its) {
+        return false;
+    }
+    read_alike(model, cube, one.dim, one.read, other.read)
+}
+
+fn same_kind(one: bool, other: bool) -> bool
+    ensures { IsTrue result → one ≡ other }
+{
+    match (one, other) {
+        (true, true) => true,
+        (false, false) => true,
+        _ => false,
+    }
 }
 
 // Whether what two formulas read is the same as far as it comes from the elements of a dimension.

@@ -75,13 +75,7 @@ fn named_numbers(
 }
 
 // Where components in a dimension are read.
-fn child_numbers(
-    model: &Model,
-    cube: u32,
-    asked: Question,
-    dim: u32,
-    element: u32,
-) -> Numbers
+fn child_numbers(model: &Model, cube: u32, asked: Question, dim: u32, element: u32) -> Numbers
     requires cube { cube < length model.now.space.cubes }
     requires dim { asked.dim < length (axes model.now.space cube) }
     requires element { element < slice_index_or (sizes model.now.space cube) asked.dim 0 }

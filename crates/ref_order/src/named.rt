@@ -81,10 +81,7 @@ fn with_named(target: KindScale, dim: usize, element: u32, rest: Moved) -> Moved
         → IfSome result.sum (λ n. unsigned_abs n ≤ 2 ^ 32 + most) }
 {
     Moved {
-        sum: plus(
-            Some(i64::from(worth(target, dim, element))),
-            rest.sum,
-        ),
+        sum: plus(Some(i64::from(worth(target, dim, element))), rest.sum),
         leaves: is_leaf_element(target.model, target.cube, dim, element) && rest.leaves,
     }
 }

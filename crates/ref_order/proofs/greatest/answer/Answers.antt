@@ -1,4 +1,4 @@
-use Rattle.std.proofs.Common.{◌≡◌, sym, ap, List, Option, ℕ}
+use Rattle.std.proofs.Common.{sym, ap}
 use Rattle.std.specs.Prelude.{slice_index_or}
 use Rattle.cube_space.specs.Layout.{axes, sizes}
 use Rattle.order_laws.specs.Scales.{greatest_in, is_leaf_element}

@@ -55,4 +55,4 @@ returns-clause-numbers c =
     let own : Option (List ℕ) = c.index-as_slice-dim.result in
     kinds-same c.each.best (λ here. greatest (λ k. only (test here (set_element own k)) (number here (set_element own k))) c.each.k) (answer_of model cube c.args.cells.area.now asked) c.each.invariant.numbers
     (λ here. ap (greatest (λ k. only (test here (set_element own k)) (number here (set_element own k)))) (done ∙ c.count-k-end.ensures ∙ ap (λ n. set_count n own) size)
-        ∙ ap (greatest_in (number here) (test here) (slice_index_or (sizes model.space cube) asked.dim 0)) set)
+    ∙ ap (greatest_in (number here) (test here) (slice_index_or (sizes model.space cube) asked.dim 0)) set)

@@ -1,4 +1,4 @@
-use Rattle.std.proofs.Common.{◌≡◌, ◌∙◌, sym, ap, arith, length, ℕ, ℤ, Option, Some}
+use Rattle.std.proofs.Common.{◌∙◌, sym, ap, arith, length, ℕ, ℤ, Option, Some}
 use Rattle.cube_space.specs.Layout.{axes}
 use Rattle.order_laws.specs.Greatest.{plus}
 use Rattle.order_laws.specs.Earlier.{Kinds, of_leaf, start_by_kinds, greatest_ending}
