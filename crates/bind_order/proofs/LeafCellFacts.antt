@@ -98,7 +98,7 @@ module _ (ds : List Outline) (order : Order) (past : (kind : Bool) (place : ℕ)
       by : (place < most_positions) ⊎ (most_positions ≤ place) → number_by (position_in order true place) leaf ≤ number_by (position_in order false place) cell
       by (inl low) =
           let least = at_most-at (numbers_in order true leaf) (numbers_in order false cell) place (numbers-long leaf cell) most
-              (λ k less. numbers-at true leaf k (omega (arith, less, low)) ∙ before k less ∙ sym (numbers-at false cell k (omega (arith, less, low)))) in
+          (λ k less. numbers-at true leaf k (omega (arith, less, low)) ∙ before k less ∙ sym (numbers-at false cell k (omega (arith, less, low)))) in
           omega (arith, least, numbers-at true leaf place low, numbers-at false cell place low)
       by (inr high) = omega (arith, past true place leaf high, past false place cell high)
 

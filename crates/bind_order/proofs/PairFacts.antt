@@ -155,14 +155,18 @@ pairs-found test place before (d ∷ ds) dims are = by (pairs-found test (suc pl
 
     joined : (kind b : Bool) (e l : ℕ) (cell leaf : List ℕ) → IsPair (test place) kind d e l → ArePairs test (suc place) b ds cell leaf → (before || not (is_leaf d e && are_leaves ds cell)) ≡ true
         → (cell : List ℕ) × (leaf : List ℕ) × ArePairs test place before (d ∷ ds) cell leaf
-    joined kind b e l cell leaf own rest total = (e ∷ cell, l ∷ leaf, record {
-      upper = and_from _ _ (lt-ltb e (length d.elements) own.element) rest.upper;
-      lower = and_from _ _ (lt-ltb l (length d.elements) own.leaf) rest.lower;
-      leaves = and_from _ _ (leaf-counted d (dims 0 d refl) e l own.element (nonzero-counts (coef d e l) own.counts)) rest.leaves;
-      counts = both-factors (coef d e l) (coef_product ds cell leaf) own.counts rest.counts;
-      passes = and_from _ _ own.passes rest.passes;
-      total = total;
-    })
+    joined kind b e l cell leaf own rest total = (
+      e ∷ cell,
+      l ∷ leaf,
+      record {
+        upper = and_from _ _ (lt-ltb e (length d.elements) own.element) rest.upper;
+        lower = and_from _ _ (lt-ltb l (length d.elements) own.leaf) rest.lower;
+        leaves = and_from _ _ (leaf-counted d (dims 0 d refl) e l own.element (nonzero-counts (coef d e l) own.counts)) rest.leaves;
+        counts = both-factors (coef d e l) (coef_product ds cell leaf) own.counts rest.counts;
+        passes = and_from _ _ own.passes rest.passes;
+        total = total;
+      },
+    )
 
     by : (cell : List ℕ) × (leaf : List ℕ) × ArePairs test (suc place) (before || has_pair (test place) false d) ds cell leaf → (b : Bool) → has_pair (test place) false d ≡ b → (cell : List ℕ) × (leaf : List ℕ) × ArePairs test place before (d ∷ ds) cell leaf
     by (cell, leaf, rest) true some =

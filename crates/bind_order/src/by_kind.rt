@@ -183,7 +183,14 @@ pub fn position_by_kind(
             by_list(alloc, space, weights, cube, name, list.as_slice())
         }
         OrderWord::RanksByKind(name, leaves, totals) => {
-            by_lists(alloc, space, cube, name, leaves.as_slice(), totals.as_slice())
+            by_lists(
+                alloc,
+                space,
+                cube,
+                name,
+                leaves.as_slice(),
+                totals.as_slice(),
+            )
         }
         OrderWord::Totals => Ok(Some(PositionByKind::Constants(0, 1))),
         OrderWord::Auto(_) => Ok(None),

@@ -1,8 +1,8 @@
 //! Binding of order lines: the declared order of a cube that an `ORDER` line of a model text means.
 //!
 //! Read in this order: [`bind_order`]; [`BindOrderFault`], why a line means no order; [`auto_lag`] and [`lag_order`],
-//! what a line for an order that is found means. `specs/Orders.antt`, `specs/ByKind.antt` and `specs/Lags.antt` say what
-//! lines mean.
+//! what a line for an order that is found means. `specs/Orders.antt` says what a line means, `specs/ByKind.antt` what
+//! one means that tells leaf cells and consolidated cells apart, and `specs/Lags.antt` what `AUTO` means.
 #![tactic(auto)]
 
 pub use bind::bind_order;

@@ -146,12 +146,7 @@ pub fn list_ranks(
 }
 
 // The rank of an element: the one that is given, or the greatest of a leaf that counts in it.
-fn filled_rank(
-    dimension: &Dimension,
-    weights: &Weights,
-    given: &[Option<u32>],
-    element: u32,
-) -> u32
+fn filled_rank(dimension: &Dimension, weights: &Weights, given: &[Option<u32>], element: u32) -> u32
     requires weights { IsWeightsOf dimension.now weights.now }
     requires whole { length given.now ≡ length dimension.now.elements }
     requires within { element < length dimension.now.elements }

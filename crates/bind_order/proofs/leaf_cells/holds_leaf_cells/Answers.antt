@@ -12,8 +12,8 @@ returns-then-is_broken_at c =
     let place = c.loop-place.place in
     let low : place < length list = omega (arith, c.loop-place-test.true, c.loop-place.auto.place-end) in
     let breaks : is_broken ds list place ≡ true =
-        ap (is_broken_at ds (take place list)) (sym (get_or_read list place c.index-positions-place.result low c.index-positions-place.is no_position))
-        ∙ ap (λ front. is_broken_at ds front c.index-positions-place.result) (sym c.split_at.ensures.front) ∙ sym c.is_broken_at.ensures ∙ c.if-is_broken_at.true in
+    ap (is_broken_at ds (take place list)) (sym (get_or_read list place c.index-positions-place.result low c.index-positions-place.is no_position))
+    ∙ ap (λ front. is_broken_at ds front c.index-positions-place.result) (sym c.split_at.ensures.front) ∙ sym c.is_broken_at.ensures ∙ c.if-is_broken_at.true in
     sym (broken ds list c.requires.few c.requires.each (axes-are c.args.space.now.dimensions c.size-cells.ensures.valid.dimensions (dims_of c.args.space.now c.args.cube)) place low breaks)
 
 pub loop-place-preserved : goal.loop-place-preserved
@@ -23,8 +23,8 @@ loop-place-preserved c =
     let place = c.loop-place.place in
     let low : place < length list = omega (arith, c.loop-place-test.true, c.loop-place.auto.place-end) in
     let holds : is_broken ds list place ≡ false =
-        ap (is_broken_at ds (take place list)) (sym (get_or_read list place c.index-positions-place.result low c.index-positions-place.is no_position))
-        ∙ ap (λ front. is_broken_at ds front c.index-positions-place.result) (sym c.split_at.ensures.front) ∙ sym c.is_broken_at.ensures ∙ c.if-is_broken_at.false in
+    ap (is_broken_at ds (take place list)) (sym (get_or_read list place c.index-positions-place.result low c.index-positions-place.is no_position))
+    ∙ ap (λ front. is_broken_at ds front c.index-positions-place.result) (sym c.split_at.ensures.front) ∙ sym c.is_broken_at.ensures ∙ c.if-is_broken_at.false in
     below_more (λ k. is_broken ds list k ≡ false) place c.loop-place.invariant holds
 
 pub returns : goal.returns

@@ -1,8 +1,8 @@
 use Rattle.std.proofs.Common.{◌≡◌, ◌∙◌, ◌++◌, ◌∷◌, [], ap, sym, subst, arith, map, length}
 use Rattle.std.specs.List.{range_with_len}
 use Rattle.std.proofs.lemmas.List.FromFn.{map-range_with_len_more, length-map-range_with_len}
-use Rattle.rule_model.specs.Conditions.{AreRanks}
 use Rattle.bind_order.specs.Ranks.{greatest_leaf, index_rank, index_ranks, ranks_by_index}
+use Rattle.bind_order.specs.Inside.Held.{AreHeldRanks}
 use Rattle.bind_order.proofs.ListedFacts.{index_within}
 use Rattle.bind_order.proofs.RankFacts.{index_hold}
 use Rattle.bind_order.proofs.ranks.ranks_by_index.Goals as goal
@@ -31,4 +31,4 @@ returns-clause-valid c =
     let d = c.args.dimension.now in
     let end : c.loop-element.element ≡ length d.elements = omega (arith, c.loop-element-test.false, c.len-element-end.ensures.len, c.loop-element.auto.element-end) in
     let is = c.new.ensures ∙ c.loop-element.invariant ∙ ap (λ n. map (greatest_leaf d (index_ranks d)) (range_with_len 0 n)) end in
-    subst (AreRanks d) (sym is) (index_hold d c.len-element-end.ensures.valid (index_within d c.len-element-end.ensures.valid))
+    subst (AreHeldRanks d) (sym is) (index_hold d c.len-element-end.ensures.valid (index_within d c.len-element-end.ensures.valid))
