@@ -26,11 +26,11 @@ pub plain-valid : (space : Layout) (cube : ℕ) (list : List Position) → lengt
 plain-valid space cube list few held = record {
   few = λ kind. few-of kind;
   each = λ kind. each-of kind;
-  holds_leaf_cells = leaf_cells-held (axes space cube) list each (All-weaker _ _ (λ p h. holds-at (axes space cube) p h.holds) list held);
+  holds_leaf_cells = leaf_cells-held (axes space cube) list each (All-weaker (IsHeldPosition (axes space cube)) (HoldsLeavesAt (axes space cube)) (λ p h. holds-at (axes space cube) p h.holds) list held);
 }
   where
     each : All (IsPosition (axes space cube)) list
-    each = All-weaker _ _ (λ p h. h.is) list held
+    each = All-weaker (IsHeldPosition (axes space cube)) (IsPosition (axes space cube)) (λ p h. h.is) list held
 
     few-of : (kind : Bool) → length (positions_for kind (plain_order list)) ≤ most_positions
     few-of true = few
