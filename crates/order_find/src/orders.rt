@@ -34,9 +34,9 @@ fn order(alloc: Global, graph: &NodeGraph, cube: u32, ranks: &[u32]) -> Result<O
     requires ranks { length ranks.now ≡ node_count graph.now }
     requires cube { cube < length graph.now.model.space.cubes }
     ensures { IfOk result (λ order. order ≡ (record {
-        positions = position_of graph.now.model cube true 0
-            ∷ Ranks (last_of graph.now.model.space cube) (ranks_of graph.now ranks.now cube) ∷ [];
-        totals = None;
+      positions = position_of graph.now.model cube true 0
+          ∷ Ranks (last_of graph.now.model.space cube) (ranks_of graph.now ranks.now cube) ∷ [];
+      totals = None;
     })) }
 {
     let model = graph.model();
