@@ -1,7 +1,10 @@
-ghost use Rattle.std.specs.Prelude.{◌≡◌, ◌+◌, ◌<◌, length, ok_or, option_map, IfOk, IfSome};
+ghost use Rattle.std.specs.Prelude.{◌≡◌, ◌+◌, ◌<◌, ◌≤◌, All, length, map, ok_or, option_to_list, IfOk, IfSome};
 ghost use Rattle.cube_space.specs.Layout.{axes};
 ghost use Rattle.rule_model.specs.Conditions.{IsOrderOf};
+ghost use Rattle.rule_model.specs.Order.{most_positions};
 ghost use Rattle.rule_model.specs.Weights.{AreWeightsOf};
+ghost use Rattle.bind_order.specs.Inside.Held.{IsHeldPosition};
+ghost use Rattle.bind_order.specs.Orders.{index_position};
 ghost use Rattle.bind_order.specs.Lags.{lag_called, lag_by, lag_of, lag_order};
 
 use crate::fault::BindOrderFault;
@@ -11,7 +14,7 @@ use cube_space::{Space, axis_called, axis_count};
 use dim_name::Name;
 use dim_weights::Weights;
 use model_text::{OrderLine, OrderWord};
-use rule_model::Order;
+use rule_model::{Order, Position};
 use std::alloc::{AllocError, Global};
 
 // The place of the dimension of this name, where it is one of the cube's and not its last.
@@ -72,6 +75,30 @@ pub fn auto_lag(space: &Space, cube: u32, line: &OrderLine) -> Result<Option<u32
     }
 }
 
+// The one position of a lag, the index of the elements of the dimension at this place.
+fn lag_positions(
+    alloc: Global,
+    space: &Space,
+    weights: &[Weights],
+    cube: u32,
+    lag: Option<u32>,
+) -> Result<Vec<Position>, AllocError>
+    requires cube { cube < length space.now.cubes }
+    requires weights { AreWeightsOf space.now.dimensions weights.now }
+    requires lag { IfSome lag (λ place. place < length (axes space.now cube)) }
+    ensures positions { IfOk result (λ positions. positions.items
+        ≡ map (index_position (axes space.now cube)) (option_to_list lag)) }
+    ensures each { IfOk result (λ positions. All (IsHeldPosition (axes space.now cube)) positions.items) }
+    ensures few { IfOk result (λ positions. length positions.items ≤ most_positions) }
+{
+    let mut positions = Vec::new(alloc);
+    if let Some(place) = lag {
+        let position = index_position(alloc, space, weights, cube, place)?;
+        positions.push(position)?;
+    }
+    Ok(positions)
+}
+
 /// The order of a lag alone: its one position is the index of the elements of the dimension at this place.
 pub fn lag_order(
     alloc: Global,
@@ -86,10 +113,6 @@ pub fn lag_order(
     ensures order { IfOk result (λ order. order ≡ lag_order (axes space.now cube) lag) }
     ensures valid { IfOk result (IsOrderOf space.now cube) }
 {
-    let mut positions = Vec::new(alloc);
-    if let Some(place) = lag {
-        let position = index_position(alloc, space, weights, cube, place)?;
-        positions.push(position)?;
-    }
+    let positions = lag_positions(alloc, space, weights, cube, lag)?;
     Ok(plain_order(positions))
 }

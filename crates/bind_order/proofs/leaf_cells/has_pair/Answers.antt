@@ -1,4 +1,4 @@
-use Rattle.std.proofs.Common.{◌∙◌, ◌&&◌, sym, arith, length, ℕ, Bool}
+use Rattle.std.proofs.Common.{◌∙◌, ◌&&◌, sym, arith, length}
 use Rattle.bind_order.specs.Inside.Breaks.{breaks_at, is_of_kind, has_leaf, has_pair}
 use Rattle.bind_order.proofs.ListFacts.{any_more, any_stops, any_done}
 use Rattle.bind_order.proofs.leaf_cells.has_pair.Goals as goal

@@ -1,4 +1,4 @@
-use Rattle.std.proofs.Common.{◌≡◌, ◌∙◌, ◌<◌, ℕ, true, false, Bool, length, take, sym, ap, arith, below_more, get_or}
+use Rattle.std.proofs.Common.{◌≡◌, ◌∙◌, ◌<◌, true, false, length, take, sym, ap, arith, below_more}
 use Rattle.std.proofs.lemmas.List.{get_or_read}
 use Rattle.cube_space.specs.Layout.{axes, dims_of}
 use Rattle.bind_order.specs.Inside.Breaks.{is_broken_at}
