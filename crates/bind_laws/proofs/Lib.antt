@@ -1,4 +1,4 @@
-mod Got
+pub mod Got
 mod AreaFacts
 mod CubeFacts
 mod ReferenceFacts
