@@ -1,5 +1,5 @@
 -- Where orders are to be found, no cube has positions of its own for consolidated cells.
-use Rattle.std.proofs.Common.{◌≡◌, sym, ap, ◌∙◌, subst, ℕ, ◌+◌, Bool, true, Option, Some, None, Result, Ok, Err, List, [], ◌∷◌, All}
+use Rattle.std.proofs.Common.{◌≡◌, sym, ap, ◌∙◌, subst, ℕ, ◌+◌, Bool, true, false, Option, Some, None, Result, Ok, Err, List, [], ◌∷◌, All}
 use Rattle.std.specs.Prelude.{⊤, option_map, slice_index_or}
 use Rattle.std.proofs.lemmas.List.Elements.{All-nil, All-cons, All-head, All-tail}
 use Rattle.cube_space.specs.Layout.{Layout, axes}
@@ -53,6 +53,7 @@ module _ (space : Layout) (lines : List (Option (ℕ × OrderLine))) (files : Li
 
   line-one : (automatic : Bool) → automatic ≡ true → (cube : ℕ) (own rules : CubeRules) (line : Option (ℕ × OrderLine)) → HasOneOrder own → (by_line automatic space cube own line).finds rules
       → HasOneOrder rules
+  line-one false on cube own rules line one is = absurd (cc)
   line-one true on cube own rules None one is = ap (λ (r : CubeRules). r.order.totals) is ∙ one
   line-one true on cube own rules (Some (line, words)) one is = lag-one cube line own rules (lag_of (axes space cube) words.words) is
 
