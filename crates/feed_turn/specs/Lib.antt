@@ -1,0 +1,6 @@
+pub mod Sent
+pub mod Leaves
+pub mod Named
+pub mod Inverse
+pub mod Shift
+pub mod Inside

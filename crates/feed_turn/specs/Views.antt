@@ -1,0 +1,29 @@
+-- What is turned round, as the code has it.
+use Rattle.std.specs.Prelude.{◌≡◌, ℕ, ◌<◌, Option, Some, List, length, slice_get}
+use Rattle.cube_space.specs.Layout.{axes}
+use Rattle.cube_space.specs.Cells.{IsSpace}
+use Rattle.rule_model.specs.BoundModel.{BoundModel}
+use Rattle.rule_model.specs.declared.area.Area.{Area}
+use Rattle.rule_model.specs.Conditions.{IsArea, IsReference}
+use Rattle.feed_turn.specs.declared.turn_view.TurnView.{TurnView}
+use Rattle.feed_turn.specs.Turning.{Turn, area_over}
+
+abbrev pub turn_of : TurnView → Turn
+turn_of view = record {
+  space = view.model.now.space;
+  cube = view.cube;
+  area = view.area.now;
+  reference = view.reference.now;
+}
+
+-- a cube of the model, an area of it, and a reference from it
+pub record IsTurn (view : TurnView) : Type 0 where
+  pub valid : IsSpace view.model.now.space
+  pub cube : view.cube < length view.model.now.space.cubes
+  pub area : IsArea view.model.now.space view.cube view.area.now
+  pub reference : IsReference view.model.now.space view.cube view.reference.now
+
+-- what is known of an area of a cube, for each dimension: the element over its leaves, if it was asked for
+pub record AreOvers (model : BoundModel) (cube : ℕ) (area : Area) (overs : List (Option (Option ℕ))) : Type 0 where
+  pub whole : length overs ≡ length (axes model.space cube)
+  pub known : (i : ℕ) (over : Option ℕ) → slice_get overs i ≡ Some (Some over) → over ≡ area_over model.space cube area i
