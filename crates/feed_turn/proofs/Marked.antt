@@ -13,7 +13,7 @@ use Rattle.cube_space.specs.Cells.{is_leaf}
 use Rattle.feed_turn.specs.Sent.{sent}
 use Rattle.feed_turn.specs.Leaves.{all_elements}
 use Rattle.feed_turn.specs.Named.{is_named, names_each_leaf, named_set}
-use Rattle.feed_turn.specs.Inside.Slots.{marked_at}
+use Rattle.feed_turn.specs.Inside.Slots.{marked_at, marked_set}
 use Rattle.feed_turn.proofs.Ranges.{same-all, same-filter}
 
 -- of so many elements those are marked that a map names from these leaves
@@ -57,7 +57,7 @@ marked-more n to leaves leaf marks are inside = record {
 
 -- a list of marks, and the set that they make
 pub marks-set : (d : Outline) (to : List (Option ℕ)) (leaves : List ℕ) (marks : List Bool) → marks ≡ map (is_named to leaves) (range_with_len 0 (length d.elements))
-    → (if list_all (λ e. not (is_leaf d e) || get_or marks e false) (all_elements d) then None else Some (filter (λ e. get_or marks e false) (all_elements d))) ≡ named_set d to leaves
+    → marked_set d marks ≡ named_set d to leaves
 unfolding named_set
 marks-set d to leaves marks are =
     let n = length d.elements in

@@ -59,8 +59,6 @@ increases xs up j (suc k) less low =
     ]
 
 module _ (pairs : List (ℕ × ℤ)) (k : ℕ) (d : ℕ × ℤ) (low : k < length pairs) where
-  place : ℕ
-  place = (get_or pairs k d).0
 
   -- in a rising list no pair before has the same leaf
   not-before : IsRising pairs → has_leaf (take k pairs) (get_or pairs k d).0 ≡ false

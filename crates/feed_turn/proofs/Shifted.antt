@@ -18,4 +18,4 @@ shift-here size place element back d low some =
     ap (shift_from size place) (drop_more back place d low) ∙ ap (λ (o : Option ℕ). shift_from size place (o ∷ drop (place + 1) back)) some
 
 pub shift-none : (size place : ℕ) (back : List (Option ℕ)) → length back ≤ place → shift_from size place (drop place back) ≡ None
-shift-none size place back past = ap (shift_from size place) (drop_all back place past)
+shift-none size place back past = ap (shift_from size place) (drop_all place back past)

@@ -1,11 +1,9 @@
 ghost use Rattle.std.specs.Prelude.{◌≡◌, ◌<◌, ℕ, Some, false, filter, map, length, slice_index_or, IfOk};
-ghost use Rattle.std.specs.Prelude.{not, ◌||◌, ◌^◌, [], ◌∷◌, ◌++◌, IfSome, OnOk};
-ghost use Rattle.std.specs.List.{list_all, range_with_len};
-ghost use Rattle.cube_space.specs.Cells.{is_leaf};
+ghost use Rattle.std.specs.Prelude.{[], ◌∷◌, ◌++◌, IfSome, OnOk};
+ghost use Rattle.std.specs.List.{range_with_len};
 ghost use Rattle.feed_turn.specs.Sent.{sent};
-ghost use Rattle.feed_turn.specs.Leaves.{all_elements};
 ghost use Rattle.feed_turn.specs.Named.{is_named, named_set};
-ghost use Rattle.feed_turn.specs.Inside.Slots.{marked_at};
+ghost use Rattle.feed_turn.specs.Inside.Slots.{marked_at, has_each_leaf, marked_set};
 
 use dim_core::Dimension;
 use lists::ListOf;
@@ -26,11 +24,7 @@ pub fn named_set(
 {
     let mut marks = vec![in alloc; false; dimension.len() as usize]?;
     mark_named(&mut marks, to, leaves);
-    if has_each_leaf(dimension, &marks) {
-        return Ok(None);
-    }
-    let named = marked(alloc, &marks)?;
-    Ok(Some(ListOf::new(named)))
+    marked_set(alloc, dimension, &marks)
 }
 
 // Marks the elements to which a map sends these leaves.
@@ -57,8 +51,7 @@ fn mark(marks: &mut [bool], element: Option<u32>)
 // Whether each leaf of a dimension is marked.
 fn has_each_leaf(dimension: &Dimension, marks: &[bool]) -> bool
     requires { length marks.now ≡ length dimension.now.elements }
-    ensures { result ≡ list_all (λ e. not (is_leaf dimension.now e) || slice_index_or marks.now e false)
-        (all_elements dimension.now) }
+    ensures { result ≡ has_each_leaf dimension.now marks.now }
 {
     'each: for element in 0..dimension.len() {
         if dimension.is_leaf(element) && !marks[element as usize] {
@@ -68,14 +61,30 @@ fn has_each_leaf(dimension: &Dimension, marks: &[bool]) -> bool
     true
 }
 
-// The elements that are marked, rising.
-fn marked(alloc: Global, marks: &[bool]) -> Result<Vec<u32>, AllocError>
-    requires { length marks.now < 2 ^ 32 }
+// The elements that are marked, as a set of an area: where each leaf of the dimension is, it has all elements.
+fn marked_set(
+    alloc: Global,
+    dimension: &Dimension,
+    marks: &[bool],
+) -> Result<Option<ListOf<u32>>, AllocError>
+    requires { length marks.now ≡ length dimension.now.elements }
+    ensures { IfOk result (λ set. set ≡ marked_set dimension.now marks.now) }
+{
+    if has_each_leaf(dimension, marks) {
+        return Ok(None);
+    }
+    let named = marked(alloc, marks, dimension.len())?;
+    Ok(Some(ListOf::new(named)))
+}
+
+// Those of so many elements that are marked, rising.
+fn marked(alloc: Global, marks: &[bool], size: u32) -> Result<Vec<u32>, AllocError>
+    requires { length marks.now ≡ size }
     ensures { IfOk result (λ found. found.items
-        ≡ filter (λ e. slice_index_or marks.now e false) (range_with_len 0 (length marks.now))) }
+        ≡ filter (λ e. slice_index_or marks.now e false) (range_with_len 0 size)) }
 {
     let mut found = Vec::new(alloc);
-    'each: for element in 0..marks.len() as u32 {
+    'each: for element in 0..size {
         push_marked(&mut found, marks, element)?;
     }
     Ok(found)

@@ -109,12 +109,12 @@ IsPosition dimensions (Ranks dim ranks) =
     (dimension : Outline) × (slice_get dimensions dim ≡ Some dimension) × AreRanks dimension ranks
 
 -- these are the elements of a consolidated cell, and of a leaf cell that counts in it
-pub record IsLeafBelow (dimensions : List Outline) (cell leaf : List ℕ) : Type 0 where
-  pub cell : are_digits (sizes_of dimensions) cell ≡ true
-  pub leaf : are_digits (sizes_of dimensions) leaf ≡ true
-  pub total : are_leaves dimensions cell ≡ false
-  pub leaves : are_leaves dimensions leaf ≡ true
-  pub counts : coef_product dimensions cell leaf ≡ pos 0 → ⊥
+pub record IsLeafBelow (dimensions : List Outline) (above below : List ℕ) : Type 0 where
+  pub cell : are_digits (sizes_of dimensions) above ≡ true
+  pub leaf : are_digits (sizes_of dimensions) below ≡ true
+  pub total : are_leaves dimensions above ≡ false
+  pub leaves : are_leaves dimensions below ≡ true
+  pub counts : coef_product dimensions above below ≡ pos 0 → ⊥
 
 -- up to this position, the numbers of the leaf cell are those of the consolidated cell
 abbrev pub AreEqualBefore : Order → List ℕ → List ℕ → ℕ → Type 0

@@ -1,8 +1,11 @@
 -- The slots of the leaves of a dimension, each for the leaf that leads to it.
-use Rattle.std.specs.Prelude.{◌≡◌, ℕ, ◌<◌, ◌==◌, Bool, true, Option, Some, None, is_some, if◌then◌else◌, ℤ, List, length}
-use Rattle.std.specs.Prelude.{[], slice_index_or, slice_set}
-use Rattle.std.specs.List.{list_any}
+use Rattle.std.specs.Prelude.{◌≡◌, ℕ, ◌<◌, ◌==◌, Bool, true, false, not, ◌||◌, Option, Some, None, is_some, if◌then◌else◌, ℤ, List, length}
+use Rattle.std.specs.Prelude.{[], filter, slice_index_or, slice_set}
+use Rattle.std.specs.List.{list_any, list_all}
+use Rattle.dim_core.specs.Outline.{Outline}
 use Rattle.dim_weights.specs.Table.{leaves_in}
+use Rattle.cube_space.specs.Cells.{is_leaf}
+use Rattle.feed_turn.specs.Leaves.{all_elements}
 
 -- whether a leaf is among these pairs
 abbrev pub has_leaf : List (ℕ × ℤ) → ℕ → Bool
@@ -29,3 +32,12 @@ pairs_from weights (Some element) = leaves_in weights element
 abbrev pub marked_at : List Bool → Option ℕ → List Bool
 marked_at marks None = marks
 marked_at marks (Some element) = slice_set marks element true
+
+-- whether each leaf of a dimension is marked
+abbrev pub has_each_leaf : Outline → List Bool → Bool
+has_each_leaf d marks = list_all (λ e. not (is_leaf d e) || slice_index_or marks e false) (all_elements d)
+
+-- the elements that are marked, as a set of an area
+abbrev pub marked_set : Outline → List Bool → Option (List ℕ)
+marked_set d marks =
+    if has_each_leaf d marks then None else Some (filter (λ e. slice_index_or marks e false) (all_elements d))
