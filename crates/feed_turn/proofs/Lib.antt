@@ -5,3 +5,8 @@ pub mod Marked
 pub mod Shifted
 pub mod BackFacts
 pub mod SourceFacts
+pub mod Places
+pub mod Steps
+pub mod Found
+pub mod Shared
+pub mod Valid
