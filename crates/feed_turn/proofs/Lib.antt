@@ -10,3 +10,5 @@ pub mod Steps
 pub mod Found
 pub mod Shared
 pub mod Valid
+pub mod Overs
+pub mod Moves

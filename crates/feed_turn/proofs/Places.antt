@@ -1,14 +1,16 @@
 -- The sets of an area and the arguments of a reference, by the place of their dimension.
 use Rattle.std.proofs.Common.{◌≡◌, ap, ◌∙◌, sym, arith, refl, subst, ℕ, ℤ, zero, suc, ◌<◌, ◌≤◌, Option, Some, None, IfSome, inl, inr, List, [], ◌∷◌, length, get_or, All}
 use Rattle.std.specs.Prelude.{slice_get, slice_index_or, unwrap_or}
-use Rattle.std.specs.List.{AllZip}
+use Rattle.std.specs.List.{AllZip, cons_option}
 use Rattle.std.proofs.lemmas.Bool.{cases_lt}
-use Rattle.std.proofs.lemmas.List.{length-map, get_or_past}
-use Rattle.std.proofs.lemmas.Option.{unwrap_or-slice_get, get_or_from_slice_get, slice_get_within}
+use Rattle.std.proofs.lemmas.List.{length-map, get_or_past, get_or_default}
+use Rattle.std.proofs.lemmas.Option.{unwrap_or-slice_get, slice_get-get_or, slice_get_within}
 use Rattle.std.proofs.lemmas.Slice.Zip.{AllZip-long}
+use Rattle.lists.proofs.Found.{found_holds}
 use Rattle.dim_core.specs.Outline.{Outline}
 use Rattle.dim_weights.specs.Table.{IsWeightsOf}
-use Rattle.cube_space.specs.Layout.{Layout, axes, sizes, sizes_of}
+use Rattle.cube_space.specs.Layout.{Layout, axes, axes_of, dims_of, sizes, sizes_of}
+use Rattle.cube_space.specs.Cells.{IsSpace}
 use Rattle.rule_laws.specs.declared.reference.Reference.{Reference}
 use Rattle.rule_laws.specs.declared.reference.Arg.{Arg}
 use Rattle.rule_laws.specs.declared.reference.Arg.TheVariants.{Fixed, Moved}
@@ -82,3 +84,29 @@ table-at [] tables k t d all at = absurd (cc)
 table-at (o ∷ ds) [] k t d all at = absurd all
 table-at (o ∷ ds) (x ∷ tables) zero t d all at = let same : o ≡ d = cc in (omega arith, λ is. subst (λ (o : Outline). IsWeightsOf o t) same (subst (IsWeightsOf o) (sym is) all.0))
 table-at (o ∷ ds) (x ∷ tables) (suc k) t d all at = let (low, found) = table-at ds tables k t d all.1 at in (omega (arith, low), found)
+
+pub sets-long : (space : Layout) (cube : ℕ) (area : Area) → IsArea space cube area → length area.sets ≡ length (axes space cube)
+sets-long space cube area is = AllZip-long IsSet (sizes space cube) area.sets is ∙ axes-sizes space cube
+
+pub set-found : (sets own : List (Option (List ℕ))) (i : ℕ) (set : Option (List ℕ)) → sets ≡ own → i < length own → set ≡ slice_index_or sets i set → set ≡ slice_index_or own i None
+set-found sets own i set same low is = is ∙ ap (λ (xs : List (Option (List ℕ))). slice_index_or xs i set) same ∙ get_or_default own i set None low
+
+-- a dimension that was found in an equal space
+pub axis-here : (own space : Layout) (cube i : ℕ) (d : Outline) → own ≡ space → slice_get (axes own cube) i ≡ Some d → slice_get (axes space cube) i ≡ Some d
+axis-here own space cube i d same at = ap (λ (l : Layout). slice_get (axes l cube) i) (sym same) ∙ at
+
+pub arg-found : (args own : List Arg) (j : ℕ) (arg : Arg) → args ≡ own → j < length own → arg ≡ slice_index_or args j arg → slice_get own j ≡ Some arg
+arg-found args own j arg same low is = slice_get-get_or own j arg low ∙ ap Some (sym (is ∙ ap (λ (xs : List Arg). slice_index_or xs j arg) same))
+
+-- what holds of the dimensions of a space holds of those of a cube
+axes-all : (P : Outline → Type 0) (D : List Outline) (ks : List ℕ) (i : ℕ) (d : Outline) → All P D → slice_get (axes_of D ks) i ≡ Some d → P d
+axes-all P D [] i d all at = absurd (cc)
+axes-all P D (k ∷ ks) i d all at = by (λ j at. axes-all P D ks j d all at) (slice_get D k) refl i at
+  where
+    by : ((j : ℕ) → slice_get (axes_of D ks) j ≡ Some d → P d) → (o : Option Outline) → slice_get D k ≡ o → (i : ℕ) → slice_get (cons_option o (axes_of D ks)) i ≡ Some d → P d
+    by rest None e i at = rest i at
+    by rest (Some x) e zero at = let same : x ≡ d = cc in subst P same (found_holds P D k x all e)
+    by rest (Some x) e (suc i) at = rest i at
+
+pub few-elements : (space : Layout) (cube i : ℕ) (d : Outline) → IsSpace space → slice_get (axes space cube) i ≡ Some d → length d.elements ≤ 100000
+few-elements space cube i d valid at = axes-all (λ (d : Outline). length d.elements ≤ 100000) space.dimensions (dims_of space cube) i d (λ k e low. (valid.dimensions k e low).few) at

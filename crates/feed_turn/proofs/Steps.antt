@@ -26,7 +26,7 @@ sources-more turn args place arg sets set at is so =
     so ∙ ap (λ ss. sets ++ ss) (sources-next turn args place arg at ∙ ap (λ s. s ∷ rest) (sym is)) ∙ sym (append_assoc sets (set ∷ []) rest)
 
 pub sources-done : (turn : Turn) (args : List Arg) (place : ℕ) (sets : List (Option (List ℕ))) → length args ≤ place → source_sets turn 0 args ≡ sets ++ source_sets turn place (drop place args) → sets ≡ source_sets turn 0 args
-sources-done turn args place sets past so = sym (so ∙ ap (λ as. sets ++ source_sets turn place as) (drop_all place args past) ∙ append-nil sets)
+sources-done turn args place sets past so = sym (so ∙ ap (λ list. sets ++ source_sets turn place list) (drop_all place args past) ∙ append-nil sets)
 
 -- ---- the first way back
 
@@ -62,14 +62,14 @@ way-none turn dim args place past so = sym (so ∙ ap (first_way turn dim place)
 -- ---- all arguments
 
 found-push : (xs : List (Option Arg)) (args : List Arg) (arg : Arg) → all_found xs ≡ Some args → all_found (xs ++ Some arg ∷ []) ≡ Some (args ++ arg ∷ [])
-found-push [] args arg is = let same : [] ≡ args = cc in ap (λ as. Some (as ++ arg ∷ [])) same
+found-push [] args arg is = let same : [] ≡ args = cc in ap (λ list. Some (list ++ arg ∷ [])) same
 found-push (None ∷ xs) args arg is = absurd (cc)
 found-push (Some a ∷ xs) args arg is = by (all_found xs) refl is (found-push xs)
   where
-    by : (o : Option (List Arg)) → all_found xs ≡ o → option_map (λ rest. a ∷ rest) o ≡ Some args → ((as : List Arg) (arg : Arg) → all_found xs ≡ Some as → all_found (xs ++ Some arg ∷ []) ≡ Some (as ++ arg ∷ []))
+    by : (o : Option (List Arg)) → all_found xs ≡ o → option_map (λ rest. a ∷ rest) o ≡ Some args → ((list : List Arg) (arg : Arg) → all_found xs ≡ Some list → all_found (xs ++ Some arg ∷ []) ≡ Some (list ++ arg ∷ []))
         → option_map (λ rest. a ∷ rest) (all_found (xs ++ Some arg ∷ [])) ≡ Some (args ++ arg ∷ [])
     by None e is rest = absurd (cc)
-    by (Some as) e is rest = let same : a ∷ as ≡ args = cc in ap (option_map (λ rest. a ∷ rest)) (rest as arg e) ∙ ap (λ as. Some (as ++ arg ∷ [])) same
+    by (Some list) e is rest = let same : a ∷ list ≡ args = cc in ap (option_map (λ rest. a ∷ rest)) (rest list arg e) ∙ ap (λ list. Some (list ++ arg ∷ [])) same
 
 found-gap : (xs : List (Option Arg)) (k : ℕ) → slice_get xs k ≡ Some None → all_found xs ≡ None
 found-gap [] k at = absurd (cc)

@@ -71,7 +71,7 @@ find-below p (y ∷ xs) x n all is = by (p y) is (find-below p xs x n (λ k d lo
 elements-below : (d : Outline) → All (λ e. e < length d.elements) (all_elements d)
 elements-below d = all-range (λ e. e < length d.elements) (length d.elements) (λ k low. low)
 
-leaves-below : (d : Outline) (set : Option (List ℕ)) → IsSet (length d.elements) set → All (λ e. e < length d.elements) (set_leaves d set)
+pub leaves-below : (d : Outline) (set : Option (List ℕ)) → IsSet (length d.elements) set → All (λ e. e < length d.elements) (set_leaves d set)
 leaves-below d None is = All-filter (is_leaf d) (λ e. e < length d.elements) (all_elements d) (elements-below d)
 leaves-below d (Some listed) is = All-filter (is_leaf d) (λ e. e < length d.elements) listed is.1
 
@@ -183,16 +183,10 @@ module _ (space : Layout) (valid : IsSpace space) (cube : ℕ) (there : cube < l
   unfolding map_back
   back-valid i j to back at h = by (is_kept turn i j to) refl h
     where
-      size : ℕ
-      size = slice_index_or (sizes space cube) i 0
-
-      target : ℕ
-      target = slice_index_or (sizes space r.cube) j 0
-
       move : IsMove space cube r j i to
       move = move-at space cube r j i to is at
 
-      alike : is_shared turn i j ≡ true → target ≡ size
+      alike : is_shared turn i j ≡ true → slice_index_or (sizes space r.cube) j 0 ≡ slice_index_or (sizes space cube) i 0
       alike h =
           let (own_d, own_at) = axis-there (axes space cube) i move.followed in
           let (its_d, its_at) = axis-there (axes space r.cube) j move.target in
@@ -200,20 +194,20 @@ module _ (space : Layout) (valid : IsSpace space) (cube : ℕ) (there : cube < l
           let equal : own_d ≡ its_d = cc in
           size-at (axes space r.cube) j its_d its_at ∙ ap (λ (d : Outline). length d.elements) (sym equal) ∙ sym (size-at (axes space cube) i own_d own_at)
 
-      by : (b : Bool) → is_kept turn i j to ≡ b → (if b then Some to else option_map (short_form (is_shared turn i j)) (inverse_at turn i j to)) ≡ Some back → IsMap target size back
+      by : (b : Bool) → is_kept turn i j to ≡ b → (if b then Some to else option_map (short_form (is_shared turn i j)) (inverse_at turn i j to)) ≡ Some back → IsMap (slice_index_or (sizes space r.cube) j 0) (slice_index_or (sizes space cube) i 0) back
       by true kept h =
           let same : to ≡ back = cc in
           let e = alike (and_parts (is_shared turn i j) (keeps_each to) kept).0 in
-          let all : All (IsBelow target) to = (arg-inside (sizes space cube) (sizes space r.cube) r.args j (Moved i to) is.1 at).2 in
-          subst (IsMap target size) same (record { long = move.whole ∙ sym e; below = subst (λ n. All (IsBelow n) to) e all })
+          let all : All (IsBelow (slice_index_or (sizes space r.cube) j 0)) to = (arg-inside (sizes space cube) (sizes space r.cube) r.args j (Moved i to) is.1 at).2 in
+          subst (IsMap (slice_index_or (sizes space r.cube) j 0) (slice_index_or (sizes space cube) i 0)) same (record { long = move.whole ∙ sym e; below = subst (λ n. All (IsBelow n) to) e all })
       by false other h =
           let (own_d, own_at) = axis-there (axes space cube) i move.followed in
           let (its_d, its_at) = axis-there (axes space r.cube) j move.target in
           let (list, found, is_back) = mapped (short_form (is_shared turn i j)) (inverse_at turn i j to) back h in
           let found_d = ap (λ o. option_and_then (λ d. inverse d to (area_leaves space cube area i)) o) (sym its_at) ∙ found in
           let made = inverse-valid its_d to (area_leaves space cube area i) (length own_d.elements) list (leaves-inside i own_d own_at) found_d in
-          let sized : IsMap target size list = subst (λ n. IsMap n size list) (sym (size-at (axes space r.cube) j its_d its_at)) (subst (λ n. IsMap (length its_d.elements) n list) (sym (size-at (axes space cube) i own_d own_at)) made) in
-          subst (IsMap target size) is_back (short-valid (is_shared turn i j) target size list sized alike)
+          let sized : IsMap (slice_index_or (sizes space r.cube) j 0) (slice_index_or (sizes space cube) i 0) list = subst (λ n. IsMap n (slice_index_or (sizes space cube) i 0) list) (sym (size-at (axes space r.cube) j its_d its_at)) (subst (λ n. IsMap (length its_d.elements) n list) (sym (size-at (axes space cube) i own_d own_at)) made) in
+          subst (IsMap (slice_index_or (sizes space r.cube) j 0) (slice_index_or (sizes space cube) i 0)) is_back (short-valid (is_shared turn i j) (slice_index_or (sizes space r.cube) j 0) (slice_index_or (sizes space cube) i 0) list sized alike)
 
   way-valid : (i j : ℕ) (arg found : Arg) → slice_get r.args j ≡ Some arg → way_back turn i j arg ≡ Some found → IsTarget i found
   way-valid i j (Fixed t) found at h = absurd (cc)

@@ -1,8 +1,8 @@
 ghost use Rattle.std.specs.Prelude.{◌≡◌, ◌<◌, length, slice_get, slice_index_or, option_and_then, All, IfOk};
 ghost use Rattle.rule_model.specs.declared.area.Area.{Area as AnyArea};
 ghost use Rattle.cube_space.specs.Layout.{axes, sizes};
-ghost use Rattle.rule_model.specs.Conditions.{IsArea};
-ghost use Rattle.feed_turn.specs.Leaves.{over};
+ghost use Rattle.rule_model.specs.Conditions.{IsArea, IsSet};
+ghost use Rattle.feed_turn.specs.Leaves.{set_leaves, over};
 ghost use Rattle.feed_turn.specs.Turning.{area_leaves, area_over};
 ghost use Rattle.feed_turn.specs.Views.{AreOvers};
 
@@ -10,6 +10,8 @@ use crate::axes::weights;
 use crate::leaves::{all_leaves, leaves_among};
 use crate::over::over_leaves;
 use cube_space::{axis, axis_count};
+use dim_core::Dimension;
+use lists::ListOf;
 use rule_model::{Area, Model};
 use std::alloc::{AllocError, Global};
 
@@ -27,9 +29,21 @@ pub fn area_leaves(
     ensures { IfOk result (λ leaves. leaves.items ≡ area_leaves model.now.space cube area.now place) }
 {
     let dimension = axis(model.space(), cube, place);
-    match area.sets.as_slice().get(place as usize) {
-        Some(Some(listed)) => leaves_among(alloc, dimension, listed.as_slice()),
-        _ => all_leaves(alloc, dimension),
+    set_leaves(alloc, dimension, &area.sets.as_slice()[place as usize])
+}
+
+// The leaves among the elements that a set of an area has in its dimension.
+fn set_leaves(
+    alloc: Global,
+    dimension: &Dimension,
+    set: &Option<ListOf<u32>>,
+) -> Result<Vec<u32>, AllocError>
+    requires { IsSet (length dimension.now.elements) set.now }
+    ensures { IfOk result (λ leaves. leaves.items ≡ set_leaves dimension.now set.now) }
+{
+    match set {
+        Some(listed) => leaves_among(alloc, dimension, listed.as_slice()),
+        None => all_leaves(alloc, dimension),
     }
 }
 

@@ -58,8 +58,8 @@ fn sends_alike(map: &ElementMap, back: &[Option<u32>]) -> bool
     true
 }
 
-// Whether a map sends an element where it is to go.
-fn goes(map: &ElementMap, element: usize, target: Option<u32>) -> bool
+/// Whether a map sends an element where it is to go.
+pub fn goes(map: &ElementMap, element: usize, target: Option<u32>) -> bool
     ensures { result ≡ goes map.now element target }
 {
     match target {

@@ -1,4 +1,4 @@
-use Rattle.std.proofs.Common.{rules, ◌≡◌, ◌<◌, ◌∙◌, ◌++◌, ◌∷◌, [], ℕ, Bool, true, false, Option, Some, None, List, ap, sym, subst, arith, length, take, drop, get_or}
+use Rattle.std.proofs.Common.{rules, ◌≡◌, ◌<◌, ◌∙◌, ◌+◌, ◌++◌, ◌∷◌, [], ℕ, Bool, true, false, Option, Some, None, List, ap, sym, subst, arith, length, take, drop, get_or}
 use Rattle.std.proofs.lemmas.List.{take_more, take_all, with_items_is}
 use Rattle.feed_turn.specs.Sent.{sent}
 use Rattle.feed_turn.specs.Inverse.{is_one_to_one}

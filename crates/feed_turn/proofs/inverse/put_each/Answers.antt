@@ -1,7 +1,6 @@
 use Rattle.std.proofs.Common.{rules, ◌≡◌, ◌<◌, ◌∙◌, ℕ, ℤ, pos, true, None, Some, ap, sym, arith, length, get_or}
 use Rattle.std.specs.Prelude.{is_some}
 use Rattle.feed_turn.proofs.Pairs.{put-taken}
-use Rattle.lists.proofs.Places.{get_or_within}
 use Rattle.feed_turn.proofs.inverse.put_each.Goals as goal
 
 pub returns-then-is_some-clause-taken : goal.returns-then-is_some-clause-taken

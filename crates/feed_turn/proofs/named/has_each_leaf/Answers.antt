@@ -1,8 +1,7 @@
-use Rattle.std.proofs.Common.{◌≡◌, ◌<◌, ◌∙◌, ℕ, Bool, true, false, not, ◌||◌, ap, sym, refl, arith, get_or, length}
+use Rattle.std.proofs.Common.{rules, ◌≡◌, ◌<◌, ◌∙◌, ℕ, Bool, true, false, not, ◌||◌, ap, sym, refl, arith, get_or, length}
 use Rattle.std.proofs.lemmas.Bool.{or_left, or_right}
 use Rattle.cube_space.specs.Cells.{is_leaf}
 use Rattle.cube_space.proofs.LeafTests.{is_leaf-test}
-use Rattle.lists.proofs.Places.{get_or_within}
 use Rattle.feed_turn.proofs.Ranges.{all-fails, all-next}
 use Rattle.feed_turn.proofs.named.has_each_leaf.Goals as goal
 use Rattle.feed_turn.proofs.named.has_each_leaf.Goals.{else-is_leaf-via-then-is_leaf+else-not-marks-element, else-is_leaf-via-else-is_leaf}
