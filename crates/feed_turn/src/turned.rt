@@ -73,6 +73,8 @@ pub fn turned_feeder(
     requires view { IsTurn view }
     requires overs { AreOvers view.model.now view.cube view.area.now overs.old }
     ensures found { IfOk result (λ found. found ≡ turned_feeder (turn_of view.entry) statement) }
+    ensures valid { IfOk result (λ found. IfSome found
+        (IsFeeder view.entry.model.now.space view.entry.reference.now.cube)) }
     ensures overs { AreOvers view.entry.model.now view.entry.cube view.entry.area.now overs.new }
 {
     let Some(args) = target_args(alloc, view, overs)? else {

@@ -10,12 +10,12 @@ unfolding target_args
 returns-in-None-clause-args c =
     let view = c.args.view in
     let low : c.each.dim < length (axes view.model.now.space view.cube) = omega (arith, c.each-test.true, c.axis_count-dim-end.ensures.value, ap (λ (l : Layout). length (axes l view.cube)) c.space.ensures.space) in
-    args-gap (target_arg (turn_of view)) (length (axes view.model.now.space view.cube)) c.each.dim low (sym c.in_ok-target_arg.ensures.arg ∙ c.in-None.is)
+    args-gap (target_arg (turn_of view)) (length (axes view.model.now.space view.cube)) c.each.dim low (sym c.in_ok-arg.ensures.arg ∙ c.in-None.is)
 
 pub each-preserved : goal.each-preserved
 each-preserved c =
     let view = c.args.view in
     record {
-      found = args-more (target_arg (turn_of view)) c.each.dim c.each.args.items c.in-Some.arg (sym c.in_ok-target_arg.ensures.arg ∙ c.in-Some.is) c.each.invariant.found ∙ ap Some (sym c.in_ok-push-in-Some.ensures.items);
-      overs = c.in_ok-target_arg.ensures.overs;
+      found = args-more (target_arg (turn_of view)) c.each.dim c.each.args.items c.in-Some.arg (sym c.in_ok-arg.ensures.arg ∙ c.in-Some.is) c.each.invariant.found ∙ ap Some (sym c.in_ok-push-in-Some.ensures.items);
+      overs = c.in_ok-arg.ensures.overs;
     }
