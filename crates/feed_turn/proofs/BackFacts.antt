@@ -1,17 +1,16 @@
 -- The map back sends each leaf from which it is reached to the one that leads there.
-use Rattle.std.proofs.Common.{◌≡◌, ap, ◌∙◌, sym, arith, refl, subst, ℕ, zero, suc, ◌+◌, ◌<◌, ◌≤◌, Bool, true, false, ◌||◌, ◌&&◌, ◌==◌, Option, Some, None, List, [], ◌∷◌, length, get_or, map, filter, if◌then◌else◌, cond, nat_le, Contains}
+use Rattle.std.proofs.Common.{◌≡◌, ap, ◌∙◌, sym, arith, refl, ℕ, zero, suc, ◌<◌, ◌≤◌, Bool, true, false, ◌==◌, Option, Some, None, List, [], ◌∷◌, length, get_or, map, filter, if◌then◌else◌, cond, nat_le, Contains}
 use Rattle.std.specs.Prelude.{slice_get}
-use Rattle.std.specs.List.{list_all, list_any, range_with_len}
+use Rattle.std.specs.List.{list_all, range_with_len}
 use Rattle.std.specs.Option.{option_map_or}
 use Rattle.std.proofs.lemmas.Bool.{leb-true}
 use Rattle.std.proofs.lemmas.Bool.Decides.{Decides-eqb}
-use Rattle.std.proofs.lemmas.List.{length-map}
-use Rattle.std.proofs.lemmas.List.FromFn.{get_or-map-range_with_len, length-map-range_with_len, length-range_with_len}
+use Rattle.std.proofs.lemmas.List.FromFn.{get_or-map-range_with_len, length-map-range_with_len}
 use Rattle.std.proofs.lemmas.List.Sums.{AllPass-from_list_all}
 use Rattle.std.proofs.lemmas.Option.{unwrap_or-slice_get}
 use Rattle.dim_core.specs.Outline.{Outline}
 use Rattle.feed_turn.specs.Sent.{sent}
-use Rattle.feed_turn.specs.Leaves.{all_elements, counts}
+use Rattle.feed_turn.specs.Leaves.{counts}
 use Rattle.feed_turn.specs.Inverse.{leads, leading_to, is_one_to_one, only_leading, inverse}
 use Rattle.feed_turn.specs.Shift.{goes, sends_alike, shifted, shift_from, short_form}
 use Rattle.feed_turn.proofs.Ranges.{range-at, long}

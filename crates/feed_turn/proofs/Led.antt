@@ -1,7 +1,6 @@
 -- The slots of the leaves of a dimension, as the leaves of an area are put in.
-use Rattle.std.proofs.Common.{◌≡◌, ap, ◌∙◌, sym, arith, refl, subst, ℕ, zero, suc, ◌+◌, ◌<◌, ◌≤◌, Bool, true, false, Option, Some, None, ℤ, List, [], ◌∷◌, ◌++◌, length, get_or, take, drop, map, filter, replicate, if◌then◌else◌, cond, nat_le}
+use Rattle.std.proofs.Common.{◌≡◌, ap, ◌∙◌, sym, arith, refl, ℕ, ◌+◌, ◌<◌, ◌≤◌, Bool, true, false, Option, Some, None, ℤ, List, [], ◌∷◌, ◌++◌, length, get_or, take, drop, filter, replicate, if◌then◌else◌, cond, nat_le}
 use Rattle.std.specs.Prelude.{is_some, slice_get}
-use Rattle.std.specs.List.{list_all, range_with_len}
 use Rattle.std.specs.Option.{option_map_or}
 use Rattle.std.proofs.lemmas.Bool.{le-leb, lt-leb}
 use Rattle.std.proofs.lemmas.List.{append-nil, length-append, length-replicate, get_or-replicate, take-append-drop, take_more}
@@ -78,7 +77,7 @@ module _ (d : Outline) (to : List (Option ℕ)) (pairs : List (ℕ × ℤ)) (ele
       let first = filter-append (leads d to x) (leaves ++ element ∷ []) rest in
       let second = filter-append (leads d to x) leaves (element ∷ []) in
       let many : 1 < length (leading_to d to (leaves ++ element ∷ [] ++ rest) x) =
-          omega (arith, before, ap length first, ap length second, ap length here, length-append (filter (leads d to x) (leaves ++ element ∷ [])) (filter (leads d to x) rest), length-append (leading_to d to leaves x) (filter (leads d to x) (element ∷ []))) in
+      omega (arith, before, ap length first, ap length second, ap length here, length-append (filter (leads d to x) (leaves ++ element ∷ [])) (filter (leads d to x) rest), length-append (leading_to d to leaves x) (filter (leads d to x) (element ∷ []))) in
       all-fails (λ leaf. nat_le (length (leading_to d to (leaves ++ element ∷ [] ++ rest) leaf)) 1) (length d.elements) x inside (lt-leb (length (leading_to d to (leaves ++ element ∷ [] ++ rest) x)) 1 many)
 
 pub led-done : (d : Outline) (to : List (Option ℕ)) (leaves : List ℕ) (slots : List (Option ℕ)) → AreLed d to leaves slots → Some slots ≡ inverse d to leaves

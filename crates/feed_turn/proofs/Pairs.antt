@@ -1,10 +1,10 @@
 -- Elements that are put into the slots of leaves.
-use Rattle.std.proofs.Common.{◌≡◌, ap, ◌∙◌, sym, arith, refl, subst, ℕ, zero, suc, ◌+◌, ◌<◌, ◌≤◌, ◌⊎◌, inl, inr, Bool, true, false, ◌&&◌, ◌||◌, ◌==◌, Option, Some, None, ℤ, List, [], ◌∷◌, length, get_or, set, take, map, All, if◌then◌else◌, cond, eq-eqb}
+use Rattle.std.proofs.Common.{◌≡◌, ap, ◌∙◌, sym, arith, refl, subst, ℕ, zero, suc, ◌+◌, ◌<◌, inl, inr, Bool, true, false, ◌&&◌, ◌||◌, ◌==◌, Option, Some, None, ℤ, List, [], ◌∷◌, length, get_or, set, take, map, All, if◌then◌else◌, cond, eq-eqb}
 use Rattle.std.specs.Prelude.{is_some}
 use Rattle.std.specs.List.{list_any, range_with_len}
 use Rattle.std.specs.List.Sorted.{IsStrictlyIncreasing}
 use Rattle.std.proofs.Math.ListN.{length-set}
-use Rattle.std.proofs.lemmas.Bool.{cases_lt, ne_eqb, or_right}
+use Rattle.std.proofs.lemmas.Bool.{cases_lt, ne_eqb}
 use Rattle.std.proofs.lemmas.Bool.Decides.{Decides-eqb}
 use Rattle.std.proofs.lemmas.List.{get_or-set_same, get_or-set_other, get_or-take, get_or-map, length-map, length-take}
 use Rattle.std.proofs.lemmas.List.Folds.{list_any_at, list_any_more, list_any_none}
@@ -59,7 +59,6 @@ increases xs up j (suc k) less low =
     ]
 
 module _ (pairs : List (ℕ × ℤ)) (k : ℕ) (d : ℕ × ℤ) (low : k < length pairs) where
-
   -- in a rising list no pair before has the same leaf
   not-before : IsRising pairs → has_leaf (take k pairs) (get_or pairs k d).0 ≡ false
   not-before up = list_any_none (λ (pair : ℕ × ℤ). pair.0 == (get_or pairs k d).0) (take k pairs) other
@@ -79,11 +78,11 @@ module _ (pairs : List (ℕ × ℤ)) (k : ℕ) (d : ℕ × ℤ) (low : k < lengt
 
     pub put-taken : IsRising pairs → is_some (get_or cur (get_or pairs k d).0 None) ≡ true → IsTaken pairs old
     put-taken up on = (
-        (get_or pairs k d).0,
-        inside,
-        list_any_at (λ (pair : ℕ × ℤ). pair.0 == (get_or pairs k d).0) pairs k d low (eq-eqb (get_or pairs k d).0 (get_or pairs k d).0 refl),
-        ap is_some (sym (was (not-before up))) ∙ on,
-      )
+      (get_or pairs k d).0,
+      inside,
+      list_any_at (λ (pair : ℕ × ℤ). pair.0 == (get_or pairs k d).0) pairs k d low (eq-eqb (get_or pairs k d).0 (get_or pairs k d).0 refl),
+      ap is_some (sym (was (not-before up))) ∙ on,
+    )
 
     -- a slot that is free was so before
     was-free : get_or cur (get_or pairs k d).0 None ≡ None → (b : Bool) → has_leaf (take k pairs) (get_or pairs k d).0 ≡ b → get_or old (get_or pairs k d).0 None ≡ None

@@ -1,6 +1,6 @@
 -- The sets of an area and the arguments of a reference, by the place of their dimension.
 use Rattle.std.proofs.Common.{◌≡◌, ap, ◌∙◌, sym, arith, refl, subst, ℕ, ℤ, zero, suc, ◌<◌, ◌≤◌, Option, Some, None, IfSome, inl, inr, List, [], ◌∷◌, length, get_or, All}
-use Rattle.std.specs.Prelude.{slice_get, slice_index_or, unwrap_or}
+use Rattle.std.specs.Prelude.{slice_get, slice_index_or}
 use Rattle.std.specs.List.{AllZip, cons_option}
 use Rattle.std.proofs.lemmas.Bool.{cases_lt}
 use Rattle.std.proofs.lemmas.List.{length-map, get_or_past, get_or_default}
@@ -13,7 +13,7 @@ use Rattle.cube_space.specs.Layout.{Layout, axes, axes_of, dims_of, sizes, sizes
 use Rattle.cube_space.specs.Cells.{IsSpace}
 use Rattle.rule_laws.specs.declared.reference.Reference.{Reference}
 use Rattle.rule_laws.specs.declared.reference.Arg.{Arg}
-use Rattle.rule_laws.specs.declared.reference.Arg.TheVariants.{Fixed, Moved}
+use Rattle.rule_laws.specs.declared.reference.Arg.TheVariants.{Moved}
 use Rattle.rule_model.specs.declared.area.Area.{Area}
 use Rattle.rule_model.specs.Conditions.{IsSet, IsArea, IsArg, IsReference}
 use Rattle.feed_turn.specs.Sent.{sent}

@@ -1,9 +1,9 @@
 -- Tests of the elements of a dimension, one after another.
-use Rattle.std.proofs.Common.{◌≡◌, ap, ◌∙◌, sym, arith, refl, ◌&&◌, ℕ, zero, suc, ◌+◌, ◌<◌, Bool, true, false, Some, None, List, [], ◌∷◌, ◌++◌, length, get_or, filter, All, zero-add, subst, cond}
-use Rattle.std.specs.List.{list_all, list_any, range_with_len, find}
+use Rattle.std.proofs.Common.{◌≡◌, ap, ◌∙◌, sym, arith, refl, ◌&&◌, ℕ, suc, ◌+◌, ◌<◌, Bool, true, false, Some, None, List, [], ◌∷◌, ◌++◌, length, get_or, filter, All, zero-add, subst, cond}
+use Rattle.std.specs.List.{list_all, range_with_len, find}
 use Rattle.std.proofs.lemmas.Bool.{and_from}
 use Rattle.std.proofs.lemmas.List.Elements.{filter-append}
-use Rattle.std.proofs.lemmas.List.Folds.{list_all_at, list_any_at, list_all-append}
+use Rattle.std.proofs.lemmas.List.Folds.{list_all_at, list_all-append}
 use Rattle.std.proofs.lemmas.List.FromFn.{get_or-range_with_len, length-range_with_len}
 use Rattle.std.proofs.lemmas.List.Sums.{list_all-from_AllPass}
 use Rattle.dim_core.proofs.Keys.{find-position, find-none}

@@ -1,5 +1,5 @@
 -- Maps that move all elements as far.
-use Rattle.std.proofs.Common.{◌≡◌, ap, ◌∙◌, sym, arith, refl, ℕ, ◌+◌, ◌<◌, ◌≤◌, ◌==◌, true, false, eq-eqb, Option, Some, None, List, [], ◌∷◌, length, get_or, drop}
+use Rattle.std.proofs.Common.{◌≡◌, ap, ◌∙◌, sym, refl, ℕ, ◌+◌, ◌<◌, ◌≤◌, ◌==◌, true, false, eq-eqb, Option, Some, None, List, ◌∷◌, length, get_or, drop}
 use Rattle.std.proofs.lemmas.List.{drop_more, drop_all}
 use Rattle.std.specs.Option.{option_map_or}
 use Rattle.std.proofs.lemmas.Option.{unwrap_or-slice_get}

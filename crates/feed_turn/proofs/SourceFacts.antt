@@ -1,6 +1,6 @@
 -- What is named is among the sources, and the element over leaves has them.
-use Rattle.std.proofs.Common.{◌≡◌, ap, ◌∙◌, sym, arith, refl, subst, ℕ, zero, suc, ◌+◌, ◌<◌, Bool, true, false, not, ◌||◌, ◌&&◌, ◌==◌, Option, Some, None, List, [], ◌∷◌, length, get_or, filter, filter_map, if◌then◌else◌, cond, Contains, eq-eqb}
-use Rattle.std.specs.List.{list_any, list_all, range_with_len, find, cons_option}
+use Rattle.std.proofs.Common.{◌≡◌, ap, ◌∙◌, sym, arith, refl, subst, ℕ, zero, suc, ◌<◌, Bool, true, false, not, ◌||◌, ◌==◌, Option, Some, None, List, [], ◌∷◌, length, filter, filter_map, if◌then◌else◌, cond, Contains, eq-eqb}
+use Rattle.std.specs.List.{list_any, list_all, find, cons_option}
 use Rattle.std.proofs.lemmas.Bool.{and_parts, or_right}
 use Rattle.std.proofs.lemmas.List.Folds.{list_any_at}
 use Rattle.std.proofs.lemmas.List.Sums.{AllPass-from_list_all}

@@ -1,13 +1,12 @@
 -- The arguments of a turned reference, one after another.
-use Rattle.std.proofs.Common.{◌≡◌, ap, ◌∙◌, sym, arith, refl, subst, ℕ, zero, suc, ◌+◌, ◌<◌, ◌≤◌, Bool, true, false, Option, Some, None, option_map, List, [], ◌∷◌, ◌++◌, length, get_or, map, drop, take}
-use Rattle.std.specs.Prelude.{slice_get, slice_index_or, is_some}
+use Rattle.std.proofs.Common.{◌≡◌, ap, ◌∙◌, sym, arith, refl, ℕ, zero, suc, ◌+◌, ◌<◌, ◌≤◌, true, false, Option, Some, None, option_map, List, [], ◌∷◌, ◌++◌, length, map, drop}
+use Rattle.std.specs.Prelude.{slice_get, is_some}
 use Rattle.std.specs.List.{range_with_len}
 use Rattle.std.specs.Option.{option_or}
-use Rattle.std.proofs.lemmas.List.{drop_more, drop_all, append_assoc, append-nil, take-append-drop}
-use Rattle.std.proofs.lemmas.List.FromFn.{map-range_with_len_more, get_or-map-range_with_len, length-map-range_with_len, take-map-range_with_len}
+use Rattle.std.proofs.lemmas.List.{drop_more, drop_all, append_assoc, append-nil}
+use Rattle.std.proofs.lemmas.List.FromFn.{map-range_with_len_more, get_or-map-range_with_len, length-map-range_with_len}
 use Rattle.std.proofs.lemmas.Option.{get_or_from_slice_get, slice_get_within}
 use Rattle.rule_laws.specs.declared.reference.Arg.{Arg}
-use Rattle.rule_laws.specs.declared.reference.Arg.TheVariants.{Fixed}
 use Rattle.feed_turn.specs.Turning.{Turn, source_set, source_sets, way_back, first_way, all_found}
 
 -- ---- the sources

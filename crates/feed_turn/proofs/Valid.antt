@@ -1,19 +1,18 @@
 -- The feeder that is found is one of the reference's cube.
-use Rattle.std.proofs.Common.{◌≡◌, ap, ◌∙◌, sym, arith, refl, subst, ℕ, zero, suc, ◌+◌, ◌-◌, ◌<◌, ◌≤◌, Bool, true, false, not, ◌&&◌, ◌==◌, Option, Some, None, IfSome, option_map, List, [], ◌∷◌, length, get_or, map, filter, if◌then◌else◌, cond, nat_lt, Contains, All}
+use Rattle.std.proofs.Common.{◌≡◌, ap, ◌∙◌, sym, arith, refl, subst, ℕ, zero, suc, ◌+◌, ◌-◌, ◌<◌, Bool, true, false, ◌==◌, Option, Some, None, IfSome, option_map, List, [], ◌∷◌, length, get_or, map, filter, if◌then◌else◌, cond, nat_lt, All}
 use Rattle.std.specs.Prelude.{slice_get, slice_index_or, option_and_then}
-use Rattle.std.specs.List.{list_all, range_with_len, find, AllZip}
-use Rattle.std.specs.List.Sorted.{IsStrictlyIncreasing}
+use Rattle.std.specs.List.{range_with_len, find, AllZip}
 use Rattle.std.specs.Option.{option_map_or, option_or}
 use Rattle.std.proofs.lemmas.Bool.{and_parts, ltb-true}
 use Rattle.std.proofs.lemmas.Bool.Decides.{Decides-eqb}
 use Rattle.std.proofs.lemmas.List.{length-map}
-use Rattle.std.proofs.lemmas.List.Elements.{All-filter, All-map, All-contains}
-use Rattle.std.proofs.lemmas.List.FromFn.{get_or-map-range_with_len, length-map-range_with_len, length-range_with_len}
+use Rattle.std.proofs.lemmas.List.Elements.{All-filter, All-map}
+use Rattle.std.proofs.lemmas.List.FromFn.{get_or-map-range_with_len, length-map-range_with_len}
 use Rattle.std.proofs.lemmas.Option.{get_or_from_slice_get, slice_get_within, unwrap_or-slice_get}
 use Rattle.lists.proofs.Found.{mapped}
 use Rattle.lists.proofs.Members.{kept_increases}
 use Rattle.dim_core.specs.Outline.{Outline}
-use Rattle.cube_space.specs.Layout.{Layout, axes, sizes, dims_of}
+use Rattle.cube_space.specs.Layout.{Layout, axes, sizes}
 use Rattle.cube_space.specs.Cells.{IsSpace, is_leaf}
 use Rattle.rule_laws.specs.Maps.{identity, behind, before, place_behind, place_before}
 use Rattle.rule_laws.specs.declared.reference.Reference.{Reference}
@@ -22,12 +21,11 @@ use Rattle.rule_laws.specs.declared.reference.Arg.TheVariants.{Fixed, Moved}
 use Rattle.rule_model.specs.declared.area.Area.{Area}
 use Rattle.rule_model.specs.declared.rules.Feeder.{Feeder}
 use Rattle.rule_model.specs.Conditions.{IsSet, IsArea, IsArg, IsReference, IsFeeder}
-use Rattle.feed_turn.specs.Sent.{sent}
-use Rattle.feed_turn.specs.Leaves.{all_elements, set_elements, set_leaves, is_total_over, least_total, over}
+use Rattle.feed_turn.specs.Leaves.{all_elements, set_leaves, is_total_over, over}
 use Rattle.feed_turn.specs.Named.{is_named, names_each_leaf, named_set}
 use Rattle.feed_turn.specs.Inverse.{leads, leading_to, inverse}
 use Rattle.feed_turn.specs.Shift.{shift, shift_from, sends_alike, shifted, short_form}
-use Rattle.feed_turn.specs.Turning.{Turn, area_leaves, area_over, source_set, source_sets, source_area, is_shared, keeps_each, is_kept, inverse_at, map_back, way_back, first_way, target_arg, all_found, target_args, feeder_to, turned_feeder}
+use Rattle.feed_turn.specs.Turning.{Turn, area_leaves, area_over, source_set, source_sets, source_area, is_shared, keeps_each, is_kept, inverse_at, map_back, way_back, first_way, target_arg, target_args, feeder_to, turned_feeder}
 use Rattle.feed_turn.proofs.Ranges.{all-range}
 use Rattle.feed_turn.proofs.Places.{axes-sizes, size-at, axis-there, set-inside, arg-inside, args-long, IsMove, move-at}
 use Rattle.feed_turn.proofs.BackFacts.{back-long, back-at}

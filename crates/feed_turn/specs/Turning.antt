@@ -1,5 +1,5 @@
 -- The one feeder that covers a reference of a statement: the reference turned round.
-use Rattle.std.specs.Prelude.{ℕ, suc, ◌==◌, Bool, false, ◌&&◌, Option, Some, None, option_map, option_and_then}
+use Rattle.std.specs.Prelude.{ℕ, suc, ◌==◌, Bool, ◌&&◌, Option, Some, None, option_map, option_and_then}
 use Rattle.std.specs.Prelude.{if◌then◌else◌, List, [], ◌∷◌, length, map, slice_get, slice_index_or}
 use Rattle.std.specs.List.{list_all, range_with_len}
 use Rattle.std.specs.Option.{option_or, option_map_or}
@@ -9,7 +9,6 @@ use Rattle.rule_laws.specs.declared.reference.Arg.{Arg}
 use Rattle.rule_laws.specs.declared.reference.Arg.TheVariants.{Fixed, Moved}
 use Rattle.rule_model.specs.declared.area.Area.{Area}
 use Rattle.rule_model.specs.declared.rules.Feeder.{Feeder}
-use Rattle.feed_turn.specs.Sent.{sent}
 use Rattle.feed_turn.specs.Leaves.{set_leaves, over}
 use Rattle.feed_turn.specs.Named.{named_set}
 use Rattle.feed_turn.specs.Inverse.{inverse}

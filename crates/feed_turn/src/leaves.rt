@@ -33,11 +33,7 @@ pub fn all_leaves(alloc: Global, dimension: &Dimension) -> Result<Vec<u32>, Allo
 }
 
 // Adds an element, if it is a leaf.
-fn push_leaf(
-    leaves: &mut Vec<u32>,
-    dimension: &Dimension,
-    element: u32,
-) -> Result<(), AllocError>
+fn push_leaf(leaves: &mut Vec<u32>, dimension: &Dimension, element: u32) -> Result<(), AllocError>
     requires { element < length dimension.now.elements }
     ensures { OnOk result
         (leaves.new.items ≡ leaves.old.items ++ filter (is_leaf dimension.now) (element ∷ [])) }

@@ -7,7 +7,11 @@ use std::alloc::{AllocError, Global};
 /// The map of this list. One that stays within a dimension has its short form: it moves all elements as far, if it
 /// sends those that are sent alike.
 #[tactic(auto, unfolding(crate::specs::Shift::short_form))]
-pub fn short_form(alloc: Global, stays: bool, back: Vec<Option<u32>>) -> Result<ElementMap, AllocError>
+pub fn short_form(
+    alloc: Global,
+    stays: bool,
+    back: Vec<Option<u32>>,
+) -> Result<ElementMap, AllocError>
     requires { length back.items < 2 ^ 32 }
     ensures { IfOk result (λ map. map ≡ short_form stays back.items) }
 {

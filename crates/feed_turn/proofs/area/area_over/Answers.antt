@@ -1,4 +1,4 @@
-use Rattle.std.proofs.Common.{◌≡◌, ◌<◌, ◌∙◌, ℕ, List, All, ap, sym, subst, arith, length}
+use Rattle.std.proofs.Common.{◌<◌, ◌∙◌, ℕ, List, All, ap, sym, subst, arith}
 use Rattle.std.specs.Prelude.{slice_get, slice_index_or, option_and_then}
 use Rattle.cube_space.specs.Layout.{axes, sizes}
 use Rattle.feed_turn.specs.Leaves.{over}

@@ -1,5 +1,4 @@
-use Rattle.std.proofs.Common.{rules, ◌≡◌, ◌<◌, ◌∙◌, ℕ, true, ap, sym, arith, length}
-use Rattle.std.specs.Prelude.{slice_get, is_some}
+use Rattle.std.proofs.Common.{rules, ◌≡◌, ◌<◌, ◌∙◌, true, ap, sym, arith, length}
 use Rattle.cube_space.specs.Layout.{Layout, axes}
 use Rattle.feed_turn.specs.Views.{turn_of}
 use Rattle.feed_turn.proofs.Places.{args-long, arg-found}

@@ -1,4 +1,4 @@
-use Rattle.std.proofs.Common.{rules, ◌≡◌, ◌<◌, ◌∙◌, ℕ, true, false, Some, ap, sym, arith, length}
+use Rattle.std.proofs.Common.{rules, ◌≡◌, ◌∙◌, true, false, Some, sym, arith, length}
 use Rattle.feed_turn.specs.Shift.{goes}
 use Rattle.feed_turn.proofs.Ranges.{all-fails, all-next}
 use Rattle.feed_turn.proofs.Shifted.{keeps-identity}

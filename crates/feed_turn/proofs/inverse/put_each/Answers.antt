@@ -1,4 +1,4 @@
-use Rattle.std.proofs.Common.{rules, ◌≡◌, ◌<◌, ◌∙◌, ℕ, ℤ, pos, true, None, Some, ap, sym, arith, length, get_or}
+use Rattle.std.proofs.Common.{◌≡◌, ◌∙◌, pos, true, None, sym, get_or}
 use Rattle.std.specs.Prelude.{is_some}
 use Rattle.feed_turn.proofs.Pairs.{put-taken}
 use Rattle.feed_turn.proofs.inverse.put_each.Goals as goal

@@ -1,4 +1,4 @@
-use Rattle.std.proofs.Common.{rules, ◌≡◌, ◌<◌, ◌∙◌, ℕ, Bool, true, false, not, ◌||◌, ap, sym, refl, arith, get_or, length}
+use Rattle.std.proofs.Common.{rules, ◌≡◌, ◌<◌, ◌∙◌, Bool, true, false, not, ◌||◌, ap, sym, refl, arith, get_or, length}
 use Rattle.std.proofs.lemmas.Bool.{or_left, or_right}
 use Rattle.cube_space.specs.Cells.{is_leaf}
 use Rattle.cube_space.proofs.LeafTests.{is_leaf-test}
@@ -30,8 +30,8 @@ each-preserved c =
     let test = is_leaf-test d k c.is_leaf.result c.is_leaf.ensures in
     elim c.else-is_leaf.branch [
       | else-is_leaf-via-then-is_leaf+else-not-marks-element w ↦
-        let set : get_or c.args.marks.now k false ≡ true = search rules in
-        all-next (λ e. not (is_leaf d e) || get_or c.args.marks.now e false) k c.each.invariant (or_right (not (is_leaf d k)) (get_or c.args.marks.now k false) set)
+          let set : get_or c.args.marks.now k false ≡ true = search rules in
+          all-next (λ e. not (is_leaf d e) || get_or c.args.marks.now e false) k c.each.invariant (or_right (not (is_leaf d k)) (get_or c.args.marks.now k false) set)
       | else-is_leaf-via-else-is_leaf w ↦
-        all-next (λ e. not (is_leaf d e) || get_or c.args.marks.now e false) k c.each.invariant (or_left (not (is_leaf d k)) (get_or c.args.marks.now k false) (ap not (sym test ∙ w.if-is_leaf.false)))
+          all-next (λ e. not (is_leaf d e) || get_or c.args.marks.now e false) k c.each.invariant (or_left (not (is_leaf d k)) (get_or c.args.marks.now k false) (ap not (sym test ∙ w.if-is_leaf.false)))
     ]

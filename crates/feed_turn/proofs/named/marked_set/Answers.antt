@@ -1,7 +1,6 @@
-use Rattle.std.proofs.Common.{rules, ◌≡◌, ◌∙◌, ℕ, Bool, true, false, Option, Some, None, List, ap, sym, if◌then◌else◌, filter, get_or}
+use Rattle.std.proofs.Common.{rules, ◌≡◌, ◌∙◌, true, false, Some, None, ap, sym, if◌then◌else◌, filter, get_or}
 use Rattle.std.specs.List.{range_with_len}
 use Rattle.feed_turn.specs.Leaves.{all_elements}
-use Rattle.feed_turn.specs.Inside.Slots.{has_each_leaf}
 use Rattle.feed_turn.proofs.named.marked_set.Goals as goal
 
 pub returns-then-has_each_leaf : goal.returns-then-has_each_leaf

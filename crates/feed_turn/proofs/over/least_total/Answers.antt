@@ -1,4 +1,4 @@
-use Rattle.std.proofs.Common.{rules, ◌≡◌, ◌<◌, ◌∙◌, ℕ, true, ap, sym, arith, length}
+use Rattle.std.proofs.Common.{rules, ◌≡◌, ◌∙◌, true, sym, arith, length}
 use Rattle.feed_turn.specs.Leaves.{is_total_over}
 use Rattle.feed_turn.proofs.Ranges.{found-first, found-none}
 use Rattle.feed_turn.proofs.over.least_total.Goals as goal

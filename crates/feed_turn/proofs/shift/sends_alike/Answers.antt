@@ -1,4 +1,4 @@
-use Rattle.std.proofs.Common.{rules, ◌≡◌, ◌<◌, ◌∙◌, ℕ, true, false, None, ap, sym, arith, length, get_or}
+use Rattle.std.proofs.Common.{rules, ◌≡◌, ◌∙◌, true, false, None, ap, sym, length}
 use Rattle.feed_turn.specs.Sent.{sent}
 use Rattle.feed_turn.specs.Shift.{goes}
 use Rattle.feed_turn.proofs.Ranges.{all-fails, all-next}

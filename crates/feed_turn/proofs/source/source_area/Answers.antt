@@ -1,5 +1,4 @@
-use Rattle.std.proofs.Common.{◌≡◌, ◌<◌, ◌∙◌, ◌++◌, ◌+◌, ℕ, Option, List, ap, sym, arith, length, drop}
-use Rattle.std.specs.Prelude.{slice_get}
+use Rattle.std.proofs.Common.{◌<◌, ◌∙◌, ◌++◌, ◌+◌, ℕ, Option, List, ap, sym, arith, length, drop}
 use Rattle.cube_space.specs.Layout.{Layout, axes}
 use Rattle.rule_model.specs.declared.area.Area.{Area}
 use Rattle.feed_turn.specs.Turning.{source_sets, source_area}
@@ -32,5 +31,5 @@ unfolding source_area
 returns c =
     let view = c.args.view in
     let done = sources-done (turn_of view) view.reference.now.args c.each.place c.each.sets.items
-        (omega (arith, c.each-test.false, c.axis_count-place-end.ensures.value, ap (λ (l : Layout). length (axes l view.reference.now.cube)) c.space.ensures.space, args-long view.model.now.space view.cube view.reference.now c.requires.reference)) c.each.invariant in
+    (omega (arith, c.each-test.false, c.axis_count-place-end.ensures.value, ap (λ (l : Layout). length (axes l view.reference.now.cube)) c.space.ensures.space, args-long view.model.now.space view.cube view.reference.now c.requires.reference)) c.each.invariant in
     ap (λ (sets : List (Option (List ℕ))). let area : Area = record { sets = sets } in area) (c.new.ensures ∙ done)

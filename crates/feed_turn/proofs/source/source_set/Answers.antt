@@ -1,4 +1,4 @@
-use Rattle.std.proofs.Common.{◌≡◌, ◌<◌, ◌∙◌, Some, ap, sym, subst, arith, length}
+use Rattle.std.proofs.Common.{◌<◌, ◌∙◌, Some, ap, sym, subst, arith, length}
 use Rattle.cube_space.specs.Layout.{Layout, axes}
 use Rattle.feed_turn.proofs.Places.{move-at, size-at, axis-here}
 use Rattle.feed_turn.proofs.source.source_set.Goals as goal

@@ -1,4 +1,4 @@
-use Rattle.std.proofs.Common.{◌≡◌, ◌<◌, ◌∙◌, Some, ap, sym, arith, length}
+use Rattle.std.proofs.Common.{◌<◌, ◌∙◌, Some, ap, sym, arith, length}
 use Rattle.cube_space.specs.Layout.{Layout, axes}
 use Rattle.feed_turn.specs.Turning.{target_arg, target_args}
 use Rattle.feed_turn.specs.Views.{turn_of}
