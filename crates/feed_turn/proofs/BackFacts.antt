@@ -9,7 +9,7 @@ use Rattle.std.proofs.lemmas.List.FromFn.{get_or-map-range_with_len, length-map-
 use Rattle.std.proofs.lemmas.List.Sums.{AllPass-from_list_all}
 use Rattle.std.proofs.lemmas.Option.{unwrap_or-slice_get}
 use Rattle.dim_core.specs.Outline.{Outline}
-use Rattle.feed_turn.specs.Sent.{sent}
+use Rattle.cover_laws.specs.Looking.{sent}
 use Rattle.feed_turn.specs.Leaves.{counts}
 use Rattle.feed_turn.specs.Inverse.{leads, leading_to, is_one_to_one, only_leading, inverse}
 use Rattle.feed_turn.specs.Shift.{goes, sends_alike, shifted, shift_from, short_form}

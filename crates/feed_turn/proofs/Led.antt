@@ -8,7 +8,7 @@ use Rattle.std.proofs.lemmas.List.Elements.{filter-append}
 use Rattle.std.proofs.lemmas.List.FromFn.{fill_by_all}
 use Rattle.dim_core.specs.Outline.{Outline}
 use Rattle.dim_weights.specs.Table.{IsWeightsOf}
-use Rattle.feed_turn.specs.Sent.{sent}
+use Rattle.cover_laws.specs.Looking.{sent}
 use Rattle.feed_turn.specs.Leaves.{counts}
 use Rattle.feed_turn.specs.Inverse.{leads, leading_to, is_one_to_one, only_leading, inverse}
 use Rattle.feed_turn.specs.Inside.Slots.{has_leaf, pairs_from, IsPut, IsTaken}

@@ -12,3 +12,4 @@ pub mod Shared
 pub mod Valid
 pub mod Overs
 pub mod Moves
+pub mod Law

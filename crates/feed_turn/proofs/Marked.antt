@@ -9,7 +9,7 @@ use Rattle.std.proofs.lemmas.List.Folds.{list_any-append}
 use Rattle.std.proofs.lemmas.List.FromFn.{get_or-map-range_with_len}
 use Rattle.dim_core.specs.Outline.{Outline}
 use Rattle.cube_space.specs.Cells.{is_leaf}
-use Rattle.feed_turn.specs.Sent.{sent}
+use Rattle.cover_laws.specs.Looking.{sent}
 use Rattle.feed_turn.specs.Leaves.{all_elements}
 use Rattle.feed_turn.specs.Named.{is_named, names_each_leaf, named_set}
 use Rattle.feed_turn.specs.Inside.Slots.{marked_at, marked_set}

@@ -16,7 +16,7 @@ use Rattle.rule_laws.specs.declared.reference.Arg.{Arg}
 use Rattle.rule_laws.specs.declared.reference.Arg.TheVariants.{Moved}
 use Rattle.rule_model.specs.declared.area.Area.{Area}
 use Rattle.rule_model.specs.Conditions.{IsSet, IsArea, IsArg, IsReference}
-use Rattle.feed_turn.specs.Sent.{sent}
+use Rattle.cover_laws.specs.Looking.{sent}
 
 pub axes-sizes : (space : Layout) (cube : ℕ) → length (sizes space cube) ≡ length (axes space cube)
 axes-sizes space cube = length-map (axes space cube) (λ d. length d.elements)

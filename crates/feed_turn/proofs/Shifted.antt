@@ -5,7 +5,7 @@ use Rattle.std.specs.Option.{option_map_or}
 use Rattle.std.proofs.lemmas.Option.{unwrap_or-slice_get}
 use Rattle.rule_laws.specs.Maps.{identity}
 use Rattle.rule_laws.proofs.MapFacts.{inside}
-use Rattle.feed_turn.specs.Sent.{sent}
+use Rattle.cover_laws.specs.Looking.{sent}
 use Rattle.feed_turn.specs.Shift.{shift, shift_from, goes}
 use Rattle.feed_turn.specs.Turning.{keeps_each}
 use Rattle.feed_turn.proofs.Ranges.{all-passes}

@@ -7,7 +7,7 @@ use Rattle.std.proofs.lemmas.List.Sums.{AllPass-from_list_all}
 use Rattle.dim_core.specs.Outline.{Outline}
 use Rattle.cube_space.specs.Cells.{is_leaf}
 use Rattle.lists.proofs.Members.{kept_member}
-use Rattle.feed_turn.specs.Sent.{sent}
+use Rattle.cover_laws.specs.Looking.{sent}
 use Rattle.feed_turn.specs.Leaves.{all_elements, counts, is_total_over, least_total, over}
 use Rattle.feed_turn.specs.Named.{is_named, names_each_leaf, named_set}
 

@@ -4,7 +4,7 @@ use Rattle.std.specs.Prelude.{slice_get}
 use Rattle.std.specs.List.{list_all}
 use Rattle.std.specs.Option.{option_map_or}
 use Rattle.dim_core.specs.Outline.{Outline}
-use Rattle.feed_turn.specs.Sent.{sent}
+use Rattle.cover_laws.specs.Looking.{sent}
 use Rattle.feed_turn.specs.Leaves.{all_elements, counts}
 
 -- whether a map sends an element to one of a dimension in which this leaf counts

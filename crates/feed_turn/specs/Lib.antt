@@ -1,4 +1,3 @@
-pub mod Sent
 pub mod Leaves
 pub mod Named
 pub mod Inverse

@@ -3,7 +3,7 @@ use Rattle.std.specs.Prelude.{ℕ, ◌==◌, Bool, not, ◌||◌, Option, Some, 
 use Rattle.std.specs.List.{list_any, list_all}
 use Rattle.dim_core.specs.Outline.{Outline}
 use Rattle.cube_space.specs.Cells.{is_leaf}
-use Rattle.feed_turn.specs.Sent.{sent}
+use Rattle.cover_laws.specs.Looking.{sent}
 use Rattle.feed_turn.specs.Leaves.{all_elements}
 
 -- whether a map sends one of these leaves to an element

@@ -4,7 +4,7 @@ use Rattle.std.specs.Prelude.{List, [], ◌∷◌, length}
 use Rattle.std.specs.List.{list_all, range_with_len}
 use Rattle.std.specs.Option.{option_map_or}
 use Rattle.rule_laws.specs.Maps.{identity, behind, before}
-use Rattle.feed_turn.specs.Sent.{sent}
+use Rattle.cover_laws.specs.Looking.{sent}
 
 -- the map of so many elements that moves each as far as from the one place to the other
 abbrev pub shift : ℕ → ℕ → ℕ → List (Option ℕ)

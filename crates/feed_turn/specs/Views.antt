@@ -6,7 +6,7 @@ use Rattle.rule_model.specs.BoundModel.{BoundModel}
 use Rattle.rule_model.specs.declared.area.Area.{Area}
 use Rattle.rule_model.specs.Conditions.{IsArea, IsReference}
 use Rattle.feed_turn.specs.declared.turn_view.TurnView.{TurnView}
-use Rattle.feed_turn.specs.Sent.{sent}
+use Rattle.cover_laws.specs.Looking.{sent}
 use Rattle.feed_turn.specs.Turning.{Turn, area_over}
 
 abbrev pub turn_of : TurnView → Turn
@@ -35,4 +35,5 @@ pub record IsMoved (view : TurnView) (dim place : ℕ) (to : List (Option ℕ)) 
 -- what is known of an area of a cube, for each dimension: the element over its leaves, if it was asked for
 pub record AreOvers (model : BoundModel) (cube : ℕ) (area : Area) (overs : List (Option (Option ℕ))) : Type 0 where
   pub whole : length overs ≡ length (axes model.space cube)
-  pub known : (i : ℕ) (over : Option ℕ) → slice_get overs i ≡ Some (Some over) → over ≡ area_over model.space cube area i
+  pub known : (i : ℕ) (over : Option ℕ) → slice_get overs i ≡ Some (Some over)
+      → over ≡ area_over model.space cube area i

@@ -1,6 +1,6 @@
 ghost use Rattle.std.specs.Prelude.{◌≡◌, ◌<◌, ℕ, Some, length, All, IfOk, IsTrue, IsFalse, option_map};
 ghost use Rattle.dim_weights.specs.Table.{IsWeightsOf, IsRising};
-ghost use Rattle.feed_turn.specs.Sent.{sent};
+ghost use Rattle.cover_laws.specs.Looking.{sent};
 ghost use Rattle.feed_turn.specs.Inverse.{inverse};
 ghost use Rattle.feed_turn.specs.Inside.Slots.{IsPut, IsTaken, pairs_from};
 

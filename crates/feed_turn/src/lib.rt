@@ -6,6 +6,7 @@
 #![tactic(auto)]
 
 pub use area::no_overs;
+pub use laws::turned_feeders_cover;
 pub use turn_view::TurnView;
 pub use turned::turned_feeder;
 
@@ -13,6 +14,7 @@ mod area;
 mod axes;
 mod back;
 mod inverse;
+mod laws;
 mod leaves;
 mod named;
 mod over;

@@ -1,7 +1,7 @@
 ghost use Rattle.std.specs.Prelude.{◌≡◌, ◌<◌, ℕ, Some, false, filter, map, length, slice_index_or, IfOk};
 ghost use Rattle.std.specs.Prelude.{[], ◌∷◌, ◌++◌, IfSome, OnOk};
 ghost use Rattle.std.specs.List.{range_with_len};
-ghost use Rattle.feed_turn.specs.Sent.{sent};
+ghost use Rattle.cover_laws.specs.Looking.{sent};
 ghost use Rattle.feed_turn.specs.Named.{is_named, named_set};
 ghost use Rattle.feed_turn.specs.Inside.Slots.{marked_at, has_each_leaf, marked_set};
 

@@ -11,8 +11,8 @@ use rule_laws::Arg;
 use rule_model::Area;
 use std::alloc::{AllocError, Global};
 
-// The set of a feeder's area in the dimension which the argument at this place names elements of: what it names from the
-// leaves of the area.
+// The set of a feeder's area in the dimension which the argument at this place names elements of: what it names from
+// the leaves of the area.
 fn source_set(
     alloc: Global,
     view: TurnView,

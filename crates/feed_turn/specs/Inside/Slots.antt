@@ -1,5 +1,6 @@
 -- The slots of the leaves of a dimension, each for the leaf that leads to it.
-use Rattle.std.specs.Prelude.{◌≡◌, ℕ, ◌<◌, ◌==◌, Bool, true, false, not, ◌||◌, Option, Some, None, is_some, if◌then◌else◌, ℤ, List, length}
+use Rattle.std.specs.Prelude.{◌≡◌, ℕ, ◌<◌, ◌==◌, Bool, true, false, not, ◌||◌, Option, Some}
+use Rattle.std.specs.Prelude.{None, is_some, if◌then◌else◌, ℤ, List, length}
 use Rattle.std.specs.Prelude.{[], filter, slice_index_or, slice_set}
 use Rattle.std.specs.List.{list_any, list_all}
 use Rattle.dim_core.specs.Outline.{Outline}

@@ -1,6 +1,6 @@
 use Rattle.std.proofs.Common.{rules, ◌≡◌, ◌∙◌, ◌+◌, ℕ, true, false, List, ap, sym, subst, arith, length, take, drop, get_or}
 use Rattle.std.proofs.lemmas.List.{take_more, take_all, with_items_is}
-use Rattle.feed_turn.specs.Sent.{sent}
+use Rattle.cover_laws.specs.Looking.{sent}
 use Rattle.feed_turn.specs.Inverse.{is_one_to_one}
 use Rattle.feed_turn.specs.Inside.Slots.{pairs_from, IsPut, IsTaken}
 use Rattle.feed_turn.proofs.Led.{AreLed, led-more, led-taken, led-done, led-fails, has-leads, around}

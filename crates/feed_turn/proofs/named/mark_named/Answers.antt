@@ -2,7 +2,7 @@ use Rattle.std.proofs.Common.{◌≡◌, ◌∙◌, ◌++◌, ◌∷◌, [], ℕ
 use Rattle.std.proofs.lemmas.List.{take_more, take_all}
 use Rattle.std.proofs.lemmas.List.FromFn.{fill_by_all}
 use Rattle.std.proofs.Common.{false}
-use Rattle.feed_turn.specs.Sent.{sent}
+use Rattle.cover_laws.specs.Looking.{sent}
 use Rattle.feed_turn.specs.Named.{is_named}
 use Rattle.feed_turn.specs.Inside.Slots.{marked_at}
 use Rattle.feed_turn.proofs.Marked.{AreMarked, marked-more}

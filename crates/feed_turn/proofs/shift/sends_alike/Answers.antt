@@ -1,5 +1,5 @@
 use Rattle.std.proofs.Common.{rules, ◌≡◌, ◌∙◌, true, false, None, ap, sym, length}
-use Rattle.feed_turn.specs.Sent.{sent}
+use Rattle.cover_laws.specs.Looking.{sent}
 use Rattle.feed_turn.specs.Shift.{goes}
 use Rattle.feed_turn.proofs.Ranges.{all-fails, all-next}
 use Rattle.feed_turn.proofs.Shifted.{sent-at}
