@@ -1,0 +1,15 @@
+pub mod Ranges
+pub mod Pairs
+pub mod Led
+pub mod Marked
+pub mod Shifted
+pub mod BackFacts
+pub mod SourceFacts
+pub mod Places
+pub mod Steps
+pub mod Found
+pub mod Shared
+pub mod Valid
+pub mod Overs
+pub mod Moves
+pub mod Law

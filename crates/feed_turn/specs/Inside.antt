@@ -1,0 +1,2 @@
+-- What the code keeps. No public clause cites it.
+pub mod Slots
