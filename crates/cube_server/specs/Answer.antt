@@ -13,7 +13,7 @@ use Rattle.sandbox.specs.declared.act.Act.{Act}
 use Rattle.user_session.specs.Content.{opening, after}
 use Rattle.user_session.specs.Layers.{answer}
 use Rattle.run_passes.specs.declared.run_job.RunJob.{RunJob}
-use Rattle.run_passes.specs.declared.run_job.RunJob.TheVariants.{Serve, Check, Sample}
+use Rattle.run_passes.specs.declared.run_job.RunJob.TheVariants.{Serve, Check, Feeders, Sample}
 use Rattle.file_passes.specs.declared.refusal.Refusal.{Refusal}
 use Rattle.cube_server.specs.declared.status.Status.{Status}
 use Rattle.cube_server.specs.declared.status.Status.TheVariants.{Done, Usage, Refused, ReadFault, WriteFault, NoMemory}
@@ -38,10 +38,11 @@ pub record IsServed (model : BoundModel) (users : List (List (Act PlanCommand)))
   pub history : IsLayeredHistoryOf answer after (opening model) None users told log
   pub is_text : text ≡ output told log
 
--- the text of each job: of users, that the model is accepted, or the sample's summary
+-- the text of each job: of users, that the model is accepted, the feeders that are found, or the sample's summary
 abbrev pub IsOutput : RunJob → List ℕ → Type 0
 IsOutput (Serve model users) text = IsServed model users text
 IsOutput (Check model) text = IsAccepted model × (text ≡ accepted_text model)
+IsOutput (Feeders found) text = text ≡ found
 IsOutput (Sample size) text = IsSummary size text
 
 -- just the files that were read were asked for, each once, in this order, and then these

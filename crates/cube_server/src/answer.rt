@@ -69,6 +69,7 @@ fn done<R: Threads + Wait + Sync, G: Gate + Sync>(
             Status::Done,
             accepted_text(alloc, model.model())?,
         ),
+        RunJob::Feeders(text) => one_piece(alloc, Status::Done, text.into_vec()),
         RunJob::Sample(size) => one_piece(alloc, Status::Done, sample(rt, alloc, gate, size)?),
     }
 }

@@ -207,6 +207,6 @@ pub(crate) fn print_usage(alloc: Global) -> Result<Vec<u8>, AllocError>
 {
     Vec::from_slice(
         alloc,
-        b"usage: cube_program MODEL USER...\n       cube_program --check MODEL\n       cube_program --sample N\n",
+        b"usage: cube_program MODEL USER...\n       cube_program --check MODEL\n       cube_program --feeders MODEL\n       cube_program --sample N\n",
     )
 }

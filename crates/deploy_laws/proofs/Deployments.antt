@@ -8,11 +8,14 @@ use Rattle.rule_tree.specs.declared.rule.RuleText.{RuleText}
 use Rattle.rule_bind.specs.Rules.{rules_of}
 use Rattle.rule_model.specs.BoundModel.{BoundModel}
 use Rattle.rule_model.specs.declared.rules.CubeRules.{CubeRules}
-use Rattle.model_deploy.specs.Files.{RuleFile}
-use Rattle.model_deploy.specs.Foundation.{layout_of, cube_lines, order_lines, dimensions_refusal, space_refusal, products_refusal}
-use Rattle.model_deploy.specs.Rules.{file_name, meant_in, in_order, is_automatic, line_order, by_line, text_stage, meaning_stage, order_stage}
-use Rattle.model_deploy.specs.Stages.{Stage, found, unless, each, ◌>>=◌}
-use Rattle.model_deploy.specs.Deployment.{ranked_stage, ordered_stage, feeders_stage, fed_stage, model_of, deployment}
+use Rattle.model_bind.specs.Files.{RuleFile}
+use Rattle.model_bind.specs.Foundation.{layout_of, cube_lines, order_lines, dimensions_refusal, space_refusal, products_refusal}
+use Rattle.model_bind.specs.Rules.{file_name, meant_in, in_order, is_automatic, line_order, by_line, text_stage, meaning_stage, order_stage, asking}
+use Rattle.model_bind.specs.Binding.{ranked_stage, model_of, binding}
+use Rattle.model_bind.specs.declared.bound.Bound.{Bound}
+use Rattle.feed_find.specs.Found.{with_found}
+use Rattle.model_bind.specs.Stages.{Stage, found, unless, each, ◌>>=◌}
+use Rattle.model_deploy.specs.Deployment.{ordered_stage, feeders_stage, fed_stage, checked, deployment}
 use Rattle.deploy_laws.specs.OneAnswer.{HasOneAnswer}
 use Rattle.deploy_laws.proofs.Single.{single-found, single-meant, single-unless, single-then, single-each}
 use Rattle.deploy_laws.proofs.Texts.{single-text}
@@ -34,6 +37,66 @@ single-ranked true files model = single-find model files
 single-ranked false files model = single-found model
 
 module _ (contents : Contents) (files : List (Option RuleFile)) where
+  -- what comes after each stage of binding
+  abbrev bound-of : List RuleText → BoundModel → Stage Bound
+  bound-of texts model = found (record { model = model; asking = asking texts })
+
+  abbrev ranking : List CubeRules → Stage BoundModel
+  ranking rules = ranked_stage (is_automatic (order_lines contents.cubes)) files (model_of contents rules)
+
+  abbrev model-next : List RuleText → List CubeRules → Stage Bound
+  model-next texts rules = ranking rules >>= bound-of texts
+
+  abbrev ordering : List CubeRules → Stage (List CubeRules)
+  ordering meant = each (order_stage (layout_of contents) (order_lines contents.cubes)) 0 meant
+
+  abbrev orders-next : List RuleText → List CubeRules → Stage Bound
+  orders-next texts meant = ordering meant >>= model-next texts
+
+  abbrev meaning : List RuleText → Stage (List CubeRules)
+  meaning texts = each (meaning_stage (layout_of contents) files) 0 texts
+
+  abbrev meanings-next : List RuleText → Stage Bound
+  meanings-next texts = meaning texts >>= orders-next texts
+
+  abbrev reading : Stage (List RuleText)
+  reading = each (λ _. text_stage) 0 files
+
+  abbrev texts-next : Unit {0} → Stage Bound
+  texts-next _ = reading >>= meanings-next
+
+  abbrev products : Stage (Unit {0})
+  products = unless (products_refusal (cube_lines contents.cubes) (layout_of contents))
+
+  abbrev products-next : Unit {0} → Stage Bound
+  products-next _ = products >>= texts-next
+
+  abbrev cells : Stage (Unit {0})
+  cells = unless (space_refusal (cube_lines contents.cubes) (layout_of contents))
+
+  abbrev cells-next : Unit {0} → Stage Bound
+  cells-next _ = cells >>= products-next
+
+  single-model : (texts : List RuleText) (rules : List CubeRules) → HasOneAnswer (model-next texts rules)
+  single-model texts rules =
+      single-then (ranking rules) (bound-of texts) (single-ranked (is_automatic (order_lines contents.cubes)) files (model_of contents rules))
+      (λ model. single-found (record { model = model; asking = asking texts }))
+
+  single-rules : HasOneAnswer (reading >>= meanings-next)
+  single-rules =
+      let lines = order_lines contents.cubes in
+      let space = layout_of contents in
+      single-then reading meanings-next (single-each (λ _. text_stage) (λ _. single-text) 0 files)
+      (λ texts. single-then (meaning texts) (orders-next texts) (single-each (meaning_stage space files) (single-meaning space files) 0 texts)
+      (λ meant. single-then (ordering meant) (model-next texts) (single-each (order_stage space lines) (single-order space lines) 0 meant) (single-model texts)))
+
+  pub single-binding : HasOneAnswer (binding contents files)
+  unfolding binding
+  single-binding =
+      single-then (unless (dimensions_refusal contents.dims)) cells-next (single-unless (dimensions_refusal contents.dims))
+      (λ _. single-then cells products-next (single-unless (space_refusal (cube_lines contents.cubes) (layout_of contents)))
+      (λ _. single-then products texts-next (single-unless (products_refusal (cube_lines contents.cubes) (layout_of contents))) (λ _. single-rules)))
+
   -- what comes after each check
   abbrev accepts : BoundModel → Unit {0} → Stage BoundModel
   accepts model _ = found model
@@ -44,65 +107,13 @@ module _ (contents : Contents) (files : List (Option RuleFile)) where
   abbrev feeders-next : BoundModel → Unit {0} → Stage BoundModel
   feeders-next model _ = feeders_stage files model >>= fed-next model
 
-  abbrev checks : BoundModel → Stage BoundModel
-  checks model = ordered_stage files model >>= feeders-next model
-
-  abbrev ranking : List CubeRules → Stage BoundModel
-  ranking rules = ranked_stage (is_automatic (order_lines contents.cubes)) files (model_of contents rules)
-
-  abbrev model-next : List CubeRules → Stage BoundModel
-  model-next rules = ranking rules >>= checks
-
-  abbrev ordering : List CubeRules → Stage (List CubeRules)
-  ordering meant = each (order_stage (layout_of contents) (order_lines contents.cubes)) 0 meant
-
-  abbrev orders-next : List CubeRules → Stage BoundModel
-  orders-next meant = ordering meant >>= model-next
-
-  abbrev meaning : List RuleText → Stage (List CubeRules)
-  meaning texts = each (meaning_stage (layout_of contents) files) 0 texts
-
-  abbrev meanings-next : List RuleText → Stage BoundModel
-  meanings-next texts = meaning texts >>= orders-next
-
-  abbrev reading : Stage (List RuleText)
-  reading = each (λ _. text_stage) 0 files
-
-  abbrev texts-next : Unit {0} → Stage BoundModel
-  texts-next _ = reading >>= meanings-next
-
-  abbrev products : Stage (Unit {0})
-  products = unless (products_refusal (cube_lines contents.cubes) (layout_of contents))
-
-  abbrev products-next : Unit {0} → Stage BoundModel
-  products-next _ = products >>= texts-next
-
-  abbrev cells : Stage (Unit {0})
-  cells = unless (space_refusal (cube_lines contents.cubes) (layout_of contents))
-
-  abbrev cells-next : Unit {0} → Stage BoundModel
-  cells-next _ = cells >>= products-next
-
-  single-checks : (model : BoundModel) → HasOneAnswer (checks model)
+  single-checks : (model : BoundModel) → HasOneAnswer (checked files model)
   single-checks model =
       single-then (ordered_stage files model) (feeders-next model) (single-ordered model files)
       (λ _. single-then (feeders_stage files model) (fed-next model) (single-feeders model files) (λ _. single-then (fed_stage model) (accepts model) (single-fed model) (λ _. single-found model)))
 
-  single-model : (rules : List CubeRules) → HasOneAnswer (model-next rules)
-  single-model rules =
-      single-then (ranking rules) checks (single-ranked (is_automatic (order_lines contents.cubes)) files (model_of contents rules)) single-checks
-
-  single-rules : HasOneAnswer (reading >>= meanings-next)
-  single-rules =
-      let lines = order_lines contents.cubes in
-      let space = layout_of contents in
-      single-then reading meanings-next (single-each (λ _. text_stage) (λ _. single-text) 0 files)
-      (λ texts. single-then (meaning texts) orders-next (single-each (meaning_stage space files) (single-meaning space files) 0 texts)
-      (λ meant. single-then (ordering meant) model-next (single-each (order_stage space lines) (single-order space lines) 0 meant) single-model))
-
   pub single-deployment : HasOneAnswer (deployment contents files)
   unfolding deployment
   single-deployment =
-      single-then (unless (dimensions_refusal contents.dims)) cells-next (single-unless (dimensions_refusal contents.dims))
-      (λ _. single-then cells products-next (single-unless (space_refusal (cube_lines contents.cubes) (layout_of contents)))
-      (λ _. single-then products texts-next (single-unless (products_refusal (cube_lines contents.cubes) (layout_of contents))) (λ _. single-rules)))
+      single-then (binding contents files) (λ bound. checked files (with_found bound.model bound.asking)) single-binding
+      (λ bound. single-checks (with_found bound.model bound.asking))

@@ -30,7 +30,7 @@ use Rattle.feed_check.proofs.Verdicts.{fault-refused}
 use Rattle.feed_map.specs.FedCells.{HasFewFed, HasManyFed}
 use Rattle.feed_map.proofs.Counts.{within-counts}
 use Rattle.stored_laws.specs.Stored.{stored_in}
-use Rattle.model_deploy.specs.Files.{RuleFile}
+use Rattle.model_bind.specs.Files.{RuleFile}
 use Rattle.model_deploy.specs.Deployment.{order_refusal, feeders_refusal, ordered_stage, feeders_stage, fed_stage}
 use Rattle.deploy_laws.specs.OneAnswer.{HasOneAnswer}
 use Rattle.lists.proofs.Found.{same_truth as both-true}

@@ -32,11 +32,11 @@ use Rattle.order_find.specs.declared.link.LinkBy.{LinkBy}
 use Rattle.order_find.specs.declared.link.LinkBy.TheVariants.{Reference, Below}
 use Rattle.order_find.proofs.Turned.{circle-fits-none}
 use Rattle.check_order.proofs.Counted.{counted-hold}
-use Rattle.model_deploy.specs.Files.{RuleFile}
-use Rattle.model_deploy.specs.declared.fault.DeployFault.{DeployFault}
-use Rattle.model_deploy.specs.declared.fault.DeployCause.TheVariants as causes
-use Rattle.model_deploy.specs.Rules.{refused_at}
-use Rattle.model_deploy.specs.Deployment.{link_name, circle_refusal, cycle_refusal, find_refusal, IsRanked, find_stage}
+use Rattle.model_bind.specs.Files.{RuleFile}
+use Rattle.model_bind.specs.declared.fault.DeployFault.{DeployFault}
+use Rattle.model_bind.specs.declared.fault.DeployCause.TheVariants as causes
+use Rattle.model_bind.specs.Rules.{refused_at}
+use Rattle.model_bind.specs.Binding.{link_name, circle_refusal, cycle_refusal, find_refusal, IsRanked, find_stage}
 use Rattle.deploy_laws.specs.OneAnswer.{IsCycle, IsSameRefusal, HasOneAnswer}
 use Rattle.deploy_laws.proofs.FirstReferences.{there-holds, none-of-all, one-reference}
 

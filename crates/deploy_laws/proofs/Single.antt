@@ -1,7 +1,7 @@
 -- Stages that have one answer, put together.
 use Rattle.std.proofs.Common.{◌≡◌, inl, inr, ℕ, ◌+◌, Option, Some, None, Result, Ok, Err, List, [], ◌∷◌, refl, sym, ◌∙◌, subst}
-use Rattle.model_deploy.specs.declared.fault.DeployFault.{DeployFault}
-use Rattle.model_deploy.specs.Stages.{Stage, found, meant, unless, each, ◌>>=◌}
+use Rattle.model_bind.specs.declared.fault.DeployFault.{DeployFault}
+use Rattle.model_bind.specs.Stages.{Stage, found, meant, unless, each, ◌>>=◌}
 use Rattle.deploy_laws.specs.OneAnswer.{IsSameRefusal, HasOneAnswer}
 
 pub single-found : {A : Type 0} (a : A) → HasOneAnswer (found a)

@@ -6,9 +6,9 @@ use Rattle.rule_reader.specs.Answers.{Answers}
 use Rattle.rule_reader.specs.declared.fault.RuleFault.{RuleFault}
 use Rattle.rule_reader.specs.declared.fault.RuleFault.TheVariants as faults
 use Rattle.rule_text_laws.proofs.RuleTexts.{rule_texts}
-use Rattle.model_deploy.specs.Files.{RuleFile}
-use Rattle.model_deploy.specs.declared.fault.DeployFault.{DeployFault}
-use Rattle.model_deploy.specs.Rules.{no_text, text_refusal, text_stage}
+use Rattle.model_bind.specs.Files.{RuleFile}
+use Rattle.model_bind.specs.declared.fault.DeployFault.{DeployFault}
+use Rattle.model_bind.specs.Rules.{no_text, text_refusal, text_stage}
 use Rattle.deploy_laws.specs.OneAnswer.{HasOneAnswer}
 use Rattle.deploy_laws.proofs.Single.{single-found}
 

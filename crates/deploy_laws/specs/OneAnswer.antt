@@ -1,8 +1,8 @@
 -- When a stage of deployment has one answer.
 use Rattle.std.specs.Prelude.{◌≡◌, ◌⊎◌, ℕ, List}
-use Rattle.model_deploy.specs.declared.fault.DeployFault.{DeployFault}
-use Rattle.model_deploy.specs.declared.fault.DeployCause.TheVariants.{Cycle}
-use Rattle.model_deploy.specs.Stages.{Stage}
+use Rattle.model_bind.specs.declared.fault.DeployFault.{DeployFault}
+use Rattle.model_bind.specs.declared.fault.DeployCause.TheVariants.{Cycle}
+use Rattle.model_bind.specs.Stages.{Stage}
 
 -- a refusal for a circle, of these elements
 abbrev pub IsCycle : DeployFault → Type 0

@@ -7,7 +7,7 @@
 
 ghost use Rattle.std.specs.Prelude.{List, Option};
 ghost use Rattle.model_text.specs.Contents.{Contents};
-ghost use Rattle.model_deploy.specs.Files.{RuleFile};
+ghost use Rattle.model_bind.specs.Files.{RuleFile};
 ghost use Rattle.model_deploy.specs.Deployment.{deployment};
 ghost use Rattle.deploy_laws.specs.OneAnswer.{HasOneAnswer};
 

@@ -1,13 +1,16 @@
 -- What the judging functions answer is what files are judged to be.
-use Rattle.std.proofs.Common.{◌≡◌, ℕ, List, Option, Some, None, option_map, Ok, Err, inl, inr}
+use Rattle.std.proofs.Common.{◌≡◌, ℕ, List, Option, Some, None, option_map, Ok, Err, inl, inr, subst}
 use Rattle.model_text.specs.Answers.{IsModelText, IsFault}
 use Rattle.model_text.specs.Contents.{Contents}
 use Rattle.model_text.specs.declared.fault.ModelTextFault.{ModelTextFault}
 use Rattle.model_deploy.specs.Deployment.{deployment}
-use Rattle.model_deploy.specs.Foundation.{memory}
-use Rattle.model_deploy.specs.Stages.{Comes}
-use Rattle.model_deploy.specs.declared.fault.DeployFault.{DeployFault}
-use Rattle.model_deploy.specs.Files.{RuleFile}
+use Rattle.model_bind.specs.Foundation.{memory}
+use Rattle.model_bind.specs.Stages.{Stage, Comes}
+use Rattle.model_bind.specs.Binding.{binding}
+use Rattle.model_bind.specs.declared.bound.Bound.{Bound}
+use Rattle.feed_print.specs.FoundText.{found_text}
+use Rattle.model_bind.specs.declared.fault.DeployFault.{DeployFault}
+use Rattle.model_bind.specs.Files.{RuleFile}
 use Rattle.rule_model.specs.BoundModel.{BoundModel}
 use Rattle.file_passes.specs.declared.halt.Halt.{Halt}
 use Rattle.file_passes.specs.declared.refusal.Cause.{Cause}
@@ -15,7 +18,7 @@ use Rattle.file_passes.specs.declared.refusal.Refusal.{Refusal}
 use Rattle.file_passes.specs.Pass.{Source, Judgement}
 use Rattle.judged_files.specs.Refusals.{refused_on, model_cause, deploy_refusal}
 use Rattle.judged_files.specs.Models.{text_judgement}
-use Rattle.judged_files.specs.Rules.{rule_files, deployment_judgement}
+use Rattle.judged_files.specs.Rules.{rule_files, stage_judgement, deployment_judgement, feeders_stage, feeders_judgement}
 use Rattle.file_passes.specs.Halting.{Judges}
 use Rattle.judged_files.specs.Inside.Judging.{IsHaltFor}
 
@@ -42,20 +45,37 @@ module _ (source : Source) (file bytes : List ℕ) (named : file ≡ source.0) (
 
 -- the rule files
 
-module _ (file : List ℕ) (contents : Contents) (sources : List Source) (files : List (Option RuleFile)) (are : files ≡ rule_files sources contents.cubes) where
+module _ {A : Type 0} (file : List ℕ) (stage : Stage A) where
   no_cause : (fault : DeployFault) (refusal : Refusal) → fault ≡ memory → deploy_refusal file fault ≡ Some refusal → {A : Type 0} → A
   no_cause fault refusal is some = let clash : None ≡ Some refusal = rw is at some in cc
 
-  refused-for : (fault : DeployFault) (refusal : Refusal) → Comes (deployment contents files) (Err fault) → deploy_refusal file fault ≡ Some refusal
-      → (deployment_judgement file contents sources).refused_for refusal
-  refused-for fault refusal (inl is) some = no_cause fault refusal is some
-  refused-for fault refusal (inr refuses) some = record { fault = fault; first = rw (← are) refuses; is = some }
+  refused-in : (fault : DeployFault) (refusal : Refusal) → Comes stage (Err fault) → deploy_refusal file fault ≡ Some refusal
+      → (stage_judgement file stage).refused_for refusal
+  refused-in fault refusal (inl is) some = no_cause fault refusal is some
+  refused-in fault refusal (inr refuses) some = record { fault = fault; first = refuses; is = some }
 
+  judges-refused : (fault : DeployFault) (h : Halt) → Comes stage (Err fault) → IsHaltFor (deploy_refusal file fault) h → Judges (stage_judgement file stage) (Err h)
+  judges-refused fault h came halted =
+      judges-halt (stage_judgement file stage) (deploy_refusal file fault) h halted (λ refusal some. refused-in fault refusal came some)
+
+module _ (file : List ℕ) (contents : Contents) (sources : List Source) (files : List (Option RuleFile)) (are : files ≡ rule_files sources contents.cubes) where
   pub judges-undeployed : (fault : DeployFault) (h : Halt)
       → Comes (deployment contents files) (Err fault) → IsHaltFor (deploy_refusal file fault) h → Judges (deployment_judgement file contents sources) (Err h)
   judges-undeployed fault h came halted =
-      judges-halt (deployment_judgement file contents sources) (deploy_refusal file fault) h halted
-      (λ refusal some. refused-for fault refusal came some)
+      subst (λ f. Judges (stage_judgement file (deployment contents f)) (Err h)) are (judges-refused file (deployment contents files) fault h came halted)
 
   pub judges-deployed : (model : BoundModel) → Comes (deployment contents files) (Ok model) → (deployment contents (rule_files sources contents.cubes)).finds model
   judges-deployed model came = rw (← are) came
+
+  pub judges-unbound : (fault : DeployFault) (h : Halt)
+      → Comes (binding contents files) (Err fault) → IsHaltFor (deploy_refusal file fault) h → Judges (feeders_judgement file contents sources) (Err h)
+  judges-unbound fault h came halted =
+      subst (λ f. Judges (stage_judgement file (feeders_stage contents f)) (Err h)) are (judges-refused file (feeders_stage contents files) fault h (behind came) halted)
+    where
+      behind : Comes (binding contents files) (Err fault) → Comes (feeders_stage contents files) (Err fault)
+      behind (inl want) = inl want
+      behind (inr refused) = inr (inl refused)
+
+  pub judges-feeders : (bound : Bound) (text : List ℕ) → Comes (binding contents files) (Ok bound) → text ≡ found_text bound.model bound.asking
+      → (feeders_judgement file contents sources).stands_for text
+  judges-feeders bound text came is = subst (λ f. (feeders_stage contents f).finds text) are (bound, came, is)

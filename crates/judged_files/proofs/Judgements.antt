@@ -13,14 +13,20 @@ use Rattle.file_passes.specs.Pass.{Source}
 use Rattle.judged_files.specs.Refusals.{text_refusal, script_refusal, user_refusal}
 use Rattle.judged_files.specs.Models.{text_judgement}
 use Rattle.judged_files.specs.Scripts.{AreScripts, IsFirstScriptFault, scripts_judgement}
-use Rattle.judged_files.specs.Rules.{rule_files, deployment_judgement}
+use Rattle.judged_files.specs.Rules.{rule_files, stage_judgement, deployment_judgement, feeders_stage, feeders_judgement}
 use Rattle.judged_files.specs.Users.{IsUserText, AreUserTexts, IsUserFault, IsFirstFault, AreUsers, users_judgement, unknown_script}
 use Rattle.file_passes.proofs.PassFacts.{IsOneJudgement}
 use Rattle.script_reader.specs.declared.fault.ScriptFault.{ScriptFault}
 use Rattle.script_reader.specs.declared.fault.ScriptFault.TheVariants as script_faults
 use Rattle.script_bound.specs.declared.script.BoundScript.{BoundScript}
 use Rattle.judged_files.proofs.ScriptTexts.{no_fault_of_script}
-use Rattle.deploy_laws.proofs.Deployments.{single-deployment}
+use Rattle.feed_print.specs.FoundText.{found_text}
+use Rattle.model_bind.specs.Binding.{binding}
+use Rattle.model_bind.specs.Stages.{Stage, found}
+use Rattle.model_deploy.specs.Deployment.{deployment}
+use Rattle.deploy_laws.specs.OneAnswer.{HasOneAnswer}
+use Rattle.deploy_laws.proofs.Single.{single-found, single-then}
+use Rattle.deploy_laws.proofs.Deployments.{single-binding, single-deployment}
 
 -- ---- user files
 
@@ -95,7 +101,16 @@ no_scripts_refused sources scripts r p q = no_first_script sources scripts r p q
 
 -- ---- the rule files
 
+one_stage_judgement : {A : Type 0} (file : List ℕ) (stage : Stage A) → HasOneAnswer stage → IsOneJudgement (stage_judgement file stage)
+one_stage_judgement file stage one = record { one_thing = one.one_found; not_both = λ x r p q. one.not_both x q.fault p q.first }
+
 pub one_deployment_judgement : (file : List ℕ) (contents : Contents) (sources : List Source) → IsOneJudgement (deployment_judgement file contents sources)
 one_deployment_judgement file contents sources =
-    let one = single-deployment contents (rule_files sources contents.cubes) in
-    record { one_thing = one.one_found; not_both = λ x r p q. one.not_both x q.fault p q.first }
+    let files = rule_files sources contents.cubes in
+    one_stage_judgement file (deployment contents files) (single-deployment contents files)
+
+pub one_feeders_judgement : (file : List ℕ) (contents : Contents) (sources : List Source) → IsOneJudgement (feeders_judgement file contents sources)
+one_feeders_judgement file contents sources =
+    let files = rule_files sources contents.cubes in
+    one_stage_judgement file (feeders_stage contents files)
+    (single-then (binding contents files) (λ bound. found (found_text bound.model bound.asking)) (single-binding contents files) (λ bound. single-found (found_text bound.model bound.asking)))

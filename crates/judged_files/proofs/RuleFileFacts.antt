@@ -3,7 +3,7 @@ use Rattle.std.proofs.Common.{◌≡◌, ◌∙◌, ℕ, ◌+◌, ◌<◌, List,
 use Rattle.std.proofs.lemmas.List.{map-append, take_more, get_or-take, get_or-map}
 use Rattle.std.proofs.lemmas.Slice.Eq.{bytes_eq-Decides}
 use Rattle.model_text.specs.declared.parts.CubeText.{CubeText}
-use Rattle.model_deploy.specs.Files.{RuleFile}
+use Rattle.model_bind.specs.Files.{RuleFile}
 use Rattle.file_passes.specs.Pass.{Source, source_of}
 use Rattle.judged_files.specs.Rules.{rule_name, rule_file_of, rule_file, rule_files}
 use Rattle.judged_files.specs.Inside.RuleFiles.{IsEarlierWith}

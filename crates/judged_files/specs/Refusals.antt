@@ -2,11 +2,11 @@
 use Rattle.std.specs.Prelude.{ℕ, List, Option, Some, None, option_map}
 use Rattle.dim_core.specs.declared.fault.DimFault.{DimFault}
 use Rattle.dim_core.specs.declared.fault.DimFault.TheVariants as dims
-use Rattle.model_deploy.specs.declared.fault.At.{At}
-use Rattle.model_deploy.specs.declared.fault.At.TheVariants as places
-use Rattle.model_deploy.specs.declared.fault.DeployCause.{DeployCause}
-use Rattle.model_deploy.specs.declared.fault.DeployCause.TheVariants as deploys
-use Rattle.model_deploy.specs.declared.fault.DeployFault.{DeployFault}
+use Rattle.model_bind.specs.declared.fault.At.{At}
+use Rattle.model_bind.specs.declared.fault.At.TheVariants as places
+use Rattle.model_bind.specs.declared.fault.DeployCause.{DeployCause}
+use Rattle.model_bind.specs.declared.fault.DeployCause.TheVariants as deploys
+use Rattle.model_bind.specs.declared.fault.DeployFault.{DeployFault}
 use Rattle.model_text.specs.declared.fault.ModelTextCause.{ModelTextCause}
 use Rattle.model_text.specs.declared.fault.ModelTextCause.TheVariants as texts
 use Rattle.model_text.specs.declared.fault.ModelTextFault.{ModelTextFault}

@@ -4,8 +4,11 @@ use Rattle.std.specs.Prelude.{option_and_then, unwrap_or}
 use Rattle.model_text.specs.Contents.{Contents}
 use Rattle.model_text.specs.declared.parts.CubeText.{CubeText}
 use Rattle.model_deploy.specs.Deployment.{deployment}
-use Rattle.model_deploy.specs.declared.fault.DeployFault.{DeployFault}
-use Rattle.model_deploy.specs.Files.{RuleFile}
+use Rattle.model_bind.specs.Binding.{binding}
+use Rattle.model_bind.specs.Stages.{Stage, found, ◌>>=◌}
+use Rattle.feed_print.specs.FoundText.{found_text}
+use Rattle.model_bind.specs.declared.fault.DeployFault.{DeployFault}
+use Rattle.model_bind.specs.Files.{RuleFile}
 use Rattle.rule_model.specs.BoundModel.{BoundModel}
 use Rattle.file_passes.specs.declared.refusal.Refusal.{Refusal}
 use Rattle.file_passes.specs.Pass.{Source, source_of, Judgement}
@@ -34,16 +37,27 @@ rule_file sources cube = option_map rule_file_of (option_and_then (source_of sou
 abbrev pub rule_files : List Source → List CubeText → List (Option RuleFile)
 rule_files sources cubes = map (rule_file sources) cubes
 
--- deployment refuses the model for this
-pub record IsUndeployed (file : List ℕ) (contents : Contents) (files : List (Option RuleFile)) (refusal : Refusal)
-    : Type 0 where
+-- a stage of deployment refuses the model file, or one of its rule files, for this
+pub record IsRefusedIn {A : Type 0} (stage : Stage A) (file : List ℕ) (refusal : Refusal) : Type 0 where
   pub fault : DeployFault
-  pub first : (deployment contents files).refuses fault
+  pub first : stage.refuses fault
   pub is : deploy_refusal file fault ≡ Some refusal
 
--- the model text of this file, with the files of its cubes' rules
+-- what a stage finds in the model text of this file and in its rule files
+abbrev pub stage_judgement : {A : Type 0} → List ℕ → Stage A → Judgement A
+stage_judgement file stage = record { stands_for = stage.finds; refused_for = IsRefusedIn stage file }
+
+-- the model text of this file, with the files of its cubes' rules, is deployed
 abbrev pub deployment_judgement : List ℕ → Contents → List Source → Judgement BoundModel
-deployment_judgement file contents sources = record {
-  stands_for = (deployment contents (rule_files sources contents.cubes)).finds;
-  refused_for = IsUndeployed file contents (rule_files sources contents.cubes);
-}
+deployment_judgement file contents sources =
+    stage_judgement file (deployment contents (rule_files sources contents.cubes))
+
+-- the text is bound, and feeders are found for it
+abbrev pub feeders_stage : Contents → List (Option RuleFile) → Stage (List ℕ)
+feeders_stage contents files = do
+  bound ← binding contents files
+  found (found_text bound.model bound.asking)
+
+abbrev pub feeders_judgement : List ℕ → Contents → List Source → Judgement (List ℕ)
+feeders_judgement file contents sources =
+    stage_judgement file (feeders_stage contents (rule_files sources contents.cubes))

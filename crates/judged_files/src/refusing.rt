@@ -5,7 +5,7 @@ ghost use Rattle.judged_files.specs.Refusals.{refused_on, dim_cause, model_cause
 use dim_core::DimFault;
 use file_passes::{Cause, FilePlace, Halt, Refusal};
 use lists::ListOf;
-use model_deploy::DeployCause;
+use model_bind::DeployCause;
 use model_text::ModelTextCause;
 use std::alloc::{AllocError, Global};
 

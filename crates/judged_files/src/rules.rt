@@ -4,14 +4,16 @@ ghost use Rattle.judged_files.specs.Inside.Judging.{IsHaltFor};
 ghost use Rattle.judged_files.specs.Inside.RuleFiles.{IsEarlierWith};
 ghost use Rattle.judged_files.specs.Refusals.{deploy_refusal, file_or, place_of};
 ghost use Rattle.judged_files.specs.Rules.{all_rule_names, rule_name, rule_names, rule_files};
-ghost use Rattle.judged_files.specs.Rules.{deployment_judgement};
+ghost use Rattle.judged_files.specs.Rules.{deployment_judgement, feeders_judgement};
 ghost use Rattle.cube_words.specs.Words.{texts_of};
 
 use crate::refusing::deploy_cause;
 use accepted::Accepted;
 use file_passes::{FilePlace, Halt, Refusal, Source, file_name, source_of};
 use lists::ListOf;
-use model_deploy::{At, DeployFault, RuleFiles, deploy};
+use feed_print::found_text;
+use model_bind::{At, DeployFault, RuleFiles, bind};
+use model_deploy::deploy;
 use model_text::{CubeText, ModelText};
 use std::alloc::{AllocError, Global};
 
@@ -63,6 +65,25 @@ pub fn model_of(
     };
     match deploy(alloc, text, &rules) {
         Ok(model) => Ok(model),
+        Err(fault) => Err(deploy_halt(alloc, file, fault)),
+    }
+}
+
+/// The text of the feeders that are found for the model of a model text, which stands in this file, and of the rule
+/// files of its cubes among those that were read.
+pub fn feeders_of(
+    alloc: Global,
+    file: &str,
+    text: ModelText,
+    sources: &[Source<'_>],
+) -> Result<ListOf<u8>, Halt>
+    ensures { Judges (feeders_judgement file.now text sources.now) result }
+{
+    let Ok(rules) = rule_files(alloc, text.cubes(), sources) else {
+        return Err(Halt::Memory);
+    };
+    match bind(alloc, text, &rules) {
+        Ok(bound) => Ok(found_text(alloc, &bound.model, bound.asking.as_slice())?),
         Err(fault) => Err(deploy_halt(alloc, file, fault)),
     }
 }

@@ -5,18 +5,17 @@ ghost use Rattle.rule_laws.specs.Cover.{IsCovered};
 ghost use Rattle.rule_laws.specs.OrderByPlace.{IsOrderedByPlace};
 ghost use Rattle.rule_model.specs.Order.{most_height, position_sizes};
 ghost use Rattle.rule_model.specs.System.{system_of, positions_of};
-ghost use Rattle.model_deploy.specs.Foundation.{memory};
-ghost use Rattle.model_deploy.specs.Stages.{Comes};
+ghost use Rattle.model_bind.specs.Foundation.{memory};
+ghost use Rattle.model_bind.specs.Stages.{Comes};
 ghost use Rattle.model_deploy.specs.Deployment.{order_refusal, feeders_refusal};
 ghost use Rattle.model_deploy.specs.Deployment.{ordered_stage, feeders_stage, fed_stage};
 
-use crate::fault::{At, DeployCause, DeployFault};
-use crate::rule_files::{RuleFiles, fault_in};
 use cell_store::Store;
 use check_order::{OrderFault, check_order};
 use feed_check::{FeedCheckFault, check_feeders};
 use feed_map::{FedFault, Feeding};
 use feed_sources::SourceModel;
+use model_bind::{At, DeployCause, DeployFault, RuleFiles, fault_in};
 use rule_model::Model;
 use std::alloc::Global;
 

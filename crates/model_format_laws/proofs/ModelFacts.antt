@@ -7,8 +7,8 @@ use Rattle.cube_space.specs.Layout.{Layout}
 use Rattle.model_text.specs.Contents.{Contents, IsContents, IsLineIn, IsOrderedIn}
 use Rattle.model_text.specs.declared.order.OrderLine.{OrderLine}
 use Rattle.model_text.specs.declared.parts.CubeText.{CubeText}
-use Rattle.model_deploy.specs.Foundation.{shape_of, layout_of, cube_lines, foundation_refusal, dimensions_refusal, space_refusal, products_refusal}
-use Rattle.model_deploy.specs.declared.fault.DeployFault.{DeployFault}
+use Rattle.model_bind.specs.Foundation.{shape_of, layout_of, cube_lines, foundation_refusal, dimensions_refusal, space_refusal, products_refusal}
+use Rattle.model_bind.specs.declared.fault.DeployFault.{DeployFault}
 use Rattle.rule_model.specs.declared.order.Order.{Order}
 use Rattle.rule_model.specs.declared.rules.CubeRules.{CubeRules}
 use Rattle.rule_model.specs.BoundModel.{BoundModel}

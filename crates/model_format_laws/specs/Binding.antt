@@ -6,7 +6,7 @@ use Rattle.std.specs.Option.{option_map_or}
 use Rattle.cube_space.specs.Layout.{Layout}
 use Rattle.model_text.specs.Contents.{Contents}
 use Rattle.model_text.specs.declared.parts.CubeText.{CubeText}
-use Rattle.model_deploy.specs.Foundation.{layout_of, foundation_refusal}
+use Rattle.model_bind.specs.Foundation.{layout_of, foundation_refusal}
 use Rattle.rule_model.specs.declared.order.Order.{Order}
 use Rattle.rule_model.specs.declared.rules.CubeRules.{CubeRules}
 use Rattle.rule_model.specs.BoundModel.{BoundModel}

@@ -2,7 +2,7 @@
 use Rattle.std.proofs.Common.{◌≡◌, ℕ, List, refl, sym, ◌∙◌, subst}
 use Rattle.std.specs.List.{AllZip}
 use Rattle.cube_outside.specs.declared.files.Extent.TheVariants.{Whole}
-use Rattle.cube_words.specs.Words.{Plan, Run, Check, Sample, IsPlan}
+use Rattle.cube_words.specs.Words.{Plan, Run, Check, Feeders, Sample, IsPlan}
 use Rattle.file_passes.specs.Pass.{Readings, NotWords, Pass, the, files, judged, ◌>>=◌}
 use Rattle.file_passes.proofs.PassFacts.{one-files}
 use Rattle.judged_files.specs.Loads.{record_files, commands_judgement}
@@ -11,12 +11,12 @@ use Rattle.judged_files.specs.Rules.{all_rule_names}
 use Rattle.judged_files.specs.Scripts.{script_files, scripts_judgement}
 use Rattle.model_text.specs.Contents.{script_names, Contents as Text}
 use Rattle.rule_model.specs.BoundModel.{BoundModel}
-use Rattle.run_passes.specs.Inside.Plans.{behind_scripts, behind_rules, behind_text, behind_users, behind_model}
-use Rattle.run_passes.specs.RefusalOrder.{as_text, text_pass, deploy_pass, scripts_pass, model_pass}
+use Rattle.run_passes.specs.Inside.Plans.{behind_scripts, behind_rules, behind_text, behind_users, behind_model, told_feeders, behind_feeders_text}
+use Rattle.run_passes.specs.RefusalOrder.{as_text, text_pass, deploy_pass, feeders_pass, scripts_pass, model_pass}
 use Rattle.run_passes.specs.RefusalOrder.{users_pass, records_pass, plan_pass, run_of}
 use Rattle.run_passes.specs.declared.run_job.RunJob.{RunJob}
 use Rattle.run_passes.specs.declared.run_job.RunJob.TheVariants as jobs
-use Rattle.run_passes.proofs.PlanFacts.{steady-text, steady-deploy, steady-users, accept}
+use Rattle.run_passes.proofs.PlanFacts.{steady-text, steady-deploy, steady-feeders, steady-users, accept}
 use Rattle.run_passes.proofs.PlanWords.{one_plan}
 use Rattle.script_text_laws.specs.ScriptAnswers.{OneScriptAnswer}
 use Rattle.sandbox.specs.declared.act.Act.{Act}
@@ -72,6 +72,9 @@ same-behind_model users checked =
 same-accepted : (model : BoundModel) (a b : RunJob) → a ≡ jobs.Check model → b ≡ jobs.Check model → IsSameJob a b
 same-accepted model a b p q = rw p q
 
+same-feeders : (text : List ℕ) (a b : RunJob) → a ≡ jobs.Feeders text → b ≡ jobs.Feeders text → IsSameJob a b
+same-feeders text a b p q = rw p q
+
 same-sample : (size : ℕ) (a b : RunJob) → a ≡ jobs.Sample size → b ≡ jobs.Sample size → IsSameJob a b
 same-sample size a b p q = rw p q
 
@@ -109,6 +112,10 @@ module _ (answers : (bytes : List ℕ) → OneScriptAnswer bytes) where
   same-plan (Check model) =
       same-behind IsSameJob (model_pass model) accept (one-model model)
       (λ checked readings a b. same-accepted checked.model a b)
+  same-plan (Feeders model) =
+      same-behind IsSameJob (text_pass model) (behind_feeders_text model) (steady-text model).one.one_found
+      (λ contents. same-behind IsSameJob (feeders_pass model contents) told_feeders (steady-feeders model contents).one.one_found
+      (λ text readings a b. same-feeders text a b))
   same-plan (Sample size) = λ readings a b p q. same-sample size a b p q
 
   pub same_run : (words : List (List ℕ)) → FindsSame IsSameJob (run_of words)

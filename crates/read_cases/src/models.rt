@@ -2,7 +2,8 @@ ghost use Rattle.std.specs.Prelude.{◌≡◌, ◌+◌, length, IfOk, OnOk};
 
 use case_lines::Texts;
 use cell_reader::Snapshot;
-use model_deploy::{RuleFiles, deploy};
+use model_bind::RuleFiles;
+use model_deploy::deploy;
 use std::alloc::{AllocError, Global};
 use std::sync::Arc;
 

@@ -6,7 +6,7 @@ ghost use Rattle.rule_dense.specs.Limits.{IsLow};
 use crate::files::Files;
 use crate::refusal::Refusal;
 use check_order::check_order;
-use model_deploy::{At, DeployCause, DeployFault, RuleFiles, foundation_of, rules_of};
+use model_bind::{At, DeployCause, DeployFault, RuleFiles, bind};
 use rule_model::Model;
 use std::alloc::{AllocError, Global};
 
@@ -30,17 +30,9 @@ fn unordered(alloc: Global, files: &Files) -> Result<Model, Refusal> {
         Ok(text) => text,
         Err(fault) => return Err(Refusal::of(alloc, &fault)),
     };
-    let found = match foundation_of(alloc, text) {
-        Ok(found) => found,
-        Err(fault) => return Err(told(alloc, fault)),
-    };
-    let rules = rule_files(alloc, files, found.space.cubes() as usize)?;
-    let bound = match rules_of(alloc, &found, &rules) {
-        Ok(bound) => bound,
-        Err(fault) => return Err(told(alloc, fault)),
-    };
-    match model_deploy::model_of(alloc, found, &rules, bound) {
-        Ok(model) => Ok(model),
+    let rules = rule_files(alloc, files, text.cubes().len())?;
+    match bind(alloc, text, &rules) {
+        Ok(bound) => Ok(bound.model),
         Err(fault) => Err(told(alloc, fault)),
     }
 }

@@ -2,7 +2,7 @@
 use Rattle.std.proofs.Common.{◌≡◌, ℕ, List, Result, refl, sym, ◌∙◌, ap, subst}
 use Rattle.cube_outside.specs.Seen.{Seen}
 use Rattle.cube_outside.specs.declared.files.Extent.TheVariants.{Whole}
-use Rattle.cube_words.specs.Words.{Plan, Run, Check, Sample, IsPlan}
+use Rattle.cube_words.specs.Words.{Plan, Run, Check, Feeders, Sample, IsPlan}
 use Rattle.file_passes.specs.Halting.{Comes}
 use Rattle.file_passes.specs.Outside.{Outside, outside}
 use Rattle.file_passes.specs.Pass.{Readings, NotWords, Reads, IsTurnOf, Pass, found, the, file, files, judged, ◌>>=◌}
@@ -14,18 +14,18 @@ use Rattle.file_passes.proofs.PassFacts.{AreAlike, alike-found, alike-bind, alik
 use Rattle.file_passes.proofs.Steady.{IsSteady, IsSettled, steady-file, steady-files, steady-judged, steady-bind, worded-judged, worded-behind}
 use Rattle.judged_files.specs.Loads.{record_files, commands_judgement}
 use Rattle.judged_files.specs.Models.{text_judgement}
-use Rattle.judged_files.specs.Rules.{rule_names, all_rule_names, deployment_judgement}
+use Rattle.judged_files.specs.Rules.{rule_names, all_rule_names, deployment_judgement, feeders_judgement}
 use Rattle.judged_files.specs.ModelFiles.{ModelFiles, Checked}
 use Rattle.judged_files.specs.Scripts.{script_files, scripts_judgement}
 use Rattle.judged_files.specs.Users.{users_judgement}
-use Rattle.judged_files.proofs.Judgements.{one_text_judgement, one_deployment_judgement, no_scripts_refused, one_users_judgement}
+use Rattle.judged_files.proofs.Judgements.{one_text_judgement, one_deployment_judgement, one_feeders_judgement, no_scripts_refused, one_users_judgement}
 use Rattle.model_text.specs.Contents.{script_names, Contents as Text}
 use Rattle.rule_model.specs.BoundModel.{BoundModel}
 use Rattle.user_text.specs.declared.command.UserCommand.{UserCommand}
 use Rattle.run_passes.specs.declared.run_job.RunJob.{RunJob}
 use Rattle.run_passes.specs.declared.run_job.RunJob.TheVariants as jobs
-use Rattle.run_passes.specs.RefusalOrder.{as_text, text_pass, deploy_pass, scripts_pass, model_pass, users_pass, records_pass, plan_pass, run_of}
-use Rattle.run_passes.specs.Inside.Plans.{checked_of, behind_scripts, behind_rules, behind_text, served, behind_users, behind_model}
+use Rattle.run_passes.specs.RefusalOrder.{as_text, text_pass, deploy_pass, feeders_pass, scripts_pass, model_pass, users_pass, records_pass, plan_pass, run_of}
+use Rattle.run_passes.specs.Inside.Plans.{checked_of, behind_scripts, behind_rules, behind_text, served, behind_users, behind_model, told_feeders, behind_feeders_text}
 use Rattle.run_passes.proofs.PlanWords.{one_plan}
 
 -- ---- of a model
@@ -40,6 +40,12 @@ steady-deploy name contents =
     steady-bind (files as_text (rule_names contents.cubes)) (λ sources. judged (deployment_judgement name contents sources))
     (steady-files as_text (rule_names contents.cubes))
     (λ sources. steady-judged (deployment_judgement name contents sources) (one_deployment_judgement name contents sources))
+
+pub steady-feeders : (name : List ℕ) (contents : Text) → IsSteady (feeders_pass name contents)
+steady-feeders name contents =
+    steady-bind (files as_text (rule_names contents.cubes)) (λ sources. judged (feeders_judgement name contents sources))
+    (steady-files as_text (rule_names contents.cubes))
+    (λ sources. steady-judged (feeders_judgement name contents sources) (one_feeders_judgement name contents sources))
 
 pub kept-scripts : (names : List (List ℕ)) → IsKept (scripts_pass names)
 kept-scripts names =
@@ -132,6 +138,16 @@ worded-behind_model users checked =
     worded-behind (users_pass checked.files.script_names users) (behind_users checked) (steady-users checked.files.script_names users).worded
     (λ texts. worded-behind (records_pass checked.files texts) (served checked) (worded-records checked.files texts) (λ commands readings stops. stops))
 
+-- ---- of feeders
+
+alike-feeders : (name : List ℕ) (contents : Text) → AreAlike (behind_feeders_text name contents) (behind_feeders_text name contents)
+alike-feeders name contents =
+    alike-behind (feeders_pass name contents) told_feeders told_feeders (steady-feeders name contents).one (λ text. alike-found (jobs.Feeders text) (jobs.Feeders text))
+
+worded-feeders : (name : List ℕ) (contents : Text) (readings : Readings) → (behind_feeders_text name contents).stops readings NotWords → ⊥
+worded-feeders name contents =
+    worded-behind (feeders_pass name contents) told_feeders (steady-feeders name contents).worded (λ text readings stops. stops)
+
 -- ---- of each plan
 
 abbrev pub accept : Checked → Pass RunJob
@@ -152,6 +168,10 @@ settled-plan (Check model) =
           (λ readings a b p q. alike-found (jobs.Check a.model) (jobs.Check b.model));
       worded = worded-behind (model_pass model) accept settled.worded (λ checked readings stops. stops);
     }
+settled-plan (Feeders model) = record {
+  alike = alike-behind (text_pass model) (behind_feeders_text model) (behind_feeders_text model) (steady-text model).one (λ contents. alike-feeders model contents);
+  worded = worded-behind (text_pass model) (behind_feeders_text model) (steady-text model).worded (λ contents. worded-feeders model contents);
+}
 settled-plan (Sample size) = record { alike = alike-found (jobs.Sample size) (jobs.Sample size); worded = λ readings stops. stops }
 
 -- a run stops in one way over the files that it has read, and finds no job where it stops

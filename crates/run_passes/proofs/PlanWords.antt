@@ -3,7 +3,7 @@ use Rattle.std.proofs.Common.{◌≡◌, ℕ, List, [], ◌∷◌, ◌++◌, Boo
 use Rattle.std.proofs.lemmas.List.{append_cancel_left}
 use Rattle.std.specs.List.{list_all}
 use Rattle.std.specs.Str.Parse.{digits_value}
-use Rattle.cube_words.specs.Words.{Plan, Run, Check, Sample, IsPlan, IsCheck, IsSample, names_a_file}
+use Rattle.cube_words.specs.Words.{Plan, Run, Check, Feeders, Sample, IsPlan, IsFlagged, IsCheck, IsFeeders, IsSample, names_a_file}
 
 first-of : {A : Type 0} (x y : A) (xs ys : List A) → x ∷ xs ≡ y ∷ ys → x ≡ y
 first-of x y xs ys same = cc
@@ -28,10 +28,11 @@ module _ (words : List (List ℕ)) (files : IsTrue (list_all names_a_file words)
   no-second name flag same =
       never-both (names_a_file name) (subst (λ w. IsTrue (list_all names_a_file w)) same files)
 
-  no-check : (model : List ℕ) → IsCheck words model → ⊥
-  no-check model check = elim check.all [
-    | inl is ↦ no-first (codes "-check") (model ∷ []) is
-    | inr is ↦ no-second model (codes "-check") is
+  -- a flag is no file
+  no-flagged : (flag model : List ℕ) → IsFlagged (45 ∷ flag) words model → ⊥
+  no-flagged flag model flagged = elim flagged.all [
+    | inl is ↦ no-first flag (model ∷ []) is
+    | inr is ↦ no-second model flag is
   ]
 
   no-sample : (size : ℕ) → IsSample words size → ⊥
@@ -41,29 +42,46 @@ module _ (words : List (List ℕ)) (files : IsTrue (list_all names_a_file words)
   ]
 
 module _ (words : List (List ℕ)) where
-  one-model : (x y : List ℕ) → IsCheck words x → IsCheck words y → x ≡ y
-  one-model x y p q = elim p.all [
+  one-model : (flag x y : List ℕ) → IsFlagged (45 ∷ flag) words x → IsFlagged (45 ∷ flag) words y → x ≡ y
+  one-model flag x y p q =
+      let f = 45 ∷ flag in
+      elim p.all [
+        | inl is ↦ elim q.all [
+          | inl too ↦ second-of x y f f [] [] (sym is ∙ too)
+          | inr too ↦ absurd (no-flag y flag (sym (first-of f y (x ∷ []) (f ∷ []) (sym is ∙ too))) q.file)
+        ]
+        | inr is ↦ elim q.all [
+          | inl too ↦ absurd (no-flag x flag (first-of x f (f ∷ []) (y ∷ []) (sym is ∙ too)) p.file)
+          | inr too ↦ first-of x y (f ∷ []) (f ∷ []) (sym is ∙ too)
+        ]
+      ]
+
+  -- two flags aren't asked for at once
+  no-two-flags : (x y : List ℕ) → IsCheck words x → IsFeeders words y → ⊥
+  no-two-flags x y p q = elim p.all [
     | inl is ↦ elim q.all [
-      | inl too ↦ second-of x y (codes "--check") (codes "--check") [] [] (sym is ∙ too)
-      | inr too ↦ absurd (no-flag y (codes "-check") (sym (first-of (codes "--check") y (x ∷ []) (codes "--check" ∷ []) (sym is ∙ too))) q.file)
+      | inl too ↦ (let flags = first-of (codes "--check") (codes "--feeders") (x ∷ []) (y ∷ []) (sym is ∙ too) in cc)
+      | inr too ↦ no-flag y (codes "-check") (sym (first-of (codes "--check") y (x ∷ []) (codes "--feeders" ∷ []) (sym is ∙ too))) q.file
     ]
     | inr is ↦ elim q.all [
-      | inl too ↦ absurd (no-flag x (codes "-check") (first-of x (codes "--check") (codes "--check" ∷ []) (y ∷ []) (sym is ∙ too)) p.file)
-      | inr too ↦ first-of x y (codes "--check" ∷ []) (codes "--check" ∷ []) (sym is ∙ too)
+      | inl too ↦ no-flag x (codes "-feeders") (first-of x (codes "--feeders") (codes "--check" ∷ []) (y ∷ []) (sym is ∙ too)) p.file
+      | inr too ↦ (let flags = second-of (codes "--check") (codes "--feeders") x y [] [] (sym is ∙ too) in cc)
     ]
   ]
 
-  no-check-sample : (model : List ℕ) (size : ℕ) → IsCheck words model → IsSample words size → ⊥
-  no-check-sample model size p q = elim p.all [
-    | inl is ↦ elim q.2 [
-      | inl too ↦ (let flags = first-of (codes "--check") (codes "--sample") (model ∷ []) (q.0 ∷ []) (sym is ∙ too) in cc)
-      | inr too ↦ (let both : codes "--check" ∷ model ∷ [] ≡ (codes "--sample=" ++ q.0) ∷ [] = sym is ∙ too in cc)
-    ]
-    | inr is ↦ elim q.2 [
-      | inl too ↦ no-flag model (codes "-sample") (first-of model (codes "--sample") (codes "--check" ∷ []) (q.0 ∷ []) (sym is ∙ too)) p.file
-      | inr too ↦ (let both : model ∷ codes "--check" ∷ [] ≡ (codes "--sample=" ++ q.0) ∷ [] = sym is ∙ too in cc)
-    ]
-  ]
+  no-flagged-sample : (flag model : List ℕ) (size : ℕ) → IsFlagged (45 ∷ flag) words model → (45 ∷ flag ≡ codes "--sample" → ⊥) → IsSample words size → ⊥
+  no-flagged-sample flag model size p other q =
+      let f = 45 ∷ flag in
+      elim p.all [
+        | inl is ↦ elim q.2 [
+          | inl too ↦ other (first-of f (codes "--sample") (model ∷ []) (q.0 ∷ []) (sym is ∙ too))
+          | inr too ↦ (let both : f ∷ model ∷ [] ≡ (codes "--sample=" ++ q.0) ∷ [] = sym is ∙ too in cc)
+        ]
+        | inr is ↦ elim q.2 [
+          | inl too ↦ no-flag model (codes "-sample") (first-of model (codes "--sample") (f ∷ []) (q.0 ∷ []) (sym is ∙ too)) p.file
+          | inr too ↦ (let both : model ∷ f ∷ [] ≡ (codes "--sample=" ++ q.0) ∷ [] = sym is ∙ too in cc)
+        ]
+      ]
 
   one-digits : (a b : ℕ) (p : IsSample words a) (q : IsSample words b) → p.0 ≡ q.0
   one-digits a b p q = elim p.2 [
@@ -80,13 +98,26 @@ module _ (words : List (List ℕ)) where
   one-size : (a b : ℕ) → IsSample words a → IsSample words b → a ≡ b
   one-size a b p q = sym p.1.value ∙ ap (digits_value 10) (one-digits a b p q) ∙ q.1.value
 
+  no-check-sample : (model : List ℕ) (size : ℕ) → IsCheck words model → IsSample words size → ⊥
+  no-check-sample model size p q = no-flagged-sample (codes "-check") model size p (λ same. cc) q
+
+  no-feeders-sample : (model : List ℕ) (size : ℕ) → IsFeeders words model → IsSample words size → ⊥
+  no-feeders-sample model size p q = no-flagged-sample (codes "-feeders") model size p (λ same. cc) q
+
   pub one_plan : (a b : Plan) → IsPlan words a → IsPlan words b → a ≡ b
   one_plan (Run model users) (Run other more) p q = (let same : model ∷ users ≡ other ∷ more = sym p.all ∙ q.all in cc)
-  one_plan (Run model users) (Check other) p q = absurd (no-check words p.files other q)
+  one_plan (Run model users) (Check other) p q = absurd (no-flagged words p.files (codes "-check") other q)
+  one_plan (Run model users) (Feeders other) p q = absurd (no-flagged words p.files (codes "-feeders") other q)
   one_plan (Run model users) (Sample size) p q = absurd (no-sample words p.files size q)
-  one_plan (Check model) (Run other users) p q = absurd (no-check words q.files model p)
-  one_plan (Check model) (Check other) p q = ap Check (one-model model other p q)
+  one_plan (Check model) (Run other users) p q = absurd (no-flagged words q.files (codes "-check") model p)
+  one_plan (Check model) (Check other) p q = ap Check (one-model (codes "-check") model other p q)
+  one_plan (Check model) (Feeders other) p q = absurd (no-two-flags model other p q)
   one_plan (Check model) (Sample size) p q = absurd (no-check-sample model size p q)
+  one_plan (Feeders model) (Run other users) p q = absurd (no-flagged words q.files (codes "-feeders") model p)
+  one_plan (Feeders model) (Check other) p q = absurd (no-two-flags other model q p)
+  one_plan (Feeders model) (Feeders other) p q = ap Feeders (one-model (codes "-feeders") model other p q)
+  one_plan (Feeders model) (Sample size) p q = absurd (no-feeders-sample model size p q)
   one_plan (Sample size) (Run other users) p q = absurd (no-sample words q.files size p)
   one_plan (Sample size) (Check other) p q = absurd (no-check-sample other size q p)
+  one_plan (Sample size) (Feeders other) p q = absurd (no-feeders-sample other size q p)
   one_plan (Sample size) (Sample other) p q = ap Sample (one-size size other p q)

@@ -43,8 +43,8 @@ impl Model for Checked {
     ghost view = { λ checked. record { model = checked.model; files = checked.files } };
 }
 
-// The model file.
-fn text_pass<F: Files>(
+/// The model file.
+pub(crate) fn text_pass<F: Files>(
     alloc: Global,
     files: &mut F,
     readings: &mut Readings,

@@ -6,6 +6,7 @@ ghost use Rattle.judged_files.specs.Users.{AreKnown};
 ghost use Rattle.run_passes.specs.Inside.Plans.{behind_model, behind_users};
 ghost use Rattle.run_passes.specs.RefusalOrder.{users_pass, records_pass, plan_pass, run_of};
 
+use crate::feeders_passes::feeders_plan_pass;
 use crate::model_passes::{AS_TEXT, Checked, model_pass};
 use crate::run_job::RunJob;
 use cube_outside::{Extent, Files};
@@ -83,6 +84,7 @@ fn plan_pass<F: Files>(
     match plan {
         Plan::Run { model, users } => run_pass(alloc, files, readings, model, users),
         Plan::Check { model } => check_pass(alloc, files, readings, model),
+        Plan::Feeders { model } => feeders_plan_pass(alloc, files, readings, model),
         Plan::Sample { size } => Ok(RunJob::Sample(*size)),
     }
 }

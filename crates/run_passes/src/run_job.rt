@@ -10,6 +10,8 @@ pub enum RunJob {
     Serve(Accepted, ListOf<ListOf<Act<PlanCommand>>>),
     /// Tells that the model is accepted, with its rules and scripts.
     Check(Accepted),
+    /// Prints the feeders that are found for the model, which have this text.
+    Feeders(ListOf<u8>),
     /// Runs the generated sample of so many records.
     Sample(u32),
 }

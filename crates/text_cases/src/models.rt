@@ -1,6 +1,7 @@
 use crate::answers::{Answer, Lines, refused, shown};
 use cube_space::Space;
-use model_deploy::{deploy, no_rule_files};
+use model_bind::no_rule_files;
+use model_deploy::deploy;
 use model_text::{CubeText, ModelText};
 use std::alloc::{AllocError, Global};
 

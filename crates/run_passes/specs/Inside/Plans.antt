@@ -9,7 +9,7 @@ use Rattle.user_session.specs.declared.command.PlanCommand.{PlanCommand}
 use Rattle.user_text.specs.declared.command.UserCommand.{UserCommand}
 use Rattle.run_passes.specs.declared.run_job.RunJob.{RunJob}
 use Rattle.run_passes.specs.declared.run_job.RunJob.TheVariants as jobs
-use Rattle.run_passes.specs.RefusalOrder.{deploy_pass, scripts_pass, users_pass, records_pass}
+use Rattle.run_passes.specs.RefusalOrder.{deploy_pass, feeders_pass, scripts_pass, users_pass, records_pass}
 use Rattle.judged_files.specs.ModelFiles.{Checked}
 use Rattle.judged_files.specs.Rules.{all_rule_names}
 use Rattle.judged_files.specs.Scripts.{script_files}
@@ -44,3 +44,11 @@ behind_users checked texts = records_pass checked.files texts >>= served checked
 
 abbrev pub behind_model : List (List ℕ) → Checked → Pass RunJob
 behind_model users checked = users_pass checked.files.script_names users >>= behind_users checked
+
+-- ---- of feeders
+
+abbrev pub told_feeders : List ℕ → Pass RunJob
+told_feeders text = found (jobs.Feeders text)
+
+abbrev pub behind_feeders_text : List ℕ → Contents → Pass RunJob
+behind_feeders_text name contents = feeders_pass name contents >>= told_feeders

@@ -10,6 +10,9 @@ returns-in-Run g c = rw c.in-Run.is c.run_pass.ensures
 pub returns-in-Check : goal.returns-in-Check
 returns-in-Check g c = rw c.in-Check.is c.check_pass.ensures
 
+pub returns-in-Feeders : goal.returns-in-Feeders
+returns-in-Feeders g c = rw c.in-Feeders.is c.feeders_plan_pass.ensures
+
 pub returns-in-Sample : goal.returns-in-Sample
 returns-in-Sample g c =
     rw c.in-Sample.is ((on-refl (plan_pass (Sample c.in-Sample.size)) (g.F.Files.seen c.args.files.now).known c.args.readings.now, refl, λ base begun. begun), refl)

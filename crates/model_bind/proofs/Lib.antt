@@ -1,0 +1,14 @@
+pub mod Elements
+pub mod Firsts
+pub mod Greatest
+pub mod Layouts
+pub mod RuleTexts
+pub mod SharedFiles
+pub mod SmallProducts
+pub mod CubeRules
+pub mod InStages
+pub mod Stages
+pub mod NoTexts
+pub mod Walks
+pub mod Reordered
+pub mod OneOrder
