@@ -113,5 +113,5 @@ abbrev pub usage_text : List ℕ
 usage_text =
     codes "usage: cube_program MODEL USER..." ++ line_end ++
     codes "       cube_program --check MODEL" ++ line_end ++
-    codes "       cube_program --feeders MODEL" ++ line_end ++
-    codes "       cube_program --sample N" ++ line_end
+    codes "       cube_program --sample N" ++ line_end ++
+    codes "       cube_program --feeders MODEL" ++ line_end

@@ -205,8 +205,9 @@ pub(crate) fn print_unread(alloc: Global, file: &[u8]) -> Result<Vec<u8>, AllocE
 pub(crate) fn print_usage(alloc: Global) -> Result<Vec<u8>, AllocError>
     ensures { IfOk result (λ text. text.items ≡ usage_text) }
 {
-    Vec::from_slice(
-        alloc,
-        b"usage: cube_program MODEL USER...\n       cube_program --check MODEL\n       cube_program --feeders MODEL\n       cube_program --sample N\n",
-    )
+    let mut text = Vec::from_slice(alloc, b"usage: cube_program MODEL USER...\n")?;
+    text.extend_from_slice(b"       cube_program --check MODEL\n")?;
+    text.extend_from_slice(b"       cube_program --sample N\n")?;
+    text.extend_from_slice(b"       cube_program --feeders MODEL\n")?;
+    Ok(text)
 }
