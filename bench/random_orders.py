@@ -1,12 +1,13 @@
 #!/usr/bin/env python3
-"""Small random models with `ORDER AUTO`, and what deployment must say of each.
+"""Small random models with `ORDER AUTO` and `ORDER AUTO TOTALS`, and what deployment must say of each.
 
     random_orders.py cases           prints the models as cases of crates/run_cases/stdin
     random_orders.py PROGRAM         runs the program on each, and compares its answer with what is found here
 
-Here the arrows are made cell by cell, and all ranks of at most 4 are tried, so that nothing is shared with the
-program: a model is accepted exactly where some ranks fit, and each walk that a refusal names is closed, is made of
-arrows, has a strict one, and begins with its first reference.
+Here the arrows are made cell by cell, and ranks are raised until they fit, so that nothing is shared with the program:
+a model is accepted exactly where some ranks fit, and each walk that a refusal names is closed, is made of arrows, has a
+strict one, and begins with its first reference. The first models are without the word `TOTALS`; of each of the others
+at least one cube has it.
 """
 import itertools
 import random
@@ -16,6 +17,7 @@ import tempfile
 from pathlib import Path
 
 MODELS = 40
+WITH_TOTALS = 60
 
 
 class Dimension:
@@ -47,6 +49,11 @@ class Dimension:
 class Cube:
     def __init__(self, name, dimensions, lag):
         self.name, self.dimensions, self.lag, self.statements = name, dimensions, lag, []
+        self.has_kinds = False
+
+    def node(self, element, is_total):
+        """The node of cells with this element in the last dimension; those of a kind have one where the cube says so."""
+        return (self.name, element, is_total and self.has_kinds)
 
     def cells(self):
         return itertools.product(*(it.elements for it in self.dimensions))
@@ -132,16 +139,21 @@ def made(number):
         cubes.append(Cube("Other", [month, other], chance.choice([None, 0])))
     for cube in cubes:
         cube.statements = [statement(chance, cube, cubes) for _ in range(chance.choice([1, 1, 2, 3]))]
+    if number >= MODELS:
+        for cube in chance.sample(cubes, chance.choice(range(1, len(cubes) + 1))):
+            cube.has_kinds = True
     return cubes
 
 
 def files(cubes):
     dimensions = list(dict.fromkeys(it for cube in cubes for it in cube.dimensions))
-    lines = ["MODEL 1;"] + [line for it in dimensions for line in it.text()]
+    version = 2 if any(it.has_kinds for it in cubes) else 1
+    lines = [f"MODEL {version};"] + [line for it in dimensions for line in it.text()]
     for k, cube in enumerate(cubes):
         names = ", ".join(f"'{it.name}'" for it in cube.dimensions)
         order = "" if cube.lag is None else f" '{cube.dimensions[cube.lag].name}'"
-        said = "" if k and cube.lag is None else f" ORDER AUTO{order};"
+        totals = " TOTALS" if cube.has_kinds else ""
+        said = "" if k and cube.lag is None and not totals else f" ORDER AUTO{totals}{order};"
         lines.append(f"CUBE '{cube.name}' ({names}); RULES '{cube.name.lower()}.rux';{said} END;")
     found = {"model.txt": lines}
     for cube in cubes:
@@ -154,9 +166,9 @@ def looked_at(cubes):
     arrows = []
     for cube in cubes:
         last = cube.dimensions[-1]
-        for total in last.totals:
-            for leaf in last.leaves_below(total):
-                arrows.append(((cube.name, total), (cube.name, leaf), False, None))
+        for element in last.elements if cube.has_kinds else last.totals:
+            for leaf in last.leaves_below(element):
+                arrows.append((cube.node(element, True), cube.node(leaf, False), False, None))
     for at, cube in enumerate(cubes):
         for s, (_, inside, references) in enumerate(cube.statements):
             for r, (kinds, named) in enumerate(references):
@@ -169,16 +181,19 @@ def looked_at(cubes):
                         continue
                     strict = not all(to.level(read) < cube.level(cell) for cell, to, read in pairs)
                     for cell, to, read in pairs:
-                        arrows.append(((cube.name, cell[-1]), (to.name, read[-1]), strict, (at, s + 1, r + 1)))
+                        own, its = cube.node(cell[-1], kind), to.node(read[-1], to.is_total(read))
+                        arrows.append((own, its, strict, (at, s + 1, r + 1)))
     return None, arrows
 
 
-def some_ranks_fit(cubes, arrows):
-    nodes = [(cube.name, it) for cube in cubes for it in cube.dimensions[-1].elements]
-    for ranks in itertools.product(range(5), repeat=len(nodes)):
-        rank = dict(zip(nodes, ranks))
-        if all(rank[to] + strict <= rank[at] for at, to, strict, _ in arrows):
+def some_ranks_fit(arrows):
+    rank = {node: 0 for at, to, _, _ in arrows for node in (at, to)}
+    for _ in range(len(rank) + 1):
+        raised = {at: rank[to] + strict for at, to, strict, _ in arrows if rank[to] + strict > rank[at]}
+        if not raised:
             return True
+        for at, to, strict, _ in arrows:
+            rank[at] = max(rank[at], rank[to] + strict)
     return False
 
 
@@ -197,9 +212,8 @@ def begins(found, first, s):
 def is_shown(cubes, arrows, file, s, names):
     """Whether these names are a closed walk that begins so."""
     first = next(k for k, it in enumerate(cubes) if f"{it.name.lower()}.rux" == file)
-    own = {it: [cube.name for cube in cubes if it in cube.dimensions[-1].elements] for it in names}
-    for places in itertools.product(*(own[it] for it in names)):
-        nodes = list(zip(places, names))
+    own = {it: {node for at, to, _, _ in arrows for node in (at, to) if node[1] == it} for it in names}
+    for nodes in map(list, itertools.product(*(own[it] for it in names))):
         steps = list(zip(nodes, nodes[1:] + nodes[:1]))
         if begins([[it for it in arrows if it[:2] == step] for step in steps], first, s):
             return True
@@ -213,7 +227,7 @@ def judged(cubes, said):
         cube, s, r = unlagged
         wanted = f"refused {cube.name.lower()}.rux: statement {s}: Unlagged reference {r}"
         return None if said == wanted else f"wanted {wanted}"
-    if some_ranks_fit(cubes, arrows):
+    if some_ranks_fit(arrows):
         return None if said.startswith("accepted ") else "some ranks fit"
     words = said.split(": ")
     if len(words) != 3 or not words[2].startswith("Cycle "):
@@ -233,14 +247,14 @@ def answer(program, cubes):
 
 def main(words):
     if words == ["cases"]:
-        for n in range(MODELS):
+        for n in range(MODELS + WITH_TOTALS):
             print(f"run: random model {n} with an order that is to be found\nwords --check model.txt")
             for name, lines in files(made(n)).items():
                 print(f"file {name}\n" + "\n".join(f"|{it}" for it in lines))
             print()
         return 0
     wrong, kinds = 0, {}
-    for n in range(MODELS):
+    for n in range(MODELS + WITH_TOTALS):
         said = answer(words[0], made(n))
         fault = judged(made(n), said)
         kind = "accepted" if said.startswith("accepted") else said.split(": ")[-1].split()[0]
@@ -248,7 +262,7 @@ def main(words):
         if fault:
             wrong += 1
             print(f"model {n}: {said}: {fault}")
-    print(f"{MODELS} models, {wrong} wrong; {kinds}")
+    print(f"{MODELS + WITH_TOTALS} models, {wrong} wrong; {kinds}")
     return 1 if wrong else 0
 
 
