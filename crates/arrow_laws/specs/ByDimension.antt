@@ -14,7 +14,7 @@ use Rattle.rule_model.specs.BoundModel.{BoundModel}
 use Rattle.rule_model.specs.Order.{most_positions}
 use Rattle.order_laws.specs.Scales.{is_total, parts_in}
 use Rattle.order_laws.specs.Earlier.{most_excess, is_below, is_within}
-pub use Rattle.order_laws.specs.Plain.{read_cube}
+pub use Rattle.order_laws.specs.Excess.{read_cube}
 use Rattle.cover_laws.specs.Looking.{sent}
 use Rattle.arrow_laws.specs.Nodes.{Node, last_of}
 

@@ -17,7 +17,7 @@ use Rattle.rule_model.specs.Conditions.{IsArea}
 use Rattle.order_laws.specs.Greatest.{plus, larger, greatest, only}
 use Rattle.order_laws.specs.Scales.{scale_of, moved_sum, parts_in, set_count, set_element, greatest_in, is_total, is_leaf_element}
 use Rattle.order_laws.specs.Earlier.{Kinds, is_same, are_same, both, of_leaf, of_total, moved_leaves, kinds_before, component_number, components_number, number_by_kinds, start_by_kinds, greatest_of_kinds, greatest_ending, excess_of_kinds, most_excess, is_below}
-use Rattle.order_laws.specs.Plain.{component_excess, components_excess, excess, greatest_by}
+use Rattle.order_laws.specs.Excess.{component_excess, components_excess, excess, greatest_by}
 use Rattle.order_laws.proofs.SetFacts.{is_in, place-of, place-in, set-at}
 use Rattle.cover_laws.specs.Looking.{sent}
 use Rattle.arrow_laws.specs.ByDimension.{names_from, has_part, serves, is_from, is_lagged, HasEach, HasOtherTotal}

@@ -9,7 +9,7 @@ use Rattle.rule_model.specs.BoundModel.{BoundModel}
 use Rattle.order_laws.specs.Greatest.{plus, larger, greatest, only}
 use Rattle.order_laws.specs.Scales.{scale_of, moved_sum, parts_in, set_count, set_element, is_total, is_leaf_element}
 use Rattle.order_laws.specs.Earlier.{Kinds, is_same, of_total, moved_leaves, number_by_kinds, component_number, components_number, greatest_of_kinds}
-use Rattle.order_laws.specs.Plain.{excess, component_excess, components_excess, greatest_by}
+use Rattle.order_laws.specs.Excess.{excess, component_excess, components_excess, greatest_by}
 
 some-larger : (a b : Option ℤ) → is_some (larger a b) ≡ (is_some a || is_some b)
 some-larger None b = refl

@@ -5,7 +5,7 @@ ghost use Rattle.rule_model.specs.Conditions.{IsPrecedent};
 ghost use Rattle.order_laws.specs.Greatest.{larger, only};
 ghost use Rattle.order_laws.specs.Scales.{is_total, is_leaf_element, set_count, set_element};
 ghost use Rattle.order_laws.specs.Earlier.{is_same};
-ghost use Rattle.order_laws.specs.Plain.{greatest_by};
+ghost use Rattle.order_laws.specs.Excess.{greatest_by};
 ghost use Rattle.ref_order.specs.Areas.{IsAreaCells};
 ghost use Rattle.ref_order.specs.Kinds.{AreByKinds, AreAllWithin, number_of};
 ghost use Rattle.ref_order.specs.Known.{AreReads, AreRight, IsKnown, answer_of, number_asked};
