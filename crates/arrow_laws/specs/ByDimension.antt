@@ -61,7 +61,8 @@ serves space cube (Components dim) its i element = if i == dim
 abbrev pub names_total : Layout → ℕ → Precedent → ℕ → ℕ → Bool
 names_total space cube (Named r) i element = not (moved_leaves (axes space r.cube) 0 r.args i element)
 names_total space cube (Components dim) i element = if i == dim
-    then has_part (axes space cube) (is_total (axes space cube) i) i element else is_total (axes space cube) i element
+    then has_part (axes space cube) (λ part. not (is_leaf_element (axes space cube) i part)) i element
+    else is_total (axes space cube) i element
 
 -- whether the area of a cube has this element in a dimension
 abbrev pub has_element : Layout → ℕ → Area → ℕ → ℕ → Bool
