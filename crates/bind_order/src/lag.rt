@@ -21,7 +21,8 @@ use std::alloc::{AllocError, Global};
 pub struct Lag {
     /// Whether leaf cells and consolidated cells may have different positions.
     pub totals: bool,
-    /// The place, among those of the cube, of the dimension in which the element's index is the first position.
+    /// The place in the cube, from 0, of the dimension in which the element's index is the first position, where one is
+    /// named. It isn't the last.
     pub place: Option<u32>,
 }
 
@@ -123,8 +124,9 @@ fn lag_positions(
     Ok(positions)
 }
 
-/// The order of a lag alone: its one position is the index of the elements of the dimension at its place. Where the line
-/// says `TOTALS`, leaf cells and consolidated cells have lists of their own, which are equal.
+/// The order of a lag alone: its one position is the index of the elements of the dimension at its place, and it has
+/// none where there is no place. Where the line says `TOTALS`, leaf cells and consolidated cells have a list each, and
+/// both are equal.
 pub fn lag_order(
     alloc: Global,
     space: &Space,
