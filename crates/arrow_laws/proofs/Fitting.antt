@@ -40,7 +40,7 @@ module _ (m : BoundModel) (valid : IsSpace m.space) (ranks : NodeRanks) (fit : F
       → HoldsLeavesOf d (ranks_in ranks true cube) (ranks_in ranks (node_kind m cube false) cube)
   leaves-held cube d there last element leaf own other counts = by (node_kind m cube false) refl (is_leaf d element) refl
     where
-      abbrev IsHeld : Bool → Type 0
+      IsHeld : Bool → Type 0
       IsHeld kind = get_or (ranks_in ranks true cube) leaf 0 ≤ get_or (ranks_in ranks kind cube) element 0
 
       arrow : (node_kind m cube false ≡ true → is_leaf d element ≡ false) → IsHeld (node_kind m cube false)
