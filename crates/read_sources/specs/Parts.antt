@@ -6,13 +6,13 @@ use Rattle.rule_laws.specs.declared.reference.Arg.TheVariants.{Fixed, Moved}
 use Rattle.rule_laws.specs.Meaning.{Precedent, Named, Components}
 use Rattle.rule_model.specs.declared.rules.Statement.{Statement}
 use Rattle.rule_model.specs.BoundModel.{BoundModel, rules_of}
-use Rattle.arrow_laws.specs.Nodes.{Node, last_of, kind_in}
+use Rattle.arrow_laws.specs.Nodes.{Node, last_of, node_kind, has_nodes, kind_in}
 use Rattle.arrow_laws.specs.Arrows.{Reads}
 use Rattle.arrow_laws.specs.ByDimension.{is_lagged, is_level, is_weak, IsJoinedByDimension}
 use Rattle.read_sources.specs.declared.source.Source.{Source}
 use Rattle.read_sources.specs.declared.parting.Parted.{Parted}
 use Rattle.read_sources.specs.Ways.{Follows, Same, Component, Always, Sent, SentOver, precedent, way_of}
-use Rattle.read_sources.specs.Ways.{reads_from, gives_total, serves_any, cube_read}
+use Rattle.read_sources.specs.Ways.{reads_from, gives_total, serves_any, cube_read, IsNamedAs}
 use Rattle.read_sources.specs.Sources.{IsRead, most_sources}
 
 -- which dimension an argument follows, and by which map
@@ -64,6 +64,16 @@ pub record IsAlike (m : BoundModel) (one other : Source) : Type 0 where
 pub record Joins (m : BoundModel) (s : Source) (from to : Node) : Type 0 where
   pub meant : kind_in m to.cube to.kind ≡ s.its
   pub joined : IsJoinedByDimension m s.cube s.area.now s.kind (precedent s) from to
+
+-- the same by single dimensions
+pub record JoinsAs (m : BoundModel) (s : Source) (from to : Node) : Type 0 where
+  pub source : from.cube ≡ s.cube
+  pub source_kind : from.kind ≡ node_kind m s.cube s.kind
+  pub target : to.cube ≡ cube_read s
+  pub target_kind : IsTrue (has_nodes m to.cube to.kind)
+  pub meant : kind_in m to.cube to.kind ≡ s.its
+  pub own : IsTrue (reads_from m s (last_of m.space s.cube) from.element)
+  pub named : IsNamedAs m s (way_of m s) from.element to.element
 
 -- a source makes each arrow that another one makes
 pub record MakesArrowsOf (m : BoundModel) (one other : Source) : Type 0 where

@@ -50,11 +50,7 @@ fn meets(given: Given, own: bool, its: bool) -> bool
 pub fn suits(source: Source, own: bool, its: bool) -> bool
     ensures { result ≡ suits source.entry own its }
 {
-    meets(
-        source.elsewhere,
-        !source.kind && !own,
-        source.asks && !its,
-    )
+    meets(source.elsewhere, !source.kind && !own, source.asks && !its)
 }
 
 /// Whether what is named may be what the cells have that a source means: leaf cells have leaves alone.
@@ -111,8 +107,7 @@ fn given_by(source: Source, kinds: ByKinds) -> Given
 fn has_one(source: Source, kinds: ByKinds) -> bool
     ensures { result ≡ has_one source.entry kinds }
 {
-    has_admitted(source.its, kinds.leaf)
-        || (!source.kind && has_admitted(source.its, kinds.total))
+    has_admitted(source.its, kinds.leaf) || (!source.kind && has_admitted(source.its, kinds.total))
 }
 
 /// What the dimensions other than these two give of what a source asks.

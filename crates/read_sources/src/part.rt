@@ -54,11 +54,5 @@ pub fn look<'a>(part: Part<'a>, known: &mut Known<'a>, read: Read<'a>) -> Seen
     if is_below(lag) {
         return Seen::Smaller;
     }
-    Seen::Level(is_below(most_excess(
-        cells,
-        known,
-        kind,
-        read,
-        MAX_POSITIONS,
-    )))
+    Seen::Level(is_below(most_excess(cells, known, kind, read, MAX_POSITIONS)))
 }

@@ -143,10 +143,7 @@ fn serves(model: &Model, source: Source, dim: usize, element: u32) -> bool
             if dim == own as usize {
                 has_part(model, source.cube, dim, element, wanted_by(source.its))
             } else {
-                admits(
-                    source.its,
-                    !is_total(model, source.cube, dim, element),
-                )
+                admits(source.its, !is_total(model, source.cube, dim, element))
             }
         }
     }
@@ -221,7 +218,6 @@ pub fn serves_with(model: &Model, source: Source, element: u32, dim: usize, othe
     let last = last_of(model, source.cube);
     let own = is_total(model, source.cube, last, element)
         || is_total(model, source.cube, dim, other);
-    let its =
-        gives_total(model, source, last, element) || gives_total(model, source, dim, other);
+    let its = gives_total(model, source, last, element) || gives_total(model, source, dim, other);
     suits(source, own, its)
 }

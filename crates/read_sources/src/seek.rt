@@ -63,10 +63,7 @@ fn is_reached<'a>(model: &'a Model, known: &mut Known<'a>, source: Source<'a>) -
         (length (axes model.now.space source.entry.cube)) }
     ensures known { IsKnown model.now source.entry.cube source.entry.area.now known.new }
 {
-    if !admits(
-        source.its,
-        names_leaves(model, source.cube, source.read),
-    ) {
+    if !admits(source.its, names_leaves(model, source.cube, source.read)) {
         return false;
     }
     if !has_each(model, known, source) {
