@@ -17,6 +17,7 @@ use Rattle.run_passes.specs.declared.run_job.RunJob.TheVariants.{Serve, Check, F
 use Rattle.file_passes.specs.declared.refusal.Refusal.{Refusal}
 use Rattle.cube_server.specs.declared.status.Status.{Status}
 use Rattle.cube_server.specs.declared.status.Status.TheVariants.{Done, Usage, Refused, ReadFault, WriteFault, NoMemory}
+use Rattle.feed_print.specs.FoundText.{IsFoundText}
 use Rattle.file_passes.specs.Course.{IsCourse, names_of}
 use Rattle.file_passes.specs.Outside.{Outside, outside}
 use Rattle.cube_server.specs.Output.{output, refused_text, unread_text, usage_text}
@@ -42,7 +43,7 @@ pub record IsServed (model : BoundModel) (users : List (List (Act PlanCommand)))
 abbrev pub IsOutput : RunJob → List ℕ → Type 0
 IsOutput (Serve model users) text = IsServed model users text
 IsOutput (Check model) text = IsAccepted model × (text ≡ accepted_text model)
-IsOutput (Feeders found) text = text ≡ found
+IsOutput (Feeders bound) text = IsFoundText bound.model bound.asking text
 IsOutput (Sample size) text = IsSummary size text
 
 -- just the files that were read were asked for, each once, in this order, and then these

@@ -11,6 +11,7 @@ use crate::status::Status;
 use crate::users::serve_users;
 use accepted::Accepted;
 use cube_outside::{Files, Gate};
+use feed_print::found_text;
 use file_passes::{Halt, Readings};
 use history::Told;
 use lists::ListOf;
@@ -69,7 +70,11 @@ fn done<R: Threads + Wait + Sync, G: Gate + Sync>(
             Status::Done,
             accepted_text(alloc, model.model())?,
         ),
-        RunJob::Feeders(text) => one_piece(alloc, Status::Done, text.into_vec()),
+        RunJob::Feeders(bound) => one_piece(
+            alloc,
+            Status::Done,
+            found_text(alloc, &bound.model, bound.asking.as_slice())?,
+        ),
         RunJob::Sample(size) => one_piece(alloc, Status::Done, sample(rt, alloc, gate, size)?),
     }
 }

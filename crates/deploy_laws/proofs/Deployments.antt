@@ -13,9 +13,8 @@ use Rattle.model_bind.specs.Foundation.{layout_of, cube_lines, order_lines, dime
 use Rattle.model_bind.specs.Rules.{file_name, meant_in, in_order, is_automatic, line_order, by_line, text_stage, meaning_stage, order_stage, asking}
 use Rattle.model_bind.specs.Binding.{ranked_stage, model_of, binding}
 use Rattle.model_bind.specs.declared.bound.Bound.{Bound}
-use Rattle.feed_find.specs.Found.{with_found}
 use Rattle.model_bind.specs.Stages.{Stage, found, unless, each, ◌>>=◌}
-use Rattle.model_deploy.specs.Deployment.{ordered_stage, feeders_stage, fed_stage, checked, deployment}
+use Rattle.model_deploy.specs.Deployment.{ordered_stage, feeders_stage, fed_stage, checked, fed_model, deployment}
 use Rattle.deploy_laws.specs.OneAnswer.{HasOneAnswer}
 use Rattle.deploy_laws.proofs.Single.{single-found, single-meant, single-unless, single-then, single-each}
 use Rattle.deploy_laws.proofs.Texts.{single-text}
@@ -115,5 +114,5 @@ module _ (contents : Contents) (files : List (Option RuleFile)) where
   pub single-deployment : HasOneAnswer (deployment contents files)
   unfolding deployment
   single-deployment =
-      single-then (binding contents files) (λ bound. checked files (with_found bound.model bound.asking)) single-binding
-      (λ bound. single-checks (with_found bound.model bound.asking))
+      single-then (binding contents files) (λ bound. checked files (fed_model bound)) single-binding
+      (λ bound. single-checks (fed_model bound))

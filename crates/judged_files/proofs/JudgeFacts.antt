@@ -8,7 +8,6 @@ use Rattle.model_bind.specs.Foundation.{memory}
 use Rattle.model_bind.specs.Stages.{Stage, Comes}
 use Rattle.model_bind.specs.Binding.{binding}
 use Rattle.model_bind.specs.declared.bound.Bound.{Bound}
-use Rattle.feed_print.specs.FoundText.{found_text}
 use Rattle.model_bind.specs.declared.fault.DeployFault.{DeployFault}
 use Rattle.model_bind.specs.Files.{RuleFile}
 use Rattle.rule_model.specs.BoundModel.{BoundModel}
@@ -18,7 +17,7 @@ use Rattle.file_passes.specs.declared.refusal.Refusal.{Refusal}
 use Rattle.file_passes.specs.Pass.{Source, Judgement}
 use Rattle.judged_files.specs.Refusals.{refused_on, model_cause, deploy_refusal}
 use Rattle.judged_files.specs.Models.{text_judgement}
-use Rattle.judged_files.specs.Rules.{rule_files, stage_judgement, deployment_judgement, feeders_stage, feeders_judgement}
+use Rattle.judged_files.specs.Rules.{rule_files, stage_judgement, deployment_judgement, binding_judgement}
 use Rattle.file_passes.specs.Halting.{Judges}
 use Rattle.judged_files.specs.Inside.Judging.{IsHaltFor}
 
@@ -68,14 +67,9 @@ module _ (file : List ℕ) (contents : Contents) (sources : List Source) (files 
   judges-deployed model came = rw (← are) came
 
   pub judges-unbound : (fault : DeployFault) (h : Halt)
-      → Comes (binding contents files) (Err fault) → IsHaltFor (deploy_refusal file fault) h → Judges (feeders_judgement file contents sources) (Err h)
+      → Comes (binding contents files) (Err fault) → IsHaltFor (deploy_refusal file fault) h → Judges (binding_judgement file contents sources) (Err h)
   judges-unbound fault h came halted =
-      subst (λ f. Judges (stage_judgement file (feeders_stage contents f)) (Err h)) are (judges-refused file (feeders_stage contents files) fault h (behind came) halted)
-    where
-      behind : Comes (binding contents files) (Err fault) → Comes (feeders_stage contents files) (Err fault)
-      behind (inl want) = inl want
-      behind (inr refused) = inr (inl refused)
+      subst (λ f. Judges (stage_judgement file (binding contents f)) (Err h)) are (judges-refused file (binding contents files) fault h came halted)
 
-  pub judges-feeders : (bound : Bound) (text : List ℕ) → Comes (binding contents files) (Ok bound) → text ≡ found_text bound.model bound.asking
-      → (feeders_judgement file contents sources).stands_for text
-  judges-feeders bound text came is = subst (λ f. (feeders_stage contents f).finds text) are (bound, came, is)
+  pub judges-bound : (bound : Bound) → Comes (binding contents files) (Ok bound) → (binding contents (rule_files sources contents.cubes)).finds bound
+  judges-bound bound came = rw (← are) came

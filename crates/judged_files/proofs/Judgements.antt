@@ -13,19 +13,17 @@ use Rattle.file_passes.specs.Pass.{Source}
 use Rattle.judged_files.specs.Refusals.{text_refusal, script_refusal, user_refusal}
 use Rattle.judged_files.specs.Models.{text_judgement}
 use Rattle.judged_files.specs.Scripts.{AreScripts, IsFirstScriptFault, scripts_judgement}
-use Rattle.judged_files.specs.Rules.{rule_files, stage_judgement, deployment_judgement, feeders_stage, feeders_judgement}
+use Rattle.judged_files.specs.Rules.{rule_files, stage_judgement, deployment_judgement, binding_judgement}
 use Rattle.judged_files.specs.Users.{IsUserText, AreUserTexts, IsUserFault, IsFirstFault, AreUsers, users_judgement, unknown_script}
 use Rattle.file_passes.proofs.PassFacts.{IsOneJudgement}
 use Rattle.script_reader.specs.declared.fault.ScriptFault.{ScriptFault}
 use Rattle.script_reader.specs.declared.fault.ScriptFault.TheVariants as script_faults
 use Rattle.script_bound.specs.declared.script.BoundScript.{BoundScript}
 use Rattle.judged_files.proofs.ScriptTexts.{no_fault_of_script}
-use Rattle.feed_print.specs.FoundText.{found_text}
 use Rattle.model_bind.specs.Binding.{binding}
-use Rattle.model_bind.specs.Stages.{Stage, found}
+use Rattle.model_bind.specs.Stages.{Stage}
 use Rattle.model_deploy.specs.Deployment.{deployment}
 use Rattle.deploy_laws.specs.OneAnswer.{HasOneAnswer}
-use Rattle.deploy_laws.proofs.Single.{single-found, single-then}
 use Rattle.deploy_laws.proofs.Deployments.{single-binding, single-deployment}
 
 -- ---- user files
@@ -109,8 +107,7 @@ one_deployment_judgement file contents sources =
     let files = rule_files sources contents.cubes in
     one_stage_judgement file (deployment contents files) (single-deployment contents files)
 
-pub one_feeders_judgement : (file : List ℕ) (contents : Contents) (sources : List Source) → IsOneJudgement (feeders_judgement file contents sources)
-one_feeders_judgement file contents sources =
+pub one_binding_judgement : (file : List ℕ) (contents : Contents) (sources : List Source) → IsOneJudgement (binding_judgement file contents sources)
+one_binding_judgement file contents sources =
     let files = rule_files sources contents.cubes in
-    one_stage_judgement file (feeders_stage contents files)
-    (single-then (binding contents files) (λ bound. found (found_text bound.model bound.asking)) (single-binding contents files) (λ bound. single-found (found_text bound.model bound.asking)))
+    one_stage_judgement file (binding contents files) (single-binding contents files)

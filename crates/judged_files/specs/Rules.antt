@@ -5,8 +5,8 @@ use Rattle.model_text.specs.Contents.{Contents}
 use Rattle.model_text.specs.declared.parts.CubeText.{CubeText}
 use Rattle.model_deploy.specs.Deployment.{deployment}
 use Rattle.model_bind.specs.Binding.{binding}
-use Rattle.model_bind.specs.Stages.{Stage, found, ◌>>=◌}
-use Rattle.feed_print.specs.FoundText.{found_text}
+use Rattle.model_bind.specs.Stages.{Stage}
+use Rattle.model_bind.specs.declared.bound.Bound.{Bound}
 use Rattle.model_bind.specs.declared.fault.DeployFault.{DeployFault}
 use Rattle.model_bind.specs.Files.{RuleFile}
 use Rattle.rule_model.specs.BoundModel.{BoundModel}
@@ -52,12 +52,7 @@ abbrev pub deployment_judgement : List ℕ → Contents → List Source → Judg
 deployment_judgement file contents sources =
     stage_judgement file (deployment contents (rule_files sources contents.cubes))
 
--- the text is bound, and feeders are found for it
-abbrev pub feeders_stage : Contents → List (Option RuleFile) → Stage (List ℕ)
-feeders_stage contents files = do
-  bound ← binding contents files
-  found (found_text bound.model bound.asking)
-
-abbrev pub feeders_judgement : List ℕ → Contents → List Source → Judgement (List ℕ)
-feeders_judgement file contents sources =
-    stage_judgement file (feeders_stage contents (rule_files sources contents.cubes))
+-- or is bound
+abbrev pub binding_judgement : List ℕ → Contents → List Source → Judgement Bound
+binding_judgement file contents sources =
+    stage_judgement file (binding contents (rule_files sources contents.cubes))

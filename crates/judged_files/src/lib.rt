@@ -18,6 +18,6 @@ mod users;
 pub use loads::{commands_of, record_files};
 pub use model_files::ModelFiles;
 pub use models::text_of;
-pub use rules::{all_rule_names, feeders_of, model_of, rule_names};
+pub use rules::{all_rule_names, bound_of, model_of, rule_names};
 pub use scripts::{script_files, script_names, scripts_of};
 pub use users::users_of;

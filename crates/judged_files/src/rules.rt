@@ -4,15 +4,14 @@ ghost use Rattle.judged_files.specs.Inside.Judging.{IsHaltFor};
 ghost use Rattle.judged_files.specs.Inside.RuleFiles.{IsEarlierWith};
 ghost use Rattle.judged_files.specs.Refusals.{deploy_refusal, file_or, place_of};
 ghost use Rattle.judged_files.specs.Rules.{all_rule_names, rule_name, rule_names, rule_files};
-ghost use Rattle.judged_files.specs.Rules.{deployment_judgement, feeders_judgement};
+ghost use Rattle.judged_files.specs.Rules.{deployment_judgement, binding_judgement};
 ghost use Rattle.cube_words.specs.Words.{texts_of};
 
 use crate::refusing::deploy_cause;
 use accepted::Accepted;
 use file_passes::{FilePlace, Halt, Refusal, Source, file_name, source_of};
 use lists::ListOf;
-use feed_print::found_text;
-use model_bind::{At, DeployFault, RuleFiles, bind};
+use model_bind::{At, Bound, DeployFault, RuleFiles, bind};
 use model_deploy::deploy;
 use model_text::{CubeText, ModelText};
 use std::alloc::{AllocError, Global};
@@ -69,21 +68,21 @@ pub fn model_of(
     }
 }
 
-/// The text of the feeders that are found for the model of a model text, which stands in this file, and of the rule
-/// files of its cubes among those that were read.
-pub fn feeders_of(
+/// The bound model of a model text, which stands in this file, and of the rule files of its cubes among those that were
+/// read. No check has seen the whole of it.
+pub fn bound_of(
     alloc: Global,
     file: &str,
     text: ModelText,
     sources: &[Source<'_>],
-) -> Result<ListOf<u8>, Halt>
-    ensures { Judges (feeders_judgement file.now text sources.now) result }
+) -> Result<Bound, Halt>
+    ensures { Judges (binding_judgement file.now text sources.now) result }
 {
     let Ok(rules) = rule_files(alloc, text.cubes(), sources) else {
         return Err(Halt::Memory);
     };
     match bind(alloc, text, &rules) {
-        Ok(bound) => Ok(found_text(alloc, &bound.model, bound.asking.as_slice())?),
+        Ok(bound) => Ok(bound),
         Err(fault) => Err(deploy_halt(alloc, file, fault)),
     }
 }

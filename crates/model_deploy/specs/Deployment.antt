@@ -15,10 +15,12 @@ use Rattle.feed_check.specs.Sizes.{AreSmall}
 use Rattle.feed_check.specs.Verdict.{IsFirstFault}
 use Rattle.feed_check.specs.declared.fault.FeedCheckFault.{FeedCheckFault}
 use Rattle.feed_check.specs.declared.fault.FeedCheckFault.TheVariants as feeders
-use Rattle.feed_find.specs.Found.{with_found}
+use Rattle.feed_find.specs.Added.{with_found}
+use Rattle.feed_find.specs.Found.{found_feeders}
 use Rattle.feed_map.specs.FedCells.{HasFewFed, HasManyFed, most_fed}
 use Rattle.model_bind.specs.Binding.{binding}
 use Rattle.model_bind.specs.Files.{RuleFile}
+use Rattle.model_bind.specs.declared.bound.Bound.{Bound}
 use Rattle.model_bind.specs.declared.fault.DeployFault.{DeployFault}
 use Rattle.model_bind.specs.declared.fault.DeployCause.TheVariants as causes
 use Rattle.model_bind.specs.Foundation.{refused_on}
@@ -68,8 +70,12 @@ checked files model = do
   _ ← fed_stage model
   found model
 
+-- a bound model with the feeders that are found for the cubes that ask for them
+abbrev pub fed_model : Bound → BoundModel
+fed_model bound = with_found bound.model (found_feeders bound.model bound.asking)
+
 -- a text and its rule files are bound, and the model with what feeders are found for it is checked
 unfoldable pub deployment : Contents → List (Option RuleFile) → Stage BoundModel
 deployment contents files = do
   bound ← binding contents files
-  checked files (with_found bound.model bound.asking)
+  checked files (fed_model bound)

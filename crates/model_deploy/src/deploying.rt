@@ -2,16 +2,16 @@ ghost use Rattle.std.specs.Prelude.{◌≡◌, ◌≤◌, length, IfOk};
 ghost use Rattle.cube_space.specs.Radix.{product};
 ghost use Rattle.rule_model.specs.Order.{most_height, position_sizes};
 ghost use Rattle.model_bind.specs.Stages.{Comes};
-ghost use Rattle.model_deploy.specs.Deployment.{checked, deployment};
+ghost use Rattle.model_deploy.specs.Deployment.{checked, deployment, fed_model};
 
 use crate::checks::{check_covered, check_ordered, fed_over_nothing};
 use accepted::Accepted;
-use feed_find::with_found;
+use feed_find::{find, with_found};
 use feed_sources::SourceModel;
-use model_bind::{DeployFault, RuleFiles, bind};
+use model_bind::{Bound, DeployFault, RuleFiles, bind};
 use model_text::ModelText;
 use rule_model::Model;
-use std::alloc::Global;
+use std::alloc::{AllocError, Global};
 
 /// The accepted model of a text that was read and of the rule files of its cubes. Scripts aren't looked at.
 ///
@@ -29,8 +29,17 @@ pub fn deploy(
     ensures low { IfOk result (λ model. product (position_sizes model) ≤ most_height) }
 {
     let bound = bind(alloc, text, rules)?;
-    let model = with_found(alloc, bound.model, bound.asking.as_slice())?;
+    let model = fed_model(alloc, bound)?;
     checked(alloc, rules, model)
+}
+
+// The bound model with the feeders that are found for the cubes that ask for them.
+fn fed_model(alloc: Global, bound: Bound) -> Result<Model, AllocError>
+    ensures { IfOk result (λ model. model ≡ fed_model bound) }
+{
+    let Bound { model, asking } = bound;
+    let found = find(alloc, &model, asking.as_slice())?;
+    with_found(alloc, model, found.feeders)
 }
 
 // The accepted model, where it passes the checks of a whole model.

@@ -1,6 +1,5 @@
 -- The greatest sum whose kinds end in the wanted ones bounds just what each such sum is at most.
 use Rattle.std.proofs.Common.{◌≡◌, refl, sym, ap, ◌∙◌, arith, subst, ℕ, zero, suc, ◌<◌, Bool, true, false, ◌&&◌, ℤ, pos, Option, Some, List, [], ◌∷◌, length, ◌==◌, if◌then◌else◌}
-use Rattle.std.specs.Prelude.{⊤}
 use Rattle.std.proofs.Math.Bool.{and_assoc, and-true}
 use Rattle.std.proofs.lemmas.Bool.{eq-eqb, and_from}
 use Rattle.order_laws.specs.Greatest.{plus, larger, IsAtMost, sum_from, only}
@@ -31,26 +30,6 @@ sum-put number i flag flags e es =
     plus-same (number i e (put i flag flags i e)) (sum_by number (put i flag flags) (suc i) es) (number i e flag) (sum_by number flags (suc i) es)
     (ap (number i e) (put-here i flag flags e))
     (sum-later (λ j x. number j x (put i flag flags j x)) (λ j x. number j x (flags j x)) i (suc i) es (omega arith) (λ j x low. ap (number j x) (put-later i flag flags j x low)))
-
--- the greatest number of an element, whatever its flag, makes the greatest sum, whatever the flags
-module _ (number : ℕ → ℕ → Bool → Option ℤ) (most : ℕ → ℕ → Option ℤ) (top : (i e : ℕ) → IsTop (λ (flag : Bool). ⊤) (number i e) (most i e)) where
-  flags-step : (i e : ℕ) (es : List ℕ) → IsTop (λ (flags : ℕ → ℕ → Bool). ⊤) (λ flags. sum_by number flags (suc i) es) (sum_from most (suc i) es)
-      → IsTop (λ (flags : ℕ → ℕ → Bool). ⊤) (λ flags. sum_by number flags i (e ∷ es)) (sum_from most i (e ∷ es))
-  flags-step i e es rest = record { over = over; least = least }
-    where
-      over : (z : ℤ) → IsAtMost (plus (most i e) (sum_from most (suc i) es)) z → (flags : ℕ → ℕ → Bool) → ⊤ → IsAtMost (plus (number i e (flags i e)) (sum_by number flags (suc i) es)) z
-      over z h flags q =
-          plus-over (λ (flag : Bool). ⊤) (λ (flags : ℕ → ℕ → Bool). ⊤) (number i e) (λ flags. sum_by number flags (suc i) es) (most i e) (sum_from most (suc i) es) (top i e) rest
-          z h (flags i e) flags tt tt
-
-      least : (z : ℤ) → ((flags : ℕ → ℕ → Bool) → ⊤ → IsAtMost (sum_by number flags i (e ∷ es)) z) → IsAtMost (plus (most i e) (sum_from most (suc i) es)) z
-      least z h =
-          plus-least (λ (flag : Bool). ⊤) (λ (flags : ℕ → ℕ → Bool). ⊤) (number i e) (λ flags. sum_by number flags (suc i) es) (most i e) (sum_from most (suc i) es) (top i e) rest
-          z (λ flag flags p q. subst (λ s. IsAtMost s z) (sum-put number i flag flags e es) (h (put i flag flags) tt))
-
-  pub flags-top : (i : ℕ) (es : List ℕ) → IsTop (λ (flags : ℕ → ℕ → Bool). ⊤) (λ flags. sum_by number flags i es) (sum_from most i es)
-  flags-top i [] = record { over = λ z h flags q. h; least = λ z h. h (λ i e. true) tt }
-  flags-top i (e ∷ es) = flags-step i e es (flags-top (suc i) es)
 
 -- equal kinds
 pub from-same : (a b : Bool) → is_same a b ≡ true → b ≡ a

@@ -1,9 +1,8 @@
--- The greatest sum bounds just what each sum is at most.
-use Rattle.std.proofs.Common.{◌≡◌, refl, sym, ap, ◌∙◌, arith, subst, ℕ, zero, suc, ◌<◌, Bool, true, false, ◌||◌, ℤ, pos, ◌+ℤ◌, ◌-ℤ◌, ◌≤ℤ◌, Option, Some, None, List, [], ◌∷◌, length, inl, inr}
-use Rattle.std.specs.Prelude.{⊤}
+-- The greatest of numbers, and of sums of two, bounds just what each of them is at most.
+use Rattle.std.proofs.Common.{◌≡◌, refl, arith, subst, ℕ, zero, suc, ◌<◌, ℤ, ◌+ℤ◌, ◌-ℤ◌, ◌≤ℤ◌, Option, Some, None, inl, inr}
 use Rattle.std.proofs.lemmas.Int.{ints, clamps}
-use Rattle.std.proofs.lemmas.Bool.{cases_lt, or_right}
-use Rattle.order_laws.specs.Greatest.{plus, larger, IsAtMost, greatest, sum_from, any_from, greatest_sum, greatest_passing_sum}
+use Rattle.std.proofs.lemmas.Bool.{cases_lt}
+use Rattle.order_laws.specs.Greatest.{plus, larger, IsAtMost, greatest}
 
 pub larger-parts : (a b : Option ℤ) (z : ℤ) → IsAtMost (larger a b) z → IsAtMost a z × IsAtMost b z
 larger-parts None b z h = (tt, h)
@@ -73,91 +72,3 @@ greatest-top number (suc count) = record {
   ];
   least = λ z h. larger-from (number count) (greatest number count) z (h count (omega arith)) ((greatest-top number count).least z (λ k low. h k (omega arith)));
 }
-
--- so many elements, from this dimension on, of which one passes, or none does
-abbrev pub Among : (ℕ → ℕ → Bool) → Bool → ℕ → ℕ → List ℕ → Type 0
-Among test passes n i es = (length es ≡ n) × (any_from test i es ≡ passes)
-
-module _ (number : ℕ → ℕ → Option ℤ) (most : ℕ → Option ℤ) (top : (i : ℕ) → IsTop (λ (e : ℕ). ⊤) (number i) (most i)) where
-  sum-step : (n i : ℕ) → IsTop (λ (es : List ℕ). length es ≡ n) (sum_from number (suc i)) (greatest_sum most (suc i) n) → IsTop (λ (es : List ℕ). length es ≡ (suc n)) (sum_from number i) (greatest_sum most i (suc n))
-  sum-step n i rest = record { over = over_some; least = least_some }
-    where
-      over_some : (z : ℤ) → IsAtMost (plus (most i) (greatest_sum most (suc i) n)) z → (es : List ℕ) → length es ≡ suc n → IsAtMost (sum_from number i es) z
-      over_some z h [] e = absurd (omega arith)
-      over_some z h (x ∷ es) e = plus-over (λ (e : ℕ). ⊤) (λ (es : List ℕ). length es ≡ n) (number i) (sum_from number (suc i)) (most i) (greatest_sum most (suc i) n) (top i) rest z h x es tt (omega arith)
-
-      least_some : (z : ℤ) → ((es : List ℕ) → length es ≡ suc n → IsAtMost (sum_from number i es) z) → IsAtMost (plus (most i) (greatest_sum most (suc i) n)) z
-      least_some z h = plus-least (λ (e : ℕ). ⊤) (λ (es : List ℕ). length es ≡ n) (number i) (sum_from number (suc i)) (most i) (greatest_sum most (suc i) n) (top i) rest z (λ x es p q. h (x ∷ es) (omega (arith, q)))
-
-  pub sum-top : (n i : ℕ) → IsTop (λ (es : List ℕ). length es ≡ n) (sum_from number i) (greatest_sum most i n)
-  sum-top zero i = record { over = over_none; least = λ z h. h [] refl }
-    where
-      over_none : (z : ℤ) → IsAtMost (Some (pos 0)) z → (es : List ℕ) → length es ≡ 0 → IsAtMost (sum_from number i es) z
-      over_none z h [] e = h
-      over_none z h (x ∷ es) e = absurd (omega arith)
-  sum-top (suc n) i = sum-step n i (sum-top n (suc i))
-
-  module _ (test : ℕ → ℕ → Bool) (passing : ℕ → Option ℤ) (top_passing : (i : ℕ) → IsTop (λ e. test i e ≡ true) (number i) (passing i)) where
-    passing-step : (n i : ℕ) → IsTop (Among test true n (suc i)) (sum_from number (suc i)) (greatest_passing_sum most passing (suc i) n) → IsTop (Among test true (suc n) i) (sum_from number i) (greatest_passing_sum most passing i (suc n))
-    passing-step n i rest = record { over = over_some; least = least_some }
-      where
-        all : IsTop (λ (es : List ℕ). length es ≡ n) (sum_from number (suc i)) (greatest_sum most (suc i) n)
-        all = sum-top n (suc i)
-
-        Top : Option ℤ
-        Top = greatest_passing_sum most passing i (suc n)
-
-        over_some : (z : ℤ) → IsAtMost Top z → (es : List ℕ) → Among test true (suc n) i es → IsAtMost (sum_from number i es) z
-        over_some z h [] e = absurd (omega (arith, e.0))
-        over_some z h (x ∷ es) e = by (test i x) refl
-          where
-            parts : IsAtMost (plus (most i) (greatest_passing_sum most passing (suc i) n)) z × IsAtMost (plus (passing i) (greatest_sum most (suc i) n)) z
-            parts = larger-parts _ _ z h
-
-            by : (t : Bool) → test i x ≡ t → IsAtMost (sum_from number i (x ∷ es)) z
-            by true is = plus-over (λ e. test i e ≡ true) (λ (es : List ℕ). length es ≡ n) (number i) (sum_from number (suc i)) (passing i) (greatest_sum most (suc i) n) (top_passing i) all z parts.1 x es is (omega (arith, e.0))
-            by false is =
-                let later : any_from test (suc i) es ≡ true = ap (λ t. t || any_from test (suc i) es) (sym is) ∙ e.1 in
-                plus-over (λ (e : ℕ). ⊤) (Among test true n (suc i)) (number i) (sum_from number (suc i)) (most i) (greatest_passing_sum most passing (suc i) n) (top i) rest z parts.0 x es tt (omega (arith, e.0), later)
-
-        least_some : (z : ℤ) → ((es : List ℕ) → Among test true (suc n) i es → IsAtMost (sum_from number i es) z) → IsAtMost Top z
-        least_some z h = larger-from _ _ z
-            (plus-least (λ (e : ℕ). ⊤) (Among test true n (suc i)) (number i) (sum_from number (suc i)) (most i) (greatest_passing_sum most passing (suc i) n) (top i) rest z (λ x es p q. h (x ∷ es) (omega (arith, q.0), later x es q.1)))
-            (plus-least (λ e. test i e ≡ true) (λ (es : List ℕ). length es ≡ n) (number i) (sum_from number (suc i)) (passing i) (greatest_sum most (suc i) n) (top_passing i) all z (λ x es p q. h (x ∷ es) (omega (arith, q), ap (λ t. t || any_from test (suc i) es) p)))
-          where
-            later : (x : ℕ) (es : List ℕ) → any_from test (suc i) es ≡ true → test i x || any_from test (suc i) es ≡ true
-            later x es q = or_right (test i x) (any_from test (suc i) es) q
-
-    pub passing-top : (n i : ℕ) → IsTop (Among test true n i) (sum_from number i) (greatest_passing_sum most passing i n)
-    passing-top zero i = record { over = over_none; least = λ z h. tt }
-      where
-        over_none : (z : ℤ) → ⊤ → (es : List ℕ) → Among test true 0 i es → IsAtMost (sum_from number i es) z
-        over_none z h [] e = absurd (cc e.1)
-        over_none z h (x ∷ es) e = absurd (omega (arith, e.0))
-    passing-top (suc n) i = passing-step n i (passing-top n (suc i))
-
-module _ (number : ℕ → ℕ → Option ℤ) (test : ℕ → ℕ → Bool) (failing : ℕ → Option ℤ) (top : (i : ℕ) → IsTop (λ e. test i e ≡ false) (number i) (failing i)) where
-  neither : (t u : Bool) → t || u ≡ false → (t ≡ false) × (u ≡ false)
-  neither true u h = absurd (cc)
-  neither false u h = (refl, h)
-
-  failing-step : (n i : ℕ) → IsTop (Among test false n (suc i)) (sum_from number (suc i)) (greatest_sum failing (suc i) n) → IsTop (Among test false (suc n) i) (sum_from number i) (greatest_sum failing i (suc n))
-  failing-step n i rest = record { over = over_some; least = least_some }
-    where
-      over_some : (z : ℤ) → IsAtMost (plus (failing i) (greatest_sum failing (suc i) n)) z → (es : List ℕ) → Among test false (suc n) i es → IsAtMost (sum_from number i es) z
-      over_some z h [] e = absurd (omega (arith, e.0))
-      over_some z h (x ∷ es) e =
-          let both = neither (test i x) (any_from test (suc i) es) e.1 in
-          plus-over (λ e. test i e ≡ false) (Among test false n (suc i)) (number i) (sum_from number (suc i)) (failing i) (greatest_sum failing (suc i) n) (top i) rest z h x es both.0 (omega (arith, e.0), both.1)
-
-      least_some : (z : ℤ) → ((es : List ℕ) → Among test false (suc n) i es → IsAtMost (sum_from number i es) z) → IsAtMost (plus (failing i) (greatest_sum failing (suc i) n)) z
-      least_some z h = plus-least (λ e. test i e ≡ false) (Among test false n (suc i)) (number i) (sum_from number (suc i)) (failing i) (greatest_sum failing (suc i) n) (top i) rest z
-          (λ x es p q. h (x ∷ es) (omega (arith, q.0), ap (λ t. t || any_from test (suc i) es) p ∙ q.1))
-
-  pub failing-top : (n i : ℕ) → IsTop (Among test false n i) (sum_from number i) (greatest_sum failing i n)
-  failing-top zero i = record { over = over_none; least = λ z h. h [] (refl, refl) }
-    where
-      over_none : (z : ℤ) → IsAtMost (Some (pos 0)) z → (es : List ℕ) → Among test false 0 i es → IsAtMost (sum_from number i es) z
-      over_none z h [] e = h
-      over_none z h (x ∷ es) e = absurd (omega (arith, e.0))
-  failing-top (suc n) i = failing-step n i (failing-top n (suc i))

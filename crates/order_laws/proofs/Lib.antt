@@ -6,7 +6,6 @@ pub mod SetFacts
 pub mod LeafFacts
 pub mod CellFacts
 pub mod KindFacts
-pub mod PlainFacts
 pub mod ChildFacts
 pub mod Decided
 pub mod Components

@@ -1,4 +1,4 @@
--- The greatest of the sums of one number a dimension, where an element of a dimension may have no number.
+-- Sums of one number a dimension, where an element of a dimension may have no number, and the greatest of numbers.
 use Rattle.std.specs.Prelude.{ℕ, zero, suc, Bool, true, false, ◌||◌, ℤ, pos, ◌+ℤ◌, ◌≤ℤ◌, Option, Some, None, IfSome}
 use Rattle.std.specs.Prelude.{List, [], ◌∷◌}
 use Rattle.std.specs.Int.{int_max}
@@ -33,19 +33,6 @@ sum_from number dim (element ∷ elements) = plus (number dim element) (sum_from
 abbrev pub any_from : (ℕ → ℕ → Bool) → ℕ → List ℕ → Bool
 any_from test dim [] = false
 any_from test dim (element ∷ elements) = test dim element || any_from test (suc dim) elements
-
--- the greatest sum over so many dimensions from this one on, by the greatest number of each
-abbrev pub greatest_sum : (ℕ → Option ℤ) → ℕ → ℕ → Option ℤ
-greatest_sum most dim zero = Some (pos 0)
-greatest_sum most dim (suc count) = plus (most dim) (greatest_sum most (suc dim) count)
-
--- the greatest sum in which some number is that of an element that passes: by the greatest number of each dimension,
--- and the greatest among those of elements that pass
-abbrev pub greatest_passing_sum : (ℕ → Option ℤ) → (ℕ → Option ℤ) → ℕ → ℕ → Option ℤ
-greatest_passing_sum most passing dim zero = None
-greatest_passing_sum most passing dim (suc count) =
-    larger (plus (most dim) (greatest_passing_sum most passing (suc dim) count))
-    (plus (passing dim) (greatest_sum most (suc dim) count))
 
 -- the number of an element that passes, or doesn't
 abbrev pub only : Bool → Option ℤ → Option ℤ

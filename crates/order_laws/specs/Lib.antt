@@ -1,4 +1,4 @@
 pub mod Greatest
 pub mod Scales
 pub mod Earlier
-pub mod Plain
+pub mod Excess

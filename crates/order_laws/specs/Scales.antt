@@ -1,5 +1,5 @@
 -- What a cell has at a position of the order and as its level, by its elements, and what a reference makes of it.
-use Rattle.std.specs.Prelude.{ℕ, suc, ◌+◌, ◌==◌, Bool, false, not, nat_lt, if◌then◌else◌, ℤ, pos}
+use Rattle.std.specs.Prelude.{◌≡◌, ℕ, suc, ◌+◌, ◌==◌, Bool, true, false, not, nat_lt, if◌then◌else◌, ℤ, pos}
 use Rattle.std.specs.Prelude.{Option, Some, None, option_map, unwrap_or, List, [], ◌∷◌, length, slice_get}
 use Rattle.std.specs.Prelude.{slice_index_or}
 use Rattle.std.specs.Option.{option_map_or}
@@ -37,6 +37,10 @@ level_scale dimensions = record { base = 0; worth = level_in dimensions }
 unfoldable pub scale_of : BoundModel → ℕ → Bool → ℕ → Scale
 scale_of model cube kind place = if nat_lt place most_positions then position_scale (position_of model cube kind place)
     else level_scale (axes model.space cube)
+
+-- what cells of a cube have at a position, or as their level, doesn't rest on their kind
+abbrev pub HasOneScale : BoundModel → ℕ → ℕ → Type 0
+HasOneScale model cube place = scale_of model cube false place ≡ scale_of model cube true place
 
 -- what the fixed arguments of a reference add, from this argument on
 abbrev pub fixed_sum : (ℕ → ℕ → ℕ) → ℕ → List Arg → ℕ

@@ -2,21 +2,18 @@
 //!
 //! `specs/Greatest.antt` has the greatest of sums with one number a dimension, `specs/Earlier.antt` the decision over
 //! the tables of a model. The laws are the contracts of [`order_is_decided_by_dimension`] and
-//! [`models_are_ordered_by_dimension`]; the order itself is that of `rule_laws`, which speaks of every cell. Where a
-//! cube has one order for all its cells, [`plain_orders_need_no_kinds`]: the shorter decision of `specs/Plain.antt`.
+//! [`models_are_ordered_by_dimension`]; the order itself is that of `rule_laws`, which speaks of every cell.
 #![tactic(auto)]
 
-ghost use Rattle.std.specs.Prelude.{◌≡◌, ℕ, ◌<◌, Bool, ◌⊎◌, ◌↔◌, length, IsTrue};
+ghost use Rattle.std.specs.Prelude.{ℕ, ◌<◌, Bool, ◌⊎◌, ◌↔◌, length, IsTrue};
 ghost use Rattle.cube_space.specs.Cells.{IsSpace};
 ghost use Rattle.rule_laws.specs.Meaning.{Precedent};
 ghost use Rattle.rule_laws.specs.OrderByPlace.{IsDecidedByPosition, IsDecidedByLevel, IsOrderedByPlace};
-ghost use Rattle.rule_model.specs.declared.area.Area.{Area};
 ghost use Rattle.rule_model.specs.declared.rules.Statement.{Statement};
 ghost use Rattle.rule_model.specs.BoundModel.{BoundModel};
 ghost use Rattle.rule_model.specs.System.{system_of, positions_of, rule_of};
 ghost use Rattle.rule_model.specs.Conditions.{IsArea, IsPrecedent, AreRules};
-ghost use Rattle.order_laws.specs.Earlier.{most_excess, is_earlier, IsOrderedByDimension};
-ghost use Rattle.order_laws.specs.Plain.{plain_excess, read_cube, HasOneScale};
+ghost use Rattle.order_laws.specs.Earlier.{is_earlier, IsOrderedByDimension};
 
 /// Of a statement of a cube, a kind of cell and what a formula reads: the decision by dimension is the one over every
 /// cell.
@@ -33,12 +30,4 @@ pub fn order_is_decided_by_dimension()
 pub fn models_are_ordered_by_dimension()
     ensures { (m : BoundModel) → IsSpace m.space → AreRules m.space m.rules
         → IsOrderedByDimension m ↔ IsOrderedByPlace (system_of m) (positions_of m) }
-{}
-
-/// Where what cells of both cubes have at a position, or as their level, doesn't rest on their kind, the most that a
-/// cell which is read has more than its cell needs no kinds.
-pub fn plain_orders_need_no_kinds()
-    ensures { (m : BoundModel) (cube : ℕ) (area : Area) (kind : Bool) (p : Precedent) (place : ℕ)
-        → IsArea m.space cube area → HasOneScale m cube place → HasOneScale m (read_cube cube p) place
-        → most_excess m cube area kind p place ≡ plain_excess m cube area kind p place }
 {}

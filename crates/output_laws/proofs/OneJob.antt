@@ -10,13 +10,14 @@ use Rattle.judged_files.specs.ModelFiles.{ModelFiles, Checked}
 use Rattle.judged_files.specs.Rules.{all_rule_names}
 use Rattle.judged_files.specs.Scripts.{script_files, scripts_judgement}
 use Rattle.model_text.specs.Contents.{script_names, Contents as Text}
+use Rattle.model_bind.specs.declared.bound.Bound.{Bound}
 use Rattle.rule_model.specs.BoundModel.{BoundModel}
-use Rattle.run_passes.specs.Inside.Plans.{behind_scripts, behind_rules, behind_text, behind_users, behind_model, told_feeders, behind_feeders_text}
-use Rattle.run_passes.specs.RefusalOrder.{as_text, text_pass, deploy_pass, feeders_pass, scripts_pass, model_pass}
+use Rattle.run_passes.specs.Inside.Plans.{behind_scripts, behind_rules, behind_text, behind_users, behind_model, asked_feeders, behind_feeders_text}
+use Rattle.run_passes.specs.RefusalOrder.{as_text, text_pass, deploy_pass, bind_pass, scripts_pass, model_pass}
 use Rattle.run_passes.specs.RefusalOrder.{users_pass, records_pass, plan_pass, run_of}
 use Rattle.run_passes.specs.declared.run_job.RunJob.{RunJob}
 use Rattle.run_passes.specs.declared.run_job.RunJob.TheVariants as jobs
-use Rattle.run_passes.proofs.PlanFacts.{steady-text, steady-deploy, steady-feeders, steady-users, accept}
+use Rattle.run_passes.proofs.PlanFacts.{steady-text, steady-deploy, steady-bind-pass, steady-users, accept}
 use Rattle.run_passes.proofs.PlanWords.{one_plan}
 use Rattle.script_text_laws.specs.ScriptAnswers.{OneScriptAnswer}
 use Rattle.sandbox.specs.declared.act.Act.{Act}
@@ -72,8 +73,8 @@ same-behind_model users checked =
 same-accepted : (model : BoundModel) (a b : RunJob) → a ≡ jobs.Check model → b ≡ jobs.Check model → IsSameJob a b
 same-accepted model a b p q = rw p q
 
-same-feeders : (text : List ℕ) (a b : RunJob) → a ≡ jobs.Feeders text → b ≡ jobs.Feeders text → IsSameJob a b
-same-feeders text a b p q = rw p q
+same-feeders : (bound : Bound) (a b : RunJob) → a ≡ jobs.Feeders bound → b ≡ jobs.Feeders bound → IsSameJob a b
+same-feeders bound a b p q = rw p q
 
 same-sample : (size : ℕ) (a b : RunJob) → a ≡ jobs.Sample size → b ≡ jobs.Sample size → IsSameJob a b
 same-sample size a b p q = rw p q
@@ -114,8 +115,8 @@ module _ (answers : (bytes : List ℕ) → OneScriptAnswer bytes) where
       (λ checked readings a b. same-accepted checked.model a b)
   same-plan (Feeders model) =
       same-behind IsSameJob (text_pass model) (behind_feeders_text model) (steady-text model).one.one_found
-      (λ contents. same-behind IsSameJob (feeders_pass model contents) told_feeders (steady-feeders model contents).one.one_found
-      (λ text readings a b. same-feeders text a b))
+      (λ contents. same-behind IsSameJob (bind_pass model contents) asked_feeders (steady-bind-pass model contents).one.one_found
+      (λ bound readings a b. same-feeders bound a b))
   same-plan (Sample size) = λ readings a b p q. same-sample size a b p q
 
   pub same_run : (words : List (List ℕ)) → FindsSame IsSameJob (run_of words)

@@ -78,10 +78,10 @@ served_alike model users others text same served = record {
 
 pub same_text : OneUserHasOneOutput → SameJobsPrintTheSame
 same_text one (Check model) b text other few same p q = absurd few
-same_text one (Feeders found) b text other few same p q = absurd few
+same_text one (Feeders bound) b text other few same p q = absurd few
 same_text one (Sample size) b text other few same p q = absurd few
 same_text one (Serve model users) (Check again) text other few same p q = absurd same
-same_text one (Serve model users) (Feeders found) text other few same p q = absurd same
+same_text one (Serve model users) (Feeders bound) text other few same p q = absurd same
 same_text one (Serve model users) (Sample size) text other few same p q = absurd same
 same_text one (Serve model []) (Serve again more) text other few same p q = absurd (omega (arith, few))
 same_text one (Serve model (commands ∷ next ∷ users)) (Serve again more) text other few same p q = absurd (omega (arith, few))

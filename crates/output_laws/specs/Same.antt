@@ -11,7 +11,7 @@ use Rattle.run_passes.specs.declared.run_job.RunJob.TheVariants as jobs
 abbrev pub ServesOneUser : RunJob → Type 0
 ServesOneUser (jobs.Serve model users) = length users ≡ 1
 ServesOneUser (jobs.Check model) = ⊥
-ServesOneUser (jobs.Feeders text) = ⊥
+ServesOneUser (jobs.Feeders bound) = ⊥
 ServesOneUser (jobs.Sample size) = ⊥
 
 -- where one user runs, jobs that are the same have one text

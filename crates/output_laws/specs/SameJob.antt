@@ -59,8 +59,8 @@ abbrev pub IsSameJob : RunJob → RunJob → Type 0
 IsSameJob (jobs.Serve model users) (jobs.Serve other more) =
     (model ≡ other) × AllZip (AllZip IsSameAct) users more
 IsSameJob (jobs.Serve model users) (jobs.Check other) = ⊥
-IsSameJob (jobs.Serve model users) (jobs.Feeders text) = ⊥
+IsSameJob (jobs.Serve model users) (jobs.Feeders bound) = ⊥
 IsSameJob (jobs.Serve model users) (jobs.Sample size) = ⊥
 IsSameJob (jobs.Check model) job = job ≡ jobs.Check model
-IsSameJob (jobs.Feeders text) job = job ≡ jobs.Feeders text
+IsSameJob (jobs.Feeders bound) job = job ≡ jobs.Feeders bound
 IsSameJob (jobs.Sample size) job = job ≡ jobs.Sample size

@@ -13,7 +13,7 @@ use Rattle.order_laws.proofs.ChildFacts.{part-below}
 use Rattle.ref_order.specs.declared.reads.Read.{Read}
 use Rattle.ref_order.specs.declared.reads.Read.TheVariants.{Cell, Children}
 use Rattle.rule_laws.specs.Meaning.{Precedent, Named, Components}
-use Rattle.order_laws.specs.Plain.{read_cube}
+use Rattle.order_laws.specs.Excess.{read_cube}
 use Rattle.ref_order.specs.Reads.{precedent_of}
 use Rattle.ref_order.proofs.Axes.{few-axes}
 use Rattle.rule_laws.specs.declared.reference.Reference.{Reference}

@@ -13,7 +13,7 @@ use Rattle.rule_model.specs.BoundModel.{BoundModel, rules_of}
 use Rattle.rule_model.specs.Order.{most_positions, positions_for, position_of}
 use Rattle.order_laws.specs.Greatest.{plus, larger, greatest, only}
 use Rattle.order_laws.specs.Scales.{Scale, scale_of, position_scale, level_scale, moved_sum, parts_in, set_count, set_element, is_leaf_element}
-use Rattle.order_laws.specs.Plain.{read_cube}
+use Rattle.order_laws.specs.Excess.{read_cube}
 use Rattle.order_laws.specs.Earlier.{Kinds, is_same, moved_leaves, number_by_kinds, greatest_of_kinds}
 
 -- ---- where kinds don't matter

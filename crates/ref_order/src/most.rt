@@ -2,7 +2,8 @@ ghost use Rattle.std.specs.Prelude.{◌≡◌, ◌+◌, ◌*◌, ◌≤◌, ◌^
 ghost use Rattle.cube_space.specs.Layout.{axes, most_dimensions};
 ghost use Rattle.rule_model.specs.Conditions.{IsPrecedent};
 ghost use Rattle.order_laws.specs.Earlier.{of_leaf, excess_of_kinds, most_excess};
-ghost use Rattle.order_laws.specs.Plain.{read_cube, HasOneScale};
+ghost use Rattle.order_laws.specs.Scales.{HasOneScale};
+ghost use Rattle.order_laws.specs.Excess.{read_cube};
 ghost use Rattle.ref_order.specs.Areas.{IsAreaCells, numbers_reading, ending_reading};
 ghost use Rattle.ref_order.specs.Kinds.{AreNumbers, AreByKinds, AreWithin, AreAllWithin};
 ghost use Rattle.ref_order.specs.Known.{IsKnown, kinds_asked};

@@ -14,18 +14,18 @@ use Rattle.file_passes.proofs.PassFacts.{AreAlike, alike-found, alike-bind, alik
 use Rattle.file_passes.proofs.Steady.{IsSteady, IsSettled, steady-file, steady-files, steady-judged, steady-bind, worded-judged, worded-behind}
 use Rattle.judged_files.specs.Loads.{record_files, commands_judgement}
 use Rattle.judged_files.specs.Models.{text_judgement}
-use Rattle.judged_files.specs.Rules.{rule_names, all_rule_names, deployment_judgement, feeders_judgement}
+use Rattle.judged_files.specs.Rules.{rule_names, all_rule_names, deployment_judgement, binding_judgement}
 use Rattle.judged_files.specs.ModelFiles.{ModelFiles, Checked}
 use Rattle.judged_files.specs.Scripts.{script_files, scripts_judgement}
 use Rattle.judged_files.specs.Users.{users_judgement}
-use Rattle.judged_files.proofs.Judgements.{one_text_judgement, one_deployment_judgement, one_feeders_judgement, no_scripts_refused, one_users_judgement}
+use Rattle.judged_files.proofs.Judgements.{one_text_judgement, one_deployment_judgement, one_binding_judgement, no_scripts_refused, one_users_judgement}
 use Rattle.model_text.specs.Contents.{script_names, Contents as Text}
 use Rattle.rule_model.specs.BoundModel.{BoundModel}
 use Rattle.user_text.specs.declared.command.UserCommand.{UserCommand}
 use Rattle.run_passes.specs.declared.run_job.RunJob.{RunJob}
 use Rattle.run_passes.specs.declared.run_job.RunJob.TheVariants as jobs
-use Rattle.run_passes.specs.RefusalOrder.{as_text, text_pass, deploy_pass, feeders_pass, scripts_pass, model_pass, users_pass, records_pass, plan_pass, run_of}
-use Rattle.run_passes.specs.Inside.Plans.{checked_of, behind_scripts, behind_rules, behind_text, served, behind_users, behind_model, told_feeders, behind_feeders_text}
+use Rattle.run_passes.specs.RefusalOrder.{as_text, text_pass, deploy_pass, bind_pass, scripts_pass, model_pass, users_pass, records_pass, plan_pass, run_of}
+use Rattle.run_passes.specs.Inside.Plans.{checked_of, behind_scripts, behind_rules, behind_text, served, behind_users, behind_model, asked_feeders, behind_feeders_text}
 use Rattle.run_passes.proofs.PlanWords.{one_plan}
 
 -- ---- of a model
@@ -41,11 +41,11 @@ steady-deploy name contents =
     (steady-files as_text (rule_names contents.cubes))
     (λ sources. steady-judged (deployment_judgement name contents sources) (one_deployment_judgement name contents sources))
 
-pub steady-feeders : (name : List ℕ) (contents : Text) → IsSteady (feeders_pass name contents)
-steady-feeders name contents =
-    steady-bind (files as_text (rule_names contents.cubes)) (λ sources. judged (feeders_judgement name contents sources))
+pub steady-bind-pass : (name : List ℕ) (contents : Text) → IsSteady (bind_pass name contents)
+steady-bind-pass name contents =
+    steady-bind (files as_text (rule_names contents.cubes)) (λ sources. judged (binding_judgement name contents sources))
     (steady-files as_text (rule_names contents.cubes))
-    (λ sources. steady-judged (feeders_judgement name contents sources) (one_feeders_judgement name contents sources))
+    (λ sources. steady-judged (binding_judgement name contents sources) (one_binding_judgement name contents sources))
 
 pub kept-scripts : (names : List (List ℕ)) → IsKept (scripts_pass names)
 kept-scripts names =
@@ -142,11 +142,11 @@ worded-behind_model users checked =
 
 alike-feeders : (name : List ℕ) (contents : Text) → AreAlike (behind_feeders_text name contents) (behind_feeders_text name contents)
 alike-feeders name contents =
-    alike-behind (feeders_pass name contents) told_feeders told_feeders (steady-feeders name contents).one (λ text. alike-found (jobs.Feeders text) (jobs.Feeders text))
+    alike-behind (bind_pass name contents) asked_feeders asked_feeders (steady-bind-pass name contents).one (λ bound. alike-found (jobs.Feeders bound) (jobs.Feeders bound))
 
 worded-feeders : (name : List ℕ) (contents : Text) (readings : Readings) → (behind_feeders_text name contents).stops readings NotWords → ⊥
 worded-feeders name contents =
-    worded-behind (feeders_pass name contents) told_feeders (steady-feeders name contents).worded (λ text readings stops. stops)
+    worded-behind (bind_pass name contents) asked_feeders (steady-bind-pass name contents).worded (λ bound readings stops. stops)
 
 -- ---- of each plan
 

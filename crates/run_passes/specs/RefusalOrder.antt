@@ -5,6 +5,7 @@ use Rattle.cube_outside.specs.declared.files.Extent.TheVariants.{Whole, Front}
 use Rattle.cube_words.specs.Words.{Plan, Run, Check, Feeders, Sample, IsPlan}
 use Rattle.file_passes.specs.Pass.{Pass, NotWords, found, the, file, files, judged, ◌>>=◌}
 use Rattle.model_text.specs.Contents.{Contents, script_names}
+use Rattle.model_bind.specs.declared.bound.Bound.{Bound}
 use Rattle.rule_model.specs.BoundModel.{BoundModel}
 use Rattle.script_bound.specs.declared.script.BoundScript.{BoundScript}
 use Rattle.sandbox.specs.declared.act.Act.{Act}
@@ -13,7 +14,7 @@ use Rattle.user_text.specs.declared.command.UserCommand.{UserCommand}
 use Rattle.run_passes.specs.declared.run_job.RunJob.{RunJob}
 use Rattle.run_passes.specs.declared.run_job.RunJob.TheVariants as jobs
 use Rattle.judged_files.specs.Models.{text_judgement}
-use Rattle.judged_files.specs.Rules.{rule_names, all_rule_names, deployment_judgement, feeders_judgement}
+use Rattle.judged_files.specs.Rules.{rule_names, all_rule_names, deployment_judgement, binding_judgement}
 use Rattle.judged_files.specs.ModelFiles.{ModelFiles, Checked}
 use Rattle.judged_files.specs.Scripts.{script_files, scripts_judgement}
 use Rattle.judged_files.specs.Users.{users_judgement}
@@ -35,11 +36,11 @@ deploy_pass name contents = do
   sources ← files as_text (rule_names contents.cubes)
   judged (deployment_judgement name contents sources)
 
--- the files of the cubes' rules are read, and with them feeders are found
-abbrev pub feeders_pass : List ℕ → Contents → Pass (List ℕ)
-feeders_pass name contents = do
+-- or is bound
+abbrev pub bind_pass : List ℕ → Contents → Pass Bound
+bind_pass name contents = do
   sources ← files as_text (rule_names contents.cubes)
-  judged (feeders_judgement name contents sources)
+  judged (binding_judgement name contents sources)
 
 -- all script files are read, and are scripts
 abbrev pub scripts_pass : List (List ℕ) → Pass (List BoundScript)
@@ -86,8 +87,8 @@ plan_pass (Check model) = do
   found (jobs.Check checked.model)
 plan_pass (Feeders model) = do
   contents ← text_pass model
-  text ← feeders_pass model contents
-  found (jobs.Feeders text)
+  bound ← bind_pass model contents
+  found (jobs.Feeders bound)
 plan_pass (Sample size) = found (jobs.Sample size)
 
 -- the words are in the grammar, and then their plan is carried out

@@ -3,27 +3,27 @@ ghost use Rattle.cube_words.specs.Words.{Feeders};
 ghost use Rattle.file_passes.specs.Halting.{Comes};
 ghost use Rattle.file_passes.specs.Outside.{outside};
 ghost use Rattle.run_passes.specs.Inside.Plans.{behind_feeders_text};
-ghost use Rattle.run_passes.specs.RefusalOrder.{feeders_pass, plan_pass};
+ghost use Rattle.run_passes.specs.RefusalOrder.{bind_pass, plan_pass};
 
 use crate::model_passes::{AS_TEXT, text_pass};
 use crate::run_job::RunJob;
 use cube_outside::Files;
 use file_passes::{Halt, Readings, obtain_all};
-use judged_files::{feeders_of, rule_names};
-use lists::ListOf;
+use judged_files::{bound_of, rule_names};
+use model_bind::Bound;
 use model_text::ModelText;
 use std::alloc::Global;
 
-// The files of the cubes' rules, and the text of the feeders that are found with them.
-fn feeders_pass<F: Files>(
+// The files of the cubes' rules, with which the model is bound.
+fn bind_pass<F: Files>(
     alloc: Global,
     files: &mut F,
     readings: &mut Readings,
     name: &str,
     text: ModelText,
-) -> Result<ListOf<u8>, Halt>
+) -> Result<Bound, Halt>
     ensures known { (F.seen files.new).known ≡ (F.seen files.old).known }
-    ensures comes { Comes (feeders_pass name.now text) (outside F.seen files.old files.new)
+    ensures comes { Comes (bind_pass name.now text) (outside F.seen files.old files.new)
         readings.old readings.new result }
 {
     let names = match rule_names(alloc, text.cubes()) {
@@ -34,7 +34,7 @@ fn feeders_pass<F: Files>(
         return Err(halt);
     }
     match readings.sources(alloc, &names) {
-        Ok(sources) => feeders_of(alloc, name, text, &sources),
+        Ok(sources) => bound_of(alloc, name, text, &sources),
         Err(_) => Err(Halt::Memory),
     }
 }
@@ -64,6 +64,6 @@ fn behind_text<F: Files>(
     ensures { Comes (behind_feeders_text name.now text) (outside F.seen files.old files.new)
         readings.old readings.new result }
 {
-    let found = feeders_pass(alloc, files, readings, name, text)?;
-    Ok(RunJob::Feeders(found))
+    let bound = bind_pass(alloc, files, readings, name, text)?;
+    Ok(RunJob::Feeders(bound))
 }

@@ -1,5 +1,6 @@
 use accepted::Accepted;
 use lists::ListOf;
+use model_bind::Bound;
 use sandbox::Act;
 use user_session::PlanCommand;
 
@@ -10,8 +11,8 @@ pub enum RunJob {
     Serve(Accepted, ListOf<ListOf<Act<PlanCommand>>>),
     /// Tells that the model is accepted, with its rules and scripts.
     Check(Accepted),
-    /// Prints the feeders that are found for the model, which have this text.
-    Feeders(ListOf<u8>),
+    /// Prints the feeders that are found for the model.
+    Feeders(Bound),
     /// Runs the generated sample of so many records.
     Sample(u32),
 }

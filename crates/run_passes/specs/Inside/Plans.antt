@@ -2,6 +2,7 @@
 use Rattle.std.specs.Prelude.{ℕ, List}
 use Rattle.file_passes.specs.Pass.{Pass, found, ◌>>=◌}
 use Rattle.model_text.specs.Contents.{Contents, script_names}
+use Rattle.model_bind.specs.declared.bound.Bound.{Bound}
 use Rattle.rule_model.specs.BoundModel.{BoundModel}
 use Rattle.script_bound.specs.declared.script.BoundScript.{BoundScript}
 use Rattle.sandbox.specs.declared.act.Act.{Act}
@@ -9,7 +10,7 @@ use Rattle.user_session.specs.declared.command.PlanCommand.{PlanCommand}
 use Rattle.user_text.specs.declared.command.UserCommand.{UserCommand}
 use Rattle.run_passes.specs.declared.run_job.RunJob.{RunJob}
 use Rattle.run_passes.specs.declared.run_job.RunJob.TheVariants as jobs
-use Rattle.run_passes.specs.RefusalOrder.{deploy_pass, feeders_pass, scripts_pass, users_pass, records_pass}
+use Rattle.run_passes.specs.RefusalOrder.{deploy_pass, bind_pass, scripts_pass, users_pass, records_pass}
 use Rattle.judged_files.specs.ModelFiles.{Checked}
 use Rattle.judged_files.specs.Rules.{all_rule_names}
 use Rattle.judged_files.specs.Scripts.{script_files}
@@ -47,8 +48,8 @@ behind_model users checked = users_pass checked.files.script_names users >>= beh
 
 -- ---- of feeders
 
-abbrev pub told_feeders : List ℕ → Pass RunJob
-told_feeders text = found (jobs.Feeders text)
+abbrev pub asked_feeders : Bound → Pass RunJob
+asked_feeders bound = found (jobs.Feeders bound)
 
 abbrev pub behind_feeders_text : List ℕ → Contents → Pass RunJob
-behind_feeders_text name contents = feeders_pass name contents >>= told_feeders
+behind_feeders_text name contents = bind_pass name contents >>= asked_feeders

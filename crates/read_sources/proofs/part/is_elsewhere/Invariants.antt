@@ -2,7 +2,7 @@
 use Rattle.std.proofs.Common.{◌≡◌, ℕ, ◌<◌, false, is_some}
 use Rattle.cube_space.specs.Layout.{axes}
 use Rattle.order_laws.specs.Scales.{is_total}
-use Rattle.order_laws.specs.Plain.{greatest_by}
+use Rattle.order_laws.specs.Excess.{greatest_by}
 use Rattle.ref_order.specs.Known.{IsKnown}
 use Rattle.read_sources.specs.Ways.{precedent}
 use Rattle.read_sources.proofs.part.is_elsewhere.Given as goal
