@@ -43,29 +43,33 @@ use Rattle.deploy_laws.proofs.FirstReferences.{there-holds, none-of-all, one-ref
 -- ---- least ranks
 
 module _ (m : BoundModel) (valid : IsSpace m.space) where
-  -- a cube has a rank for each element of its last dimension
-  as-long : (a : List (List ℕ)) → AreNodeRanks m a → (cube : ℕ) → cube < length m.space.cubes → length (ranks_in a cube) ≡ width m.space cube
-  as-long a are cube there =
+  -- a cube has a rank for each of its nodes of a kind
+  as-long : (a : NodeRanks) → AreNodeRanks m a → (cube : ℕ) (kind : Bool) → cube < length m.space.cubes → IsTrue (has_nodes m cube kind)
+      → length (ranks_in a kind cube) ≡ width m.space cube
+  as-long a are cube kind there has =
       let last = last_of m.space cube in
       let (d, is) = place-there (axes m.space cube) last (last-there m.space cube valid there) in
       let at = get_or_from_slice_get (axes m.space cube) last d d is in
-      are.each cube d there is ∙ ap (λ (x : Outline). length x.elements) (sym at)
+      are.each cube kind d there has is ∙ ap (λ (x : Outline). length x.elements) (sym at)
       ∙ sym (get_or-map (λ (x : Outline). length x.elements) (axes m.space cube) last d 0 (last-there m.space cube valid there))
 
-  one-row : (a b : List (List ℕ)) → AreNodeRanks m a → AreNodeRanks m b → FitArrows m a → FitArrows m b → AreLeast m a → AreLeast m b
-      → (cube : ℕ) → cube < length m.space.cubes → ranks_in a cube ≡ ranks_in b cube
-  one-row a b are also fit fits least lowest cube there =
-      let long = as-long a are cube there in
-      ext_get_or 0 (ranks_in a cube) (ranks_in b cube) (long ∙ sym (as-long b also cube there))
+  one-row : (a b : NodeRanks) → AreNodeRanks m a → AreNodeRanks m b → FitArrows m a → FitArrows m b → AreLeast m a → AreLeast m b
+      → (cube : ℕ) (kind : Bool) → cube < length m.space.cubes → IsTrue (has_nodes m cube kind) → ranks_in a kind cube ≡ ranks_in b kind cube
+  one-row a b are also fit fits least lowest cube kind there has =
+      let long = as-long a are cube kind there has in
+      ext_get_or 0 (ranks_in a kind cube) (ranks_in b kind cube) (long ∙ sym (as-long b also cube kind there has))
       (λ k low.
-      let node : Node = record { cube = cube; element = k } in
+      let node : Node = record { cube = cube; element = k; kind = kind } in
       let inside : k < width m.space cube = omega (arith, low, long) in
-      let up : get_or (ranks_in a cube) k 0 ≤ get_or (ranks_in b cube) k 0 = least b fits node there inside in
-      let down : get_or (ranks_in b cube) k 0 ≤ get_or (ranks_in a cube) k 0 = lowest a fit node there inside in
+      let up : get_or (ranks_in a kind cube) k 0 ≤ get_or (ranks_in b kind cube) k 0 = least b fits node there inside has in
+      let down : get_or (ranks_in b kind cube) k 0 ≤ get_or (ranks_in a kind cube) k 0 = lowest a fit node there inside has in
       omega (arith, up, down))
 
-  abbrev by-row : ℕ → List ℕ → Order
-  by-row cube row = record { positions = position_of m cube true 0 ∷ Ranks (last_of m.space cube) row ∷ []; totals = None }
+  abbrev by-row : ℕ → List ℕ → List Position
+  by-row cube row = position_of m cube true 0 ∷ Ranks (last_of m.space cube) row ∷ []
+
+  abbrev by-rows : ℕ → Bool → List ℕ → List ℕ → Order
+  by-rows cube kinds leaves totals = record { positions = by-row cube leaves; totals = if kinds then Some (by-row cube totals) else None }
 
   one-order : (a b : List Order) → AreFound m a → AreFound m b → a ≡ b
   one-order a b x y =
@@ -76,8 +80,18 @@ module _ (m : BoundModel) (valid : IsSpace m.space) where
       (λ k low. get_or-map-range_with_len (order_by m x.ranks) 0 n k k none low (omega arith) ∙ same k low)
       ∙ sym y.made
     where
+      rows : (kind : Bool) (k : ℕ) → k < length m.space.cubes → IsTrue (has_nodes m k kind) → ranks_in x.ranks kind k ≡ ranks_in y.ranks kind k
+      rows kind k low has = one-row x.ranks y.ranks x.each y.each x.fit y.fit x.least y.least k kind low has
+
       same : (k : ℕ) → k < length m.space.cubes → order_by m x.ranks k ≡ order_by m y.ranks k
-      same k low = ap (by-row k) (one-row x.ranks y.ranks x.each y.each x.fit y.fit x.least y.least k low)
+      same k low = by (has_kinds m k) refl
+        where
+          by : (kinds : Bool) → has_kinds m k ≡ kinds
+              → by-rows k kinds (ranks_in x.ranks true k) (ranks_in x.ranks false k) ≡ by-rows k kinds (ranks_in y.ranks true k) (ranks_in y.ranks false k)
+          by true is =
+              ap (λ row. by-rows k true row (ranks_in x.ranks false k)) (rows true k low refl)
+              ∙ ap (by-rows k true (ranks_in y.ranks true k)) (rows false k low is)
+          by false is = ap (λ row. by-rows k false row (ranks_in x.ranks false k)) (rows true k low refl)
 
 one-ranked : (m a b : BoundModel) → IsRanked m a → IsRanked m b → a ≡ b
 one-ranked m a b x y =

@@ -11,4 +11,4 @@ pub mod Stages
 pub mod NoTexts
 pub mod Walks
 pub mod Reordered
-pub mod OneOrder
+pub mod OneLag

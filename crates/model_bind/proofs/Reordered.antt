@@ -11,7 +11,8 @@ use Rattle.rule_model.specs.declared.rules.CubeRules.{CubeRules}
 use Rattle.rule_model.specs.BoundModel.{BoundModel, rules_of, no_rules}
 use Rattle.rule_model.specs.Conditions.{AreRules}
 use Rattle.arrow_laws.specs.Arrows.{FitArrows}
-use Rattle.arrow_laws.specs.Ranked.{HasOneOrder, with_order, order_by, ranked, AreNodeRanks}
+use Rattle.arrow_laws.specs.Nodes.{NodeRanks}
+use Rattle.arrow_laws.specs.Ranked.{HasOneLag, with_order, order_by, ranked, AreNodeRanks}
 use Rattle.order_find.specs.Found.{AreFound}
 use Rattle.model_bind.specs.Binding.{IsRanked}
 
@@ -86,8 +87,8 @@ module _ (m : BoundModel) (orders : List Order) (space : IsSpace m.space) (are :
       (λ k low. get_or-map-range_with_len (reordered m.rules orders) 0 (length m.rules) k k no_rules (omega (arith, low, are.each_cube)) (omega arith)
       ∙ ap (with_order (rules_of m k)) (own-is k low))
 
-  pub are-rules : ((b : BoundModel) (ranks : List (List ℕ)) → IsSpace b.space → AreRules b.space b.rules → All HasOneOrder b.rules → FitArrows b ranks → AreNodeRanks b ranks
-      → AreRules b.space (ranked b ranks).rules) → All HasOneOrder m.rules → AreRules m.space after
+  pub are-rules : ((b : BoundModel) (ranks : NodeRanks) → IsSpace b.space → AreRules b.space b.rules → All HasOneLag b.rules → FitArrows b ranks → AreNodeRanks b ranks
+      → AreRules b.space (ranked b ranks).rules) → All HasOneLag m.rules → AreRules m.space after
   are-rules law one = subst (AreRules m.space) (sym after-ranked) (law m found.ranks space are one found.fit found.each)
 
   pub is-ranked : IsRanked m (record { space = m.space; rules = after })

@@ -3,7 +3,7 @@ ghost use Rattle.std.specs.List.{range_with_len};
 ghost use Rattle.rule_model.specs.BoundModel.{no_rules};
 ghost use Rattle.rule_model.specs.Conditions.{AreRules};
 ghost use Rattle.rule_model.specs.Weights.{AreWeightsOf, HasSmallProducts};
-ghost use Rattle.arrow_laws.specs.Ranked.{HasOneOrder, with_order};
+ghost use Rattle.arrow_laws.specs.Ranked.{HasOneLag, with_order};
 ghost use Rattle.order_find.specs.Found.{AreFound, IsFindFault};
 ghost use Rattle.model_bind.specs.Foundation.{memory};
 ghost use Rattle.model_bind.specs.Rules.{is_automatic};
@@ -32,7 +32,7 @@ pub fn model_of(
     requires weights { AreWeightsOf found.space.dimensions found.weights.items }
     requires products { HasSmallProducts found.space }
     requires rules { AreRules found.space rules }
-    requires one_order { IsTrue (is_automatic found.orders) → All HasOneOrder rules }
+    requires one_lag { IsTrue (is_automatic found.orders) → All HasOneLag rules }
     ensures comes { Comes
         (ranked_stage (is_automatic found.orders) files.now (record { space = found.space; rules = rules })) result }
 {
@@ -48,7 +48,7 @@ pub fn model_of(
 
 // The model with the orders that are found.
 fn ranked(alloc: Global, files: &RuleFiles<'_>, model: Model) -> Result<Model, DeployFault>
-    requires { All HasOneOrder model.rules }
+    requires { All HasOneLag model.rules }
     ensures comes { Comes (find_stage files.now model) result }
 {
     match find(alloc, &model) {
@@ -60,7 +60,7 @@ fn ranked(alloc: Global, files: &RuleFiles<'_>, model: Model) -> Result<Model, D
 // The model with these orders of its cubes.
 fn with_orders(alloc: Global, model: Model, orders: Vec<Order>) -> Result<Model, AllocError>
     requires found { AreFound model orders.items }
-    requires one_order { All HasOneOrder model.rules }
+    requires one_lag { All HasOneLag model.rules }
     ensures { IfOk result (IsRanked model) }
 {
     // a space says of itself that it is one, and least ranks make orders of its cubes

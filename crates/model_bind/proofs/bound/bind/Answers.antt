@@ -1,5 +1,5 @@
 use Rattle.model_bind.proofs.Firsts.{unrefused}
-use Rattle.model_bind.proofs.OneOrder.{one-order}
+use Rattle.model_bind.proofs.OneLag.{one-lag}
 use Rattle.model_bind.proofs.InStages.{unfounded, unruled, unranked, ruled}
 use Rattle.model_bind.proofs.bound.bind.Goals as goal
 
@@ -14,10 +14,10 @@ returns-in_err-bound-clause-comes c =
     unruled c.args.text c.args.rules.now found.space found.orders none c.in_ok-found.ensures.space c.in_ok-found.ensures.orders c.in_err-bound.field-0.0 c.from_residual-in_err-bound.result
     c.from_residual-in_err-bound.ensures.1 c.in_err-bound.ensures.comes
 
-pub model_of-requires-clause-one_order : goal.model_of-requires-clause-one_order
-model_of-requires-clause-one_order c = λ automatic.
+pub model_of-requires-clause-one_lag : goal.model_of-requires-clause-one_lag
+model_of-requires-clause-one_lag c = λ automatic.
     let found = c.in_ok-found.found in
-    one-order found.space found.orders c.args.rules.now automatic c.in_ok-bound.bound c.in_ok-bound.ensures.comes
+    one-lag found.space found.orders c.args.rules.now automatic c.in_ok-bound.bound c.in_ok-bound.ensures.comes
 
 pub returns-in_err-model-clause-comes : goal.returns-in_err-model-clause-comes
 returns-in_err-model-clause-comes c =

@@ -11,7 +11,7 @@ pub of-requires-clause-rules : goal.of-requires-clause-rules
 of-requires-clause-rules c =
     let model = c.args.model in
     let orders = c.args.orders.items in
-    let own = are-rules model orders c.space-space.ensures.valid c.space-space.ensures.rules c.requires.found c.fitting_ranks_make_orders.ensures c.requires.one_order in
+    let own = are-rules model orders c.space-space.ensures.valid c.space-space.ensures.rules c.requires.found c.fitting_ranks_make_orders.ensures c.requires.one_lag in
     let parts = subst (λ (m : BoundModel). AreRules m.space (map (reordered m.rules orders) (range_with_len 0 (length m.rules)))) c.into_parts-space.ensures.model own in
     subst (λ (rules : List CubeRules). AreRules c.into_parts-space.result.0 rules) (sym c.in_orders-rules.ensures) parts
 
