@@ -1,6 +1,6 @@
 -- Of a model whose orders are to be found one model is found, or none is for one reason.
-use Rattle.std.proofs.Common.{◌≡◌, inl, inr, sym, ap, ◌∙◌, arith, ℕ, ◌<◌, ◌≤◌, Bool, true, false, Option, Some, None, List, [], ◌∷◌, map, length, get_or}
-use Rattle.std.specs.Prelude.{slice_get, slice_index_or}
+use Rattle.std.proofs.Common.{◌≡◌, inl, inr, refl, sym, ap, if◌then◌else◌, ◌∙◌, arith, ℕ, ◌<◌, ◌≤◌, Bool, true, false, Option, Some, None, List, [], ◌∷◌, map, length, get_or}
+use Rattle.std.specs.Prelude.{IsTrue, slice_get, slice_index_or}
 use Rattle.std.proofs.lemmas.List.{ext_get_or, get_or-map}
 use Rattle.std.proofs.lemmas.List.FromFn.{fill_by_all, get_or-map-range_with_len, length-map-range_with_len}
 use Rattle.std.proofs.lemmas.List.Elements.{Contains-get_or}
@@ -13,12 +13,13 @@ use Rattle.rule_laws.specs.declared.formula.Formula.{Formula}
 use Rattle.rule_laws.specs.Meaning.{Precedent, precedents}
 use Rattle.rule_laws.specs.RuleSystem.{part_of}
 use Rattle.rule_model.specs.declared.order.Order.{Order}
+use Rattle.rule_model.specs.declared.order.Position.{Position}
 use Rattle.rule_model.specs.declared.order.Position.TheVariants.{Ranks}
 use Rattle.rule_model.specs.declared.rules.Statement.{Statement}
 use Rattle.rule_model.specs.BoundModel.{BoundModel, rules_of}
 use Rattle.rule_model.specs.Order.{position_of}
 use Rattle.rule_model.specs.System.{cubes_of, rule_of}
-use Rattle.arrow_laws.specs.Nodes.{Node, last_of, ranks_in}
+use Rattle.arrow_laws.specs.Nodes.{Node, NodeRanks, has_kinds, has_nodes, last_of, ranks_in}
 use Rattle.arrow_laws.specs.Arrows.{IsLevel, Reads, FitArrows, IsLevelThroughout}
 use Rattle.arrow_laws.specs.Ranked.{AreNodeRanks, order_by, with_orders}
 use Rattle.arrow_laws.proofs.Made.{last-there}
