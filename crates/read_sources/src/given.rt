@@ -7,7 +7,9 @@ ghost use Rattle.read_sources.specs.Sources.{IsGiven};
 ghost use Rattle.read_sources.specs.Giving.{AreKindsIn, has_admitted, given_by, has_one, merged};
 
 use crate::source::{Given, Source};
-use ref_order::{AreaCells, ByKinds, Known, Numbers, Question, axis_count, greatest_known};
+use ref_order::{
+    AreaCells, ByKinds, Known, Numbers, Question, axis_count, greatest_known, mark_in,
+};
 use rule_model::Model;
 
 /// Nothing.
@@ -81,7 +83,8 @@ fn kinds_in<'a>(model: &'a Model, known: &mut Known<'a>, source: Source<'a>, dim
         own: source.kind,
         its: true,
     };
-    greatest_known(cells, known, asked)
+    let mark = mark_in(model, cube, source.read, dim);
+    greatest_known(cells, known, mark, asked)
 }
 
 // Whether there is an element of one kind that names what the source means.

@@ -236,7 +236,7 @@ fn take_cube<'a>(
 {
     let _space = model.space();
     let statements = model.rules(cube).statements.as_slice();
-    let mut known = Known::none();
+    let mut known = Known::none(alloc);
     'each: for n in 0..statements.len() {
         let number = n as u32 + 1;
         take_statement(
