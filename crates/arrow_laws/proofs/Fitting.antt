@@ -1,6 +1,6 @@
 -- Ranks that fit the arrows of a model order it.
-use Rattle.std.proofs.Common.{◌≡◌, refl, sym, ap, ◌∙◌, arith, subst, ℕ, zero, suc, ◌+◌, ◌<◌, ◌≤◌, ◌⊎◌, Bool, true, false, Some, List, [], ◌∷◌, length, map, get_or, All, Contains, inl, inr, if◌then◌else◌}
-use Rattle.std.specs.Prelude.{◌↔◌, Option, unwrap_or, slice_get, slice_index_or}
+use Rattle.std.proofs.Common.{◌≡◌, refl, sym, ap, ◌∙◌, arith, subst, ℕ, zero, suc, ◌+◌, ◌<◌, ◌≤◌, ◌⊎◌, Bool, true, false, not, ◌||◌, Some, None, List, [], ◌∷◌, length, map, get_or, All, Contains, inl, inr, if◌then◌else◌}
+use Rattle.std.specs.Prelude.{◌↔◌, IsTrue, unwrap_or, slice_get, slice_index_or}
 use Rattle.std.proofs.lemmas.List.FromFn.{length-map-range_with_len, get_or-map-range_with_len}
 use Rattle.std.proofs.lemmas.List.Elements.{All-contains, Contains-get_or, All-nil, All-cons}
 use Rattle.dim_core.specs.Outline.{Outline}
@@ -19,62 +19,92 @@ use Rattle.rule_model.specs.declared.rules.Statement.{Statement}
 use Rattle.rule_model.specs.BoundModel.{BoundModel, rules_of, no_rules}
 use Rattle.rule_model.specs.Order.{most_positions, positions_for, position_in, position_of, number_by, number_at, cell_level}
 use Rattle.rule_model.specs.System.{system_of, positions_of, rule_of, cube_rules}
-use Rattle.rule_model.specs.Conditions.{IsPrecedent, IsStatement, IsPosition, IsLeafBelow, HoldsLeaves, HoldsLeafCells, IsOrderOf, AreCubeRules, AreRules}
-use Rattle.rule_model.proofs.LeafCells.{HoldsLeavesAt, leaf_cells-held}
+use Rattle.rule_model.specs.Conditions.{IsPrecedent, IsStatement, IsPosition, IsLeafBelow, HoldsLeafCells, IsOrderOf, AreCubeRules, AreRules}
+use Rattle.rule_model.proofs.LeafCells.{element-of, coefs-counted}
 use Rattle.model_laws.proofs.Formed.{well_formed}
 use Rattle.model_laws.proofs.Levels.{axis-is}
 use Rattle.order_laws.proofs.CellFacts.{cell-cube}
 use Rattle.order_laws.proofs.Ordered.{parts-flat, parts-map, part-reads}
 use Rattle.cover_laws.proofs.Counted.{only-own}
-use Rattle.arrow_laws.specs.Nodes.{node_of, last_of, ranks_in, rank_of}
+use Rattle.arrow_laws.specs.Nodes.{NodeRanks, node_of, node_kind, has_kinds, has_nodes, last_of, ranks_in, rank_of}
 use Rattle.arrow_laws.specs.Arrows.{lag, IsLagged, IsLevel, IsWeak, Reads, FitArrows, IsLevelThroughout}
-use Rattle.arrow_laws.specs.Ranked.{with_order, HasOneOrder, order_by, ranked, AreNodeRanks}
+use Rattle.arrow_laws.specs.Ranked.{with_order, HasOneLag, positions_by, order_by, ranked, AreNodeRanks, HoldsLeavesOf}
 use Rattle.arrow_laws.specs.ByDimension.{is_lagged, is_weak}
 use Rattle.lists.proofs.Found.{there as place-there}
 use Rattle.arrow_laws.proofs.Made.{last-there}
 use Rattle.arrow_laws.proofs.Lag.{lagged-decided, weak-decided}
 
-module _ (m : BoundModel) (valid : IsSpace m.space) (ranks : List (List ℕ)) (fit : FitArrows m ranks) where
+module _ (m : BoundModel) (valid : IsSpace m.space) (ranks : NodeRanks) (fit : FitArrows m ranks) where
   -- no element ranks lower than a leaf that counts in it
-  pub leaves-held : (cube : ℕ) (d : Outline) → cube < length m.space.cubes → slice_get (axes m.space cube) (last_of m.space cube) ≡ Some d → HoldsLeaves d (ranks_in ranks cube)
-  leaves-held cube d there last element leaf own other counts = by (is_leaf d element) refl
+  pub leaves-held : (cube : ℕ) (d : Outline) → cube < length m.space.cubes → slice_get (axes m.space cube) (last_of m.space cube) ≡ Some d
+      → HoldsLeavesOf d (ranks_in ranks true cube) (ranks_in ranks (node_kind m cube false) cube)
+  leaves-held cube d there last element leaf own other counts = by (node_kind m cube false) refl (is_leaf d element) refl
     where
-      as-high : (a b : ℕ) → a ≡ b → get_or (ranks_in ranks cube) b 0 ≤ get_or (ranks_in ranks cube) a 0
-      as-high a b e = let same : get_or (ranks_in ranks cube) a 0 ≡ get_or (ranks_in ranks cube) b 0 = ap (λ x. get_or (ranks_in ranks cube) x 0) e in omega (arith, same)
+      IsHeld : Bool → Type 0
+      IsHeld kind = get_or (ranks_in ranks true cube) leaf 0 ≤ get_or (ranks_in ranks kind cube) element 0
 
-      by : (t : Bool) → is_leaf d element ≡ t → get_or (ranks_in ranks cube) leaf 0 ≤ get_or (ranks_in ranks cube) element 0
-      by true is = as-high element leaf (only-own d (axis-is m.space valid cube (last_of m.space cube) d last) element leaf own is (counts-nonzero _ counts))
-      by false is =
-          let low = fit (record { cube = cube; element = element }) (record { cube = cube; element = leaf }) false
-          (inr (record { within = there; same_cube = refl; dimension = d; last = last; source = own; target = other; consolidated = is; counts = counts; weak = refl })) in
+      arrow : (node_kind m cube false ≡ true → is_leaf d element ≡ false) → IsHeld (node_kind m cube false)
+      arrow consolidated =
+          let low = fit (record { cube = cube; element = element; kind = node_kind m cube false }) (record { cube = cube; element = leaf; kind = true }) false
+          (inr (record {
+            within = there;
+            same_cube = refl;
+            dimension = d;
+            last = last;
+            source = own;
+            target = other;
+            source_kind = refl;
+            target_kind = refl;
+            consolidated = consolidated;
+            counts = counts;
+            weak = refl;
+          })) in
           omega (arith, low)
 
--- the rules of each cube have one order
-one-each : (rules : List CubeRules) → All HasOneOrder rules → (cube : ℕ) → HasOneOrder (get_or rules cube no_rules)
+      as-high : (a b : ℕ) → a ≡ b → get_or (ranks_in ranks true cube) b 0 ≤ get_or (ranks_in ranks true cube) a 0
+      as-high a b e = let same : get_or (ranks_in ranks true cube) a 0 ≡ get_or (ranks_in ranks true cube) b 0 = ap (λ x. get_or (ranks_in ranks true cube) x 0) e in omega (arith, same)
+
+      by : (k : Bool) → node_kind m cube false ≡ k → (t : Bool) → is_leaf d element ≡ t → IsHeld (node_kind m cube false)
+      by true k true is =
+          subst IsHeld (sym k) (as-high element leaf (only-own d (axis-is m.space valid cube (last_of m.space cube) d last) element leaf own is (counts-nonzero _ counts)))
+      by false k true is = arrow (λ e. absurd (let clash : false ≡ true = sym k ∙ e in cc))
+      by kind k false is = arrow (λ e. is)
+
+-- the rules of each cube have one lag
+one-each : (rules : List CubeRules) → All HasOneLag rules → (cube : ℕ) → HasOneLag (get_or rules cube no_rules)
 one-each [] all cube = refl
 one-each (r ∷ rules) all zero = all 0 no_rules (omega arith)
 one-each (r ∷ rules) all (suc cube) = one-each rules (λ k d low. all (suc k) d (omega (arith, low))) cube
 
-module _ (m : BoundModel) (valid : IsSpace m.space) (ranks : List (List ℕ)) (fit : FitArrows m ranks) (one : All HasOneOrder m.rules) where
+module _ (m : BoundModel) (valid : IsSpace m.space) (ranks : NodeRanks) (fit : FitArrows m ranks) (one : All HasOneLag m.rules) where
   abbrev after : BoundModel
   after = ranked m ranks
 
-  -- the numbers of a cell before and after, whatever its kind
-  position-before : (cube : ℕ) (kind : Bool) (q : ℕ) → position_of m cube kind q ≡ position_of m cube true q
-  position-before cube true q = refl
-  position-before cube false q = ap (λ (o : Option (List Position)). slice_index_or (unwrap_or o (rules_of m cube).order.positions) q (Constant 0)) (one-each m.rules one cube)
+  -- the first number of a cell before, whatever its kind
+  position-before : (cube : ℕ) (kind : Bool) → position_of m cube kind 0 ≡ position_of m cube true 0
+  position-before cube true = refl
+  position-before cube false = one-each m.rules one cube
 
-  abbrev position_after : ℕ → ℕ → Position
-  position_after cube q = slice_index_or (order_by m ranks cube).positions q (Constant 0)
+  -- the positions of a kind are those of its nodes
+  lists : (cube : ℕ) (kind : Bool) → positions_for kind (order_by m ranks cube) ≡ positions_by m ranks cube (node_kind m cube kind)
+  lists cube true = refl
+  lists cube false = by (has_kinds m cube)
+    where
+      by : (h : Bool) → unwrap_or (if h then Some (positions_by m ranks cube false) else None) (positions_by m ranks cube true) ≡ positions_by m ranks cube (not h)
+      by true = refl
+      by false = refl
 
-  either : (cube : ℕ) (kind : Bool) (q : ℕ) → position_in (order_by m ranks cube) kind q ≡ position_after cube q
-  either cube true q = refl
-  either cube false q = refl
+  abbrev position_after : ℕ → Bool → ℕ → Position
+  position_after cube kind q = slice_index_or (positions_by m ranks cube kind) q (Constant 0)
+
+  either : (cube : ℕ) (kind : Bool) (q : ℕ) → position_in (order_by m ranks cube) kind q ≡ position_after cube (node_kind m cube kind) q
+  either cube kind q = ap (λ l. slice_index_or l q (Constant 0)) (lists cube kind)
 
   rules-after : (cube : ℕ) → cube < length m.space.cubes → rules_of after cube ≡ with_order (rules_of m cube) (order_by m ranks cube)
   rules-after cube there = get_or-map-range_with_len (λ cube. with_order (rules_of m cube) (order_by m ranks cube)) 0 (length m.space.cubes) cube cube no_rules there (omega arith)
 
-  number-after : (q c : ℕ) → IsCell m.space c → number_at after q c ≡ number_by (position_after (cube_of m.space c) q) (elements_of m.space c)
+  number-after : (q c : ℕ) → IsCell m.space c
+      → number_at after q c ≡ number_by (position_after (cube_of m.space c) (node_kind m (cube_of m.space c) (is_leaf_cell m.space c)) q) (elements_of m.space c)
   unfolding number_at
   number-after q c cell =
       ap (λ (r : CubeRules). number_by (position_in r.order (is_leaf_cell m.space c) q) (elements_of m.space c)) (rules-after (cube_of m.space c) (cell-cube m.space c cell))
@@ -82,18 +112,31 @@ module _ (m : BoundModel) (valid : IsSpace m.space) (ranks : List (List ℕ)) (f
 
   lag-after : (c : ℕ) → IsCell m.space c → number_at after 0 c ≡ lag m c
   unfolding number_at
-  lag-after c cell = number-after 0 c cell ∙ ap (λ (p : Position). number_by p (elements_of m.space c)) (sym (position-before (cube_of m.space c) (is_leaf_cell m.space c) 0))
+  lag-after c cell = number-after 0 c cell ∙ ap (λ (p : Position). number_by p (elements_of m.space c)) (sym (position-before (cube_of m.space c) (is_leaf_cell m.space c)))
 
-  rank-after : (c : ℕ) → IsCell m.space c → number_at after 1 c ≡ rank_of ranks (node_of m.space c)
+  rank-after : (c : ℕ) → IsCell m.space c → number_at after 1 c ≡ rank_of ranks (node_of m c)
   rank-after c cell = number-after 1 c cell
+
+  -- a cube has nodes of the kind of its cells
+  nodes-there : (cube : ℕ) (kind : Bool) → IsTrue (has_nodes m cube (node_kind m cube kind))
+  nodes-there cube kind = by (has_kinds m cube) kind
+    where
+      by : (h kind : Bool) → (kind || not h) || h ≡ true
+      by true true = refl
+      by true false = refl
+      by false true = refl
+      by false false = refl
 
   -- the order of a cube after is one of it
   module _ (ruled : AreRules m.space m.rules) (node_ranks : AreNodeRanks m ranks) (cube : ℕ) (there : cube < length m.space.cubes) where
     abbrev lag_position : Position
     lag_position = position_of m cube true 0
 
-    abbrev rank_position : Position
-    rank_position = Ranks (last_of m.space cube) (ranks_in ranks cube)
+    abbrev rank_position : Bool → Position
+    rank_position kind = Ranks (last_of m.space cube) (ranks_in ranks kind cube)
+
+    abbrev totals : Bool
+    totals = node_kind m cube false
 
     first : IsPosition (axes m.space cube) lag_position
     first = by (rules_of m cube).order.positions ((ruled.cube cube there).order.each true)
@@ -102,39 +145,43 @@ module _ (m : BoundModel) (valid : IsSpace m.space) (ranks : List (List ℕ)) (f
         by [] all = omega arith
         by (position ∷ positions) all = all 0 position (omega arith)
 
-    second : All (IsPosition (axes m.space cube)) (rank_position ∷ [])
-    second =
+    second : (kind : Bool) → IsTrue (has_nodes m cube kind) → All (IsPosition (axes m.space cube)) (rank_position kind ∷ [])
+    second kind has =
         let (d, here) = place-there (axes m.space cube) (last_of m.space cube) (last-there m.space cube valid there) in
-        All-cons (IsPosition (axes m.space cube)) rank_position [] (d, here, record { each = node_ranks.each cube d there here; small = node_ranks.small cube there })
-        (All-nil (IsPosition (axes m.space cube)))
+        All-cons (IsPosition (axes m.space cube)) (rank_position kind) []
+        (d, here, record { each = node_ranks.each cube kind d there has here; small = node_ranks.small cube kind there has }) (All-nil (IsPosition (axes m.space cube)))
 
     -- a leaf cell has no greater lag than a consolidated cell in which it counts, and no greater rank
     lag-held : (cell leaf : List ℕ) → IsLeafBelow (axes m.space cube) cell leaf → number_by lag_position leaf ≤ number_by lag_position cell
     lag-held cell leaf below =
         let low = (ruled.cube cube there).order.holds_leaf_cells cell leaf 0 below (λ k less. absurd (omega (arith, less))) in
-        subst (λ (p : Position). number_by lag_position leaf ≤ number_by p cell) (position-before cube false 0) low
+        subst (λ (p : Position). number_by lag_position leaf ≤ number_by p cell) (position-before cube false) low
 
-    rank-held : (cell leaf : List ℕ) → IsLeafBelow (axes m.space cube) cell leaf → number_by rank_position leaf ≤ number_by rank_position cell
+    rank-held : (cell leaf : List ℕ) → IsLeafBelow (axes m.space cube) cell leaf → number_by (rank_position true) leaf ≤ number_by (rank_position totals) cell
     rank-held cell leaf below =
-        leaf_cells-held (axes m.space cube) (rank_position ∷ []) second
-        (All-cons (HoldsLeavesAt (axes m.space cube)) rank_position [] (λ d here. leaves-held m valid ranks fit cube d there here) (All-nil (HoldsLeavesAt (axes m.space cube))))
-        cell leaf 0 below (λ k less. absurd (omega (arith, less)))
+        let axis = last_of m.space cube in
+        let (d, here) = place-there (axes m.space cube) axis (last-there m.space cube valid there) in
+        leaves-held m valid ranks fit cube d there here (get_or cell axis 0) (get_or leaf axis 0)
+        (element-of (axes m.space cube) cell axis d below.cell here).1 (element-of (axes m.space cube) leaf axis d below.leaf here).1
+        (coefs-counted (axes m.space cube) cell leaf axis d below.counts here)
 
     held : HoldsLeafCells (axes m.space cube) (order_by m ranks cube)
-    held cell leaf zero below equal = lag-held cell leaf below
-    held cell leaf (suc zero) below equal = rank-held cell leaf below
+    held cell leaf zero below equal =
+        subst (λ (p : Position). number_by lag_position leaf ≤ number_by p cell) (sym (either cube false 0)) (lag-held cell leaf below)
+    held cell leaf (suc zero) below equal =
+        subst (λ (p : Position). number_by (rank_position true) leaf ≤ number_by p cell) (sym (either cube false 1)) (rank-held cell leaf below)
     held cell leaf (suc (suc place)) below equal = omega arith
 
     order-after : IsOrderOf m.space cube (order_by m ranks cube)
     order-after = record { few = few; each = each; holds_leaf_cells = held }
       where
         few : (kind : Bool) → length (positions_for kind (order_by m ranks cube)) ≤ most_positions
-        few true = omega arith
-        few false = omega arith
+        few kind = subst (λ (l : List Position). length l ≤ most_positions) (sym (lists cube kind)) (omega arith)
 
         each : (kind : Bool) → All (IsPosition (axes m.space cube)) (positions_for kind (order_by m ranks cube))
-        each true = All-cons (IsPosition (axes m.space cube)) lag_position (rank_position ∷ []) first second
-        each false = All-cons (IsPosition (axes m.space cube)) lag_position (rank_position ∷ []) first second
+        each kind =
+            subst (All (IsPosition (axes m.space cube))) (sym (lists cube kind))
+            (All-cons (IsPosition (axes m.space cube)) lag_position (rank_position (node_kind m cube kind) ∷ []) first (second (node_kind m cube kind) (nodes-there cube kind)))
 
   -- what holds of the rules before holds after
   pub rules-hold : AreRules m.space m.rules → AreNodeRanks m ranks → AreRules m.space after.rules
@@ -155,7 +202,7 @@ module _ (m : BoundModel) (valid : IsSpace m.space) (ranks : List (List ℕ)) (f
           }
 
   -- cells that don't fall by rank, and aren't greater by lag, are nowhere greater
-  none-greater : (c t : ℕ) → IsCell m.space c → IsCell m.space t → lag m t ≤ lag m c → rank_of ranks (node_of m.space t) ≤ rank_of ranks (node_of m.space c)
+  none-greater : (c t : ℕ) → IsCell m.space c → IsCell m.space t → lag m t ≤ lag m c → rank_of ranks (node_of m t) ≤ rank_of ranks (node_of m c)
       → (q : ℕ) → number_at after q t ≤ number_at after q c
   none-greater c t cell read lags ranked zero = let a = lag-after c cell in let b = lag-after t read in omega (arith, a, b, lags)
   none-greater c t cell read lags ranked (suc zero) = let a = rank-after c cell in let b = rank-after t read in omega (arith, a, b, ranked)
@@ -201,9 +248,9 @@ module _ (m : BoundModel) (valid : IsSpace m.space) (ranks : List (List ℕ)) (f
 
       -- ranks along the arrows
       module _ (not_lagged : ¬ IsLagged m cube s kind p) (strict : Bool) (weak : IsWeak m cube s kind p ↔ (strict ≡ false)) where
-        falls : Throughout (system_of m) rule kind p (λ c t. rank_of ranks (node_of m.space t) + (if strict then 1 else 0) ≤ rank_of ranks (node_of m.space c))
+        falls : Throughout (system_of m) rule kind p (λ c t. rank_of ranks (node_of m t) + (if strict then 1 else 0) ≤ rank_of ranks (node_of m c))
         falls c t of has =
-            fit (node_of m.space c) (node_of m.space t) strict (inl (record {
+            fit (node_of m c) (node_of m t) strict (inl (record {
               cube = cube;
               within = there;
               statement = s;
@@ -232,7 +279,7 @@ module _ (m : BoundModel) (valid : IsSpace m.space) (ranks : List (List ℕ)) (f
       by-rank not_lagged not_weak =
           inl (1, omega arith, throughout-after (λ c t. number_at after 1 t < number_at after 1 c) smaller, λ q low. throughout-after (λ c t. number_at after q t ≤ number_at after q c) (within q low))
         where
-          down : Throughout (system_of m) rule kind p (λ c t. rank_of ranks (node_of m.space t) + 1 ≤ rank_of ranks (node_of m.space c))
+          down : Throughout (system_of m) rule kind p (λ c t. rank_of ranks (node_of m t) + 1 ≤ rank_of ranks (node_of m c))
           down = falls not_lagged true (λ weak. absurd (not_weak weak), λ e. absurd (cc))
 
           smaller : Throughout (system_of m) rule kind p (λ c t. IsCell m.space c → IsCell m.space t → number_at after 1 t < number_at after 1 c)
@@ -249,7 +296,7 @@ module _ (m : BoundModel) (valid : IsSpace m.space) (ranks : List (List ℕ)) (f
             λ q low. throughout-after (λ c t. number_at after q t ≤ number_at after q c) (within q),
           )
         where
-          down : Throughout (system_of m) rule kind p (λ c t. rank_of ranks (node_of m.space t) + 0 ≤ rank_of ranks (node_of m.space c))
+          down : Throughout (system_of m) rule kind p (λ c t. rank_of ranks (node_of m t) + 0 ≤ rank_of ranks (node_of m c))
           down = falls not_lagged false (λ weak. refl, λ e. weak)
 
           within : (q : ℕ) → Throughout (system_of m) rule kind p (λ c t. IsCell m.space c → IsCell m.space t → number_at after q t ≤ number_at after q c)

@@ -1,5 +1,5 @@
 -- The arrows between the nodes of a model, and ranks that fit them.
-use Rattle.std.specs.Prelude.{◌≡◌, ℕ, ◌+◌, ◌<◌, ◌≤◌, pos, Bool, false, Some, List, All, Contains, ◌⊎◌, ◌↔◌}
+use Rattle.std.specs.Prelude.{◌≡◌, ℕ, ◌+◌, ◌<◌, ◌≤◌, pos, Bool, true, false, Some, All, Contains, ◌⊎◌, ◌↔◌}
 use Rattle.std.specs.Prelude.{slice_get, length, if◌then◌else◌}
 use Rattle.dim_core.specs.Outline.{Outline, IsElement}
 use Rattle.dim_weights.specs.Coefficients.{coef}
@@ -13,7 +13,7 @@ use Rattle.rule_model.specs.declared.rules.Statement.{Statement}
 use Rattle.rule_model.specs.BoundModel.{BoundModel, rules_of}
 use Rattle.rule_model.specs.Order.{number_at, cell_level}
 use Rattle.rule_model.specs.System.{system_of, rule_of}
-use Rattle.arrow_laws.specs.Nodes.{Node, node_of, last_of, rank_of}
+use Rattle.arrow_laws.specs.Nodes.{Node, NodeRanks, node_of, node_kind, last_of, rank_of}
 
 -- the lag of a cell: its number at the first position
 abbrev pub lag : BoundModel → ℕ → ℕ
@@ -41,8 +41,8 @@ pub record IsJoined (m : BoundModel) (cube : ℕ) (s : Statement) (kind : Bool) 
   pub read : ℕ
   pub is_of : IsCellOf (system_of m) (rule_of m.space cube s) kind cell
   pub has : HasPrecedent (system_of m) p cell read
-  pub source : node_of m.space cell ≡ from
-  pub target : node_of m.space read ≡ to
+  pub source : node_of m cell ≡ from
+  pub target : node_of m read ≡ to
 
 -- the statement's part for this kind of cell reads it
 abbrev pub Reads : BoundModel → ℕ → Statement → Bool → Precedent → Type 0
@@ -63,7 +63,8 @@ pub record IsReadArrow (m : BoundModel) (from to : Node) (strict : Bool) : Type 
   pub weak : IsWeak m cube statement kind precedent ↔ (strict ≡ false)
   pub joined : IsJoined m cube statement kind precedent from to
 
--- the weak arrow from a consolidated element of a cube's last dimension to a leaf that counts in it
+-- the weak arrow from an element of a cube's last dimension to a leaf that counts in it: from the node of consolidated
+-- cells to that of leaf cells, or, where both are one, from a consolidated element
 pub record IsLeafArrow (m : BoundModel) (from to : Node) (strict : Bool) : Type 0 where
   pub within : from.cube < length m.space.cubes
   pub same_cube : to.cube ≡ from.cube
@@ -71,7 +72,9 @@ pub record IsLeafArrow (m : BoundModel) (from to : Node) (strict : Bool) : Type 
   pub last : slice_get (axes m.space from.cube) (last_of m.space from.cube) ≡ Some dimension
   pub source : IsElement dimension from.element
   pub target : IsElement dimension to.element
-  pub consolidated : is_leaf dimension from.element ≡ false
+  pub source_kind : from.kind ≡ node_kind m from.cube false
+  pub target_kind : to.kind ≡ true
+  pub consolidated : from.kind ≡ true → is_leaf dimension from.element ≡ false
   pub counts : coef dimension from.element to.element ≡ pos 0 → ⊥
   pub weak : strict ≡ false
 
@@ -79,7 +82,7 @@ abbrev pub IsArrow : BoundModel → Node → Node → Bool → Type 0
 IsArrow m from to strict = IsReadArrow m from to strict ⊎ IsLeafArrow m from to strict
 
 -- the ranks fall along each strict arrow, and don't rise along a weak one
-abbrev pub FitArrows : BoundModel → List (List ℕ) → Type 0
+abbrev pub FitArrows : BoundModel → NodeRanks → Type 0
 FitArrows m ranks =
     (from to : Node) (strict : Bool) → IsArrow m from to strict
     → rank_of ranks to + (if strict then 1 else 0) ≤ rank_of ranks from

@@ -76,9 +76,9 @@ fn have_totals(statements: &[Statement]) -> bool
     false
 }
 
-// Whether the reference names no consolidated cell that a statement governs.
+/// Whether the reference names no consolidated cell that a statement governs.
 #[tactic(auto, unfolding(cover_laws::specs::Covered::names_no_governed))]
-fn names_no_governed<'a>(
+pub fn names_no_governed<'a>(
     model: &'a Model,
     cube: u32,
     area: &'a Area,
@@ -105,9 +105,10 @@ fn names_no_governed<'a>(
     true
 }
 
-// Whether some feeder of the model covers the reference.
+/// Whether some feeder of the model covers the reference, as far as what it names goes: where it names no governed
+/// consolidated cell. The hints say which feeder is asked first, and don't change the answer.
 #[tactic(auto, unfolding(cover_laws::specs::Covered::has_cover))]
-fn has_cover<'a>(
+pub fn has_cover<'a>(
     model: &'a Model,
     cube: u32,
     area: &'a Area,

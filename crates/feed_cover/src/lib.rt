@@ -5,7 +5,7 @@
 //! the law of `cover_laws`.
 #![tactic(auto)]
 
-pub use covered::is_covered;
+pub use covered::{has_cover, is_covered, names_no_governed};
 pub use hints::Hints;
 
 mod back;

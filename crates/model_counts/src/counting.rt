@@ -69,7 +69,8 @@ fn plus(count: u64, more: u64) -> Result<u64, AllocError>
     }
 }
 
-fn feeder_statements(feeders: &[Feeder]) -> u64
+/// How many feeder statements these feeders come from.
+pub fn feeder_statements(feeders: &[Feeder]) -> u64
     ensures { result ≡ feeder_statements feeders.now }
 {
     let mut count: u64 = 0;

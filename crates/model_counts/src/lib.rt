@@ -5,4 +5,4 @@
 
 mod counting;
 
-pub use counting::accepted_text;
+pub use counting::{accepted_text, feeder_statements};

@@ -51,7 +51,7 @@ text_refusal name texts.Memory = None
 
 -- without statements and feeders
 abbrev pub no_text : RuleText
-no_text = record { skipcheck = false; statements = []; feeders = [] }
+no_text = record { skipcheck = false; statements = []; finds_feeders = false; feeders = [] }
 
 -- the text of a cube's rules: what its file has, and nothing where it has no file
 abbrev pub text_stage : Option RuleFile → Stage RuleText

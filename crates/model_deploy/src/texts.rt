@@ -60,6 +60,7 @@ fn no_text(alloc: Global) -> RuleText
     RuleText {
         skipcheck: false,
         statements: ListOf::new(Vec::new(alloc)),
+        finds_feeders: false,
         feeders: ListOf::new(Vec::new(alloc)),
     }
 }

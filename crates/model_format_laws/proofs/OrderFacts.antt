@@ -88,7 +88,7 @@ position_too space cube (words.Constant number) p is = is
 position_too space cube (words.Index name) p is = is
 position_too space cube (words.RanksByKind name leaves totals) p is = is
 position_too space cube words.Totals p is = is
-position_too space cube (words.Auto lag) p is = is
+position_too space cube (words.Auto totals lag) p is = is
 position_too space cube (words.Ranks name list) p is =
     then_too (position_by (axes space cube) (list_ranks 1 list)) (position_by (axes space cube) (list_ranks 2 list)) (axis_called (axes space cube) name) p
     (λ place here. mapped_too _ _ _ p (λ ranks found. then_too (list_ranks 1 list) (list_ranks 2 list) _ ranks (λ d. ranks_too list d ranks) found) here) is

@@ -22,7 +22,7 @@ use Rattle.dim_text.proofs.Quotable.{text_quotable, name_quotable}
 use Rattle.model_text.specs.Contents.{IsLineIn}
 use Rattle.model_text.specs.Gathering.{order_of}
 use Rattle.model_text.specs.Readers.Reading.{Plain, read_naming, read_script_file, read_cube_end}
-use Rattle.model_text.specs.Statement.{Piece, QuotedText, CubeEnd, has_totals, only_if, naming, script_file, rules, rank, rank_list, in_parentheses, behind_ranks, ranks, position, position_list, lag, order_words, order, cube_end}
+use Rattle.model_text.specs.Statement.{Piece, QuotedText, CubeEnd, has_totals, only_if, naming, script_file, rules, rank, rank_list, in_parentheses, behind_ranks, ranks, position, position_list, auto_totals, lag, auto, order_words, order, cube_end}
 use Rattle.model_text.specs.Orders.{is_auto, is_by_kind, has_kinds}
 use Rattle.model_text.specs.Writable.{IsNameText, IsFileText, IsWritableRank, IsWritableList, IsWritableWord, IsWritableOrder}
 use Rattle.model_text.specs.declared.fault.ModelTextFault.{ModelTextFault}
@@ -124,15 +124,25 @@ position_list_kept totals = keeps_both (position_kept totals) (λ first is. keep
 lag_kept : Keeps lag (λ l. IfSome l IsNameText)
 lag_kept = keeps_either (keeps_both name_kept (λ shown is. keeps_done is)) (keeps_done tt)
 
-auto_writable : (l : Option (List ℕ)) → IfSome l IsNameText → IsWritableOrder (words.Auto l ∷ [])
-auto_writable l is = record {
-  some = some_more (words.Auto l) [];
-  each = All-cons IsWritableWord (words.Auto l) [] is (All-nil IsWritableWord);
+auto_totals_kept : (totals : Bool) → Keeps (auto_totals totals) (λ kinds. IsTrue kinds → IsTrue totals)
+auto_totals_kept totals = keeps_either (keeps_allowed (λ can. keeps_both keeps_any (λ _ _. keeps_done (λ _. can)))) (keeps_done never)
+
+auto_writable : (kinds : Bool) (l : Option (List ℕ)) → IfSome l IsNameText → IsWritableOrder (words.Auto kinds l ∷ [])
+auto_writable kinds l is = record {
+  some = some_more (words.Auto kinds l) [];
+  each = All-cons IsWritableWord (words.Auto kinds l) [] is (All-nil IsWritableWord);
   auto_alone = λ _. refl;
 }
 
+auto_stands : (totals kinds : Bool) (l : Option (List ℕ)) → (IsTrue kinds → IsTrue totals) → IsTrue (has_kinds (words.Auto kinds l ∷ [])) → IsTrue totals
+auto_stands totals true l can has = can refl
+auto_stands totals false l can has = never has
+
+auto_kept : (totals : Bool) → Keeps (auto totals) (IsWritableLine totals)
+auto_kept totals = keeps_both keeps_any (λ _ _. keeps_both (auto_totals_kept totals) (λ kinds can. keeps_both lag_kept (λ l is. keeps_done (auto_writable kinds l is, auto_stands totals kinds l can))))
+
 order_words_kept : (totals : Bool) → Keeps (order_words totals) (IsWritableLine totals)
-order_words_kept totals = keeps_either (keeps_both keeps_any (λ _ _. keeps_both lag_kept (λ l is. keeps_done (auto_writable l is, never)))) (position_list_kept totals)
+order_words_kept totals = keeps_either (auto_kept totals) (position_list_kept totals)
 
 order_kept : (totals : Bool) → Keeps (order totals) (λ o. IfSome o (λ x. IsWritableLine totals x.1))
 order_kept totals = keeps_either (keeps_both keeps_any (λ line _. keeps_both (order_words_kept totals) (λ list is. keeps_both keeps_any (λ _ _. keeps_done is)))) (keeps_done tt)

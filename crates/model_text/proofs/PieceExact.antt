@@ -16,13 +16,13 @@ use Rattle.grammar.specs.declared.cursor.Unwatched.{Unwatched}
 use Rattle.dim_name.specs.Name.{is_name}
 use Rattle.std.specs.Str.Parse.{digits_value}
 use Rattle.grammar.proofs.Exact.{Exact, Always, Not, exact_one, exact_gives, exact_then, exact_both, exact_made, exact_choose, exact_by, exact_before}
-use Rattle.grammar.proofs.Begins.{Begins, begins_one, begins_both, begins_either, begins_behind, starts_text, exact_or, exact_option, exact_before_next}
+use Rattle.grammar.proofs.Begins.{Begins, begins_one, begins_both, begins_either, begins_behind, starts_text, made_is, exact_or, exact_option, exact_before_next}
 use Rattle.grammar.proofs.Tokens.{IsValue, name_is_value, whole_is_value, value_no_word, sign_no_text, sign_no_word, begins_any, exact_sign, exact_word, exact_name, exact_whole_number, exact_file, sign_begins, word_begins, when_picks, and_is, sample_of, one_ascii}
 use Rattle.model_text.specs.declared.fault.ModelTextFault.{ModelTextFault}
 use Rattle.model_text.specs.declared.order.OrderWord.{OrderWord}
 use Rattle.model_text.specs.declared.order.OrderWord.TheVariants as words
-use Rattle.model_text.specs.Statement.{Version, Closing, DimensionWord, CubeWord, ScriptWord, QuotedText, CubeDimension, CubeEnd, version, closing, dimension_word, cube_word, script_word, naming, script_file, dimension_behind, rule_file, rules, rank, in_parentheses, only_if, total_ranks, behind_ranks, given_ranks, ranks, constant, index, cell_kind, position, position_list, lag, auto, order_words, order_line, order, cube_end}
-use Rattle.model_text.specs.Readers.Reading.{Plain, choose_if, read_version, read_closing, read_dimension_word, read_cube_word, read_script_word, read_naming, read_script_file, read_dimension_behind, read_rules, read_rank, read_in_parentheses, read_total_ranks, read_behind_ranks, read_ranks, read_cell_kind, read_ranked, read_position, read_lag, read_auto, read_order_words, read_order, read_cube_end}
+use Rattle.model_text.specs.Statement.{Version, Closing, DimensionWord, CubeWord, ScriptWord, QuotedText, CubeDimension, CubeEnd, version, closing, dimension_word, cube_word, script_word, naming, script_file, dimension_behind, rule_file, rules, rank, in_parentheses, only_if, total_ranks, behind_ranks, given_ranks, ranks, constant, index, cell_kind, position, position_list, auto_totals, lag_name, lag, auto, order_words, order_line, order, cube_end}
+use Rattle.model_text.specs.Readers.Reading.{Plain, choose_if, read_version, read_closing, read_dimension_word, read_cube_word, read_script_word, read_naming, read_script_file, read_dimension_behind, read_rules, read_rank, read_in_parentheses, read_total_ranks, read_behind_ranks, read_ranks, read_cell_kind, read_ranked, read_position, read_auto_totals, read_lag, read_auto, read_order_words, read_order, read_cube_end}
 pub use Rattle.lists.proofs.Found.{mapped}
 
 -- nothing watches the parts of a piece
@@ -195,18 +195,33 @@ position_exact totals = exact_if totals (exact_or (is_word (codes "TOTALS")) (ce
 name_is_text : Begins (one name) is_text true
 name_is_text = begins_one name is_text true (λ t shown e. (and_is (is_text_kind t.kind) (is_name (unquoted t.piece)) (when_picks (λ t. is_text_kind t.kind && is_name (unquoted t.piece)) (λ t. unquoted t.piece) t shown e).0).0)
 
+lag_name_begins : Begins lag_name (is_word (codes "TOTALS")) false
+lag_name_begins = begins_both (value_no_word name_is_value (codes "TOTALS"))
+
 lag_exact : Exact free lag lag read_lag (Not is_text)
 unfolding read_lag
 lag_exact = exact_option is_text None (begins_both name_is_text) (exact_then (exact_name unscanned) (λ shown. exact_gives free (Some shown)))
-
-auto_exact : Exact free auto auto read_auto (Not is_text)
-unfolding read_auto
-auto_exact = exact_then (exact_word unscanned (codes "AUTO")) (λ _. exact_made (λ shown. words.Auto shown ∷ []) lag_exact)
 
 -- what may stand behind the words of an order line
 record BehindWords (rest : List Lexeme) : Type 0 where
   lag : Not is_text rest
   list : BehindList goes_on rest
+
+auto_totals_exact : (totals : Bool) → Exact free (auto_totals totals) (auto_totals totals) (read_auto_totals totals) (Not (is_word (codes "TOTALS")))
+unfolding read_auto_totals
+auto_totals_exact totals = exact_if totals
+    (exact_option (is_word (codes "TOTALS")) false (begins_both (word_begins (codes "TOTALS") (codes "TOTALS"))) (exact_then (exact_word unscanned (codes "TOTALS")) (λ _. exact_gives free true)))
+    (exact_before (λ _ _. tt) (exact_gives free false))
+
+lag_no_totals : (v : List Lexeme) (l : Option (List ℕ)) (rest : List Lexeme) → lag v l → Not (is_word (codes "TOTALS")) rest → Not (is_word (codes "TOTALS")) (v ++ rest)
+lag_no_totals v l rest (inl h) stops = starts_text lag_name_begins v l rest h
+lag_no_totals v l rest (inr h) stops = ap (λ x. starts (is_word (codes "TOTALS")) (x ++ rest)) h.0 ∙ stops
+
+auto_exact : (totals : Bool) → Exact free (auto totals) (auto totals) (read_auto totals) BehindWords
+unfolding read_auto
+auto_exact totals = exact_then (exact_word unscanned (codes "AUTO")) (λ _. exact_both (auto_totals_exact totals)
+    (λ kinds. exact_made (λ shown. words.Auto kinds shown ∷ []) (exact_before (λ rest (stops : BehindWords rest). stops.lag) lag_exact))
+    (λ kinds v b rest h stops. let (l, named) = made_is lag (λ shown. words.Auto kinds shown ∷ []) v b h in lag_no_totals v l rest named (no_totals rest stops.list.item)))
 
 only_begins : {A : Type 0} {G : Grammar Lexeme A} {allowed : Bool} {p : Lexeme → Bool} {b : Bool} → Begins G p b → Begins (only_if allowed G) p b
 only_begins e = record { at = λ u a h. e.at u a h.1 }
@@ -225,13 +240,13 @@ comma_ends = begins_any (sign_begins (codes ",") (codes "(")) (sign_no_word (cod
 close_ends : Begins (one (sign (codes ";"))) goes_on false
 close_ends = begins_any (sign_begins (codes ";") (codes "(")) (sign_no_word (codes ";") (codes "TOTALS"))
 
-auto_begins : Begins auto (is_word (codes "AUTO")) true
-auto_begins = begins_both (word_begins (codes "AUTO") (codes "AUTO"))
+auto_begins : (totals : Bool) → Begins (auto totals) (is_word (codes "AUTO")) true
+auto_begins totals = begins_both (word_begins (codes "AUTO") (codes "AUTO"))
 
 order_words_exact : (totals : Bool) → Exact free (order_words totals) (order_words totals) (read_order_words totals) BehindWords
 unfolding read_order_words
-order_words_exact totals = exact_choose (is_word (codes "AUTO")) auto_exact (listed_exact goes_on comma_ends (position_exact totals))
-    (λ u a rest h stops. (starts_text auto_begins u a rest h, stops.lag))
+order_words_exact totals = exact_choose (is_word (codes "AUTO")) (auto_exact totals) (listed_exact goes_on comma_ends (position_exact totals))
+    (λ u a rest h stops. (starts_text (auto_begins totals) u a rest h, stops))
     (λ u a rest h stops. (starts_text (position_list_begins totals) u a rest h, stops.list))
 
 abbrev line_end : Option (ℕ × List OrderWord) → Grammar Lexeme (Option (ℕ × List OrderWord))

@@ -1,5 +1,5 @@
 -- Each piece as it is written is read as that piece again, on its new line.
-use Rattle.std.proofs.Common.{◌≡◌, ◌<◌, ◌^◌, ℕ, List, [], ◌∷◌, ◌++◌, true, Option, Some, None, option_map, IfSome, ◌||◌, refl, ap, ◌∙◌, subst, inl, append-nil, length, codes, IsTrue, Bool, false, arith}
+use Rattle.std.proofs.Common.{◌≡◌, ◌<◌, ◌^◌, ℕ, List, [], ◌∷◌, ◌++◌, true, Option, Some, None, option_map, IfSome, ◌||◌, refl, sym, ap, ◌∙◌, subst, inl, append-nil, length, codes, IsTrue, Bool, false, arith}
 use Rattle.std.proofs.lemmas.List.Elements.{All-nil, All-cons, All-head, All-tail}
 use Rattle.std.specs.List.{All, AllZip, flat_map}
 use Rattle.cube_lex.specs.Lexeme.{Lexeme}
@@ -14,8 +14,8 @@ use Rattle.dim_text.specs.Spelled.{whole_token}
 use Rattle.grammar.proofs.Spells.{Spells, Picks, spells_done, spells_next, spells_both, spells_left, spells_right, spells_made, spells_many}
 use Rattle.dim_text.proofs.SpelledStatements.{picks_word, picks_sign, picks_name, picks_whole}
 use Rattle.grammar.specs.Lists.{next}
-use Rattle.model_text.specs.Spelled.{dimension_spelled, rules_spelled, rank_spelled, next_rank_spelled, ranks_spelled, list_spelled, position_spelled, next_position_spelled, positions_spelled, order_spelled, ending_spelled, cube_end_spelled}
-use Rattle.model_text.specs.Statement.{Piece, only_if, Version, Closing, DimensionWord, CubeWord, ScriptWord, QuotedText, CubeDimension, CubeEnd, version, closing, dimension_word, cube_word, script_word, naming, script_file, dimension_behind, rules, rank, rank_list, in_parentheses, given_ranks, position, position_list, auto, order_words, order, cube_end}
+use Rattle.model_text.specs.Spelled.{dimension_spelled, rules_spelled, rank_spelled, next_rank_spelled, ranks_spelled, list_spelled, totals_spelled, lag_spelled, position_spelled, next_position_spelled, positions_spelled, order_spelled, ending_spelled, cube_end_spelled}
+use Rattle.model_text.specs.Statement.{Piece, only_if, Version, Closing, DimensionWord, CubeWord, ScriptWord, QuotedText, CubeDimension, CubeEnd, version, closing, dimension_word, cube_word, script_word, naming, script_file, dimension_behind, rules, rank, rank_list, in_parentheses, given_ranks, position, position_list, auto_totals, lag, auto, order_words, order, cube_end}
 use Rattle.model_text.specs.Orders.{is_auto, has_auto, is_by_kind, has_kinds}
 use Rattle.model_text.specs.Writable.{IsNameText, IsFileText, IsWritableRank, IsWritableList, IsWritableWord, IsWritableOrder}
 use Rattle.model_text.specs.declared.order.OrderLine.{OrderLine}
@@ -128,7 +128,7 @@ position_spells totals (words.Index shown) (is, none, can) = spells_right (spell
 position_spells totals (words.Ranks shown list) (is, none, can) = spells_right (spells_right (spells_next (picks_name shown is.0.0) (λ head same. spells_left (listed_spells totals shown head list same is.1))))
 position_spells totals (words.RanksByKind shown leaves others) (is, none, can) = spells_right (spells_right (spells_next (picks_name shown is.0.0) (λ head same. spells_left (by_kind_spells totals shown head leaves others (can refl) same is.1 is.2))))
 position_spells totals words.Totals (is, none, can) = spells_allowed (can refl) (spells_next (picks_word (codes "TOTALS")) (λ _ _. spells_done words.Totals refl))
-position_spells totals (words.Auto lag) (is, none, can) = cc
+position_spells totals (words.Auto kinds lag) (is, none, can) = cc
 
 next_position_spells : (totals : Bool) (p : OrderWord) → IsWritablePosition totals p → Spells (next (position totals)) (next_position_spelled p) (λ x. x ≡ p)
 next_position_spells totals p is = spells_next (picks_sign (codes ",")) (λ _ _. position_spells totals p is)
@@ -151,28 +151,35 @@ are_positions totals (x ∷ rest) all none can =
     All-cons (IsWritablePosition totals) x rest (All-head IsWritableWord x rest all, first, λ is. can (ap (λ b. b || has_kinds rest) is))
     (are_positions totals rest (All-tail IsWritableWord x rest all) others (λ has. can (or_right (is_by_kind x) (has_kinds rest) has)))
 
-auto_spells : (lag : Option (List ℕ)) → IfSome lag IsNameText → Spells auto (position_spelled (words.Auto lag)) (λ x. x ≡ words.Auto lag ∷ [])
-auto_spells None is = spells_next (picks_word (codes "AUTO")) (λ _ _. spells_made (λ l. words.Auto l ∷ []) (spells_right (spells_done None refl)) (λ l same. ap (λ m. words.Auto m ∷ []) same))
-auto_spells (Some shown) is = spells_next (picks_word (codes "AUTO")) (λ _ _. spells_made (λ l. words.Auto l ∷ []) (spells_left (spells_next (picks_name shown is.0) (λ head same. spells_done (Some head) (ap (λ x. Some x) same))))
-    (λ l same. ap (λ m. words.Auto m ∷ []) same))
+auto_totals_spells : (totals kinds : Bool) → (IsTrue kinds → IsTrue totals) → Spells (auto_totals totals) (totals_spelled kinds) (λ x. x ≡ kinds)
+auto_totals_spells totals false can = spells_right (spells_done false refl)
+auto_totals_spells totals true can = spells_allowed (can refl) (spells_next (picks_word (codes "TOTALS")) (λ _ _. spells_done true refl))
+
+lag_spells : (l : Option (List ℕ)) → IfSome l IsNameText → Spells lag (lag_spelled l) (λ x. x ≡ l)
+lag_spells None is = spells_right (spells_done None refl)
+lag_spells (Some shown) is = spells_left (spells_next (picks_name shown is.0) (λ head same. spells_done (Some head) (ap (λ x. Some x) same)))
+
+auto_spells : (totals kinds : Bool) (l : Option (List ℕ)) → (IsTrue kinds → IsTrue totals) → IfSome l IsNameText → Spells (auto totals) (position_spelled (words.Auto kinds l)) (λ x. x ≡ words.Auto kinds l ∷ [])
+auto_spells totals kinds l can is = spells_next (picks_word (codes "AUTO")) (λ _ _. spells_both {xs = totals_spelled kinds} {ys = lag_spelled l} (auto_totals_spells totals kinds can)
+    (λ k same. spells_made (λ m. words.Auto k m ∷ []) (lag_spells l is) (λ m equal. ap (λ x. words.Auto k x ∷ []) equal ∙ ap (λ x. words.Auto x l ∷ []) same)))
 
 -- `AUTO`, the only word of its line
-alone_spells : (list : List OrderWord) → has_auto list ≡ true → length list ≡ 1 → All IsWritableWord list → Spells auto (positions_spelled list) (λ x. x ≡ list)
-alone_spells [] has one all = absurd (omega (arith, one))
-alone_spells (x ∷ y ∷ rest) has one all = absurd (omega (arith, one))
-alone_spells (words.Constant n ∷ []) has one all = cc
-alone_spells (words.Index shown ∷ []) has one all = cc
-alone_spells (words.Ranks shown list ∷ []) has one all = cc
-alone_spells (words.RanksByKind shown leaves others ∷ []) has one all = cc
-alone_spells (words.Totals ∷ []) has one all = cc
-alone_spells (words.Auto None ∷ []) has one all = auto_spells None tt
-alone_spells (words.Auto (Some shown) ∷ []) has one all = auto_spells (Some shown) (All-head IsWritableWord (words.Auto (Some shown)) [] all)
+alone_spells : (totals : Bool) (list : List OrderWord) → has_auto list ≡ true → length list ≡ 1 → All IsWritableWord list → (IsTrue (has_kinds list) → IsTrue totals) → Spells (auto totals) (positions_spelled list) (λ x. x ≡ list)
+alone_spells totals [] has one all can = absurd (omega (arith, one))
+alone_spells totals (x ∷ y ∷ rest) has one all can = absurd (omega (arith, one))
+alone_spells totals (words.Constant n ∷ []) has one all can = cc
+alone_spells totals (words.Index shown ∷ []) has one all can = cc
+alone_spells totals (words.Ranks shown list ∷ []) has one all can = cc
+alone_spells totals (words.RanksByKind shown leaves others ∷ []) has one all can = cc
+alone_spells totals (words.Totals ∷ []) has one all can = cc
+alone_spells totals (words.Auto kinds l ∷ []) has one all can = subst (λ tokens. Spells (auto totals) tokens (λ x. x ≡ words.Auto kinds l ∷ [])) (sym (append-nil (position_spelled (words.Auto kinds l))))
+    (auto_spells totals kinds l (λ is. can (ap (λ b. b || false) is)) (All-head IsWritableWord (words.Auto kinds l) [] all))
 
 order_words_spells : (totals : Bool) (list : List OrderWord) → IsWritableOrder list → (IsTrue (has_kinds list) → IsTrue totals) → Spells (order_words totals) (positions_spelled list) (λ x. x ≡ list)
 order_words_spells totals list is can = by (has_auto list) refl
   where
     by : (b : Bool) → has_auto list ≡ b → Spells (order_words totals) (positions_spelled list) (λ x. x ≡ list)
-    by true has = spells_left (alone_spells list has (is.auto_alone has) is.each)
+    by true has = spells_left (alone_spells totals list has (is.auto_alone has) is.each can)
     by false none = spells_right (position_list_spells totals list is.some (are_positions totals list is.each none can))
 
 -- the words of this order line, whatever the line of its first word

@@ -2,7 +2,7 @@
 use Rattle.std.proofs.Common.{ℕ, List, [], ◌∷◌, Bool, true, refl, inl, inr}
 use Rattle.cube_lex.specs.Lexeme.{Lexeme}
 use Rattle.grammar.specs.Grammar.{Grammar, both, either, many}
-use Rattle.model_text.specs.Statement.{only_if, ranks, position, position_list, order, cube_end}
+use Rattle.model_text.specs.Statement.{only_if, ranks, position, position_list, auto, order, cube_end}
 
 -- each text of G is one of H with the same tree
 pub record Into {A : Type 0} (G H : Grammar Lexeme A) : Type 0 where
@@ -42,8 +42,11 @@ position_into totals = into_either into_only (into_either same (into_both same (
 list_into : (totals : Bool) → Into (position_list totals) (position_list true)
 list_into totals = into_both (position_into totals) (λ first. into_both (into_many (into_both same (λ _. position_into totals))) (λ rest. same))
 
+auto_into : (totals : Bool) → Into (auto totals) (auto true)
+auto_into totals = into_both same (λ _. into_both (into_either into_only same) (λ kinds. same))
+
 order_into : (totals : Bool) → Into (order totals) (order true)
-order_into totals = into_either (into_both same (λ line. into_both (into_either same (list_into totals)) (λ list. same))) same
+order_into totals = into_either (into_both same (λ line. into_both (into_either (auto_into totals) (list_into totals)) (λ list. same))) same
 
 pub cube_end_into : (totals : Bool) → Into (cube_end totals) (cube_end true)
 cube_end_into totals = into_both same (λ _. into_both same (λ _. into_both same (λ r. into_both (order_into totals) (λ o. same))))

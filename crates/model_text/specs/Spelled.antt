@@ -1,5 +1,5 @@
 -- How a model text is written, token by token. Lines aren't written.
-use Rattle.std.specs.Prelude.{ℕ, List, [], ◌∷◌, ◌++◌, get_or, Option, Some, None, codes}
+use Rattle.std.specs.Prelude.{ℕ, Bool, true, false, List, [], ◌∷◌, ◌++◌, get_or, Option, Some, None, codes}
 use Rattle.std.specs.List.{flat_map}
 use Rattle.cube_lex.specs.Written.{Spelling}
 use Rattle.dim_core.specs.Written.{written}
@@ -57,6 +57,15 @@ ranks_spelled (first ∷ rest) = rank_spelled first ++ flat_map next_rank_spelle
 abbrev pub list_spelled : List (List ℕ × ℕ) → List Spelling
 list_spelled list = sign_token (codes "(") ∷ (ranks_spelled list ++ sign_token (codes ")") ∷ [])
 
+-- what may stand behind `AUTO`
+abbrev pub totals_spelled : Bool → List Spelling
+totals_spelled false = []
+totals_spelled true = word_token (codes "TOTALS") ∷ []
+
+abbrev pub lag_spelled : Option (List ℕ) → List Spelling
+lag_spelled None = []
+lag_spelled (Some shown) = text_token shown ∷ []
+
 abbrev pub position_spelled : OrderWord → List Spelling
 position_spelled (words.Constant n) = whole_token n ∷ []
 position_spelled (words.Index shown) = text_token shown ∷ []
@@ -64,8 +73,7 @@ position_spelled (words.Ranks shown list) = text_token shown ∷ list_spelled li
 position_spelled (words.RanksByKind shown leaves totals) =
     text_token shown ∷ (list_spelled leaves ++ word_token (codes "TOTALS") ∷ list_spelled totals)
 position_spelled words.Totals = word_token (codes "TOTALS") ∷ []
-position_spelled (words.Auto None) = word_token (codes "AUTO") ∷ []
-position_spelled (words.Auto (Some shown)) = word_token (codes "AUTO") ∷ text_token shown ∷ []
+position_spelled (words.Auto totals lag) = word_token (codes "AUTO") ∷ (totals_spelled totals ++ lag_spelled lag)
 
 abbrev pub next_position_spelled : OrderWord → List Spelling
 next_position_spelled position = sign_token (codes ",") ∷ position_spelled position

@@ -1,5 +1,5 @@
 -- The grammar of a model text. Its pieces are those by which it is watched: each ends where something may be refused.
-use Rattle.std.specs.Prelude.{ℕ, Bool, true, ◌==◌, IsTrue, List, [], ◌∷◌, Option, Some, None, codes}
+use Rattle.std.specs.Prelude.{ℕ, Bool, true, false, ◌==◌, IsTrue, List, [], ◌∷◌, Option, Some, None, codes}
 use Rattle.cube_lex.specs.Lexeme.{Lexeme}
 use Rattle.grammar.specs.Grammar.{Grammar, done, one, either, many, ◌>>=◌, ◌>>◌}
 use Rattle.grammar.specs.Lists.{listed}
@@ -162,6 +162,16 @@ position totals = either (only_if totals cell_kind) (either constant (index tota
 abbrev pub position_list : Bool → Grammar Lexeme (List OrderWord)
 position_list totals = listed (position totals) (position totals)
 
+-- "TOTALS"
+abbrev pub totals_word : Grammar Lexeme Bool
+totals_word = do
+  one (word (codes "TOTALS"))
+  done true
+
+-- [ "TOTALS" ]
+abbrev pub auto_totals : Bool → Grammar Lexeme Bool
+auto_totals totals = either (only_if totals totals_word) (done false)
+
 -- name
 abbrev pub lag_name : Grammar Lexeme (Option (List ℕ))
 lag_name = do
@@ -172,18 +182,19 @@ lag_name = do
 abbrev pub lag : Grammar Lexeme (Option (List ℕ))
 lag = either lag_name (done None)
 
--- "AUTO" [ name ]
-abbrev pub auto : Grammar Lexeme (List OrderWord)
-auto = do
+-- "AUTO" [ "TOTALS" ] [ name ]
+abbrev pub auto : Bool → Grammar Lexeme (List OrderWord)
+auto totals = do
   one (word (codes "AUTO"))
+  kinds ← auto_totals totals
   shown ← lag
-  done (words.Auto shown ∷ [])
+  done (words.Auto kinds shown ∷ [])
 
--- "AUTO" [ name ] | position { "," position }
+-- "AUTO" [ "TOTALS" ] [ name ] | position { "," position }
 abbrev pub order_words : Bool → Grammar Lexeme (List OrderWord)
-order_words totals = either auto (position_list totals)
+order_words totals = either (auto totals) (position_list totals)
 
--- "ORDER" ( "AUTO" [ name ] | position { "," position } ) ";"
+-- "ORDER" ( "AUTO" [ "TOTALS" ] [ name ] | position { "," position } ) ";"
 abbrev pub order_line : Bool → Grammar Lexeme (Option (ℕ × List OrderWord))
 order_line totals = do
   line ← one (word (codes "ORDER"))
@@ -191,11 +202,11 @@ order_line totals = do
   one (sign (codes ";"))
   done (Some (line, list))
 
--- [ "ORDER" ( "AUTO" [ name ] | position { "," position } ) ";" ]
+-- [ "ORDER" ( "AUTO" [ "TOTALS" ] [ name ] | position { "," position } ) ";" ]
 abbrev pub order : Bool → Grammar Lexeme (Option (ℕ × List OrderWord))
 order totals = either (order_line totals) (done None)
 
--- ")" ";" [ "RULES" file ";" ] [ "ORDER" ( "AUTO" [ name ] | position { "," position } ) ";" ] "END" ";"
+-- ")" ";" [ "RULES" file ";" ] [ "ORDER" ( "AUTO" [ "TOTALS" ] [ name ] | position { "," position } ) ";" ] "END" ";"
 abbrev pub cube_end : Bool → Grammar Lexeme Piece
 cube_end totals = do
   one (sign (codes ")"))
@@ -238,7 +249,7 @@ cube_dimensions = do
   unit (many next_dimension)
 
 -- "CUBE" name "(" name { "," name } ")" ";" [ "RULES" file ";" ]
--- [ "ORDER" ( "AUTO" [ name ] | position { "," position } ) ";" ] "END" ";"
+-- [ "ORDER" ( "AUTO" [ "TOTALS" ] [ name ] | position { "," position } ) ";" ] "END" ";"
 abbrev pub cube : Bool → Grammar Lexeme (Unit {0})
 cube totals = do
   cube_head

@@ -30,7 +30,7 @@ IsWritableWord (words.Ranks shown list) = IsNameText shown × IsWritableList lis
 IsWritableWord (words.RanksByKind shown leaves totals) =
     IsNameText shown × IsWritableList leaves × IsWritableList totals
 IsWritableWord words.Totals = Unit {0}
-IsWritableWord (words.Auto lag) = IfSome lag IsNameText
+IsWritableWord (words.Auto totals lag) = IfSome lag IsNameText
 
 -- the words of an order line: `AUTO` is the only word of its line
 pub record IsWritableOrder (list : List OrderWord) : Type 0 where

@@ -21,7 +21,7 @@ impl OrderLine {
         self.words.as_slice().iter().any(|word| is_auto(word))
     }
 
-    /// Whether one of its positions tells leaf cells and consolidated cells apart.
+    /// Whether one of its words tells leaf cells and consolidated cells apart.
     pub fn has_kinds(&self) -> bool
         ensures { result ≡ orders.has_kinds self.now.words }
     {
@@ -32,13 +32,17 @@ impl OrderLine {
 fn is_auto(word: &OrderWord) -> bool
     ensures { result ≡ orders.is_auto word.now }
 {
-    matches!(word, OrderWord::Auto(_))
+    matches!(word, OrderWord::Auto { .. })
 }
 
 fn is_by_kind(word: &OrderWord) -> bool
     ensures { result ≡ orders.is_by_kind word.now }
 {
-    matches!(word, OrderWord::RanksByKind(..) | OrderWord::Totals)
+    match word {
+        OrderWord::RanksByKind(..) | OrderWord::Totals => true,
+        OrderWord::Auto { totals, .. } => *totals,
+        OrderWord::Constant(_) | OrderWord::Index(_) | OrderWord::Ranks(..) => false,
+    }
 }
 
 /// One position of an order line, or the word that stands in place of all positions. Numbers are below 2^31.
@@ -55,7 +59,11 @@ pub enum OrderWord {
     RanksByKind(Name, ListOf<(Name, u32)>, ListOf<(Name, u32)>),
     /// 0 for a leaf cell, 1 for a consolidated cell.
     Totals,
-    /// The order of the cube is to be found, behind the element's index in this dimension where one is named. It is
-    /// the only word of its line.
-    Auto(Option<Name>),
+    /// The order of the cube is to be found. It is the only word of its line.
+    Auto {
+        /// Whether leaf cells and consolidated cells may have different positions.
+        totals: bool,
+        /// The dimension, where one is named, in which the element's index is the first position.
+        lag: Option<Name>,
+    },
 }

@@ -183,7 +183,23 @@ impl Item<OrderWord, ModelTextFault, Unwatched> for Position {
     }
 }
 
-/// Reads the name behind `AUTO`, if there is one.
+/// Reads `TOTALS` behind `AUTO`, if it stands there, and gives whether it does.
+#[tactic(auto, unfolding(crate::specs::Readers::Reading::read_auto_totals))]
+fn auto_totals_at(
+    cursor: &mut Cursor<'_, Unwatched>,
+    totals: bool,
+) -> Result<bool, Stop<ModelTextFault>>
+    ensures { Reads (λ found. found) (reading.read_auto_totals totals) cursor.old result cursor.new }
+{
+    if totals_come(cursor, totals) {
+        word(cursor, b"TOTALS")?;
+        Ok(true)
+    } else {
+        Ok(false)
+    }
+}
+
+/// Reads the name of the lag behind `AUTO`, if there is one.
 #[tactic(auto, unfolding(crate::specs::Readers::Reading::read_lag))]
 fn lag_at(
     alloc: Global,
@@ -208,21 +224,23 @@ fn alone(alloc: Global, word: OrderWord) -> Result<ListOf<OrderWord>, AllocError
     Ok(ListOf::new(words))
 }
 
-/// Reads `AUTO [ name ]`.
+/// Reads `AUTO [ TOTALS ] [ name ]`.
 #[tactic(auto, unfolding(crate::specs::Readers::Reading::read_auto))]
 fn auto_at(
     alloc: Global,
     cursor: &mut Cursor<'_, Unwatched>,
+    totals: bool,
 ) -> Result<ListOf<OrderWord>, Stop<ModelTextFault>>
-    ensures { Reads (λ words. words) reading.read_auto cursor.old result cursor.new }
+    ensures { Reads (λ words. words) (reading.read_auto totals) cursor.old result cursor.new }
 {
     word(cursor, b"AUTO")?;
+    let totals = auto_totals_at(cursor, totals)?;
     let lag = lag_at(alloc, cursor)?;
-    let words = alone(alloc, OrderWord::Auto(lag))?;
+    let words = alone(alloc, OrderWord::Auto { totals, lag })?;
     Ok(words)
 }
 
-/// Reads the words of an order line: `AUTO [ name ]` or `position { , position }`.
+/// Reads the words of an order line: `AUTO [ TOTALS ] [ name ]` or `position { , position }`.
 #[tactic(auto, unfolding(crate::specs::Readers::Reading::read_order_words))]
 fn words_at(
     alloc: Global,
@@ -232,7 +250,7 @@ fn words_at(
     ensures { Reads (λ words. words) (reading.read_order_words totals) cursor.old result cursor.new }
 {
     if word_comes(cursor, b"AUTO") {
-        auto_at(alloc, cursor)
+        auto_at(alloc, cursor, totals)
     } else {
         listed(alloc, cursor, &Position { totals })
     }

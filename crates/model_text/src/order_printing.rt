@@ -3,8 +3,9 @@ ghost use Rattle.std.specs.List.{flat_map};
 ghost use Rattle.cube_lex.specs.Written.{Spaces, Writes};
 ghost use Rattle.cube_lex.specs.Written.{word_token, sign_token};
 ghost use Rattle.model_text.specs.Spelled.{rank_spelled, next_rank_spelled, ranks_spelled, list_spelled};
-ghost use Rattle.model_text.specs.Spelled.{position_spelled, next_position_spelled, positions_spelled, order_spelled};
-ghost use Rattle.model_text.specs.Writable.{IsWritableRank, IsWritableWord, IsWritableOrder};
+ghost use Rattle.model_text.specs.Spelled.{totals_spelled, lag_spelled, position_spelled, next_position_spelled};
+ghost use Rattle.model_text.specs.Spelled.{positions_spelled, order_spelled};
+ghost use Rattle.model_text.specs.Writable.{IsNameText, IsWritableRank, IsWritableWord, IsWritableOrder};
 
 use crate::order::{OrderLine, OrderWord};
 use cube_lex::{Piece, write_line, write_pieces};
@@ -117,19 +118,41 @@ fn write_by_kind(
     write_lists(alloc, out, leaves, totals)
 }
 
-// Writes `AUTO` and the name behind it, where there is one.
-fn write_auto(alloc: Global, out: &mut Vec<u8>, lag: &Option<Name>) -> Result<(), AllocError>
-    requires { IsWritableWord (OrderWord.Auto lag.now) }
-    ensures { OnOk result (Spaces out.old.items out.new.items (position_spelled (OrderWord.Auto lag.now))) }
+// Writes `TOTALS`, where it stands behind `AUTO`.
+fn write_totals(alloc: Global, out: &mut Vec<u8>, totals: bool) -> Result<(), AllocError>
+    ensures { OnOk result (Spaces out.old.items out.new.items (totals_spelled totals)) }
+{
+    if totals {
+        write_pieces(alloc, out, &[Piece::Word(b"TOTALS")])
+    } else {
+        Ok(())
+    }
+}
+
+// Writes the name of the lag, where there is one.
+fn write_lag(alloc: Global, out: &mut Vec<u8>, lag: &Option<Name>) -> Result<(), AllocError>
+    requires { IfSome lag.now IsNameText }
+    ensures { OnOk result (Spaces out.old.items out.new.items (lag_spelled lag.now)) }
 {
     match lag {
-        Some(name) => write_pieces(
-            alloc,
-            out,
-            &[Piece::Word(b"AUTO"), Piece::Quoted(name.shown())],
-        ),
-        None => write_pieces(alloc, out, &[Piece::Word(b"AUTO")]),
+        Some(name) => write_pieces(alloc, out, &[Piece::Quoted(name.shown())]),
+        None => Ok(()),
     }
+}
+
+// Writes `AUTO` and what stands behind it.
+fn write_auto(
+    alloc: Global,
+    out: &mut Vec<u8>,
+    totals: bool,
+    lag: &Option<Name>,
+) -> Result<(), AllocError>
+    requires { IsWritableWord (OrderWord.Auto totals lag.now) }
+    ensures { OnOk result (Spaces out.old.items out.new.items (position_spelled (OrderWord.Auto totals lag.now))) }
+{
+    write_pieces(alloc, out, &[Piece::Word(b"AUTO")])?;
+    write_totals(alloc, out, totals)?;
+    write_lag(alloc, out, lag)
 }
 
 // Writes a word of an order line.
@@ -147,7 +170,7 @@ fn write_position(alloc: Global, out: &mut Vec<u8>, position: &OrderWord) -> Res
             write_by_kind(alloc, out, name, leaves.as_slice(), totals.as_slice())
         }
         OrderWord::Totals => write_pieces(alloc, out, &[Piece::Word(b"TOTALS")]),
-        OrderWord::Auto(lag) => write_auto(alloc, out, lag),
+        OrderWord::Auto { totals, lag } => write_auto(alloc, out, *totals, lag),
     }
 }
 

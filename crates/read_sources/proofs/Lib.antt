@@ -1,11 +1,14 @@
+pub mod Beside
 pub mod Counting
 pub mod Gathered
+pub mod Giving
 pub mod Greater
 pub mod Groups
 pub mod Likeness
 pub mod Lists
 pub mod Named
 pub mod Placed
+pub mod Reached
 pub mod SameArrows
 pub mod Serving
 pub mod Sourced

@@ -4,22 +4,26 @@ use Rattle.std.specs.Prelude.{List, length, slice_get, take, All}
 use Rattle.std.specs.List.Sorted.{IsNonDecreasingBy}
 use Rattle.cube_space.specs.Cells.{IsSpace}
 use Rattle.rule_laws.specs.Meaning.{Precedent}
+use Rattle.rule_model.specs.declared.area.Area.{Area}
 use Rattle.rule_model.specs.declared.rules.Form.{Form}
 use Rattle.rule_model.specs.declared.rules.Form.TheVariants.{Both, LeafFirst, ConsFirst}
 use Rattle.rule_model.specs.declared.rules.Statement.{Statement}
 use Rattle.rule_model.specs.BoundModel.{BoundModel, rules_of}
 use Rattle.rule_model.specs.Conditions.{AreRules}
 use Rattle.ref_order.specs.Counted.{reads}
+use Rattle.ref_order.specs.Reads.{precedent_of}
 use Rattle.ref_order.specs.FirstReference.{HoldsOfEach, IsFirstOf}
-use Rattle.arrow_laws.specs.ByDimension.{is_lagged, is_level}
+use Rattle.arrow_laws.specs.Nodes.{Node, kind_in}
+use Rattle.arrow_laws.specs.ByDimension.{is_lagged, is_level, is_weak, IsJoinedByDimension}
 use Rattle.read_sources.specs.declared.fault.ReadFault.{ReadFault}
 use Rattle.read_sources.specs.declared.fault.ReadFault.TheVariants.{Unlagged, Memory}
 use Rattle.read_sources.specs.declared.part.Part.{Part}
 use Rattle.read_sources.specs.declared.part.Seen.{Seen}
 use Rattle.read_sources.specs.declared.part.Seen.TheVariants.{Greater, Smaller, Level}
+use Rattle.read_sources.specs.declared.seek.Reading.{Reading}
 use Rattle.read_sources.specs.declared.source.Source.{Source}
 use Rattle.read_sources.specs.Ways.{precedent}
-use Rattle.read_sources.specs.Sources.{IsRead, IsReadBy, most_sources}
+use Rattle.read_sources.specs.Sources.{IsRead, IsReadBy, IsReadWhole, most_sources}
 use Rattle.read_sources.specs.Unlagged.{IsLevelReference, IsFirstUnlagged}
 
 -- what a statement reads for this kind of cell, and how many of its references are counted before those
@@ -58,18 +62,41 @@ is_level_in part p = is_level part.model.now part.cube part.statement.now.area p
 abbrev pub is_lagged_in : Part → Precedent → Bool
 is_lagged_in part p = is_lagged part.model.now part.cube part.statement.now.area part.kind p
 
--- a source is what the part reads there
-pub record IsSourceOf (part : Part) (p : Precedent) (s : Source) : Type 0 where
+abbrev pub is_weak_in : Part → Precedent → Bool
+is_weak_in part p = is_weak part.model.now part.cube part.statement.now.area part.kind p
+
+-- a source is what the part reads there, where these cells are meant
+pub record IsSourceOf (part : Part) (p : Precedent) (its : Option Bool) (s : Source) : Type 0 where
   pub read : IsRead part.model.now s
   pub own : s.cube ≡ part.cube
   pub area : s.area.now ≡ part.statement.now.area
   pub same_kind : s.kind ≡ part.kind
   pub same_read : precedent s ≡ p
+  pub same_its : s.its ≡ its
+
+-- no cell that is meant is read for this kind of cell of an area of a cube
+abbrev pub IsUnread : BoundModel → ℕ → Area → Bool → Precedent → Option Bool → Type 0
+IsUnread m cube area kind p its =
+    (from to : Node) → IsJoinedByDimension m cube area kind p from to → kind_in m to.cube to.kind ≡ its → ⊥
+
+abbrev pub IsSought : Part → Precedent → Option Bool → Option Source → Type 0
+IsSought part p its None = IsUnread part.model.now part.cube part.statement.now.area part.kind p its
+IsSought part p its (Some s) = IsSourceOf part p its s
 
 abbrev pub IsSeen : Part → Precedent → Seen → Type 0
 IsSeen part p Greater = is_level_in part p ≡ false
 IsSeen part p Smaller = IsTrue (is_level_in part p) × IsTrue (is_lagged_in part p)
-IsSeen part p (Level s) = IsTrue (is_level_in part p) × IsSourceOf part p s
+IsSeen part p (Level weak) =
+    IsTrue (is_level_in part p) × (is_lagged_in part p ≡ false) × (weak ≡ is_weak_in part p)
+
+-- a reference of a part that reads at the same lag
+pub record IsReading (reading : Reading) : Type 0 where
+  pub part : IsPart reading.part
+  pub here : slice_get (reads_for reading.part.statement.now reading.part.kind) reading.at
+      ≡ Some (precedent_of reading.read)
+  pub level : IsTrue (is_level_in reading.part (precedent_of reading.read))
+  pub not_lagged : is_lagged_in reading.part (precedent_of reading.read) ≡ false
+  pub weak : reading.weak ≡ is_weak_in reading.part (precedent_of reading.read)
 
 -- ---- sources
 
@@ -88,7 +115,22 @@ Stay old new = (k : ℕ) (s : Source) → slice_get old k ≡ Some s → slice_g
 pub record IsTaken (m : BoundModel) (sources : List Source) (cube : ℕ) (s : Statement) (kind : Bool)
     (p : Precedent) : Type 0 where
   pub level : IsTrue (is_level m cube s.area kind p)
-  pub source : is_lagged m cube s.area kind p ≡ false → IsReadBy sources cube s kind p
+  pub source : is_lagged m cube s.area kind p ≡ false → IsReadWhole m sources cube s kind p
+
+-- a source has what is read of the cells that are meant
+abbrev pub IsTakenFor : Reading → List Source → Option Bool → Type 0
+IsTakenFor reading sources its =
+    (from to : Node)
+    → IsJoinedByDimension reading.part.model.now reading.part.cube reading.part.statement.now.area reading.part.kind
+    (precedent_of reading.read) from to
+    → kind_in reading.part.model.now to.cube to.kind ≡ its
+    → IsReadBy sources reading.part.cube reading.part.statement.now reading.part.kind (precedent_of reading.read) its
+
+-- and of all cells that are read
+abbrev pub IsTakenWhole : Reading → List Source → Type 0
+IsTakenWhole reading sources =
+    IsReadWhole reading.part.model.now sources reading.part.cube reading.part.statement.now reading.part.kind
+    (precedent_of reading.read)
 
 abbrev pub AreTaken : BoundModel → List Source → ℕ → Statement → Bool → Type 0
 AreTaken m sources cube s kind =

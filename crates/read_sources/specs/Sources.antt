@@ -1,17 +1,21 @@
 -- What the statements of a model read at the same lag.
 use Rattle.std.specs.Prelude.{◌≡◌, ℕ, suc, ◌<◌, ◌≤◌, ◌^◌, Bool, true, false, Some, List, length, Contains, ◌↔◌}
-use Rattle.std.specs.Prelude.{Option, IsTrue, slice_get, if◌then◌else◌}
+use Rattle.std.specs.Prelude.{Option, IsTrue, is_some, slice_get, if◌then◌else◌}
 use Rattle.std.specs.List.Sorted.{IsNonDecreasingBy}
 use Rattle.cube_space.specs.Layout.{axes}
 use Rattle.rule_laws.specs.Meaning.{Precedent}
 use Rattle.rule_model.specs.declared.rules.Statement.{Statement}
 use Rattle.rule_model.specs.BoundModel.{BoundModel, rules_of}
+use Rattle.order_laws.specs.Earlier.{kinds_before}
 use Rattle.ref_order.specs.Counted.{Counted, counted_of}
-use Rattle.arrow_laws.specs.Nodes.{last_of}
+use Rattle.arrow_laws.specs.Nodes.{Node, last_of, has_kinds, kind_in}
 use Rattle.arrow_laws.specs.Arrows.{Reads}
-use Rattle.arrow_laws.specs.ByDimension.{is_lagged, is_level, is_weak, HasEach, HasOtherTotal}
+use Rattle.arrow_laws.specs.ByDimension.{is_lagged, is_level, is_weak, admits, asks_total, HasEach}
+use Rattle.arrow_laws.specs.ByDimension.{Asked, Choice, HasElsewhere, IsJoinedByDimension}
 use Rattle.read_sources.specs.declared.source.Source.{Source}
+use Rattle.read_sources.specs.declared.source.Given.{Given}
 use Rattle.read_sources.specs.Ways.{Follows, Same, Component, Always, Sent, SentOver, precedent, way_of, reads_from}
+use Rattle.read_sources.specs.Ways.{cube_read, choice, asked, meets}
 
 -- what a reference reads for this kind of cell, `true` for leaf cells
 abbrev pub read_for : Bool → Counted → Option Precedent
@@ -24,6 +28,16 @@ found_in last Component = last
 found_in last (Always target) = last
 found_in last (Sent to) = last
 found_in last (SentOver i to) = i
+
+-- no more is asked than there
+pub record IsWithin (less more : Asked) : Type 0 where
+  pub own : IsTrue less.own → IsTrue more.own
+  pub its : IsTrue less.its → IsTrue more.its
+
+-- the dimensions other than these two give just this of what is asked
+abbrev pub IsGiven : Choice → ℕ → ℕ → Asked → Given → Type 0
+IsGiven choice i k asked given =
+    (want : Asked) → IsWithin want asked → IsTrue (meets given want) ↔ HasElsewhere choice i k want
 
 -- a source is what a statement reads, level and not lagged
 pub record IsRead (m : BoundModel) (s : Source) : Type 0 where
@@ -43,13 +57,16 @@ pub record IsRead (m : BoundModel) (s : Source) : Type 0 where
   pub not_lagged : is_lagged m s.cube s.area.now s.kind (precedent s) ≡ false
   pub weak : s.weak ≡ is_weak m s.cube s.area.now s.kind (precedent s)
   pub parts : way_of m s ≡ Component → s.weak ≡ true
+  pub has_kind : is_some s.its ≡ has_kinds m (cube_read s)
+  pub fixed : IsTrue (admits s.its (kinds_before m (precedent s)).its)
+  pub asks : s.asks ≡ asks_total s.its (kinds_before m (precedent s)).its
   pub each : HasEach (reads_from m s) (length (axes m.space s.cube))
-  pub elsewhere : IsTrue s.elsewhere ↔ HasOtherTotal (axes m.space s.cube) (reads_from m s)
-      (last_of m.space s.cube) (found_in (last_of m.space s.cube) (way_of m s))
+  pub elsewhere : IsGiven (choice m s) (last_of m.space s.cube) (found_in (last_of m.space s.cube) (way_of m s))
+      (asked s) s.elsewhere
 
--- one of the sources is what this statement of a cube reads for this kind of cell
-pub record IsReadBy (sources : List Source) (cube : ℕ) (statement : Statement) (kind : Bool)
-    (read : Precedent) : Type 0 where
+-- one of the sources is what this statement of a cube reads for this kind of cell, where these cells are meant
+pub record IsReadBy (sources : List Source) (cube : ℕ) (statement : Statement) (kind : Bool) (read : Precedent)
+    (its : Option Bool) : Type 0 where
   pub k : ℕ
   pub source : Source
   pub here : slice_get sources k ≡ Some source
@@ -57,6 +74,13 @@ pub record IsReadBy (sources : List Source) (cube : ℕ) (statement : Statement)
   pub area : source.area.now ≡ statement.area
   pub same_kind : source.kind ≡ kind
   pub same_read : precedent source ≡ read
+  pub same_its : source.its ≡ its
+
+-- wherever some cell of one node so reads a cell of another
+abbrev pub IsReadWhole : BoundModel → List Source → ℕ → Statement → Bool → Precedent → Type 0
+IsReadWhole m sources cube statement kind read =
+    (from to : Node) → IsJoinedByDimension m cube statement.area kind read from to
+    → IsReadBy sources cube statement kind read (kind_in m to.cube to.kind)
 
 -- how many sources there are at most
 abbrev pub most_sources : ℕ
@@ -68,6 +92,6 @@ pub record AreSourcesOf (m : BoundModel) (sources : List Source) : Type 0 where
   pub all : (cube : ℕ) (statement : Statement) (kind : Bool) (read : Precedent) → cube < length m.space.cubes
       → Contains (rules_of m cube).statements statement → Reads m cube statement kind read
       → IsTrue (is_level m cube statement.area kind read) → is_lagged m cube statement.area kind read ≡ false
-      → IsReadBy sources cube statement kind read
+      → IsReadWhole m sources cube statement kind read
   pub rising : IsNonDecreasingBy (λ (s : Source). s.cube) sources
   pub few : length sources ≤ most_sources

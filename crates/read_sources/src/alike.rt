@@ -1,17 +1,16 @@
-ghost use Rattle.std.specs.Prelude.{◌≡◌, ℕ, ◌<◌, IsTrue, List, length};
-ghost use Rattle.dim_core.specs.Outline.{Outline};
+ghost use Rattle.std.specs.Prelude.{◌≡◌, ◌<◌, IsTrue, length};
 ghost use Rattle.cube_space.specs.Layout.{axes};
-ghost use Rattle.arrow_laws.specs.ByDimension.{serves};
 ghost use Rattle.ref_order.specs.Reads.{precedent_of};
 ghost use Rattle.read_sources.specs.Ways.{IsSource, way_of};
 ghost use Rattle.read_sources.specs.Sources.{IsRead};
-ghost use Rattle.read_sources.specs.Parts.{followed, IsAlike, IsShared, AreArgsAlike, AreSetsSame};
+ghost use Rattle.read_sources.specs.Parts.{followed, IsAlike, IsShared, AreArgsAlike, AreReadsAlike, AreSetsSame};
+ghost use Rattle.read_sources.specs.Parts.{DoAskAlike, DoMeanAlike};
 
 use crate::follows::Way;
 use crate::reading::set_of;
-use crate::source::Source;
+use crate::source::{Given, Source};
 use crate::tables::last_of;
-use crate::ways::way;
+use crate::ways::{cube_read, way};
 use ref_order::Read;
 use rule_laws::Arg;
 use rule_model::Model;
@@ -25,8 +24,8 @@ pub fn is_shared(model: &Model, source: Source) -> bool
 }
 
 /// Whether it is known at once that two sources read from the same elements of the last dimension: for the same kind of
-/// cells of the same area, or of areas that have all of its elements, what they read differs in the elements alone that
-/// it fixes.
+/// cells of the same area, or of areas that have all of its elements, and the same kind of cells that are read, what
+/// they read differs in the elements alone that it fixes.
 pub fn serve_alike(model: &Model, one: Source, other: Source) -> bool
     requires one { IsSource model.now one }
     requires other { IsSource model.now other }
@@ -37,16 +36,41 @@ pub fn serve_alike(model: &Model, one: Source, other: Source) -> bool
     if one.cube != other.cube {
         return false;
     }
-    if one.kind != other.kind {
-        return false;
-    }
-    if one.elsewhere != other.elsewhere {
+    if !ask_alike(one, other) {
         return false;
     }
     if !list_alike(model, one, other, last_of(model, one.cube)) {
         return false;
     }
     read_alike(one.read, other.read)
+}
+
+// Whether two sources ask for the same, and their cells give the same elsewhere; where the cells that are read have
+// kinds, these are of one cube.
+fn ask_alike(one: Source, other: Source) -> bool
+    ensures { IsTrue result → DoAskAlike one.entry other.entry }
+{
+    if one.kind != other.kind || one.asks != other.asks {
+        return false;
+    }
+    give_alike(one.elsewhere, other.elsewhere) && mean_alike(one, other)
+}
+
+fn give_alike(one: Given, other: Given) -> bool
+    ensures { IsTrue result → one ≡ other }
+{
+    one.own == other.own && one.its == other.its && one.both == other.both
+}
+
+// Whether two sources mean cells of the same kind, and of one cube where there are kinds.
+fn mean_alike(one: Source, other: Source) -> bool
+    ensures { IsTrue result → DoMeanAlike one.entry other.entry }
+{
+    match (one.its, other.its) {
+        (None, None) => true,
+        (Some(own), Some(its)) => own == its && cube_read(one) == cube_read(other),
+        _ => false,
+    }
 }
 
 /// Whether it is known at once that the areas of two sources of one cube have the same elements in a dimension.
@@ -70,8 +94,7 @@ pub fn list_alike(model: &Model, one: Source, other: Source, dim: usize) -> bool
 
 // Whether what two formulas read differs in the elements alone that it fixes.
 fn read_alike(one: Read, other: Read) -> bool
-    ensures { IsTrue result → (dims : List Outline) (i e : ℕ) → serves dims (precedent_of one.entry) i e
-        ≡ serves dims (precedent_of other.entry) i e }
+    ensures { IsTrue result → AreReadsAlike (precedent_of one.entry) (precedent_of other.entry) }
 {
     match (one, other) {
         (Read::Cell(one), Read::Cell(other)) => {

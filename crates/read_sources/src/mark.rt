@@ -3,7 +3,7 @@ ghost use Rattle.read_sources.specs.Ways.{IsSource};
 
 use crate::alike::is_shared;
 use crate::reading::set_of;
-use crate::source::Source;
+use crate::source::{Given, Source};
 use crate::tables::last_of;
 use ref_order::Read;
 use rule_laws::Arg;
@@ -24,9 +24,10 @@ pub fn mark_of(model: &Model, source: Source) -> usize
     let whole = set_of(model, source, last_of(model, source.cube)).is_none();
     let statement = if whole { 0 } else { source.statement };
     let is_weak = source.weak && !is_shared(model, source);
-    let kind = u32::from(is_weak) * 4 + u32::from(source.kind) * 2 + u32::from(source.elsewhere);
+    let kind = u32::from(is_weak) * 4 + u32::from(source.kind) * 2 + u32::from(source.asks);
+    let asked = mix(kind, mark_of_given(source.elsewhere));
     let mark = mix(
-        mix(mix(source.cube, statement), kind),
+        mix(mix(source.cube, statement), asked),
         mark_of_read(source.read),
     );
     (mark >> 16) as usize % MARKS
@@ -34,6 +35,10 @@ pub fn mark_of(model: &Model, source: Source) -> usize
 
 fn mix(mark: u32, number: u32) -> u32 {
     (mark ^ number).wrapping_mul(0x9E37_79B1).rotate_left(15)
+}
+
+fn mark_of_given(given: Given) -> u32 {
+    u32::from(given.own) * 4 + u32::from(given.its) * 2 + u32::from(given.both)
 }
 
 fn mark_of_read(read: Read) -> u32 {

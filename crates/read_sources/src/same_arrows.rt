@@ -5,7 +5,7 @@ ghost use Rattle.read_sources.specs.Parts.{MakesArrowsOf};
 
 use crate::alike::{list_alike, serve_alike};
 use crate::follows::Way;
-use crate::part::found_in;
+use crate::seek::found_in;
 use crate::source::Source;
 use crate::ways::{cube_read, way};
 use rule_model::Model;

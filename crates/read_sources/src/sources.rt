@@ -1,18 +1,24 @@
 ghost use Rattle.std.specs.Prelude.{◌≡◌, [], ◌∷◌, ◌++◌, ◌<◌, ◌≤◌, true, false, map, length, slice_get, Some};
-ghost use Rattle.std.specs.Prelude.{IfOk, IfErr, OnOk};
+ghost use Rattle.std.specs.Prelude.{IfOk, IfErr, OnOk, is_some};
 ghost use Rattle.ref_order.specs.Known.{IsKnown, IsKnownOf};
 ghost use Rattle.ref_order.specs.Reads.{precedent_of};
+ghost use Rattle.arrow_laws.specs.Nodes.{has_kinds};
 ghost use Rattle.arrow_laws.specs.Arrows.{IsLevelThroughout};
+ghost use Rattle.arrow_laws.specs.ByDimension.{read_cube};
 ghost use Rattle.read_sources.specs.declared.fault.ReadFault.TheVariants.{Memory};
 ghost use Rattle.read_sources.specs.Sources.{AreSourcesOf, most_sources};
 ghost use Rattle.read_sources.specs.Gathering.{reads_for, before_by, earliest, IsStatementAt, IsPart, AreGathered};
+ghost use Rattle.read_sources.specs.Gathering.{IsReading, IsTakenFor, IsTakenWhole};
 ghost use Rattle.read_sources.specs.Gathering.{Stay, IsStatementTaken, IsCubeTaken, IsTakenIf, IsPartDone};
 ghost use Rattle.read_sources.specs.Gathering.{IsStatementFault, IsCubeFault, IsUnlaggedFault};
 
 use crate::fault::ReadFault;
 use crate::part::{Part, Seen, look};
 use crate::reads::reads_of;
+use crate::seek::{Reading, sought};
 use crate::source::Source;
+use crate::tables::has_kinds;
+use crate::ways::read_cube;
 use ref_order::{Known, Read};
 use rule_model::{Form, Model, Statement};
 use std::alloc::Global;
@@ -34,6 +40,57 @@ fn add<'a>(sources: &mut Vec<Source<'a>>, source: Source<'a>) -> Result<(), Read
     }
 }
 
+// Takes what a reference reads of the cells that are meant.
+fn take_kind<'a>(
+    known: &mut Known<'a>,
+    reading: Reading<'a>,
+    its: Option<bool>,
+    sources: &mut Vec<Source<'a>>,
+) -> Result<(), ReadFault>
+    requires reading { IsReading reading }
+    requires known { IsKnown reading.part.model.now reading.part.cube reading.part.statement.now.area known.old }
+    requires its { is_some its ≡ has_kinds reading.part.model.now
+        (read_cube reading.part.cube (precedent_of reading.read)) }
+    requires gathered { AreGathered reading.part.model.now reading.part.cube sources.old.items }
+    ensures gathered { OnOk result (AreGathered reading.entry.part.model.now reading.entry.part.cube
+        sources.new.items) }
+    ensures stay { OnOk result (Stay sources.old.items sources.new.items) }
+    ensures taken { OnOk result (IsTakenFor reading.entry sources.new.items its) }
+    ensures known { OnOk result (IsKnown reading.entry.part.model.now reading.entry.part.cube
+        reading.entry.part.statement.now.area known.new) }
+    ensures memory { IfErr result (λ fault. fault ≡ Memory) }
+{
+    match sought(known, reading, its) {
+        Some(source) => add(sources, source),
+        None => Ok(()),
+    }
+}
+
+// Takes what a reference reads: leaf cells and consolidated ones apart, where the cells that are read have kinds.
+fn take_level<'a>(
+    known: &mut Known<'a>,
+    reading: Reading<'a>,
+    sources: &mut Vec<Source<'a>>,
+) -> Result<(), ReadFault>
+    requires reading { IsReading reading }
+    requires known { IsKnown reading.part.model.now reading.part.cube reading.part.statement.now.area known.old }
+    requires gathered { AreGathered reading.part.model.now reading.part.cube sources.old.items }
+    ensures gathered { OnOk result (AreGathered reading.entry.part.model.now reading.entry.part.cube
+        sources.new.items) }
+    ensures stay { OnOk result (Stay sources.old.items sources.new.items) }
+    ensures taken { OnOk result (IsTakenWhole reading.entry sources.new.items) }
+    ensures known { OnOk result (IsKnown reading.entry.part.model.now reading.entry.part.cube
+        reading.entry.part.statement.now.area known.new) }
+    ensures memory { IfErr result (λ fault. fault ≡ Memory) }
+{
+    let part = reading.part;
+    if !has_kinds(part.model, read_cube(part.cube, reading.read)) {
+        return take_kind(known, reading, None, sources);
+    }
+    take_kind(known, reading, Some(true), sources)?;
+    take_kind(known, reading, Some(false), sources)
+}
+
 // Takes one read of a part; false where that may be of a greater lag.
 fn take<'a>(
     part: Part<'a>,
@@ -52,11 +109,17 @@ fn take<'a>(
     ensures known { OnOk result (IsKnown part.entry.model.now part.entry.cube part.entry.statement.now.area known.new) }
     ensures memory { IfErr result (λ fault. fault ≡ Memory) }
 {
-    match look(part, known, read, at) {
+    match look(part, known, read) {
         Seen::Greater => Ok(false),
         Seen::Smaller => Ok(true),
-        Seen::Level(source) => {
-            add(sources, source)?;
+        Seen::Level(weak) => {
+            let reading = Reading {
+                part,
+                read,
+                at,
+                weak,
+            };
+            take_level(known, reading, sources)?;
             Ok(true)
         }
     }

@@ -2,7 +2,9 @@ ghost use Rattle.std.specs.Prelude.{◌≡◌, ◌<◌, length, slice_index_or};
 ghost use Rattle.cube_space.specs.Layout.{axes};
 ghost use Rattle.rule_laws.specs.declared.reference.Arg.TheVariants.{Fixed};
 ghost use Rattle.rule_model.specs.Conditions.{IsReference};
+ghost use Rattle.ref_order.specs.Reads.{precedent_of};
 ghost use Rattle.arrow_laws.specs.Nodes.{last_of};
+ghost use Rattle.arrow_laws.specs.ByDimension.{read_cube};
 ghost use Rattle.read_sources.specs.Ways.{width};
 ghost use Rattle.read_sources.specs.Ways.{IsSource, Names, IsIn, follows_by, follows_of, way_of, cube_read};
 
@@ -43,14 +45,21 @@ fn way_of<'a>(model: &Model, source: Source<'a>) -> Way<'a>
     }
 }
 
+/// The cube of the cells that are read from cells of this one.
+pub fn read_cube(cube: u32, read: Read) -> u32
+    ensures { result ≡ read_cube cube (precedent_of read.entry) }
+{
+    match read {
+        Read::Cell(reference) => reference.cube,
+        Read::Children(_) => cube,
+    }
+}
+
 /// The cube of the node that a source reads.
 pub fn cube_read(source: Source) -> u32
     ensures { result ≡ cube_read source.entry }
 {
-    match source.read {
-        Read::Cell(reference) => reference.cube,
-        Read::Children(_) => source.cube,
-    }
+    read_cube(source.cube, source.read)
 }
 
 // The argument of a reference for the last dimension.

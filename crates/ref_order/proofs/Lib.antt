@@ -1,7 +1,6 @@
 mod Likeness
 mod Scaled
 mod KindFacts
-mod TotalFacts
 mod NumberFacts
 pub mod Axes
 pub mod Args

@@ -1,11 +1,10 @@
-ghost use Rattle.std.specs.Prelude.{◌≡◌, ◌<◌, ◌^◌, length, None, is_some, slice_index_or};
+ghost use Rattle.std.specs.Prelude.{◌≡◌, ◌<◌, ◌^◌, length, None, slice_index_or};
 ghost use Rattle.cube_space.specs.Layout.{axes, sizes};
 ghost use Rattle.rule_model.specs.declared.area.Area.{Area as AnyArea};
 ghost use Rattle.rule_model.specs.Conditions.{IsPrecedent};
 ghost use Rattle.order_laws.specs.Greatest.{larger, only};
-ghost use Rattle.order_laws.specs.Scales.{is_total, is_leaf_element, set_count, set_element};
+ghost use Rattle.order_laws.specs.Scales.{is_leaf_element, set_count, set_element};
 ghost use Rattle.order_laws.specs.Earlier.{is_same};
-ghost use Rattle.order_laws.specs.Excess.{greatest_by};
 ghost use Rattle.ref_order.specs.Areas.{IsAreaCells};
 ghost use Rattle.ref_order.specs.Kinds.{AreByKinds, AreAllWithin, number_of};
 ghost use Rattle.ref_order.specs.Known.{AreReads, AreRight, IsKnown, answer_of, number_asked};
@@ -13,11 +12,10 @@ ghost use Rattle.ref_order.specs.Reads.{precedent_of};
 
 use crate::area_cells::AreaCells;
 use crate::excess::numbers_from;
-use crate::kinds::{ByKinds, has_number, no_kinds, with_element};
+use crate::kinds::{ByKinds, no_kinds, with_element};
 use crate::known::{Kept, Known, recalled, remember};
 use crate::marks::{key_of, mark_in};
 use crate::question::{Answer, Question};
-use crate::reads::Read;
 use crate::scale::{axis, is_leaf_element};
 use lists::ListOf;
 
@@ -106,8 +104,22 @@ fn answer<'a>(cells: AreaCells, kept: &mut Kept<'a>, mark: u64, asked: Question<
 }
 
 /// The greatest numbers of the elements of an area in a dimension, by their kind and that of what is named from them.
-/// What is read has this mark there.
-pub fn greatest_known<'a>(
+pub fn greatest_known<'a>(cells: AreaCells, known: &mut Known<'a>, asked: Question<'a>) -> ByKinds
+    requires cells { IsAreaCells cells }
+    requires known { IsKnown cells.model.now cells.cube cells.area.now known.old }
+    requires read { IsPrecedent cells.model.now.space cells.cube (precedent_of asked.read) }
+    requires dim { asked.dim < length (axes cells.model.now.space cells.cube) }
+    ensures numbers { AreByKinds result (answer_of cells.entry.model.now cells.entry.cube cells.entry.area.now
+        asked.entry) }
+    ensures size { AreAllWithin result (2 ^ 40) }
+    ensures known { IsKnown cells.entry.model.now cells.entry.cube cells.entry.area.now known.new }
+{
+    let mark = mark_in(cells.model, cells.cube, asked.read, asked.dim);
+    greatest_marked(cells, known, mark, asked)
+}
+
+/// The same, where what is read has this mark there.
+pub fn greatest_marked<'a>(
     cells: AreaCells,
     known: &mut Known<'a>,
     mark: u64,
@@ -128,26 +140,4 @@ pub fn greatest_known<'a>(
         None => answer(cells, &mut known.whole, mark, asked),
         Some(_) => answer(cells, &mut known.listed, mark, asked),
     }
-}
-
-/// Whether cells of an area from which something is read may have a consolidated element in a dimension, as far as the
-/// elements of that dimension say.
-pub fn has_total<'a>(cells: AreaCells, known: &mut Known<'a>, read: Read<'a>, dim: usize) -> bool
-    requires cells { IsAreaCells cells }
-    requires known { IsKnown cells.model.now cells.cube cells.area.now known.old }
-    requires read { IsPrecedent cells.model.now.space cells.cube (precedent_of read) }
-    requires dim { dim < length (axes cells.model.now.space cells.cube) }
-    ensures total { result ≡ is_some (greatest_by cells.entry.model.now cells.entry.cube cells.entry.area.now 0
-        (precedent_of read.entry) (is_total (axes cells.entry.model.now.space cells.entry.cube)) dim) }
-    ensures known { IsKnown cells.entry.model.now cells.entry.cube cells.entry.area.now known.new }
-{
-    let asked = Question {
-        read,
-        place: 0,
-        dim,
-        own: true,
-        its: true,
-    };
-    let mark = mark_in(cells.model, cells.cube, read, dim);
-    has_number(greatest_known(cells, known, mark, asked).total)
 }

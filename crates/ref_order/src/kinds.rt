@@ -1,4 +1,4 @@
-ghost use Rattle.std.specs.Prelude.{◌≡◌, ℕ, ◌+◌, ◌≤◌, ◌^◌, ◌||◌, pos, Some, None, is_some, unsigned_abs, IfSome};
+ghost use Rattle.std.specs.Prelude.{◌≡◌, ℕ, ◌+◌, ◌≤◌, ◌^◌, pos, Some, None, unsigned_abs, IfSome};
 ghost use Rattle.order_laws.specs.Greatest.{plus, larger, only};
 ghost use Rattle.order_laws.specs.Earlier.{is_same, are_same};
 ghost use Rattle.ref_order.specs.Kinds.{number_for, number_of, sum_before};
@@ -92,13 +92,6 @@ pub fn with_element(best: ByKinds, leaf: bool, numbers: Numbers) -> ByKinds
             total: larger_numbers(numbers, best.total),
         }
     }
-}
-
-/// Whether there is a number of some kind.
-pub fn has_number(numbers: Numbers) -> bool
-    ensures { result ≡ (is_some numbers.leaf || is_some numbers.total) }
-{
-    numbers.leaf.is_some() || numbers.total.is_some()
 }
 
 /// The number of a kind.

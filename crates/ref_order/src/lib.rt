@@ -13,10 +13,13 @@
 
 pub use area_cells::AreaCells;
 pub use earlier::is_earlier;
-pub use greatest::{count, element_at, has_total};
+pub use excess::names_leaves;
+pub use greatest::{count, element_at, greatest_known};
+pub use kinds::{ByKinds, Numbers};
 pub use known::Known;
 pub use most::most_excess;
 pub use number::{is_below, is_within};
+pub use question::Question;
 pub use reads::Read;
 pub use scale::{MAX_POSITIONS, axis, axis_count, weights};
 

@@ -10,7 +10,7 @@ use Rattle.grammar.proofs.Tokens.{when_picks, sign_begins, word_begins, word_no_
 use Rattle.expression_grammar.specs.Limits.{begun_within}
 use Rattle.expression_grammar.specs.declared.limits.Limits.{Limits}
 use Rattle.rule_tree.specs.Counting.{most_statements, start, with_token, in_place, behind_area, behind_formula, behind_targets, behind_argument, one_more, moved, count_at, count, counting}
-use Rattle.rule_tree.specs.RuleText.{area, ended, part, body, statement, feeder, skipcheck, feeders, rules}
+use Rattle.rule_tree.specs.RuleText.{area, ended, part, body, statement, feeder, skipcheck, automatic, feeders, rules}
 use Rattle.rule_tree.specs.declared.counted.Counted.{Counted}
 use Rattle.rule_tree.specs.declared.counted.RuleTextPlace.{RuleTextPlace}
 use Rattle.rule_tree.specs.declared.counted.RuleTextPlace.TheVariants as places
@@ -323,12 +323,12 @@ first_part : (n : ℕ) (mark : List ℕ) → Leads (Stands InFormula false n) (p
 first_part n mark = leads_both {R = λ _. Stands InFormula false n} (leads_one (λ t a r s picks. formula_kept false n t r s (taken (is_sign (codes ";")) (word mark) false t a (word_no_sign mark (codes ";")) picks)))
     (λ _. leads_both {R = λ _. Stands InFormula false n} (leads_one (λ t a r s picks. formula_kept false n t r s (taken (is_sign (codes ";")) (sign (codes ":")) false t a (sign_begins (codes ":") (codes ";")) picks))) (λ _. ended_leads false n))
 
-word_kept : (n : ℕ) (mark : List ℕ) → str_eq_ignore_ascii_case mark (codes "FEEDERS") ≡ false → Leads (Stands InBetween false n) (one (word mark)) (λ _. Stands InBetween false n)
-word_kept n mark other = leads_one (λ t a r s picks. between_kept false n t r s (taken (is_sign (codes "[")) (word mark) false t a (word_no_sign mark (codes "[")) picks) (taken (is_sign (codes ":")) (word mark) false t a (word_no_sign mark (codes ":")) picks)
+word_kept : (f : Bool) (n : ℕ) (mark : List ℕ) → str_eq_ignore_ascii_case mark (codes "FEEDERS") ≡ false → Leads (Stands InBetween f n) (one (word mark)) (λ _. Stands InBetween f n)
+word_kept f n mark other = leads_one (λ t a r s picks. between_kept f n t r s (taken (is_sign (codes "[")) (word mark) false t a (word_no_sign mark (codes "[")) picks) (taken (is_sign (codes ":")) (word mark) false t a (word_no_sign mark (codes ":")) picks)
     (taken (is_word (codes "FEEDERS")) (word mark) _ t a (word_begins mark (codes "FEEDERS")) picks ∙ other))
 
 second_part : (n : ℕ) (mark : List ℕ) → str_eq_ignore_ascii_case mark (codes "FEEDERS") ≡ false → Leads (Stands InBetween false n) (part mark) (λ _. Stands InBetween false n)
-second_part n mark other = leads_both {R = λ _. Stands InBetween false n} (word_kept n mark other) (λ _. leads_both {R = λ _. Stands InFormula false n} (leads_one (between_marks false n)) (λ _. ended_leads false n))
+second_part n mark other = leads_both {R = λ _. Stands InBetween false n} (word_kept false n mark other) (λ _. leads_both {R = λ _. Stands InFormula false n} (leads_one (between_marks false n)) (λ _. ended_leads false n))
 
 body_leads : (n : ℕ) → Leads (Stands InFormula false n) body (λ _. Stands InBetween false n)
 body_leads n = leads_either
@@ -349,16 +349,20 @@ semicolon_kept f n = leads_one (λ t a r s picks. between_kept f n t r s (taken 
     (taken (is_word (codes "FEEDERS")) (sign (codes ";")) false t a (sign_no_word (codes ";") (codes "FEEDERS")) picks))
 
 skipcheck_leads : Leads (Stands InBetween false 0) skipcheck (λ _. Stands InBetween false 0)
-skipcheck_leads = leads_either (leads_both {R = λ _. Stands InBetween false 0} (word_kept 0 (codes "SKIPCHECK") refl) (λ _. leads_both {R = λ _. Stands InBetween false 0} (semicolon_kept false 0) (λ _. leads_done (λ c h. h)))) (leads_done (λ c h. h))
+skipcheck_leads = leads_either (leads_both {R = λ _. Stands InBetween false 0} (word_kept false 0 (codes "SKIPCHECK") refl) (λ _. leads_both {R = λ _. Stands InBetween false 0} (semicolon_kept false 0) (λ _. leads_done (λ c h. h)))) (leads_done (λ c h. h))
 
 feeders_begin : (n : ℕ) → Leads (Stands InBetween false n) (one (word (codes "FEEDERS"))) (λ _. Stands InBetween true 0)
 feeders_begin n = leads_one (λ t a r s picks. between_feeds n t r s (taken (is_sign (codes "[")) (word (codes "FEEDERS")) false t a (word_no_sign (codes "FEEDERS") (codes "[")) picks) (taken (is_sign (codes ":")) (word (codes "FEEDERS")) false t a (word_no_sign (codes "FEEDERS") (codes ":")) picks)
     (taken (is_word (codes "FEEDERS")) (word (codes "FEEDERS")) true t a (word_begins (codes "FEEDERS") (codes "FEEDERS")) picks))
 
-feeders_lead : (n : ℕ) → Leads (Stands InBetween false n) feeders (λ list _. length list ≤ most_statements)
-feeders_lead n = leads_either (leads_both {R = λ _. Stands InBetween true 0} (feeders_begin n) (λ _. leads_both {R = λ _. Stands InBetween true 0} (semicolon_kept true 0) (λ _. counted_feeders))) (leads_done (λ c h. omega arith)) where
-  counted_feeders : Leads (Stands InBetween true 0) (many feeder) (λ list _. length list ≤ most_statements)
-  counted_feeders = record { at = λ u list r s h runs p. omega (arith, (many_leads (Stands InBetween true) feeder_leads 0 u list r s h runs p).few) }
+automatic_leads : Leads (Stands InBetween true 0) automatic (λ _. Stands InBetween true 0)
+automatic_leads = leads_either (leads_both {R = λ _. Stands InBetween true 0} (word_kept true 0 (codes "AUTO") refl) (λ _. leads_done (λ c h. h))) (leads_done (λ c h. h))
+
+feeders_lead : (n : ℕ) → Leads (Stands InBetween false n) feeders (λ feeding _. length feeding.1 ≤ most_statements)
+feeders_lead n = leads_either (leads_both {R = λ _. Stands InBetween true 0} (feeders_begin n) (λ _. leads_both {R = λ _. Stands InBetween true 0} automatic_leads (λ finds. leads_both {R = λ _. Stands InBetween true 0} (semicolon_kept true 0)
+    (λ _. leads_both {R = λ list _. length list ≤ most_statements} counted_feeders (λ given. leads_done (λ c few. few)))))) (leads_done (λ c h. omega arith)) where
+      counted_feeders : Leads (Stands InBetween true 0) (many feeder) (λ list _. length list ≤ most_statements)
+      counted_feeders = record { at = λ u list r s h runs p. omega (arith, (many_leads (Stands InBetween true) feeder_leads 0 u list r s h runs p).few) }
 
 begins_between : Stands InBetween false 0 start
 begins_between = record { place = tt; among = refl; number = refl; few = omega arith; no_feeders = λ _. refl }

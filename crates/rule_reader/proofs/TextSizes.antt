@@ -19,7 +19,7 @@ use Rattle.expression_grammar.proofs.Languages.{is_sign_of, is_apart}
 use Rattle.expression_grammar.proofs.Operators.{sign_tells, operator_apart}
 use Rattle.expression_grammar.proofs.TokenKinds.{HasKind, word_is, one_kind, word_kind, text_kind, name_kind, money_kind}
 use Rattle.rule_tree.specs.Formula.{ors, ands, relations, sums, products, rules_language, primary, formula, number, quoted, current, reference, stet, continue, bracket, simple, dimension, in_brackets, first_argument, is_if, call}
-use Rattle.rule_tree.specs.RuleText.{elements, entry, area, ended, part, leaf_first, cons_first, body, statement, database, target, feeder, skipcheck, feeders, rules}
+use Rattle.rule_tree.specs.RuleText.{elements, entry, area, ended, part, leaf_first, cons_first, body, statement, database, target, feeder, skipcheck, automatic, feeders, rules}
 use Rattle.rule_tree.specs.Sizes.{nodes, body_nodes, all_nodes, all_targets}
 use Rattle.rule_tree.specs.declared.rule.StatementText.{StatementText}
 use Rattle.rule_tree.specs.declared.rule.FeederText.{FeederText}
@@ -247,8 +247,11 @@ feeder_fits = fits_both {w = λ _. 0} (fits_lighter (λ _. omega arith) (fits_an
 skipcheck_fits : Fits N 0 skipcheck (λ _. 0)
 skipcheck_fits = fits_either (fits_both (any_token 0) (λ _. fits_both (any_token 0) (λ _. fits_done (omega arith)))) (fits_done (omega arith))
 
-feeders_fit : (n : ℕ) → Fits N n feeders (λ list. n + all_targets list)
-feeders_fit n = fits_either (fits_both (any_token n) (λ _. fits_both (any_token n) (λ _. fits_many {w = λ (f : FeederText). length f.targets} feeder_fits))) (fits_done (omega arith))
+automatic_fits : (n : ℕ) → Fits N n automatic (λ _. n)
+automatic_fits n = fits_either (fits_both (any_token n) (λ _. fits_done (omega arith))) (fits_done (omega arith))
+
+feeders_fit : (n : ℕ) → Fits N n feeders (λ feeding. n + all_targets feeding.1)
+feeders_fit n = fits_either (fits_both (any_token n) (λ _. fits_both (automatic_fits n) (λ finds. fits_both (any_token n) (λ _. fits_both (fits_many {w = λ (f : FeederText). length f.targets} feeder_fits) (λ given. fits_done (omega arith)))))) (fits_done (omega arith))
 
 abbrev text_size : RuleText → ℕ
 text_size text = all_nodes text.statements + all_targets text.feeders

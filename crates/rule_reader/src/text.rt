@@ -27,20 +27,55 @@ fn skipcheck_at(cursor: &mut Cursor<'_, Counted>) -> Result<bool, Stop<Excess>>
     }
 }
 
-/// Reads `FEEDERS ;` and the feeders behind it, if they are there.
-#[tactic(auto, unfolding(crate::specs::Readers::TextReading::read_feeders))]
-fn feeding_at(
+/// What a text says of feeders.
+#[derive(Drop)]
+struct Feeding {
+    /// Whether `AUTO` stands.
+    finds: bool,
+    feeders: ListOf<FeederText>,
+}
+
+/// Reads an optional `AUTO`.
+#[tactic(auto, unfolding(crate::specs::Readers::TextReading::read_automatic))]
+fn automatic_at(cursor: &mut Cursor<'_, Counted>) -> Result<bool, Stop<Excess>>
+    ensures { Reads (λ finds. finds) reading.read_automatic cursor.old result cursor.new }
+{
+    if word_comes(cursor, b"AUTO") {
+        word(cursor, b"AUTO")?;
+        Ok(true)
+    } else {
+        Ok(false)
+    }
+}
+
+/// Reads `FEEDERS`, an optional `AUTO` and `;`, and the feeders behind them.
+#[tactic(auto, unfolding(crate::specs::Readers::TextReading::read_given_feeders))]
+fn given_feeders_at(
     alloc: Global,
     cursor: &mut Cursor<'_, Counted>,
-) -> Result<ListOf<FeederText>, Stop<Excess>>
-    ensures { Reads (λ feeders. feeders) reading.read_feeders cursor.old result cursor.new }
+) -> Result<Feeding, Stop<Excess>>
+    ensures { Reads (λ it. (it.finds, it.feeders)) reading.read_given_feeders cursor.old result cursor.new }
+{
+    word(cursor, b"FEEDERS")?;
+    let finds = automatic_at(cursor)?;
+    sign(cursor, b";")?;
+    let feeders = repeated(alloc, cursor, &FeederItem)?;
+    Ok(Feeding { finds, feeders })
+}
+
+/// Reads what a text says of feeders, if it says anything.
+#[tactic(auto, unfolding(crate::specs::Readers::TextReading::read_feeders))]
+fn feeding_at(alloc: Global, cursor: &mut Cursor<'_, Counted>) -> Result<Feeding, Stop<Excess>>
+    ensures { Reads (λ it. (it.finds, it.feeders)) reading.read_feeders cursor.old result cursor.new }
 {
     if word_comes(cursor, b"FEEDERS") {
-        word(cursor, b"FEEDERS")?;
-        sign(cursor, b";")?;
-        repeated(alloc, cursor, &FeederItem)
+        given_feeders_at(alloc, cursor)
     } else {
-        Ok(ListOf::new(Vec::new(alloc)))
+        let feeders = ListOf::new(Vec::new(alloc));
+        Ok(Feeding {
+            finds: false,
+            feeders,
+        })
     }
 }
 
@@ -51,11 +86,12 @@ fn rules_at(alloc: Global, cursor: &mut Cursor<'_, Counted>) -> Result<RuleText,
 {
     let skipcheck = skipcheck_at(cursor)?;
     let statements = repeated(alloc, cursor, &StatementItem)?;
-    let feeders = feeding_at(alloc, cursor)?;
+    let feeding = feeding_at(alloc, cursor)?;
     Ok(RuleText {
         skipcheck,
         statements,
-        feeders,
+        finds_feeders: feeding.finds,
+        feeders: feeding.feeders,
     })
 }
 

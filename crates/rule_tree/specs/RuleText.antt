@@ -94,14 +94,27 @@ feeder = do
 abbrev pub skipcheck : Grammar Lexeme Bool
 skipcheck = either (do one (word (codes "SKIPCHECK")); one (sign (codes ";")); done true) (done false)
 
--- [ "FEEDERS" ";" { feeder } ]
-abbrev pub feeders : Grammar Lexeme (List FeederText)
-feeders = either (do one (word (codes "FEEDERS")); one (sign (codes ";")); many feeder) (done [])
+-- [ "AUTO" ]
+abbrev pub automatic : Grammar Lexeme Bool
+automatic = either (do one (word (codes "AUTO")); done true) (done false)
 
--- [ "SKIPCHECK" ";" ] { statement } [ "FEEDERS" ";" { feeder } ]
+-- "FEEDERS" [ "AUTO" ] ";" { feeder }
+abbrev pub given_feeders : Grammar Lexeme (Bool × List FeederText)
+given_feeders = do
+  one (word (codes "FEEDERS"))
+  finds ← automatic
+  one (sign (codes ";"))
+  given ← many feeder
+  done (finds, given)
+
+-- [ "FEEDERS" [ "AUTO" ] ";" { feeder } ]
+abbrev pub feeders : Grammar Lexeme (Bool × List FeederText)
+feeders = either given_feeders (done (false, []))
+
+-- [ "SKIPCHECK" ";" ] { statement } [ "FEEDERS" [ "AUTO" ] ";" { feeder } ]
 abbrev pub rules : Grammar Lexeme RuleText
 rules = do
   skips ← skipcheck
   statements ← many statement
-  feeding ← feeders
-  done (record { skipcheck = skips; statements = statements; feeders = feeding })
+  (finds, given) ← feeders
+  done (record { skipcheck = skips; statements = statements; finds_feeders = finds; feeders = given })

@@ -55,5 +55,8 @@ pub struct RuleText {
     /// Whether `SKIPCHECK` stands at the beginning.
     pub skipcheck: bool,
     pub statements: ListOf<StatementText>,
+    /// Whether `FEEDERS AUTO` stands, so that feeders are found for the statements of this cube.
+    pub finds_feeders: bool,
+    /// The feeders that are written.
     pub feeders: ListOf<FeederText>,
 }

@@ -12,7 +12,8 @@ use crate::operation::{
 use cube_fixed::{Money, Value};
 use rule_laws::{Finding, Formula, Fun, Op, Truth, TruthFinding};
 
-fn of_number(number: Money) -> Finding
+/// What is found of a number.
+pub fn of_number(number: Money) -> Finding
     ensures { result ≡ of_number number }
 {
     Finding {
@@ -24,7 +25,8 @@ fn of_number(number: Money) -> Finding
     }
 }
 
-fn of_operand(is_zero: bool) -> Finding
+/// What is found of an operand that is no number, by whether it is 0.
+pub fn of_operand(is_zero: bool) -> Finding
     ensures { result ≡ of_operand is_zero }
 {
     Finding {
@@ -36,7 +38,8 @@ fn of_operand(is_zero: bool) -> Finding
     }
 }
 
-fn of_operation(op: Op, left: &Finding, right: &Finding) -> Finding
+/// What is found of an operation, by what is found of its sides.
+pub fn of_operation(op: Op, left: &Finding, right: &Finding) -> Finding
     requires room { left.now.operands + right.now.operands < 2 ^ 32 }
     requires left { left.now.blamed ≤ left.now.operands }
     requires right { right.now.blamed ≤ right.now.operands }
@@ -52,7 +55,8 @@ fn of_operation(op: Op, left: &Finding, right: &Finding) -> Finding
     }
 }
 
-fn of_function(fun: Fun, inner: &Finding) -> Finding
+/// What is found of a function, by what is found of its argument.
+pub fn of_function(fun: Fun, inner: &Finding) -> Finding
     ensures { result ≡ of_function fun inner.now }
 {
     Finding {
@@ -64,7 +68,8 @@ fn of_function(fun: Fun, inner: &Finding) -> Finding
     }
 }
 
-fn of_choice(truth: &TruthFinding, left: &Finding, right: &Finding) -> Finding
+/// What is found of an `IF`, by what is found of its parts.
+pub fn of_choice(truth: &TruthFinding, left: &Finding, right: &Finding) -> Finding
     requires room { truth.now.operands + left.now.operands + right.now.operands < 2 ^ 32 }
     requires left { left.now.blamed ≤ left.now.operands }
     requires right { right.now.blamed ≤ right.now.operands }

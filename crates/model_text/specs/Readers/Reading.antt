@@ -1,5 +1,5 @@
 -- The readers of a model text, in the shape of the code.
-use Rattle.std.specs.Prelude.{ℕ, Bool, ◌&&◌, if◌then◌else◌, List, [], ◌∷◌, Option, Some, None, codes, Err}
+use Rattle.std.specs.Prelude.{ℕ, Bool, true, false, ◌&&◌, if◌then◌else◌, List, [], ◌∷◌, Option, Some, None, codes, Err}
 use Rattle.cube_lex.specs.Lexeme.{Lexeme}
 use Rattle.grammar.specs.Watch.{unscanned}
 use Rattle.grammar.specs.Reading.{unit_of, OutOfTurns, Reader, gives, take_one, choose, starts, all_of, checked}
@@ -127,6 +127,13 @@ unfoldable pub read_position : Bool → Plain OrderWord
 read_position totals = choose_if totals (is_word (codes "TOTALS")) read_cell_kind (read_ranked totals)
 
 -- behind `AUTO`
+unfoldable pub read_auto_totals : Bool → Plain Bool
+read_auto_totals totals = choose_if totals (is_word (codes "TOTALS"))
+    (do
+      take_one unscanned (word (codes "TOTALS"))
+      gives true)
+    (gives false)
+
 unfoldable pub read_lag : Plain (Option (List ℕ))
 read_lag = choose is_text
     (do
@@ -134,14 +141,16 @@ read_lag = choose is_text
       gives (Some shown))
     (gives None)
 
-unfoldable pub read_auto : Plain (List OrderWord)
-read_auto = do
+unfoldable pub read_auto : Bool → Plain (List OrderWord)
+read_auto totals = do
   take_one unscanned (word (codes "AUTO"))
+  kinds ← read_auto_totals totals
   shown ← read_lag
-  gives (words.Auto shown ∷ [])
+  gives (words.Auto kinds shown ∷ [])
 
 unfoldable pub read_order_words : Bool → Plain (List OrderWord)
-read_order_words totals = choose (is_word (codes "AUTO")) read_auto (read_listed unscanned (read_position totals))
+read_order_words totals =
+    choose (is_word (codes "AUTO")) (read_auto totals) (read_listed unscanned (read_position totals))
 
 unfoldable pub read_order : Bool → Plain (Option (ℕ × List OrderWord))
 read_order totals = choose (is_word (codes "ORDER"))

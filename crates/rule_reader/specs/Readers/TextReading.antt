@@ -123,10 +123,19 @@ read_feeder = do
 abbrev pub read_all_feeders : Plan (List FeederText)
 read_all_feeders = all_of (is_sign (codes "[")) read_feeder
 
-unfoldable pub read_feeders : Plan (List FeederText)
-read_feeders =
-    choose (is_word (codes "FEEDERS")) (do take_word (codes "FEEDERS"); take_sign (codes ";"); read_all_feeders)
-    (gives [])
+unfoldable pub read_automatic : Plan Bool
+read_automatic = choose (is_word (codes "AUTO")) (do take_word (codes "AUTO"); gives true) (gives false)
+
+unfoldable pub read_given_feeders : Plan (Bool × List FeederText)
+read_given_feeders = do
+  take_word (codes "FEEDERS")
+  finds ← read_automatic
+  take_sign (codes ";")
+  given ← read_all_feeders
+  gives (finds, given)
+
+unfoldable pub read_feeders : Plan (Bool × List FeederText)
+read_feeders = choose (is_word (codes "FEEDERS")) read_given_feeders (gives (false, []))
 
 unfoldable pub read_skipcheck : Plan Bool
 read_skipcheck =
@@ -137,5 +146,5 @@ unfoldable pub read_rules : Plan RuleText
 read_rules = do
   skips ← read_skipcheck
   statements ← read_statements
-  feeding ← read_feeders
-  gives (record { skipcheck = skips; statements = statements; feeders = feeding })
+  (finds, given) ← read_feeders
+  gives (record { skipcheck = skips; statements = statements; finds_feeders = finds; feeders = given })

@@ -1,0 +1,4 @@
+pub mod Choosing
+pub mod Found
+pub mod Added
+pub mod Views

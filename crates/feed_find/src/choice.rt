@@ -1,0 +1,63 @@
+ghost use Rattle.std.specs.Prelude.{◌≡◌, IfOk};
+ghost use Rattle.rule_model.specs.Conditions.{IsReference, IsFeeder};
+ghost use Rattle.feed_turn.specs.Views.{AreOvers};
+
+ghost use Rattle.feed_find.specs.Views.{IsAsked, IsChoice, choose_from};
+
+use crate::asked::Asked;
+use feed_cover::{has_cover, names_no_governed};
+use feed_turn::{TurnView, turned_feeder};
+use rule_laws::Reference;
+use rule_model::Feeder;
+use std::alloc::{AllocError, Global};
+
+/// What can be done about a reference.
+#[derive(Drop)]
+pub enum Choice {
+    /// A feeder of the model covers it.
+    Covered,
+    /// This one would, its own: the reference turned round.
+    Turned(Feeder),
+    /// None covers it.
+    Missing,
+}
+
+/// What can be done about a reference from an area.
+#[tactic(auto, unfolding(crate::specs::Choosing::choice, crate::specs::Choosing::own_feeder, cover_laws::specs::Covered::is_covered))]
+pub fn choose<'a>(
+    alloc: Global,
+    asked: Asked<'a>,
+    reference: &'a Reference,
+    overs: &mut [Option<Option<u32>>],
+) -> Result<Choice, AllocError>
+    requires asked { IsAsked asked }
+    requires reference { IsReference asked.model.now.space asked.cube reference.now }
+    requires overs { AreOvers asked.model.now asked.cube asked.area.now overs.old }
+    ensures choice { IfOk result (λ found. found ≡ choose_from asked.entry reference.now) }
+    ensures valid { IfOk result (IsChoice asked.entry.model.now.space reference.now.cube) }
+    ensures overs { AreOvers asked.entry.model.now asked.entry.cube asked.entry.area.now overs.new }
+{
+    let _space = asked.model.space();
+    let Asked {
+        model,
+        cube,
+        area,
+        hints,
+    } = asked;
+    if !names_no_governed(model, cube, area, reference) {
+        return Ok(Choice::Missing);
+    }
+    if has_cover(model, cube, area, reference, hints) {
+        return Ok(Choice::Covered);
+    }
+    let view = TurnView {
+        model,
+        cube,
+        area,
+        reference,
+    };
+    match turned_feeder(alloc, view, 0, overs)? {
+        Some(feeder) => Ok(Choice::Turned(feeder)),
+        None => Ok(Choice::Missing),
+    }
+}

@@ -1,0 +1,161 @@
+ghost use Rattle.std.specs.Prelude.{◌≡◌, ◌+◌, ◌^◌, ◌<◌, true, length, All, IfOk};
+ghost use Rattle.rule_laws.specs.Meaning.{each_reference, each_reference_of_truth, precedents, truth_precedents};
+ghost use Rattle.rule_laws.specs.ZeroTest.{of_continue, operands, operands_of_truth};
+ghost use Rattle.feed_turn.specs.Views.{AreOvers};
+ghost use Rattle.feed_find.specs.Choosing.{need, truth_need, of_reference};
+ghost use Rattle.feed_find.specs.Views.{IsAsked, IsChosen, IsCounted, IsCountedTruth};
+ghost use Rattle.feed_find.specs.Views.{IsCountedChoice, need_of_branches, is_askable, choose_from};
+
+use crate::asked::Asked;
+use crate::choice::choose;
+use crate::need::{Need, TruthNeed};
+use crate::needs::{
+    of_binary, of_both, of_compare, of_either, of_if, of_opposite, of_reference, of_unary, plain,
+};
+use rule_laws::{Finding, Formula, Reference, Truth};
+use std::alloc::{AllocError, Global};
+use zero_check::{of_number, of_operand};
+
+// What the zero test finds of `CONTINUE`.
+fn of_continue() -> Finding
+    ensures { result ≡ of_continue }
+{
+    Finding {
+        number: None,
+        written: None,
+        is_zero: true,
+        operands: 0,
+        blamed: 0,
+    }
+}
+
+// What is needed of a reference of an area, behind so many.
+fn reference_need<'a>(
+    alloc: Global,
+    asked: Asked<'a>,
+    reference: &'a Reference,
+    before: u32,
+    overs: &mut [Option<Option<u32>>],
+) -> Result<Need, AllocError>
+    requires asked { IsAsked asked }
+    requires known { is_askable asked reference.now ≡ true }
+    requires room { before + 1 < 2 ^ 32 }
+    requires overs { AreOvers asked.model.now asked.cube asked.area.now overs.old }
+    ensures need { IfOk result (λ need. need ≡ of_reference before reference.now (choose_from asked.entry reference.now)) }
+    ensures valid { IfOk result (λ need. All (IsChosen asked.entry.model.now.space) need.chosen) }
+    ensures overs { AreOvers asked.entry.model.now asked.entry.cube asked.entry.area.now overs.new }
+{
+    let found = choose(alloc, asked, reference, overs)?;
+    of_reference(alloc, before, reference, found)
+}
+
+/// What is needed of a formula of an area, behind so many references.
+#[cycle(needed)]
+pub fn needed<'a>(
+    alloc: Global,
+    asked: Asked<'a>,
+    formula: &'a Formula,
+    before: u32,
+    overs: &mut [Option<Option<u32>>],
+) -> Result<Need, AllocError>
+    requires asked { IsAsked asked }
+    requires known { each_reference (is_askable asked) formula.now ≡ true }
+    requires few { operands formula.now < 2 ^ 32 }
+    requires room { before + length (precedents formula.now) < 2 ^ 32 }
+    requires overs { AreOvers asked.model.now asked.cube asked.area.now overs.old }
+    ensures need { IfOk result (λ found. found ≡ need (choose_from asked.entry) formula.now before) }
+    ensures counted { IfOk result (IsCounted formula.now before) }
+    ensures valid { IfOk result (λ found. All (IsChosen asked.entry.model.now.space) found.chosen) }
+    ensures overs { AreOvers asked.entry.model.now asked.entry.cube asked.entry.area.now overs.new }
+{
+    match formula {
+        Formula::Number(number) => Ok(plain(alloc, before, of_number(*number))),
+        Formula::Stet => Ok(plain(alloc, before, of_operand(true))),
+        Formula::Continue => Ok(plain(alloc, before, of_continue())),
+        Formula::Children(_) => Ok(plain(alloc, before + 1, of_operand(false))),
+        Formula::Ref(reference) => reference_need(alloc, asked, reference, before, overs),
+        Formula::Binary(op, left, right) => {
+            let left = needed(alloc, asked, left.get(), before, overs)?;
+            let right = needed(alloc, asked, right.get(), left.behind, overs)?;
+            of_binary(alloc, *op, left, right)
+        }
+        Formula::Unary(fun, inner) => {
+            let inner = needed(alloc, asked, inner.get(), before, overs)?;
+            Ok(of_unary(*fun, inner))
+        }
+        Formula::If(truth, left, right) => {
+            let truth = truth_needed(alloc, asked, truth.get(), before, overs)?;
+            choice_needed(alloc, asked, truth, left.get(), right.get(), overs)
+        }
+    }
+}
+
+// What is needed of an `IF`, by what is of its condition.
+#[cycle(needed)]
+fn choice_needed<'a>(
+    alloc: Global,
+    asked: Asked<'a>,
+    truth: TruthNeed,
+    left: &'a Formula,
+    right: &'a Formula,
+    overs: &mut [Option<Option<u32>>],
+) -> Result<Need, AllocError>
+    requires asked { IsAsked asked }
+    requires left { each_reference (is_askable asked) left.now ≡ true }
+    requires right { each_reference (is_askable asked) right.now ≡ true }
+    requires few { truth.by_written.operands + operands left.now + operands right.now < 2 ^ 32 }
+    requires alike { truth.by_all.operands ≡ truth.by_written.operands }
+    requires room { truth.behind + length (precedents left.now) + length (precedents right.now) < 2 ^ 32 }
+    requires valid { All (IsChosen asked.model.now.space) truth.chosen }
+    requires overs { AreOvers asked.model.now asked.cube asked.area.now overs.old }
+    ensures need { IfOk result (λ found. found ≡ need_of_branches (choose_from asked.entry) truth left.now right.now) }
+    ensures counted { IfOk result (IsCountedChoice truth left.now right.now) }
+    ensures valid { IfOk result (λ found. All (IsChosen asked.entry.model.now.space) found.chosen) }
+    ensures overs { AreOvers asked.entry.model.now asked.entry.cube asked.entry.area.now overs.new }
+{
+    let left = needed(alloc, asked, left, truth.behind, overs)?;
+    let right = needed(alloc, asked, right, left.behind, overs)?;
+    of_if(alloc, truth, left, right)
+}
+
+// What is needed of a condition of an area, behind so many references.
+#[cycle(needed)]
+fn truth_needed<'a>(
+    alloc: Global,
+    asked: Asked<'a>,
+    truth: &'a Truth,
+    before: u32,
+    overs: &mut [Option<Option<u32>>],
+) -> Result<TruthNeed, AllocError>
+    requires asked { IsAsked asked }
+    requires known { each_reference_of_truth (is_askable asked) truth.now ≡ true }
+    requires few { operands_of_truth truth.now < 2 ^ 32 }
+    requires room { before + length (truth_precedents truth.now) < 2 ^ 32 }
+    requires overs { AreOvers asked.model.now asked.cube asked.area.now overs.old }
+    ensures need { IfOk result (λ found. found ≡ truth_need (choose_from asked.entry) truth.now before) }
+    ensures counted { IfOk result (IsCountedTruth truth.now before) }
+    ensures valid { IfOk result (λ found. All (IsChosen asked.entry.model.now.space) found.chosen) }
+    ensures overs { AreOvers asked.entry.model.now asked.entry.cube asked.entry.area.now overs.new }
+{
+    match truth {
+        Truth::Compare(rel, left, right) => {
+            let left = needed(alloc, asked, left, before, overs)?;
+            let right = needed(alloc, asked, right, left.behind, overs)?;
+            of_compare(*rel, left, right)
+        }
+        Truth::And(left, right) => {
+            let left = truth_needed(alloc, asked, left.get(), before, overs)?;
+            let right = truth_needed(alloc, asked, right.get(), left.behind, overs)?;
+            of_both(alloc, left, right)
+        }
+        Truth::Or(left, right) => {
+            let left = truth_needed(alloc, asked, left.get(), before, overs)?;
+            let right = truth_needed(alloc, asked, right.get(), left.behind, overs)?;
+            of_either(alloc, left, right)
+        }
+        Truth::Not(inner) => {
+            let inner = truth_needed(alloc, asked, inner.get(), before, overs)?;
+            Ok(of_opposite(inner))
+        }
+    }
+}

@@ -1,0 +1,3 @@
+pub mod QuotedNames
+pub mod Maps
+pub mod Writing
