@@ -14,7 +14,7 @@ use crate::area_cells::AreaCells;
 use crate::excess::numbers_from;
 use crate::kinds::{ByKinds, no_kinds, with_element};
 use crate::known::{Kept, Known, recalled, remember};
-use crate::marks::key_of;
+use crate::marks::{key_of, mark_in};
 use crate::question::{Answer, Question};
 use crate::scale::{axis, is_leaf_element};
 use lists::ListOf;
