@@ -7,9 +7,7 @@ ghost use Rattle.read_sources.specs.Sources.{IsGiven};
 ghost use Rattle.read_sources.specs.Giving.{AreKindsIn, has_admitted, given_by, has_one, merged};
 
 use crate::source::{Given, Source};
-use ref_order::{
-    AreaCells, ByKinds, Known, Numbers, Question, axis_count, greatest_known, mark_in,
-};
+use ref_order::{AreaCells, ByKinds, Known, Numbers, Question, axis_count, greatest_known};
 use rule_model::Model;
 
 /// Nothing.
@@ -83,8 +81,7 @@ fn kinds_in<'a>(model: &'a Model, known: &mut Known<'a>, source: Source<'a>, dim
         own: source.kind,
         its: true,
     };
-    let mark = mark_in(model, cube, source.read, dim);
-    greatest_known(cells, known, mark, asked)
+    greatest_known(cells, known, asked)
 }
 
 // Whether there is an element of one kind that names what the source means.

@@ -14,7 +14,7 @@ use crate::area_cells::AreaCells;
 use crate::excess::numbers_from;
 use crate::kinds::{ByKinds, no_kinds, with_element};
 use crate::known::{Kept, Known, recalled, remember};
-use crate::marks::key_of;
+use crate::marks::{key_of, mark_in};
 use crate::question::{Answer, Question};
 use crate::scale::{axis, is_leaf_element};
 use lists::ListOf;
@@ -104,8 +104,22 @@ fn answer<'a>(cells: AreaCells, kept: &mut Kept<'a>, mark: u64, asked: Question<
 }
 
 /// The greatest numbers of the elements of an area in a dimension, by their kind and that of what is named from them.
-/// What is read has this mark there.
-pub fn greatest_known<'a>(
+pub fn greatest_known<'a>(cells: AreaCells, known: &mut Known<'a>, asked: Question<'a>) -> ByKinds
+    requires cells { IsAreaCells cells }
+    requires known { IsKnown cells.model.now cells.cube cells.area.now known.old }
+    requires read { IsPrecedent cells.model.now.space cells.cube (precedent_of asked.read) }
+    requires dim { asked.dim < length (axes cells.model.now.space cells.cube) }
+    ensures numbers { AreByKinds result (answer_of cells.entry.model.now cells.entry.cube cells.entry.area.now
+        asked.entry) }
+    ensures size { AreAllWithin result (2 ^ 40) }
+    ensures known { IsKnown cells.entry.model.now cells.entry.cube cells.entry.area.now known.new }
+{
+    let mark = mark_in(cells.model, cells.cube, asked.read, asked.dim);
+    greatest_marked(cells, known, mark, asked)
+}
+
+/// The same, where what is read has this mark there.
+pub fn greatest_marked<'a>(
     cells: AreaCells,
     known: &mut Known<'a>,
     mark: u64,

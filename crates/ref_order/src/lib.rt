@@ -17,7 +17,6 @@ pub use excess::names_leaves;
 pub use greatest::{count, element_at, greatest_known};
 pub use kinds::{ByKinds, Numbers};
 pub use known::Known;
-pub use marks::mark_in;
 pub use most::most_excess;
 pub use number::{is_below, is_within};
 pub use question::Question;

@@ -11,7 +11,7 @@ ghost use Rattle.ref_order.specs.Reads.{precedent_of};
 
 use crate::area_cells::AreaCells;
 use crate::excess::{names_leaves, start};
-use crate::greatest::greatest_known;
+use crate::greatest::greatest_marked;
 use crate::kinds::{ByKinds, Numbers, number_for, sum_of_none, sums_before};
 use crate::known::Known;
 use crate::marks::Marks;
@@ -85,7 +85,7 @@ fn both_readings<'a>(
         own,
         its: true,
     };
-    let leaf = greatest_known(cells, known, mark, of_leaves);
+    let leaf = greatest_marked(cells, known, mark, of_leaves);
     if reads_alike(cells, asked) {
         return Readings { leaf, total: leaf };
     }
@@ -96,7 +96,7 @@ fn both_readings<'a>(
         own,
         its: false,
     };
-    let total = greatest_known(cells, known, mark, of_totals);
+    let total = greatest_marked(cells, known, mark, of_totals);
     Readings { leaf, total }
 }
 

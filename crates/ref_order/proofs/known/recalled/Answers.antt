@@ -1,4 +1,4 @@
-use Rattle.std.proofs.Common.{sym, subst, All}
+use Rattle.std.proofs.Common.{sym, subst}
 use Rattle.std.proofs.lemmas.List.Elements.{All-get_or}
 use Rattle.ref_order.specs.Known.{IsRight, AreRight}
 use Rattle.ref_order.proofs.known.recalled.Goals as goal

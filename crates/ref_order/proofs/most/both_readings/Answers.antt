@@ -1,4 +1,4 @@
-use Rattle.std.proofs.Common.{◌≡◌, refl, sym, true, false, Bool, ℕ}
+use Rattle.std.proofs.Common.{◌≡◌, refl, sym, true, false, Bool}
 use Rattle.order_laws.specs.Scales.{scale_of}
 use Rattle.order_laws.specs.Excess.{read_cube}
 use Rattle.order_laws.specs.Earlier.{Kinds, greatest_of_kinds}
@@ -25,16 +25,16 @@ serve cells asked found its numbers own same are =
 
 pub returns-then-reads_alike-clause-leaf : goal.returns-then-reads_alike-clause-leaf
 returns-then-reads_alike-clause-leaf c =
-    serve c.args.cells c.args.asked (record { own = c.kind_alike-own.result; its = true }) true c.greatest_known-leaf.result c.kind_alike-own.ensures refl c.greatest_known-leaf.ensures.numbers
+    serve c.args.cells c.args.asked (record { own = c.kind_alike-own.result; its = true }) true c.greatest_marked-leaf.result c.kind_alike-own.ensures refl c.greatest_marked-leaf.ensures.numbers
 
 pub returns-then-reads_alike-clause-total : goal.returns-then-reads_alike-clause-total
 returns-then-reads_alike-clause-total c =
-    serve c.args.cells c.args.asked (record { own = c.kind_alike-own.result; its = true }) false c.greatest_known-leaf.result c.kind_alike-own.ensures (sym (c.reads_alike.ensures c.if-reads_alike.true)) c.greatest_known-leaf.ensures.numbers
+    serve c.args.cells c.args.asked (record { own = c.kind_alike-own.result; its = true }) false c.greatest_marked-leaf.result c.kind_alike-own.ensures (sym (c.reads_alike.ensures c.if-reads_alike.true)) c.greatest_marked-leaf.ensures.numbers
 
 pub returns-clause-leaf : goal.returns-clause-leaf
 returns-clause-leaf c =
-    serve c.args.cells c.args.asked (record { own = c.kind_alike-own.result; its = true }) true c.greatest_known-leaf.result c.kind_alike-own.ensures refl c.greatest_known-leaf.ensures.numbers
+    serve c.args.cells c.args.asked (record { own = c.kind_alike-own.result; its = true }) true c.greatest_marked-leaf.result c.kind_alike-own.ensures refl c.greatest_marked-leaf.ensures.numbers
 
 pub returns-clause-total : goal.returns-clause-total
 returns-clause-total c =
-    serve c.args.cells c.args.asked (record { own = c.kind_alike-own.result; its = false }) false c.greatest_known-total.result c.kind_alike-own.ensures refl c.greatest_known-total.ensures.numbers
+    serve c.args.cells c.args.asked (record { own = c.kind_alike-own.result; its = false }) false c.greatest_marked-total.result c.kind_alike-own.ensures refl c.greatest_marked-total.ensures.numbers

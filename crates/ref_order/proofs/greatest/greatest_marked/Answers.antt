@@ -6,7 +6,7 @@ use Rattle.order_laws.specs.Earlier.{is_same}
 use Rattle.ref_order.specs.Known.{whole_area, number_asked, answer_of}
 use Rattle.ref_order.proofs.KindFacts.{kinds-same}
 use Rattle.ref_order.proofs.Sums.{sets-long, set-found}
-use Rattle.ref_order.proofs.greatest.greatest_known.Goals as goal
+use Rattle.ref_order.proofs.greatest.greatest_marked.Goals as goal
 
 pub offset_bounds-as_slice-dim : goal.offset_bounds-as_slice-dim
 offset_bounds-as_slice-dim c =

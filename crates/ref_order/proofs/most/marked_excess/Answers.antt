@@ -4,7 +4,7 @@ use Rattle.order_laws.specs.Earlier.{Kinds, of_leaf, greatest_of_kinds, greatest
 use Rattle.ref_order.specs.Kinds.{AreNumbers}
 use Rattle.ref_order.specs.Reads.{precedent_of}
 use Rattle.ref_order.proofs.KindFacts.{within-weaker}
-use Rattle.ref_order.proofs.most.most_excess.Goals as goal
+use Rattle.ref_order.proofs.most.marked_excess.Goals as goal
 
 pub excess_reading-requires-clause-sums : goal.excess_reading-requires-clause-sums
 excess_reading-requires-clause-sums c =
