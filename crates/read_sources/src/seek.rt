@@ -1,4 +1,4 @@
-ghost use Rattle.std.specs.Prelude.{◌≡◌, ◌<◌, false, IsTrue, is_some, length};
+ghost use Rattle.std.specs.Prelude.{◌≡◌, ◌<◌, ◌&&◌, ◌||◌, not, false, IsTrue, is_some, length};
 ghost use Rattle.cube_space.specs.Layout.{axes};
 ghost use Rattle.order_laws.specs.Earlier.{kinds_before};
 ghost use Rattle.ref_order.specs.Known.{IsKnown};
@@ -10,9 +10,9 @@ ghost use Rattle.read_sources.specs.Ways.{IsSource, precedent, reads_from, way_o
 ghost use Rattle.read_sources.specs.Gathering.{IsReading, IsSought, IsUnread};
 
 use crate::follows::Way;
-use crate::given::{admits, given_beside, gives_nothing, has_each};
+use crate::given::{Beside, admits, given_beside, gives_nothing, has_each};
 use crate::part::Part;
-use crate::source::Source;
+use crate::source::{Given, Source};
 use crate::tables::last_of;
 use crate::ways::way;
 use ref_order::{Known, Read, axis_count, names_leaves};
@@ -51,6 +51,13 @@ fn asks_total(its: Option<bool>, leaves: bool) -> bool
     }
 }
 
+// Whether this gives a consolidated element where one is asked, and one that names one.
+fn gives_asked(source: Source, given: Given) -> bool
+    ensures { result ≡ ((source.entry.kind || given.own) && (not source.entry.asks || given.its)) }
+{
+    (source.kind || given.own) && (!source.asks || given.its)
+}
+
 // Whether some cell that a source means may be read, as far as single dimensions say.
 fn is_reached<'a>(model: &'a Model, known: &mut Known<'a>, source: Source<'a>) -> bool
     requires source { IsSource model.now source }
@@ -70,8 +77,11 @@ fn is_reached<'a>(model: &'a Model, known: &mut Known<'a>, source: Source<'a>) -
         return false;
     }
     let count = axis_count(model, source.cube);
-    let given = given_beside(model, known, source, count, count);
-    (source.kind || given.own) && (!source.asks || given.its)
+    let beside = Beside {
+        one: count,
+        other: count,
+    };
+    gives_asked(source, given_beside(model, known, source, beside))
 }
 
 /// The source of the cells that are meant, of those that a reference reads at the same lag; None where none of them is
@@ -107,9 +117,11 @@ pub fn sought<'a>(
     if !is_reached(model, known, source) {
         return None;
     }
-    let last = last_of(model, cube);
-    let found = found_in(model, source);
-    let elsewhere = given_beside(model, known, source, last, found);
+    let beside = Beside {
+        one: last_of(model, cube),
+        other: found_in(model, source),
+    };
+    let elsewhere = given_beside(model, known, source, beside);
     Some(Source {
         elsewhere,
         ..source
