@@ -5,8 +5,8 @@ ghost use Rattle.ref_order.specs.Known.{IsKnown};
 ghost use Rattle.ref_order.specs.Reads.{precedent_of};
 ghost use Rattle.arrow_laws.specs.Nodes.{last_of, has_kinds};
 ghost use Rattle.arrow_laws.specs.ByDimension.{read_cube, asks_total, admits, HasEach};
-ghost use Rattle.read_sources.specs.Sources.{found_in};
-ghost use Rattle.read_sources.specs.Ways.{IsSource, precedent, reads_from, way_of};
+ghost use Rattle.read_sources.specs.Sources.{found_in, IsGiven};
+ghost use Rattle.read_sources.specs.Ways.{IsSource, precedent, reads_from, way_of, choice, asked};
 ghost use Rattle.read_sources.specs.Gathering.{IsReading, IsSought, IsUnread};
 
 use crate::follows::Way;
@@ -70,6 +70,7 @@ fn is_reached<'a>(model: &'a Model, known: &mut Known<'a>, source: Source<'a>) -
         (length (axes model.now.space source.entry.cube)) }
     ensures known { IsKnown model.now source.entry.cube source.entry.area.now known.new }
 {
+    let _space = model.space();
     if !admits(source.its, names_leaves(model, source.cube, source.read)) {
         return false;
     }
@@ -82,6 +83,22 @@ fn is_reached<'a>(model: &'a Model, known: &mut Known<'a>, source: Source<'a>) -
         other: count,
     };
     gives_asked(source, given_beside(model, known, source, beside))
+}
+
+// What the dimensions give that are neither the last one nor the one by which the node that is read is found.
+fn given_elsewhere<'a>(model: &'a Model, known: &mut Known<'a>, source: Source<'a>) -> Given
+    requires source { IsSource model.now source }
+    requires known { IsKnown model.now source.cube source.area.now known.old }
+    ensures given { IsGiven (choice model.now source.entry) (last_of model.now.space source.entry.cube)
+        (found_in (last_of model.now.space source.entry.cube) (way_of model.now source.entry)) (asked source.entry)
+        result }
+    ensures known { IsKnown model.now source.entry.cube source.entry.area.now known.new }
+{
+    let beside = Beside {
+        one: last_of(model, source.cube),
+        other: found_in(model, source),
+    };
+    given_beside(model, known, source, beside)
 }
 
 /// The source of the cells that are meant, of those that a reference reads at the same lag; None where none of them is
@@ -117,11 +134,7 @@ pub fn sought<'a>(
     if !is_reached(model, known, source) {
         return None;
     }
-    let beside = Beside {
-        one: last_of(model, cube),
-        other: found_in(model, source),
-    };
-    let elsewhere = given_beside(model, known, source, beside);
+    let elsewhere = given_elsewhere(model, known, source);
     Some(Source {
         elsewhere,
         ..source

@@ -20,7 +20,7 @@ returns-clause-sought c =
             fixed = c.is_reached.ensures.fixed on;
             asks = c.asks_total.ensures ∙ ap (asks_total c.args.its) (sym leaves);
             each = c.is_reached.ensures.each on;
-            elsewhere = rw (sym c.last_of.ensures.last) (rw (sym c.found_in.ensures.found) c.given_beside-elsewhere.ensures.given);
+            elsewhere = c.given_elsewhere-elsewhere.ensures.given;
           });
       own = refl;
       area = refl;
