@@ -1,10 +1,12 @@
 -- Maps that move all elements as far.
-use Rattle.std.proofs.Common.{◌≡◌, ◌∙◌, ◌<◌, ◌≤◌, ◌+◌, ◌-◌, ◌&&◌, ℕ, zero, suc, List, [], ◌∷◌, length, drop, nat_eq, Bool, true, false, Option, Some, None, slice_get, unwrap_or, refl, sym, ap, ap₂, subst, arith}
-use Rattle.std.proofs.lemmas.Bool.{and_parts, and_from, eqb-true, eq-eqb}
+use Rattle.std.proofs.Common.{◌≡◌, ◌∙◌, ◌<◌, ◌≤◌, ◌+◌, ◌-◌, ◌&&◌, ℕ, zero, suc, List, [], ◌∷◌, length, drop, map, nat_eq, nat_lt, Bool, true, false, Option, Some, None, slice_get, unwrap_or, refl, sym, ap, ap₂, subst, arith}
+use Rattle.std.proofs.lemmas.Bool.{and_parts, and_from, eqb-true, eq-eqb, lt-ltb}
 use Rattle.std.proofs.lemmas.Slice.Eq.{slice_eq-Decides}
 use Rattle.std.specs.Bool.{Decides}
 use Rattle.std.specs.Option.{option_eq}
 use Rattle.std.specs.Cmp.Lexicographic.{pointwise}
+use Rattle.std.specs.List.{range_with_len}
+use Rattle.rule_laws.specs.Maps.{identity, behind, place_behind}
 use Rattle.feed_print.specs.FeederTexts.{first_sent}
 
 abbrev pub same_map : List (Option ℕ) → List (Option ℕ) → Bool
@@ -74,3 +76,19 @@ first_sent_at (Some t ∷ to) p from target is =
     let there : t ≡ target = ap (λ (o : Option (ℕ × ℕ)). (unwrap_or o (p, t)).1) is in
     let none : from - p ≡ 0 = omega (arith, here) in
     record { above = omega (arith, here); below = omega (arith, here); sent = rw (none, there) refl }
+
+-- ---- what moves by no place stays
+
+same_each : (f g : ℕ → Option ℕ) (a n : ℕ) → ((e : ℕ) → e < a + n → f e ≡ g e) → map f (range_with_len a n) ≡ map g (range_with_len a n)
+same_each f g a zero h = refl
+same_each f g a (suc n) h = ap (λ x. x ∷ map f (range_with_len (a + 1) n)) (h a (omega arith)) ∙ ap (λ l. g a ∷ l) (same_each f g (a + 1) n (λ e low. h e (omega (arith, low))))
+
+pub stays : (size : ℕ) → identity size ≡ behind size 0
+stays size = same_each Some (place_behind size 0) 0 size (λ e low. (
+    let same : e + 0 ≡ e = omega arith in
+    let inside : nat_lt (e + 0) size ≡ true = lt-ltb (e + 0) size (omega (arith, low)) in
+    rw inside (ap Some (sym same))))
+
+pub nowhere_there : (o : Option ℕ) → ((target : ℕ) → o ≡ Some target → ⊥) → o ≡ None
+nowhere_there None other = refl
+nowhere_there (Some target) other = absurd (other target refl)

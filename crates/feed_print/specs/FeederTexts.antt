@@ -9,6 +9,7 @@ use Rattle.dim_core.specs.Outline.{Outline, name_of}
 use Rattle.cube_space.specs.Layout.{Layout, axes, dims_of, cube_names}
 use Rattle.cube_lex.specs.Parts.{most_token_bytes}
 use Rattle.cube_lex.specs.Quoted.{quoted}
+use Rattle.rule_laws.specs.Maps.{behind, before}
 use Rattle.rule_laws.specs.declared.reference.Reference.{Reference}
 use Rattle.rule_laws.specs.declared.reference.Arg.{Arg}
 use Rattle.rule_laws.specs.declared.reference.Arg.TheVariants.{Fixed, Moved}
@@ -22,7 +23,6 @@ use Rattle.rule_tree.specs.declared.tree.Tree.TheVariants as trees
 use Rattle.rule_tree.specs.declared.tree.TreeOp.{TreeOp}
 use Rattle.rule_tree.specs.declared.tree.TreeOp.TheVariants as ops
 use Rattle.bind_arguments.specs.Bound.{dimension_at}
-use Rattle.feed_turn.specs.Shift.{shift}
 
 -- whether a name fits in a token, with its quotes
 abbrev pub fits : List ℕ → Bool
@@ -64,8 +64,8 @@ shifted_text dim op n = trees.Call (codes "DIMNM")
 abbrev pub moved_text : List ℕ → ℕ → ℕ → Tree
 moved_text dim from to =
     if from == to then trees.Current dim
-    else if nat_lt from to then shifted_text dim ops.Add (to - from)
-    else shifted_text dim ops.Sub (from - to)
+    else if nat_lt to from then shifted_text dim ops.Sub (from - to)
+    else shifted_text dim ops.Add (to - from)
 
 -- the first element that a map sends anywhere, and where it goes; elements count from this one
 abbrev pub first_sent : ℕ → List (Option ℕ) → Option (ℕ × ℕ)
@@ -73,7 +73,11 @@ first_sent place [] = None
 first_sent place (None ∷ to) = first_sent (suc place) to
 first_sent place (Some target ∷ to) = Some (place, target)
 
--- whether a map moves all elements as far as from the one index to the other
+-- the map that moves each of so many elements as far as it is from the one index to the other
+abbrev pub shift : ℕ → ℕ → ℕ → List (Option ℕ)
+shift size from to = if nat_lt to from then before size (from - to) else behind size (to - from)
+
+-- whether a map does
 abbrev pub moves_by : List (Option ℕ) → ℕ → ℕ → Bool
 moves_by to from target = pointwise (option_eq nat_eq) (shift (length to) from target) to
 

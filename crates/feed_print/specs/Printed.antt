@@ -22,4 +22,4 @@ reference_line place = codes "# statement " ++ decimal place.statement ++ codes 
 pub record AddsCube (name : List ℕ) (places : List ReferencePlace) (feeders : List FeederText) (old new : List ℕ) : Type 0 where
   pub lines : List ℕ
   pub all : new ≡ old ++ (heading name ++ flat_map reference_line places ++ lines)
-  pub feeders : IsWritten (flat_map feeder_spelled feeders) lines
+  pub written : IsWritten (flat_map feeder_spelled feeders) lines

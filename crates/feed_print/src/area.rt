@@ -79,11 +79,12 @@ pub fn entry_texts(
     let mut entries = Vec::new(alloc);
     let sets = area.sets.as_slice();
     'each: for place in 0..axis_count(space, cube) {
-        if let Some(set) = &sets[place as usize] {
-            match entry_text(alloc, axis(space, cube, place), set.as_slice())? {
-                Some(entry) => entries.push(entry)?,
-                None => return Ok(None),
-            }
+        let Some(set) = &sets[place as usize] else {
+            continue;
+        };
+        match entry_text(alloc, axis(space, cube, place), set.as_slice())? {
+            Some(entry) => entries.push(entry)?,
+            None => return Ok(None),
         }
     }
     Ok(Some(entries))

@@ -1,4 +1,4 @@
-ghost use Rattle.std.specs.Prelude.{◌≡◌, ◌<◌, ◌==◌, ◌*◌, ◌∷◌, [], pos, codes, length, option_map, slice_index_or};
+ghost use Rattle.std.specs.Prelude.{◌≡◌, ◌<◌, ◌==◌, ◌*◌, ◌∷◌, [], pos, codes, length, option_map, slice_get, slice_index_or, Some};
 ghost use Rattle.std.specs.Prelude.{IfOk, IfSome, IsTrue};
 ghost use Rattle.std.specs.List.{list_all};
 ghost use Rattle.cube_fixed.specs.Range.{unit};
@@ -14,7 +14,7 @@ ghost use Rattle.feed_print.specs.FeederTexts.{argument_text, argument_texts};
 use crate::moves::{first_sent, moves_by};
 use crate::names::{copy_of, fits, name_text, quoted_text};
 use cube_fixed::Money;
-use cube_space::{Space, axis_count, axis_number};
+use cube_space::Space;
 use dim_name::Name;
 use lists::ListOf;
 use rule_laws::{Arg, ElementMap, Reference};
@@ -76,10 +76,10 @@ fn moved_text(alloc: Global, dim: &Name, from: u32, to: u32) -> Result<Tree, All
     if from == to {
         let own = copy_of(alloc, dim)?;
         Ok(Tree::Current(own))
-    } else if from < to {
-        shifted_text(alloc, dim, TreeOp::Add, to - from)
-    } else {
+    } else if to < from {
         shifted_text(alloc, dim, TreeOp::Sub, from - to)
+    } else {
+        shifted_text(alloc, dim, TreeOp::Add, to - from)
     }
 }
 
@@ -143,6 +143,18 @@ fn argument_text(
     }
 }
 
+// The number of the dimension of a cube at a place.
+fn number_at(space: &Space, cube: u32, place: usize) -> u32
+    requires cube { cube < length space.now.cubes }
+    requires place { place < length (dims_of space.now cube) }
+    ensures number { slice_get (dims_of space.now cube) place ≡ Some result }
+    ensures within { result < length space.now.dimensions }
+{
+    // a space says of itself that it is one
+    let _cells = space.size();
+    space.shape(cube).dims.as_slice()[place]
+}
+
 /// The arguments of a feeder's target, unless one has no text.
 pub fn argument_texts(
     alloc: Global,
@@ -157,11 +169,12 @@ pub fn argument_texts(
     ensures writable { IfOk result (λ found.
         IfSome found (λ arguments. IsTrue (list_all is_writable arguments.items))) }
 {
+    let _cells = space.size();
     let mut arguments = Vec::new(alloc);
     let args = target.args.as_slice();
-    'each: for place in 0..axis_count(space, target.cube) {
-        let dim = axis_number(space, target.cube, place);
-        match argument_text(alloc, space, cube, dim, &args[place as usize])? {
+    'each: for place in 0..args.len() {
+        let dim = number_at(space, target.cube, place);
+        match argument_text(alloc, space, cube, dim, &args[place])? {
             Some(argument) => arguments.push(argument)?,
             None => return Ok(None),
         }

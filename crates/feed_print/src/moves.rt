@@ -1,6 +1,5 @@
 ghost use Rattle.std.specs.Prelude.{◌≡◌, ◌<◌, ◌^◌, ℕ, IfSome, length, slice_get, unwrap_or};
-ghost use Rattle.feed_turn.specs.Shift.{shift};
-ghost use Rattle.feed_print.specs.FeederTexts.{first_sent, moves_by};
+ghost use Rattle.feed_print.specs.FeederTexts.{first_sent, moves_by, shift};
 
 use rule_laws::ElementMap;
 
@@ -17,16 +16,16 @@ pub fn first_sent(to: &ElementMap, size: u32) -> Option<(u32, u32)>
     None
 }
 
-// The map of so many elements that moves each as far as from the one place to the other.
+// The map that moves each of so many elements as far as it is from the one index to the other.
 fn shift(size: u32, from: u32, to: u32) -> ElementMap
     ensures { result ≡ shift size from to }
 {
     if from == to {
         ElementMap::identity(size)
-    } else if from < to {
-        ElementMap::behind(size, to - from)
-    } else {
+    } else if to < from {
         ElementMap::before(size, from - to)
+    } else {
+        ElementMap::behind(size, to - from)
     }
 }
 
