@@ -8,7 +8,7 @@ use Rattle.cube_space.specs.Layout.{Layout, axes}
 use Rattle.rule_laws.specs.Meaning.{Precedent, Named, Components}
 use Rattle.rule_model.specs.BoundModel.{BoundModel}
 use Rattle.order_laws.specs.Scales.{parts_in, is_total, is_leaf_element}
-use Rattle.order_laws.specs.Earlier.{Kinds, is_same, moved_leaves, kinds_before}
+use Rattle.order_laws.specs.Earlier.{is_same, moved_leaves, kinds_before}
 use Rattle.order_laws.proofs.EndingFacts.{from-same, to-same}
 use Rattle.ref_order.specs.declared.kinds.ByKinds.{ByKinds}
 use Rattle.arrow_laws.specs.ByDimension.{admits, asks_total, names_from, has_element, serves, names_total, is_from, Asked}
@@ -184,9 +184,6 @@ module _ (m : BoundModel) (s : Source) (asks : s.asks ≡ asks_total s.its (kind
   -- ---- as the numbers have it
 
   module _ (numbers : ByKinds) (are : AreKindsIn m s i numbers) where
-    abbrev Numbered : Bool → Bool → Type 0
-    Numbered own its = Has own its
-
     leaf-leaf : IsTrue (is_some numbers.leaf.leaf) ↔ Has true true
     leaf-leaf = are (record { own = true; its = true })
 

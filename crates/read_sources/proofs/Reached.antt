@@ -1,7 +1,6 @@
 -- Where some cell that is meant is read, dimensions give what is asked.
 use Rattle.std.proofs.Common.{◌≡◌, refl, sym, ap, ◌∙◌, arith, subst, ℕ, ◌<◌, ◌==◌, ◌⊎◌, inl, inr, Bool, true, false, not, ◌&&◌, ◌||◌, ℤ, Option, Some, None, if◌then◌else◌, List, [], length}
-use Rattle.std.specs.Prelude.{IsTrue, slice_get, slice_index_or}
-use Rattle.std.specs.List.{list_any}
+use Rattle.std.specs.Prelude.{IsTrue, slice_get}
 use Rattle.std.specs.Option.{option_map_or}
 use Rattle.std.proofs.lemmas.Bool.{and_parts, and_from, and_cases, or_parts, not-false, eqb-true, eqb-false, eq-eqb, ne_eqb}
 use Rattle.std.proofs.lemmas.List.Folds.{Any-from_list_any, list_any-from_Any}
@@ -23,7 +22,7 @@ use Rattle.order_laws.proofs.CellFacts.{axes-sizes}
 use Rattle.order_laws.proofs.SetFacts.{follow-all}
 use Rattle.cover_laws.proofs.Pairs.{follows-at}
 use Rattle.arrow_laws.specs.Nodes.{Node, last_of, kind_in}
-use Rattle.arrow_laws.specs.ByDimension.{Asked, Choice, IsElsewhere, HasElsewhere, Suits, left, asked_of, choice_of, admits, serves, names_total, has_element, has_part, is_part, is_from, HasEach, IsNamedBy, IsPartFrom, IsNamedFrom, IsJoinedByDimension}
+use Rattle.arrow_laws.specs.ByDimension.{Asked, Choice, IsElsewhere, HasElsewhere, Suits, left, asked_of, choice_of, admits, serves, has_element, has_part, is_part, is_from, HasEach, IsNamedBy, IsPartFrom, IsNamedFrom, IsJoinedByDimension}
 use Rattle.arrow_laws.proofs.Made.{last-there}
 use Rattle.read_sources.specs.declared.source.Source.{Source}
 use Rattle.read_sources.specs.declared.source.Given.{Given}

@@ -1,5 +1,5 @@
 -- Sources that make each arrow that another one makes.
-use Rattle.std.proofs.Common.{◌≡◌, refl, sym, ap, ◌∙◌, subst, ℕ, Bool, true, ◌||◌, Some}
+use Rattle.std.proofs.Common.{◌≡◌, refl, sym, ap, ◌∙◌, subst, ℕ, Bool, true, ◌||◌}
 use Rattle.std.specs.Prelude.{IsTrue}
 use Rattle.cube_space.specs.Layout.{axes}
 use Rattle.cube_space.specs.Cells.{IsSpace}
@@ -8,9 +8,9 @@ use Rattle.order_laws.specs.Scales.{is_total, is_leaf_element}
 use Rattle.arrow_laws.specs.Nodes.{Node, last_of, node_kind}
 use Rattle.arrow_laws.specs.ByDimension.{admits, is_part}
 use Rattle.read_sources.specs.declared.source.Source.{Source}
-use Rattle.read_sources.specs.Ways.{Follows, Same, Component, Always, Sent, SentOver, IsSource, precedent, way_of, reads_from, gives_total, suits, serves_any, serves_with, cube_read, IsNamedAs}
+use Rattle.read_sources.specs.Ways.{Follows, Same, Component, Always, Sent, SentOver, IsSource, way_of, reads_from, gives_total, suits, serves_with, cube_read, IsNamedAs}
 use Rattle.read_sources.specs.Sources.{IsRead, found_in}
-use Rattle.read_sources.specs.Parts.{IsAlike, AreSetsSame, Joins, JoinsAs, MakesArrowsOf}
+use Rattle.read_sources.specs.Parts.{IsAlike, AreSetsSame, Joins, MakesArrowsOf}
 use Rattle.read_sources.proofs.Likeness.{suits-alike}
 use Rattle.read_sources.proofs.Named.{joins-as, as-joins}
 

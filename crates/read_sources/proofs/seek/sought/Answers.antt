@@ -1,4 +1,4 @@
-use Rattle.std.proofs.Common.{◌≡◌, refl, sym, ap, ◌∙◌, arith, subst, true}
+use Rattle.std.proofs.Common.{◌≡◌, refl, sym, ap, ◌∙◌, arith, true}
 use Rattle.order_laws.specs.Earlier.{Kinds}
 use Rattle.arrow_laws.specs.ByDimension.{asks_total}
 use Rattle.read_sources.proofs.Gathered.{source-read}
