@@ -74,12 +74,12 @@ module _ (contents : Contents) (files : List (Option RuleFile)) where
       let apart = in-turn (List RuleText) BoundRules Bound reading (λ texts. meanings texts >>= ordered texts) end answer came in
       behind (List RuleText) Bound reading (λ texts. (meanings texts >>= ordered texts) >>= end) (λ texts. meanings texts >>= (λ meant. orders meant >>= (λ rules. end (rules-of texts rules)))) answer
       (λ texts came.
-          behind (List CubeRules) Bound (meanings texts) (λ meant. ordered texts meant >>= end) (λ meant. orders meant >>= (λ rules. end (rules-of texts rules))) answer
-          (λ meant came.
-              behind (List CubeRules) Bound (orders meant) (λ rules. last texts rules >>= end) (λ rules. end (rules-of texts rules)) answer
-              (λ rules came. at-once BoundRules Bound (rules-of texts rules) end answer came)
-              (in-turn (List CubeRules) BoundRules Bound (orders meant) (last texts) end answer came))
-          (in-turn (List CubeRules) BoundRules Bound (meanings texts) (ordered texts) end answer came))
+      behind (List CubeRules) Bound (meanings texts) (λ meant. ordered texts meant >>= end) (λ meant. orders meant >>= (λ rules. end (rules-of texts rules))) answer
+      (λ meant came.
+      behind (List CubeRules) Bound (orders meant) (λ rules. last texts rules >>= end) (λ rules. end (rules-of texts rules)) answer
+      (λ rules came. at-once BoundRules Bound (rules-of texts rules) end answer came)
+      (in-turn (List CubeRules) BoundRules Bound (orders meant) (last texts) end answer came))
+      (in-turn (List CubeRules) BoundRules Bound (meanings texts) (ordered texts) end answer came))
       apart
 
   -- the checks of a group are made one after another
