@@ -1,4 +1,5 @@
 pub mod Lag
+pub mod ReadKind
 pub mod Made
 pub mod Fitting
 pub mod Named

@@ -13,7 +13,7 @@ use Rattle.rule_model.specs.Areas.{in_set}
 use Rattle.rule_model.specs.BoundModel.{BoundModel}
 use Rattle.rule_model.specs.Order.{most_positions}
 use Rattle.order_laws.specs.Scales.{is_total, is_leaf_element, parts_in}
-use Rattle.order_laws.specs.Earlier.{Kinds, most_excess, is_below, is_within, kinds_before, moved_leaves}
+use Rattle.order_laws.specs.Earlier.{most_excess, is_below, is_within, kinds_before, moved_leaves}
 pub use Rattle.order_laws.specs.Excess.{read_cube}
 use Rattle.cover_laws.specs.Looking.{sent}
 use Rattle.arrow_laws.specs.Nodes.{Node, last_of, node_kind, has_nodes, kind_in}

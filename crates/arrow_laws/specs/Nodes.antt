@@ -1,6 +1,6 @@
 -- The nodes of a model, and ranks of them. A node is a cube, an element of the cube's last dimension and, in a cube
 -- whose order has positions of its own for consolidated cells, a kind of cell. The cells of such a cube have kinds.
-use Rattle.std.specs.Prelude.{ℕ, ◌-◌, Bool, true, not, ◌||◌, Option, Some, None, is_some, List, [], length}
+use Rattle.std.specs.Prelude.{ℕ, ◌-◌, Bool, not, ◌||◌, Option, Some, None, is_some, List, [], length}
 use Rattle.std.specs.Prelude.{slice_index_or, if◌then◌else◌}
 use Rattle.cube_space.specs.Layout.{Layout, axes}
 use Rattle.cube_space.specs.Cells.{cube_of, is_leaf_cell}
