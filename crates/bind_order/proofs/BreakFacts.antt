@@ -1,24 +1,21 @@
 -- Where an order is found to be broken, a leaf cell comes behind a consolidated cell in which it counts, and nowhere else.
 use Rattle.std.proofs.Common.{◌≡◌, ◌<◌, ◌≤◌, ◌⊎◌, inl, inr, ℕ, zero, suc, ◌+◌, Bool, true, false, not, ◌&&◌, ◌||◌, List, [], ◌∷◌, length, map, All, Option, None, Some, take, refl, sym, ap, ◌∙◌, subst, arith, get_or, slice_get, nat_lt, ◌==◌}
 use Rattle.std.specs.List.{list_all, cons_option}
-use Rattle.std.proofs.lemmas.Bool.{and_parts, and_from, or_left, or_right, or_cases, ltb-true, lt-ltb, eqb-true, eq-eqb, cases_lt, cases_eq, ne_eqb, both_ways, false_from_ne_true, not-true}
-use Rattle.std.proofs.lemmas.List.{get_or-map, get_or-take, length-take-le, length-map, get_or_past, get_or_default}
-use Rattle.std.proofs.lemmas.List.Elements.{All-map, All-weaker}
+use Rattle.std.proofs.lemmas.Bool.{and_parts, and_from, or_left, or_right, ltb-true, lt-ltb, eqb-true, eq-eqb, cases_lt, cases_eq, ne_eqb, both_ways, false_from_ne_true, not-true}
+use Rattle.std.proofs.lemmas.List.{get_or-take, length-take-le, length-map, get_or_past, get_or_default}
 use Rattle.std.proofs.lemmas.List.Sums.{AllPass-from_list_all, list_all-from_AllPass}
 use Rattle.std.proofs.lemmas.Option.{slice_get_within}
 use Rattle.dim_core.specs.Outline.{Outline, IsDimension}
-use Rattle.dim_weights.specs.Table.{is_nonzero}
 use Rattle.dim_weights.proofs.Nonzero.{nonzero-counts, counts-nonzero}
 use Rattle.lists.proofs.Found.{found_holds}
 use Rattle.cube_space.specs.Layout.{axes_of, sizes_of}
 use Rattle.cube_space.specs.Cells.{are_leaves}
-use Rattle.cube_space.specs.Radix.{are_digits}
 use Rattle.cube_space.proofs.Radix.{digits-length}
 use Rattle.rule_model.specs.declared.order.Position.{Position}
 use Rattle.rule_model.specs.declared.order.Position.TheVariants as positions
 use Rattle.rule_model.specs.Weights.{coef_product}
 use Rattle.rule_model.specs.Order.{most_positions, position_in, number_by}
-use Rattle.rule_model.specs.Conditions.{IsPosition, IsLeafBelow, AreEqualBefore, HoldsLeafCells, rank_in}
+use Rattle.rule_model.specs.Conditions.{IsLeafBelow, AreEqualBefore, HoldsLeafCells, rank_in}
 use Rattle.bind_order.specs.declared.by_kind.PositionByKind.{PositionByKind}
 use Rattle.bind_order.specs.declared.by_kind.PositionByKind.TheVariants.{Constants, Ranks}
 use Rattle.bind_order.specs.ByKind.{leaf_position, total_position, kinds_order}

@@ -1,7 +1,7 @@
 -- The test of all cells decides whether no leaf cell comes behind a consolidated cell in which it counts.
-use Rattle.std.proofs.Common.{◌≡◌, ◌≢◌, ◌<◌, ◌≤◌, ◌⊎◌, inl, inr, ℕ, zero, suc, Bool, true, false, not, ◌&&◌, ◌||◌, List, [], ◌∷◌, length, map, refl, sym, ap, ◌∙◌, subst, arith, get_or, nat_lt, ◌==◌}
-use Rattle.std.specs.List.{range_with_len, list_all}
-use Rattle.std.proofs.lemmas.Bool.{and_parts, and_from, or_left, or_right, or_cases, ltb-true, lt-ltb, le-ltb, eqb-true, eq-eqb, cases_lt, cases_order, not-true, not_from_false}
+use Rattle.std.proofs.Common.{◌≡◌, ◌<◌, ◌≤◌, ◌⊎◌, inl, inr, ℕ, zero, suc, Bool, true, false, not, ◌&&◌, ◌||◌, List, [], ◌∷◌, length, refl, sym, ap, ◌∙◌, arith, get_or, nat_lt, ◌==◌}
+use Rattle.std.specs.List.{list_all}
+use Rattle.std.proofs.lemmas.Bool.{and_parts, and_from, or_left, or_right, or_cases, ltb-true, lt-ltb, eqb-true, eq-eqb, cases_lt, cases_order, not-true}
 use Rattle.std.proofs.lemmas.List.FromFn.{length-map-range_with_len, get_or-map-range_with_len}
 use Rattle.std.proofs.lemmas.List.Sums.{AllPass-from_list_all, list_all-from_AllPass}
 use Rattle.dim_core.specs.Outline.{Outline}
@@ -9,12 +9,12 @@ use Rattle.dim_weights.specs.Table.{is_nonzero}
 use Rattle.dim_weights.proofs.Nonzero.{nonzero-counts, counts-nonzero}
 use Rattle.cube_space.specs.Layout.{sizes_of}
 use Rattle.cube_space.specs.Cells.{are_leaves}
-use Rattle.cube_space.specs.Radix.{product, are_digits, all_digits, number_of}
+use Rattle.cube_space.specs.Radix.{are_digits, all_digits, number_of}
 use Rattle.cube_space.proofs.Radix.{length-all_digits, all_digits-at, number-below, number-digits}
 use Rattle.rule_model.specs.declared.order.Order.{Order}
 use Rattle.rule_model.specs.Weights.{coef_product}
 use Rattle.rule_model.specs.Order.{most_positions, position_in, number_by}
-use Rattle.rule_model.specs.Conditions.{IsLeafBelow, AreEqualBefore, HoldsLeafCells}
+use Rattle.rule_model.specs.Conditions.{IsLeafBelow, HoldsLeafCells}
 use Rattle.bind_order.specs.LeafCells.{numbers_in, is_at_most, is_leaf_below, holds_leaf_cells}
 
 -- what is true of all lists of digits

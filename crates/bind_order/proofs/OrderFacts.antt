@@ -1,5 +1,5 @@
 -- The positions of an order line make an order of its cube.
-use Rattle.std.proofs.Common.{◌≡◌, ◌≤◌, ◌∙◌, ℕ, Bool, true, false, List, length, map, All, sym, refl, arith}
+use Rattle.std.proofs.Common.{◌≡◌, ◌≤◌, ℕ, Bool, true, false, List, length, All, arith}
 use Rattle.std.proofs.lemmas.List.{length-map}
 use Rattle.std.proofs.lemmas.List.Elements.{All-map, All-weaker}
 use Rattle.dim_core.specs.Outline.{Outline}
@@ -13,7 +13,7 @@ use Rattle.bind_order.specs.declared.by_kind.PositionByKind.{PositionByKind}
 use Rattle.bind_order.specs.declared.by_kind.PositionByKind.TheVariants.{Constants, Ranks}
 use Rattle.bind_order.specs.ByKind.{leaf_position, total_position, kinds_order}
 use Rattle.bind_order.specs.LeafCells.{holds_leaf_cells}
-use Rattle.bind_order.specs.Orders.{plain_order}
+use Rattle.bind_order.specs.Orders.{plain_order, equal_order}
 use Rattle.bind_order.specs.Inside.Held.{HoldsAt, IsHeldPosition, IsByKind}
 use Rattle.bind_order.proofs.BreakFacts.{kinds-valid}
 
@@ -39,6 +39,25 @@ plain-valid space cube list few held = record {
     each-of : (kind : Bool) → All (IsPosition (axes space cube)) (positions_for kind (plain_order list))
     each-of true = each
     each-of false = each
+
+-- the same positions, in a list for each kind
+pub equal-valid : (space : Layout) (cube : ℕ) (list : List Position) → length list ≤ most_positions → All (IsHeldPosition (axes space cube)) list → IsOrderOf space cube (equal_order list)
+equal-valid space cube list few held = record {
+  few = λ kind. few-of kind;
+  each = λ kind. each-of kind;
+  holds_leaf_cells = plain.holds_leaf_cells;
+}
+  where
+    plain : IsOrderOf space cube (plain_order list)
+    plain = plain-valid space cube list few held
+
+    few-of : (kind : Bool) → length (positions_for kind (equal_order list)) ≤ most_positions
+    few-of true = few
+    few-of false = few
+
+    each-of : (kind : Bool) → All (IsPosition (axes space cube)) (positions_for kind (equal_order list))
+    each-of true = plain.each true
+    each-of false = plain.each false
 
 -- positions for cells of each kind
 leaf-is : (ds : List Outline) (position : PositionByKind) → IsByKind ds position → IsPosition ds (leaf_position position)

@@ -1,12 +1,12 @@
 -- Elements of all dimensions make a cell and a leaf cell that counts in it.
-use Rattle.std.proofs.Common.{◌≡◌, ◌<◌, ◌⊎◌, inl, inr, ℕ, zero, suc, Bool, true, false, not, ◌&&◌, ◌||◌, cond, ℤ, pos, ◌*ℤ◌, List, [], ◌∷◌, length, Some, refl, sym, ap, ◌∙◌, subst, arith, get_or, slice_get, nat_lt}
+use Rattle.std.proofs.Common.{◌≡◌, ◌<◌, ℕ, suc, Bool, true, false, not, ◌&&◌, ◌||◌, cond, ℤ, List, [], ◌∷◌, length, Some, refl, sym, ap, ◌∙◌, arith, get_or, slice_get, nat_lt}
 use Rattle.std.specs.List.{range_with_len, list_any}
-use Rattle.std.proofs.lemmas.Bool.{and_parts, and_from, or_cases, or_left, or_right, ltb-true, lt-ltb, cases_Bool, not_from_false, not-true}
+use Rattle.std.proofs.lemmas.Bool.{and_parts, and_from, or_left, or_right, ltb-true, lt-ltb, not-true}
 use Rattle.std.proofs.lemmas.List.Folds.{Any-from_list_any, list_any_at}
 use Rattle.std.proofs.lemmas.List.FromFn.{length-range_with_len, get_or-range_with_len}
 use Rattle.dim_core.specs.Outline.{Outline, IsDimension, IsElement}
 use Rattle.dim_weights.specs.Coefficients.{coef}
-use Rattle.dim_weights.specs.Table.{is_nonzero, nonzero_among, leaves_of}
+use Rattle.dim_weights.specs.Table.{is_nonzero, nonzero_among}
 use Rattle.dim_weights.proofs.Nonzero.{both-factors, first-factor, second-factor, nonzero-counts}
 use Rattle.cube_space.specs.Layout.{sizes_of}
 use Rattle.cube_space.specs.Cells.{is_leaf, are_leaves}

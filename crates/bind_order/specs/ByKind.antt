@@ -40,7 +40,7 @@ position_by_kind dimensions (words.Ranks name list) =
 position_by_kind dimensions (words.RanksByKind name leaves totals) =
     position_named dimensions (λ place. two_ranks place leaves totals) name
 position_by_kind dimensions words.Totals = Some (Constants 0 1)
-position_by_kind dimensions (words.Auto lag) = None
+position_by_kind dimensions (words.Auto totals lag) = None
 
 -- what a position is for leaf cells, and for consolidated cells
 abbrev pub leaf_position : PositionByKind → Position

@@ -42,11 +42,15 @@ position_of space cube version (words.Ranks name list) =
     list_position (axes space cube) version list (axis_called (axes space cube) name)
 position_of space cube version (words.RanksByKind name leaves totals) = None
 position_of space cube version words.Totals = None
-position_of space cube version (words.Auto lag) = None
+position_of space cube version (words.Auto totals lag) = None
 
 -- the order of these positions, for cells of both kinds
 abbrev pub plain_order : List Position → Order
 plain_order list = record { positions = list; totals = None }
+
+-- the order of these positions, of which leaf cells and consolidated cells have a list each
+abbrev pub equal_order : List Position → Order
+equal_order list = record { positions = list; totals = Some list }
 
 -- the order that words mean which tell no kinds of cells apart; None where one is bad
 abbrev pub order_by : Layout → ℕ → ℕ → List OrderWord → Option Order

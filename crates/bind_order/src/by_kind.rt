@@ -1,8 +1,6 @@
 ghost use Rattle.std.specs.Prelude.{◌≡◌, ◌<◌, Some, List, length, option_map, slice_get, IfOk, IfSome};
 ghost use Rattle.dim_core.specs.Outline.{Outline};
-ghost use Rattle.dim_weights.specs.Table.{IsWeightsOf};
 ghost use Rattle.cube_space.specs.Layout.{axes};
-ghost use Rattle.rule_model.specs.Conditions.{AreRanks};
 ghost use Rattle.rule_model.specs.Weights.{AreWeightsOf};
 ghost use Rattle.bind_order.specs.Ranks.{ranks_by_index, filled_ranks};
 ghost use Rattle.bind_order.specs.ByKind.{same_ranks, two_ranks, position_named, position_by_kind};
@@ -193,6 +191,6 @@ pub fn position_by_kind(
             )
         }
         OrderWord::Totals => Ok(Some(PositionByKind::Constants(0, 1))),
-        OrderWord::Auto(_) => Ok(None),
+        OrderWord::Auto { .. } => Ok(None),
     }
 }

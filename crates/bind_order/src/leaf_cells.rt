@@ -1,4 +1,4 @@
-ghost use Rattle.std.specs.Prelude.{◌≡◌, ◌<◌, ◌≤◌, ◌&&◌, ◌||◌, All, false, length};
+ghost use Rattle.std.specs.Prelude.{◌≡◌, ◌<◌, ◌≤◌, ◌&&◌, All, length};
 ghost use Rattle.std.specs.List.{list_all, list_any};
 ghost use Rattle.dim_weights.specs.Table.{IsWeightsOf};
 ghost use Rattle.cube_space.specs.Layout.{axes};
@@ -9,7 +9,7 @@ ghost use Rattle.bind_order.specs.ByKind.{kinds_order};
 ghost use Rattle.bind_order.specs.LeafCells.{holds_leaf_cells};
 ghost use Rattle.bind_order.specs.Inside.Held.{IsByKind};
 ghost use Rattle.bind_order.specs.Inside.Breaks.{agrees_at, exceeds_at, agrees, exceeds, breaks_at, is_of_kind};
-ghost use Rattle.bind_order.specs.Inside.Breaks.{has_leaf, has_pair, have_pairs, is_broken_at};
+ghost use Rattle.bind_order.specs.Inside.Breaks.{has_leaf, has_pair, is_broken_at};
 
 use crate::axes::axis_weights;
 use crate::by_kind::PositionByKind;
@@ -163,41 +163,15 @@ fn has_pair(
     false
 }
 
-fn either(a: bool, b: bool) -> bool
-    ensures { result ≡ (a || b) }
+// Whether leaf cells may be greater at the last position, and the same at those in front of it, by the constants there.
+fn may_break(front: &[PositionByKind], last: &PositionByKind) -> bool
+    ensures { result ≡ (exceeds last.now && list_all agrees front.now) }
 {
-    a || b
-}
-
-// Whether each dimension of a cube has such an element, and one of them a consolidated element.
-fn have_pairs(
-    space: &Space,
-    weights: &[Weights],
-    cube: u32,
-    front: &[PositionByKind],
-    last: &PositionByKind,
-) -> bool
-    requires cube { cube < length space.now.cubes }
-    requires weights { AreWeightsOf space.now.dimensions weights.now }
-    ensures { result ≡ have_pairs (breaks_at front.now last.now) 0 false (axes space.now cube) }
-{
-    let mut some = false;
-    for place in 0..axis_count(space, cube) {
-        let dimension = axis(space, cube, place);
-        let own = axis_weights(space, weights, cube, place);
-        let total = has_pair(front, last, place, false, dimension, own);
-        let leaf = has_pair(front, last, place, true, dimension, own);
-        if !either(total, leaf) {
-            return false;
-        }
-        some = either(some, total);
-    }
-    some
+    exceeds(last) && all_agree(front)
 }
 
 // Whether a leaf cell is greater than a consolidated cell in which it counts at the last position, and the same at
-// those in front of it.
-#[tactic(auto, unfolding(crate::specs::Inside::Breaks::is_broken_at))]
+// those in front of it: each dimension has such a pair of elements, and one of them one with a consolidated element.
 fn is_broken_at(
     space: &Space,
     weights: &[Weights],
@@ -209,7 +183,20 @@ fn is_broken_at(
     requires weights { AreWeightsOf space.now.dimensions weights.now }
     ensures { result ≡ is_broken_at (axes space.now cube) front.now last.now }
 {
-    exceeds(last) && all_agree(front) && have_pairs(space, weights, cube, front, last)
+    if !may_break(front, last) {
+        return false;
+    }
+    let mut some = false;
+    for place in 0..axis_count(space, cube) {
+        let dimension = axis(space, cube, place);
+        let own = axis_weights(space, weights, cube, place);
+        if has_pair(front, last, place, false, dimension, own) {
+            some = true;
+        } else if !has_pair(front, last, place, true, dimension, own) {
+            return false;
+        }
+    }
+    some
 }
 
 /// Whether, in the order of these positions, no leaf cell comes behind a consolidated cell in which it counts.

@@ -7,7 +7,7 @@
 
 pub use bind::bind_order;
 pub use fault::BindOrderFault;
-pub use lag::{auto_lag, lag_order};
+pub use lag::{Lag, auto_lag, lag_order};
 
 mod axes;
 mod bind;

@@ -1,5 +1,4 @@
 ghost use Rattle.std.specs.Prelude.{◌≡◌, ◌<◌, ℕ, List, [], length, IfOk, IfSome, IfNone, false, true};
-ghost use Rattle.dim_name.specs.Name.{place_of};
 ghost use Rattle.cube_space.specs.Cells.{is_leaf};
 ghost use Rattle.bind_order.specs.Ranks.{may_list, entry_element, are_listed, listed_ranks, index_rank, index_ranks};
 ghost use Rattle.bind_order.specs.Ranks.{are_writable, is_list_of};

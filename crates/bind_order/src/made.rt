@@ -3,7 +3,7 @@ ghost use Rattle.cube_space.specs.Layout.{Layout, axes};
 ghost use Rattle.rule_model.specs.Conditions.{IsOrderOf};
 ghost use Rattle.rule_model.specs.Order.{most_positions};
 ghost use Rattle.bind_order.specs.ByKind.{kinds_order};
-ghost use Rattle.bind_order.specs.Orders.{plain_order};
+ghost use Rattle.bind_order.specs.Orders.{plain_order, equal_order};
 ghost use Rattle.bind_order.specs.Inside.Held.{IsHeldPosition};
 
 use crate::by_kind::PositionByKind;
@@ -20,6 +20,19 @@ pub fn plain_order(positions: Vec<Position>) -> Order
     Order {
         positions: ListOf::new(positions),
         totals: None,
+    }
+}
+
+/// The order of these positions, of which leaf cells and consolidated cells have a list each.
+pub fn equal_order(positions: Vec<Position>, totals: Vec<Position>) -> Order
+    requires { totals.items ≡ positions.items }
+    ensures order { result ≡ equal_order positions.items }
+    ensures valid { (space : Layout) (cube : ℕ) → length positions.items ≤ most_positions
+        → All (IsHeldPosition (axes space cube)) positions.items → IsOrderOf space cube result }
+{
+    Order {
+        positions: ListOf::new(positions),
+        totals: Some(ListOf::new(totals)),
     }
 }
 

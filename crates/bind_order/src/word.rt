@@ -123,6 +123,6 @@ pub fn position_of(
         OrderWord::Ranks(name, list) => {
             list_position(alloc, space, weights, cube, version, name, list.as_slice())
         }
-        OrderWord::RanksByKind(_, _, _) | OrderWord::Totals | OrderWord::Auto(_) => Ok(None),
+        OrderWord::RanksByKind(_, _, _) | OrderWord::Totals | OrderWord::Auto { .. } => Ok(None),
     }
 }

@@ -8,6 +8,7 @@ use crate::fault::OrderFault;
 use crate::walk::{Seen, earliest, walk_part};
 use ref_order::{AreaCells, Known};
 use rule_model::{Form, Model, Statement};
+use std::alloc::Global;
 
 /// The first reference of a statement that doesn't stand before its cells, counted from 1.
 fn late_in_statement<'a>(
@@ -46,13 +47,13 @@ fn late_in_statement<'a>(
 
 /// The first reference of a cube's statements that doesn't stand before its cells.
 #[tactic(auto, unfolding(crate::specs::References::late_of))]
-fn late_in_cube(model: &Model, cube: u32) -> Option<OrderFault>
+fn late_in_cube(alloc: Global, model: &Model, cube: u32) -> Option<OrderFault>
     requires cube { cube < length model.now.space.cubes }
     requires rules { AreRules model.now.space model.now.rules }
     ensures { result ≡ slice_get (late_of model.now cube) 0 }
 {
     let statements = model.rules(cube).statements.as_slice();
-    let mut known = Known::none();
+    let mut known = Known::none(alloc);
     'each: for n in 0..statements.len() {
         if let Some(reference) = late_in_statement(model, cube, &statements[n], &mut known) {
             let statement = n as u32 + 1;
@@ -68,13 +69,13 @@ fn late_in_cube(model: &Model, cube: u32) -> Option<OrderFault>
 
 /// The first reference of a model that doesn't stand before its cells.
 #[tactic(auto, unfolding(crate::specs::References::late_references))]
-pub fn first_late(model: &Model) -> Option<OrderFault>
+pub fn first_late(alloc: Global, model: &Model) -> Option<OrderFault>
     ensures value { result ≡ slice_get (late_references model.now) 0 }
     ensures valid { IsSpace model.now.space }
     ensures rules { AreRules model.now.space model.now.rules }
 {
     'each: for cube in 0..model.space().cubes() {
-        if let Some(fault) = late_in_cube(model, cube) {
+        if let Some(fault) = late_in_cube(alloc, model, cube) {
             return Some(fault);
         }
     }

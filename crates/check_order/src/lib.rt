@@ -2,7 +2,7 @@
 //! the positions of that order aren't too many together.
 //!
 //! [`check_order`] decides it, and names the first fault as an [`OrderFault`]. `specs/Verdict.antt` says which that
-//! is. Nothing here takes memory.
+//! is. What is remembered of the maps of references takes memory, and no answer rests on it.
 #![tactic(auto)]
 
 pub use check::check_order;

@@ -1,6 +1,7 @@
 -- What the code keeps.
-use Rattle.std.specs.Prelude.{◌≡◌, ℕ, Bool, ◌+◌, ◌<◌, ◌≤◌, ◌^◌, ⊤, List, [], map, length, slice_index_or}
+use Rattle.std.specs.Prelude.{◌≡◌, ℕ, Bool, ◌+◌, ◌<◌, ◌≤◌, ◌^◌, ⊤, List, [], map, length, slice_index_or, Vec}
 use Rattle.std.specs.List.{filter_map, range_with_len}
+use Rattle.std.specs.declared.alloc.Global.{Global}
 use Rattle.cube_space.specs.Layout.{Layout, axes, sizes}
 use Rattle.rule_laws.specs.declared.reference.Arg.{Arg}
 use Rattle.rule_laws.specs.declared.reference.Arg.TheVariants.{Fixed, Moved}
@@ -105,22 +106,35 @@ pub record AreGathered (picked : List Picked) (gathered : Gathered) : Type 0 whe
   pub feeders : gathered.feeders.items ≡ each_once (filter_map feeder_of picked)
   pub unturned : gathered.unturned.items ≡ filter_map unturned_of picked
 
--- what is chosen by a statement of a cube
-abbrev pub as_picked : ℕ → ℕ → Chosen → Picked
-as_picked cube statement chosen = record { cube = cube; statement = statement; chosen = chosen }
+-- ---- a model with what is found
+
+-- the feeders of each of these groups
+abbrev pub lists_in : List (Vec Feeder Global) → List (List Feeder)
+lists_in groups = map (λ group. group.items) groups
 
 -- for each of so many cubes those of these feeders that are its own
-abbrev pub AreGrouped : ℕ → List FoundFeeder → List (Vec Feeder) → Type 0
-AreGrouped cubes found groups =
-    map (λ group. group.items) groups ≡ map (λ cube. feeders_in cube found) (range_with_len 0 cubes)
+abbrev pub groups_of : ℕ → List FoundFeeder → List (List Feeder)
+groups_of cubes found = map (λ cube. feeders_in cube found) (range_with_len 0 cubes)
 
 -- no cube has more feeders than there may be
 abbrev pub HaveFewFeeders : List CubeRules → Type 0
 HaveFewFeeders rules =
     (cube : ℕ) → cube < length rules → length (slice_index_or rules cube no_rules).feeders < 2 ^ 32
 
--- the rules of each cube with these feeders behind its own
+-- one cube has its own of these feeders behind those that it had, and the others have what they had
+pub record IsOwnAdded (cube : ℕ) (groups : List (List Feeder)) (old new : List CubeRules) : Type 0 where
+  pub long : length new ≡ length old
+  pub own : slice_index_or new cube no_rules
+      ≡ with_feeders (slice_index_or old cube no_rules) (slice_index_or groups cube [])
+  pub few : length (slice_index_or new cube no_rules).feeders < 2 ^ 32
+  pub others : (k : ℕ) → (k ≡ cube → ⊥) → slice_index_or new k no_rules ≡ slice_index_or old k no_rules
+
+-- each cube has
 pub record AreWithGroups (rules : List CubeRules) (groups : List (List Feeder)) (all : List CubeRules) : Type 0 where
   pub long : length all ≡ length rules
-  pub each : (cube : ℕ) → cube < length rules
-      → slice_index_or all cube no_rules ≡ with_feeders (slice_index_or rules cube no_rules) (slice_index_or groups cube [])
+  pub each : (cube : ℕ) → cube < length rules → slice_index_or all cube no_rules
+      ≡ with_feeders (slice_index_or rules cube no_rules) (slice_index_or groups cube [])
+
+-- what is chosen by a statement of a cube
+abbrev pub as_picked : ℕ → ℕ → Chosen → Picked
+as_picked cube statement chosen = record { cube = cube; statement = statement; chosen = chosen }

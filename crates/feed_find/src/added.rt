@@ -1,6 +1,7 @@
-ghost use Rattle.std.specs.Prelude.{◌≡◌, ◌+◌, ◌^◌, ◌≤◌, ◌<◌, ◌++◌, ◌∷◌, [], map, length, All, IfOk, OnOk};
+ghost use Rattle.std.specs.Prelude.{◌≡◌, ◌+◌, ◌^◌, ◌≤◌, ◌<◌, ◌++◌, ◌∷◌, [], length, set, slice_index_or, All, IfOk, OnOk};
+ghost use Rattle.rule_model.specs.BoundModel.{no_rules};
 ghost use Rattle.feed_find.specs.Added.{IsFound, numbered, with_feeders, with_found};
-ghost use Rattle.feed_find.specs.Views.{AreGrouped, AreWithGroups, HaveFewFeeders};
+ghost use Rattle.feed_find.specs.Views.{groups_of, AreWithGroups, HaveFewFeeders, IsOwnAdded, lists_in};
 
 use crate::chosen::FoundFeeder;
 use lists::ListOf;
@@ -19,7 +20,7 @@ fn grouped(
     found: ListOf<FoundFeeder>,
 ) -> Result<Vec<Vec<Feeder>>, AllocError>
     requires { All (λ one. one.cube < cubes) found }
-    ensures { IfOk result (λ groups. AreGrouped cubes found groups.items) }
+    ensures { IfOk result (λ groups. lists_in groups.items ≡ groups_of cubes found) }
 {
     let mut groups = Vec::new(alloc);
     'cubes: for _cube in 0..cubes {
@@ -78,21 +79,36 @@ fn with_feeders(alloc: Global, rules: &mut CubeRules, group: Vec<Feeder>) -> Res
     Ok(())
 }
 
+// Adds the feeders that are its own to the rules of a cube, and takes them from the others.
+fn add_own(
+    alloc: Global,
+    rules: &mut [CubeRules],
+    groups: &mut [Vec<Feeder>],
+    cube: usize,
+) -> Result<(), AllocError>
+    requires rules { cube < length rules.old }
+    requires groups { cube < length groups.old }
+    requires few { length (slice_index_or rules.old cube no_rules).feeders < 2 ^ 32 }
+    ensures rules { OnOk result (IsOwnAdded cube (lists_in groups.old) rules.old rules.new) }
+    ensures groups { OnOk result (lists_in groups.new ≡ set (lists_in groups.old) cube []) }
+{
+    let group = mem::replace(&mut groups[cube], Vec::new(alloc));
+    with_feeders(alloc, &mut rules[cube], group)
+}
+
 // The rules of each cube with the feeders that are its own.
 fn with_groups(
     alloc: Global,
     mut rules: Vec<CubeRules>,
-    groups: Vec<Vec<Feeder>>,
+    mut groups: Vec<Vec<Feeder>>,
 ) -> Result<Vec<CubeRules>, AllocError>
     requires long { length groups.items ≡ length rules.items }
     requires few { HaveFewFeeders rules.items }
-    ensures all { IfOk result (λ all. AreWithGroups rules.items (map (λ group. group.items) groups.items) all.items) }
+    ensures all { IfOk result (λ all. AreWithGroups rules.items (lists_in groups.items) all.items) }
     ensures few { IfOk result (λ all. HaveFewFeeders all.items) }
 {
-    let mut cube = 0;
-    for group in groups {
-        with_feeders(alloc, &mut rules[cube], group)?;
-        cube += 1;
+    'each: for cube in 0..rules.len() {
+        add_own(alloc, &mut rules, &mut groups, cube)?;
     }
     Ok(rules)
 }

@@ -13,3 +13,4 @@ pub mod Valid
 pub mod Overs
 pub mod Moves
 pub mod Law
+pub mod KeptWhole

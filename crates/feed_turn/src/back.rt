@@ -11,8 +11,8 @@ use cube_space::{axis, axis_count};
 use rule_laws::{Arg, ElementMap};
 use std::alloc::{AllocError, Global};
 
-// Whether the dimension at a place of the statement's cube is the one at a place of the reference's cube.
-fn is_shared(view: TurnView, dim: u32, place: u32) -> bool
+/// Whether the dimension at a place of the statement's cube is the one at a place of the reference's cube.
+pub fn is_shared(view: TurnView, dim: u32, place: u32) -> bool
     requires { IsTurn view }
     ensures { result ≡ is_shared (turn_of view.entry) dim place }
 {

@@ -1,15 +1,33 @@
-ghost use Rattle.std.specs.Prelude.{◌≡◌, Some, slice_get, IfOk};
+ghost use Rattle.std.specs.Prelude.{◌≡◌, None, Some, slice_get, IfOk, IsTrue};
+ghost use Rattle.rule_laws.specs.declared.reference.Arg.TheVariants.{Moved};
 ghost use Rattle.feed_turn.specs.Turning.{source_set, source_area};
-ghost use Rattle.feed_turn.specs.Views.{turn_of, IsTurn};
+ghost use Rattle.feed_turn.specs.Views.{turn_of, IsTurn, IsMoved};
 
 use crate::area::area_leaves;
+use crate::back::is_shared;
 use crate::named::named_set;
 use crate::turn_view::TurnView;
 use cube_space::{axis, axis_count};
 use lists::ListOf;
-use rule_laws::Arg;
+use rule_laws::{Arg, ElementMap};
 use rule_model::Area;
 use std::alloc::{AllocError, Global};
+
+// Whether it is known at once that from all elements of a dimension an argument names the same ones.
+fn keeps_all(view: TurnView, dim: u32, place: u32, to: &ElementMap) -> bool
+    requires view { IsTurn view }
+    requires moved { IsMoved view dim place to.now }
+    ensures { IsTrue result → source_set (turn_of view.entry) place (Moved dim to.now) ≡ None }
+{
+    let _space = view.model.space();
+    if !to.is_identity() {
+        return false;
+    }
+    if !is_shared(view, dim, place) {
+        return false;
+    }
+    view.area.sets.as_slice()[dim as usize].is_none()
+}
 
 // The set of a feeder's area in the dimension which the argument at this place names elements of: what it names from
 // the leaves of the area.
@@ -29,6 +47,9 @@ fn source_set(
             Ok(Some(ListOf::new(listed)))
         }
         Arg::Moved { from, to } => {
+            if keeps_all(view, *from, place, to) {
+                return Ok(None);
+            }
             let leaves = area_leaves(alloc, view.model, view.cube, view.area, *from)?;
             let dimension = axis(view.model.space(), view.reference.cube, place);
             named_set(alloc, dimension, to, &leaves)

@@ -26,7 +26,7 @@ pub fn check_ordered(alloc: Global, files: &RuleFiles<'_>, model: &Model) -> Res
     ensures ordered { OnOk result (IsOrderedByPlace (system_of model.now) (positions_of model.now)) }
     ensures low { OnOk result (product (position_sizes model.now) ≤ most_height) }
 {
-    match check_order(model) {
+    match check_order(alloc, model) {
         Ok(()) => Ok(()),
         Err(fault) => Err(order_fault(alloc, files, fault)),
     }

@@ -22,7 +22,7 @@ pub fn compared(
     told: &mut Vec<u8>,
 ) -> Result<(), AllocError> {
     let cells = snapshot.model().space().size();
-    if check_order(snapshot.model()).is_err() || !has_small_cubes(snapshot.model()) {
+    if check_order(alloc, snapshot.model()).is_err() || !has_small_cubes(snapshot.model()) {
         return Ok(told.extend_from_slice(b"too large to be evaluated plainly")?);
     }
     let line = match first_difference(alloc, snapshot)? {

@@ -1,5 +1,5 @@
 -- What dimensions other than two give together.
-use Rattle.std.proofs.Common.{◌≡◌, refl, sym, ap, ◌∙◌, arith, subst, ℕ, suc, ◌<◌, ◌≤◌, inl, inr, ◌⊎◌, Bool, true, false, ◌&&◌, ◌||◌, if◌then◌else◌}
+use Rattle.std.proofs.Common.{◌≡◌, refl, sym, ap, ◌∙◌, arith, subst, ℕ, suc, ◌+◌, ◌<◌, inl, inr, ◌⊎◌, Bool, true, false, ◌&&◌, ◌||◌}
 use Rattle.std.specs.Prelude.{IsTrue, ◌↔◌}
 use Rattle.std.proofs.lemmas.Bool.{and_parts, and_from, or_left, or_right, or_cases, cases_lt}
 use Rattle.arrow_laws.specs.ByDimension.{Asked, Choice, IsElsewhere, HasElsewhere}
@@ -9,10 +9,10 @@ use Rattle.read_sources.specs.Sources.{IsWithin, IsGiven}
 use Rattle.read_sources.specs.Giving.{HasOne, IsGivenIn, below, merged}
 
 -- nothing is asked, or one of both
-abbrev only_own : Asked
+abbrev pub only_own : Asked
 only_own = record { own = true; its = false }
 
-abbrev only_its : Asked
+abbrev pub only_its : Asked
 only_its = record { own = false; its = true }
 
 abbrev both_asked : Asked
@@ -134,16 +134,16 @@ module _ (c : Choice) (i k n : ℕ) where
     ]
 
     own-is : (want : Asked) → IsTrue want.own → want.its ≡ false → IsWithin want asked → IsTrue (old.own || here.own) ↔ up want
-    own-is want own no within = (
+    own-is want own off within = (
       λ h. elim (or_cases old.own here.own h) [
         | inl before ↦ own-up ((so only_own (own-of want asked own within)).0 before)
-        | inr one ↦ let has = (now only_own (own-of want asked own within) refl).0 one in own-there (below c (suc n)) i k want n has.element no (at-n has.element has.passes) (has.own refl)
+        | inr one ↦ let has = (now only_own (own-of want asked own within) refl).0 one in own-there (below c (suc n)) i k want n has.element off (at-n has.element has.passes) (has.own refl)
       ],
       λ has. by has (where-is c.own has.d has.element (has.own own)),
     )
       where
         own-up : HasElsewhere (below c n) i k only_own → up want
-        own-up has = let (there, total) = has.own refl in own-there (below c (suc n)) i k want has.d has.element no (raised has.d has.element there) total
+        own-up has = let (there, total) = has.own refl in own-there (below c (suc n)) i k want has.d has.element off (raised has.d has.element there) total
 
         by : (has : up want) → IsBefore c.own has.d has.element ⊎ IsHere c.own has.d has.element → old.own || here.own ≡ true
         by has (inl (low, there, total)) = or_left old.own here.own ((so only_own (own-of want asked own within)).1 (own-there (below c n) i k only_own has.d has.element refl there total))
@@ -151,16 +151,16 @@ module _ (c : Choice) (i k n : ℕ) where
             or_right old.own here.own ((now only_own (own-of want asked own within) refl).1 (record { element = has.element; passes = passes; own = λ _. total; its = λ h. absurd (cc) }))
 
     its-is : (want : Asked) → want.own ≡ false → IsTrue want.its → IsWithin want asked → IsTrue (old.its || here.its) ↔ up want
-    its-is want no its within = (
+    its-is want off its within = (
       λ h. elim (or_cases old.its here.its h) [
         | inl before ↦ its-up ((so only_its (its-of want asked its within)).0 before)
-        | inr one ↦ let has = (now only_its (its-of want asked its within) refl).0 one in its-there (below c (suc n)) i k want n has.element no (at-n has.element has.passes) (has.its refl)
+        | inr one ↦ let has = (now only_its (its-of want asked its within) refl).0 one in its-there (below c (suc n)) i k want n has.element off (at-n has.element has.passes) (has.its refl)
       ],
       λ has. by has (where-is c.its has.e has.other (has.its its)),
     )
       where
         its-up : HasElsewhere (below c n) i k only_its → up want
-        its-up has = let (there, total) = has.its refl in its-there (below c (suc n)) i k want has.e has.other no (raised has.e has.other there) total
+        its-up has = let (there, total) = has.its refl in its-there (below c (suc n)) i k want has.e has.other off (raised has.e has.other there) total
 
         by : (has : up want) → IsBefore c.its has.e has.other ⊎ IsHere c.its has.e has.other → old.its || here.its ≡ true
         by has (inl (low, there, total)) = or_left old.its here.its ((so only_its (its-of want asked its within)).1 (its-there (below c n) i k only_its has.e has.other refl there total))
@@ -214,11 +214,11 @@ module _ (c : Choice) (i k n : ℕ) where
         from h = elim (or_cases old.both _ h) [
           | inl before ↦ any ((so both_asked both_in).0 before)
           | inr rest ↦ elim (or_cases here.both _ rest) [
-              | inl one ↦
-                  let it = (now both_asked both_in refl).0 one in
-                  at-here want (record { element = it.element; passes = it.passes; own = λ _. it.own refl; its = λ _. it.its refl })
-              | inr two ↦ crossed (or_cases (old.own && here.its) (old.its && here.own) two)
-            ]
+            | inl one ↦
+                let it = (now both_asked both_in refl).0 one in
+                at-here want (record { element = it.element; passes = it.passes; own = λ _. it.own refl; its = λ _. it.its refl })
+            | inr two ↦ crossed (or_cases (old.own && here.its) (old.its && here.own) two)
+          ]
         ]
 
         to : (has : up want) → IsBefore c.own has.d has.element ⊎ IsHere c.own has.d has.element → IsBefore c.its has.e has.other ⊎ IsHere c.its has.e has.other
@@ -241,14 +241,14 @@ module _ (c : Choice) (i k n : ℕ) where
     pub one-more : IsGiven (below c (suc n)) i k asked (merged old here)
     one-more want within = by want.own refl want.its refl
       where
+        met : (a : Bool) → want.own ≡ a → (b : Bool) → want.its ≡ b → meets (merged old here) want ≡ meets (merged old here) (record { own = a; its = b })
+        met a own b its = ap (λ x. meets (merged old here) (record { own = x; its = want.its })) own ∙ ap (λ x. meets (merged old here) (record { own = a; its = x })) its
+
         by : (a : Bool) → want.own ≡ a → (b : Bool) → want.its ≡ b → IsTrue (meets (merged old here) want) ↔ up want
         by true own true its = subst (λ w. IsTrue w ↔ up want) (sym (met true own true its)) (both-is want own its within)
         by true own false its = subst (λ w. IsTrue w ↔ up want) (sym (met true own false its)) (own-is want own its within)
         by false own true its = subst (λ w. IsTrue w ↔ up want) (sym (met false own true its)) (its-is want own its within)
         by false own false its = (λ _. none-asked (below c (suc n)) i k want own its, λ _. met false own false its)
-
-        met : (a : Bool) → want.own ≡ a → (b : Bool) → want.its ≡ b → meets (merged old here) want ≡ meets (merged old here) (record { own = a; its = b })
-        met a own b its = ap (λ x. meets (merged old here) (record { own = x; its = want.its })) own ∙ ap (λ x. meets (merged old here) (record { own = a; its = x })) its
 
 -- no dimension gives anything
 pub none-given : (c : Choice) (i k : ℕ) (asked : Asked) → IsGiven (below c 0) i k asked (record { own = false; its = false; both = false })
@@ -271,3 +271,7 @@ none-given c i k asked want within = by want.own refl want.its refl
     by true own false its = (λ h. absurd (let clash : true ≡ false = sym h ∙ met true own false its in cc), λ has. absurd (no-own has own))
     by false own true its = (λ h. absurd (let clash : true ≡ false = sym h ∙ met false own true its in cc), λ has. absurd (no-its has its))
     by false own false its = (λ _. none-asked (below c 0) i k want own its, λ _. met false own false its)
+
+-- up to the next dimension
+pub next : (c : Choice) (i k n : ℕ) (asked : Asked) (given : Given) → IsGiven (below c (suc n)) i k asked given → IsGiven (below c (n + 1)) i k asked given
+next c i k n asked given so = let same : suc n ≡ n + 1 = omega arith in subst (λ j. IsGiven (below c j) i k asked given) same so

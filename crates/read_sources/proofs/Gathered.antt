@@ -1,6 +1,6 @@
 -- The sources so far.
 use Rattle.std.proofs.Common.{◌≡◌, refl, sym, ap, ◌∙◌, arith, subst, ℕ, zero, suc, ◌+◌, ◌-◌, ◌<◌, ◌≤◌, inl, inr, Bool, true, false, Option, Some, None, List, [], ◌∷◌, ◌++◌, length, map, get_or, All, Contains}
-use Rattle.std.specs.Prelude.{slice_get, IsTrue, ◌↔◌, IfSome}
+use Rattle.std.specs.Prelude.{slice_get, is_some, if◌then◌else◌, IsTrue, IfSome}
 use Rattle.std.proofs.lemmas.List.{length-map}
 use Rattle.std.proofs.lemmas.List.Elements.{All-contains}
 use Rattle.std.proofs.lemmas.List.Sorted.{IsNonDecreasingBy-push, IsNonDecreasingBy-short}
@@ -16,18 +16,18 @@ use Rattle.rule_model.specs.Conditions.{IsArea, IsPrecedent, IsStatement, IsLeaf
 use Rattle.ref_order.specs.declared.reads.Read.{Read}
 use Rattle.ref_order.specs.Counted.{reads}
 use Rattle.ref_order.specs.Reads.{precedent_of}
-use Rattle.arrow_laws.specs.Nodes.{last_of}
+use Rattle.order_laws.specs.Earlier.{kinds_before}
+use Rattle.arrow_laws.specs.Nodes.{last_of, has_kinds, kind_in}
 use Rattle.arrow_laws.specs.Arrows.{Reads}
-use Rattle.arrow_laws.specs.ByDimension.{is_lagged, is_level, is_weak, HasOtherTotal}
-use Rattle.read_sources.specs.declared.part.Part.{Part}
+use Rattle.arrow_laws.specs.ByDimension.{is_lagged, is_level, is_weak, admits, asks_total, read_cube, HasEach}
+use Rattle.read_sources.specs.declared.seek.Reading.{Reading}
 use Rattle.read_sources.specs.declared.source.Source.{Source}
-use Rattle.read_sources.specs.Ways.{IsSource, precedent, way_of, reads_from}
-use Rattle.read_sources.specs.Sources.{found_in, IsRead, most_sources}
-use Rattle.read_sources.specs.Gathering.{reads_for, counted_before, before_by, IsStatementAt, IsSourceOf, AreGathered, Stay, IsTaken, AreTaken, IsStatementTaken, IsCubeTaken}
+use Rattle.read_sources.specs.Ways.{IsSource, precedent, way_of, cube_read, reads_from, choice, asked}
+use Rattle.read_sources.specs.Sources.{found_in, IsGiven, IsRead, IsReadBy, most_sources}
+use Rattle.read_sources.specs.Gathering.{reads_for, counted_before, before_by, IsStatementAt, IsSourceOf, IsTakenFor, IsTakenWhole, AreGathered, Stay, IsTaken, AreTaken, IsStatementTaken, IsCubeTaken}
 use Rattle.read_sources.proofs.Lists.{has-at, at-of}
 use Rattle.read_sources.proofs.Placed.{get-first, get-second, get-either}
 use Rattle.read_sources.proofs.Counting.{counted-place}
-use Rattle.read_sources.proofs.Serving.{reads-each}
 use Rattle.read_sources.proofs.Weak.{parts-weak}
 
 -- ---- a statement of a model
@@ -113,13 +113,22 @@ module _ (m : BoundModel) (s : Source) (st : Statement) (at : ℕ) (is : IsOfSta
   area-is : IsArea m.space s.cube s.area.now
   area-is = subst (IsArea m.space s.cube) (sym is.area) (statement-is m s.cube s.statement st is.of).area
 
-  pub source-is : IsSource m s
-  source-is = record { cube = is.of.within; area = area-is; reads = precedent-is m s.cube s.statement st is.of s.kind at (precedent s) is.here }
+  pub source-is : s.asks ≡ asks_total s.its (kinds_before m (precedent s)).its → IsSource m s
+  source-is asks = record { cube = is.of.within; area = area-is; reads = precedent-is m s.cube s.statement st is.of s.kind at (precedent s) is.here; asks = asks }
 
-  pub source-read : IsTrue (is_level m s.cube s.area.now s.kind (precedent s)) → is_lagged m s.cube s.area.now s.kind (precedent s) ≡ false
-      → s.weak ≡ is_weak m s.cube s.area.now s.kind (precedent s)
-      → IsTrue s.elsewhere ↔ HasOtherTotal (axes m.space s.cube) (reads_from m s) (last_of m.space s.cube) (found_in (last_of m.space s.cube) (way_of m s)) → IsRead m s
-  source-read level not_lagged weak elsewhere =
+  -- what is said of the cells that it means
+  pub record IsMeant : Type 0 where
+    pub level : IsTrue (is_level m s.cube s.area.now s.kind (precedent s))
+    pub not_lagged : is_lagged m s.cube s.area.now s.kind (precedent s) ≡ false
+    pub weak : s.weak ≡ is_weak m s.cube s.area.now s.kind (precedent s)
+    pub has_kind : is_some s.its ≡ has_kinds m (cube_read s)
+    pub fixed : IsTrue (admits s.its (kinds_before m (precedent s)).its)
+    pub asks : s.asks ≡ asks_total s.its (kinds_before m (precedent s)).its
+    pub each : HasEach (reads_from m s) (length (axes m.space s.cube))
+    pub elsewhere : IsGiven (choice m s) (last_of m.space s.cube) (found_in (last_of m.space s.cube) (way_of m s)) (asked s) s.elsewhere
+
+  pub source-read : IsMeant → IsRead m s
+  source-read meant =
       let (it, there, own) = counted-place st s.kind (counted_before st s.kind + at) at (precedent s) refl is.here in
       record {
         statement = st;
@@ -134,13 +143,16 @@ module _ (m : BoundModel) (s : Source) (st : Statement) (at : ℕ) (is : IsOfSta
         there = there;
         own = own;
         reads = placed-reads m s.cube s.statement st is.of s.kind at (precedent s) is.here;
-        level = level;
-        not_lagged = not_lagged;
-        weak = weak;
-        parts = λ way. weak ∙ ap (λ a. is_weak m s.cube a s.kind (precedent s)) is.area
-            ∙ parts-weak m is.of.valid is.of.ruled s.cube is.of.within st (statement-is m s.cube s.statement st is.of).area s.kind (precedent s) source-is.reads way;
-        each = reads-each m s.cube s.area.now area-is s.kind (precedent s) not_lagged;
-        elsewhere = elsewhere;
+        level = meant.level;
+        not_lagged = meant.not_lagged;
+        weak = meant.weak;
+        parts = λ way. meant.weak ∙ ap (λ a. is_weak m s.cube a s.kind (precedent s)) is.area
+            ∙ parts-weak m is.of.valid is.of.ruled s.cube is.of.within st (statement-is m s.cube s.statement st is.of).area s.kind (precedent s) (source-is meant.asks).reads way;
+        has_kind = meant.has_kind;
+        fixed = meant.fixed;
+        asks = meant.asks;
+        each = meant.each;
+        elsewhere = meant.elsewhere;
       }
 
 -- ---- lists of sources
@@ -187,18 +199,22 @@ module _ (m : BoundModel) (cube : ℕ) where
 -- ---- what is taken stays so
 
 module _ (m : BoundModel) (cube : ℕ) (st : Statement) where
+  pub by-stays : (xs ys : List Source) (kind : Bool) (p : Precedent) (its : Option Bool) → Stay xs ys → IsReadBy xs cube st kind p its → IsReadBy ys cube st kind p its
+  by-stays xs ys kind p its stay by = record {
+    k = by.k;
+    source = by.source;
+    here = stay by.k by.source by.here;
+    own = by.own;
+    area = by.area;
+    same_kind = by.same_kind;
+    same_read = by.same_read;
+    same_its = by.same_its;
+  }
+
   pub taken-stays : (xs ys : List Source) (kind : Bool) (p : Precedent) → Stay xs ys → IsTaken m xs cube st kind p → IsTaken m ys cube st kind p
   taken-stays xs ys kind p stay h = record {
     level = h.level;
-    source = λ no. let by = h.source no in record {
-      k = by.k;
-      source = by.source;
-      here = stay by.k by.source by.here;
-      own = by.own;
-      area = by.area;
-      same_kind = by.same_kind;
-      same_read = by.same_read;
-    };
+    source = λ no from to joined. by-stays xs ys kind p (kind_in m to.cube to.kind) stay (h.source no from to joined);
   }
 
   pub all-stay : (xs ys : List Source) (kind : Bool) → Stay xs ys → AreTaken m xs cube st kind → AreTaken m ys cube st kind
@@ -210,21 +226,45 @@ module _ (m : BoundModel) (cube : ℕ) (st : Statement) where
 pub cube-stays : (m : BoundModel) (cube : ℕ) (xs ys : List Source) → Stay xs ys → IsCubeTaken m xs cube → IsCubeTaken m ys cube
 cube-stays m cube xs ys stay h place st at = statement-stays m cube st xs ys stay (h place st at)
 
--- a source that is added takes what it reads
-pub taken-added : (part : Part) (p : Precedent) (xs ys : List Source) (y : Source) → ys ≡ xs ++ y ∷ [] → IsSourceOf part p y → IsTrue (is_level part.model.now part.cube part.statement.now.area part.kind p)
-    → IsTaken part.model.now ys part.cube part.statement.now part.kind p
-taken-added part p xs ys y is of level = record {
-  level = level;
-  source = λ no. record {
-    k = length xs;
-    source = y;
-    here = ap (λ l. slice_get l (length xs)) is ∙ get-second xs (y ∷ []) (length xs) 0 y (omega arith) refl;
-    own = of.own;
-    area = of.area;
-    same_kind = of.same_kind;
-    same_read = of.same_read;
-  };
+-- a source that is added has what it reads
+pub taken-added : (reading : Reading) (its : Option Bool) (xs ys : List Source) (y : Source) → ys ≡ xs ++ y ∷ [] → IsSourceOf reading.part (precedent_of reading.read) its y → IsTakenFor reading ys its
+taken-added reading its xs ys y is of from to joined same = record {
+  k = length xs;
+  source = y;
+  here = ap (λ l. slice_get l (length xs)) is ∙ get-second xs (y ∷ []) (length xs) 0 y (omega arith) refl;
+  own = of.own;
+  area = of.area;
+  same_kind = of.same_kind;
+  same_read = of.same_read;
+  same_its = of.same_its;
 }
+
+-- where the cells that are read have no kinds, all are meant; else leaf cells, and consolidated cells
+pub taken-plain : (reading : Reading) (xs : List Source) → has_kinds reading.part.model.now (read_cube reading.part.cube (precedent_of reading.read)) ≡ false → IsTakenFor reading xs None
+    → IsTakenWhole reading xs
+taken-plain reading xs none taken from to joined =
+    let m = reading.part.model.now in
+    let same : kind_in m to.cube to.kind ≡ None = ap (λ c. kind_in m c to.kind) joined.target ∙ ap (λ b. if b then Some to.kind else None) none in
+    subst (IsReadBy xs reading.part.cube reading.part.statement.now reading.part.kind (precedent_of reading.read)) (sym same) (taken from to joined same)
+
+pub taken-kinds : (reading : Reading) (xs ys : List Source) → has_kinds reading.part.model.now (read_cube reading.part.cube (precedent_of reading.read)) ≡ true → Stay xs ys
+    → IsTakenFor reading xs (Some true) → IsTakenFor reading ys (Some false) → IsTakenWhole reading ys
+taken-kinds reading xs ys kinds stay leaves totals from to joined = by to.kind refl
+  where
+    m : BoundModel
+    m = reading.part.model.now
+
+    same : kind_in m to.cube to.kind ≡ Some to.kind
+    same = ap (λ c. kind_in m c to.kind) joined.target ∙ ap (λ b. if b then Some to.kind else None) kinds
+
+    Has : Option Bool → Type 0
+    Has = IsReadBy ys reading.part.cube reading.part.statement.now reading.part.kind (precedent_of reading.read)
+
+    by : (t : Bool) → to.kind ≡ t → Has (kind_in m to.cube to.kind)
+    by true is =
+        let at : kind_in m to.cube to.kind ≡ Some true = same ∙ ap Some is in
+        subst Has (sym at) (by-stays m reading.part.cube reading.part.statement.now xs ys reading.part.kind (precedent_of reading.read) (Some true) stay (leaves from to joined at))
+    by false is = let at : kind_in m to.cube to.kind ≡ Some false = same ∙ ap Some is in subst Has (sym at) (totals from to joined at)
 
 -- and what is of a smaller lag alone needs none
 pub taken-lagged : (m : BoundModel) (xs : List Source) (cube : ℕ) (st : Statement) (kind : Bool) (p : Precedent) → IsTrue (is_level m cube st.area kind p) → IsTrue (is_lagged m cube st.area kind p)

@@ -8,7 +8,7 @@ use Rattle.cube_space.specs.Layout.{Layout, axes}
 use Rattle.rule_laws.specs.Meaning.{Precedent, Named, Components}
 use Rattle.rule_model.specs.BoundModel.{BoundModel}
 use Rattle.order_laws.specs.Scales.{parts_in, is_total, is_leaf_element}
-use Rattle.order_laws.specs.Earlier.{Kinds, is_same, moved_leaves, kinds_before}
+use Rattle.order_laws.specs.Earlier.{is_same, moved_leaves, kinds_before}
 use Rattle.order_laws.proofs.EndingFacts.{from-same, to-same}
 use Rattle.ref_order.specs.declared.kinds.ByKinds.{ByKinds}
 use Rattle.arrow_laws.specs.ByDimension.{admits, asks_total, names_from, has_element, serves, names_total, is_from, Asked}
@@ -184,9 +184,6 @@ module _ (m : BoundModel) (s : Source) (asks : s.asks ≡ asks_total s.its (kind
   -- ---- as the numbers have it
 
   module _ (numbers : ByKinds) (are : AreKindsIn m s i numbers) where
-    abbrev Numbered : Bool → Bool → Type 0
-    Numbered own its = Has own its
-
     leaf-leaf : IsTrue (is_some numbers.leaf.leaf) ↔ Has true true
     leaf-leaf = are (record { own = true; its = true })
 
@@ -247,16 +244,16 @@ module _ (m : BoundModel) (s : Source) (asks : s.asks ≡ asks_total s.its (kind
     given = given_by s numbers
 
     own-given : (want : Asked) → IsTrue want.own → want.its ≡ false → IsWithin want (asked s) → IsTrue given.own ↔ HasOne (choice m s) i want
-    own-given want own no within = (
+    own-given want own off within = (
       λ h.
           (let (kind, some) = and_parts (not s.kind) (has_admitted s.its numbers.total) h in
           let (e, from, is) = admitted false numbers.total.leaf numbers.total.total (admitted-total s.kind kind) total-leaf total-total some in
-          record { element = e; passes = from; own = λ _. total-is e is; its = λ on. absurd (let clash : true ≡ false = sym on ∙ no in cc) }),
+          record { element = e; passes = from; own = λ _. total-is e is; its = λ on. absurd (let clash : true ≡ false = sym on ∙ off in cc) }),
       λ one. and_from (not s.kind) _ (within.own own) (admits-it false numbers.total.leaf numbers.total.total total-leaf total-total (one.element, one.passes, is-total one.element (one.own own))),
     )
 
     its-given : (want : Asked) → want.own ≡ false → IsTrue want.its → IsWithin want (asked s) → IsTrue given.its ↔ HasOne (choice m s) i want
-    its-given want no its within = (
+    its-given want off its within = (
       λ h.
           (let (on, some) = and_parts s.asks _ h in
           elim (or_cases (is_some numbers.leaf.total) _ some) [
@@ -272,7 +269,7 @@ module _ (m : BoundModel) (s : Source) (asks : s.asks ≡ asks_total s.its (kind
         made (e, (from, is, names)) = record {
           element = e;
           passes = from;
-          own = λ on. absurd (let clash : true ≡ false = sym on ∙ no in cc);
+          own = λ on. absurd (let clash : true ≡ false = sym on ∙ off in cc);
           its = λ _. may-total m.space s.cube (precedent s) i e names;
         }
 
@@ -298,11 +295,11 @@ module _ (m : BoundModel) (s : Source) (asks : s.asks ≡ asks_total s.its (kind
     pub given-in : IsGivenIn (choice m s) i (asked s) given
     given-in want within some = by want.own refl want.its refl
       where
+        met : (a : Bool) → want.own ≡ a → (b : Bool) → want.its ≡ b → meets given want ≡ meets given (record { own = a; its = b })
+        met a own b its = ap (λ x. meets given (record { own = x; its = want.its })) own ∙ ap (λ x. meets given (record { own = a; its = x })) its
+
         by : (a : Bool) → want.own ≡ a → (b : Bool) → want.its ≡ b → IsTrue (meets given want) ↔ HasOne (choice m s) i want
         by true own true its = subst (λ w. IsTrue w ↔ HasOne (choice m s) i want) (sym (met true own true its)) (both-given want own its within)
         by true own false its = subst (λ w. IsTrue w ↔ HasOne (choice m s) i want) (sym (met true own false its)) (own-given want own its within)
         by false own true its = subst (λ w. IsTrue w ↔ HasOne (choice m s) i want) (sym (met false own true its)) (its-given want own its within)
         by false own false its = absurd (let clash : true ≡ false = sym some ∙ ap (λ b. b || want.its) own ∙ its in cc)
-
-        met : (a : Bool) → want.own ≡ a → (b : Bool) → want.its ≡ b → meets given want ≡ meets given (record { own = a; its = b })
-        met a own b its = ap (λ x. meets given (record { own = x; its = want.its })) own ∙ ap (λ x. meets given (record { own = a; its = x })) its

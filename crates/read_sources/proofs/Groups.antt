@@ -11,14 +11,14 @@ use Rattle.rule_laws.specs.Meaning.{Precedent}
 use Rattle.rule_model.specs.declared.area.Area.{Area}
 use Rattle.rule_model.specs.declared.rules.Statement.{Statement}
 use Rattle.rule_model.specs.BoundModel.{BoundModel}
-use Rattle.arrow_laws.specs.Nodes.{Node}
+use Rattle.arrow_laws.specs.Nodes.{Node, kind_in}
 use Rattle.arrow_laws.specs.ByDimension.{is_weak, IsJoinedByDimension}
 use Rattle.read_sources.specs.declared.source.Source.{Source}
 use Rattle.read_sources.specs.declared.parting.Parted.{Parted}
 use Rattle.read_sources.specs.Ways.{precedent, way_of}
 use Rattle.read_sources.specs.Sources.{IsRead, IsReadBy, AreSourcesOf, most_sources}
 use Rattle.read_sources.specs.Parts.{IsAlike, IsShared, IsMember, IsPlaced, AreParts, IsOfGroup, IsPut, ArePartsOfAll, members_in}
-use Rattle.read_sources.specs.Parts.{IsReadLike, SomeMakesArrowsOf, Joins}
+use Rattle.read_sources.specs.Parts.{IsReadLike, IsReadIn, SomeMakesArrowsOf, Joins}
 use Rattle.read_sources.proofs.Placed.{get-either, get-first, get-second}
 use Rattle.read_sources.proofs.SameArrows.{makes-own}
 
@@ -139,7 +139,7 @@ module _ (m : BoundModel) (s : Source) (old new : Parted) (read : IsRead m s) wh
       of g t has = elim (more-has old.groups.items (s ∷ []) g t (subst (λ gs. Contains (row gs g) t) groups has)) [ inl was ↦ inl was | inr (at, own) ↦ inr (at, one-has s t own) ]
 
       itself : IsAlike m s s
-      itself = record { cube = refl; kind = refl; elsewhere = refl; reads = λ e. refl; serves = λ e. refl; reads_in = λ d e same. refl }
+      itself = record { cube = refl; kind = refl; its = refl; asks = refl; elsewhere = refl; reads = λ e. refl; gives = λ d e. refl; serves = λ e. refl; reads_in = λ d e same. refl }
 
       past : (g : ℕ) (t : Source) → length old.groups.items ≤ g → Contains (members_in old g) t → ⊥
       past g t high has = let (k, low, is) = subst (λ r. Contains r t) (Rattle.std.proofs.lemmas.List.get_or_past old.groups.items g [] high) has in omega (arith, low)
@@ -268,28 +268,32 @@ parted-more m sources k s old new at so put = record {
 }
 
 -- what is read makes the arrows of its source, and the source that was kept for it makes them too
-pub joined-by : (m : BoundModel) (cube : ℕ) (area : Area) (kind : Bool) (read : Precedent) (s : Source) → s.cube ≡ cube → s.area.now ≡ area → s.kind ≡ kind → precedent s ≡ read → (from to : Node)
-    → IsJoinedByDimension m cube area kind read from to → Joins m s from to
-joined-by m cube area kind read s own same_area same_kind same_read from to joined =
-    let by_area = subst (λ a. IsJoinedByDimension m cube a kind read from to) (sym same_area) joined in
-    let by_kind = subst (λ b. IsJoinedByDimension m cube s.area.now b read from to) (sym same_kind) by_area in
-    let by_read = subst (λ x. IsJoinedByDimension m cube s.area.now s.kind x from to) (sym same_read) by_kind in
-    subst (λ c. IsJoinedByDimension m c s.area.now s.kind (precedent s) from to) (sym own) by_read
+module _ (m : BoundModel) (cube : ℕ) (area : Area) (kind : Bool) (read : Precedent) (s : Source) (own : s.cube ≡ cube) (same_area : s.area.now ≡ area) (same_kind : s.kind ≡ kind) (same_read : precedent s ≡ read) where
+  joined-by : (from to : Node) → s.its ≡ kind_in m to.cube to.kind → IsJoinedByDimension m cube area kind read from to → Joins m s from to
+  joined-by from to same_its joined =
+      let by_area = subst (λ a. IsJoinedByDimension m cube a kind read from to) (sym same_area) joined in
+      let by_kind = subst (λ b. IsJoinedByDimension m cube s.area.now b read from to) (sym same_kind) by_area in
+      let by_read = subst (λ x. IsJoinedByDimension m cube s.area.now s.kind x from to) (sym same_read) by_kind in
+      record { meant = sym same_its; joined = subst (λ c. IsJoinedByDimension m c s.area.now s.kind (precedent s) from to) (sym own) by_read }
 
-pub weak-by : (m : BoundModel) (cube : ℕ) (area : Area) (kind : Bool) (read : Precedent) (s : Source) → s.cube ≡ cube → s.area.now ≡ area → s.kind ≡ kind → precedent s ≡ read → IsRead m s → s.weak ≡ is_weak m cube area kind read
-weak-by m cube area kind read s own same_area same_kind same_read is =
-    is.weak ∙ ap (λ c. is_weak m c s.area.now s.kind (precedent s)) own ∙ ap (λ a. is_weak m cube a s.kind (precedent s)) same_area ∙ ap (λ b. is_weak m cube area b (precedent s)) same_kind
-    ∙ ap (is_weak m cube area kind) same_read
+  weak-by : IsRead m s → s.weak ≡ is_weak m cube area kind read
+  weak-by is =
+      is.weak ∙ ap (λ c. is_weak m c s.area.now s.kind (precedent s)) own ∙ ap (λ a. is_weak m cube a s.kind (precedent s)) same_area ∙ ap (λ b. is_weak m cube area b (precedent s)) same_kind
+      ∙ ap (is_weak m cube area kind) same_read
 
-read-like : (m : BoundModel) (singles sources : List Source) (cube : ℕ) (statement : Statement) (kind : Bool) (read : Precedent) (by : IsReadBy sources cube statement kind read) → IsRead m by.source
-    → SomeMakesArrowsOf m singles by.source → IsReadLike m singles cube statement kind read
-read-like m singles sources cube statement kind read by is made = record {
-  k = made.k;
-  source = made.one;
-  here = made.here;
-  weak = made.makes.weak ∙ weak-by m cube statement.area kind read by.source by.own by.area by.same_kind by.same_read is;
-  joins = λ from to joined. made.makes.joins from to (joined-by m cube statement.area kind read by.source by.own by.area by.same_kind by.same_read from to joined);
-}
+module _ (m : BoundModel) (sources : List Source) (cube : ℕ) (statement : Statement) (kind : Bool) (read : Precedent) (from to : Node) (by : IsReadBy sources cube statement kind read (kind_in m to.cube to.kind)) (is : IsRead m by.source)
+    (joined : IsJoinedByDimension m cube statement.area kind read from to) where
+  joins : Joins m by.source from to
+  joins = joined-by m cube statement.area kind read by.source by.own by.area by.same_kind by.same_read from to by.same_its joined
+
+  weak-is : by.source.weak ≡ is_weak m cube statement.area kind read
+  weak-is = weak-by m cube statement.area kind read by.source by.own by.area by.same_kind by.same_read is
+
+  read-like : (singles : List Source) → SomeMakesArrowsOf m singles by.source → IsReadLike m singles cube statement kind read from to
+  read-like singles made = record { k = made.k; source = made.one; here = made.here; weak = made.makes.weak ∙ weak-is; joins = made.makes.joins from to joins }
+
+  read-in : (heads : List Source) (groups : List (List Source)) → IsMember m heads groups by.source → IsReadIn m heads groups cube statement kind read from to
+  read-in heads groups member = record { source = by.source; member = member; weak = weak-is; joins = joins }
 
 pub parts-of-all : (m : BoundModel) (sources : List Source) (k : ℕ) (parted : Parted) → length sources ≤ k → k ≤ most_sources → AreSourcesOf m sources → AreParted m sources k parted → ArePartsOfAll m parted
 parts-of-all m sources k parted long few are so = record {
@@ -303,9 +307,10 @@ parts-of-all m sources k parted long few are so = record {
     few_heads = omega (arith, so.parts.few_heads, few);
     few_members = λ g. omega (arith, so.parts.few_members g, few);
   };
-  all = λ cube statement kind read there stands reads level not_lagged. (let by = are.all cube statement kind read there stands reads level not_lagged in
+  all = λ cube statement kind read there stands reads level not_lagged from to joined. (let by = are.all cube statement kind read there stands reads level not_lagged from to joined in
+      let is = are.read by.k by.source by.here in
       elim (so.each by.k by.source (omega (arith, slice_get_within sources by.k by.source by.here, long)) by.here) [
-        | inl made ↦ inl (read-like m parted.singles.items sources cube statement kind read by (are.read by.k by.source by.here) made)
-        | inr member ↦ inr (record { source = by.source; member = member; own = by.own; area = by.area; same_kind = by.same_kind; same_read = by.same_read })
+        | inl made ↦ inl (read-like m sources cube statement kind read from to by is joined parted.singles.items made)
+        | inr member ↦ inr (read-in m sources cube statement kind read from to by is joined parted.heads.items parted.groups.items member)
       ]);
 }

@@ -1,5 +1,5 @@
 -- Which node a source reads, by how it follows from its node.
-use Rattle.std.proofs.Common.{◌≡◌, refl, sym, ap, ◌∙◌, arith, subst, ℕ, ◌==◌, Bool, true, false, not, ◌&&◌, ◌||◌, Option, Some, length, if◌then◌else◌}
+use Rattle.std.proofs.Common.{◌≡◌, refl, sym, ap, ◌∙◌, arith, subst, ℕ, ◌==◌, Bool, true, false, not, ◌&&◌, ◌||◌, Some, length, if◌then◌else◌}
 use Rattle.std.specs.Prelude.{IsTrue, ◌↔◌, slice_get, slice_index_or}
 use Rattle.std.proofs.lemmas.Bool.{and_parts, eqb-true, eqb-false}
 use Rattle.std.proofs.lemmas.Option.{slice_get-get_or, get_or_from_slice_get}
@@ -11,15 +11,14 @@ use Rattle.rule_laws.specs.declared.reference.Arg.TheVariants.{Fixed, Moved}
 use Rattle.rule_laws.specs.Meaning.{Precedent, Named, Components}
 use Rattle.rule_model.specs.BoundModel.{BoundModel}
 use Rattle.rule_model.specs.Conditions.{IsPrecedent}
-use Rattle.order_laws.specs.Scales.{is_total, is_leaf_element}
 use Rattle.order_laws.specs.Earlier.{kinds_before}
 use Rattle.cover_laws.specs.Looking.{sent}
 use Rattle.ref_order.proofs.Args.{args-long}
-use Rattle.arrow_laws.specs.Nodes.{Node, last_of, kind_in}
-use Rattle.arrow_laws.specs.ByDimension.{Asked, Choice, choice_of, HasEach, HasElsewhere, Suits, left, admits, asks_total, asked_of, names_total, is_from, is_part, IsNamedBy, IsPartFrom, IsNamedFrom, IsJoinedByDimension}
+use Rattle.arrow_laws.specs.Nodes.{Node, last_of}
+use Rattle.arrow_laws.specs.ByDimension.{Asked, choice_of, HasEach, HasElsewhere, Suits, left, admits, asks_total, asked_of, names_total, is_from, IsNamedBy, IsPartFrom, IsNamedFrom}
 use Rattle.arrow_laws.proofs.Made.{last-there}
 use Rattle.read_sources.specs.declared.source.Source.{Source}
-use Rattle.read_sources.specs.Ways.{Follows, Same, Component, Always, Sent, SentOver, follows_by, follows, precedent, way_of, reads_from, is_consolidated, gives_total, choice, asked, meets, suits, serves_any, serves_with, IsNamedAs}
+use Rattle.read_sources.specs.Ways.{Follows, Same, Component, Always, Sent, SentOver, follows_by, follows, precedent, way_of, reads_from, is_consolidated, gives_total, choice, asked, suits, serves_any, serves_with, IsNamedAs}
 use Rattle.read_sources.specs.Sources.{found_in, IsWithin, IsGiven, IsRead}
 use Rattle.read_sources.specs.Parts.{Joins, JoinsAs}
 

@@ -1,9 +1,8 @@
 -- Where some cell that is meant is read, dimensions give what is asked.
-use Rattle.std.proofs.Common.{◌≡◌, refl, sym, ap, ◌∙◌, arith, subst, ℕ, suc, ◌<◌, ◌==◌, Bool, true, false, not, ◌&&◌, ◌||◌, ℤ, Option, Some, None, if◌then◌else◌, List, [], length}
-use Rattle.std.specs.Prelude.{IsTrue, slice_get, slice_index_or}
-use Rattle.std.specs.List.{list_any}
+use Rattle.std.proofs.Common.{◌≡◌, refl, sym, ap, ◌∙◌, arith, subst, ℕ, ◌<◌, ◌==◌, ◌⊎◌, inl, inr, Bool, true, false, not, ◌&&◌, ◌||◌, ℤ, Option, Some, None, if◌then◌else◌, List, [], length}
+use Rattle.std.specs.Prelude.{IsTrue, slice_get}
 use Rattle.std.specs.Option.{option_map_or}
-use Rattle.std.proofs.lemmas.Bool.{and_parts, and_from, eqb-true, eqb-false, eq-eqb, ne_eqb}
+use Rattle.std.proofs.lemmas.Bool.{and_parts, and_from, and_cases, or_parts, not-false, eqb-true, eqb-false, eq-eqb, ne_eqb}
 use Rattle.std.proofs.lemmas.List.Folds.{Any-from_list_any, list_any-from_Any}
 use Rattle.dim_core.specs.Outline.{Outline, components_of}
 use Rattle.dim_weights.specs.Table.{is_nonzero}
@@ -23,10 +22,14 @@ use Rattle.order_laws.proofs.CellFacts.{axes-sizes}
 use Rattle.order_laws.proofs.SetFacts.{follow-all}
 use Rattle.cover_laws.proofs.Pairs.{follows-at}
 use Rattle.arrow_laws.specs.Nodes.{Node, last_of, kind_in}
-use Rattle.arrow_laws.specs.ByDimension.{Asked, Choice, IsElsewhere, HasElsewhere, Suits, left, asked_of, choice_of, admits, serves, names_total, has_element, has_part, is_part, is_from, HasEach, IsNamedBy, IsPartFrom, IsNamedFrom, IsJoinedByDimension}
+use Rattle.arrow_laws.specs.ByDimension.{Asked, Choice, IsElsewhere, HasElsewhere, Suits, left, asked_of, choice_of, admits, serves, has_element, has_part, is_part, is_from, HasEach, IsNamedBy, IsPartFrom, IsNamedFrom, IsJoinedByDimension}
 use Rattle.arrow_laws.proofs.Made.{last-there}
+use Rattle.read_sources.specs.declared.source.Source.{Source}
+use Rattle.read_sources.specs.declared.source.Given.{Given}
+use Rattle.read_sources.specs.Ways.{IsSource, precedent, choice, asked}
+use Rattle.read_sources.specs.Sources.{IsGiven}
 use Rattle.read_sources.specs.Gathering.{IsUnread}
-use Rattle.read_sources.proofs.Beside.{own-there, its-there}
+use Rattle.read_sources.proofs.Beside.{only_own, only_its, own-there, its-there}
 
 -- an element that a cell may have in any dimension
 abbrev pub HasAny : Choice → (ℕ → ℕ → Bool) → Type 0
@@ -184,3 +187,20 @@ module _ (m : BoundModel) (valid : IsSpace m.space) (cube : ℕ) (there : cube <
 
   pub unread-its : (p : Precedent) → IsPrecedent m.space cube p → IsTrue (Wants p).its → (HasAny (Of p) (Of p).its → ⊥) → IsUnread m cube area kind p its
   unread-its p is asked off from to j same = off ((joined-both p from to is j same).1 asked)
+
+-- where dimensions don't give what a source asks
+pub unread-given : (m : BoundModel) → IsSpace m.space → (s : Source) → IsSource m s → (given : Given) → IsGiven (choice m s) (length (axes m.space s.cube)) (length (axes m.space s.cube)) (asked s) given
+    → (s.kind || given.own) && (not s.asks || given.its) ≡ false → IsUnread m s.cube s.area.now s.kind (precedent s) s.its
+unread-given m valid s is given so off = by (and_cases (s.kind || given.own) (not s.asks || given.its) off)
+  where
+    by : (s.kind || given.own ≡ false) ⊎ (not s.asks || given.its ≡ false) → IsUnread m s.cube s.area.now s.kind (precedent s) s.its
+    by (inl none) =
+        let (kind, own) = or_parts s.kind given.own none in
+        let asks : not s.kind ≡ true = ap not kind in
+        unread-own m valid s.cube is.cube s.area.now s.kind s.its (precedent s) is.reads asks
+        (λ any. (let clash : true ≡ false = sym ((so only_own (record { own = λ _. asks; its = λ h. absurd (cc) })).1 (any-own (choice m s) only_own refl any)) ∙ own in cc))
+    by (inr none) =
+        let (not_asks, its) = or_parts (not s.asks) given.its none in
+        let asks : s.asks ≡ true = not-false s.asks not_asks in
+        unread-its m valid s.cube is.cube s.area.now s.kind s.its (precedent s) is.reads (sym is.asks ∙ asks)
+        (λ any. (let clash : true ≡ false = sym ((so only_its (record { own = λ h. absurd (cc); its = λ _. asks })).1 (any-its (choice m s) only_its refl any)) ∙ its in cc))

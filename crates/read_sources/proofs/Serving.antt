@@ -14,9 +14,9 @@ use Rattle.rule_laws.specs.Meaning.{Precedent, Named, Components}
 use Rattle.rule_model.specs.BoundModel.{BoundModel}
 use Rattle.rule_model.specs.Conditions.{IsArea}
 use Rattle.order_laws.specs.Greatest.{plus, larger, greatest, only}
-use Rattle.order_laws.specs.Scales.{scale_of, moved_sum, parts_in, set_count, set_element, greatest_in, is_leaf_element}
+use Rattle.order_laws.specs.Scales.{scale_of, moved_sum, parts_in, set_count, set_element, is_leaf_element}
 use Rattle.order_laws.specs.Earlier.{Kinds, is_same, moved_leaves, component_number, components_number, number_by_kinds, greatest_of_kinds}
-use Rattle.order_laws.proofs.SetFacts.{is_in, place-of, place-in, set-at}
+use Rattle.order_laws.proofs.SetFacts.{place-of, place-in, set-at}
 use Rattle.ref_order.specs.declared.kinds.ByKinds.{ByKinds}
 use Rattle.ref_order.specs.Kinds.{AreByKinds, number_of}
 use Rattle.cover_laws.specs.Looking.{sent}

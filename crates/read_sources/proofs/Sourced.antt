@@ -35,6 +35,7 @@ module _ (m : BoundModel) (valid : IsSpace m.space) (ruled : AreRules m.space m.
         cube = there;
         area = subst (IsArea m.space s.cube) (sym read.area) is.area;
         reads = All-contains (IsPrecedent m.space s.cube) (precedents f) (precedent s) (part-reads m valid ruled s.cube read.statement s.kind f is part) has;
+        asks = read.asks;
       }
 
   pub sources-are : (sources : List Source) → AreSourcesOf m sources → All (IsSource m) sources

@@ -1,14 +1,21 @@
-ghost use Rattle.std.specs.Prelude.{◌≡◌, ◌<◌, ◌↔◌, IsTrue, false, length};
+ghost use Rattle.std.specs.Prelude.{◌≡◌, ◌+◌, ◌<◌, ◌↔◌, IsTrue, false, length};
 ghost use Rattle.cube_space.specs.Layout.{axes};
 ghost use Rattle.arrow_laws.specs.ByDimension.{admits, HasEach};
 ghost use Rattle.ref_order.specs.Known.{IsKnown};
 ghost use Rattle.read_sources.specs.Ways.{IsSource, asked, choice, meets, reads_from, suits};
 ghost use Rattle.read_sources.specs.Sources.{IsGiven};
-ghost use Rattle.read_sources.specs.Giving.{AreKindsIn, has_admitted, given_by, has_one, merged};
+ghost use Rattle.read_sources.specs.Giving.{AreKindsIn, has_admitted, given_by, has_one, merged, below};
 
 use crate::source::{Given, Source};
 use ref_order::{AreaCells, ByKinds, Known, Numbers, Question, axis_count, greatest_known};
 use rule_model::Model;
+
+/// Two dimensions, or places behind all of them.
+#[derive(Clone, Copy)]
+pub struct Beside {
+    pub one: usize,
+    pub other: usize,
+}
 
 /// Nothing.
 pub fn gives_nothing() -> Given
@@ -110,24 +117,48 @@ fn has_one(source: Source, kinds: ByKinds) -> bool
     has_admitted(source.its, kinds.leaf) || (!source.kind && has_admitted(source.its, kinds.total))
 }
 
+// What the dimensions so far give, with one dimension more, unless it is one of these two.
+fn given_with<'a>(
+    model: &'a Model,
+    known: &mut Known<'a>,
+    source: Source<'a>,
+    beside: Beside,
+    dim: usize,
+    given: Given,
+) -> Given
+    requires source { IsSource model.now source }
+    requires known { IsKnown model.now source.cube source.area.now known.old }
+    requires dim { dim < length (axes model.now.space source.cube) }
+    requires given { IsGiven (below (choice model.now source) dim) beside.one beside.other (asked source) given }
+    ensures given { IsGiven (below (choice model.now source.entry) (dim + 1)) beside.one beside.other
+        (asked source.entry) result }
+    ensures known { IsKnown model.now source.entry.cube source.entry.area.now known.new }
+{
+    if dim == beside.one {
+        return given;
+    }
+    if dim == beside.other {
+        return given;
+    }
+    let kinds = kinds_in(model, known, source, dim);
+    merged(given, given_by(source, kinds))
+}
+
 /// What the dimensions other than these two give of what a source asks.
 pub fn given_beside<'a>(
     model: &'a Model,
     known: &mut Known<'a>,
     source: Source<'a>,
-    one: usize,
-    other: usize,
+    beside: Beside,
 ) -> Given
     requires source { IsSource model.now source }
     requires known { IsKnown model.now source.cube source.area.now known.old }
-    ensures given { IsGiven (choice model.now source.entry) one other (asked source.entry) result }
+    ensures given { IsGiven (choice model.now source.entry) beside.one beside.other (asked source.entry) result }
     ensures known { IsKnown model.now source.entry.cube source.entry.area.now known.new }
 {
     let mut given = gives_nothing();
     'each: for dim in 0..axis_count(model, source.cube) {
-        if dim != one && dim != other {
-            given = merged(given, given_by(source, kinds_in(model, known, source, dim)));
-        }
+        given = given_with(model, known, source, beside, dim, given);
     }
     given
 }
@@ -141,7 +172,8 @@ pub fn has_each<'a>(model: &'a Model, known: &mut Known<'a>, source: Source<'a>)
     ensures known { IsKnown model.now source.entry.cube source.entry.area.now known.new }
 {
     'each: for dim in 0..axis_count(model, source.cube) {
-        if !has_one(source, kinds_in(model, known, source, dim)) {
+        let kinds = kinds_in(model, known, source, dim);
+        if !has_one(source, kinds) {
             return false;
         }
     }

@@ -1,18 +1,18 @@
-ghost use Rattle.std.specs.Prelude.{◌≡◌, ◌<◌, false, IsTrue, is_some, length};
+ghost use Rattle.std.specs.Prelude.{◌≡◌, ◌<◌, ◌&&◌, ◌||◌, not, false, IsTrue, is_some, length};
 ghost use Rattle.cube_space.specs.Layout.{axes};
 ghost use Rattle.order_laws.specs.Earlier.{kinds_before};
 ghost use Rattle.ref_order.specs.Known.{IsKnown};
 ghost use Rattle.ref_order.specs.Reads.{precedent_of};
 ghost use Rattle.arrow_laws.specs.Nodes.{last_of, has_kinds};
 ghost use Rattle.arrow_laws.specs.ByDimension.{read_cube, asks_total, admits, HasEach};
-ghost use Rattle.read_sources.specs.Sources.{found_in};
-ghost use Rattle.read_sources.specs.Ways.{IsSource, precedent, reads_from, way_of};
+ghost use Rattle.read_sources.specs.Sources.{found_in, IsGiven};
+ghost use Rattle.read_sources.specs.Ways.{IsSource, precedent, reads_from, way_of, choice, asked};
 ghost use Rattle.read_sources.specs.Gathering.{IsReading, IsSought, IsUnread};
 
 use crate::follows::Way;
-use crate::given::{admits, given_beside, gives_nothing, has_each};
+use crate::given::{Beside, admits, given_beside, gives_nothing, has_each};
 use crate::part::Part;
-use crate::source::Source;
+use crate::source::{Given, Source};
 use crate::tables::last_of;
 use crate::ways::way;
 use ref_order::{Known, Read, axis_count, names_leaves};
@@ -51,6 +51,13 @@ fn asks_total(its: Option<bool>, leaves: bool) -> bool
     }
 }
 
+// Whether this gives a consolidated element where one is asked, and one that names one.
+fn gives_asked(source: Source, given: Given) -> bool
+    ensures { result ≡ ((source.entry.kind || given.own) && (not source.entry.asks || given.its)) }
+{
+    (source.kind || given.own) && (!source.asks || given.its)
+}
+
 // Whether some cell that a source means may be read, as far as single dimensions say.
 fn is_reached<'a>(model: &'a Model, known: &mut Known<'a>, source: Source<'a>) -> bool
     requires source { IsSource model.now source }
@@ -63,6 +70,7 @@ fn is_reached<'a>(model: &'a Model, known: &mut Known<'a>, source: Source<'a>) -
         (length (axes model.now.space source.entry.cube)) }
     ensures known { IsKnown model.now source.entry.cube source.entry.area.now known.new }
 {
+    let _space = model.space();
     if !admits(source.its, names_leaves(model, source.cube, source.read)) {
         return false;
     }
@@ -70,8 +78,27 @@ fn is_reached<'a>(model: &'a Model, known: &mut Known<'a>, source: Source<'a>) -
         return false;
     }
     let count = axis_count(model, source.cube);
-    let given = given_beside(model, known, source, count, count);
-    (source.kind || given.own) && (!source.asks || given.its)
+    let beside = Beside {
+        one: count,
+        other: count,
+    };
+    gives_asked(source, given_beside(model, known, source, beside))
+}
+
+// What the dimensions give that are neither the last one nor the one by which the node that is read is found.
+fn given_elsewhere<'a>(model: &'a Model, known: &mut Known<'a>, source: Source<'a>) -> Given
+    requires source { IsSource model.now source }
+    requires known { IsKnown model.now source.cube source.area.now known.old }
+    ensures given { IsGiven (choice model.now source.entry) (last_of model.now.space source.entry.cube)
+        (found_in (last_of model.now.space source.entry.cube) (way_of model.now source.entry)) (asked source.entry)
+        result }
+    ensures known { IsKnown model.now source.entry.cube source.entry.area.now known.new }
+{
+    let beside = Beside {
+        one: last_of(model, source.cube),
+        other: found_in(model, source),
+    };
+    given_beside(model, known, source, beside)
 }
 
 /// The source of the cells that are meant, of those that a reference reads at the same lag; None where none of them is
@@ -107,9 +134,7 @@ pub fn sought<'a>(
     if !is_reached(model, known, source) {
         return None;
     }
-    let last = last_of(model, cube);
-    let found = found_in(model, source);
-    let elsewhere = given_beside(model, known, source, last, found);
+    let elsewhere = given_elsewhere(model, known, source);
     Some(Source {
         elsewhere,
         ..source

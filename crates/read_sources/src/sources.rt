@@ -61,7 +61,10 @@ fn take_kind<'a>(
     ensures memory { IfErr result (λ fault. fault ≡ Memory) }
 {
     match sought(known, reading, its) {
-        Some(source) => add(sources, source),
+        Some(source) => {
+            add(sources, source)?;
+            Ok(())
+        }
         None => Ok(()),
     }
 }
@@ -85,10 +88,12 @@ fn take_level<'a>(
 {
     let part = reading.part;
     if !has_kinds(part.model, read_cube(part.cube, reading.read)) {
-        return take_kind(known, reading, None, sources);
+        take_kind(known, reading, None, sources)?;
+        return Ok(());
     }
     take_kind(known, reading, Some(true), sources)?;
-    take_kind(known, reading, Some(false), sources)
+    take_kind(known, reading, Some(false), sources)?;
+    Ok(())
 }
 
 // Takes one read of a part; false where that may be of a greater lag.
@@ -236,7 +241,7 @@ fn take_cube<'a>(
 {
     let _space = model.space();
     let statements = model.rules(cube).statements.as_slice();
-    let mut known = Known::none();
+    let mut known = Known::none(alloc);
     'each: for n in 0..statements.len() {
         let number = n as u32 + 1;
         take_statement(

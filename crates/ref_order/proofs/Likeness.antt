@@ -1,6 +1,6 @@
 -- References that name the same from the elements of a dimension, and what is remembered of them.
-use Rattle.std.proofs.Common.{◌≡◌, refl, sym, ap, ◌∙◌, arith, subst, ℕ, zero, suc, ◌+◌, ◌<◌, ◌≤◌, ◌⊎◌, inl, inr, Bool, true, false, Option, Some, None, ℤ, pos, List, [], ◌∷◌, length, get_or, map, drop}
-use Rattle.std.proofs.Math.ListN.{replicate}
+use Rattle.std.proofs.Common.{◌≡◌, refl, sym, ap, ◌∙◌, arith, subst, ℕ, zero, suc, ◌+◌, ◌<◌, ◌≤◌, ◌⊎◌, inl, inr, Bool, true, false, Option, Some, None, ℤ, pos, List, [], ◌∷◌, ◌++◌, length, map, drop, All}
+use Rattle.std.proofs.lemmas.List.Elements.{All-push}
 use Rattle.std.specs.Prelude.{slice_get, slice_index_or, ◌==◌, ◌&&◌, if◌then◌else◌, option_map, unwrap_or, neg_ℤ}
 use Rattle.std.specs.Option.{option_map_or}
 use Rattle.dim_core.specs.Outline.{Outline}
@@ -20,7 +20,7 @@ use Rattle.ref_order.specs.declared.question.Answer.{Answer}
 use Rattle.ref_order.specs.declared.kinds.ByKinds.{ByKinds}
 use Rattle.ref_order.specs.Kinds.{AreByKinds}
 use Rattle.ref_order.specs.Reads.{precedent_of}
-use Rattle.ref_order.specs.Known.{followed_by, kinds_asked, answer_of, IsRight, AreRight}
+use Rattle.ref_order.specs.Known.{followed_by, kinds_asked, answer_of}
 use Rattle.ref_order.proofs.Args.{args-long}
 use Rattle.ref_order.proofs.Scaled.{greatest-alike}
 use Rattle.ref_order.proofs.KindFacts.{kinds-same}
@@ -135,24 +135,9 @@ pub asked_alike : (model : BoundModel) (cube : ℕ) (area : Area) (numbers : ByK
 asked_alike model cube area numbers one other place dim own its same are =
     kinds-same numbers (answer_of model cube area one) (answer_of model cube area other) are (λ here. answers-alike model cube area here one other place dim own its same)
 
--- an answer in its slot
-pub kept-at : (kept : List (Option Answer)) (k : ℕ) (other : Option Answer) (answer : Answer) → k < length kept → get_or kept k other ≡ Some answer → slice_get kept k ≡ Some (Some answer)
-kept-at [] k other answer low at = absurd (omega arith)
-kept-at (a ∷ kept) zero other answer low at = ap Some at
-kept-at (a ∷ kept) (suc k) other answer low at = kept-at kept k other answer (omega arith) at
-
--- ---- nothing is remembered at first
-
-pub none-kept : (n k : ℕ) (answer : Answer) → slice_get (replicate {A = Option Answer} n None) k ≡ Some (Some answer) → ⊥
-none-kept zero k answer at = cc
-none-kept (suc n) zero answer at = cc
-none-kept (suc n) (suc k) answer at = none-kept n k answer at
-
--- ---- one answer more is remembered
-
-pub right-more : (model : BoundModel) (cube : ℕ) (area : Area) (old new : List (Option Answer)) (one : Answer) → AreRight model cube area old → IsRight model cube area one
-    → ((k : ℕ) (other : Answer) → slice_get new k ≡ Some (Some other) → (slice_get old k ≡ Some (Some other)) ⊎ (other ≡ one)) → AreRight model cube area new
-right-more model cube area old new one right here told k answer at = elim (told k answer at) [
-  | inl was ↦ right k answer was
-  | inr is ↦ subst (IsRight model cube area) (sym is) here
+-- one answer more is remembered, or none
+pub more-kept : (P : Answer → Type 0) (old new : List Answer) (one : Answer) → (new ≡ old) ⊎ (new ≡ old ++ one ∷ []) → All P old → P one → All P new
+more-kept P old new one grown all here = elim grown [
+  | inl same ↦ subst (All P) (sym same) all
+  | inr more ↦ subst (All P) (sym more) (All-push P old one all here)
 ]

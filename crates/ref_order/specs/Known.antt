@@ -1,6 +1,5 @@
 -- What is remembered from reference to reference of a cube's statements.
-use Rattle.std.specs.Prelude.{◌≡◌, ℕ, ◌==◌, ◌^◌, Bool, if◌then◌else◌, ℤ, pos, ◌-ℤ◌, Option, None, Some, List, []}
-use Rattle.std.specs.Prelude.{slice_get}
+use Rattle.std.specs.Prelude.{ℕ, ◌==◌, ◌^◌, Bool, if◌then◌else◌, ℤ, pos, ◌-ℤ◌, Option, None, Some, List, [], All}
 use Rattle.cube_space.specs.Layout.{Layout, axes}
 use Rattle.rule_laws.specs.declared.reference.Arg.{Arg}
 use Rattle.rule_laws.specs.declared.reference.Arg.TheVariants.{Fixed, Moved}
@@ -51,14 +50,11 @@ pub record IsRight (model : BoundModel) (cube : ℕ) (area : Area) (answer : Ans
   pub size : AreAllWithin answer.numbers (2 ^ 40)
 
 -- and each is that is kept; they are of what formulas of the cube read
-abbrev pub AreRight : BoundModel → ℕ → Area → List (Option Answer) → Type 0
-AreRight model cube area kept =
-    (k : ℕ) (answer : Answer) → slice_get kept k ≡ Some (Some answer) → IsRight model cube area answer
+abbrev pub AreRight : BoundModel → ℕ → Area → List Answer → Type 0
+AreRight model cube area answers = All (IsRight model cube area) answers
 
-abbrev pub AreReads : Layout → ℕ → List (Option Answer) → Type 0
-AreReads space cube kept =
-    (k : ℕ) (answer : Answer) → slice_get kept k ≡ Some (Some answer)
-    → IsPrecedent space cube (precedent_of answer.asked.read)
+abbrev pub AreReads : Layout → ℕ → List Answer → Type 0
+AreReads space cube answers = All (λ answer. IsPrecedent space cube (precedent_of answer.asked.read)) answers
 
 -- all cells of a cube
 abbrev pub whole_area : Area
@@ -66,11 +62,11 @@ whole_area = record { sets = [] }
 
 -- what is remembered of the statements of a cube, whatever their area
 pub record IsKnownOf (model : BoundModel) (cube : ℕ) (known : Known) : Type 0 where
-  pub reads : AreReads model.space cube known.whole
-  pub whole : AreRight model cube whole_area known.whole
+  pub reads : AreReads model.space cube known.whole.answers.items
+  pub whole : AreRight model cube whole_area known.whole.answers.items
 
 -- and of those with this area
 pub record IsKnown (model : BoundModel) (cube : ℕ) (area : Area) (known : Known) : Type 0 where
   pub of_cube : IsKnownOf model cube known
-  pub reads : AreReads model.space cube known.listed
-  pub listed : AreRight model cube area known.listed
+  pub reads : AreReads model.space cube known.listed.answers.items
+  pub listed : AreRight model cube area known.listed.answers.items

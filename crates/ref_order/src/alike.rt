@@ -99,8 +99,8 @@ fn follow_alike(dim: usize, one: &Arg, other: &Arg) -> bool
     }
 }
 
-// The map of an argument that follows a dimension.
-fn map_by(dim: usize, arg: &Arg) -> Option<&ElementMap>
+/// The map of an argument that follows a dimension.
+pub fn map_by(dim: usize, arg: &Arg) -> Option<&ElementMap>
     ensures { MatchOption result (followed_by dim arg.now ≡ None) (λ to. followed_by dim arg.now ≡ Some to.now) }
 {
     match arg {

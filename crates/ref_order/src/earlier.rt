@@ -8,7 +8,8 @@ ghost use Rattle.ref_order.specs.Reads.{precedent_of};
 
 use crate::area_cells::AreaCells;
 use crate::known::Known;
-use crate::most::most_excess;
+use crate::marks::Marks;
+use crate::most::marked_excess;
 use crate::number::{is_below, is_within};
 use crate::reads::Read;
 use crate::scale::MAX_POSITIONS;
@@ -24,7 +25,8 @@ pub fn is_earlier<'a>(cells: AreaCells, known: &mut Known<'a>, kind: bool, read:
         (precedent_of read.entry) }
     ensures known { IsKnown cells.entry.model.now cells.entry.cube cells.entry.area.now known.new }
 {
-    earlier_from(cells, known, kind, read, 0)
+    let marks = Marks::of_read(cells.model, cells.cube, read);
+    earlier_from(cells, known, &marks, kind, read, 0)
 }
 
 // The same by the positions from this one on.
@@ -32,6 +34,7 @@ pub fn is_earlier<'a>(cells: AreaCells, known: &mut Known<'a>, kind: bool, read:
 fn earlier_from<'a>(
     cells: AreaCells,
     known: &mut Known<'a>,
+    marks: &Marks,
     kind: bool,
     read: Read<'a>,
     place: u32,
@@ -46,9 +49,9 @@ fn earlier_from<'a>(
         most_positions) place (most_positions - place) }
     ensures known { IsKnown cells.entry.model.now cells.entry.cube cells.entry.area.now known.new }
 {
-    let most = most_excess(cells, known, kind, read, place);
+    let most = marked_excess(cells, known, marks, kind, read, place);
     if place == MAX_POSITIONS {
         return is_below(most);
     }
-    is_below(most) || (is_within(most) && earlier_from(cells, known, kind, read, place + 1))
+    is_below(most) || (is_within(most) && earlier_from(cells, known, marks, kind, read, place + 1))
 }

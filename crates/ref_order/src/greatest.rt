@@ -14,6 +14,7 @@ use crate::area_cells::AreaCells;
 use crate::excess::numbers_from;
 use crate::kinds::{ByKinds, no_kinds, with_element};
 use crate::known::{Kept, Known, recalled, remember};
+use crate::marks::{key_of, mark_in};
 use crate::question::{Answer, Question};
 use crate::scale::{axis, is_leaf_element};
 use lists::ListOf;
@@ -80,24 +81,25 @@ fn greatest_of(cells: AreaCells, asked: Question) -> ByKinds
 }
 
 // The same by what is remembered: of this area, or of one that has the same elements of the dimension.
-fn answer<'a>(cells: AreaCells, kept: &mut Kept<'a>, asked: Question<'a>) -> ByKinds
+fn answer<'a>(cells: AreaCells, kept: &mut Kept<'a>, mark: u64, asked: Question<'a>) -> ByKinds
     requires cells { IsAreaCells cells }
     requires read { IsPrecedent cells.model.now.space cells.cube (precedent_of asked.read) }
     requires dim { asked.dim < length (axes cells.model.now.space cells.cube) }
-    requires reads { AreReads cells.model.now.space cells.cube kept.old }
+    requires reads { AreReads cells.model.now.space cells.cube kept.old.answers.items }
     ensures numbers { (area : AnyArea) → slice_index_or area.sets asked.entry.dim None
         ≡ slice_index_or cells.entry.area.now.sets asked.entry.dim None
-        → AreRight cells.entry.model.now cells.entry.cube area kept.old
+        → AreRight cells.entry.model.now cells.entry.cube area kept.old.answers.items
         → AreByKinds result (answer_of cells.entry.model.now cells.entry.cube area asked.entry)
         × AreAllWithin result (2 ^ 40)
-        × AreRight cells.entry.model.now cells.entry.cube area kept.new }
-    ensures reads { AreReads cells.entry.model.now.space cells.entry.cube kept.new }
+        × AreRight cells.entry.model.now cells.entry.cube area kept.new.answers.items }
+    ensures reads { AreReads cells.entry.model.now.space cells.entry.cube kept.new.answers.items }
 {
-    if let Some(numbers) = recalled(cells.model, cells.cube, kept, asked) {
+    let key = key_of(mark, asked);
+    if let Some(numbers) = recalled(cells.model, cells.cube, kept, key, asked) {
         return numbers;
     }
     let numbers = greatest_of(cells, asked);
-    remember(kept, Answer { asked, numbers });
+    remember(kept, key, Answer { asked, numbers });
     numbers
 }
 
@@ -112,10 +114,30 @@ pub fn greatest_known<'a>(cells: AreaCells, known: &mut Known<'a>, asked: Questi
     ensures size { AreAllWithin result (2 ^ 40) }
     ensures known { IsKnown cells.entry.model.now cells.entry.cube cells.entry.area.now known.new }
 {
+    let mark = mark_in(cells.model, cells.cube, asked.read, asked.dim);
+    greatest_marked(cells, known, mark, asked)
+}
+
+/// The same, where what is read has this mark there.
+pub fn greatest_marked<'a>(
+    cells: AreaCells,
+    known: &mut Known<'a>,
+    mark: u64,
+    asked: Question<'a>,
+) -> ByKinds
+    requires cells { IsAreaCells cells }
+    requires known { IsKnown cells.model.now cells.cube cells.area.now known.old }
+    requires read { IsPrecedent cells.model.now.space cells.cube (precedent_of asked.read) }
+    requires dim { asked.dim < length (axes cells.model.now.space cells.cube) }
+    ensures numbers { AreByKinds result (answer_of cells.entry.model.now cells.entry.cube cells.entry.area.now
+        asked.entry) }
+    ensures size { AreAllWithin result (2 ^ 40) }
+    ensures known { IsKnown cells.entry.model.now cells.entry.cube cells.entry.area.now known.new }
+{
     let dim = asked.dim;
     let set = &cells.area.sets.as_slice()[dim];
     match set {
-        None => answer(cells, &mut known.whole, asked),
-        Some(_) => answer(cells, &mut known.listed, asked),
+        None => answer(cells, &mut known.whole, mark, asked),
+        Some(_) => answer(cells, &mut known.listed, mark, asked),
     }
 }

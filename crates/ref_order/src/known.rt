@@ -1,8 +1,7 @@
-ghost use Rattle.std.specs.Prelude.{◌≡◌, ℕ, ◌+◌, ◌<◌, ◌≤◌, ◌^◌, ◌⊎◌, Some, IfSome, slice_get};
+ghost use Rattle.std.specs.Prelude.{◌≡◌, ℕ, ◌<◌, ◌^◌, ◌⊎◌, ◌++◌, ◌∷◌, [], IfSome, OnOk, OnErr};
 ghost use Rattle.rule_model.specs.declared.area.Area.{Area as AnyArea};
 ghost use Rattle.rule_model.specs.BoundModel.{BoundModel};
 ghost use Rattle.rule_model.specs.Conditions.{IsPrecedent};
-ghost use Rattle.ref_order.specs.declared.question.Answer.{Answer as AnyAnswer};
 ghost use Rattle.ref_order.specs.Kinds.{AreByKinds, AreAllWithin};
 ghost use Rattle.ref_order.specs.Reads.{precedent_of};
 ghost use Rattle.ref_order.specs.Known.{AreReads, AreRight, IsKnown, IsKnownOf, answer_of};
@@ -11,17 +10,19 @@ use crate::alike::ask_alike;
 use crate::kinds::ByKinds;
 use crate::question::{Answer, Question};
 use rule_model::Model;
+use std::alloc::{AllocError, Global};
+use std::collections::BTreeMap;
 
-// How many positions and dimensions there are of a cube, and how many answers are kept of each, since references
-// differ, and so may the orders of leaf cells and of consolidated cells.
-const QUESTIONS: usize = 144;
+// How many answers are kept at most. A question beyond them is answered each time that it is asked.
+const MAX_ANSWERS: usize = 1_048_576;
 
-const WAYS: usize = 12;
-
-const SLOTS: usize = 1_728;
-
-/// What was answered before.
-pub type Kept<'a> = [Option<Answer<'a>>; SLOTS];
+/// What was answered before. Where memory is short, less of it is kept.
+#[derive(Drop)]
+pub struct Kept<'a> {
+    pub(crate) answers: Vec<Answer<'a>>,
+    /// The place of the answer to each question, by the question's key.
+    pub(crate) places: BTreeMap<u64, usize>,
+}
 
 /// The answers that are remembered from reference to reference of a cube's statements.
 #[derive(Drop)]
@@ -34,12 +35,12 @@ pub struct Known<'a> {
 
 impl<'a> Known<'a> {
     /// Nothing, which serves for each cube.
-    pub fn none() -> Known<'a>
+    pub fn none(alloc: Global) -> Known<'a>
         ensures { (model : BoundModel) (cube : ℕ) → IsKnownOf model cube result }
     {
         Known {
-            whole: [None; SLOTS],
-            listed: [None; SLOTS],
+            whole: Kept::none(alloc),
+            listed: Kept::none(alloc),
         }
     }
 
@@ -48,59 +49,67 @@ impl<'a> Known<'a> {
         ensures { (model : BoundModel) (cube : ℕ) (area : AnyArea) → IsKnownOf model cube self.old
             → IsKnown model cube area self.new }
     {
-        self.listed = [None; SLOTS];
+        self.listed.clear();
     }
 }
 
-// Where the answers to a question begin.
-fn first_slot(asked: Question) -> usize
-    ensures { result + WAYS ≤ SLOTS }
-{
-    let number = asked.place as usize * 16 + asked.dim % 16;
-    number % QUESTIONS * WAYS
+impl<'a> Kept<'a> {
+    fn none(alloc: Global) -> Kept<'a>
+        ensures { result.answers.items ≡ [] }
+    {
+        Kept {
+            answers: Vec::new(alloc),
+            places: BTreeMap::new(alloc),
+        }
+    }
+
+    fn clear(&mut self)
+        ensures { self.new.answers.items ≡ [] }
+    {
+        self.answers.clear();
+        self.places.clear();
+    }
+
+    // Keeps an answer as the last.
+    fn keep(&mut self, key: u64, answer: Answer<'a>) -> Result<(), AllocError>
+        ensures kept { OnOk result (self.new.answers.items ≡ self.old.answers.items ++ answer.entry ∷ []) }
+        ensures err { OnErr result (self.new.answers.items ≡ self.old.answers.items) }
+    {
+        self.answers.reserve(1)?;
+        self.places.insert(key, self.answers.len())?;
+        self.answers.push_reserved(answer);
+        Ok(())
+    }
 }
 
-/// What is remembered of a question.
+/// What is remembered of a question with this key.
 pub fn recalled<'a>(
     model: &Model,
     cube: u32,
     kept: &Kept<'a>,
+    key: u64,
     asked: Question<'a>,
 ) -> Option<ByKinds>
     requires asked { IsPrecedent model.now.space cube (precedent_of asked.read) }
-    requires reads { AreReads model.now.space cube kept.now }
-    ensures { IfSome result (λ numbers. (area : AnyArea) → AreRight model.now cube area kept.now
+    requires reads { AreReads model.now.space cube kept.now.answers.items }
+    ensures { IfSome result (λ numbers. (area : AnyArea) → AreRight model.now cube area kept.now.answers.items
         → AreByKinds numbers (answer_of model.now cube area asked.entry) × AreAllWithin numbers (2 ^ 40)) }
 {
-    let first = first_slot(asked);
-    'ways: for way in 0..WAYS {
-        if let Some(answer) = kept[first + way]
-            && ask_alike(model, cube, answer.asked, asked)
-        {
-            return Some(answer.numbers);
-        }
+    let place = *kept.places.get(&key)?;
+    let answer = kept.answers.get(place)?;
+    if ask_alike(model, cube, answer.asked, asked) {
+        Some(answer.numbers)
+    } else {
+        None
     }
-    None
 }
 
-/// Remembers an answer. Where there are too many of the same question, it takes the place of the first.
-pub fn remember<'a>(kept: &mut Kept<'a>, answer: Answer<'a>)
-    ensures { (k : ℕ) (other : AnyAnswer) → slice_get kept.new k ≡ Some (Some other)
-        → (slice_get kept.old k ≡ Some (Some other)) ⊎ (other ≡ answer.entry) }
+/// Remembers the answer to a question with this key, where there is room and memory for it.
+pub fn remember<'a>(kept: &mut Kept<'a>, key: u64, answer: Answer<'a>)
+    ensures { (kept.new.answers.items ≡ kept.old.answers.items)
+        ⊎ (kept.new.answers.items ≡ kept.old.answers.items ++ answer.entry ∷ []) }
 {
-    let slot = free_slot(kept, answer.asked);
-    kept[slot] = Some(answer);
-}
-
-// The first slot of a question without an answer, else its first.
-fn free_slot<'a>(kept: &Kept<'a>, asked: Question<'a>) -> usize
-    ensures { result < SLOTS }
-{
-    let first = first_slot(asked);
-    'ways: for way in 0..WAYS {
-        if kept[first + way].is_none() {
-            return first + way;
-        }
+    if kept.answers.len() < MAX_ANSWERS {
+        let _is_kept = kept.keep(key, answer).is_ok();
     }
-    first
 }

@@ -11,9 +11,10 @@ ghost use Rattle.ref_order.specs.Reads.{precedent_of};
 
 use crate::area_cells::AreaCells;
 use crate::excess::{names_leaves, start};
-use crate::greatest::greatest_known;
+use crate::greatest::greatest_marked;
 use crate::kinds::{ByKinds, Numbers, number_for, sum_of_none, sums_before};
 use crate::known::Known;
+use crate::marks::Marks;
 use crate::number::{larger, plus};
 use crate::question::Question;
 use crate::reads::Read;
@@ -55,7 +56,12 @@ fn reads_alike(cells: AreaCells, asked: Question) -> bool
 }
 
 // The greatest numbers in a dimension, by the kind of what is read.
-fn both_readings<'a>(cells: AreaCells, known: &mut Known<'a>, asked: Question<'a>) -> Readings
+fn both_readings<'a>(
+    cells: AreaCells,
+    known: &mut Known<'a>,
+    mark: u64,
+    asked: Question<'a>,
+) -> Readings
     requires cells { IsAreaCells cells }
     requires known { IsKnown cells.model.now cells.cube cells.area.now known.old }
     requires read { IsPrecedent cells.model.now.space cells.cube (precedent_of asked.read) }
@@ -79,7 +85,7 @@ fn both_readings<'a>(cells: AreaCells, known: &mut Known<'a>, asked: Question<'a
         own,
         its: true,
     };
-    let leaf = greatest_known(cells, known, of_leaves);
+    let leaf = greatest_marked(cells, known, mark, of_leaves);
     if reads_alike(cells, asked) {
         return Readings { leaf, total: leaf };
     }
@@ -90,7 +96,7 @@ fn both_readings<'a>(cells: AreaCells, known: &mut Known<'a>, asked: Question<'a
         own,
         its: false,
     };
-    let total = greatest_known(cells, known, of_totals);
+    let total = greatest_marked(cells, known, mark, of_totals);
     Readings { leaf, total }
 }
 
@@ -99,6 +105,7 @@ fn both_readings<'a>(cells: AreaCells, known: &mut Known<'a>, asked: Question<'a
 fn endings_from<'a>(
     cells: AreaCells,
     known: &mut Known<'a>,
+    marks: &Marks,
     asked: Question<'a>,
     left: usize,
 ) -> Readings
@@ -126,8 +133,8 @@ fn endings_from<'a>(
         own: asked.own,
         its: asked.its,
     };
-    let rest = endings_from(cells, known, next, left - 1);
-    let here = both_readings(cells, known, asked);
+    let rest = endings_from(cells, known, marks, next, left - 1);
+    let here = both_readings(cells, known, marks.at(asked.dim), asked);
     Readings {
         leaf: sums_before(here.leaf, rest.leaf),
         total: sums_before(here.total, rest.total),
@@ -153,10 +160,30 @@ fn excess_reading(cells: AreaCells, asked: Question, sums: Numbers) -> Option<i6
 
 /// The most that a cell that is read has more than its cell, over the cells of an area of this kind, at a position or
 /// as their level.
-#[tactic(auto, unfolding(order_laws::specs::Earlier::most_excess))]
 pub fn most_excess<'a>(
     cells: AreaCells,
     known: &mut Known<'a>,
+    kind: bool,
+    read: Read<'a>,
+    place: u32,
+) -> Option<i64>
+    requires cells { IsAreaCells cells }
+    requires known { IsKnown cells.model.now cells.cube cells.area.now known.old }
+    requires read { IsPrecedent cells.model.now.space cells.cube (precedent_of read) }
+    ensures most { result ≡ most_excess cells.entry.model.now cells.entry.cube cells.entry.area.now kind
+        (precedent_of read.entry) place }
+    ensures known { IsKnown cells.entry.model.now cells.entry.cube cells.entry.area.now known.new }
+{
+    let marks = Marks::of_read(cells.model, cells.cube, read);
+    marked_excess(cells, known, &marks, kind, read, place)
+}
+
+/// The same, where what is read has these marks.
+#[tactic(auto, unfolding(order_laws::specs::Earlier::most_excess))]
+pub fn marked_excess<'a>(
+    cells: AreaCells,
+    known: &mut Known<'a>,
+    marks: &Marks,
     kind: bool,
     read: Read<'a>,
     place: u32,
@@ -183,7 +210,7 @@ pub fn most_excess<'a>(
         its: false,
     };
     let count = axis_count(cells.model, cells.cube);
-    let sums = endings_from(cells, known, of_leaves, count);
+    let sums = endings_from(cells, known, marks, of_leaves, count);
     larger(
         excess_reading(cells, of_leaves, sums.leaf.leaf),
         excess_reading(cells, of_totals, sums.total.leaf),

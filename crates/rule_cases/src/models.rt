@@ -18,7 +18,7 @@ pub fn model_of(alloc: Global, files: &Files) -> Result<Model, Refusal>
     ensures low { IfOk result (λ model. IsLow model) }
 {
     let model = unordered(alloc, files)?;
-    match check_order(&model) {
+    match check_order(alloc, &model) {
         Ok(()) => Ok(model),
         Err(fault) => Err(Refusal::of(alloc, &fault)),
     }

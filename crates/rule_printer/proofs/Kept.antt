@@ -17,7 +17,7 @@ use Rattle.expression_grammar.specs.declared.sort.Sort.TheVariants as sorts
 use Rattle.grammar.specs.Lists.{listed, perhaps_listed}
 use Rattle.rule_tree.specs.Formula.{ors, ands, sums, products, rules_language, primary, formula, number, quoted, current, reference, stet, continue, bracket, simple, dimension, first_argument, is_if, call}
 use Rattle.rule_tree.specs.RuleText.{elements, entry, area, ended, part, leaf_first, cons_first, body, statement, target, feeder, feeders, rules}
-use Rattle.rule_printer.specs.Inside.Writable.{is_quotable, is_short_word, is_marked, is_writable_dimension, is_writable_simple, is_writable, is_writable_entry, is_writable_body, is_writable_statement, is_writable_target, is_writable_feeder, are_writable}
+use Rattle.rule_printer.specs.Writable.{is_quotable, is_short_word, is_marked, is_writable_dimension, is_writable_simple, is_writable, is_writable_entry, is_writable_body, is_writable_statement, is_writable_target, is_writable_feeder, are_writable}
 use Rattle.rule_tree.specs.declared.tree.Tree.{Tree}
 use Rattle.rule_tree.specs.declared.tree.Tree.TheVariants as trees
 use Rattle.rule_tree.specs.declared.tree.TreeOp.{TreeOp}
@@ -178,10 +178,10 @@ keeps_feeder : Keeps feeder (λ f. is_writable_feeder f ≡ true)
 keeps_feeder = keeps_both keeps_area (λ cells all. keeps_both keeps_any (λ _ _. keeps_both (keeps_listed is_writable_target keeps_target keeps_target)
     (λ fed are. keeps_both keeps_any (λ _ _. keeps_done (and_from (list_all is_writable_entry cells) (list_all is_writable_target fed) all are)))))
 
-keeps_feeders : Keeps feeders (λ list. list_all is_writable_feeder list ≡ true)
-keeps_feeders = keeps_either (keeps_both keeps_any (λ _ _. keeps_both keeps_any (λ _ _. keeps_all is_writable_feeder keeps_feeder))) (keeps_done refl)
+keeps_feeders : Keeps feeders (λ feeding. list_all is_writable_feeder feeding.1 ≡ true)
+keeps_feeders = keeps_either (keeps_both keeps_any (λ _ _. keeps_both keeps_any (λ finds _. keeps_both keeps_any (λ _ _. keeps_both (keeps_all is_writable_feeder keeps_feeder) (λ given all. keeps_done all))))) (keeps_done refl)
 
 -- rules of a text
 pub keeps_rules : Keeps rules (λ text. are_writable text ≡ true)
 keeps_rules = keeps_both keeps_any (λ skips _. keeps_both (keeps_all is_writable_statement keeps_statement) (λ statements all. keeps_both keeps_feeders
-    (λ fed are. keeps_done (and_from (list_all is_writable_statement statements) (list_all is_writable_feeder fed) all are))))
+    (λ feeding are. keeps_done (and_from (list_all is_writable_statement statements) (list_all is_writable_feeder feeding.1) all are))))

@@ -14,8 +14,8 @@ use Rattle.grammar.proofs.Spells.{split_at, none_spelled}
 use Rattle.rule_tree.specs.Counting.{count}
 use Rattle.grammar.specs.Lists.{listed}
 use Rattle.rule_tree.specs.Formula.{formula}
-use Rattle.rule_tree.specs.RuleText.{ended, part, body, statement, target, feeder, skipcheck, feeders, rules}
-use Rattle.rule_printer.specs.Spelled.{next_spelled, listed_spelled, tree_spelled, ended_spelled, part_spelled, body_spelled, statement_spelled, target_spelled, feeder_spelled, skipcheck_spelled, feeders_spelled, rules_spelled}
+use Rattle.rule_tree.specs.RuleText.{ended, part, body, statement, target, feeder, skipcheck, automatic, given_feeders, feeders, rules}
+use Rattle.rule_printer.specs.Spelled.{next_spelled, listed_spelled, tree_spelled, ended_spelled, part_spelled, body_spelled, statement_spelled, target_spelled, feeder_spelled, skipcheck_spelled, automatic_spelled, given_feeders_spelled, feeders_spelled, rules_spelled}
 use Rattle.rule_tree.specs.declared.counted.Counted.{Counted}
 use Rattle.rule_tree.specs.declared.counted.RuleTextPlace.{RuleTextPlace}
 use Rattle.rule_tree.specs.declared.counted.RuleTextPlace.TheVariants as places
@@ -207,6 +207,20 @@ follows_skipcheck u b (inl (v, w, a, parts, named, (x, y, o, further, semicolon,
     (told (further ∙ ap (λ l. x ++ l) nothing ∙ append-nil x) (the_sign (codes ";") places.Between places.Between between_semicolon x o semicolon))))
 follows_skipcheck u b (inr (nothing, is)) = subst (λ b. Follows places.Between places.Between (skipcheck_spelled b) u) (sym is) (told nothing follows_none)
 
+follows_automatic : (u : List Lexeme) (b : Bool) → automatic u b → Follows places.Between places.Between (automatic_spelled b) u
+follows_automatic u b (inl (v, w, a, parts, named, (nothing, is))) =
+    subst (λ b. Follows places.Between places.Between (automatic_spelled b) u) (sym is)
+    (told (parts ∙ ap (λ l. v ++ l) nothing ∙ append-nil v) (the_word (codes "AUTO") places.Between places.Between (λ c. record c { place = places.Between }) (λ c. refl) (between_word (codes "AUTO") refl) v a named))
+follows_automatic u b (inr (nothing, is)) = subst (λ b. Follows places.Between places.Between (automatic_spelled b) u) (sym is) (told nothing follows_none)
+
+follows_given : (feeding : Bool × List FeederText) (u : List Lexeme) → given_feeders u feeding → Follows places.Between places.Between (given_feeders_spelled feeding.0 feeding.1) u
+follows_given feeding u (v, w, a, parts, named, (x, y, finds, further, h, (b, c, o, more, semicolon, (d, e, given, last, g, (nothing, is))))) =
+    subst (λ feeding. Follows places.Between places.Between (given_feeders_spelled feeding.0 feeding.1) u) (sym is)
+    (told parts (follows_both (the_word (codes "FEEDERS") places.Between places.Between (λ c. record c { feeding = true; place = places.Between }) (λ c. refl) feeders_word v a named)
+    (told further (follows_both (follows_automatic x finds h)
+    (told more (follows_both (the_sign (codes ";") places.Between places.Between between_semicolon b o semicolon)
+    (told (last ∙ ap (λ l. d ++ l) nothing ∙ append-nil d) (follows_many places.Between feeder feeder_spelled follows_feeder given d g))))))))
+
 -- the last part of a text: from between statements the tokens lead somewhere, where u does
 pub record Ends (tokens : List Spelling) (u : List Lexeme) : Type 0 where
   pub at : (ts : List Lexeme) → map spelling_of ts ≡ tokens → (c r : Counted) → c.place ≡ places.Between → Goes step c u r → (end : Counted) × Goes step c ts end
@@ -217,12 +231,12 @@ ends_of f = record { at = λ ts same c r is goes. (r, (f.at ts same c r is goes)
 ends_nothing : (u : List Lexeme) → Ends [] u
 ends_nothing u = record { at = λ ts same c r is goes. (c, subst (λ l. Goes step c l c) (sym (none_spelled ts same)) refl) }
 
-ends_feeders : (list : List FeederText) (u : List Lexeme) → feeders u list → Ends (feeders_spelled list) u
-ends_feeders [] u h = ends_nothing u
-ends_feeders (first ∷ rest) u (inl (v, w, a, parts, named, (x, y, o, further, semicolon, h))) =
-    ends_of (told parts (follows_both (the_word (codes "FEEDERS") places.Between places.Between (λ c. record c { feeding = true; place = places.Between }) (λ c. refl) feeders_word v a named)
-    (told further (follows_both (the_sign (codes ";") places.Between places.Between between_semicolon x o semicolon) (follows_many places.Between feeder feeder_spelled follows_feeder (first ∷ rest) y h)))))
-ends_feeders (first ∷ rest) u (inr (nothing, is)) = cc
+ends_feeders : (feeding : Bool × List FeederText) (u : List Lexeme) → feeders u feeding → Ends (feeders_spelled feeding.0 feeding.1) u
+ends_feeders (false, []) u h = ends_nothing u
+ends_feeders (false, first ∷ rest) u (inl h) = ends_of (follows_given (false, first ∷ rest) u h)
+ends_feeders (false, first ∷ rest) u (inr (nothing, is)) = let none : first ∷ rest ≡ [] = ap (λ feeding. feeding.1) is in cc
+ends_feeders (true, given) u (inl h) = ends_of (follows_given (true, given) u h)
+ends_feeders (true, given) u (inr (nothing, is)) = let plain : true ≡ false = ap (λ feeding. feeding.0) is in cc
 
 ends_behind : (xs ys : List Spelling) (u v : List Lexeme) → Follows places.Between places.Between xs u → Ends ys v → Ends (xs ++ ys) (u ++ v)
 ends_behind xs ys u v f g = record {
@@ -237,6 +251,6 @@ ends_behind xs ys u v f g = record {
 pub rules_end : (u : List Lexeme) (text : RuleText) → rules u text → Ends (rules_spelled text) u
 rules_end u text (v, w, skips, parts, h, (x, y, statements, further, g, (a, b, feeding, more, k, (nothing, is)))) =
     let last : y ≡ a = more ∙ ap (λ l. a ++ l) nothing ∙ append-nil a in
-    subst (λ text. Ends (rules_spelled text) u) (sym is) (subst (λ l. Ends (skipcheck_spelled skips ++ (flat_map statement_spelled statements ++ feeders_spelled feeding)) l) (sym (parts ∙ ap (λ l. v ++ l) (further ∙ ap (λ l. x ++ l) last)))
-    (ends_behind (skipcheck_spelled skips) (flat_map statement_spelled statements ++ feeders_spelled feeding) v (x ++ a) (follows_skipcheck v skips h)
-    (ends_behind (flat_map statement_spelled statements) (feeders_spelled feeding) x a (follows_many places.Between statement statement_spelled follows_statement statements x g) (ends_feeders feeding a k))))
+    subst (λ text. Ends (rules_spelled text) u) (sym is) (subst (λ l. Ends (skipcheck_spelled skips ++ (flat_map statement_spelled statements ++ feeders_spelled feeding.0 feeding.1)) l) (sym (parts ∙ ap (λ l. v ++ l) (further ∙ ap (λ l. x ++ l) last)))
+    (ends_behind (skipcheck_spelled skips) (flat_map statement_spelled statements ++ feeders_spelled feeding.0 feeding.1) v (x ++ a) (follows_skipcheck v skips h)
+    (ends_behind (flat_map statement_spelled statements) (feeders_spelled feeding.0 feeding.1) x a (follows_many places.Between statement statement_spelled follows_statement statements x g) (ends_feeders feeding a k))))

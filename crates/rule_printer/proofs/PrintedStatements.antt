@@ -1,11 +1,11 @@
 -- Statements and feeders, written again, are read as the same.
-use Rattle.std.proofs.Common.{List, [], ◌∷◌, Bool, true, false, sym, subst, inl, inr, codes, ℕ, append-nil}
+use Rattle.std.proofs.Common.{◌≡◌, List, [], ◌∷◌, Bool, true, false, ap, sym, subst, inl, inr, codes, ℕ, append-nil}
 use Rattle.cube_lex.specs.Lexeme.{Lexeme}
 use Rattle.expression_grammar.proofs.PrintedTokens.{Spells, spells_both, spells_next, spells_made, spells_left, spells_right, spells_done, picks_sign}
 use Rattle.rule_tree.specs.Counting.{start}
 use Rattle.rule_tree.specs.Formula.{formula}
-use Rattle.rule_tree.specs.RuleText.{ended, part, leaf_first, cons_first, body, statement, target, feeder, skipcheck, feeders, rules}
-use Rattle.rule_printer.specs.Spelled.{tree_spelled, ended_spelled, part_spelled, body_spelled, statement_spelled, target_spelled, feeder_spelled, skipcheck_spelled, feeders_spelled, rules_spelled}
+use Rattle.rule_tree.specs.RuleText.{ended, part, leaf_first, cons_first, body, statement, target, feeder, skipcheck, automatic, given_feeders, feeders, rules}
+use Rattle.rule_printer.specs.Spelled.{tree_spelled, ended_spelled, part_spelled, body_spelled, statement_spelled, target_spelled, feeder_spelled, skipcheck_spelled, automatic_spelled, given_feeders_spelled, feeders_spelled, rules_spelled}
 use Rattle.rule_tree.specs.declared.counted.RuleTextPlace.TheVariants as places
 use Rattle.rule_tree.specs.declared.rule.BodyText.{BodyText}
 use Rattle.rule_tree.specs.declared.rule.BodyText.TheVariants as bodies
@@ -73,14 +73,25 @@ skipcheck_again : (b : Bool) → Spells skipcheck (skipcheck_spelled b) b
 skipcheck_again true = spells_left (spells_word (codes "SKIPCHECK") (λ _. spells_next (picks_sign (codes ";")) (spells_done true)))
 skipcheck_again false = spells_right (spells_done false)
 
-feeders_again : (list : List FeederText) (u : List Lexeme) → feeders u list → Spells feeders (feeders_spelled list) list
-feeders_again [] u h = spells_right (spells_done [])
-feeders_again (first ∷ rest) u (inl (v, w, _, parts, named, (x, y, _, further, semicolon, h))) =
-    spells_left (spells_word (codes "FEEDERS") (λ _. spells_next (picks_sign (codes ";")) (many_again feeder feeder_spelled feeder_again (first ∷ rest) y h)))
-feeders_again (first ∷ rest) u (inr (nothing, is)) = cc
+automatic_again : (b : Bool) → Spells automatic (automatic_spelled b) b
+automatic_again true = spells_left (spells_word (codes "AUTO") (λ _. spells_done true))
+automatic_again false = spells_right (spells_done false)
+
+given_again : (feeding : Bool × List FeederText) (u : List Lexeme) → given_feeders u feeding → Spells given_feeders (given_feeders_spelled feeding.0 feeding.1) feeding
+given_again feeding u (v, w, _, parts, named, (x, y, finds, further, h, (a, b, _, more, semicolon, (c, d, given, last, g, (nothing, is))))) =
+    subst (λ feeding. Spells given_feeders (given_feeders_spelled feeding.0 feeding.1) feeding) (sym is)
+    (spells_word (codes "FEEDERS") (λ _. spells_both (automatic_again finds) (spells_next (picks_sign (codes ";"))
+    (spells_made (λ given. (finds, given)) (many_again feeder feeder_spelled feeder_again given c g)))))
+
+feeders_again : (feeding : Bool × List FeederText) (u : List Lexeme) → feeders u feeding → Spells feeders (feeders_spelled feeding.0 feeding.1) feeding
+feeders_again (false, []) u h = spells_right (spells_done (false, []))
+feeders_again (false, first ∷ rest) u (inl h) = spells_left (given_again (false, first ∷ rest) u h)
+feeders_again (false, first ∷ rest) u (inr (nothing, is)) = let none : first ∷ rest ≡ [] = ap (λ feeding. feeding.1) is in cc
+feeders_again (true, given) u (inl h) = spells_left (given_again (true, given) u h)
+feeders_again (true, given) u (inr (nothing, is)) = let plain : true ≡ false = ap (λ feeding. feeding.0) is in cc
 
 pub rules_again : (u : List Lexeme) (text : RuleText) → rules u text → Spells rules (rules_spelled text) text
 rules_again u text (v, w, skips, parts, h, (x, y, statements, further, g, (a, b, feeding, more, k, (nothing, is)))) =
     subst (λ text. Spells rules (rules_spelled text) text) (sym is)
     (spells_both (skipcheck_again skips) (spells_both (many_again statement statement_spelled statement_again statements x g)
-    (spells_made (λ feeding. record { skipcheck = skips; statements = statements; feeders = feeding }) (feeders_again feeding a k))))
+    (spells_made (λ feeding. record { skipcheck = skips; statements = statements; finds_feeders = feeding.0; feeders = feeding.1 }) (feeders_again feeding a k))))

@@ -19,11 +19,10 @@ use Rattle.cube_lex.proofs.Spaced.{spaces-both, writes-more}
 use Rattle.cube_lex.specs.Bytes.{is_plain, starts_word, is_word_byte}
 use Rattle.cube_lex.specs.Parts.{IsWord, IsDigits, IsNumber, most_token_bytes}
 use Rattle.cube_lex.specs.Quoted.{quoted}
-use Rattle.cube_lex.specs.Written.{Spelling, Spaces, Writes, sign_token, word_token}
+use Rattle.cube_lex.specs.Written.{Spelling, Spaces, Writes, sign_token}
 use Rattle.rule_printer.specs.Inside.Separated.{separator}
-use Rattle.rule_printer.specs.Spelled.{is_word_text, next_spelled, listed_spelled, name_spelled, elements_spelled, feeder_spelled, feeders_spelled}
-use Rattle.rule_tree.specs.declared.rule.FeederText.{FeederText}
-use Rattle.rule_printer.specs.Inside.Writable.{is_quotable, is_short_word}
+use Rattle.rule_printer.specs.Spelled.{is_word_text, next_spelled, listed_spelled, name_spelled, elements_spelled}
+use Rattle.rule_printer.specs.Writable.{is_quotable, is_short_word}
 pub use Rattle.cube_lex.proofs.Adding.{then_spaces as then_adds, then_writes, writes_same, spaces_same as adds_same}
 
 -- Tokens that may be written.
@@ -143,7 +142,3 @@ pub several_elements : (list : List (List ℕ)) → 2 ≤ length list → sign_t
 several_elements [] many = absurd (omega (arith, many))
 several_elements (element ∷ []) many = absurd (omega (arith, many))
 several_elements (first ∷ second ∷ rest) many = refl
-
-pub some_feeders : (list : List FeederText) → (list ≡ [] → ⊥) → word_token (codes "FEEDERS") ∷ sign_token (codes ";") ∷ flat_map feeder_spelled list ≡ feeders_spelled list
-some_feeders [] some = absurd (some refl)
-some_feeders (first ∷ rest) some = refl

@@ -179,12 +179,18 @@ feeder_spelled f = area_spelled f.area ++ sign_token (codes "=>")
 abbrev pub skipcheck_spelled : Bool → List Spelling
 skipcheck_spelled skipcheck = if skipcheck then word_token (codes "SKIPCHECK") ∷ sign_token (codes ";") ∷ [] else []
 
--- where there is no feeder, `FEEDERS` isn't written
-abbrev pub feeders_spelled : List FeederText → List Spelling
-feeders_spelled [] = []
-feeders_spelled (first ∷ rest) = word_token (codes "FEEDERS") ∷ sign_token (codes ";")
-    ∷ flat_map feeder_spelled (first ∷ rest)
+abbrev pub automatic_spelled : Bool → List Spelling
+automatic_spelled finds = if finds then word_token (codes "AUTO") ∷ [] else []
+
+abbrev pub given_feeders_spelled : Bool → List FeederText → List Spelling
+given_feeders_spelled finds given = word_token (codes "FEEDERS")
+    ∷ (automatic_spelled finds ++ sign_token (codes ";") ∷ flat_map feeder_spelled given)
+
+-- where no feeder is found or given, `FEEDERS` isn't written
+abbrev pub feeders_spelled : Bool → List FeederText → List Spelling
+feeders_spelled false [] = []
+feeders_spelled finds given = given_feeders_spelled finds given
 
 abbrev pub rules_spelled : RuleText → List Spelling
 rules_spelled text = skipcheck_spelled text.skipcheck
-    ++ (flat_map statement_spelled text.statements ++ feeders_spelled text.feeders)
+    ++ (flat_map statement_spelled text.statements ++ feeders_spelled text.finds_feeders text.feeders)

@@ -5,10 +5,10 @@ ghost use Rattle.rule_printer.specs.Printed.{IsRuleText, IsPrinted};
 ghost use Rattle.rule_printer.specs.Spelled.{elements_spelled, entry_spelled, area_spelled, listed_spelled};
 ghost use Rattle.rule_printer.specs.Spelled.{ended_spelled, part_spelled, body_spelled, statement_spelled};
 ghost use Rattle.rule_printer.specs.Spelled.{target_spelled, feeder_spelled, skipcheck_spelled, feeders_spelled};
-ghost use Rattle.rule_printer.specs.Spelled.{rules_spelled};
-ghost use Rattle.rule_printer.specs.Inside.Writable.{is_quotable, is_writable, is_writable_entry};
-ghost use Rattle.rule_printer.specs.Inside.Writable.{is_writable_body, is_writable_statement, is_writable_target};
-ghost use Rattle.rule_printer.specs.Inside.Writable.{is_writable_feeder, are_writable};
+ghost use Rattle.rule_printer.specs.Spelled.{automatic_spelled, given_feeders_spelled, rules_spelled};
+ghost use Rattle.rule_printer.specs.Writable.{is_quotable, is_writable, is_writable_entry};
+ghost use Rattle.rule_printer.specs.Writable.{is_writable_body, is_writable_statement, is_writable_target};
+ghost use Rattle.rule_printer.specs.Writable.{is_writable_feeder, are_writable};
 
 use crate::parts::{write_bracket, write_dimension, write_names, write_separator, write_text};
 use crate::tree_printing::{write_tree, write_trees};
@@ -176,7 +176,8 @@ fn write_feeder(alloc: Global, out: &mut Vec<u8>, feeder: &FeederText) -> Result
     write_line_end(out)
 }
 
-fn write_each_feeder(
+/// Writes feeders, each on a line of its own.
+pub fn write_each_feeder(
     alloc: Global,
     out: &mut Vec<u8>,
     feeders: &[FeederText],
@@ -203,18 +204,49 @@ fn write_skipcheck(out: &mut Vec<u8>, skipcheck: bool) -> Result<(), AllocError>
     }
 }
 
-// Writes the feeders behind their word, if there are any.
-fn write_feeders(alloc: Global, out: &mut Vec<u8>, feeders: &[FeederText]) -> Result<(), AllocError>
-    requires { IsTrue (list_all is_writable_feeder feeders.now) }
-    ensures { OnOk result (Writes out.old.items out.new.items (feeders_spelled feeders.now)) }
+// Writes `AUTO` where feeders are found.
+fn write_automatic(out: &mut Vec<u8>, finds: bool) -> Result<(), AllocError>
+    ensures { OnOk result (Spaces out.old.items out.new.items (automatic_spelled finds)) }
 {
-    if feeders.is_empty() {
-        return Ok(());
+    if finds {
+        write_word(out, b"AUTO")
+    } else {
+        Ok(())
     }
+}
+
+// Writes the feeders behind their word.
+fn write_given_feeders(
+    alloc: Global,
+    out: &mut Vec<u8>,
+    finds: bool,
+    feeders: &[FeederText],
+) -> Result<(), AllocError>
+    requires { IsTrue (list_all is_writable_feeder feeders.now) }
+    ensures { OnOk result (Writes out.old.items out.new.items (given_feeders_spelled finds feeders.now)) }
+{
     write_word(out, b"FEEDERS")?;
+    write_automatic(out, finds)?;
     write_sign(out, b";")?;
     write_line_end(out)?;
     write_each_feeder(alloc, out, feeders)
+}
+
+// Writes the feeders, if any are found or given.
+fn write_feeders(
+    alloc: Global,
+    out: &mut Vec<u8>,
+    finds: bool,
+    feeders: &[FeederText],
+) -> Result<(), AllocError>
+    requires { IsTrue (list_all is_writable_feeder feeders.now) }
+    ensures { OnOk result (Writes out.old.items out.new.items (feeders_spelled finds feeders.now)) }
+{
+    if finds || !feeders.is_empty() {
+        write_given_feeders(alloc, out, finds, feeders)
+    } else {
+        Ok(())
+    }
 }
 
 // Writes all rules.
@@ -224,7 +256,7 @@ fn write_rules(alloc: Global, out: &mut Vec<u8>, text: &RuleText) -> Result<(), 
 {
     write_skipcheck(out, text.skipcheck)?;
     write_statements(alloc, out, text.statements.as_slice())?;
-    write_feeders(alloc, out, text.feeders.as_slice())
+    write_feeders(alloc, out, text.finds_feeders, text.feeders.as_slice())
 }
 
 /// Appends a text that reads back to equal rules, within the same limits: a line for each statement and each feeder,

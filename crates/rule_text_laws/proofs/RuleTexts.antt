@@ -12,7 +12,7 @@ use Rattle.grammar.proofs.Cuts.{token_cuts}
 use Rattle.grammar.proofs.Exact.{Always, Not}
 use Rattle.grammar.proofs.Lists.{BehindList, next_begins, next_tells, behind_list}
 use Rattle.grammar.proofs.OneAnswer.{one_answer}
-use Rattle.grammar.proofs.Tokens.{sign_begins, word_begins, word_no_sign}
+use Rattle.grammar.proofs.Tokens.{sign_begins, word_begins, word_no_sign, sign_no_word}
 use Rattle.grammar.proofs.Top.{AtEnd}
 use Rattle.expression_grammar.specs.Readers.Reading.{read_expression, tree_of}
 use Rattle.expression_grammar.specs.declared.sort.Want.TheVariants as wants
@@ -20,7 +20,7 @@ use Rattle.expression_grammar.proofs.ExpressionExact.{value_exact}
 use Rattle.expression_grammar.proofs.Languages.{goes_on}
 use Rattle.rule_tree.specs.Counting.{count, counting, start}
 use Rattle.rule_tree.specs.Formula.{rules_language, bracket, formula}
-use Rattle.rule_tree.specs.RuleText.{area, ended, part, leaf_first, cons_first, body, statement, database, target, feeder, skipcheck, feeders, rules}
+use Rattle.rule_tree.specs.RuleText.{area, ended, part, leaf_first, cons_first, body, statement, database, target, feeder, skipcheck, automatic, given_feeders, feeders, rules}
 use Rattle.rule_tree.specs.declared.counted.Counted.{Counted}
 use Rattle.rule_tree.specs.declared.rule.BodyText.TheVariants as bodies
 use Rattle.rule_tree.specs.declared.rule.RuleText.{RuleText}
@@ -122,10 +122,19 @@ skipcheck_once = once_option (is_word (codes "SKIPCHECK")) false (begins_both (w
 statements_once : OneTree count (many statement) BehindStatements
 statements_once = once_many {S' = BehindStatements} (is_sign (codes "[")) statement_begins (λ rest stops. stops.bracket) behind_statements statement_once
 
+automatic_once : OneTree count automatic (Not (is_word (codes "AUTO")))
+automatic_once = once_option (is_word (codes "AUTO")) false (begins_both (word_begins (codes "AUTO") (codes "AUTO"))) (once_then (once_one (word (codes "AUTO"))) (λ _. once_done true))
+
+each_feeder_once : OneTree count (many feeder) (Not (is_sign (codes "[")))
+each_feeder_once = once_many {S = Always} {S' = Not (is_sign (codes "["))} (is_sign (codes "[")) feeder_begins (λ rest stops. stops) (λ list v rest h stops. tt) feeder_once
+
+given_once : OneTree count given_feeders (Not (is_sign (codes "[")))
+given_once = once_then (once_one (word (codes "FEEDERS"))) (λ _. once_before_next automatic_once
+    (λ finds. once_then (once_one (sign (codes ";"))) (λ _. once_both {S' = Not (is_sign (codes "["))} each_feeder_once (λ given. once_done (finds, given)) (λ given v b rest h stops. same_behind (Not (is_sign (codes "["))) v rest h.0 stops)))
+    (λ finds. begins_both (sign_no_word (codes ";") (codes "AUTO"))))
+
 feeders_once : OneTree count feeders AtEnd
-feeders_once = once_either {S = Not (is_sign (codes "["))} {S' = Always} {S'' = AtEnd} (starts (is_word (codes "FEEDERS")))
-    (once_then (once_one (word (codes "FEEDERS"))) (λ _. once_then (once_one (sign (codes ";"))) (λ _. once_many {S = Always} {S' = Not (is_sign (codes "["))} (is_sign (codes "[")) feeder_begins (λ rest stops. stops) (λ list v rest h stops. tt) feeder_once)))
-    (once_done [])
+feeders_once = once_either {S = Not (is_sign (codes "["))} {S' = Always} {S'' = AtEnd} (starts (is_word (codes "FEEDERS"))) given_once (once_done (false, []))
     (λ u a rest h end. (starts_text given_feeders_begin u a rest h, ended_by (is_sign (codes "[")) rest end))
     (λ u a rest nothing end. (ap (λ x. starts (is_word (codes "FEEDERS")) (x ++ rest)) nothing.0 ∙ ended_by (is_word (codes "FEEDERS")) rest end, tt))
 

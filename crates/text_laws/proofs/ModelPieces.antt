@@ -19,7 +19,7 @@ use Rattle.dim_text.specs.Readers.Reading.{is_element_word}
 use Rattle.dim_text.proofs.ElementExact.{element_begins, end_begins}
 use Rattle.model_text.specs.Statement.{Piece, QuotedText, dimension_word, cube_word, script_word, shown_text, first_dimension, next_dimension, cube_end, piece}
 use Rattle.model_text.specs.Watching.{add}
-use Rattle.model_text.specs.Readers.Reading.{Plain, choose_if, read_version, read_closing, read_dimension_word, read_cube_word, read_script_word, read_naming, read_script_file, read_dimension_behind, read_rules, read_rank, read_in_parentheses, read_total_ranks, read_behind_ranks, read_ranks, read_cell_kind, read_ranked, read_position, read_lag, read_auto, read_order_words, read_order, read_cube_end}
+use Rattle.model_text.specs.Readers.Reading.{Plain, choose_if, read_version, read_closing, read_dimension_word, read_cube_word, read_script_word, read_naming, read_script_file, read_dimension_behind, read_rules, read_rank, read_in_parentheses, read_total_ranks, read_behind_ranks, read_ranks, read_cell_kind, read_ranked, read_position, read_auto_totals, read_lag, read_auto, read_order_words, read_order, read_cube_end}
 use Rattle.model_text.proofs.PieceExact.{free, located_is, located_is_value, version_exact, closing_exact, dimension_word_exact, cube_word_exact, script_word_exact, dimension_behind_exact, cube_end_exact}
 
 -- What settles.
@@ -100,13 +100,17 @@ lag_settles : Settles read_lag
 unfolding read_lag
 lag_settles = settles_choose _ (settles_both (settles_one _ _) (λ shown. settles_gives _)) (settles_gives _)
 
-auto_settles : Settles read_auto
+auto_totals_settles : (totals : Bool) → Settles (read_auto_totals totals)
+unfolding read_auto_totals
+auto_totals_settles totals = settles_if totals _ (settles_both (settles_one _ _) (λ _. settles_gives _)) (settles_gives _)
+
+auto_settles : (totals : Bool) → Settles (read_auto totals)
 unfolding read_auto
-auto_settles = settles_both (settles_one _ _) (λ _. settles_both lag_settles (λ shown. settles_gives _))
+auto_settles totals = settles_both (settles_one _ _) (λ _. settles_both (auto_totals_settles totals) (λ kinds. settles_both lag_settles (λ shown. settles_gives _)))
 
 order_words_settles : (totals : Bool) → Settles (read_order_words totals)
 unfolding read_order_words
-order_words_settles totals = settles_choose _ auto_settles (listed_settles unscanned (position_settles totals))
+order_words_settles totals = settles_choose _ (auto_settles totals) (listed_settles unscanned (position_settles totals))
 
 order_settles : (totals : Bool) → Settles (read_order totals)
 unfolding read_order

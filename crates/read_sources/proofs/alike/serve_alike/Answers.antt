@@ -9,8 +9,7 @@ returns c =
     let one = c.args.one in
     let other = c.args.other in
     let cube : one.cube ≡ other.cube = search rules in
-    let kind : one.kind ≡ other.kind = search rules in
-    let elsewhere : one.elsewhere ≡ other.elsewhere = search rules in
+    let asks : c.ask_alike.result ≡ true = search rules in
     let listed : c.list_alike.result ≡ true = search rules in
     let sets = subst (λ dim. AreSetsSame dim one other) c.last_of.ensures.last (c.list_alike.ensures listed) in
-    alike-of c.args.model.now one other cube kind elsewhere sets (c.read_alike.ensures on)
+    alike-of c.args.model.now one other c.requires.read c.requires.its cube (c.ask_alike.ensures asks) sets (c.read_alike.ensures on)

@@ -4,9 +4,12 @@ use Rattle.cube_space.specs.Layout.{axes, sizes}
 use Rattle.order_laws.specs.Scales.{greatest_in, is_leaf_element}
 use Rattle.order_laws.specs.Earlier.{is_same}
 use Rattle.ref_order.specs.Kinds.{AreByKinds}
-use Rattle.ref_order.specs.Known.{number_asked, answer_of}
+use Rattle.rule_model.specs.Conditions.{IsPrecedent}
+use Rattle.ref_order.specs.declared.question.Answer.{Answer}
+use Rattle.ref_order.specs.Reads.{precedent_of}
+use Rattle.ref_order.specs.Known.{number_asked, answer_of, IsRight}
 use Rattle.ref_order.proofs.KindFacts.{kinds-same}
-use Rattle.ref_order.proofs.Likeness.{right-more}
+use Rattle.ref_order.proofs.Likeness.{more-kept}
 use Rattle.ref_order.proofs.greatest.answer.Goals as goal
 
 pub returns-clause-numbers : goal.returns-clause-numbers
@@ -20,5 +23,12 @@ returns-clause-numbers c =
     (λ here. ap (greatest_in (λ element. number_asked model cube asked element here.its) (λ element. is_same here.own (is_leaf_element (axes model.space cube) asked.dim element)) (slice_index_or (sizes model.space cube) asked.dim 0)) (sym same)) in (
       numbers,
       c.greatest_of-numbers.ensures.size,
-      right-more model cube area c.args.kept.now c.remember.new.kept (record { asked = asked; numbers = c.greatest_of-numbers.result }) right (record { numbers = numbers; size = c.greatest_of-numbers.ensures.size }) c.remember.ensures,
+      more-kept (IsRight model cube area) c.args.kept.now.answers.items c.remember.new.kept.answers.items (record { asked = asked; numbers = c.greatest_of-numbers.result }) c.remember.ensures right (record { numbers = numbers; size = c.greatest_of-numbers.ensures.size }),
     )
+
+pub returns-clause-reads : goal.returns-clause-reads
+returns-clause-reads c =
+    let asked = c.args.asked in
+    let model = c.args.cells.model.now in
+    more-kept (λ (answer : Answer). IsPrecedent model.space c.args.cells.cube (precedent_of answer.asked.read)) c.args.kept.now.answers.items c.remember.new.kept.answers.items (record { asked = asked; numbers = c.greatest_of-numbers.result })
+    c.remember.ensures c.requires.reads c.requires.read

@@ -1,0 +1,3 @@
+pub mod Pointwise
+pub mod Gathering
+pub mod Adding

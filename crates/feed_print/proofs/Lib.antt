@@ -1,0 +1,4 @@
+pub mod QuotedNames
+pub mod Lists
+pub mod Maps
+pub mod Writing
