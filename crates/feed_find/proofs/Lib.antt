@@ -1,3 +1,5 @@
 pub mod Pointwise
 pub mod Gathering
 pub mod Adding
+pub mod Choices
+pub mod Same

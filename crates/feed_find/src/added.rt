@@ -23,11 +23,12 @@ fn grouped(
     ensures { IfOk result (λ groups. lists_in groups.items ≡ groups_of cubes found) }
 {
     let mut groups = Vec::new(alloc);
-    'cubes: for _cube in 0..cubes {
+    'cubes: for count in 0..cubes {
         groups.push(Vec::new(alloc))?;
     }
-    'each: for one in found.into_vec() {
-        groups[one.cube as usize].push(one.feeder)?;
+    for one in found.into_vec() {
+        let FoundFeeder { cube, feeder } = one;
+        groups[cube as usize].push(feeder)?;
     }
     Ok(groups)
 }

@@ -72,7 +72,8 @@ pub fn of_binary(alloc: Global, op: Op, left: Need, right: Need) -> Result<Need,
     requires left { IsBlamedWithin left }
     requires right { IsBlamedWithin right }
     requires room { HaveRoom left right }
-    ensures { IfOk result (λ need. need ≡ of_binary op left right) }
+    ensures need { IfOk result (λ need. need ≡ of_binary op left right) }
+    ensures within { IfOk result IsBlamedWithin }
 {
     let by_written = of_operation(op, &left.by_written, &right.by_written);
     let by_all = of_operation(op, &left.by_all, &right.by_all);
@@ -108,7 +109,8 @@ pub fn of_if(
     requires left { IsBlamedWithin left }
     requires right { IsBlamedWithin right }
     requires room { HaveRoomIn truth left right }
-    ensures { IfOk result (λ need. need ≡ of_if truth left right) }
+    ensures need { IfOk result (λ need. need ≡ of_if truth left right) }
+    ensures within { IfOk result IsBlamedWithin }
 {
     let by_written = of_choice(&truth.by_written, &left.by_written, &right.by_written);
     let by_all = of_choice(&truth.by_all, &left.by_all, &right.by_all);

@@ -38,7 +38,10 @@ fn same_arg(space: &Space, cube: u32, one: &Arg, other: &Arg) -> bool
     match (one, other) {
         (Arg::Fixed(element), Arg::Fixed(its)) => element == its,
         (Arg::Moved { from, to }, Arg::Moved { from: its, to: map }) => {
-            from == its && same_map(to, map, axis(space, cube, *from).len())
+            if from != its {
+                return false;
+            }
+            same_map(to, map, axis(space, cube, *from).len())
         }
         _ => false,
     }
@@ -53,7 +56,10 @@ fn same_reference(space: &Space, cube: u32, one: &Reference, other: &Reference) 
 {
     let args = one.args.as_slice();
     let its = other.args.as_slice();
-    if one.cube != other.cube || args.len() != its.len() {
+    if one.cube != other.cube {
+        return false;
+    }
+    if args.len() != its.len() {
         return false;
     }
     'each: for place in 0..args.len() {
@@ -70,7 +76,11 @@ pub fn same_found(space: &Space, one: &FoundFeeder, other: &FoundFeeder) -> bool
     requires other { IsFound space.now other.now }
     ensures { result ≡ same_found one.now other.now }
 {
-    one.cube == other.cube
-        && same_reference(space, one.cube, &one.feeder.target, &other.feeder.target)
-        && is_same_area(one.feeder.area.get(), other.feeder.area.get())
+    if one.cube != other.cube {
+        return false;
+    }
+    if !same_reference(space, one.cube, &one.feeder.target, &other.feeder.target) {
+        return false;
+    }
+    is_same_area(one.feeder.area.get(), other.feeder.area.get())
 }

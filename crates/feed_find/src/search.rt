@@ -33,9 +33,12 @@ fn counted_before(statement: &Statement) -> u32
     requires { read_count statement.now.cons < 2 ^ 32 }
     ensures { result ≡ counted_before statement.now.form statement.now }
 {
-    match (statement.form, &statement.cons) {
-        (Form::ConsFirst, Some(formula)) => references(formula),
-        _ => 0,
+    match statement.form {
+        Form::Both | Form::LeafFirst => 0,
+        Form::ConsFirst => match &statement.cons {
+            Some(formula) => references(formula),
+            None => 0,
+        },
     }
 }
 

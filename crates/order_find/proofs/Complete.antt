@@ -1,8 +1,8 @@
 -- Each arrow of a model is one of its plan, by itself or through another node.
-use Rattle.std.proofs.Common.{◌≡◌, refl, sym, ap, ◌∙◌, arith, subst, ℕ, ◌+◌, ◌<◌, ◌⊎◌, Bool, true, false, not, ◌&&◌, ◌||◌, Option, Some, None, List, length, map, Contains, inl, inr, if◌then◌else◌, option_map, nat_lt}
+use Rattle.std.proofs.Common.{◌≡◌, refl, sym, ap, ◌∙◌, arith, subst, ℕ, ◌+◌, ◌<◌, Bool, true, false, not, ◌&&◌, ◌||◌, Option, Some, None, List, [], length, map, Contains, inl, inr, if◌then◌else◌, option_map, nat_lt}
 use Rattle.std.specs.Prelude.{IsTrue, slice_get, slice_index_or}
 use Rattle.std.specs.List.{range_with_len}
-use Rattle.std.proofs.lemmas.Bool.{and_parts, and_from, ltb-true, or_left, or_right, cond-true}
+use Rattle.std.proofs.lemmas.Bool.{and_parts, and_from, ltb-true, cond-true}
 use Rattle.std.proofs.lemmas.Option.{slice_get_within}
 use Rattle.dim_weights.specs.Table.{is_nonzero}
 use Rattle.cube_space.specs.Layout.{axes, sizes}
@@ -10,33 +10,34 @@ use Rattle.rule_laws.specs.Meaning.{Precedent}
 use Rattle.rule_model.specs.declared.area.Area.{Area}
 use Rattle.rule_model.specs.Areas.{in_set}
 use Rattle.rule_model.specs.BoundModel.{BoundModel}
-use Rattle.order_laws.specs.Scales.{is_total, set_count, set_element}
+use Rattle.order_laws.specs.Scales.{is_total, is_leaf_element, set_count, set_element}
 use Rattle.order_laws.proofs.SetFacts.{place-of}
 use Rattle.cover_laws.specs.Looking.{sent}
 use Rattle.least_ranks.specs.declared.arrow.Arrow.{Arrow}
-use Rattle.arrow_laws.specs.Nodes.{last_of}
-use Rattle.arrow_laws.specs.ByDimension.{is_from, has_element, serves}
+use Rattle.arrow_laws.specs.Nodes.{last_of, kind_in}
+use Rattle.arrow_laws.specs.ByDimension.{is_from, is_part, has_element, serves, admits, names_total}
 use Rattle.order_find.specs.declared.numbering.Place.{Place}
+use Rattle.order_find.specs.declared.slots.Gives.{Gives}
 use Rattle.read_sources.specs.declared.source.Source.{Source}
-use Rattle.order_find.specs.Numbers.{width, number_of}
-use Rattle.read_sources.specs.Ways.{Follows, Same, Component, Always, Sent, SentOver, IsSource, precedent, way_of, reads_from, is_consolidated, serves_any, cube_read}
-use Rattle.order_find.specs.Slots.{Plan, IsPlan, parts_from, all_from, totals_from, arrow_to, parts_of, part_arrow, arrow_by, reached_from, reached_by, member_by, member_arrow, slots_at}
-use Rattle.read_sources.specs.Sources.{IsRead, found_in}
+use Rattle.order_find.specs.Numbers.{IsPlace, width, number_of, place_at}
+use Rattle.read_sources.specs.Ways.{Follows, Same, Component, Always, Sent, SentOver, IsSource, precedent, way_of, reads_from, is_consolidated, gives_total, suits, serves_any, cube_read, IsNamedAs, Names}
+use Rattle.order_find.specs.Slots.{Plan, IsPlan, parts_from, node_count, components_from, given_from, arrow_to, sent_to, target_at, parts_of, is_meant, part_arrow, arrow_by, is_given, reached_from, reached_by, reached_slots, member_by, member_arrow, slots_at}
+use Rattle.read_sources.specs.Sources.{IsRead}
 use Rattle.read_sources.specs.Parts.{IsShared}
 use Rattle.order_find.proofs.Through.{GoesThrough}
+use Rattle.order_find.proofs.LookedAt.{own-place}
+use Rattle.order_find.proofs.Sound.{target-place}
 use Rattle.read_sources.proofs.Lists.{has-map, has-range}
-use Rattle.read_sources.proofs.Named.{Suits, IsNamedAs}
-use Rattle.read_sources.specs.Ways.{Names}
 use Rattle.read_sources.proofs.Within.{names-within}
-use Rattle.order_find.proofs.Vertices.{slots-parts, slots-all, slots-totals}
-use Rattle.order_find.proofs.Suiting.{of-suits, is-part}
+use Rattle.order_find.proofs.Vertices.{slots-parts, slots-given}
+use Rattle.order_find.proofs.Suiting.{is-part, part-suits, not-given, target-meant}
 use Rattle.order_find.proofs.Steps.{part-low}
 
 -- what may be read from, is in the area
-pub from-area : (m : BoundModel) (cube : ℕ) (area : Area) (kind : Bool) (p : Precedent) (i e : ℕ) → is_from m cube area kind p i e ≡ true → has_element m.space cube area i e ≡ true
+pub from-area : (m : BoundModel) (cube : ℕ) (area : Area) (kind : Bool) (p : Precedent) (its : Option Bool) (i e : ℕ) → is_from m cube area kind p its i e ≡ true → has_element m.space cube area i e ≡ true
 unfolding is_from
-from-area m cube area kind p i e h =
-    (and_parts (has_element m.space cube area i e) (not (kind && is_total (axes m.space cube) i e) && serves (axes m.space cube) p i e) h).0
+from-area m cube area kind p its i e h =
+    (and_parts (has_element m.space cube area i e) (admits (Some kind) (is_leaf_element (axes m.space cube) i e) && serves m.space cube p its i e) h).0
 
 pub in-area : (m : BoundModel) (cube : ℕ) (area : Area) (i e : ℕ) → has_element m.space cube area i e ≡ true → (e < slice_index_or (sizes m.space cube) i 0) × (in_set (slice_index_or area.sets i None) e ≡ true)
 in-area m cube area i e h =
@@ -44,163 +45,137 @@ in-area m cube area i e h =
     (ltb-true e (slice_index_or (sizes m.space cube) i 0) both.0, both.1)
 
 -- what is reached from an element of another dimension
-pub reached-in : (p : Plan) (s : Source) (totals : Bool) (i : ℕ) (to : List (Option ℕ)) (element t : ℕ) → reads_from p.model s i element ≡ true → (totals ≡ true → is_consolidated p.model s i element ≡ true) → sent to element ≡ Some t
-    → Contains (reached_by p s totals (SentOver i to)) (Some (arrow_to p (cube_read s) (not s.weak) t))
-reached-in p s totals i to element t passes total sends =
+pub reached-in : (p : Plan) (s : Source) (gives : Gives) (i : ℕ) (to : List (Option ℕ)) (element t : ℕ) → reads_from p.model s i element ≡ true → is_given p.model s gives i element ≡ true → sent to element ≡ Some t
+    → Contains (reached_by p s gives (SentOver i to)) (Some (sent_to p s t))
+reached-in p s gives i to element t passes given sends =
     let set = slice_index_or s.area.now.sets i None in
     let size = slice_index_or (sizes p.model.space s.cube) i 0 in
-    let (k, low, is) = place-of size set element (from-area p.model s.cube s.area.now s.kind (precedent s) i element passes) in
-    let has = has-map (λ k. reached_from p s totals i to (set_element set k)) (range_with_len 0 (set_count size set)) k (has-range (set_count size set) k low) in
-    let which : not totals || is_consolidated p.model s i element ≡ true = by totals refl in
-    let both = and_from (reads_from p.model s i element) (not totals || is_consolidated p.model s i element) passes which in
-    let made : reached_from p s totals i to (set_element set k) ≡ Some (arrow_to p (cube_read s) (not s.weak) t) =
-    ap (reached_from p s totals i to) is
-    ∙ cond-true (reads_from p.model s i element && (not totals || is_consolidated p.model s i element)) (option_map (arrow_to p (cube_read s) (not s.weak)) (sent to element)) None both
-    ∙ ap (option_map (arrow_to p (cube_read s) (not s.weak))) sends in
-    subst (Contains (reached_by p s totals (SentOver i to))) made has
-  where
-    by : (b : Bool) → totals ≡ b → not totals || is_consolidated p.model s i element ≡ true
-    by true on = or_right (not totals) (is_consolidated p.model s i element) (total on)
-    by false off = or_left (not totals) (is_consolidated p.model s i element) (ap not off)
+    let (k, low, is) = place-of size set element (from-area p.model s.cube s.area.now s.kind (precedent s) s.its i element passes) in
+    let has = has-map (λ k. reached_from p s gives i to (set_element set k)) (range_with_len 0 (set_count size set)) k (has-range (set_count size set) k low) in
+    let both = and_from (reads_from p.model s i element) (is_given p.model s gives i element) passes given in
+    let made : reached_from p s gives i to (set_element set k) ≡ Some (sent_to p s t) =
+    ap (reached_from p s gives i to) is
+    ∙ cond-true (reads_from p.model s i element && is_given p.model s gives i element) (option_map (sent_to p s) (sent to element)) None both
+    ∙ ap (option_map (sent_to p s)) sends in
+    subst (Contains (reached_by p s gives (SentOver i to))) made has
 
-module _ (p : Plan) (plan : IsPlan p) (s : Source) (is : IsSource p.model s) (read : IsRead p.model s) (e t n k : ℕ) (number : n ≡ number_of p.numbering s.cube e)
-    (at : slice_get p.numbering.places.items n ≡ Some (record { cube = s.cube; element = e })) (here : slice_get p.sources k ≡ Some s) where
+-- the nodes for components and for sources have numbers of the graph
+components-low : (p : Plan) (totals : Bool) (n : ℕ) → n < parts_from p → components_from p totals + n < node_count p
+components-low p true n low = omega (arith, low)
+components-low p false n low = omega (arith, low)
+
+given-low : (p : Plan) (own its : Bool) (k : ℕ) → k < length p.sources → given_from p own its + k < node_count p
+given-low p true true k low = omega (arith, low)
+given-low p true false k low = omega (arith, low)
+given-low p false true k low = omega (arith, low)
+given-low p false false k low = omega (arith, low)
+
+module _ (p : Plan) (plan : IsPlan p) (s : Source) (is : IsSource p.model s) (read : IsRead p.model s) (e t n k : ℕ) (low : e < width p.model.space s.cube) (here : slice_get p.sources k ≡ Some s) where
   abbrev last : ℕ
   last = last_of p.model.space s.cube
 
-  abbrev place : Place
-  place = record { cube = s.cube; element = e }
-
   abbrev goal_of : Type 0
-  goal_of = GoesThrough p n (number_of p.numbering (cube_read s) t) (not s.weak)
-
-  few : n < parts_from p
-  few = slice_get_within p.numbering.places.items n place at
+  goal_of = GoesThrough p n (number_of p.numbering (target_at s t)) (not s.weak)
 
   low_k : k < length p.sources
   low_k = slice_get_within p.sources k s here
 
-  names : Names s.cube (cube_read s) (width p.model.space (cube_read s)) (way_of p.model s)
+  abbrev Names_by : Follows → Type 0
+  Names_by w = Names s.cube (cube_read s) (width p.model.space (cube_read s)) w
+
+  names : Names_by (way_of p.model s)
   names = names-within p.model s.cube (precedent s) plan.valid is.reads
 
-  of-kind : (i u : ℕ) → found_in last (way_of p.model s) ≡ i → Suits p.model s.cube s.area.now s.kind (precedent s) e i u → (serves_any p.model s e ≡ true) ⊎ (is_consolidated p.model s i u ≡ true)
-  of-kind i u at_i h =
-      subst (λ i. Suits p.model s.cube s.area.now s.kind (precedent s) e i u → (serves_any p.model s e ≡ true) ⊎ (is_consolidated p.model s i u ≡ true)) at_i
-      (of-suits (axes p.model.space s.cube) (reads_from p.model s) s.kind last e (found_in last (way_of p.model s)) u s.elsewhere read.elsewhere) h
-
-  serves-own : (w : Follows) → way_of p.model s ≡ w → found_in last w ≡ last → Suits p.model s.cube s.area.now s.kind (precedent s) e last e → serves_any p.model s e ≡ true
-  serves-own w way own h = elim (of-kind last e (ap (found_in last) way ∙ own) h) [
-    | inl serving ↦ serving
-    | inr total ↦ or_right s.kind (is_consolidated p.model s last e || s.elsewhere) (or_left (is_consolidated p.model s last e) s.elsewhere total)
-  ]
-
   -- the arrow stands in a slot of the node
-  module _ (looked : (made : Option Arrow) → arrow_by p n place k s (way_of p.model s) ≡ made → Contains (slots_at p n) made) where
-    direct : (w : Follows) → way_of p.model s ≡ w → arrow_by p n place k s w ≡ Some (arrow_to p (cube_read s) (not s.weak) t) → goal_of
-    direct w way made = inl (looked (Some (arrow_to p (cube_read s) (not s.weak) t)) (ap (arrow_by p n place k s) way ∙ made))
+  module _ (looked : (made : Option Arrow) → arrow_by p (own-place p.model s e) k s (way_of p.model s) ≡ made → Contains (slots_at p n) made) where
+    direct : (w : Follows) → way_of p.model s ≡ w → arrow_by p (own-place p.model s e) k s w ≡ Some (sent_to p s t) → goal_of
+    direct w way made = inl (looked (Some (sent_to p s t)) (ap (arrow_by p (own-place p.model s e) k s) way ∙ made))
 
     over : (i : ℕ) (to : List (Option ℕ)) → way_of p.model s ≡ SentOver i to → (element : ℕ) → reads_from p.model s i element ≡ true → sent to element ≡ Some t
-        → (serves_any p.model s e ≡ true) ⊎ (is_consolidated p.model s i element ≡ true) → (b : Bool) → serves_any p.model s e ≡ b → goal_of
-    over i to way element passes sends which true serving =
-        let v = all_from p + k in
-        let arrow : arrow_by p n place k s (way_of p.model s) ≡ Some (record { to = v; strict = false }) =
-        ap (arrow_by p n place k s) way ∙ ap (λ b. Some (record { to = (if b then all_from p else totals_from p) + k; strict = false })) serving in
-        let slots : slots_at p v ≡ reached_by p s false (SentOver i to) = slots-all p v k s refl here ∙ ap (reached_by p s false) way in
-        let clash : false ≡ true → is_consolidated p.model s i element ≡ true = λ h. absurd (cc) in
+        → is_given p.model s (record { own = is_consolidated p.model s last e; its = gives_total p.model s last e }) i element ≡ true → goal_of
+    over i to way element passes sends given =
+        let own = is_consolidated p.model s last e in
+        let its = gives_total p.model s last e in
+        let gives : Gives = record { own = own; its = its } in
+        let v = given_from p own its + k in
+        let arrow : arrow_by p (own-place p.model s e) k s (way_of p.model s) ≡ Some (record { to = v; strict = false }) = ap (arrow_by p (own-place p.model s e) k s) way in
+        let off : its && not s.asks ≡ false = not-given s.asks (names_total p.model.space s.cube (precedent s) last e) in
+        let slots : slots_at p v ≡ reached_by p s gives (SentOver i to) = slots-given p own its v k s refl here
+        ∙ ap (λ (b : Bool). if b then [] else reached_by p s gives (way_of p.model s)) off ∙ ap (reached_by p s gives) way in
         inr (
           v,
-          omega (arith, low_k),
+          given-low p own its k low_k,
           looked (Some (record { to = v; strict = false })) arrow,
-          subst (λ xs. Contains xs (Some (arrow_to p (cube_read s) (not s.weak) t))) (sym slots) (reached-in p s false i to element t passes clash sends),
-        )
-    over i to way element passes sends which false missing =
-        let v = totals_from p + k in
-        let arrow : arrow_by p n place k s (way_of p.model s) ≡ Some (record { to = v; strict = false }) =
-        ap (arrow_by p n place k s) way ∙ ap (λ b. Some (record { to = (if b then all_from p else totals_from p) + k; strict = false })) missing in
-        let slots : slots_at p v ≡ reached_by p s true (SentOver i to) = slots-totals p v k s refl here ∙ ap (reached_by p s true) way in
-        let total : is_consolidated p.model s i element ≡ true = elim which [ inl serving ↦ absurd (cc) | inr on_it ↦ on_it ] in
-        inr (
-          v,
-          omega (arith, low_k),
-          looked (Some (record { to = v; strict = false })) arrow,
-          subst (λ xs. Contains xs (Some (arrow_to p (cube_read s) (not s.weak) t))) (sym slots) (reached-in p s true i to element t passes (λ _. total) sends),
+          subst (λ xs. Contains xs (Some (sent_to p s t))) (sym slots) (reached-in p s gives i to element t passes given sends),
         )
 
-    parts : way_of p.model s ≡ Component → IsTrue (Rattle.arrow_laws.specs.ByDimension.is_part (axes p.model.space s.cube) last e t) → goal_of
-    parts way named =
-        let v = parts_from p + n in
-        let arrow : arrow_by p n place k s (way_of p.model s) ≡ Some (record { to = v; strict = false }) = ap (arrow_by p n place k s) way in
+    parts : way_of p.model s ≡ Component → IsNamedAs p.model s Component e t → goal_of
+    parts way (named, admitted, suited) =
+        let totals = not (suits s true false) in
+        let place = target_at s e in
+        let other : cube_read s ≡ s.cube = subst Names_by way names in
+        let within : IsPlace p.model place = target-place p plan s is read e (subst (λ c. e < width p.model.space c) (sym other) low) in
+        let at = plan.numbering.there place within in
+        let v = components_from p totals + number_of p.numbering place in
+        let arrow : arrow_by p (own-place p.model s e) k s (way_of p.model s) ≡ Some (record { to = v; strict = false }) = ap (arrow_by p (own-place p.model s e) k s) way in
         let (part, inside, to_is, counts) = is-part (axes p.model.space s.cube) last e t named in
-        let other : cube_read s ≡ s.cube = subst (Names s.cube (cube_read s) (width p.model.space (cube_read s))) way names in
         let weak : not s.weak ≡ false = ap not (read.parts way) in
-        let made : part_arrow p s.cube part ≡ Some (arrow_to p (cube_read s) (not s.weak) t) =
-        cond-true (is_nonzero part.1) (Some (arrow_to p s.cube false part.0)) None counts ∙ ap (λ x. Some (arrow_to p s.cube false x)) to_is
-        ∙ ap (λ c. Some (arrow_to p c false t)) (sym other) ∙ ap (λ b. Some (arrow_to p (cube_read s) b t)) (sym weak) in
-        let has = has-map (part_arrow p s.cube) (parts_of p.model.space place) part inside in
+        let as_kind : admits (kind_in p.model (cube_read s) place.kind) (is_leaf_element (axes p.model.space s.cube) last t) ≡ true =
+        subst (λ its. admits its (is_leaf_element (axes p.model.space s.cube) last t) ≡ true) (sym (target-meant p.model s read.has_kind)) admitted in
+        let here_meant : admits (kind_in p.model (cube_read s) place.kind) (is_leaf_element (axes p.model.space s.cube) last t) && (not totals || is_total (axes p.model.space s.cube) last t) ≡ true =
+        and_from _ _ as_kind (part-suits s (is_total (axes p.model.space s.cube) last t) (suits s true false) refl suited) in
+        let meant : is_meant p.model place totals t ≡ true =
+        subst (λ c. admits (kind_in p.model (cube_read s) place.kind) (is_leaf_element (axes p.model.space c) (last_of p.model.space c) t) && (not totals || is_total (axes p.model.space c) (last_of p.model.space c) t) ≡ true) (sym other) here_meant in
+        let passes : is_nonzero part.1 && is_meant p.model place totals part.0 ≡ true = and_from (is_nonzero part.1) (is_meant p.model place totals part.0) counts (subst (λ x. is_meant p.model place totals x ≡ true) (sym to_is) meant) in
+        let made : part_arrow p place totals part ≡ Some (sent_to p s t) =
+        cond-true (is_nonzero part.1 && is_meant p.model place totals part.0) (Some (arrow_to p (target_at s part.0) false)) None passes ∙ ap (λ x. Some (arrow_to p (target_at s x) false)) to_is
+        ∙ ap (λ b. Some (arrow_to p (target_at s t) b)) (sym weak) in
+        let inside_read : Contains (parts_of p.model.space place) part = subst (λ c. Contains (parts_of p.model.space (place_at c true e)) part) (sym other) inside in
+        let has = has-map (part_arrow p place totals) (parts_of p.model.space place) part inside_read in
         inr (
           v,
-          omega (arith, few),
+          components-low p totals (number_of p.numbering place) (slice_get_within p.numbering.places.items (number_of p.numbering place) place at),
           looked (Some (record { to = v; strict = false })) arrow,
-          subst (λ xs. Contains xs (Some (arrow_to p (cube_read s) (not s.weak) t))) (sym (slots-parts p v n place refl at)) (subst (Contains (map (part_arrow p s.cube) (parts_of p.model.space place))) made has),
+          subst (λ xs. Contains xs (Some (sent_to p s t))) (sym (slots-parts p totals v (number_of p.numbering place) place refl at)) (subst (Contains (map (part_arrow p place totals) (parts_of p.model.space place))) made has),
         )
 
-    by-way : (w : Follows) → way_of p.model s ≡ w → IsNamedAs p.model s.cube s.area.now s.kind (precedent s) w e t → goal_of
-    by-way Same way named =
-        let other : cube_read s ≡ s.cube = subst (Names s.cube (cube_read s) (width p.model.space (cube_read s))) way names in
-        let to_is : n ≡ number_of p.numbering (cube_read s) t = number ∙ ap (number_of p.numbering s.cube) named ∙ ap (λ c. number_of p.numbering c t) (sym other) in
-        direct Same way (ap (λ x. Some (record { to = x; strict = not s.weak })) to_is)
+    by-way : (w : Follows) → way_of p.model s ≡ w → IsNamedAs p.model s w e t → goal_of
+    by-way Same way (same, suited) =
+        direct Same way (cond-true (suits s true (is_consolidated p.model s last e)) (Some (sent_to p s e)) None suited ∙ ap (λ x. Some (sent_to p s x)) same)
     by-way Component way named = parts way named
-    by-way (Always target) way (same, suits) =
-        let serving = serves-own (Always target) way refl suits in
-        direct (Always target) way (cond-true (serves_any p.model s e) (Some (arrow_to p (cube_read s) (not s.weak) target)) None serving ∙ ap (λ x. Some (arrow_to p (cube_read s) (not s.weak) x)) same)
-    by-way (Sent to) way (sends, suits) =
-        let serving = serves-own (Sent to) way refl suits in
-        direct (Sent to) way (cond-true (serves_any p.model s e) (option_map (arrow_to p (cube_read s) (not s.weak)) (sent to e)) None serving ∙ ap (option_map (arrow_to p (cube_read s) (not s.weak))) sends)
-    by-way (SentOver i to) way (element, passes, sends, suits) =
-        over i to way element passes sends (of-kind i element (ap (found_in last) way) suits) (serves_any p.model s e) refl
+    by-way (Always target) way (same, serving) =
+        direct (Always target) way (cond-true (serves_any p.model s e) (Some (sent_to p s target)) None serving ∙ ap (λ x. Some (sent_to p s x)) same)
+    by-way (Sent to) way (sends, serving) =
+        direct (Sent to) way (cond-true (serves_any p.model s e) (option_map (sent_to p s) (sent to e)) None serving ∙ ap (option_map (sent_to p s)) sends)
+    by-way (SentOver i to) way (element, passes, sends, given) = over i to way element passes sends given
 
-    pub goes : IsNamedAs p.model s.cube s.area.now s.kind (precedent s) (way_of p.model s) e t → goal_of
+    pub goes : IsNamedAs p.model s (way_of p.model s) e t → goal_of
     goes named = by-way (way_of p.model s) refl named
 
 -- a source of a group serves where it reads, and its arrow is that of a member
 pub record IsAlwaysThere (p : Plan) (s : Source) (e t : ℕ) : Type 0 where
   pub serves : serves_any p.model s e ≡ true
-  pub made : member_arrow p s ≡ Some (arrow_to p (cube_read s) (not s.weak) t)
+  pub made : member_arrow p s ≡ Some (sent_to p s t)
 
-pub always-goes : (p : Plan) (plan : IsPlan p) (s : Source) (is : IsSource p.model s) (read : IsRead p.model s) (e t : ℕ) → IsShared (way_of p.model s)
-    → IsNamedAs p.model s.cube s.area.now s.kind (precedent s) (way_of p.model s) e t → IsAlwaysThere p s e t
-always-goes p plan s is read e t shared named = by (way_of p.model s) refl shared named
+pub always-goes : (p : Plan) (s : Source) (e t : ℕ) → IsShared (way_of p.model s) → IsNamedAs p.model s (way_of p.model s) e t → IsAlwaysThere p s e t
+always-goes p s e t shared named = by (way_of p.model s) refl shared named
   where
-    last : ℕ
-    last = last_of p.model.space s.cube
-
-    either : (i : ℕ) → found_in last (way_of p.model s) ≡ i → Suits p.model s.cube s.area.now s.kind (precedent s) e i e → (serves_any p.model s e ≡ true) ⊎ (is_consolidated p.model s i e ≡ true)
-    either i at_i h =
-        subst (λ i. Suits p.model s.cube s.area.now s.kind (precedent s) e i e → (serves_any p.model s e ≡ true) ⊎ (is_consolidated p.model s i e ≡ true)) at_i
-        (of-suits (axes p.model.space s.cube) (reads_from p.model s) s.kind last e (found_in last (way_of p.model s)) e s.elsewhere read.elsewhere) h
-
-    by : (w : Follows) → way_of p.model s ≡ w → IsShared w → IsNamedAs p.model s.cube s.area.now s.kind (precedent s) w e t → IsAlwaysThere p s e t
+    by : (w : Follows) → way_of p.model s ≡ w → IsShared w → IsNamedAs p.model s w e t → IsAlwaysThere p s e t
     by Same way none named = absurd none
     by Component way none named = absurd none
-    by (Always target) way some (same, suits) = record {
-      serves = elim (either last (ap (found_in last) way) suits) [
-        | inl serving ↦ serving
-        | inr total ↦ or_right s.kind (is_consolidated p.model s last e || s.elsewhere) (or_left (is_consolidated p.model s last e) s.elsewhere total)
-      ];
-      made = ap (member_by p s) way ∙ ap (λ x. Some (arrow_to p (cube_read s) (not s.weak) x)) same;
-    }
+    by (Always target) way some (same, serving) = record { serves = serving; made = ap (member_by p s) way ∙ ap (λ x. Some (sent_to p s x)) same }
     by (Sent to) way none named = absurd none
     by (SentOver i to) way none named = absurd none
 
 -- what a source reads is an element
-pub named-low : (p : Plan) (plan : IsPlan p) (s : Source) (is : IsSource p.model s) (e t : ℕ) → e < width p.model.space s.cube → IsNamedAs p.model s.cube s.area.now s.kind (precedent s) (way_of p.model s) e t → t < width p.model.space (cube_read s)
+pub named-low : (p : Plan) (plan : IsPlan p) (s : Source) (is : IsSource p.model s) (e t : ℕ) → e < width p.model.space s.cube → IsNamedAs p.model s (way_of p.model s) e t → t < width p.model.space (cube_read s)
 named-low p plan s is e t low named = by (way_of p.model s) (names-within p.model s.cube (precedent s) plan.valid is.reads) named
   where
-    by : (w : Follows) → Names s.cube (cube_read s) (width p.model.space (cube_read s)) w → IsNamedAs p.model s.cube s.area.now s.kind (precedent s) w e t → t < width p.model.space (cube_read s)
-    by Same other named = subst (λ c. t < width p.model.space c) (sym other) (subst (λ x. x < width p.model.space s.cube) named low)
-    by Component other named =
+    by : (w : Follows) → Names s.cube (cube_read s) (width p.model.space (cube_read s)) w → IsNamedAs p.model s w e t → t < width p.model.space (cube_read s)
+    by Same other (same, suited) = subst (λ c. t < width p.model.space c) (sym other) (subst (λ x. x < width p.model.space s.cube) same low)
+    by Component other (named, admitted, suited) =
         let (part, inside, to_is, counts) = is-part (axes p.model.space s.cube) (last_of p.model.space s.cube) e t named in
-        subst (λ c. t < width p.model.space c) (sym other) (subst (λ x. x < width p.model.space s.cube) to_is (part-low p.model (record { cube = s.cube; element = e }) part plan.valid inside))
-    by (Always target) below (same, suits) = subst (λ x. x < width p.model.space (cube_read s)) same below
-    by (Sent to) below (sends, suits) = below e t sends
-    by (SentOver i to) below (element, passes, sends, suits) = below element t sends
+        subst (λ c. t < width p.model.space c) (sym other) (subst (λ x. x < width p.model.space s.cube) to_is (part-low p.model (place_at s.cube true e) part plan.valid inside))
+    by (Always target) below (same, serving) = subst (λ x. x < width p.model.space (cube_read s)) same below
+    by (Sent to) below (sends, serving) = below e t sends
+    by (SentOver i to) below (element, passes, sends, given) = below element t sends

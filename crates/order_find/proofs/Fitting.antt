@@ -11,13 +11,13 @@ use Rattle.lists.proofs.Found.{there}
 use Rattle.rule_model.specs.Order.{greatest}
 use Rattle.least_ranks.specs.declared.arrow.Arrow.{Arrow}
 use Rattle.least_ranks.specs.Graph.{IsArrow, Fits, fall_of}
-use Rattle.arrow_laws.specs.Nodes.{rank_of}
+use Rattle.arrow_laws.specs.Nodes.{NodeRanks, rank_of}
 use Rattle.arrow_laws.specs.Arrows.{FitArrows}
 use Rattle.order_find.specs.declared.numbering.Place.{Place}
 use Rattle.order_find.specs.Numbers.{IsPlace, number_of}
 use Rattle.order_find.specs.Slots.{Plan, parts_from, node_count, slots_at, arrows_of}
 use Rattle.order_find.specs.PlanOfAll.{IsPlanOfAll, AreRanksOf}
-use Rattle.order_find.proofs.Through.{node, link_from, made-arrow, IsArrowOf, IsVia, Goes, GoesThrough}
+use Rattle.order_find.proofs.Through.{node, made-arrow, IsArrowOf, IsVia, Goes, GoesThrough}
 use Rattle.order_find.specs.declared.link.LinkBy.{LinkBy}
 use Rattle.read_sources.proofs.Lists.{map-has, has-map, held-has, has-held}
 use Rattle.order_find.proofs.Steps.{element-step, behind-back}
@@ -51,14 +51,14 @@ module _ (p : Plan) (all : IsPlanOfAll p) (numbered : List ℕ) (fits : Fits (ar
   through n to strict few (inl has) = hop n to strict few has
   through n to strict few (inr (v, low, first, next)) = omega (arith, hop n v false few first, hop v to strict low next)
 
-  pub fit-model : (ranks : List (List ℕ)) → AreRanksOf p numbered ranks → FitArrows p.model ranks
+  pub fit-model : (ranks : NodeRanks) → AreRanksOf p numbered ranks → FitArrows p.model ranks
   fit-model ranks are from to strict arrow =
       let t : IsThrough p from to strict = every p all from to strict arrow in
-      let n = number_of p.numbering t.source.cube t.source.element in
+      let n = number_of p.numbering t.source in
       let low : n < node_count p = omega (arith, slice_get_within p.numbering.places.items n t.source (all.plan.numbering.there t.source t.source_within)) in
-      let falls = through n (number_of p.numbering t.target.cube t.target.element) strict low t.goes_there in
+      let falls = through n (number_of p.numbering t.target) strict low t.goes_there in
       let first : rank_of ranks from ≡ slice_index numbered n = ap (rank_of ranks) (sym t.from_is) ∙ are t.source t.source_within in
-      let second : rank_of ranks to ≡ slice_index numbered (number_of p.numbering t.target.cube t.target.element) = ap (rank_of ranks) (sym t.to_is) ∙ are t.target t.target_within in
+      let second : rank_of ranks to ≡ slice_index numbered (number_of p.numbering t.target) = ap (rank_of ranks) (sym t.to_is) ∙ are t.target t.target_within in
       omega (arith, falls, first, second)
 
 -- ranks of the model fit the graph
@@ -74,7 +74,7 @@ greatest-below (x ∷ xs) most each =
     let rest = greatest-below xs most (λ y (k, low, is). each y (suc k, omega (arith, low), is)) in
     omega (arith, first, rest)
 
-module _ (p : Plan) (all : IsPlanOfAll p) (ranks : List (List ℕ)) (fits : FitArrows p.model ranks) where
+module _ (p : Plan) (all : IsPlanOfAll p) (ranks : NodeRanks) (fits : FitArrows p.model ranks) where
   -- the rank of the node of an element
   abbrev own : ℕ → ℕ
   own n = option_map_or (λ place. rank_of ranks (node place)) (slice_get p.numbering.places.items n) 0
@@ -112,24 +112,24 @@ module _ (p : Plan) (all : IsPlanOfAll p) (ranks : List (List ℕ)) (fits : FitA
   own-at n place is = ap (λ (o : Option Place). option_map_or (λ place. rank_of ranks (node place)) o 0) is
 
   -- the node of an element has its rank
-  place-own : (place : Place) → IsPlace p.model.space place → own (number_of p.numbering place.cube place.element) ≡ rank_of ranks (node place)
-  place-own place is = own-at (number_of p.numbering place.cube place.element) place (all.plan.numbering.there place is)
+  place-own : (place : Place) → IsPlace p.model place → own (number_of p.numbering place) ≡ rank_of ranks (node place)
+  place-own place is = own-at (number_of p.numbering place) place (all.plan.numbering.there place is)
 
-  place-low : (place : Place) → IsPlace p.model.space place → number_of p.numbering place.cube place.element < parts_from p
-  place-low place is = slice_get_within p.numbering.places.items (number_of p.numbering place.cube place.element) place (all.plan.numbering.there place is)
+  place-low : (place : Place) → IsPlace p.model place → number_of p.numbering place < parts_from p
+  place-low place is = slice_get_within p.numbering.places.items (number_of p.numbering place) place (all.plan.numbering.there place is)
 
-  place-rank : (place : Place) (n : ℕ) → IsPlace p.model.space place → n ≡ number_of p.numbering place.cube place.element → rank n ≡ rank_of ranks (node place)
-  place-rank place n is same = ap rank same ∙ rank-low (number_of p.numbering place.cube place.element) (place-low place is) ∙ place-own place is
+  place-rank : (place : Place) (n : ℕ) → IsPlace p.model place → n ≡ number_of p.numbering place → rank n ≡ rank_of ranks (node place)
+  place-rank place n is same = ap rank same ∙ rank-low (number_of p.numbering place) (place-low place is) ∙ place-own place is
 
   -- an arrow of the model
   arrow-falls : (place : Place) (by : LinkBy) (arrow : Arrow) → IsArrowOf p place by arrow → rank arrow.to + fall_of arrow ≤ rank_of ranks (node place)
   arrow-falls place by arrow a =
-      let falls = fits (node place) (node a.target) arrow.strict (made-arrow p.model (link_from place by) by (node a.target) arrow.strict a.made) in
+      let falls = fits (node place) (node a.target) arrow.strict (made-arrow p.model (node place) by (node a.target) arrow.strict a.made) in
       omega (arith, falls, place-rank a.target arrow.to a.within a.to)
 
   arrow-own : (place : Place) (by : LinkBy) (arrow : Arrow) → IsArrowOf p place by arrow → own arrow.to + fall_of arrow ≤ rank_of ranks (node place)
   arrow-own place by arrow a =
-      let falls = fits (node place) (node a.target) arrow.strict (made-arrow p.model (link_from place by) by (node a.target) arrow.strict a.made) in
+      let falls = fits (node place) (node a.target) arrow.strict (made-arrow p.model (node place) by (node a.target) arrow.strict a.made) in
       let same : own arrow.to ≡ rank_of ranks (node a.target) = ap own a.to ∙ place-own a.target a.within in
       omega (arith, falls, same)
 
@@ -160,7 +160,7 @@ module _ (p : Plan) (all : IsPlanOfAll p) (ranks : List (List ℕ)) (fits : FitA
 
   falls-high : (n : ℕ) (arrow : Arrow) → parts_from p ≤ n → Contains (slots_at p n) (Some arrow) → rank arrow.to + fall_of arrow ≤ rank n
   falls-high n arrow high has =
-      let (target, within, to_is) = behind-back p all.plan n arrow high has in
+      let (target, within, to_is) = behind-back p all n arrow high has in
       let there : rank arrow.to ≡ rank_of ranks (node target) = place-rank target arrow.to within to_is in
       let same : own arrow.to ≡ rank_of ranks (node target) = ap own to_is ∙ place-own target within in
       let (k, low, is) = has-map slot_rank (slots_at p n) (Some arrow) has in
@@ -178,9 +178,9 @@ module _ (p : Plan) (all : IsPlanOfAll p) (ranks : List (List ℕ)) (fits : FitA
 
   pub ranks-numbered : AreRanksOf p numbered ranks
   ranks-numbered place is =
-      let n = number_of p.numbering place.cube place.element in
+      let n = number_of p.numbering place in
       let low = place-low place is in
       sym (place-own place is) ∙ sym (rank-low n low) ∙ sym (numbered-at n (omega (arith, low)))
 
-pub extended : (p : Plan) (ranks : List (List ℕ)) → IsPlanOfAll p → FitArrows p.model ranks → (numbered : List ℕ) × Fits (arrows_of p) numbered × AreRanksOf p numbered ranks
+pub extended : (p : Plan) (ranks : NodeRanks) → IsPlanOfAll p → FitArrows p.model ranks → (numbered : List ℕ) × Fits (arrows_of p) numbered × AreRanksOf p numbered ranks
 extended p ranks all fits = (numbered p all ranks fits, fit-graph p all ranks fits, ranks-numbered p all ranks fits)

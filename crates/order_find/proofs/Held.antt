@@ -11,6 +11,7 @@ use Rattle.rule_model.specs.Conditions.{IsSet}
 use Rattle.order_laws.specs.Scales.{set_count, set_element}
 use Rattle.least_ranks.specs.declared.arrow.Arrow.{Arrow}
 use Rattle.read_sources.specs.declared.source.Source.{Source}
+use Rattle.order_find.specs.declared.slots.Gives.{Gives}
 use Rattle.read_sources.specs.Ways.{SentOver}
 use Rattle.order_find.specs.Slots.{Plan, reached_from, reached_by}
 
@@ -24,20 +25,20 @@ set_in s i = slice_index_or s.area.now.sets i None
 abbrev pub size_in : Plan → Source → ℕ → ℕ
 size_in p s i = slice_index_or (sizes p.model.space s.cube) i 0
 
-pub reached-length : (p : Plan) (s : Source) (totals : Bool) (i : ℕ) (to : List (Option ℕ)) → length (reached_by p s totals (SentOver i to)) ≡ set_count (size_in p s i) (set_in s i)
-reached-length p s totals i to = length-map-range_with_len (λ k. reached_from p s totals i to (set_element (set_in s i) k)) 0 (set_count (size_in p s i) (set_in s i))
+pub reached-length : (p : Plan) (s : Source) (gives : Gives) (i : ℕ) (to : List (Option ℕ)) → length (reached_by p s gives (SentOver i to)) ≡ set_count (size_in p s i) (set_in s i)
+reached-length p s gives i to = length-map-range_with_len (λ k. reached_from p s gives i to (set_element (set_in s i) k)) 0 (set_count (size_in p s i) (set_in s i))
 
-pub reached-held : (p : Plan) (s : Source) (totals : Bool) (i : ℕ) (to : List (Option ℕ)) (k : ℕ) → k < set_count (size_in p s i) (set_in s i)
-    → held (reached_by p s totals (SentOver i to)) k ≡ reached_from p s totals i to (set_element (set_in s i) k)
-reached-held p s totals i to k low =
-    let from : ℕ → Option Arrow = λ k. reached_from p s totals i to (set_element (set_in s i) k) in
+pub reached-held : (p : Plan) (s : Source) (gives : Gives) (i : ℕ) (to : List (Option ℕ)) (k : ℕ) → k < set_count (size_in p s i) (set_in s i)
+    → held (reached_by p s gives (SentOver i to)) k ≡ reached_from p s gives i to (set_element (set_in s i) k)
+reached-held p s gives i to k low =
+    let from : ℕ → Option Arrow = λ k. reached_from p s gives i to (set_element (set_in s i) k) in
     let count = set_count (size_in p s i) (set_in s i) in
     unwrap_or-slice_get (map from (range_with_len 0 count)) k None ∙ get_or-map-range_with_len from 0 count k k None low (omega arith)
 
-pub reached-past : (p : Plan) (s : Source) (totals : Bool) (i : ℕ) (to : List (Option ℕ)) (k : ℕ) → set_count (size_in p s i) (set_in s i) ≤ k
-    → held (reached_by p s totals (SentOver i to)) k ≡ None
-reached-past p s totals i to k past =
-    unwrap_or-slice_get (reached_by p s totals (SentOver i to)) k None ∙ get_or_past (reached_by p s totals (SentOver i to)) k None (omega (arith, reached-length p s totals i to, past))
+pub reached-past : (p : Plan) (s : Source) (gives : Gives) (i : ℕ) (to : List (Option ℕ)) (k : ℕ) → set_count (size_in p s i) (set_in s i) ≤ k
+    → held (reached_by p s gives (SentOver i to)) k ≡ None
+reached-past p s gives i to k past =
+    unwrap_or-slice_get (reached_by p s gives (SentOver i to)) k None ∙ get_or_past (reached_by p s gives (SentOver i to)) k None (omega (arith, reached-length p s gives i to, past))
 
 -- a set has no more elements than its dimension
 at-least : (xs : List ℕ) → IsStrictlyIncreasing xs → (k : ℕ) → k < length xs → k ≤ get_or xs k 0

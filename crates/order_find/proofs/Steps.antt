@@ -1,5 +1,5 @@
 -- Each arrow of a node, and where it leads.
-use Rattle.std.proofs.Common.{◌≡◌, refl, sym, ap, ◌∙◌, arith, subst, ℕ, ◌+◌, ◌-◌, ◌<◌, ◌≤◌, ◌⊎◌, Bool, true, false, ◌&&◌, Option, Some, None, List, [], ◌∷◌, ◌++◌, length, map, Contains, ℤ, pos, inl, inr, if◌then◌else◌}
+use Rattle.std.proofs.Common.{◌≡◌, refl, sym, ap, ◌∙◌, arith, subst, ℕ, ◌+◌, ◌-◌, ◌<◌, ◌≤◌, ◌⊎◌, Bool, true, false, not, ◌&&◌, ◌||◌, Option, Some, None, List, [], ◌∷◌, ◌++◌, length, map, Contains, ℤ, pos, inl, inr, if◌then◌else◌}
 use Rattle.std.specs.Prelude.{slice_get, slice_index_or, unwrap_or}
 use Rattle.std.specs.Option.{option_map_or}
 use Rattle.std.specs.List.{range_with_len}
@@ -13,19 +13,19 @@ use Rattle.dim_core.specs.Outline.{Outline}
 use Rattle.dim_weights.specs.Coefficients.{coef}
 use Rattle.dim_weights.specs.Table.{is_nonzero, leaves_of}
 use Rattle.dim_weights.proofs.Nonzero.{nonzero-counts}
-use Rattle.cube_space.specs.Layout.{Layout, axes}
+use Rattle.cube_space.specs.Layout.{axes}
 use Rattle.cube_space.specs.Cells.{is_leaf}
 use Rattle.lists.proofs.Found.{there, found_holds}
 use Rattle.rule_model.specs.BoundModel.{BoundModel}
 use Rattle.order_laws.proofs.ChildFacts.{size-at, part-below}
 use Rattle.least_ranks.specs.declared.arrow.Arrow.{Arrow}
-use Rattle.arrow_laws.specs.Nodes.{last_of}
+use Rattle.arrow_laws.specs.Nodes.{last_of, has_kinds, has_nodes, node_kind}
 use Rattle.arrow_laws.specs.Arrows.{IsLeafArrow}
 use Rattle.order_find.specs.declared.numbering.Place.{Place}
 use Rattle.read_sources.specs.declared.source.Source.{Source}
-use Rattle.order_find.specs.Numbers.{IsPlace, width, number_of}
+use Rattle.order_find.specs.Numbers.{IsPlace, width, number_of, place_at}
 use Rattle.read_sources.specs.Ways.{Follows, Same, Component, Always, Sent, SentOver, IsSource, precedent, way_of, reads_from, serves_any, cube_read}
-use Rattle.order_find.specs.Slots.{Plan, IsPlan, IsSourceOf, parts_from, all_from, totals_from, arrow_to, leaves_below, parts_of, part_arrow, leaf_arrow, arrow_by, read_arrow, source_arrow, reached_by, hubs_from, node_count, group_by, group_arrow, member_by, member_arrow, members, own_slots, group_slots, slots_at}
+use Rattle.order_find.specs.Slots.{Plan, IsPlan, IsSourceOf, parts_from, totals_from, both_from, own_from, its_from, none_from, components_from, given_from, arrow_to, target_at, is_for, leads_below, leaves_below, parts_of, part_arrow, leaf_arrow, arrow_by, read_arrow, source_arrow, reached_slots, hubs_from, node_count, group_by, group_arrow, member_by, member_arrow, members, own_slots, group_slots, slots_at}
 use Rattle.order_find.specs.PlanOfAll.{IsPlanOfAll}
 use Rattle.order_find.specs.declared.link.LinkBy.{LinkBy}
 use Rattle.order_find.specs.declared.link.LinkBy.TheVariants.{Below}
@@ -34,33 +34,45 @@ use Rattle.read_sources.proofs.Placed.{get-mapped, mapped-at}
 use Rattle.order_find.proofs.Through.{node, IsArrowOf, IsVia, Made}
 use Rattle.read_sources.proofs.Lists.{range-has, has-at, has-held, held-has, map-has, in-first, at-past, zip-map, zip-append, zip-at}
 use Rattle.read_sources.specs.Ways.{Names}
-use Rattle.read_sources.proofs.Within.{names-within, reads-cube}
-use Rattle.order_find.proofs.Vertices.{slots-element, slots-parts, slots-all, slots-totals, slots-shared, slots-none}
-use Rattle.order_find.proofs.Sound.{reached-arrow, parts-arrow, member-step, source-step}
-use Rattle.order_find.proofs.Suiting.{among-of, given-where}
+use Rattle.read_sources.proofs.Within.{names-within}
+use Rattle.order_find.proofs.Vertices.{slots-element, slots-parts, slots-given, slots-shared, slots-none}
+use Rattle.order_find.proofs.LookedAt.{own-place}
+use Rattle.order_find.proofs.Sound.{slots-arrow, parts-arrow, target-place, member-step, source-step}
+use Rattle.order_find.proofs.Suiting.{among-of, given-where, same-kind}
+use Rattle.order_find.specs.declared.slots.Gives.{Gives}
+use Rattle.order_laws.specs.Earlier.{is_same}
+use Rattle.read_sources.specs.Sources.{IsRead}
 
--- the leaves below an element
-pub record IsLeafBelow (space : Layout) (place : Place) (pair : ℕ × ℤ) : Type 0 where
+-- the leaves below the element of a node
+pub record IsLeafBelow (m : BoundModel) (place : Place) (pair : ℕ × ℤ) : Type 0 where
   pub dimension : Outline
-  pub last : slice_get (axes space place.cube) (last_of space place.cube) ≡ Some dimension
-  pub consolidated : is_leaf dimension place.element ≡ false
+  pub last : slice_get (axes m.space place.cube) (last_of m.space place.cube) ≡ Some dimension
+  pub leads : leads_below m place dimension ≡ true
   pub leaf : pair.0 < length dimension.elements
   pub counts : is_nonzero (coef dimension place.element pair.0) ≡ true
 
-pub leaf-below : (space : Layout) (place : Place) (pair : ℕ × ℤ) → Contains (leaves_below space place) pair → IsLeafBelow space place pair
-leaf-below space place pair has = by (slice_get (axes space place.cube) (last_of space place.cube)) refl has
+pub leaf-below : (m : BoundModel) (place : Place) (pair : ℕ × ℤ) → Contains (leaves_below m place) pair → IsLeafBelow m place pair
+leaf-below m place pair has = by (slice_get (axes m.space place.cube) (last_of m.space place.cube)) refl has
   where
-    within : (d : Outline) → slice_get (axes space place.cube) (last_of space place.cube) ≡ Some d → (t : Bool) → is_leaf d place.element ≡ t
-        → Contains (if t then [] else leaves_of d place.element) pair → IsLeafBelow space place pair
-    within d at true e (k, low, is) = absurd (omega (arith, low))
-    within d at false e has =
+    within : (d : Outline) → slice_get (axes m.space place.cube) (last_of m.space place.cube) ≡ Some d → (t : Bool) → leads_below m place d ≡ t
+        → Contains (if t then leaves_of d place.element else []) pair → IsLeafBelow m place pair
+    within d at false e (k, low, is) = absurd (omega (arith, low))
+    within d at true e has =
         let (inside, counts) = among-of (coef d place.element) (range_with_len 0 (length d.elements)) pair has in
-        record { dimension = d; last = at; consolidated = e; leaf = range-has (length d.elements) pair.0 inside; counts = counts }
+        record { dimension = d; last = at; leads = e; leaf = range-has (length d.elements) pair.0 inside; counts = counts }
 
-    by : (o : Option Outline) → slice_get (axes space place.cube) (last_of space place.cube) ≡ o
-        → Contains (option_map_or (λ d. if is_leaf d place.element then [] else leaves_of d place.element) o []) pair → IsLeafBelow space place pair
+    by : (o : Option Outline) → slice_get (axes m.space place.cube) (last_of m.space place.cube) ≡ o
+        → Contains (option_map_or (λ d. if leads_below m place d then leaves_of d place.element else []) o []) pair → IsLeafBelow m place pair
     by None at (k, low, is) = absurd (omega (arith, low))
-    by (Some d) at has = within d at (is_leaf d place.element) refl has
+    by (Some d) at has = within d at (leads_below m place d) refl has
+
+-- such a node is that of consolidated cells, or, where it is of both kinds, of a consolidated element
+leads-kind : (kind kinds leaf : Bool) → not kind || (not kinds && not leaf) ≡ true → kind || kinds ≡ true → (kind ≡ not kinds) × (kind ≡ true → leaf ≡ false)
+leads-kind true true leaf leads has = absurd (cc leads)
+leads-kind true false true leads has = absurd (cc leads)
+leads-kind true false false leads has = (refl, λ _. refl)
+leads-kind false true leaf leads has = (refl, λ on. absurd (cc on))
+leads-kind false false leaf leads has = absurd (cc has)
 
 -- a component of an element
 pub part-low : (m : BoundModel) (place : Place) (part : ℕ × ℤ) → Rattle.cube_space.specs.Cells.IsSpace m.space → Contains (parts_of m.space place) part → part.0 < width m.space place.cube
@@ -83,52 +95,60 @@ module _ (p : Plan) (all : IsPlanOfAll p) (n : ℕ) (place : Place) (at : slice_
   abbrev Slot : Option Arrow → Option LinkBy → Type 0
   Slot slot by = (arrow : Arrow) → slot ≡ Some arrow → Step by arrow
 
-  here : IsPlace p.model.space place × (number_of p.numbering place.cube place.element ≡ n)
+  here : IsPlace p.model place × (number_of p.numbering place ≡ n)
   here = all.plan.numbering.back n place at
 
-  leaf-step : (pair : ℕ × ℤ) → Contains (leaves_below p.model.space place) pair → Slot (leaf_arrow p place.cube pair) (Some Below)
+  leaf-step : (pair : ℕ × ℤ) → Contains (leaves_below p.model place) pair → Slot (leaf_arrow p place.cube pair) (Some Below)
   leaf-step pair inside arrow same =
-      let leaf = leaf-below p.model.space place pair inside in
-      let equal : arrow_to p place.cube false pair.0 ≡ arrow = same_Some _ _ same in
+      let leaf = leaf-below p.model place pair inside in
+      let target : Place = place_at place.cube true pair.0 in
+      let equal : arrow_to p target false ≡ arrow = same_Some _ _ same in
       let size = size-at (axes p.model.space place.cube) (last_of p.model.space place.cube) leaf.dimension leaf.last in
-      let made : IsLeafArrow p.model (node place) (record { cube = place.cube; element = pair.0 }) arrow.strict = record {
+      let kinds = leads-kind place.kind (has_kinds p.model place.cube) (is_leaf leaf.dimension place.element) leaf.leads here.0.kind in
+      let made : IsLeafArrow p.model (node place) (node target) arrow.strict = record {
         within = here.0.cube;
         same_cube = refl;
         dimension = leaf.dimension;
         last = leaf.last;
         source = subst (λ n. place.element < n) size here.0.element;
         target = leaf.leaf;
-        consolidated = leaf.consolidated;
+        source_kind = kinds.0;
+        target_kind = refl;
+        consolidated = kinds.1;
         counts = nonzero-counts (coef leaf.dimension place.element pair.0) leaf.counts;
         weak = sym (ap (λ (a : Arrow). a.strict) equal);
       } in
       inl (record {
-        target = record { cube = place.cube; element = pair.0 };
-        within = record { cube = here.0.cube; element = subst (λ n. pair.0 < n) (sym size) leaf.leaf };
+        target = target;
+        within = record { cube = here.0.cube; element = subst (λ n. pair.0 < n) (sym size) leaf.leaf; kind = refl };
         to = sym (ap (λ (a : Arrow). a.to) equal);
         made = made;
       })
 
-  row-step : (row : List ℕ) → ((k : ℕ) → Contains row k → IsSourceOf p.sources place.cube k) → (k : ℕ) → Contains row k → Slot (source_arrow p n place k) (Some (maker p k))
+  -- where a source reads for the cells of the node, this is the node of its own cells
+  own-is : (s : Source) → s.cube ≡ place.cube → is_for p.model s place ≡ true → own-place p.model s place.element ≡ place
+  own-is s own for =
+      ap (λ c. place_at c (node_kind p.model s.cube s.kind) place.element) own ∙ ap (λ kind. place_at place.cube kind place.element) (same-kind (node_kind p.model s.cube s.kind) place.kind for)
+
+  row-step : (row : List ℕ) → ((k : ℕ) → Contains row k → IsSourceOf p.sources place.cube k) → (k : ℕ) → Contains row k → Slot (source_arrow p place k) (Some (maker p k))
   row-step row of k inside arrow same =
       let (s, found, own) = of k inside in
       let by : reference_of s ≡ maker p k = sym (ap (λ (o : Option Source). option_map_or reference_of o Below) found) in
-      let read_by : read_arrow p n place k s ≡ Some arrow = sym (ap (λ (o : Option Source). option_map_or (read_arrow p n place k) o None) found) ∙ same in
-      let (passes, made) = given-where (reads_from p.model s (last_of p.model.space s.cube) place.element) (arrow_by p n place k s (way_of p.model s)) arrow read_by in
-      let there : Place = record { cube = s.cube; element = place.element } in
-      let equal : there ≡ place = ap (λ c. record { cube = c; element = place.element }) own in
+      let read_by : read_arrow p place k s ≡ Some arrow = sym (ap (λ (o : Option Source). option_map_or (read_arrow p place k) o None) found) ∙ same in
+      let (tests, made) = given-where (is_for p.model s place && reads_from p.model s (last_of p.model.space s.cube) place.element) (arrow_by p place k s (way_of p.model s)) arrow read_by in
+      let (for, passes) = and_parts (is_for p.model s place) (reads_from p.model s (last_of p.model.space s.cube) place.element) tests in
+      let equal : own-place p.model s place.element ≡ place = own-is s own for in
       let is = found_holds (IsSource p.model) p.sources k s all.plan.sources found in
-      let number : n ≡ number_of p.numbering s.cube place.element = sym here.1 ∙ ap (λ (q : Place). number_of p.numbering q.cube q.element) (sym equal) in
       subst (λ b. IsArrowOf p place b arrow ⊎ IsVia p place (Some b) arrow) by
       (subst (λ q. IsArrowOf p q (reference_of s) arrow ⊎ IsVia p q (Some (reference_of s)) arrow) equal
-      (source-step p all.plan s is (all.read k s found) place.element passes (subst (λ (q : Place). q.element < width p.model.space q.cube) (sym equal) here.0.element)
-      n k number (at ∙ ap Some (sym equal)) (slice_get_within p.numbering.places.items n place at) found arrow (subst (λ q. arrow_by p n q k s (way_of p.model s) ≡ Some arrow) (sym equal) made)))
+      (source-step p all.plan s is (all.read k s found) place.element passes (subst (λ c. place.element < width p.model.space c) (sym own) here.0.element)
+      k found arrow (subst (λ q. arrow_by p q k s (way_of p.model s) ≡ Some arrow) (sym equal) made)))
 
-  row-steps : (row : List ℕ) → ((k : ℕ) → Contains row k → IsSourceOf p.sources place.cube k) → AllZip Slot (map (source_arrow p n place) row) (map (λ k. Some (maker p k)) row)
-  row-steps row of = zip-map Slot (source_arrow p n place) (λ k. Some (maker p k)) row (row-step row of)
+  row-steps : (row : List ℕ) → ((k : ℕ) → Contains row k → IsSourceOf p.sources place.cube k) → AllZip Slot (map (source_arrow p place) row) (map (λ k. Some (maker p k)) row)
+  row-steps row of = zip-map Slot (source_arrow p place) (λ k. Some (maker p k)) row (row-step row of)
 
-  leaf-steps : AllZip Slot (map (leaf_arrow p place.cube) (leaves_below p.model.space place)) (map (λ pair. Some Below) (leaves_below p.model.space place))
-  leaf-steps = zip-map Slot (leaf_arrow p place.cube) (λ pair. Some Below) (leaves_below p.model.space place) leaf-step
+  leaf-steps : AllZip Slot (map (leaf_arrow p place.cube) (leaves_below p.model place)) (map (λ pair. Some Below) (leaves_below p.model place))
+  leaf-steps = zip-map Slot (leaf_arrow p place.cube) (λ pair. Some Below) (leaves_below p.model place) leaf-step
 
   abbrev makers : List ℕ → List (Option LinkBy)
   makers row = map (λ k. Some (maker p k)) row
@@ -137,16 +157,16 @@ module _ (p : Plan) (all : IsPlanOfAll p) (n : ℕ) (place : Place) (at : slice_
   own-steps =
       let whole = slice_index_or p.of_cubes place.cube [] in
       let own = slice_index_or p.of_nodes n [] in
-      let by = source_arrow p n place in
+      let by = source_arrow p place in
       let rows = zip-append Slot (map by whole) (makers whole) (map by own) (makers own)
       (row-steps whole (λ k inside. all.plan.of_cubes place.cube k inside)) (row-steps own (λ k inside. all.plan.of_nodes n k place at inside)) in
-      zip-append Slot (map (leaf_arrow p place.cube) (leaves_below p.model.space place)) (map (λ pair. Some Below) (leaves_below p.model.space place))
+      zip-append Slot (map (leaf_arrow p place.cube) (leaves_below p.model place)) (map (λ pair. Some Below) (leaves_below p.model place))
       (map by whole ++ map by own) (makers whole ++ makers own) leaf-steps rows
 
   -- an arrow to the node of a group
-  group-via : (g : ℕ) (head : Source) (arrow : Arrow) → slice_get p.heads g ≡ Some head → head.cube ≡ place.cube → reads_from p.model head (last_of p.model.space head.cube) place.element ≡ true
+  group-via : (g : ℕ) (head : Source) (arrow : Arrow) → slice_get p.heads g ≡ Some head → head.cube ≡ place.cube → is_for p.model head place ≡ true → reads_from p.model head (last_of p.model.space head.cube) place.element ≡ true
       → serves_any p.model head place.element ≡ true → record { to = hubs_from p + g; strict = false } ≡ arrow → IsVia p place None arrow
-  group-via g head arrow found own passes serving equal = record {
+  group-via g head arrow found own for passes serving equal = record {
     weak = sym (ap (λ (a : Arrow). a.strict) equal);
     behind = omega (arith, ap (λ (a : Arrow). a.to) equal);
     each = each;
@@ -166,11 +186,12 @@ module _ (p : Plan) (all : IsPlanOfAll p) (n : ℕ) (place : Place) (at : slice_
           let alike = all.alike g head s found has in
           let is = All-contains (IsSource p.model) (members p g) s (all.plan.grouped g) has in
           let cube : s.cube ≡ place.cube = sym alike.cube ∙ own in
-          let there : Place = record { cube = s.cube; element = place.element } in
-          let same : there ≡ place = ap (λ c. record { cube = c; element = place.element }) cube in
+          let for_its : is_for p.model s place ≡ true =
+          subst (λ kind. is_same (node_kind p.model s.cube kind) place.kind ≡ true) alike.kind (subst (λ c. is_same (node_kind p.model c head.kind) place.kind ≡ true) alike.cube for) in
+          let same : own-place p.model s place.element ≡ place = own-is s cube for_its in
           let from : reads_from p.model s (last_of p.model.space s.cube) place.element ≡ true =
           subst (λ c. reads_from p.model s (last_of p.model.space c) place.element ≡ true) alike.cube (sym (alike.reads place.element) ∙ passes) in
-          let low : place.element < width p.model.space s.cube = subst (λ (q : Place). q.element < width p.model.space q.cube) (sym same) here.0.element in
+          let low : place.element < width p.model.space s.cube = subst (λ c. place.element < width p.model.space c) (sym cube) here.0.element in
           subst (λ q. IsArrowOf p q (reference_of s) next) same
           (member-step p all.plan s is (all.read_members g s has) place.element from low (way_of p.model s) next refl (sym (alike.serves place.element) ∙ serving) made)
 
@@ -187,9 +208,11 @@ module _ (p : Plan) (all : IsPlanOfAll p) (n : ℕ) (place : Place) (at : slice_
   group-step : (g : ℕ) (arrow : Arrow) → IsSourceOf p.heads place.cube g → group_arrow p place g ≡ Some arrow → IsVia p place None arrow
   group-step g arrow (head, found, own) made =
       let by : group_by p place g head ≡ Some arrow = sym (ap (λ (o : Option Source). option_map_or (group_by p place g) o None) found) ∙ made in
-      let (passes, equal) = cond_some (reads_from p.model head (last_of p.model.space head.cube) place.element && serves_any p.model head place.element) (record { to = hubs_from p + g; strict = false }) arrow by in
-      let (from, serving) = and_parts (reads_from p.model head (last_of p.model.space head.cube) place.element) (serves_any p.model head place.element) passes in
-      group-via g head arrow found own from serving equal
+      let reads = reads_from p.model head (last_of p.model.space head.cube) place.element in
+      let (tests, equal) = cond_some (is_for p.model head place && (reads && serves_any p.model head place.element)) (record { to = hubs_from p + g; strict = false }) arrow by in
+      let (for, passes) = and_parts (is_for p.model head place) (reads && serves_any p.model head place.element) tests in
+      let (from, serving) = and_parts reads (serves_any p.model head place.element) passes in
+      group-via g head arrow found own for from serving equal
 
   groups-step : (arrow : Arrow) → Contains (group_slots p n place) (Some arrow) → IsVia p place None arrow
   groups-step arrow has =
@@ -234,65 +257,78 @@ module _ (p : Plan) (all : IsPlanOfAll p) (n : ℕ) (place : Place) (at : slice_
       by (Some maker) (inl made) = inl (maker, made)
       by (Some maker) (inr via) = inr (Some maker, via)
 
--- what lies behind the nodes of elements leads to nodes of elements
+-- what lies behind the nodes of the model leads to nodes of the model
 abbrev pub LeadsBack : Plan → Arrow → Type 0
-LeadsBack p arrow = (target : Place) × IsPlace p.model.space target × (arrow.to ≡ number_of p.numbering target.cube target.element)
+LeadsBack p arrow = (target : Place) × IsPlace p.model target × (arrow.to ≡ number_of p.numbering target)
 
-reached-back : (p : Plan) (plan : IsPlan p) (s : Source) (is : IsSource p.model s) (totals : Bool) (arrow : Arrow) → Contains (reached_by p s totals (way_of p.model s)) (Some arrow) → LeadsBack p arrow
-reached-back p plan s is totals arrow has =
-    let r = reached-arrow p s totals (way_of p.model s) arrow has in
+reached-back : (p : Plan) (plan : IsPlan p) (s : Source) (is : IsSource p.model s) (read : IsRead p.model s) (gives : Gives) (arrow : Arrow) → Contains (reached_slots p s gives) (Some arrow) → LeadsBack p arrow
+reached-back p plan s is read gives arrow has =
+    let r = slots-arrow p s gives arrow has in
     let names = names-within p.model s.cube (precedent s) plan.valid is.reads in
-    let below : Names s.cube (cube_read s) (width p.model.space (cube_read s)) (SentOver r.i r.to) = subst (Names s.cube (cube_read s) (width p.model.space (cube_read s))) r.way names in (
-      record { cube = cube_read s; element = r.target },
-      record { cube = reads-cube p.model s.cube (precedent s) is.cube is.reads; element = below r.element r.target r.sends },
-      sym (ap (λ (a : Arrow). a.to) r.is),
-    )
+    let below : Names s.cube (cube_read s) (width p.model.space (cube_read s)) (SentOver r.i r.to) = subst (Names s.cube (cube_read s) (width p.model.space (cube_read s))) r.way names in
+    (target_at s r.target, target-place p plan s is read r.target (below r.element r.target r.sends), sym (ap (λ (a : Arrow). a.to) r.is))
 
-parts-back : (p : Plan) (plan : IsPlan p) (place : Place) → IsPlace p.model.space place → (arrow : Arrow) → Contains (map (part_arrow p place.cube) (parts_of p.model.space place)) (Some arrow) → LeadsBack p arrow
-parts-back p plan place is arrow has =
-    let (part, inside, counts, at) = parts-arrow p place.cube (parts_of p.model.space place) arrow has in
-    (record { cube = place.cube; element = part.0 }, record { cube = is.cube; element = part-low p.model place part plan.valid inside }, sym (ap (λ (a : Arrow). a.to) at))
+parts-back : (p : Plan) (plan : IsPlan p) (place : Place) → IsPlace p.model place → (totals : Bool) (arrow : Arrow) → Contains (map (part_arrow p place totals) (parts_of p.model.space place)) (Some arrow) → LeadsBack p arrow
+parts-back p plan place is totals arrow has =
+    let r = parts-arrow p place totals (parts_of p.model.space place) arrow has in
+    (place_at place.cube place.kind r.part.0, record { cube = is.cube; element = part-low p.model place r.part plan.valid r.inside; kind = is.kind }, sym (ap (λ (a : Arrow). a.to) r.is))
 
-shared-back : (p : Plan) (plan : IsPlan p) (s : Source) (is : IsSource p.model s) (arrow : Arrow) (w : Follows) → way_of p.model s ≡ w → member_by p s w ≡ Some arrow → LeadsBack p arrow
-shared-back p plan s is arrow Same way made = absurd (cc)
-shared-back p plan s is arrow Component way made = absurd (cc)
-shared-back p plan s is arrow (Always target) way made =
+shared-back : (p : Plan) (plan : IsPlan p) (s : Source) (is : IsSource p.model s) (read : IsRead p.model s) (arrow : Arrow) (w : Follows) → way_of p.model s ≡ w → member_by p s w ≡ Some arrow → LeadsBack p arrow
+shared-back p plan s is read arrow Same way made = absurd (cc)
+shared-back p plan s is read arrow Component way made = absurd (cc)
+shared-back p plan s is read arrow (Always target) way made =
     let names = names-within p.model s.cube (precedent s) plan.valid is.reads in
-    let below : Names s.cube (cube_read s) (width p.model.space (cube_read s)) (Always target) = subst (Names s.cube (cube_read s) (width p.model.space (cube_read s))) way names in (
-      record { cube = cube_read s; element = target },
-      record { cube = reads-cube p.model s.cube (precedent s) is.cube is.reads; element = below },
-      sym (ap (λ (a : Arrow). a.to) (same_Some _ _ made)),
-    )
-shared-back p plan s is arrow (Sent to) way made = absurd (cc)
-shared-back p plan s is arrow (SentOver i to) way made = absurd (cc)
+    let below : Names s.cube (cube_read s) (width p.model.space (cube_read s)) (Always target) = subst (Names s.cube (cube_read s) (width p.model.space (cube_read s))) way names in
+    (target_at s target, target-place p plan s is read target below, sym (ap (λ (a : Arrow). a.to) (same_Some _ _ made)))
+shared-back p plan s is read arrow (Sent to) way made = absurd (cc)
+shared-back p plan s is read arrow (SentOver i to) way made = absurd (cc)
 
-pub behind-back : (p : Plan) (plan : IsPlan p) (n : ℕ) (arrow : Arrow) → parts_from p ≤ n → Contains (slots_at p n) (Some arrow) → LeadsBack p arrow
-behind-back p plan n arrow behind has = elim (cases_lt n (all_from p)) [
-  | inl low ↦ parts low
-  | inr high ↦ elim (cases_lt n (totals_from p)) [ inl low ↦ reached high low | inr above ↦ elim (cases_lt n (hubs_from p)) [ inl low ↦ totals above low | inr beyond ↦ shared beyond (cases_lt n (node_count p)) ] ]
+-- which nodes lie behind
+data IsBehind (p : Plan) (n : ℕ) : Type 0 where
+  Parts : (totals : Bool) (k : ℕ) → k < parts_from p → n ≡ components_from p totals + k → IsBehind p n
+  Given : (own its : Bool) (k : ℕ) → k < length p.sources → n ≡ given_from p own its + k → IsBehind p n
+  Hub : (g : ℕ) → g < length p.heads → n ≡ hubs_from p + g → IsBehind p n
+  Past : node_count p ≤ n → IsBehind p n
+
+is-behind : (p : Plan) (n : ℕ) → parts_from p ≤ n → IsBehind p n
+is-behind p n behind = elim (cases_lt n (totals_from p)) [
+  | inl low ↦ Parts false (n - parts_from p) (omega (arith, behind, low)) (omega (arith, behind))
+  | inr high ↦ elim (cases_lt n (both_from p)) [ inl low ↦ Parts true (n - totals_from p) (omega (arith, high, low)) (omega (arith, high)) | inr above ↦ given above ]
 ]
   where
-    parts : n < all_from p → LeadsBack p arrow
-    parts low =
-        let (place, at) = there p.numbering.places.items (n - parts_from p) (omega arith) in
-        let slots = slots-parts p n (n - parts_from p) place (omega arith) at in
-        parts-back p plan place (plan.numbering.back (n - parts_from p) place at).0 arrow (subst (λ xs. Contains xs (Some arrow)) slots has)
+    shared : hubs_from p ≤ n → IsBehind p n
+    shared high = elim (cases_lt n (node_count p)) [ inl low ↦ Hub (n - hubs_from p) (omega (arith, high, low)) (omega (arith, high)) | inr past ↦ Past past ]
 
-    reached : all_from p ≤ n → n < totals_from p → LeadsBack p arrow
-    reached high low =
-        let (s, at) = there p.sources (n - all_from p) (omega arith) in
-        reached-back p plan s (found_holds (IsSource p.model) p.sources (n - all_from p) s plan.sources at) false arrow (subst (λ xs. Contains xs (Some arrow)) (slots-all p n (n - all_from p) s (omega arith) at) has)
+    late : its_from p ≤ n → IsBehind p n
+    late high = elim (cases_lt n (none_from p)) [
+      | inl low ↦ Given false true (n - its_from p) (omega (arith, high, low)) (omega (arith, high))
+      | inr above ↦ elim (cases_lt n (hubs_from p)) [ inl low ↦ Given false false (n - none_from p) (omega (arith, above, low)) (omega (arith, above)) | inr beyond ↦ shared beyond ]
+    ]
 
-    totals : totals_from p ≤ n → n < hubs_from p → LeadsBack p arrow
-    totals high low =
-        let (s, at) = there p.sources (n - totals_from p) (omega arith) in
-        reached-back p plan s (found_holds (IsSource p.model) p.sources (n - totals_from p) s plan.sources at) true arrow (subst (λ xs. Contains xs (Some arrow)) (slots-totals p n (n - totals_from p) s (omega arith) at) has)
+    given : both_from p ≤ n → IsBehind p n
+    given high = elim (cases_lt n (own_from p)) [
+      | inl low ↦ Given true true (n - both_from p) (omega (arith, high, low)) (omega (arith, high))
+      | inr above ↦ elim (cases_lt n (its_from p)) [ inl low ↦ Given true false (n - own_from p) (omega (arith, above, low)) (omega (arith, above)) | inr beyond ↦ late beyond ]
+    ]
 
-    shared : hubs_from p ≤ n → (n < node_count p) ⊎ (node_count p ≤ n) → LeadsBack p arrow
-    shared high (inl low) =
-        let g = n - hubs_from p in
-        let (s, inside, made) = map-has (member_arrow p) (members p g) (Some arrow) (subst (λ xs. Contains xs (Some arrow)) (slots-shared p n g (omega (arith, high)) (omega (arith, high, low))) has) in
-        shared-back p plan s (All-contains (IsSource p.model) (members p g) s (plan.grouped g) inside) arrow (way_of p.model s) refl made
-    shared high (inr past) =
+pub behind-back : (p : Plan) (all : IsPlanOfAll p) (n : ℕ) (arrow : Arrow) → parts_from p ≤ n → Contains (slots_at p n) (Some arrow) → LeadsBack p arrow
+behind-back p all n arrow behind has = by (is-behind p n behind)
+  where
+    plan : IsPlan p
+    plan = all.plan
+
+    by : IsBehind p n → LeadsBack p arrow
+    by (Parts totals k low is) =
+        let (place, at) = there p.numbering.places.items k low in
+        let slots = slots-parts p totals n k place is at in
+        parts-back p plan place (plan.numbering.back k place at).0 totals arrow (subst (λ xs. Contains xs (Some arrow)) slots has)
+    by (Given own its k low is) =
+        let (s, at) = there p.sources k low in
+        reached-back p plan s (found_holds (IsSource p.model) p.sources k s plan.sources at) (all.read k s at) (record { own = own; its = its }) arrow
+        (subst (λ xs. Contains xs (Some arrow)) (slots-given p own its n k s is at) has)
+    by (Hub g low is) =
+        let (s, inside, made) = map-has (member_arrow p) (members p g) (Some arrow) (subst (λ xs. Contains xs (Some arrow)) (slots-shared p n g is low) has) in
+        shared-back p plan s (All-contains (IsSource p.model) (members p g) s (plan.grouped g) inside) (all.read_members g s inside) arrow (way_of p.model s) refl made
+    by (Past past) =
         let (k, low, is) = subst (λ xs. Contains xs (Some arrow)) (slots-none p n past) has in
         absurd (omega (arith, low))

@@ -1,26 +1,95 @@
 -- Which cells serve a kind, leaves that count, and small steps.
-use Rattle.std.proofs.Common.{◌≡◌, refl, sym, ap, arith, subst, ℕ, zero, suc, ◌<◌, ◌⊎◌, ◌↔◌, Bool, true, false, not, ◌&&◌, ◌||◌, Option, Some, None, List, [], ◌∷◌, length, Contains, ℤ, inl, inr, if◌then◌else◌}
-use Rattle.std.specs.Prelude.{IsTrue, slice_index_or}
-use Rattle.std.proofs.lemmas.Bool.{or_cases, or_left, or_right, and_parts, and_from, eq-eqb, eqb-true}
+use Rattle.std.proofs.Common.{◌≡◌, refl, sym, ap, ◌∙◌, arith, subst, ℕ, zero, suc, ◌<◌, Bool, true, false, true≢false, not, ◌&&◌, ◌||◌, Option, Some, None, List, [], ◌∷◌, length, Contains, ℤ, if◌then◌else◌}
+use Rattle.std.specs.Prelude.{is_some, slice_index_or, unwrap_or}
+use Rattle.std.proofs.lemmas.Bool.{and_parts, and_from, eq-eqb, eqb-true}
 use Rattle.std.proofs.lemmas.List.Folds.{Any-from_list_any, list_any_at}
 use Rattle.dim_core.specs.Outline.{Outline}
 use Rattle.dim_weights.specs.Table.{is_nonzero, nonzero_among}
-use Rattle.order_laws.specs.Scales.{is_total, parts_in}
-use Rattle.arrow_laws.specs.ByDimension.{is_part, HasOtherTotal, SuitsKind}
+use Rattle.rule_model.specs.BoundModel.{BoundModel}
+use Rattle.order_laws.specs.Scales.{parts_in}
+use Rattle.order_laws.specs.Earlier.{is_same}
+use Rattle.arrow_laws.specs.Nodes.{has_kinds, has_nodes, kind_in}
+use Rattle.arrow_laws.specs.ByDimension.{is_part}
+use Rattle.read_sources.specs.declared.source.Source.{Source}
+use Rattle.read_sources.specs.declared.source.Given.{Given}
+use Rattle.read_sources.specs.Ways.{cube_read, meets, suits}
+use Rattle.order_find.specs.declared.numbering.Place.{Place}
+use Rattle.order_find.specs.Slots.{MeansByKind, target_at}
 
-pub suits-of : (dims : List Outline) (test : ℕ → ℕ → Bool) (kind : Bool) (last e i u : ℕ) (elsewhere : Bool) → IsTrue elsewhere ↔ HasOtherTotal dims test last i
-    → ((kind || (is_total dims last e || elsewhere)) ≡ true) ⊎ (is_total dims i u ≡ true) → SuitsKind dims test kind last e i u
-suits-of dims test true last e i u elsewhere is h = tt
-suits-of dims test false last e i u elsewhere is (inl any) =
-    elim (or_cases (is_total dims last e) elsewhere any) [ inl own ↦ inl own | inr other ↦ inr (inr (is.0 other)) ]
-suits-of dims test false last e i u elsewhere is (inr total) = inr (inl total)
+-- ---- the kinds of what is read
 
-pub of-suits : (dims : List Outline) (test : ℕ → ℕ → Bool) (kind : Bool) (last e i u : ℕ) (elsewhere : Bool) → IsTrue elsewhere ↔ HasOtherTotal dims test last i
-    → SuitsKind dims test kind last e i u → ((kind || (is_total dims last e || elsewhere)) ≡ true) ⊎ (is_total dims i u ≡ true)
-of-suits dims test true last e i u elsewhere is h = inl refl
-of-suits dims test false last e i u elsewhere is (inl own) = inl (or_left (is_total dims last e) elsewhere own)
-of-suits dims test false last e i u elsewhere is (inr (inl total)) = inr total
-of-suits dims test false last e i u elsewhere is (inr (inr other)) = inl (or_right (is_total dims last e) elsewhere (is.1 other))
+meant-kind : (its : Option Bool) (h : Bool) → is_some its ≡ h → (if h then Some (unwrap_or its true) else None) ≡ its
+meant-kind None true is = absurd (cc is)
+meant-kind None false is = refl
+meant-kind (Some kind) true is = refl
+meant-kind (Some kind) false is = absurd (cc is)
+
+nodes-kind : (its : Option Bool) (h : Bool) → is_some its ≡ h → unwrap_or its true || h ≡ true
+nodes-kind None h is = refl
+nodes-kind (Some true) h is = refl
+nodes-kind (Some false) true is = refl
+nodes-kind (Some false) false is = absurd (cc is)
+
+kind-meant : (its : Option Bool) (h kind : Bool) → (if h then Some kind else None) ≡ its → kind || h ≡ true → kind ≡ unwrap_or its true
+kind-meant its true kind is has = ap (λ (o : Option Bool). unwrap_or o true) is
+kind-meant its false true is has = ap (λ (o : Option Bool). unwrap_or o true) is
+kind-meant its false false is has = absurd (cc has)
+
+module _ (m : BoundModel) (s : Source) (means : MeansByKind m s) where
+  -- the nodes that a source reads are those of the cells that it means
+  pub target-meant : kind_in m (cube_read s) (unwrap_or s.its true) ≡ s.its
+  target-meant = meant-kind s.its (has_kinds m (cube_read s)) means
+
+  pub target-nodes : has_nodes m (cube_read s) (unwrap_or s.its true) ≡ true
+  target-nodes = nodes-kind s.its (has_kinds m (cube_read s)) means
+
+pub meant-target : (m : BoundModel) (s : Source) (kind : Bool) → kind_in m (cube_read s) kind ≡ s.its → has_nodes m (cube_read s) kind ≡ true → kind ≡ unwrap_or s.its true
+meant-target m s kind is has = kind-meant s.its (has_kinds m (cube_read s)) kind is has
+
+pub same-kind : (a b : Bool) → is_same a b ≡ true → a ≡ b
+same-kind true true is = refl
+same-kind true false is = absurd (cc is)
+same-kind false true is = absurd (cc is)
+same-kind false false is = refl
+
+pub kind-same : (a b : Bool) → a ≡ b → is_same a b ≡ true
+kind-same true true is = refl
+kind-same true false is = absurd (cc is)
+kind-same false true is = absurd (cc is)
+kind-same false false is = refl
+
+-- ---- what is given
+
+-- where all is given, all suits
+all-given : (kind asks : Bool) (given : Given) → meets given (record { own = not kind && not true; its = asks && not true }) ≡ true
+all-given true true given = refl
+all-given true false given = refl
+all-given false true given = refl
+all-given false false given = refl
+
+pub suits-total : (s : Source) → suits s true true ≡ true
+suits-total s = all-given s.kind s.asks s.elsewhere
+
+pub suits-more : (s : Source) (x : Bool) → suits s true false ≡ true → suits s true x ≡ true
+suits-more s true h = suits-total s
+suits-more s false h = h
+
+-- a component suits that is consolidated, or where any does
+pub suits-part : (s : Source) (total t : Bool) → suits s true false ≡ t → not (not t) || total ≡ true → suits s true total ≡ true
+suits-part s total true is h = suits-more s total is
+suits-part s true false is h = suits-total s
+suits-part s false false is h = absurd (cc h)
+
+pub part-suits : (s : Source) (total t : Bool) → suits s true false ≡ t → suits s true total ≡ true → not (not t) || total ≡ true
+part-suits s total true is h = refl
+part-suits s true false is h = refl
+part-suits s false false is h = absurd (true≢false (sym h ∙ is))
+
+-- what isn't asked isn't given
+pub not-given : (asks x : Bool) → (asks && x) && not asks ≡ false
+not-given true true = refl
+not-given true false = refl
+not-given false x = refl
 
 -- a component of a weight other than 0
 pub part-is : (dims : List Outline) (last from : ℕ) (part : ℕ × ℤ) → Contains (parts_in dims last from) part → is_nonzero part.1 ≡ true → is_part dims last from part.0 ≡ true

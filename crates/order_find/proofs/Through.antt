@@ -12,24 +12,24 @@ use Rattle.order_find.specs.declared.link.LinkBy.TheVariants.{Reference, Below}
 use Rattle.order_find.specs.declared.numbering.Place.{Place}
 use Rattle.order_find.specs.Numbers.{IsPlace, number_of}
 use Rattle.order_find.specs.Slots.{Plan, parts_from, node_count, slots_at}
-use Rattle.order_find.specs.Circles.{IsBy, node_of}
+use Rattle.order_find.specs.Circles.{IsBy}
 
 abbrev pub node : Place → Node
-node place = record { cube = place.cube; element = place.element }
+node place = record { cube = place.cube; element = place.element; kind = place.kind }
 
 abbrev pub link_from : Place → LinkBy → Link
 link_from place by = record { cube = place.cube; element = place.element; by = by }
 
-pub made-arrow : (m : BoundModel) (link : Link) (by : LinkBy) (to : Node) (strict : Bool) → IsBy m link by to strict → IsArrow m (node_of link) to strict
-made-arrow m link (Reference statement reference) to strict made = inl made.arrow
-made-arrow m link Below to strict made = inr made
+pub made-arrow : (m : BoundModel) (from : Node) (by : LinkBy) (to : Node) (strict : Bool) → IsBy m from by to strict → IsArrow m from to strict
+made-arrow m from (Reference statement reference) to strict made = inl made.arrow
+made-arrow m from Below to strict made = inr made
 
--- the arrow leads to the node of an element, and it is an arrow of the model that this makes
+-- the arrow leads to a node of the model, and it is an arrow of the model that this makes
 pub record IsArrowOf (p : Plan) (place : Place) (by : LinkBy) (arrow : Arrow) : Type 0 where
   pub target : Place
-  pub within : IsPlace p.model.space target
-  pub to : arrow.to ≡ number_of p.numbering target.cube target.element
-  pub made : IsBy p.model (link_from place by) by (node target) arrow.strict
+  pub within : IsPlace p.model target
+  pub to : arrow.to ≡ number_of p.numbering target
+  pub made : IsBy p.model (node place) by (node target) arrow.strict
 
 -- the arrow is weak and leads to another node, of which each arrow goes on so, by what makes the first one or else by
 -- what its own slot says

@@ -2,12 +2,12 @@
 use Rattle.std.proofs.Common.{◌≡◌, refl, sym, ap, ◌∙◌, arith, subst, ℕ, suc, ◌+◌, ◌≤◌, Bool, true, false, ◌||◌, List, [], ◌∷◌, ◌++◌, take, drop, Contains, if◌then◌else◌}
 use Rattle.std.proofs.lemmas.List.{take-append-drop}
 use Rattle.rule_model.specs.BoundModel.{BoundModel}
-use Rattle.arrow_laws.specs.Nodes.{Node, rank_of}
+use Rattle.arrow_laws.specs.Nodes.{Node, NodeRanks, rank_of}
 use Rattle.arrow_laws.specs.Arrows.{FitArrows}
 use Rattle.order_find.specs.declared.link.Link.{Link}
 use Rattle.order_find.specs.declared.link.LinkBy.{LinkBy}
 use Rattle.order_find.specs.declared.link.LinkBy.TheVariants.{Reference, Below}
-use Rattle.order_find.specs.Circles.{IsBy, IsWalk, IsCircle, node_of}
+use Rattle.order_find.specs.Circles.{IsBy, IsWalk, IsCircle}
 use Rattle.order_find.proofs.Through.{made-arrow}
 
 or-both : (a b c : Bool) → ((a || b) || c) ≡ (a || (b || c))
@@ -71,28 +71,28 @@ pub record HasReference (links : List Link) : Type 0 where
 with-first : (first : Link) (links : List Link) → HasReference links → HasReference (first ∷ links)
 with-first first links r = record { link = r.link; there = (suc r.there.0, omega (arith, r.there.1), r.there.2); statement = r.statement; reference = r.reference; is = r.is }
 
-in-first : (m : BoundModel) (first : Link) (links : List Link) (by : LinkBy) (next : Node) (strict here later : Bool) → first.by ≡ by → IsBy m first by next here → strict ≡ (here || later) → strict ≡ true
+in-first : (m : BoundModel) (first : Link) (links : List Link) (by : LinkBy) (from next : Node) (strict here later : Bool) → first.by ≡ by → IsBy m from by next here → strict ≡ (here || later) → strict ≡ true
     → (later ≡ true → HasReference links) → HasReference (first ∷ links)
-in-first m first links (Reference statement reference) next strict here later is made both on rest = record { link = first; there = (0, omega arith, refl); statement = statement; reference = reference; is = is }
-in-first m first links Below next strict here later is made both on rest = with-first first links (rest (ap (λ b. b || later) (sym made.weak) ∙ sym both ∙ on))
+in-first m first links (Reference statement reference) from next strict here later is made both on rest = record { link = first; there = (0, omega arith, refl); statement = statement; reference = reference; is = is }
+in-first m first links Below from next strict here later is made both on rest = with-first first links (rest (ap (λ b. b || later) (sym made.weak) ∙ sym both ∙ on))
 
 has-reference : (m : BoundModel) (links : List Link) (strict : Bool) (from to : Node) → IsWalk m links strict from to → strict ≡ true → HasReference links
 has-reference m [] strict from to walk on = let off = walk.1 in absurd (cc)
 has-reference m (first ∷ links) strict from to walk on =
-    in-first m first links first.by walk.1.0 strict walk.1.1 walk.1.2 refl walk.1.3 walk.1.5 on (λ later. has-reference m links walk.1.2 walk.1.0 to walk.1.4 later)
+    in-first m first links first.by from walk.1.0 strict walk.1.1 walk.1.2 refl walk.1.3 walk.1.5 on (λ later. has-reference m links walk.1.2 walk.1.0 to walk.1.4 later)
 
 pub circle-reference : (m : BoundModel) (links : List Link) → IsCircle m links → HasReference links
 circle-reference m links (start, walk) = has-reference m links true start start walk refl
 
 -- along a walk ranks that fit don't rise, and they fall where it is strict
-walk-falls : (m : BoundModel) (ranks : List (List ℕ)) → FitArrows m ranks → (links : List Link) (strict : Bool) (from to : Node) → IsWalk m links strict from to
+walk-falls : (m : BoundModel) (ranks : NodeRanks) → FitArrows m ranks → (links : List Link) (strict : Bool) (from to : Node) → IsWalk m links strict from to
     → rank_of ranks to + (if strict then 1 else 0) ≤ rank_of ranks from
 walk-falls m ranks fits [] strict from to walk = omega (arith, ap (rank_of ranks) walk.0, ap {B = ℕ} (λ b. if b then 1 else 0) walk.1)
 walk-falls m ranks fits (first ∷ links) strict from to walk =
     let next : Node = walk.1.0 in
-    let here = fits (node_of first) next walk.1.1 (made-arrow m first first.by next walk.1.1 walk.1.3) in
+    let here = fits from next walk.1.1 (made-arrow m from first.by next walk.1.1 walk.1.3) in
     let later = walk-falls m ranks fits links walk.1.2 next to walk.1.4 in
-    omega (arith, here, later, ap (rank_of ranks) walk.0, ap {B = ℕ} (λ b. if b then 1 else 0) walk.1.5, at-most walk.1.1 walk.1.2)
+    omega (arith, here, later, ap {B = ℕ} (λ b. if b then 1 else 0) walk.1.5, at-most walk.1.1 walk.1.2)
   where
     at-most : (a b : Bool) → (if a || b then 1 else 0) ≤ (if a then 1 else 0) + (if b then 1 else 0)
     at-most true true = omega arith
@@ -100,5 +100,5 @@ walk-falls m ranks fits (first ∷ links) strict from to walk =
     at-most false true = omega arith
     at-most false false = omega arith
 
-pub circle-fits-none : (m : BoundModel) (links : List Link) (ranks : List (List ℕ)) → IsCircle m links → FitArrows m ranks → ⊥
+pub circle-fits-none : (m : BoundModel) (links : List Link) (ranks : NodeRanks) → IsCircle m links → FitArrows m ranks → ⊥
 circle-fits-none m links ranks (start, walk) fits = let falls = walk-falls m ranks fits links true start start walk in omega (arith, falls)

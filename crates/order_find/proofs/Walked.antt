@@ -78,7 +78,7 @@ module _ (p : Plan) (all : IsPlanOfAll p) where
       → Leads p.model (link_from from by ∷ links) from to ((arrow.strict ≡ true) ⊎ Strict)
   join by arrow from to links Strict a rest = record {
     strict = arrow.strict || rest.strict;
-    walk = (refl, (node a.target, arrow.strict, rest.strict, a.made, rest.walk, refl));
+    walk = ((refl, refl), (node a.target, arrow.strict, rest.strict, a.made, rest.walk, refl));
     has = has;
   }
     where
@@ -171,7 +171,7 @@ module _ (p : Plan) (all : IsPlanOfAll p) where
       let is = walk.1.1 in
       let behind : parts_from p ≤ step.node = omega (arith, high, walk.0) in
       let has = (slot-has p step.node step.slot arrow is).1 in
-      let back : LeadsBack p arrow = behind-back p all.plan step.node arrow behind has in
+      let back : LeadsBack p arrow = behind-back p all step.node arrow behind has in
       let at : slice_get p.numbering.places.items arrow.to ≡ Some back.0 = ap (slice_get p.numbering.places.items) back.2 ∙ all.plan.numbering.there back.0 back.1 in
       let rest : IsTrail graph steps arrow.to step.node = subst (λ m. IsTrail graph steps arrow.to m) (sym walk.0) walk.1.2 in
       circle-from (steps ++ step ∷ []) arrow.to back.0 at (IsWalk-push graph steps step arrow.to arrow is rest) (strict-last graph step steps strict)

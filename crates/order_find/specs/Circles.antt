@@ -24,20 +24,19 @@ pub record IsArrowOf (m : BoundModel) (cube statement reference : ℕ) (from to 
   pub there : slice_get (counted_of arrow.statement) at ≡ Some it
   pub reads : read_for arrow.kind it ≡ Some arrow.precedent
 
--- the node of a link, and the arrow that the link makes from there to another
-abbrev pub node_of : Link → Node
-node_of link = record { cube = link.cube; element = link.element }
+-- a link names the cube and the element of a node, of either kind, and an arrow that is made so leads from there to another
+abbrev pub IsAt : Link → Node → Type 0
+IsAt link node = (link.cube ≡ node.cube) × (link.element ≡ node.element)
 
-abbrev pub IsBy : BoundModel → Link → LinkBy → Node → Bool → Type 0
-IsBy m link (Reference statement reference) to strict =
-    IsArrowOf m link.cube statement reference (node_of link) to strict
-IsBy m link Below to strict = IsLeafArrow m (node_of link) to strict
+abbrev pub IsBy : BoundModel → Node → LinkBy → Node → Bool → Type 0
+IsBy m from (Reference statement reference) to strict = IsArrowOf m from.cube statement reference from to strict
+IsBy m from Below to strict = IsLeafArrow m from to strict
 
--- each link makes an arrow to the node of the next one, and the last one to `to`; whether one of them is strict
+-- each link makes an arrow to a node of the next one, and the last one to `to`; whether one of them is strict
 abbrev pub IsWalk : BoundModel → List Link → Bool → Node → Node → Type 0
 IsWalk m [] strict from to = (from ≡ to) × (strict ≡ false)
 IsWalk m (link ∷ links) strict from to =
-    (node_of link ≡ from) × ((next : Node) × (here : Bool) × (later : Bool) × IsBy m link link.by next here
+    IsAt link from × ((next : Node) × (here : Bool) × (later : Bool) × IsBy m from link.by next here
     × IsWalk m links later next to × (strict ≡ (here || later)))
 
 -- a walk that leads back to where it begins, with a strict arrow

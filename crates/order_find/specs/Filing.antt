@@ -3,7 +3,7 @@ use Rattle.std.specs.Prelude.{◌≡◌, ℕ, ◌<◌, ◌≤◌, ◌⊎◌, Boo
 use Rattle.std.specs.Prelude.{IsTrue, slice_get, slice_index_or, if◌then◌else◌}
 use Rattle.rule_model.specs.Areas.{in_set}
 use Rattle.rule_model.specs.BoundModel.{BoundModel}
-use Rattle.arrow_laws.specs.Nodes.{last_of}
+use Rattle.arrow_laws.specs.Nodes.{last_of, node_kind}
 use Rattle.order_find.specs.declared.numbering.Place.{Place}
 use Rattle.order_find.specs.declared.numbering.Numbering.{Numbering}
 use Rattle.read_sources.specs.declared.source.Source.{Source}
@@ -60,7 +60,7 @@ pub record AreFiled (p : Looked) (count : ℕ) : Type 0 where
   pub few_of_cubes : (cube : ℕ) → length (slice_index_or p.of_cubes cube []) ≤ count
   pub few_of_nodes : (n : ℕ) → length (slice_index_or p.of_nodes n []) ≤ count
   pub looked_at : (k : ℕ) (s : Source) (place : Place) → k < count → slice_get p.sources k ≡ Some s
-      → IsPlace p.model.space place → place.cube ≡ s.cube
+      → IsPlace p.model place → place.cube ≡ s.cube → place.kind ≡ node_kind p.model s.cube s.kind
       → IsTrue (in_set (slice_index_or s.area.now.sets (last_of p.model.space s.cube) None) place.element)
       → Contains (slice_index_or p.of_cubes place.cube []) k
-      ⊎ Contains (slice_index_or p.of_nodes (number_of p.numbering place.cube place.element) []) k
+      ⊎ Contains (slice_index_or p.of_nodes (number_of p.numbering place) []) k

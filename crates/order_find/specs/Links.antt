@@ -21,7 +21,7 @@ maker p k = option_map_or reference_of (slice_get p.sources k) Below
 -- what makes the arrow in each slot of the node of an element, but for those to groups
 abbrev pub makers_of : Plan → ℕ → Place → List (Option LinkBy)
 makers_of p n place =
-    map (λ pair. Some Below) (leaves_below p.model.space place)
+    map (λ pair. Some Below) (leaves_below p.model place)
     ++ (map (λ k. Some (maker p k)) (slice_index_or p.of_cubes place.cube [])
     ++ map (λ k. Some (maker p k)) (slice_index_or p.of_nodes n []))
 

@@ -5,9 +5,9 @@ use Rattle.rule_laws.specs.Meaning.{Precedent}
 use Rattle.rule_model.specs.declared.rules.Statement.{Statement}
 use Rattle.rule_model.specs.Areas.{in_set}
 use Rattle.rule_model.specs.BoundModel.{rules_of}
-use Rattle.arrow_laws.specs.Nodes.{last_of, rank_of}
+use Rattle.arrow_laws.specs.Nodes.{Node, NodeRanks, last_of, node_kind, rank_of}
 use Rattle.arrow_laws.specs.Arrows.{Reads}
-use Rattle.arrow_laws.specs.ByDimension.{is_lagged, is_level}
+use Rattle.arrow_laws.specs.ByDimension.{is_lagged, is_level, IsJoinedByDimension}
 use Rattle.order_find.specs.declared.numbering.Place.{Place}
 use Rattle.read_sources.specs.declared.source.Source.{Source}
 use Rattle.order_find.specs.Numbers.{IsPlace, number_of}
@@ -27,25 +27,26 @@ pub record IsPlanOfAll (p : Plan) : Type 0 where
       → Contains (rules_of p.model cube).statements statement → Reads p.model cube statement kind read
       → IsTrue (is_level p.model cube statement.area kind read)
       → is_lagged p.model cube statement.area kind read ≡ false
-      → IsReadLike p.model p.sources cube statement kind read
-      ⊎ IsReadIn p.model p.heads p.groups cube statement kind read
+      → (from to : Node) → IsJoinedByDimension p.model cube statement.area kind read from to
+      → IsReadLike p.model p.sources cube statement kind read from to
+      ⊎ IsReadIn p.model p.heads p.groups cube statement kind read from to
   pub looked_at : (k : ℕ) (s : Source) (place : Place) → slice_get p.sources k ≡ Some s
-      → IsPlace p.model.space place → place.cube ≡ s.cube
+      → IsPlace p.model place → place.cube ≡ s.cube → place.kind ≡ node_kind p.model s.cube s.kind
       → IsTrue (in_set (slice_index_or s.area.now.sets (last_of p.model.space s.cube) None) place.element)
       → Contains (slice_index_or p.of_cubes place.cube []) k
-      ⊎ Contains (slice_index_or p.of_nodes (number_of p.numbering place.cube place.element) []) k
+      ⊎ Contains (slice_index_or p.of_nodes (number_of p.numbering place) []) k
   pub of_cubes : (cube g : ℕ) → Contains (slice_index_or p.groups_of_cubes cube []) g → IsSourceOf p.heads cube g
   pub of_nodes : (n g : ℕ) (place : Place) → slice_get p.numbering.places.items n ≡ Some place
       → Contains (slice_index_or p.groups_of_nodes n []) g → IsSourceOf p.heads place.cube g
   pub heads_looked_at : (g : ℕ) (s : Source) (place : Place) → slice_get p.heads g ≡ Some s
-      → IsPlace p.model.space place → place.cube ≡ s.cube
+      → IsPlace p.model place → place.cube ≡ s.cube → place.kind ≡ node_kind p.model s.cube s.kind
       → IsTrue (in_set (slice_index_or s.area.now.sets (last_of p.model.space s.cube) None) place.element)
       → Contains (slice_index_or p.groups_of_cubes place.cube []) g
-      ⊎ Contains (slice_index_or p.groups_of_nodes (number_of p.numbering place.cube place.element) []) g
+      ⊎ Contains (slice_index_or p.groups_of_nodes (number_of p.numbering place) []) g
 
--- the ranks of the nodes are those of the elements
-abbrev pub AreRanksOf : Plan → List ℕ → List (List ℕ) → Type 0
+-- the ranks of the model's nodes are those of their numbers
+abbrev pub AreRanksOf : Plan → List ℕ → NodeRanks → Type 0
 AreRanksOf p numbered ranks =
-    (place : Place) → IsPlace p.model.space place
-    → rank_of ranks (record { cube = place.cube; element = place.element })
-    ≡ slice_index numbered (number_of p.numbering place.cube place.element)
+    (place : Place) → IsPlace p.model place
+    → rank_of ranks (record { cube = place.cube; element = place.element; kind = place.kind })
+    ≡ slice_index numbered (number_of p.numbering place)

@@ -1,8 +1,9 @@
-ghost use Rattle.std.specs.Prelude.{◌≡◌, ℕ, ◌+◌, ◌<◌, ◌++◌, List, IfOk, OnOk, Some, None, length, unwrap_or};
+ghost use Rattle.std.specs.Prelude.{◌≡◌, ◌+◌, ◌<◌, ◌++◌, List, IfOk, OnOk, Some, None, length, unwrap_or};
 ghost use Rattle.std.specs.Prelude.{slice_get, slice_index_or, map};
 ghost use Rattle.std.specs.List.{IsFirstBest};
 ghost use Rattle.least_ranks.specs.Graph.{IsClosedWalk};
 ghost use Rattle.rule_model.specs.BoundModel.{BoundModel};
+ghost use Rattle.arrow_laws.specs.Nodes.{NodeRanks};
 ghost use Rattle.arrow_laws.specs.Arrows.{FitArrows};
 ghost use Rattle.order_find.specs.Numbers.{IsPlace};
 ghost use Rattle.order_find.specs.Slots.{arrows_of};
@@ -22,7 +23,7 @@ use std::alloc::{AllocError, Global};
 
 /// Where links are a circle of arrows of a model, of which one is strict, no ranks fit the arrows.
 pub fn no_ranks_fit_a_circle()
-    ensures { (m : BoundModel) (links : List Link) (ranks : List (List ℕ)) → IsCircle m links
+    ensures { (m : BoundModel) (links : List Link) (ranks : NodeRanks) → IsCircle m links
         → FitArrows m ranks → ⊥ }
 {}
 
@@ -157,7 +158,7 @@ fn reference_of(source: Source) -> LinkBy
 
 // What makes the arrow in a slot of the node of an element, unless that leads to a group.
 fn made_by(graph: &NodeGraph, node: u32, place: Place, slot: usize) -> Option<LinkBy>
-    requires { IsPlace graph.now.model.space place }
+    requires { IsPlace graph.now.model place }
     ensures { result ≡ made_by graph.now node place slot }
 {
     let leaves = leaves_below(graph.model(), place).len();

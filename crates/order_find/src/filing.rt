@@ -6,6 +6,8 @@ ghost use Rattle.read_sources.specs.Ways.{IsSource};
 ghost use Rattle.order_find.specs.Filing.{Adds, AreFiled, looked_by};
 
 use crate::numbering::Numbering;
+use crate::numbers::first_of;
+use crate::tables::own_kind;
 use lists::ListOf;
 use read_sources::{Source, last_of, set_of};
 use ref_order::axis;
@@ -34,7 +36,7 @@ pub fn file_sources(
     numbering: &Numbering,
     sources: &[Source],
 ) -> Result<Filing, AllocError>
-    requires numbering { IsNumbering model.now.space numbering.now }
+    requires numbering { IsNumbering model.now numbering.now }
     requires sources { All (IsSource model.now) sources.now }
     requires few { length sources.now < 2 ^ 32 }
     ensures { IfOk result (λ filing. AreFiled (looked_by model.now numbering.now sources.now filing)
@@ -69,7 +71,7 @@ fn file(
     k: u32,
     filing: &mut Filing,
 ) -> Result<(), AllocError>
-    requires numbering { IsNumbering model.now.space numbering.now }
+    requires numbering { IsNumbering model.now numbering.now }
     requires sources { All (IsSource model.now) sources.now }
     requires k { k < length sources.now }
     requires filed { AreFiled (looked_by model.now numbering.now sources.now filing.old) k }
@@ -80,7 +82,7 @@ fn file(
     let size = axis(model, source.cube, last).len();
     match set_of(model, source, last) {
         Some(listed) if listed.as_slice().len() <= size as usize / ONE_IN => {
-            let first = numbering.firsts[source.cube as usize];
+            let first = first_of(numbering, source.cube, own_kind(model, source));
             add_each(alloc, &mut filing.of_nodes, first, listed.as_slice(), k)
         }
         _ => add(alloc, &mut filing.of_cubes, source.cube as usize, k),

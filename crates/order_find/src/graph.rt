@@ -4,7 +4,7 @@ use crate::arrows::{arrow_in, slots_in, vertex};
 use crate::fault::FindFault;
 use crate::filing::file_sources;
 use crate::numbering::{Numbering, Place};
-use crate::numbers::number_nodes;
+use crate::numbers::{first_of, number_nodes};
 use least_ranks::{Arrow, Graph};
 use lists::ListOf;
 use read_sources::{Group, Source, part_sources, sources_of};
@@ -62,10 +62,10 @@ impl<'a> std::marker::Model for NodeGraph<'a> {
 }
 
 impl<'a> NodeGraph<'a> {
-    ghost use Rattle.std.specs.Prelude.{◌≡◌, ◌<◌, ◌^◌, [], IfOk, IfErr, OnOk, length, slice_get, slice_index_or};
+    ghost use Rattle.std.specs.Prelude.{◌≡◌, ◌<◌, ◌+◌, ◌^◌, [], IfOk, IfErr, OnOk, length, slice_get, slice_index_or};
     ghost use Rattle.arrow_laws.specs.Arrows.{IsLevelThroughout};
-    ghost use Rattle.order_find.specs.Numbers.{count_of, number_of, width};
-    ghost use Rattle.order_find.specs.Slots.{IsPlan, node_count, hubs_from, members};
+    ghost use Rattle.order_find.specs.Numbers.{IsPlace, count_of, number_of};
+    ghost use Rattle.order_find.specs.Slots.{IsPlan, node_count, components_from, given_from, hubs_from, members};
     ghost use Rattle.read_sources.specs.Sources.{AreSourcesOf};
     ghost use Rattle.order_find.specs.PlanOfAll.{IsPlanOfAll};
     ghost use Rattle.order_find.specs.Unlagged.{IsUnlaggedFault};
@@ -75,8 +75,7 @@ impl<'a> NodeGraph<'a> {
     /// # Errors
     ///
     /// - [`FindFault::Unlagged`] exactly where some reference may read at a greater lag, with the first such reference.
-    /// - [`FindFault::Memory`] when out of memory. More than 2^30 elements of the last dimensions of all cubes together
-    ///   count as that, and so do more than 2^29 sources.
+    /// - [`FindFault::Memory`] when out of memory. More than 2^28 nodes count as that, and so do more than 2^29 sources.
     pub fn of(alloc: Global, model: &'a Model) -> Result<NodeGraph<'a>, FindFault>
         ensures plan { IfOk result IsPlanOfAll }
         ensures model { IfOk result (λ graph. graph.model ≡ model.now) }
@@ -123,7 +122,7 @@ impl<'a> NodeGraph<'a> {
         self.model
     }
 
-    /// How many nodes of elements there are.
+    /// How many nodes of the model there are.
     pub(crate) fn place_count(&self) -> u32
         ensures count { result ≡ count_of self.now.numbering }
         ensures few { node_count self.now < 2 ^ 32 }
@@ -138,7 +137,7 @@ impl<'a> NodeGraph<'a> {
         self.sources.len() as u32
     }
 
-    /// The element of a node.
+    /// The node of the model that has this number.
     pub(crate) fn place(&self, node: u32) -> Option<Place>
         ensures { result ≡ slice_get self.now.numbering.places.items node }
     {
@@ -166,14 +165,38 @@ impl<'a> NodeGraph<'a> {
         row(&self.of_nodes, node)
     }
 
+    /// The number of the first node for components, or for consolidated ones alone.
+    pub(crate) fn components_from(&self, totals: bool) -> u32
+        ensures from { result ≡ components_from self.now totals }
+        ensures room { result + count_of self.now.numbering < 2 ^ 32 }
+    {
+        let _model = self.model();
+        let count = self.place_count();
+        if totals { count + count } else { count }
+    }
+
+    /// The number of the first node for sources by what an element gives of what they ask.
+    pub(crate) fn given_from(&self, own: bool, its: bool) -> u32
+        ensures from { result ≡ given_from self.now own its }
+        ensures room { result + length self.now.sources < 2 ^ 32 }
+    {
+        let _model = self.model();
+        let sources = self.source_count();
+        let both = self.components_from(true) + self.place_count();
+        match (own, its) {
+            (true, true) => both,
+            (true, false) => both + sources,
+            (false, true) => both + sources + sources,
+            (false, false) => both + sources + sources + sources,
+        }
+    }
+
     /// The number of the first node of a group.
     pub(crate) fn hubs_from(&self) -> u32
         ensures { result ≡ hubs_from self.now }
     {
         let _model = self.model();
-        let count = self.place_count();
-        let sources = self.source_count();
-        count + count + sources + sources
+        self.given_from(false, false) + self.source_count()
     }
 
     /// How many groups there are.
@@ -224,15 +247,14 @@ impl<'a> NodeGraph<'a> {
         row(&self.groups_of_nodes, node)
     }
 
-    /// The number of the node of an element.
-    pub(crate) fn number(&self, cube: u32, element: u32) -> u32
-        requires cube { cube < length self.now.model.space.cubes }
-        requires element { element < width self.now.model.space cube }
-        ensures number { result ≡ number_of self.now.numbering cube element }
+    /// The number of a node of the model.
+    pub(crate) fn number(&self, place: Place) -> u32
+        requires { IsPlace self.now.model place }
+        ensures number { result ≡ number_of self.now.numbering place }
         ensures within { result < count_of self.now.numbering }
     {
         let _model = self.model();
-        self.numbering.firsts[cube as usize] + element
+        first_of(&self.numbering, place.cube, place.kind) + place.element
     }
 }
 

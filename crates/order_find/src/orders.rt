@@ -1,15 +1,15 @@
-ghost use Rattle.std.specs.Prelude.{◌≡◌, ◌<◌, true, None, IfOk, OnOk, length, map, [], ◌∷◌};
-ghost use Rattle.rule_model.specs.declared.order.Position.TheVariants.{Ranks};
+ghost use Rattle.std.specs.Prelude.{◌≡◌, ◌<◌, true, false, Some, None, IsTrue, IfOk, OnOk, length, map, if◌then◌else◌};
 ghost use Rattle.rule_model.specs.Order.{position_of};
 ghost use Rattle.rule_model.specs.System.{cubes_of};
-ghost use Rattle.arrow_laws.specs.Nodes.{last_of};
+ghost use Rattle.arrow_laws.specs.Nodes.{has_kinds, has_nodes};
 ghost use Rattle.arrow_laws.specs.Ranked.{AreNodeRanks, order_by};
 ghost use Rattle.order_find.specs.Slots.{node_count};
-ghost use Rattle.order_find.specs.Cut.{ranks_of, all_ranks};
+ghost use Rattle.order_find.specs.Cut.{ranks_of, all_ranks, positions_in, order_in};
 
 use crate::graph::NodeGraph;
+use crate::numbering::Place;
 use lists::ListOf;
-use read_sources::last_of;
+use read_sources::{has_kinds, last_of};
 use ref_order::axis;
 use rule_model::{Model, Order, Position};
 use std::alloc::{AllocError, Global};
@@ -33,23 +33,54 @@ pub fn orders(alloc: Global, graph: &NodeGraph, ranks: &[u32]) -> Result<Vec<Ord
 fn order(alloc: Global, graph: &NodeGraph, cube: u32, ranks: &[u32]) -> Result<Order, AllocError>
     requires ranks { length ranks.now ≡ node_count graph.now }
     requires cube { cube < length graph.now.model.space.cubes }
-    ensures { IfOk result (λ order. order ≡ (record {
-      positions = position_of graph.now.model cube true 0
-          ∷ Ranks (last_of graph.now.model.space cube) (ranks_of graph.now ranks.now cube) ∷ [];
-      totals = None;
-    })) }
+    ensures { IfOk result (λ order. order ≡ order_in graph.now ranks.now cube) }
+{
+    Ok(Order {
+        positions: positions(alloc, graph, cube, true, ranks)?,
+        totals: totals(alloc, graph, cube, ranks)?,
+    })
+}
+
+// The positions of consolidated cells, where the cells of a cube have kinds.
+fn totals(
+    alloc: Global,
+    graph: &NodeGraph,
+    cube: u32,
+    ranks: &[u32],
+) -> Result<Option<ListOf<Position>>, AllocError>
+    requires ranks { length ranks.now ≡ node_count graph.now }
+    requires cube { cube < length graph.now.model.space.cubes }
+    ensures { IfOk result (λ totals. totals ≡ (if has_kinds graph.now.model cube
+        then Some (positions_in graph.now ranks.now cube false) else None)) }
+{
+    if has_kinds(graph.model(), cube) {
+        Ok(Some(positions(alloc, graph, cube, false, ranks)?))
+    } else {
+        Ok(None)
+    }
+}
+
+// The positions of the cells of a kind.
+fn positions(
+    alloc: Global,
+    graph: &NodeGraph,
+    cube: u32,
+    kind: bool,
+    ranks: &[u32],
+) -> Result<ListOf<Position>, AllocError>
+    requires ranks { length ranks.now ≡ node_count graph.now }
+    requires cube { cube < length graph.now.model.space.cubes }
+    requires kind { IsTrue (has_nodes graph.now.model cube kind) }
+    ensures { IfOk result (λ positions. positions ≡ positions_in graph.now ranks.now cube kind) }
 {
     let model = graph.model();
     let mut positions = Vec::new(alloc);
     positions.push(lag(alloc, model, cube)?)?;
     positions.push(Position::Ranks {
         dim: last_of(model, cube) as u32,
-        ranks: ListOf::new(cut(alloc, graph, cube, ranks)?),
+        ranks: ListOf::new(cut(alloc, graph, cube, kind, ranks)?),
     })?;
-    Ok(Order {
-        positions: ListOf::new(positions),
-        totals: None,
-    })
+    Ok(ListOf::new(positions))
 }
 
 // What the order of a cube has for leaf cells at the first position.
@@ -67,17 +98,29 @@ fn lag(alloc: Global, model: &Model, cube: u32) -> Result<Position, AllocError>
     }
 }
 
-// The ranks of the elements of a cube's last dimension.
-fn cut(alloc: Global, graph: &NodeGraph, cube: u32, ranks: &[u32]) -> Result<Vec<u32>, AllocError>
+// The ranks of a cube's nodes of a kind.
+fn cut(
+    alloc: Global,
+    graph: &NodeGraph,
+    cube: u32,
+    kind: bool,
+    ranks: &[u32],
+) -> Result<Vec<u32>, AllocError>
     requires ranks { length ranks.now ≡ node_count graph.now }
     requires cube { cube < length graph.now.model.space.cubes }
-    ensures { IfOk result (λ own. own.items ≡ ranks_of graph.now ranks.now cube) }
+    requires kind { IsTrue (has_nodes graph.now.model cube kind) }
+    ensures { IfOk result (λ own. own.items ≡ ranks_of graph.now ranks.now kind cube) }
 {
     let model = graph.model();
     let count = axis(model, cube, last_of(model, cube)).len();
     let mut own = Vec::with_capacity(alloc, count as usize)?;
     for element in 0..count {
-        own.push(ranks[graph.number(cube, element) as usize])?;
+        let place = Place {
+            cube,
+            element,
+            kind,
+        };
+        own.push(ranks[graph.number(place) as usize])?;
     }
     Ok(own)
 }

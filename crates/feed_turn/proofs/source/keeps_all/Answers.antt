@@ -21,4 +21,4 @@ returns c = λ on.
     let none = no-some c.index-as_slice-dim.result (c.is_none.ensures ∙ ap not on) in
     let whole = sym (set-found c.as_slice.result.now view.area.now.sets c.args.dim c.index-as_slice-dim.result c.as_slice.ensures low c.index-as_slice-dim.is) ∙ none in
     whole-source (turn_of view) c.args.dim c.args.place c.args.to.now c.requires.view.valid c.requires.view.cube c.requires.view.reference.0 c.requires.moved.own c.requires.moved.its
-    (sym (c.if-not-is_shared.ensures tt)) whole (c.is_identity.ensures c.if-not-is_identity.false) c.requires.moved.whole
+    (sym c.if-not-is_shared.ensures) whole (c.is_identity.ensures c.if-not-is_identity.false) c.requires.moved.whole

@@ -1,7 +1,12 @@
-use Rattle.std.proofs.Common.{◌<◌, ◌∙◌, Some, ap, sym, subst, arith, length}
+use Rattle.std.proofs.Common.{◌<◌, ◌∙◌, Some, ap, sym, subst, arith, length, refl}
 use Rattle.cube_space.specs.Layout.{Layout, axes}
+use Rattle.feed_turn.proofs.Moves.{is-moved}
 use Rattle.feed_turn.proofs.Places.{move-at, size-at, axis-here}
 use Rattle.feed_turn.proofs.source.source_set.Goals as goal
+
+pub keeps_all-requires-clause-moved : goal.keeps_all-requires-clause-moved
+keeps_all-requires-clause-moved c =
+    is-moved c.args.view c.in-Moved.from c.args.place c.in-Moved.from c.in-Moved.to c.args.arg.now c.requires.view c.requires.arg c.in-Moved.is refl
 
 pub area_leaves-requires-clause-place : goal.area_leaves-requires-clause-place
 area_leaves-requires-clause-place c =

@@ -9,7 +9,7 @@ use Rattle.order_find.proofs.Held.{set_in, size_in, reached-length, set-few}
 use Rattle.order_find.proofs.arrows.reached_count.Goals as goal
 
 pub returns-in-Over-clause-count : goal.returns-in-Over-clause-count
-returns-in-Over-clause-count c = λ totals.
+returns-in-Over-clause-count c = λ gives.
     let p = c.args.graph.now in
     let s = c.args.source in
     let i = c.in-Over.dim in
@@ -17,7 +17,7 @@ returns-in-Over-clause-count c = λ totals.
     let way : SentOver i to ≡ way_of p.model s = c.in-Over.ensures.follows ∙ ap (λ m. way_of m s) c.model-model.ensures.model in
     let size : c.len-size.result ≡ size_in p s i = c.len-size.ensures.len ∙ sym c.axis.ensures.size ∙ ap (λ m. slice_index_or (sizes m.space s.cube) i 0) c.model-model.ensures.model in
     c.count.ensures ∙ ap (λ n. set_count n c.set_of.result.now) size ∙ ap (set_count (size_in p s i)) c.set_of.ensures
-    ∙ sym (reached-length p s totals i to) ∙ ap (λ w. length (reached_by p s totals w)) way
+    ∙ sym (reached-length p s gives i to) ∙ ap (λ w. length (reached_by p s gives w)) way
 
 pub returns-in-Over-clause-few : goal.returns-in-Over-clause-few
 returns-in-Over-clause-few c =

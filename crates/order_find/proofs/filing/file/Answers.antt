@@ -3,7 +3,7 @@ use Rattle.std.specs.List.{list_any}
 use Rattle.std.proofs.lemmas.List.{with_items_is}
 use Rattle.std.proofs.lemmas.Result.{on_ok_weaker}
 use Rattle.order_find.specs.Filing.{Adds, AreFiled}
-use Rattle.order_find.proofs.LookedAt.{IsListOf, list-of, first-of, rows-there, source-at, plan, filed-whole, filed-listed}
+use Rattle.order_find.proofs.LookedAt.{IsListOf, list-of, rows-there, source-at, plan, filed-whole, filed-listed}
 use Rattle.order_find.proofs.filing.file.Goals as goal
 
 listed : (c : goal.After-as_slice-in-Some) → IsListOf c.args.model.now c.index-sources-k.result c.as_slice-in-Some.result.now
@@ -20,8 +20,8 @@ add_each-requires-clause-within c = λ k d low.
     let m = c.args.model.now in
     let s = c.index-sources-k.result in
     let (source, at) = source-at m c.args.sources.now c.args.k s c.requires.sources c.requires.k c.index-sources-k.is in
-    let begins = first-of m.space c.args.numbering.now s.cube c.index-first.result.now c.requires.numbering source.cube c.index-first.ensures in
-    let there = rows-there m c.args.numbering.now s c.index-first.result.now c.as_slice-in-Some.result.now c.requires.numbering source.cube begins (listed c).within k d low in
+    let begins = c.first_of-first.ensures in
+    let there = rows-there m c.args.numbering.now s c.first_of-first.result c.as_slice-in-Some.result.now c.requires.numbering source.cube begins (listed c).within k d low in
     omega (arith, there, ap length c.deref_mut.ensures.value, c.requires.filed.nodes)
 
 pub returns-in-Some : goal.returns-in-Some
@@ -31,10 +31,10 @@ returns-in-Some c =
     let sources = c.args.sources.now in
     let filing = c.args.filing.now in
     let s = c.index-sources-k.result in
-    let first = c.index-first.result.now in
+    let first = c.first_of-first.result in
     let those = c.as_slice-in-Some.result.now in
     let (source, at) = source-at m sources c.args.k s c.requires.sources c.requires.k c.index-sources-k.is in
-    let begins = first-of m.space numbering s.cube first c.requires.numbering source.cube c.index-first.ensures in
+    let begins = c.first_of-first.ensures in
     let is = list-of m s c.last_of-last.result c.set_of.result.now those source c.last_of-last.ensures.last c.set_of.ensures (c.in-Some.is ∙ ap Some (sym c.as_slice-in-Some.ensures)) in
     on_ok_weaker c.add_each.result
     (λ added.

@@ -2,7 +2,7 @@ use Rattle.std.proofs.Common.{ap, arith, length}
 use Rattle.cube_space.specs.Layout.{axes}
 use Rattle.rule_model.specs.BoundModel.{BoundModel}
 use Rattle.ref_order.proofs.Axes.{few-axes}
-use Rattle.order_find.proofs.orders.order.Goals as goal
+use Rattle.order_find.proofs.orders.positions.Goals as goal
 
 pub overflow_cast-last_of : goal.overflow_cast-last_of
 overflow_cast-last_of c =
