@@ -1,3 +1,4 @@
+pub mod CubeLines
 pub mod QuotedNames
 pub mod Lists
 pub mod Maps

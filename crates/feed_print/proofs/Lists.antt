@@ -1,8 +1,9 @@
 -- What is left of lists of dimensions, sets and arguments, and what stands before it.
-use Rattle.std.proofs.Common.{◌≡◌, ◌∙◌, ◌+◌, ◌<◌, ◌≤◌, ℕ, zero, suc, List, [], ◌∷◌, ◌++◌, length, drop, Bool, true, Option, Some, None, option_map, option_and_then, slice_get, slice_index, slice_index_or, get_or, All, refl, sym, ap, subst, arith, append_assoc, append-nil}
+use Rattle.std.proofs.Common.{◌≡◌, ◌∙◌, ◌+◌, ◌<◌, ◌≤◌, ℕ, zero, suc, List, [], ◌∷◌, ◌++◌, length, drop, Bool, true, false, ◌==◌, IfSome, if◌then◌else◌, Option, Some, None, option_map, slice_get, slice_index, slice_index_or, get_or, All, refl, sym, ap, subst, arith, append_assoc, append-nil}
 use Rattle.std.proofs.lemmas.List.{drop_more, drop_all, get_or-map}
 use Rattle.std.proofs.lemmas.Option.{slice_get_within, slice_get-get_or, get_or_from_slice_get}
-use Rattle.std.specs.List.{AllZip}
+use Rattle.std.proofs.lemmas.Bool.{and_from, and_parts, eqb-true}
+use Rattle.std.specs.List.{AllZip, list_all}
 use Rattle.dim_core.specs.Outline.{Outline}
 use Rattle.cube_space.specs.declared.shape.CubeShape.{CubeShape}
 use Rattle.cube_space.specs.Cells.{IsSpace}
@@ -11,6 +12,7 @@ use Rattle.cube_space.proofs.AxisSizes.{element-count, length-axes_of, sizes-by_
 use Rattle.cube_space.proofs.CubeDims.{dims_are, dims_within}
 use Rattle.lists.proofs.Found.{there}
 use Rattle.rule_laws.specs.declared.reference.Arg.{Arg}
+use Rattle.rule_laws.specs.declared.reference.Arg.TheVariants.{Moved}
 use Rattle.rule_laws.specs.declared.reference.Reference.{Reference}
 use Rattle.rule_model.specs.Conditions.{IsArg, IsReference, IsSet}
 use Rattle.rule_tree.specs.declared.rule.EntryText.{EntryText}
@@ -48,7 +50,7 @@ module _ (ds : List Outline) (sets : List (Option (List ℕ))) (k : ℕ) (d : Ou
 -- no dimension is left
 pub entries_end : (ds : List Outline) (sets : List (Option (List ℕ))) (k : ℕ) (front : List EntryText) → length ds ≤ k
     → option_map (λ more. front ++ more) (entry_texts (drop k ds) (drop k sets)) ≡ Some front
-entries_end ds sets k front past = rw (drop_all ds k past) (ap Some (append-nil front))
+entries_end ds sets k front past = rw (drop_all k ds past) (ap Some (append-nil front))
 
 -- ---- arguments
 
@@ -65,7 +67,7 @@ module _ (space : Layout) (cube : ℕ) (dims : List ℕ) (args : List Arg) (k di
 
 pub arguments_end : (space : Layout) (cube : ℕ) (dims : List ℕ) (args : List Arg) (k : ℕ) (front : List Tree) → length dims ≤ k
     → option_map (λ more. front ++ more) (argument_texts space cube (drop k dims) (drop k args)) ≡ Some front
-arguments_end space cube dims args k front past = rw (drop_all dims k past) (ap Some (append-nil front))
+arguments_end space cube dims args k front past = rw (drop_all k dims past) (ap Some (append-nil front))
 
 -- ---- places
 
@@ -143,3 +145,35 @@ pub listed_known : (ds : List Outline) (sets : List (Option (List ℕ))) (k : �
     → All (λ e. e < length d.elements) listed
 listed_known ds sets k d listed all at is =
     (told_at IsSet (sizes_of ds) sets k (length d.elements) (Some listed) all (its_size ds k d at) is).1
+
+-- a map from a dimension has as many elements as that
+pub moved_long : (space : Layout) (cube dim n from : ℕ) (to : List (Option ℕ)) → IsSpace space → cube < length space.cubes → IsArg (sizes space cube) n (Moved from to)
+    → (slice_index_or (dims_of space cube) from 0 == dim) ≡ true → length to ≡ length (dimension_at space dim).elements
+moved_long space cube dim n from to valid low (inside, whole, elements) is =
+    let (shape, shaped) = cube_there space cube low in
+    let own : from < length (dims_of space cube) = (let long = sizes_long space cube shape valid shaped in omega (arith, inside, long)) in
+    let at : slice_get (dims_of space cube) from ≡ Some dim = slice_get-get_or (dims_of space cube) from 0 own ∙ ap Some (eqb-true _ dim is) in
+    whole ∙ size_there space cube shape valid shaped from dim at
+
+-- ---- tests
+
+-- one more that passes
+pub more_pass : {A : Type 0} (p : A → Bool) (front next : List A) (a : A) → next ≡ front ++ a ∷ [] → list_all p front ≡ true → p a ≡ true → list_all p next ≡ true
+more_pass p front next a is before here = ap (list_all p) is ∙ all front before
+  where
+    all : (xs : List _) → list_all p xs ≡ true → list_all p (xs ++ a ∷ []) ≡ true
+    all [] pass = and_from (p a) true here refl
+    all (x ∷ xs) pass =
+        let (first, rest) = and_parts (p x) (list_all p xs) pass in
+        and_from (p x) (list_all p (xs ++ a ∷ [])) first (all xs rest)
+
+pub some_has : {A : Type 0} (P : A → Type 0) (o : Option A) (a : A) → o ≡ Some a → IfSome o P → P a
+some_has P None a is has = absurd (cc is)
+some_has P (Some b) a is has = let same : b ≡ a = cc is in subst P same has
+
+-- nothing is given where a test fails
+pub shut : {A : Type 0} (b : Bool) (o : Option A) → b ≡ false → None ≡ (if b then o else None)
+shut b o is = sym (ap (λ t. if t then o else None) is)
+
+pub opened : {A : Type 0} (b : Bool) (o : Option A) → b ≡ true → o ≡ (if b then o else None)
+opened b o is = sym (ap (λ t. if t then o else None) is)

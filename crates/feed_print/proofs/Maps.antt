@@ -1,13 +1,16 @@
 -- Maps that move all elements as far.
-use Rattle.std.proofs.Common.{◌≡◌, ◌∙◌, ◌<◌, ◌≤◌, ◌+◌, ◌-◌, ◌&&◌, ℕ, zero, suc, List, [], ◌∷◌, length, drop, map, nat_eq, nat_lt, Bool, true, false, Option, Some, None, slice_get, unwrap_or, refl, sym, ap, ap₂, subst, arith}
-use Rattle.std.proofs.lemmas.Bool.{and_parts, and_from, eqb-true, eq-eqb, lt-ltb}
+use Rattle.std.proofs.Common.{◌≡◌, ◌∙◌, ◌<◌, ◌≤◌, ◌+◌, ◌-◌, ℕ, zero, suc, List, [], ◌∷◌, length, drop, map, nat_eq, nat_lt, Bool, true, false, Option, Some, None, slice_get, unwrap_or, refl, sym, ap, arith}
+use Rattle.std.proofs.lemmas.Bool.{eqb-true, eq-eqb, lt-ltb}
+use Rattle.std.proofs.lemmas.List.{drop_all}
+use Rattle.std.proofs.lemmas.List.FromFn.{length-map-range_with_len}
+use Rattle.std.specs.Prelude.{if◌then◌else◌}
 use Rattle.std.proofs.lemmas.Slice.Eq.{slice_eq-Decides}
 use Rattle.std.specs.Bool.{Decides}
 use Rattle.std.specs.Option.{option_eq}
 use Rattle.std.specs.Cmp.Lexicographic.{pointwise}
 use Rattle.std.specs.List.{range_with_len}
-use Rattle.rule_laws.specs.Maps.{identity, behind, place_behind}
-use Rattle.feed_print.specs.FeederTexts.{first_sent}
+use Rattle.rule_laws.specs.Maps.{identity, behind, before, place_behind, place_before}
+use Rattle.feed_print.specs.FeederTexts.{first_sent, shift}
 
 abbrev pub same_map : List (Option ℕ) → List (Option ℕ) → Bool
 same_map = pointwise (option_eq nat_eq)
@@ -24,25 +27,42 @@ maps_alike a b is = (slice_eq-Decides option_decides a b (same_map a b) refl).1 
 pub alike_maps : (a b : List (Option ℕ)) → same_map a b ≡ true → a ≡ b
 alike_maps a b is = (slice_eq-Decides option_decides a b (same_map a b) refl).0 is
 
+-- whether two maps send an element alike
+abbrev pub alike_at : List (Option ℕ) → List (Option ℕ) → ℕ → Bool
+alike_at a b e = option_eq nat_eq (unwrap_or (slice_get a e) None) (unwrap_or (slice_get b e) None)
+
 -- one pair of elements more
-pub alike_next : (a b : List (Option ℕ)) (e : ℕ) (x : Option ℕ) → e < length a → length a ≡ length b → unwrap_or (slice_get a e) None ≡ x → unwrap_or (slice_get b e) None ≡ x
-    → same_map (drop e a) (drop e b) ≡ same_map (drop (e + 1) a) (drop (e + 1) b)
-alike_next [] b e x low same left right = absurd (omega (arith, low))
-alike_next (y ∷ a) [] e x low same left right = absurd (omega (arith, same))
-alike_next (y ∷ a) (z ∷ b) zero x low same left right =
-    let here : option_eq nat_eq y z ≡ true = (option_decides y z).1 (left ∙ sym right) in
+pub alike_next : (a b : List (Option ℕ)) (e : ℕ) → e < length a → length a ≡ length b → alike_at a b e ≡ true → same_map (drop e a) (drop e b) ≡ same_map (drop (e + 1) a) (drop (e + 1) b)
+alike_next [] b e low same alike = absurd (omega (arith, low))
+alike_next (y ∷ a) [] e low same alike = absurd (omega (arith, same))
+alike_next (y ∷ a) (z ∷ b) zero low same alike =
+    let here : option_eq nat_eq y z ≡ true = alike in
     rw here refl
-alike_next (y ∷ a) (z ∷ b) (suc e) x low same left right =
+alike_next (y ∷ a) (z ∷ b) (suc e) low same alike =
     let next : suc e + 1 ≡ suc (e + 1) = omega arith in
-    rw next (alike_next a b e x (omega (arith, low)) (omega (arith, same)) left right)
+    rw next (alike_next a b e (omega (arith, low)) (omega (arith, same)) alike)
 
 -- a pair that differs
-pub unlike_next : (a b : List (Option ℕ)) (e : ℕ) → (unwrap_or (slice_get a e) None ≡ unwrap_or (slice_get b e) None → ⊥) → same_map a b ≡ false
+pub unlike_next : (a b : List (Option ℕ)) (e : ℕ) → alike_at a b e ≡ false → same_map a b ≡ false
 unlike_next a b e differ = by (same_map a b) refl
   where
     by : (r : Bool) → same_map a b ≡ r → same_map a b ≡ false
-    by true is = absurd (differ (ap (λ m. unwrap_or (slice_get m e) None) (alike_maps a b is)))
+    by true is =
+        let same : unwrap_or (slice_get a e) None ≡ unwrap_or (slice_get b e) None = ap (λ m. unwrap_or (slice_get m e) None) (alike_maps a b is) in
+        let alike : alike_at a b e ≡ true = (option_decides (unwrap_or (slice_get a e) None) (unwrap_or (slice_get b e) None)).1 same in
+        absurd (let e : true ≡ false = sym alike ∙ differ in cc e)
     by false is = is
+
+-- no pair is left
+pub alike_end : (a b : List (Option ℕ)) (e : ℕ) → length a ≤ e → length a ≡ length b → same_map (drop e a) (drop e b) ≡ true
+alike_end a b e past same = rw (drop_all e a past, drop_all e b (omega (arith, past, same))) refl
+
+pub shift_long : (size from target : ℕ) → length (shift size from target) ≡ size
+shift_long size from target = by (nat_lt target from)
+  where
+    by : (b : Bool) → length (if b then before size (from - target) else behind size (target - from)) ≡ size
+    by true = length-map-range_with_len (place_before (from - target)) 0 size
+    by false = length-map-range_with_len (place_behind size (target - from)) 0 size
 
 -- ---- the first element that is sent anywhere
 

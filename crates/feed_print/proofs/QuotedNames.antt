@@ -1,5 +1,5 @@
 -- Names in quotes.
-use Rattle.std.proofs.Common.{◌≡◌, ◌∙◌, ◌≤◌, ◌<◌, ◌+◌, ℕ, List, [], ◌∷◌, ◌++◌, length, length-append, cond, Bool, true, false, not, ◌&&◌, nat_le, if◌then◌else◌, refl, sym, ap, arith}
+use Rattle.std.proofs.Common.{◌≡◌, ◌∙◌, ◌<◌, ◌+◌, ℕ, List, [], ◌∷◌, ◌++◌, length, length-append, cond, Bool, true, false, not, nat_le, if◌then◌else◌, refl, sym, ap, arith}
 use Rattle.std.specs.Prelude.{count_by}
 use Rattle.std.proofs.lemmas.Bool.{and_parts, and_from, lt-leb}
 use Rattle.std.proofs.lemmas.Bool.Decides.{nat_tests}

@@ -1,5 +1,5 @@
 -- The texts of arguments can be written.
-use Rattle.std.proofs.Common.{◌≡◌, ◌≤◌, ◌<◌, ◌*◌, ◌^◌, ◌∙◌, ℕ, ℤ, pos, List, [], ◌∷◌, length, cond, Bool, true, false, ◌&&◌, not, nat_le, ◌==◌, if◌then◌else◌, codes, refl, ap, arith, unsigned_abs}
+use Rattle.std.proofs.Common.{◌≡◌, ◌≤◌, ◌*◌, ◌∙◌, ℕ, ℤ, pos, List, [], ◌∷◌, length, Bool, true, false, not, nat_le, if◌then◌else◌, codes, refl, ap, arith, unsigned_abs}
 use Rattle.std.proofs.lemmas.Bool.{and_parts, and_from, le-leb, leb-true}
 use Rattle.cube_fixed.specs.Range.{unit, IsInRange, is_in_range}
 use Rattle.std.specs.Int.{is_negative}
@@ -13,6 +13,7 @@ use Rattle.rule_printer.proofs.WritableTrees.{writable_number, writable_text, wr
 use Rattle.rule_tree.specs.declared.tree.Tree.{Tree}
 use Rattle.rule_tree.specs.declared.tree.Tree.TheVariants as trees
 use Rattle.rule_tree.specs.declared.tree.TreeOp.{TreeOp}
+use Rattle.cube_fixed.proofs.RoundTrip.{not_negative}
 use Rattle.feed_print.specs.FeederTexts.{index_text, shifted_text}
 use Rattle.feed_print.proofs.QuotedNames.{quoted_size}
 
@@ -36,7 +37,7 @@ pub number_writable : (n : ℕ) (millionths : ℤ) → millionths ≡ pos n → 
 number_writable n millionths is low =
     let small : unsigned_abs millionths ≤ 9000000000000000000 = low in
     let within : is_in_range millionths ≡ true = le-leb (unsigned_abs millionths) 9000000000000000000 small in
-    let plus : not (is_negative millionths) ≡ true = rw is refl in
+    let plus : not (is_negative millionths) ≡ true = ap (λ z. not (is_negative z)) is ∙ ap not (not_negative n) in
     writable_number millionths ∙ and_from (not (is_negative millionths)) (is_in_range millionths) plus within
 
 pub text_writable : (name : List ℕ) → is_quotable name ≡ true → is_writable (trees.Text name) ≡ true

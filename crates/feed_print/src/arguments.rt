@@ -130,6 +130,7 @@ fn argument_text(
     ensures text { IfOk result (λ found. found ≡ argument_text space.now cube dim arg.now) }
     ensures writable { IfOk result (λ found. IfSome found (λ tree. IsTrue (is_writable tree))) }
 {
+    let _cells = space.size();
     let dimension = space.dimension(dim);
     match arg {
         Arg::Fixed(element) => name_text(alloc, dimension.name_of(*element)),

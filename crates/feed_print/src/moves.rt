@@ -1,4 +1,5 @@
-ghost use Rattle.std.specs.Prelude.{◌≡◌, ◌<◌, ◌^◌, ℕ, IfSome, length, slice_get, unwrap_or};
+ghost use Rattle.std.specs.Prelude.{◌≡◌, None, length, nat_eq, slice_get, unwrap_or};
+ghost use Rattle.std.specs.Option.{option_eq};
 ghost use Rattle.feed_print.specs.FeederTexts.{first_sent, moves_by, shift};
 
 use rule_laws::ElementMap;
@@ -29,6 +30,14 @@ fn shift(size: u32, from: u32, to: u32) -> ElementMap
     }
 }
 
+// Whether both maps send an element alike.
+fn sends_alike(one: &ElementMap, other: &ElementMap, element: usize) -> bool
+    ensures { result ≡ option_eq nat_eq (unwrap_or (slice_get one.now element) None)
+        (unwrap_or (slice_get other.now element) None) }
+{
+    one.get(element) == other.get(element)
+}
+
 /// Whether a map of so many elements moves all as far as from the one index to the other.
 pub fn moves_by(to: &ElementMap, size: u32, from: u32, target: u32) -> bool
     requires { length to.now ≡ size }
@@ -39,7 +48,7 @@ pub fn moves_by(to: &ElementMap, size: u32, from: u32, target: u32) -> bool
         return true;
     }
     'each: for element in 0..size {
-        if moved.get(element as usize) != to.get(element as usize) {
+        if !sends_alike(&moved, to, element as usize) {
             return false;
         }
     }

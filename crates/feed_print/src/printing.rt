@@ -45,8 +45,12 @@ fn push_heading(out: &mut Vec<u8>, name: &Name) -> Result<(), AllocError>
 }
 
 // Appends the line of a reference.
-fn push_reference(alloc: Global, out: &mut Vec<u8>, place: ReferencePlace) -> Result<(), AllocError>
-    ensures { OnOk result (out.new.items ≡ out.old.items ++ reference_line place) }
+fn push_reference(
+    alloc: Global,
+    out: &mut Vec<u8>,
+    place: &ReferencePlace,
+) -> Result<(), AllocError>
+    ensures { OnOk result (out.new.items ≡ out.old.items ++ reference_line place.now) }
 {
     out.extend_from_slice(b"# statement ")?;
     push_number(alloc, out, place.statement)?;
@@ -64,8 +68,8 @@ fn push_references(
 ) -> Result<(), AllocError>
     ensures { OnOk result (out.new.items ≡ out.old.items ++ flat_map reference_line places.now) }
 {
-    'each: for place in places {
-        push_reference(alloc, out, *place)?;
+    'each: for index in 0..places.len() {
+        push_reference(alloc, out, &places[index])?;
     }
     Ok(())
 }

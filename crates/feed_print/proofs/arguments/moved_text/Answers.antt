@@ -1,4 +1,4 @@
-use Rattle.std.proofs.Common.{rules, ◌≡◌, ◌∙◌, ap, true}
+use Rattle.std.proofs.Common.{◌∙◌, ap}
 use Rattle.rule_printer.specs.Writable.{is_writable}
 use Rattle.rule_tree.specs.declared.tree.Tree.TheVariants as trees
 use Rattle.feed_print.proofs.Writing.{own_writable}

@@ -1,4 +1,4 @@
-use Rattle.std.proofs.Common.{rules, ◌≡◌, ◌*◌, ◌∙◌, pos, sym}
+use Rattle.std.proofs.Common.{rules, ◌≡◌, ◌*◌, pos}
 use Rattle.cube_fixed.specs.Range.{unit, IsInRange}
 use Rattle.feed_print.proofs.Writing.{number_writable}
 use Rattle.feed_print.proofs.arguments.number.Goals as goal

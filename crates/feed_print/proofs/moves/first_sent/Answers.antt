@@ -1,4 +1,4 @@
-use Rattle.std.proofs.Common.{◌≡◌, ◌∙◌, ◌<◌, ◌+◌, suc, length, drop, None, sym, ap, arith, unwrap_or, slice_get}
+use Rattle.std.proofs.Common.{◌≡◌, ◌∙◌, ◌<◌, ◌+◌, suc, length, drop, sym, ap, arith}
 use Rattle.feed_print.specs.FeederTexts.{first_sent}
 use Rattle.feed_print.proofs.Maps.{sent_here, sent_next, nowhere_there}
 use Rattle.feed_print.proofs.moves.first_sent.Goals as goal

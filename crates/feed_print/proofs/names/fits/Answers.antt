@@ -1,9 +1,7 @@
-use Rattle.std.proofs.Common.{◌≡◌, ◌∙◌, ◌+◌, ◌<◌, length, nat_le, true, ap, sym, subst, arith}
-use Rattle.std.specs.Prelude.{IsTrue, count_by}
+use Rattle.std.proofs.Common.{◌≡◌, ◌∙◌, ◌+◌, length, nat_le, ap, sym, arith}
+use Rattle.std.specs.Prelude.{count_by}
 use Rattle.cube_lex.specs.Bytes.{is_quote}
 use Rattle.cube_lex.specs.Quoted.{quoted}
-use Rattle.dim_name.specs.Name.{is_name}
-use Rattle.feed_print.specs.FeederTexts.{fits}
 use Rattle.feed_print.proofs.QuotedNames.{name_quotable, quoted_size, too_long}
 use Rattle.feed_print.proofs.names.fits.Goals as goal
 

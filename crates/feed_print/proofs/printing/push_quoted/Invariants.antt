@@ -1,4 +1,4 @@
-use Rattle.std.proofs.Common.{◌≡◌, ◌++◌, ◌∷◌, [], take}
+use Rattle.std.proofs.Common.{◌≡◌, ◌++◌, ◌∷◌, take}
 use Rattle.cube_lex.specs.Quoted.{doubled}
 use Rattle.feed_print.proofs.printing.push_quoted.Given as goal
 

@@ -1,11 +1,7 @@
-use Rattle.std.proofs.Common.{◌≡◌, ◌∙◌, ◌++◌, ◌+◌, take, sym, ap, append_assoc, arith}
-use Rattle.std.specs.List.{flat_map}
-use Rattle.std.proofs.lemmas.List.{flat_map_more}
 use Rattle.feed_print.specs.Printed.{reference_line}
+use Rattle.feed_print.proofs.CubeLines.{more_lines}
 use Rattle.feed_print.proofs.printing.push_references.Goals as goal
 
 pub each-preserved : goal.each-preserved
 each-preserved c =
-    let step = c.in_ok-push_reference.ensures in
-    let before = c.each.invariant in
-    ?
+    more_lines reference_line c.args.places.now c.each.index _ c.args.out.now.items c.each.out.items c.push_reference.new.out.items c.each-test.true c.in_ok-push_reference.ensures c.each.invariant
