@@ -1,3 +1,2 @@
 pub mod FeederTexts
 pub mod Printed
-pub mod FoundText

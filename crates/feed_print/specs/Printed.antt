@@ -1,5 +1,5 @@
 -- What is printed of the feeders that are found for a cube.
-use Rattle.std.specs.Prelude.{◌≡◌, ℕ, Bool, List, [], ◌∷◌, ◌++◌, codes, decimal, if◌then◌else◌}
+use Rattle.std.specs.Prelude.{◌≡◌, ℕ, List, [], ◌∷◌, ◌++◌, codes, decimal}
 use Rattle.std.specs.List.{flat_map}
 use Rattle.dim_name.specs.Bytes.{newline}
 use Rattle.cube_lex.specs.Quoted.{quoted}
@@ -17,15 +17,9 @@ abbrev pub reference_line : ReferencePlace → List ℕ
 reference_line place = codes "# statement " ++ decimal place.statement ++ codes " reference " ++ decimal place.reference
     ++ newline ∷ []
 
--- # and feeders that no rule text says
-abbrev pub unsaid_line : List ℕ
-unsaid_line = codes "# and feeders that no rule text says" ++ newline ∷ []
-
--- new is old with the lines of a cube of this name behind it: its heading, a line for each of these references, one
--- where there are feeders without a text, and these feeders token by token
-pub record AddsCube (name : List ℕ) (places : List ReferencePlace) (unsaid : Bool) (feeders : List FeederText)
-    (old new : List ℕ) : Type 0 where
+-- new is old with the lines of a cube of this name behind it: its heading, a line for each of these references, and
+-- these feeders token by token
+pub record AddsCube (name : List ℕ) (places : List ReferencePlace) (feeders : List FeederText) (old new : List ℕ) : Type 0 where
   pub lines : List ℕ
-  pub all : new ≡ old
-      ++ (heading name ++ flat_map reference_line places ++ (if unsaid then unsaid_line else []) ++ lines)
-  pub feeders : IsWritten (flat_map feeder_spelled feeders) lines
+  pub all : new ≡ old ++ (heading name ++ flat_map reference_line places ++ lines)
+  pub written : IsWritten (flat_map feeder_spelled feeders) lines
