@@ -1,21 +1,22 @@
 -- The lines of a cube, one part behind another.
-use Rattle.std.proofs.Common.{◌≡◌, ◌∙◌, ◌++◌, ◌+◌, ◌<◌, ℕ, List, length, get_or, take, sym, ap, append_assoc}
+use Rattle.std.proofs.Common.{◌≡◌, ◌∙◌, ◌++◌, ◌+◌, ◌<◌, ℕ, Bool, List, length, get_or, take, sym, ap, append_assoc}
 use Rattle.std.proofs.lemmas.List.{flat_map_more, take_more}
 use Rattle.std.specs.List.{flat_map}
 use Rattle.cube_lex.specs.Written.{Writes}
 use Rattle.rule_printer.specs.Spelled.{feeder_spelled}
 use Rattle.rule_tree.specs.declared.rule.FeederText.{FeederText}
 use Rattle.feed_print.specs.declared.place.ReferencePlace.{ReferencePlace}
-use Rattle.feed_print.specs.Printed.{heading, reference_line, AddsCube}
+use Rattle.feed_print.specs.Printed.{heading, reference_line, unsaid_if, AddsCube}
 
-pub adds_cube : (name : List ℕ) (places : List ReferencePlace) (feeders : List FeederText) (old headed listed new : List ℕ) → headed ≡ old ++ heading name → listed ≡ headed ++ flat_map reference_line places
-    → Writes listed new (flat_map feeder_spelled feeders) → AddsCube name places feeders old new
-adds_cube name places feeders old headed listed new first second (lines, is, written, few) =
+pub adds_cube : (name : List ℕ) (places : List ReferencePlace) (unsaid : Bool) (feeders : List FeederText) (old headed listed told new : List ℕ) → headed ≡ old ++ heading name
+    → listed ≡ headed ++ flat_map reference_line places → told ≡ listed ++ unsaid_if unsaid → Writes told new (flat_map feeder_spelled feeders) → AddsCube name places unsaid feeders old new
+adds_cube name places unsaid feeders old headed listed told new first second third (lines, is, written, few) =
     let references : List ℕ = flat_map reference_line places in
+    let more : List ℕ = unsaid_if unsaid in
     record {
       lines = lines;
-      all = is ∙ ap (λ l. l ++ lines) (second ∙ ap (λ l. l ++ references) first ∙ append_assoc old (heading name) references)
-          ∙ append_assoc old (heading name ++ references) lines;
+      all = is ∙ ap (λ l. l ++ lines) (third ∙ ap (λ l. l ++ more) (second ∙ ap (λ l. l ++ references) first ∙ append_assoc old (heading name) references)
+          ∙ append_assoc old (heading name ++ references) more) ∙ append_assoc old ((heading name ++ references) ++ more) lines;
       written = written;
     }
 

@@ -1,2 +1,3 @@
 pub mod FeederTexts
 pub mod Printed
+pub mod FoundText

@@ -1,5 +1,5 @@
 -- What is printed of the feeders that are found for a cube.
-use Rattle.std.specs.Prelude.{◌≡◌, ℕ, List, [], ◌∷◌, ◌++◌, codes, decimal}
+use Rattle.std.specs.Prelude.{◌≡◌, ℕ, Bool, true, false, List, [], ◌∷◌, ◌++◌, codes, decimal}
 use Rattle.std.specs.List.{flat_map}
 use Rattle.dim_name.specs.Bytes.{newline}
 use Rattle.cube_lex.specs.Quoted.{quoted}
@@ -17,9 +17,18 @@ abbrev pub reference_line : ReferencePlace → List ℕ
 reference_line place = codes "# statement " ++ decimal place.statement ++ codes " reference " ++ decimal place.reference
     ++ newline ∷ []
 
--- new is old with the lines of a cube of this name behind it: its heading, a line for each of these references, and
--- these feeders token by token
-pub record AddsCube (name : List ℕ) (places : List ReferencePlace) (feeders : List FeederText) (old new : List ℕ) : Type 0 where
+-- # and feeders that no rule text says
+abbrev pub unsaid_line : List ℕ
+unsaid_line = codes "# and feeders that no rule text says" ++ newline ∷ []
+
+abbrev pub unsaid_if : Bool → List ℕ
+unsaid_if true = unsaid_line
+unsaid_if false = []
+
+-- new is old with the lines of a cube of this name behind it: its heading, a line for each of these references, one
+-- where there are feeders without a text, and these feeders token by token
+pub record AddsCube (name : List ℕ) (places : List ReferencePlace) (unsaid : Bool) (feeders : List FeederText)
+    (old new : List ℕ) : Type 0 where
   pub lines : List ℕ
-  pub all : new ≡ old ++ (heading name ++ flat_map reference_line places ++ lines)
+  pub all : new ≡ old ++ (heading name ++ flat_map reference_line places ++ unsaid_if unsaid ++ lines)
   pub written : IsWritten (flat_map feeder_spelled feeders) lines

@@ -1,16 +1,16 @@
 //! Found feeders as text for rule files.
 //!
-//! `specs/FeederTexts.antt` says which text a bound feeder has, which [`text_of`] gives.
+//! `specs/FeederTexts.antt` says which text a bound feeder has, and `specs/FoundText.antt` what is printed for a model,
+//! which [`found_text`] gives.
 #![tactic(auto)]
 
 mod area;
 mod arguments;
+mod found;
 mod moves;
 mod names;
 mod place;
 mod printing;
 mod text;
 
-pub use place::ReferencePlace;
-pub use printing::print_cube;
-pub use text::text_of;
+pub use found::found_text;

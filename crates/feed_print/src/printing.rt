@@ -2,7 +2,7 @@ ghost use Rattle.std.specs.Prelude.{◌≡◌, ◌++◌, ◌∷◌, [], IsTrue, 
 ghost use Rattle.std.specs.List.{flat_map, list_all};
 ghost use Rattle.cube_lex.specs.Quoted.{quoted};
 ghost use Rattle.rule_printer.specs.Writable.{is_writable_feeder};
-ghost use Rattle.feed_print.specs.Printed.{heading, reference_line, AddsCube};
+ghost use Rattle.feed_print.specs.Printed.{heading, reference_line, unsaid_if, AddsCube};
 
 use crate::place::ReferencePlace;
 use dim_name::Name;
@@ -74,19 +74,32 @@ fn push_references(
     Ok(())
 }
 
-/// Appends what was found for a cube: a heading with its name, a line for each reference of its statements that no
-/// found feeder with a text covers, both as comments, and the feeders that stand in it, a line for each.
+// Appends the line of feeders that have no text, where there are such.
+fn push_unsaid(out: &mut Vec<u8>, unsaid: bool) -> Result<(), AllocError>
+    ensures { OnOk result (out.new.items ≡ out.old.items ++ unsaid_if unsaid) }
+{
+    if unsaid {
+        out.extend_from_slice(b"# and feeders that no rule text says\n")?;
+    }
+    Ok(())
+}
+
+/// Appends what was found for a cube: a heading with its name, a line for each chosen reference of its statements that
+/// can't be turned round, one where a feeder has no text, all as comments, and the feeders that stand in it, a line for
+/// each.
 pub fn print_cube(
     alloc: Global,
     out: &mut Vec<u8>,
     name: &Name,
     places: &[ReferencePlace],
+    unsaid: bool,
     feeders: &[FeederText],
 ) -> Result<(), AllocError>
     requires { IsTrue (list_all is_writable_feeder feeders.now) }
-    ensures { OnOk result (AddsCube name.now places.now feeders.now out.old.items out.new.items) }
+    ensures { OnOk result (AddsCube name.now places.now unsaid feeders.now out.old.items out.new.items) }
 {
     push_heading(out, name)?;
     push_references(alloc, out, places)?;
+    push_unsaid(out, unsaid)?;
     write_each_feeder(alloc, out, feeders)
 }
