@@ -21,6 +21,7 @@ pub record IsRefused (w : Text) : Type 0 where
 pub data Sort (w : Text) : Type 0 where
   file : names_a_file w ≡ true → Sort w
   check : w ≡ codes "--check" → Sort w
+  feeders : w ≡ codes "--feeders" → Sort w
   sample : w ≡ codes "--sample" → Sort w
   given : (v : Text) → w ≡ codes "--sample=" ++ v → Sort w
   refused : IsRefused w → Sort w
@@ -50,22 +51,30 @@ rejoin (x ∷ xs) = go (x == 61) refl (rejoin xs)
 same : (a b : Text) → bytes_eq a b ≡ true → b ≡ a
 same a b e = sym ((bytes_eq-Decides a b).0 e)
 
-by_name : (w n : Text) (v : Option Text) (a b : Bool) → bytes_eq (codes "check") n ≡ a → bytes_eq (codes "sample") n ≡ b
-    → bytes_eq w (45 ∷ 45 ∷ []) ≡ false → long_of w ≡ Some (n, v) → w ≡ 45 ∷ 45 ∷ (n ++ joined v) → Sort w
-by_name w n None true b ea eb dashes long is = check (is ∙ ap (λ x. 45 ∷ 45 ∷ (x ++ [])) (same (codes "check") n ea))
-by_name w n (Some v) true b ea eb dashes long is = refused (record { dashes = dashes; kind = kinds.TooManyValues; refused = λ h. rw (long, ea) refl })
-by_name w n None false true ea eb dashes long is = sample (is ∙ ap (λ x. 45 ∷ 45 ∷ (x ++ [])) (same (codes "sample") n eb))
-by_name w n (Some v) false true ea eb dashes long is = given v (is ∙ ap (λ x. 45 ∷ 45 ∷ (x ++ 61 ∷ v)) (same (codes "sample") n eb))
-by_name w n v false false ea eb dashes long is =
-    refused (record { dashes = dashes; kind = kinds.UnknownArgument; refused = λ h. rw (long, ea, eb) refl })
+module _ (w n : Text) (dashes : bytes_eq w (45 ∷ 45 ∷ []) ≡ false) where
+  abbrev Spells : Option Text → Type 0
+  Spells v = (long_of w ≡ Some (n, v)) × (w ≡ 45 ∷ 45 ∷ (n ++ joined v))
+
+  by_name : (v : Option Text) (a f s : Bool) → bytes_eq (codes "check") n ≡ a → bytes_eq (codes "feeders") n ≡ f
+      → bytes_eq (codes "sample") n ≡ s → Spells v → Sort w
+  by_name None true f s ea ef es (long, is) = check (is ∙ ap (λ x. 45 ∷ 45 ∷ (x ++ [])) (same (codes "check") n ea))
+  by_name (Some v) true f s ea ef es (long, is) =
+      refused (record { dashes = dashes; kind = kinds.TooManyValues; refused = λ h. rw (long, ea) refl })
+  by_name None false true s ea ef es (long, is) = feeders (is ∙ ap (λ x. 45 ∷ 45 ∷ (x ++ [])) (same (codes "feeders") n ef))
+  by_name (Some v) false true s ea ef es (long, is) =
+      refused (record { dashes = dashes; kind = kinds.TooManyValues; refused = λ h. rw (long, ea, ef) refl })
+  by_name None false false true ea ef es (long, is) = sample (is ∙ ap (λ x. 45 ∷ 45 ∷ (x ++ [])) (same (codes "sample") n es))
+  by_name (Some v) false false true ea ef es (long, is) = given v (is ∙ ap (λ x. 45 ∷ 45 ∷ (x ++ 61 ∷ v)) (same (codes "sample") n es))
+  by_name v false false false ea ef es (long, is) =
+      refused (record { dashes = dashes; kind = kinds.UnknownArgument; refused = λ h. rw (long, ea, ef, es) refl })
 
 behind_dash : (cs : Text) → is_spelled (45 ∷ cs) ≡ true → Sort (45 ∷ cs)
 behind_dash [] spelled = cc spelled
 behind_dash (d ∷ []) spelled = cc spelled
 behind_dash (d ∷ x ∷ xs) spelled =
     let is : d ≡ 45 = grind (arith, nat_tests) in
-    rw is (by_name (45 ∷ 45 ∷ x ∷ xs) (name_and_value (x ∷ xs)).0 (name_and_value (x ∷ xs)).1 _ _ refl refl refl refl
-    (ap (λ ys. 45 ∷ 45 ∷ ys) (sym (rejoin (x ∷ xs)))))
+    rw is (by_name (45 ∷ 45 ∷ x ∷ xs) (name_and_value (x ∷ xs)).0 refl (name_and_value (x ∷ xs)).1 _ _ _ refl refl refl
+    (refl, ap (λ ys. 45 ∷ 45 ∷ ys) (sym (rejoin (x ∷ xs)))))
 
 pub sort_of : (w : Text) → is_spelled w ≡ true → Sort w
 sort_of [] spelled = cc spelled

@@ -25,10 +25,16 @@ rules_here = top.rules
 
 -- the texts that the getters read
 abbrev pub Seen : Type 0
-Seen = Option Text × Option Text × Option Text × Option Text
+Seen = Option Text × Option Text × Option Text × Option Text × Option Text
 
 abbrev seen_in : List Row → Seen
-seen_in rows = (one_of (codes "check") rows, first_of (codes "sample") rows, first_of (codes "model") rows, first_of (codes "users") rows)
+seen_in rows = (
+  one_of (codes "check") rows,
+  one_of (codes "feeders") rows,
+  first_of (codes "sample") rows,
+  first_of (codes "model") rows,
+  first_of (codes "users") rows,
+)
 
 abbrev pub seen : List Text → Seen
 seen words = seen_in (matches_of cube words)
@@ -160,5 +166,5 @@ pub fault_of_run : (m u : Text) (us : List Text) → list_all names_a_file (m �
 fault_of_run m u us files = ap₂ fault_at (walk_fault_of_run m u us files) (walk_of_run m u us files) ∙ fault_at_users m u us _ refl
 
 pub seen_of_run : (m u : Text) (us : List Text) → list_all names_a_file (m ∷ u ∷ us) ≡ true
-    → seen (m ∷ u ∷ us) ≡ (Some (bool_text false), None, Some m, Some u)
+    → seen (m ∷ u ∷ us) ≡ (Some (bool_text false), Some (bool_text false), None, Some m, Some u)
 seen_of_run m u us files = ap seen_at (walk_of_run m u us files)

@@ -12,20 +12,22 @@ use Rattle.clap.specs.Faults.{fault_of, turn_fault}
 use Rattle.clap.specs.Walk.{Text, Waiting, Walk, idle, option, positional, subcommand_met, walked}
 use Rattle.clap.proofs.OnLiterals.{clap_on_literals}
 use Rattle.cube_words.specs.Inside.Command.{are_spelled, cube, is_spelled}
-use Rattle.cube_words.specs.Words.{IsCheck, IsPlan, IsRun, IsSample, IsSize, Plan, Run, Check, Sample, names_a_file}
-use Rattle.cube_words.proofs.Classes.{IsRefused, Sort, file, check, sample, given, refused, sort_of}
+use Rattle.cube_words.specs.Words.{IsCheck, IsFeeders, IsFlagged, IsPlan, IsRun, IsSample, IsSize, Plan, Run, Check, Feeders, Sample, names_a_file}
+use Rattle.cube_words.proofs.Classes.{IsRefused, Sort, file, check, feeders, sample, given, refused, sort_of}
 use Rattle.cube_words.proofs.OfClap.{Seen, fault_of_run, faults_of, first_and_rest, plain_file, rules_here, seen, seen_of_run, start, top}
 
 -- the words are those of the plan that was seen
-abbrev pub Fits : Bool → Option Text → Option Text → Option Text → List Text → Type 0
-Fits false None (Some model) (Some user) words = IsRun words model (drop 1 words)
-Fits true None (Some model) None words = IsCheck words model
-Fits false (Some digits) None None words = (size : ℕ) → IsSize digits size → IsSample words size
-Fits _ _ _ _ words = ⊤
+abbrev pub Fits : Bool → Bool → Option Text → Option Text → Option Text → List Text → Type 0
+Fits false false None (Some model) (Some user) words = IsRun words model (drop 1 words)
+Fits true false None (Some model) None words = IsCheck words model
+Fits false true None (Some model) None words = IsFeeders words model
+Fits false false (Some digits) None None words = (size : ℕ) → IsSize digits size → IsSample words size
+Fits _ _ _ _ _ words = ⊤
 
 abbrev pub Judged : Kinds → Seen → List Text → Type 0
 Judged (k ∷ ks) s words = ⊤
-Judged [] s words = (check : Bool) × (s.0 ≡ Some (bool_text check)) × Fits check s.1 s.2 s.3 words
+Judged [] s words = (check : Bool) × (feeders : Bool) × (s.0 ≡ Some (bool_text check)) × (s.1 ≡ Some (bool_text feeders))
+    × Fits check feeders s.2 s.3 s.4 words
 
 -- ---- a word that `clap` refuses
 
@@ -70,24 +72,26 @@ run_fits m u us files =
     rw (fault_of_run m u us files, seen_of_run m u us files) (by (nat_lt 16 (suc (length us))) refl)
   where
     by : (many : Bool) → nat_lt 16 (suc (length us)) ≡ many
-        → Judged (faults_of many) (Some (bool_text false), None, Some m, Some u) (m ∷ u ∷ us)
+        → Judged (faults_of many) (Some (bool_text false), Some (bool_text false), None, Some m, Some u) (m ∷ u ∷ us)
     by true e = tt
     by false e =
         let few : suc (length us) ≤ 16 = grind (arith, nat_tests) in
-        (false, refl, record { all = refl; some = omega arith; few = few; files = files })
+        (false, false, refl, refl, record { all = refl; some = omega arith; few = few; files = files })
 
 one_word : (a : Text) → Sort a → Judged (fault_of cube (a ∷ [])) (seen (a ∷ [])) (a ∷ [])
 unfolding clap_on_literals
-one_word a (file f) = let p = plain_file a f in rw (p.dashes, p.long, p.short) (false, refl, tt)
-one_word a (check e) = rw e (true, refl, tt)
+one_word a (file f) = let p = plain_file a f in rw (p.dashes, p.long, p.short) (false, false, refl, refl, tt)
+one_word a (check e) = rw e (true, false, refl, refl, tt)
+one_word a (feeders e) = rw e (false, true, refl, refl, tt)
 one_word a (sample e) = rw e tt
-one_word a (given v e) = rw e (false, refl, λ size is. (v, is, inr refl))
+one_word a (given v e) = rw e (false, false, refl, refl, λ size is. (v, is, inr refl))
 one_word a (refused r) = if_refused _ _ _ (refused_first a [] r)
 
 goes_on : (a : Text) → Sort a → fault_of cube (a ∷ []) ≡ [] → ((walked rules_here [] start a).stopped ≡ None) × ((walked rules_here [] start a).is_trailing ≡ false)
 unfolding clap_on_literals
 goes_on a (file f) e = let p = plain_file a f in (rw (p.dashes, p.long, p.short) refl, rw (p.dashes, p.long, p.short) refl)
 goes_on a (check is) e = (rw is refl, rw is refl)
+goes_on a (feeders is) e = (rw is refl, rw is refl)
 goes_on a (sample is) e = (rw is refl, rw is refl)
 goes_on a (given v is) e = (rw is refl, rw is refl)
 goes_on a (refused r) e = absurd (refused_first a [] r e)
@@ -96,29 +100,44 @@ two_words : (a b : Text) → Sort a → Sort b → Judged (fault_of cube (a ∷ 
 unfolding clap_on_literals
 two_words a b (refused r) y = if_refused _ _ _ (refused_first a (b ∷ []) r)
 two_words a b (file f) (file g) = run_fits a b [] (rw (f, g) refl)
-two_words a b (file f) (check e) = let p = plain_file a f in rw (e, p.dashes, p.long, p.short) (true, refl, record { all = inr refl; file = f })
+two_words a b (file f) (check e) =
+    let p = plain_file a f in rw (e, p.dashes, p.long, p.short) (true, false, refl, refl, record { all = inr refl; file = f })
+two_words a b (file f) (feeders e) =
+    let p = plain_file a f in rw (e, p.dashes, p.long, p.short) (false, true, refl, refl, record { all = inr refl; file = f })
 two_words a b (file f) (sample e) = let p = plain_file a f in rw (e, p.dashes, p.long, p.short) tt
-two_words a b (file f) (given v e) = let p = plain_file a f in rw (e, p.dashes, p.long, p.short) (false, refl, tt)
-two_words a b (check e) (file g) = let p = plain_file b g in rw (e, p.dashes, p.long, p.short) (true, refl, record { all = inl refl; file = g })
+two_words a b (file f) (given v e) = let p = plain_file a f in rw (e, p.dashes, p.long, p.short) (false, false, refl, refl, tt)
+two_words a b (check e) (file g) =
+    let p = plain_file b g in rw (e, p.dashes, p.long, p.short) (true, false, refl, refl, record { all = inl refl; file = g })
 two_words a b (check e) (check d) = rw (e, d) tt
+two_words a b (check e) (feeders d) = rw (e, d) (true, true, refl, refl, tt)
 two_words a b (check e) (sample d) = rw (e, d) tt
-two_words a b (check e) (given v d) = rw (e, d) (true, refl, tt)
-two_words a b (sample e) (file g) = let p = plain_file b g in rw (e, p.dashes, p.long, p.short) (false, refl, λ size is. (b, is, inl refl))
+two_words a b (check e) (given v d) = rw (e, d) (true, false, refl, refl, tt)
+two_words a b (feeders e) (file g) =
+    let p = plain_file b g in rw (e, p.dashes, p.long, p.short) (false, true, refl, refl, record { all = inl refl; file = g })
+two_words a b (feeders e) (check d) = rw (e, d) (true, true, refl, refl, tt)
+two_words a b (feeders e) (feeders d) = rw (e, d) tt
+two_words a b (feeders e) (sample d) = rw (e, d) tt
+two_words a b (feeders e) (given v d) = rw (e, d) (false, true, refl, refl, tt)
+two_words a b (sample e) (file g) =
+    let p = plain_file b g in rw (e, p.dashes, p.long, p.short) (false, false, refl, refl, λ size is. (b, is, inl refl))
 two_words a b (sample e) (check d) = rw (e, d) tt
+two_words a b (sample e) (feeders d) = rw (e, d) tt
 two_words a b (sample e) (sample d) = rw (e, d) tt
 two_words a b (sample e) (given v d) = rw (e, d) tt
-two_words a b (given v e) (file g) = let p = plain_file b g in rw (e, p.dashes, p.long, p.short) (false, refl, tt)
-two_words a b (given v e) (check d) = rw (e, d) (true, refl, tt)
+two_words a b (given v e) (file g) = let p = plain_file b g in rw (e, p.dashes, p.long, p.short) (false, false, refl, refl, tt)
+two_words a b (given v e) (check d) = rw (e, d) (true, false, refl, refl, tt)
+two_words a b (given v e) (feeders d) = rw (e, d) (false, true, refl, refl, tt)
 two_words a b (given v e) (sample d) = rw (e, d) tt
 two_words a b (given v e) (given w d) = rw (e, d) tt
 two_words a b (file f) (refused r) = let p = plain_file a f in if_refused _ _ _ (refused_second a b r (rw (p.dashes, p.long, p.short) refl) (rw (p.dashes, p.long, p.short) refl))
 two_words a b (check e) (refused r) = if_refused _ _ _ (refused_second a b r (rw e refl) (rw e refl))
+two_words a b (feeders e) (refused r) = if_refused _ _ _ (refused_second a b r (rw e refl) (rw e refl))
 two_words a b (sample e) (refused r) = if_refused _ _ _ (refused_second a b r (rw e refl) (rw e refl))
 two_words a b (given v e) (refused r) = if_refused _ _ _ (refused_second a b r (rw e refl) (rw e refl))
 
 no_words : Judged (fault_of cube []) (seen []) []
 unfolding clap_on_literals
-no_words = (false, refl, tt)
+no_words = (false, false, refl, refl, tt)
 
 pub judged : (words : List Text) → are_spelled words ≡ true → Judged (fault_of cube words) (seen words) words
 judged [] spelled = no_words
@@ -130,10 +149,10 @@ judged (a ∷ b ∷ c ∷ rest) spelled = run_fits a b (c ∷ rest) spelled
 
 -- ---- the words of a plan
 
-pub record IsTaken (words : List Text) (check : Bool) (size model user : Option Text) : Type 0 where
+pub record IsTaken (words : List Text) (check feeders : Bool) (size model user : Option Text) : Type 0 where
   pub spelled : are_spelled words ≡ true
   pub taken : fault_of cube words ≡ []
-  pub shown : seen words ≡ (Some (bool_text check), size, model, user)
+  pub shown : seen words ≡ (Some (bool_text check), Some (bool_text feeders), size, model, user)
 
 file_spelled : (w : Text) → names_a_file w ≡ true → is_spelled w ≡ true
 file_spelled w f = rw f refl
@@ -146,7 +165,7 @@ all_spelled (a ∷ b ∷ []) files =
     ap₂ (λ x y. x && y) (file_spelled a first) (file_spelled b (first_and_rest b [] rest).0)
 all_spelled (a ∷ b ∷ c ∷ rest) files = files
 
-pub run_taken : (words : List Text) (m : Text) (us : List Text) → IsRun words m us → (u : Text) × IsTaken words false None (Some m) (Some u)
+pub run_taken : (words : List Text) (m : Text) (us : List Text) → IsRun words m us → (u : Text) × IsTaken words false false None (Some m) (Some u)
 run_taken words m [] is = let some = is.some in absurd (omega arith)
 run_taken words m (u ∷ us) is =
     let files : list_all names_a_file (m ∷ u ∷ us) ≡ true = subst (λ ws. list_all names_a_file ws ≡ true) is.all is.files in
@@ -160,9 +179,18 @@ run_taken words m (u ∷ us) is =
       }),
     )
 
-pub check_taken : (words : List Text) (m : Text) → IsCheck words m → IsTaken words true None (Some m) None
+pub check_taken : (words : List Text) (m : Text) → IsCheck words m → IsTaken words true false None (Some m) None
 unfolding clap_on_literals
 check_taken words m is =
+    let p = plain_file m is.file in
+    elim is.all [
+      | inl e ↦ rw e (record { spelled = rw is.file refl; taken = rw (p.dashes, p.long, p.short) refl; shown = rw (p.dashes, p.long, p.short) refl })
+      | inr e ↦ rw e (record { spelled = rw is.file refl; taken = rw (p.dashes, p.long, p.short) refl; shown = rw (p.dashes, p.long, p.short) refl })
+    ]
+
+pub feeders_taken : (words : List Text) (m : Text) → IsFeeders words m → IsTaken words false true None (Some m) None
+unfolding clap_on_literals
+feeders_taken words m is =
     let p = plain_file m is.file in
     elim is.all [
       | inl e ↦ rw e (record { spelled = rw is.file refl; taken = rw (p.dashes, p.long, p.short) refl; shown = rw (p.dashes, p.long, p.short) refl })
@@ -179,7 +207,7 @@ digits_file (d ∷ ds) size is =
     let other : (d == 45) ≡ false = grind (arith, nat_tests) in
     rw other refl
 
-pub sample_taken : (words : List Text) (size : ℕ) → IsSample words size → (digits : Text) × IsSize digits size × IsTaken words false (Some digits) None None
+pub sample_taken : (words : List Text) (size : ℕ) → IsSample words size → (digits : Text) × IsSize digits size × IsTaken words false false (Some digits) None None
 unfolding clap_on_literals
 sample_taken words size (digits, is, all) =
     let f = digits_file digits size is in
@@ -196,4 +224,5 @@ sample_taken words size (digits, is, all) =
 pub plan_passes : (words : List Text) (plan : Plan) → IsPlan words plan → (are_spelled words ≡ true) × (fault_of cube words ≡ [])
 plan_passes words (Run m us) is = let (u, t) = run_taken words m us is in (t.spelled, t.taken)
 plan_passes words (Check m) is = let t = check_taken words m is in (t.spelled, t.taken)
+plan_passes words (Feeders m) is = let t = feeders_taken words m is in (t.spelled, t.taken)
 plan_passes words (Sample size) is = let (digits, of, t) = sample_taken words size is in (t.spelled, t.taken)

@@ -32,10 +32,11 @@ abbrev pub most_digits : ℕ
 most_digits = 6
 
 -- what the words ask for: to run these users' commands on the model, each by the name of its file; to check the model;
--- or to run a sample of so many records and sum it up
+-- to print the feeders that are found for the model; or to run a sample of so many records and sum it up
 pub data Plan : Type 0 where
   Run : List ℕ → List (List ℕ) → Plan
   Check : List ℕ → Plan
+  Feeders : List ℕ → Plan
   Sample : ℕ → Plan
 
 -- the words are MODEL and 1 to 16 users
@@ -45,10 +46,16 @@ pub record IsRun (words : List (List ℕ)) (model : List ℕ) (users : List (Lis
   pub few : length users ≤ most_users
   pub files : IsTrue (list_all names_a_file words)
 
--- the words are `--check` and MODEL, in either order
-pub record IsCheck (words : List (List ℕ)) (model : List ℕ) : Type 0 where
-  pub all : (words ≡ codes "--check" ∷ model ∷ []) ⊎ (words ≡ model ∷ codes "--check" ∷ [])
+-- the words are the flag and MODEL, in either order
+pub record IsFlagged (flag : List ℕ) (words : List (List ℕ)) (model : List ℕ) : Type 0 where
+  pub all : (words ≡ flag ∷ model ∷ []) ⊎ (words ≡ model ∷ flag ∷ [])
   pub file : IsTrue (names_a_file model)
+
+abbrev pub IsCheck : List (List ℕ) → List ℕ → Type 0
+IsCheck words model = IsFlagged (codes "--check") words model
+
+abbrev pub IsFeeders : List (List ℕ) → List ℕ → Type 0
+IsFeeders words model = IsFlagged (codes "--feeders") words model
 
 -- digits, with a value from 1 to the most: so there is a digit
 pub record IsSize (digits : List ℕ) (size : ℕ) : Type 0 where
@@ -66,10 +73,12 @@ IsSample words size = (digits : List ℕ) × IsSize digits size
 abbrev pub IsPlan : List (List ℕ) → Plan → Type 0
 IsPlan words (Run model users) = IsRun words model users
 IsPlan words (Check model) = IsCheck words model
+IsPlan words (Feeders model) = IsFeeders words model
 IsPlan words (Sample size) = IsSample words size
 
 -- a plan of the code, as what the words ask for
 abbrev pub asked : declared.Plan → Plan
 asked (plans.Run model users) = Run model.now (texts_of users.now)
 asked (plans.Check model) = Check model.now
+asked (plans.Feeders model) = Feeders model.now
 asked (plans.Sample size) = Sample size

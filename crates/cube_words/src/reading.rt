@@ -39,18 +39,20 @@ fn plan_of<'a>(words: &'a [String], matches: &ArgMatches<'a>) -> Option<Plan<'a>
         (λ plan. IsPlan (texts_of words.entry.now) (asked plan)) }
 {
     let check = matches.get_flag("check");
+    let feeders = matches.get_flag("feeders");
     let size = matches.get_str("sample");
     let model = matches.get_str("model");
     let user = matches.get_str("users");
-    match (check, size, model, user) {
-        (false, None, Some(model), Some(_)) => {
+    match (check, feeders, size, model, user) {
+        (false, false, None, Some(model), Some(_)) => {
             let [_, users @ ..] = words else {
                 return None;
             };
             Some(Plan::Run { model, users })
         }
-        (true, None, Some(model), None) => Some(Plan::Check { model }),
-        (false, Some(size), None, None) => match size_of(size) {
+        (true, false, None, Some(model), None) => Some(Plan::Check { model }),
+        (false, true, None, Some(model), None) => Some(Plan::Feeders { model }),
+        (false, false, Some(size), None, None) => match size_of(size) {
             Some(size) => Some(Plan::Sample { size }),
             None => None,
         },

@@ -23,6 +23,9 @@ are_spelled words = list_all names_a_file words
 abbrev pub check_rule : Rule
 check_rule = record (new_rule (codes "check")) { long = Some (codes "check"); action = Some SetTrue }
 
+abbrev pub feeders_rule : Rule
+feeders_rule = record (new_rule (codes "feeders")) { long = Some (codes "feeders"); action = Some SetTrue }
+
 abbrev pub sample_rule : Rule
 sample_rule = record (new_rule (codes "sample")) { long = Some (codes "sample") }
 
@@ -40,4 +43,4 @@ plain = on_top (λ shape. record shape { no_binary_name = true; disable_help_fla
     (new_app (codes "cube_program"))
 
 abbrev pub cube : App
-cube = with_rule (with_rule (with_rule (with_rule plain check_rule) sample_rule) model_rule) users_rule
+cube = with_rule (with_rule (with_rule (with_rule (with_rule plain check_rule) feeders_rule) sample_rule) model_rule) users_rule
