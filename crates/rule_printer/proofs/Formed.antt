@@ -19,7 +19,7 @@ use Rattle.grammar.specs.Grammar.{Grammar, many}
 use Rattle.grammar.proofs.Kept.{Keeps, keeps_many}
 use Rattle.grammar.specs.Tokens.{is_word_kind, is_text_kind, is_number_kind, capitals}
 use Rattle.rule_printer.specs.Spelled.{is_word_text}
-use Rattle.rule_printer.specs.Inside.Writable.{is_quotable, is_short_word, is_marked}
+use Rattle.rule_printer.specs.Writable.{is_quotable, is_short_word, is_marked}
 use Rattle.cube_fixed.proofs.RoundTrip.{not_minus as digit_no_minus, not_negative as pos_plain}
 
 -- each of several passes a test

@@ -17,7 +17,7 @@ use Rattle.expression_grammar.specs.declared.sort.Sort.TheVariants as sorts
 use Rattle.grammar.specs.Lists.{listed, perhaps_listed}
 use Rattle.rule_tree.specs.Formula.{ors, ands, sums, products, rules_language, primary, formula, number, quoted, current, reference, stet, continue, bracket, simple, dimension, first_argument, is_if, call}
 use Rattle.rule_tree.specs.RuleText.{elements, entry, area, ended, part, leaf_first, cons_first, body, statement, target, feeder, feeders, rules}
-use Rattle.rule_printer.specs.Inside.Writable.{is_quotable, is_short_word, is_marked, is_writable_dimension, is_writable_simple, is_writable, is_writable_entry, is_writable_body, is_writable_statement, is_writable_target, is_writable_feeder, are_writable}
+use Rattle.rule_printer.specs.Writable.{is_quotable, is_short_word, is_marked, is_writable_dimension, is_writable_simple, is_writable, is_writable_entry, is_writable_body, is_writable_statement, is_writable_target, is_writable_feeder, are_writable}
 use Rattle.rule_tree.specs.declared.tree.Tree.{Tree}
 use Rattle.rule_tree.specs.declared.tree.Tree.TheVariants as trees
 use Rattle.rule_tree.specs.declared.tree.TreeOp.{TreeOp}

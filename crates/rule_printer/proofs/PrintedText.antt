@@ -14,7 +14,7 @@ use Rattle.rule_tree.specs.Counting.{count, counting, start}
 use Rattle.rule_printer.specs.Printed.{IsRuleText, IsTextOf, IsPrinted}
 use Rattle.rule_tree.specs.RuleText.{rules}
 use Rattle.rule_printer.specs.Spelled.{rules_spelled}
-use Rattle.rule_printer.specs.Inside.Writable.{are_writable}
+use Rattle.rule_printer.specs.Writable.{are_writable}
 use Rattle.rule_tree.specs.declared.counted.Counted.{Counted}
 use Rattle.rule_tree.specs.declared.excess.Excess.{Excess}
 use Rattle.rule_tree.specs.declared.rule.RuleText.{RuleText}

@@ -6,7 +6,7 @@ use Rattle.cube_lex.specs.Written.{sign_token}
 use Rattle.expression_grammar.specs.Spelled.{in_parentheses}
 use Rattle.rule_printer.specs.Spelled.{Written, written, written_at, rank_of, left_level, right_level, sign_of}
 use Rattle.rule_printer.specs.Inside.Spine.{Spine}
-use Rattle.rule_printer.specs.Inside.Writable.{is_writable}
+use Rattle.rule_printer.specs.Writable.{is_writable}
 use Rattle.rule_tree.specs.declared.tree.Tree.{Tree}
 use Rattle.rule_tree.specs.declared.tree.Tree.TheVariants as trees
 use Rattle.rule_tree.specs.declared.tree.TreeOp.{TreeOp}

@@ -6,7 +6,7 @@ use Rattle.std.specs.List.{list_all}
 use Rattle.cube_fixed.specs.Range.{is_in_range}
 use Rattle.cube_lex.specs.Bytes.{starts_word, is_word_byte}
 use Rattle.rule_printer.specs.Spelled.{is_word_text}
-use Rattle.rule_printer.specs.Inside.Writable.{is_quotable, is_short_word, is_marked, is_writable_simple, itself, writable_step, is_writable}
+use Rattle.rule_printer.specs.Writable.{is_quotable, is_short_word, is_marked, is_writable_simple, itself, writable_step, is_writable}
 use Rattle.rule_tree.specs.declared.tree.SimpleText.{SimpleText}
 use Rattle.rule_tree.specs.declared.tree.Tree.{Tree}
 use Rattle.rule_tree.specs.declared.tree.Tree.TheVariants as trees

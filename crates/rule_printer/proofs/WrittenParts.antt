@@ -22,7 +22,7 @@ use Rattle.cube_lex.specs.Quoted.{quoted}
 use Rattle.cube_lex.specs.Written.{Spelling, Spaces, Writes, sign_token}
 use Rattle.rule_printer.specs.Inside.Separated.{separator}
 use Rattle.rule_printer.specs.Spelled.{is_word_text, next_spelled, listed_spelled, name_spelled, elements_spelled}
-use Rattle.rule_printer.specs.Inside.Writable.{is_quotable, is_short_word}
+use Rattle.rule_printer.specs.Writable.{is_quotable, is_short_word}
 pub use Rattle.cube_lex.proofs.Adding.{then_spaces as then_adds, then_writes, writes_same, spaces_same as adds_same}
 
 -- Tokens that may be written.

@@ -1,4 +1,3 @@
--- What can be written, and what the code goes over.
-pub mod Writable
+-- What the code goes over.
 pub mod Spine
 pub mod Separated

@@ -1,3 +1,4 @@
 pub mod Printed
 pub mod Spelled
+pub mod Writable
 pub mod Inside

@@ -6,8 +6,8 @@ ghost use Rattle.cube_lex.specs.Written.{Spaces, sign_token, text_token, word_to
 ghost use Rattle.rule_printer.specs.Inside.Separated.{separator};
 ghost use Rattle.rule_printer.specs.Spelled.{is_word_text, money_token, current_token, dimension_spelled};
 ghost use Rattle.rule_printer.specs.Spelled.{simple_spelled, listed_spelled, bracket_spelled, name_spelled};
-ghost use Rattle.rule_printer.specs.Inside.Writable.{is_quotable, is_short_word, is_marked};
-ghost use Rattle.rule_printer.specs.Inside.Writable.{is_writable_dimension, is_writable_simple};
+ghost use Rattle.rule_printer.specs.Writable.{is_quotable, is_short_word, is_marked};
+ghost use Rattle.rule_printer.specs.Writable.{is_writable_dimension, is_writable_simple};
 
 use cube_fixed::{Money, Value};
 use cube_lex::{write_number, write_quoted, write_sign, write_word};

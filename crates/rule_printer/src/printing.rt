@@ -6,9 +6,9 @@ ghost use Rattle.rule_printer.specs.Spelled.{elements_spelled, entry_spelled, ar
 ghost use Rattle.rule_printer.specs.Spelled.{ended_spelled, part_spelled, body_spelled, statement_spelled};
 ghost use Rattle.rule_printer.specs.Spelled.{target_spelled, feeder_spelled, skipcheck_spelled, feeders_spelled};
 ghost use Rattle.rule_printer.specs.Spelled.{automatic_spelled, given_feeders_spelled, rules_spelled};
-ghost use Rattle.rule_printer.specs.Inside.Writable.{is_quotable, is_writable, is_writable_entry};
-ghost use Rattle.rule_printer.specs.Inside.Writable.{is_writable_body, is_writable_statement, is_writable_target};
-ghost use Rattle.rule_printer.specs.Inside.Writable.{is_writable_feeder, are_writable};
+ghost use Rattle.rule_printer.specs.Writable.{is_quotable, is_writable, is_writable_entry};
+ghost use Rattle.rule_printer.specs.Writable.{is_writable_body, is_writable_statement, is_writable_target};
+ghost use Rattle.rule_printer.specs.Writable.{is_writable_feeder, are_writable};
 
 use crate::parts::{write_bracket, write_dimension, write_names, write_separator, write_text};
 use crate::tree_printing::{write_tree, write_trees};
@@ -176,7 +176,8 @@ fn write_feeder(alloc: Global, out: &mut Vec<u8>, feeder: &FeederText) -> Result
     write_line_end(out)
 }
 
-fn write_each_feeder(
+/// Writes feeders, each on a line of its own.
+pub fn write_each_feeder(
     alloc: Global,
     out: &mut Vec<u8>,
     feeders: &[FeederText],

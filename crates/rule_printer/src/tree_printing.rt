@@ -5,7 +5,7 @@ ghost use Rattle.cube_lex.specs.Written.{Spaces, sign_token, word_token};
 ghost use Rattle.rule_printer.specs.Spelled as spelled;
 ghost use Rattle.rule_printer.specs.Inside.Spine.{Spine};
 ghost use Rattle.rule_printer.specs.Spelled.{written, written_at, tree_spelled, listed_spelled};
-ghost use Rattle.rule_printer.specs.Inside.Writable.{is_writable, is_short_word};
+ghost use Rattle.rule_printer.specs.Writable.{is_writable, is_short_word};
 
 use crate::parts::{
     write_bracket, write_current, write_money, write_separator, write_short_word, write_text,

@@ -3,7 +3,7 @@ use Rattle.std.proofs.lemmas.List.{take_all}
 use Rattle.cube_lex.specs.Written.{Spaces}
 use Rattle.rule_printer.proofs.WrittenParts.{adds_item, one_passes}
 use Rattle.rule_printer.specs.Spelled.{listed_spelled, simple_spelled}
-use Rattle.rule_printer.specs.Inside.Writable.{is_writable_simple}
+use Rattle.rule_printer.specs.Writable.{is_writable_simple}
 use Rattle.rule_printer.proofs.parts.write_simples.Goals as goal
 
 pub write_simple-requires : goal.write_simple-requires

@@ -4,7 +4,7 @@ use Rattle.std.specs.List.{flat_map}
 use Rattle.cube_lex.specs.Written.{Writes}
 use Rattle.rule_printer.proofs.WrittenParts.{adds_more, one_passes}
 use Rattle.rule_printer.specs.Spelled.{feeder_spelled}
-use Rattle.rule_printer.specs.Inside.Writable.{is_writable_feeder}
+use Rattle.rule_printer.specs.Writable.{is_writable_feeder}
 use Rattle.rule_printer.proofs.printing.write_each_feeder.Goals as goal
 
 pub write_feeder-requires : goal.write_feeder-requires

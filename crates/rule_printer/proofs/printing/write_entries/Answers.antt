@@ -3,7 +3,7 @@ use Rattle.std.proofs.lemmas.List.{take_all}
 use Rattle.cube_lex.specs.Written.{Spaces}
 use Rattle.rule_printer.proofs.WrittenParts.{adds_item, one_passes}
 use Rattle.rule_printer.specs.Spelled.{listed_spelled, entry_spelled}
-use Rattle.rule_printer.specs.Inside.Writable.{is_writable_entry}
+use Rattle.rule_printer.specs.Writable.{is_writable_entry}
 use Rattle.rule_printer.proofs.printing.write_entries.Goals as goal
 
 pub write_entry-requires : goal.write_entry-requires

@@ -4,7 +4,7 @@ use Rattle.std.specs.List.{flat_map}
 use Rattle.cube_lex.specs.Written.{Writes}
 use Rattle.rule_printer.proofs.WrittenParts.{adds_more, one_passes}
 use Rattle.rule_printer.specs.Spelled.{statement_spelled}
-use Rattle.rule_printer.specs.Inside.Writable.{is_writable_statement}
+use Rattle.rule_printer.specs.Writable.{is_writable_statement}
 use Rattle.rule_printer.proofs.printing.write_statements.Goals as goal
 
 pub write_statement-requires : goal.write_statement-requires

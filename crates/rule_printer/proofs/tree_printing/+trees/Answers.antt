@@ -12,7 +12,7 @@ use Rattle.rule_printer.proofs.WritableTrees.{number_is, text_is, current_is, br
 use Rattle.rule_printer.proofs.WrittenParts.{then_adds, adds_same, adds_item, one_passes}
 use Rattle.rule_printer.specs.Spelled.{Written, written, written_at, money_token, current_token, bracket_spelled, listed_spelled, tree_spelled, left_level, right_level, sign_of}
 use Rattle.rule_printer.specs.Inside.Spine.{Spine}
-use Rattle.rule_printer.specs.Inside.Writable.{is_writable, is_quotable, is_marked, is_short_word, is_writable_simple}
+use Rattle.rule_printer.specs.Writable.{is_writable, is_quotable, is_marked, is_short_word, is_writable_simple}
 use Rattle.std.specs.List.{list_all}
 use Rattle.rule_tree.specs.declared.tree.Tree.{Tree}
 use Rattle.rule_printer.proofs.tree_printing.+trees.Goals as goal

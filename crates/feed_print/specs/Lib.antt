@@ -1,0 +1,2 @@
+pub mod FeederTexts
+pub mod Printed
