@@ -31,18 +31,8 @@ use Rattle.read_sources.proofs.Lists.{has-map, has-range}
 use Rattle.read_sources.proofs.Within.{names-within}
 use Rattle.order_find.proofs.Vertices.{slots-parts, slots-given}
 use Rattle.order_find.proofs.Suiting.{is-part, part-suits, not-given, target-meant}
+use Rattle.order_find.proofs.Area.{from-area}
 use Rattle.order_find.proofs.Steps.{part-low}
-
--- what may be read from, is in the area
-pub from-area : (m : BoundModel) (cube : ℕ) (area : Area) (kind : Bool) (p : Precedent) (its : Option Bool) (i e : ℕ) → is_from m cube area kind p its i e ≡ true → has_element m.space cube area i e ≡ true
-unfolding is_from
-from-area m cube area kind p its i e h =
-    (and_parts (has_element m.space cube area i e) (admits (Some kind) (is_leaf_element (axes m.space cube) i e) && serves m.space cube p its i e) h).0
-
-pub in-area : (m : BoundModel) (cube : ℕ) (area : Area) (i e : ℕ) → has_element m.space cube area i e ≡ true → (e < slice_index_or (sizes m.space cube) i 0) × (in_set (slice_index_or area.sets i None) e ≡ true)
-in-area m cube area i e h =
-    let both = and_parts (nat_lt e (slice_index_or (sizes m.space cube) i 0)) (in_set (slice_index_or area.sets i None) e) h in
-    (ltb-true e (slice_index_or (sizes m.space cube) i 0) both.0, both.1)
 
 -- what is reached from an element of another dimension
 pub reached-in : (p : Plan) (s : Source) (gives : Gives) (i : ℕ) (to : List (Option ℕ)) (element t : ℕ) → reads_from p.model s i element ≡ true → is_given p.model s gives i element ≡ true → sent to element ≡ Some t
