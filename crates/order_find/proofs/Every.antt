@@ -11,7 +11,6 @@ use Rattle.dim_weights.specs.Table.{leaves_of}
 use Rattle.dim_weights.proofs.Nonzero.{counts-nonzero, among-in}
 use Rattle.cube_space.specs.Layout.{axes}
 use Rattle.cube_space.specs.Cells.{is_leaf}
-use Rattle.rule_model.specs.BoundModel.{BoundModel}
 use Rattle.lists.proofs.Found.{there, found_holds}
 use Rattle.rule_model.specs.Areas.{in_set}
 use Rattle.order_laws.proofs.ChildFacts.{size-at}
@@ -23,7 +22,7 @@ use Rattle.order_find.specs.Numbers.{IsPlace, number_of, place_at}
 use Rattle.read_sources.specs.Ways.{IsSource, precedent, way_of, reads_from, serves_any, cube_read}
 use Rattle.order_find.specs.Slots.{Plan, arrow_to, sent_to, target_at, is_for, reads_here, leads_below, leaves_below, leaf_arrow, arrow_by, read_arrow, source_arrow, hubs_from, group_by, group_arrow, member_arrow, members, own_slots, group_slots, slots_at}
 use Rattle.order_find.specs.PlanOfAll.{IsPlanOfAll}
-use Rattle.read_sources.specs.Parts.{IsReadLike, IsReadIn, Joins, JoinsAs}
+use Rattle.read_sources.specs.Parts.{IsReadLike, IsReadIn, JoinsAs}
 use Rattle.read_sources.specs.Sources.{IsRead}
 use Rattle.order_find.proofs.Decided.{IsReadByDimension, read-dimension}
 use Rattle.order_find.proofs.Through.{node, Goes, GoesThrough}

@@ -19,7 +19,7 @@ use Rattle.lists.proofs.Found.{there, found_holds}
 use Rattle.rule_model.specs.BoundModel.{BoundModel}
 use Rattle.order_laws.proofs.ChildFacts.{size-at, part-below}
 use Rattle.least_ranks.specs.declared.arrow.Arrow.{Arrow}
-use Rattle.arrow_laws.specs.Nodes.{last_of, has_kinds, has_nodes, node_kind}
+use Rattle.arrow_laws.specs.Nodes.{last_of, has_kinds, node_kind}
 use Rattle.arrow_laws.specs.Arrows.{IsLeafArrow}
 use Rattle.order_find.specs.declared.numbering.Place.{Place}
 use Rattle.read_sources.specs.declared.source.Source.{Source}

@@ -138,7 +138,11 @@ fn itself_arrow(graph: &NodeGraph, place: Place, source: Source) -> Option<Arrow
 {
     let model = graph.model();
     let last = last_of(model, source.cube);
-    if suits(source, true, is_total(model, source.cube, last, place.element)) {
+    if suits(
+        source,
+        true,
+        is_total(model, source.cube, last, place.element),
+    ) {
         Some(sent_to(graph, source, place.element))
     } else {
         None

@@ -1,12 +1,11 @@
-use Rattle.std.proofs.Common.{◌≡◌, ◌∙◌, sym, ap, arith, length, [], if◌then◌else◌}
-use Rattle.std.specs.Prelude.{slice_index_or}
+use Rattle.std.proofs.Common.{◌≡◌, ◌∙◌, sym, ap, subst, arith, true, Some, length, [], if◌then◌else◌}
+use Rattle.std.specs.Prelude.{slice_get, slice_index_or}
 use Rattle.std.specs.Option.{option_map_or}
-use Rattle.std.proofs.lemmas.Bool.{cond-true, cond-false}
-use Rattle.cube_space.specs.Layout.{sizes}
-use Rattle.dim_core.specs.Outline.{Outline}
+use Rattle.std.proofs.lemmas.Bool.{cond-true}
+use Rattle.cube_space.specs.Layout.{axes, sizes}
 use Rattle.dim_weights.specs.Table.{leaves_of}
 use Rattle.order_find.specs.Numbers.{width}
-use Rattle.order_find.specs.Slots.{leads_below, leaves_below}
+use Rattle.order_find.specs.Slots.{leads_below}
 use Rattle.order_find.proofs.Weighing.{leaves-few}
 use Rattle.order_find.proofs.tables.leaves_below.Goals as goal
 
@@ -16,9 +15,10 @@ returns-then-leads_below-clause-leaves c =
     let place = c.args.place in
     let d = c.axis.result.now in
     let is = c.weights.ensures d c.axis.ensures.axis in
-    let leads : leads_below m place d ≡ _ = sym (c.leads_below.ensures d c.axis.ensures.axis) ∙ c.if-leads_below.true in
+    let at = subst (λ i. slice_get (axes m.space place.cube) i ≡ Some d) c.last_of-last.ensures.last c.axis.ensures.axis in
+    let leads : leads_below m place d ≡ true = sym (c.leads_below.ensures d at) ∙ c.if-leads_below.true in
     c.leaves.ensures.leaves d is ∙ sym (cond-true (leads_below m place d) (leaves_of d place.element) [] leads)
-    ∙ sym (ap (λ o. option_map_or (λ d. if leads_below m place d then leaves_of d place.element else []) o []) c.axis.ensures.axis)
+    ∙ sym (ap (λ o. option_map_or (λ d. if leads_below m place d then leaves_of d place.element else []) o []) at)
 
 pub returns-then-leads_below-clause-few : goal.returns-then-leads_below-clause-few
 returns-then-leads_below-clause-few c =
