@@ -1,27 +1,22 @@
 -- Each arrow of a model is one of its plan, by itself or through another node.
-use Rattle.std.proofs.Common.{◌≡◌, refl, sym, ap, ◌∙◌, arith, subst, ℕ, ◌+◌, ◌<◌, Bool, true, false, not, ◌&&◌, ◌||◌, Option, Some, None, List, [], length, map, Contains, inl, inr, if◌then◌else◌, option_map, nat_lt}
-use Rattle.std.specs.Prelude.{IsTrue, slice_get, slice_index_or}
+use Rattle.std.proofs.Common.{◌≡◌, refl, sym, ap, ◌∙◌, arith, subst, ℕ, ◌+◌, ◌<◌, Bool, true, false, not, ◌&&◌, ◌||◌, Option, Some, None, List, [], length, map, Contains, inl, inr, if◌then◌else◌, option_map}
+use Rattle.std.specs.Prelude.{slice_get, slice_index_or}
 use Rattle.std.specs.List.{range_with_len}
-use Rattle.std.proofs.lemmas.Bool.{and_parts, and_from, ltb-true, cond-true}
+use Rattle.std.proofs.lemmas.Bool.{and_from, cond-true}
 use Rattle.std.proofs.lemmas.Option.{slice_get_within}
 use Rattle.dim_weights.specs.Table.{is_nonzero}
 use Rattle.cube_space.specs.Layout.{axes, sizes}
-use Rattle.rule_laws.specs.Meaning.{Precedent}
-use Rattle.rule_model.specs.declared.area.Area.{Area}
-use Rattle.rule_model.specs.Areas.{in_set}
-use Rattle.rule_model.specs.BoundModel.{BoundModel}
 use Rattle.order_laws.specs.Scales.{is_total, is_leaf_element, set_count, set_element}
 use Rattle.order_laws.proofs.SetFacts.{place-of}
 use Rattle.cover_laws.specs.Looking.{sent}
 use Rattle.least_ranks.specs.declared.arrow.Arrow.{Arrow}
 use Rattle.arrow_laws.specs.Nodes.{last_of, kind_in}
-use Rattle.arrow_laws.specs.ByDimension.{is_from, is_part, has_element, serves, admits, names_total}
-use Rattle.order_find.specs.declared.numbering.Place.{Place}
+use Rattle.arrow_laws.specs.ByDimension.{admits, names_total}
 use Rattle.order_find.specs.declared.slots.Gives.{Gives}
 use Rattle.read_sources.specs.declared.source.Source.{Source}
 use Rattle.order_find.specs.Numbers.{IsPlace, width, number_of, place_at}
 use Rattle.read_sources.specs.Ways.{Follows, Same, Component, Always, Sent, SentOver, IsSource, precedent, way_of, reads_from, is_consolidated, gives_total, suits, serves_any, cube_read, IsNamedAs, Names}
-use Rattle.order_find.specs.Slots.{Plan, IsPlan, parts_from, node_count, components_from, given_from, arrow_to, sent_to, target_at, parts_of, is_meant, part_arrow, arrow_by, is_given, reached_from, reached_by, reached_slots, member_by, member_arrow, slots_at}
+use Rattle.order_find.specs.Slots.{Plan, IsPlan, parts_from, node_count, components_from, given_from, arrow_to, sent_to, target_at, parts_of, is_meant, part_arrow, arrow_by, is_given, reached_from, reached_by, member_by, member_arrow, slots_at}
 use Rattle.read_sources.specs.Sources.{IsRead}
 use Rattle.read_sources.specs.Parts.{IsShared}
 use Rattle.order_find.proofs.Through.{GoesThrough}
@@ -31,18 +26,8 @@ use Rattle.read_sources.proofs.Lists.{has-map, has-range}
 use Rattle.read_sources.proofs.Within.{names-within}
 use Rattle.order_find.proofs.Vertices.{slots-parts, slots-given}
 use Rattle.order_find.proofs.Suiting.{is-part, part-suits, not-given, target-meant}
+use Rattle.order_find.proofs.Area.{from-area}
 use Rattle.order_find.proofs.Steps.{part-low}
-
--- what may be read from, is in the area
-pub from-area : (m : BoundModel) (cube : ℕ) (area : Area) (kind : Bool) (p : Precedent) (its : Option Bool) (i e : ℕ) → is_from m cube area kind p its i e ≡ true → has_element m.space cube area i e ≡ true
-unfolding is_from
-from-area m cube area kind p its i e h =
-    (and_parts (has_element m.space cube area i e) (admits (Some kind) (is_leaf_element (axes m.space cube) i e) && serves m.space cube p its i e) h).0
-
-pub in-area : (m : BoundModel) (cube : ℕ) (area : Area) (i e : ℕ) → has_element m.space cube area i e ≡ true → (e < slice_index_or (sizes m.space cube) i 0) × (in_set (slice_index_or area.sets i None) e ≡ true)
-in-area m cube area i e h =
-    let both = and_parts (nat_lt e (slice_index_or (sizes m.space cube) i 0)) (in_set (slice_index_or area.sets i None) e) h in
-    (ltb-true e (slice_index_or (sizes m.space cube) i 0) both.0, both.1)
 
 -- what is reached from an element of another dimension
 pub reached-in : (p : Plan) (s : Source) (gives : Gives) (i : ℕ) (to : List (Option ℕ)) (element t : ℕ) → reads_from p.model s i element ≡ true → is_given p.model s gives i element ≡ true → sent to element ≡ Some t

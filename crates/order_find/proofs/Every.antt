@@ -1,5 +1,5 @@
 -- Each arrow of a model is found in a plan of it.
-use Rattle.std.proofs.Common.{◌≡◌, refl, sym, ap, ◌∙◌, arith, subst, ℕ, ◌+◌, ◌<◌, Bool, true, false, not, ◌&&◌, Option, Some, None, List, [], ◌++◌, length, map, Contains, ℤ, inl, inr, if◌then◌else◌}
+use Rattle.std.proofs.Common.{◌≡◌, refl, sym, ap, ◌∙◌, arith, subst, ℕ, ◌+◌, ◌<◌, Bool, true, false, not, ◌&&◌, ◌||◌, Option, Some, None, List, [], ◌++◌, length, map, Contains, ℤ, inl, inr, if◌then◌else◌}
 use Rattle.std.specs.Prelude.{slice_get, slice_index_or}
 use Rattle.std.specs.Option.{option_map_or}
 use Rattle.std.specs.List.{range_with_len}
@@ -11,7 +11,6 @@ use Rattle.dim_weights.specs.Table.{leaves_of}
 use Rattle.dim_weights.proofs.Nonzero.{counts-nonzero, among-in}
 use Rattle.cube_space.specs.Layout.{axes}
 use Rattle.cube_space.specs.Cells.{is_leaf}
-use Rattle.rule_model.specs.BoundModel.{BoundModel}
 use Rattle.lists.proofs.Found.{there, found_holds}
 use Rattle.rule_model.specs.Areas.{in_set}
 use Rattle.order_laws.proofs.ChildFacts.{size-at}
@@ -21,9 +20,9 @@ use Rattle.order_find.specs.declared.numbering.Place.{Place}
 use Rattle.read_sources.specs.declared.source.Source.{Source}
 use Rattle.order_find.specs.Numbers.{IsPlace, number_of, place_at}
 use Rattle.read_sources.specs.Ways.{IsSource, precedent, way_of, reads_from, serves_any, cube_read}
-use Rattle.order_find.specs.Slots.{Plan, arrow_to, sent_to, target_at, is_for, leads_below, leaves_below, leaf_arrow, arrow_by, read_arrow, source_arrow, hubs_from, group_by, group_arrow, member_arrow, members, own_slots, group_slots, slots_at}
+use Rattle.order_find.specs.Slots.{Plan, arrow_to, sent_to, target_at, is_for, reads_here, leads_below, leaves_below, leaf_arrow, arrow_by, read_arrow, source_arrow, hubs_from, group_by, group_arrow, member_arrow, members, own_slots, group_slots, slots_at}
 use Rattle.order_find.specs.PlanOfAll.{IsPlanOfAll}
-use Rattle.read_sources.specs.Parts.{IsReadLike, IsReadIn, Joins, JoinsAs}
+use Rattle.read_sources.specs.Parts.{IsReadLike, IsReadIn, JoinsAs}
 use Rattle.read_sources.specs.Sources.{IsRead}
 use Rattle.order_find.proofs.Decided.{IsReadByDimension, read-dimension}
 use Rattle.order_find.proofs.Through.{node, Goes, GoesThrough}
@@ -33,7 +32,8 @@ use Rattle.order_find.proofs.Vertices.{slots-element, slots-shared}
 use Rattle.order_find.proofs.Suiting.{not-not, kind-same, meant-target}
 use Rattle.order_find.proofs.LookedAt.{own-place, own-there}
 use Rattle.order_find.proofs.Sound.{target-place}
-use Rattle.order_find.proofs.Complete.{from-area, in-area, goes, always-goes, named-low}
+use Rattle.order_find.proofs.Area.{from-area, in-area}
+use Rattle.order_find.proofs.Complete.{goes, always-goes, named-low}
 
 pub record IsThrough (p : Plan) (from to : Node) (strict : Bool) : Type 0 where
   pub source : Place
@@ -103,9 +103,9 @@ module _ (p : Plan) (all : IsPlanOfAll p) (from to : Node) (strict : Bool) where
           let n = number_of p.numbering place in
           let at = all.plan.numbering.there place within in
           let reads = reads_from p.model s (last_of p.model.space s.cube) from.element in
-          let tests : is_for p.model s place && reads ≡ true = and_from (is_for p.model s place) reads (kind-same (node_kind p.model s.cube s.kind) place.kind refl) passes in
+          let tests : reads_here p.model s place ≡ true = and_from (is_for p.model s place) reads (kind-same (node_kind p.model s.cube s.kind) place.kind refl) passes in
           let arrow : source_arrow p place k ≡ made = ap (λ (o : Option Source). option_map_or (read_arrow p place k) o None) here
-          ∙ cond-true (is_for p.model s place && reads) (arrow_by p place k s (way_of p.model s)) None tests ∙ is in
+          ∙ cond-true (reads_here p.model s place) (arrow_by p place k s (way_of p.model s)) None tests ∙ is in
           let leaves = map (leaf_arrow p place.cube) (leaves_below p.model place) in
           let cubes = map (source_arrow p place) (slice_index_or p.of_cubes place.cube []) in
           let nodes = map (source_arrow p place) (slice_index_or p.of_nodes n []) in
@@ -166,9 +166,10 @@ module _ (p : Plan) (all : IsPlanOfAll p) (from to : Node) (strict : Bool) where
           let kinds : place.kind ≡ node_kind m head.cube head.kind = ap (λ c. node_kind m c s.kind) (sym alike.cube) ∙ ap (node_kind m head.cube) (sym alike.kind) in
           let (inside, listed) = in-area m head.cube head.area.now (last_of m.space head.cube) place.element (from-area m head.cube head.area.now head.kind (precedent head) head.its (last_of m.space head.cube) place.element from_head) in
           let reads = reads_from m head (last_of m.space head.cube) place.element in
-          let tests = and_from (is_for m head place) (reads && serves_any m head place.element) (kind-same (node_kind m head.cube head.kind) place.kind (sym kinds)) (and_from reads (serves_any m head place.element) from_head serves_head) in
+          let here : reads_here m head place ≡ true = and_from (is_for m head place) reads (kind-same (node_kind m head.cube head.kind) place.kind (sym kinds)) from_head in
+          let tests = and_from (reads_here m head place) (serves_any m head place.element) here serves_head in
           let arrow : group_arrow p place g ≡ Some (record { to = hubs_from p + g; strict = false }) = ap (λ (o : Option Source). option_map_or (group_by p place g) o None) found
-          ∙ cond-true (is_for m head place && (reads && serves_any m head place.element)) (Some (record { to = hubs_from p + g; strict = false })) None tests in
+          ∙ cond-true (reads_here m head place && serves_any m head place.element) (Some (record { to = hubs_from p + g; strict = false })) None tests in
           let whole = slice_index_or p.groups_of_cubes place.cube [] in
           let own_row = slice_index_or p.groups_of_nodes n [] in
           let slot : Contains (group_slots p n place) (group_arrow p place g) = elim (all.heads_looked_at g head place found within (sym alike.cube) kinds listed) [

@@ -1,5 +1,5 @@
 -- What slots hold.
-use Rattle.std.proofs.Common.{◌≡◌, refl, ap, ◌∙◌, arith, ℕ, zero, suc, ◌+◌, ◌<◌, ◌≤◌, Bool, Option, Some, None, List, length, map, get_or}
+use Rattle.std.proofs.Common.{◌≡◌, refl, ap, ◌∙◌, arith, ℕ, zero, suc, ◌+◌, ◌<◌, ◌≤◌, Option, Some, None, List, [], ◌∷◌, length, map, get_or}
 use Rattle.std.specs.Prelude.{slice_get, slice_index_or, unwrap_or}
 use Rattle.std.specs.List.{range_with_len}
 use Rattle.std.specs.List.Sorted.{IsStrictlyIncreasing}
@@ -39,6 +39,17 @@ pub reached-past : (p : Plan) (s : Source) (gives : Gives) (i : ℕ) (to : List 
     → held (reached_by p s gives (SentOver i to)) k ≡ None
 reached-past p s gives i to k past =
     unwrap_or-slice_get (reached_by p s gives (SentOver i to)) k None ∙ get_or_past (reached_by p s gives (SentOver i to)) k None (omega (arith, reached-length p s gives i to, past))
+
+-- one of a list that is mapped
+pub mapped-held : {A : Type 0} (f : A → Option Arrow) (xs : List A) (k : ℕ) (d : A) → k < length xs → f (get_or xs k d) ≡ held (map f xs) k
+mapped-held f [] k d low = absurd (omega (arith, low))
+mapped-held f (x ∷ xs) zero d low = refl
+mapped-held f (x ∷ xs) (suc k) d low = mapped-held f xs k d (omega (arith, low))
+
+pub mapped-past : {A : Type 0} (f : A → Option Arrow) (xs : List A) (k : ℕ) → length xs ≤ k → held (map f xs) k ≡ None
+mapped-past f [] k past = refl
+mapped-past f (x ∷ xs) zero past = absurd (omega (arith, past))
+mapped-past f (x ∷ xs) (suc k) past = mapped-past f xs k (omega (arith, past))
 
 -- a set has no more elements than its dimension
 at-least : (xs : List ℕ) → IsStrictlyIncreasing xs → (k : ℕ) → k < length xs → k ≤ get_or xs k 0

@@ -1,6 +1,6 @@
 -- Ranks of a plan's nodes, cut into those of each cube's elements.
 use Rattle.std.proofs.Common.{◌≡◌, sym, ap, ◌∙◌, arith, subst, ℕ, ◌<◌, ◌≤◌, ◌^◌, ◌+◌, Bool, true, false, List, [], ◌∷◌, ◌++◌, length, map, All}
-use Rattle.std.specs.Prelude.{IsTrue, Option, Some, None, slice_index, slice_index_or, if◌then◌else◌}
+use Rattle.std.specs.Prelude.{Some, None, slice_index, slice_index_or, if◌then◌else◌}
 use Rattle.std.specs.List.{range_with_len}
 use Rattle.std.proofs.lemmas.List.FromFn.{get_or-map-range_with_len, length-map-range_with_len, map-range_with_len_more}
 use Rattle.std.proofs.lemmas.List.Elements.{All-map}
@@ -13,7 +13,7 @@ use Rattle.rule_model.specs.System.{cubes_of}
 use Rattle.rule_model.specs.Conditions.{greatest_rank, rank_in}
 use Rattle.order_laws.proofs.ChildFacts.{size-at}
 use Rattle.least_ranks.specs.Graph.{Fits, IsLeast}
-use Rattle.arrow_laws.specs.Nodes.{NodeRanks, has_kinds, has_nodes, last_of, ranks_in}
+use Rattle.arrow_laws.specs.Nodes.{has_kinds, last_of, ranks_in}
 use Rattle.arrow_laws.specs.Arrows.{IsLevelThroughout}
 use Rattle.arrow_laws.specs.Ranked.{AreNodeRanks, order_by}
 use Rattle.order_find.specs.declared.numbering.Place.{Place}

@@ -1,3 +1,4 @@
+pub mod Area
 pub mod Complete
 pub mod Decided
 pub mod Every

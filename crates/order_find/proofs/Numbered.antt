@@ -1,6 +1,6 @@
 -- The numbers of the nodes, cube by cube.
 use Rattle.std.proofs.Common.{◌≡◌, refl, sym, ap, ◌∙◌, subst, arith, ℕ, zero, suc, ◌+◌, ◌<◌, ◌≤◌, ◌⊎◌, inl, inr, Bool, true, false, Some, List, [], ◌∷◌, ◌++◌, length, map}
-use Rattle.std.specs.Prelude.{slice_get, slice_index_or, option_map}
+use Rattle.std.specs.Prelude.{slice_get, slice_index_or, option_map, if◌then◌else◌}
 use Rattle.std.specs.List.{range_with_len}
 use Rattle.std.proofs.lemmas.Bool.{cases_lt}
 use Rattle.std.proofs.lemmas.List.{append_assoc, length-append, get_or_append_left, get_or_push, length_push}
@@ -58,6 +58,12 @@ places-long cube kind w old now is = ap length is ∙ length-append old (places_
 pub none-numbered : (m : BoundModel) (kind : Bool) (old : List Place) → AreNumbered m kind old 0 [] old
 none-numbered m kind old = record { each = refl; keeps = λ number place is. is; there = λ c e low. absurd (omega (arith, low)); back = λ number place is. inl is }
 
+-- a number is that of a node before, or of one of these cubes
+abbrev Back : BoundModel → Bool → List Place → ℕ → List ℕ → ℕ → Place → Type 0
+Back m kind old cubes firsts number place =
+    (slice_get old number ≡ Some place)
+    ⊎ ((place.cube < cubes) × (place.element < width_of m kind place.cube) × (place.kind ≡ kind) × (slice_index_or firsts place.cube 0 + place.element ≡ number))
+
 -- and those up to it, where its nodes come behind theirs
 pub numbered-next : (m : BoundModel) (kind : Bool) (old : List Place) (cube first w : ℕ) (firsts : List ℕ) (places : List Place) → w ≡ width_of m kind cube → first ≡ length places
     → AreNumbered m kind old cube firsts places → AreNumbered m kind old (cube + 1) (firsts ++ first ∷ []) (places ++ places_of cube kind w)
@@ -94,23 +100,19 @@ numbered-next m kind old cube first w firsts places wide begins n = record {
             let is : cube ≡ c = omega (arith, low, past) in
             subst (λ a. e < width_of m kind a → slice_get places' (slice_index_or firsts' a 0 + e) ≡ Some (place_at a kind e)) is (new e) less
 
-    abbrev Back : ℕ → Place → Type 0
-    Back number place = (slice_get old number ≡ Some place)
-        ⊎ ((place.cube < cube + 1) × (place.element < width_of m kind place.cube) × (place.kind ≡ kind) × (slice_index_or firsts' place.cube 0 + place.element ≡ number))
-
-    back : (number : ℕ) (place : Place) → slice_get places' number ≡ Some place → Back number place
+    back : (number : ℕ) (place : Place) → slice_get places' number ≡ Some place → Back m kind old (cube + 1) firsts' number place
     back number place is = by (get-either places (places_of cube kind w) number place is)
       where
-        before : (slice_get old number ≡ Some place) ⊎ ((place.cube < cube) × (place.element < width_of m kind place.cube) × (place.kind ≡ kind) × (slice_index_or firsts place.cube 0 + place.element ≡ number)) → Back number place
+        before : Back m kind old cube firsts number place → Back m kind old (cube + 1) firsts' number place
         before (inl held) = inl held
         before (inr (low, less, kinds, e)) = inr (omega (arith, low), less, kinds, ap (λ k. k + place.element) (same place.cube low) ∙ e)
 
-        by : (slice_get places number ≡ Some place) ⊎ ((j : ℕ) × (number ≡ length places + j) × (slice_get (places_of cube kind w) j ≡ Some place)) → Back number place
+        by : (slice_get places number ≡ Some place) ⊎ ((j : ℕ) × (number ≡ length places + j) × (slice_get (places_of cube kind w) j ≡ Some place)) → Back m kind old (cube + 1) firsts' number place
         by (inl held) = before (n.back number place held)
         by (inr (j, e, h)) =
             let (low, is) = place-got cube kind w j place h in
             let less : j < width_of m kind cube = subst (λ x. j < x) wide low in
-            subst (Back number) (sym is) (inr (omega arith, less, refl, omega (arith, own, e)))
+            subst (Back m kind old (cube + 1) firsts' number) (sym is) (inr (omega arith, less, refl, omega (arith, own, e)))
 
 -- how many nodes of a kind a cube has, where it has some
 width-there : (m : BoundModel) (kind : Bool) (cube : ℕ) (t : Bool) → has_nodes m cube kind ≡ t → t ≡ true → width_of m kind cube ≡ width m.space cube
@@ -130,25 +132,24 @@ module _ (m : BoundModel) (n : Numbering) (count : ℕ) (all : count ≡ length 
       let low : e < width_of m false cube = subst (λ w. e < w) (sym (width-there m false cube (has_nodes m cube false) refl is.kind)) is.element in
       totals.there cube e (omega (arith, all, is.cube)) low
 
-  abbrev Back : ℕ → Place → Type 0
-  Back number place = IsPlace m place × (number_of n place ≡ number)
+  abbrev Backs : ℕ → Place → Type 0
+  Backs number place = IsPlace m place × (number_of n place ≡ number)
 
-  back-in : (kind : Bool) (number : ℕ) (place : Place) → place.kind ≡ kind → place.cube < count → place.element < width_of m kind place.cube → (slice_index_or (if kind then n.firsts.items else n.totals.items) place.cube 0 + place.element ≡ number) → Back number place
+  back-in : (kind : Bool) (number : ℕ) (place : Place) → place.kind ≡ kind → place.cube < count → place.element < width_of m kind place.cube → (slice_index_or (if kind then n.firsts.items else n.totals.items) place.cube 0 + place.element ≡ number) → Backs number place
   back-in kind number place same low less e =
-      let (inside, has) = there-width m kind place.cube place.element (has_nodes m place.cube kind) refl less in
-      (
+      let (inside, has) = there-width m kind place.cube place.element (has_nodes m place.cube kind) refl less in (
         record { cube = omega (arith, low, all); element = inside; kind = subst (λ k. has_nodes m place.cube k ≡ true) (sym same) has },
         ap (λ k. slice_index_or (if k then n.firsts.items else n.totals.items) place.cube 0 + place.element) same ∙ e,
       )
 
-  back : (number : ℕ) (place : Place) → slice_get n.places.items number ≡ Some place → Back number place
+  back : (number : ℕ) (place : Place) → slice_get n.places.items number ≡ Some place → Backs number place
   back number place at = by (totals.back number place at)
     where
-      by-first : (slice_get [] number ≡ Some place) ⊎ ((place.cube < count) × (place.element < width_of m true place.cube) × (place.kind ≡ true) × (slice_index_or n.firsts.items place.cube 0 + place.element ≡ number)) → Back number place
+      by-first : (slice_get [] number ≡ Some place) ⊎ ((place.cube < count) × (place.element < width_of m true place.cube) × (place.kind ≡ true) × (slice_index_or n.firsts.items place.cube 0 + place.element ≡ number)) → Backs number place
       by-first (inl none) = absurd (cc none)
       by-first (inr (low, less, kind, e)) = back-in true number place kind low less e
 
-      by : (slice_get places number ≡ Some place) ⊎ ((place.cube < count) × (place.element < width_of m false place.cube) × (place.kind ≡ false) × (slice_index_or n.totals.items place.cube 0 + place.element ≡ number)) → Back number place
+      by : (slice_get places number ≡ Some place) ⊎ ((place.cube < count) × (place.element < width_of m false place.cube) × (place.kind ≡ false) × (slice_index_or n.totals.items place.cube 0 + place.element ≡ number)) → Backs number place
       by (inl held) = by-first (firsts.back number place held)
       by (inr (low, less, kind, e)) = back-in false number place kind low less e
 

@@ -214,8 +214,7 @@ module _ (p : Plan) (plan : IsPlan p) (s : Source) (is : IsSource p.model s) (re
         let dims = axes p.model.space (cube_read s) in
         let edge = last_of p.model.space (cube_read s) in
         let (admitted, suited) = and_parts (admits (kind_in p.model (cube_read s) (target_at s e).kind) (is_leaf_element dims edge part)) (not totals || is_total dims edge part) meant in
-        let as_its : admits s.its (is_leaf_element dims edge part) ≡ true = subst (λ its. admits its (is_leaf_element dims edge part) ≡ true) (target-meant p.model s read.has_kind) admitted in
-        (
+        let as_its : admits s.its (is_leaf_element dims edge part) ≡ true = subst (λ its. admits its (is_leaf_element dims edge part) ≡ true) (target-meant p.model s read.has_kind) admitted in (
           is_part_of,
           subst (λ c. admits s.its (is_leaf_element (axes p.model.space c) (last_of p.model.space c) part) ≡ true) other as_its,
           suits-part s (is_total (axes p.model.space s.cube) last part) (suits s true false) refl

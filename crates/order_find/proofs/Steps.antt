@@ -19,13 +19,13 @@ use Rattle.lists.proofs.Found.{there, found_holds}
 use Rattle.rule_model.specs.BoundModel.{BoundModel}
 use Rattle.order_laws.proofs.ChildFacts.{size-at, part-below}
 use Rattle.least_ranks.specs.declared.arrow.Arrow.{Arrow}
-use Rattle.arrow_laws.specs.Nodes.{last_of, has_kinds, has_nodes, node_kind}
+use Rattle.arrow_laws.specs.Nodes.{last_of, has_kinds, node_kind}
 use Rattle.arrow_laws.specs.Arrows.{IsLeafArrow}
 use Rattle.order_find.specs.declared.numbering.Place.{Place}
 use Rattle.read_sources.specs.declared.source.Source.{Source}
 use Rattle.order_find.specs.Numbers.{IsPlace, width, number_of, place_at}
 use Rattle.read_sources.specs.Ways.{Follows, Same, Component, Always, Sent, SentOver, IsSource, precedent, way_of, reads_from, serves_any, cube_read}
-use Rattle.order_find.specs.Slots.{Plan, IsPlan, IsSourceOf, parts_from, totals_from, both_from, own_from, its_from, none_from, components_from, given_from, arrow_to, target_at, is_for, leads_below, leaves_below, parts_of, part_arrow, leaf_arrow, arrow_by, read_arrow, source_arrow, reached_slots, hubs_from, node_count, group_by, group_arrow, member_by, member_arrow, members, own_slots, group_slots, slots_at}
+use Rattle.order_find.specs.Slots.{Plan, IsPlan, IsSourceOf, parts_from, totals_from, both_from, own_from, its_from, none_from, components_from, given_from, arrow_to, target_at, is_for, reads_here, leads_below, leaves_below, parts_of, part_arrow, leaf_arrow, arrow_by, read_arrow, source_arrow, reached_slots, hubs_from, node_count, group_by, group_arrow, member_by, member_arrow, members, own_slots, group_slots, slots_at}
 use Rattle.order_find.specs.PlanOfAll.{IsPlanOfAll}
 use Rattle.order_find.specs.declared.link.LinkBy.{LinkBy}
 use Rattle.order_find.specs.declared.link.LinkBy.TheVariants.{Below}
@@ -135,7 +135,7 @@ module _ (p : Plan) (all : IsPlanOfAll p) (n : ℕ) (place : Place) (at : slice_
       let (s, found, own) = of k inside in
       let by : reference_of s ≡ maker p k = sym (ap (λ (o : Option Source). option_map_or reference_of o Below) found) in
       let read_by : read_arrow p place k s ≡ Some arrow = sym (ap (λ (o : Option Source). option_map_or (read_arrow p place k) o None) found) ∙ same in
-      let (tests, made) = given-where (is_for p.model s place && reads_from p.model s (last_of p.model.space s.cube) place.element) (arrow_by p place k s (way_of p.model s)) arrow read_by in
+      let (tests, made) = given-where (reads_here p.model s place) (arrow_by p place k s (way_of p.model s)) arrow read_by in
       let (for, passes) = and_parts (is_for p.model s place) (reads_from p.model s (last_of p.model.space s.cube) place.element) tests in
       let equal : own-place p.model s place.element ≡ place = own-is s own for in
       let is = found_holds (IsSource p.model) p.sources k s all.plan.sources found in
@@ -209,9 +209,9 @@ module _ (p : Plan) (all : IsPlanOfAll p) (n : ℕ) (place : Place) (at : slice_
   group-step g arrow (head, found, own) made =
       let by : group_by p place g head ≡ Some arrow = sym (ap (λ (o : Option Source). option_map_or (group_by p place g) o None) found) ∙ made in
       let reads = reads_from p.model head (last_of p.model.space head.cube) place.element in
-      let (tests, equal) = cond_some (is_for p.model head place && (reads && serves_any p.model head place.element)) (record { to = hubs_from p + g; strict = false }) arrow by in
-      let (for, passes) = and_parts (is_for p.model head place) (reads && serves_any p.model head place.element) tests in
-      let (from, serving) = and_parts reads (serves_any p.model head place.element) passes in
+      let (tests, equal) = cond_some (reads_here p.model head place && serves_any p.model head place.element) (record { to = hubs_from p + g; strict = false }) arrow by in
+      let (passes, serving) = and_parts (reads_here p.model head place) (serves_any p.model head place.element) tests in
+      let (for, from) = and_parts (is_for p.model head place) reads passes in
       group-via g head arrow found own for from serving equal
 
   groups-step : (arrow : Arrow) → Contains (group_slots p n place) (Some arrow) → IsVia p place None arrow

@@ -13,8 +13,7 @@ use Rattle.arrow_laws.specs.ByDimension.{is_part}
 use Rattle.read_sources.specs.declared.source.Source.{Source}
 use Rattle.read_sources.specs.declared.source.Given.{Given}
 use Rattle.read_sources.specs.Ways.{cube_read, meets, suits}
-use Rattle.order_find.specs.declared.numbering.Place.{Place}
-use Rattle.order_find.specs.Slots.{MeansByKind, target_at}
+use Rattle.order_find.specs.Slots.{MeansByKind}
 
 -- ---- the kinds of what is read
 

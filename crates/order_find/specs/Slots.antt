@@ -109,9 +109,12 @@ MeansByKind m s = is_some s.its ≡ has_kinds m (cube_read s)
 abbrev pub target_at : Source → ℕ → Place
 target_at s element = place_at (cube_read s) (unwrap_or s.its true) element
 
--- whether a source reads for the cells of this node's kind
+-- whether a source reads for the cells of a node's kind, and from the node's element
 abbrev pub is_for : BoundModel → Source → Place → Bool
 is_for m s place = is_same (node_kind m s.cube s.kind) place.kind
+
+abbrev pub reads_here : BoundModel → Source → Place → Bool
+reads_here m s place = is_for m s place && reads_from m s (last_of m.space s.cube) place.element
 
 -- whether a node leads to those of the leaves that count in its element: it is of consolidated cells, or, where the
 -- cells have no kinds, of a consolidated element
@@ -169,8 +172,7 @@ arrow_by p place k s (SentOver i to) =
 
 abbrev pub read_arrow : Plan → Place → ℕ → Source → Option Arrow
 read_arrow p place k s =
-    if is_for p.model s place && reads_from p.model s (last_of p.model.space s.cube) place.element
-    then arrow_by p place k s (way_of p.model s) else None
+    if reads_here p.model s place then arrow_by p place k s (way_of p.model s) else None
 
 -- the arrow by the source of this number
 abbrev pub source_arrow : Plan → Place → ℕ → Option Arrow
@@ -205,8 +207,7 @@ reached_slots p s gives = if gives.its && not s.asks then [] else reached_by p s
 -- the arrow from the node of an element to that of a group, where its head reads from there
 abbrev pub group_by : Plan → Place → ℕ → Source → Option Arrow
 group_by p place g s =
-    if is_for p.model s place
-    && (reads_from p.model s (last_of p.model.space s.cube) place.element && serves_any p.model s place.element)
+    if reads_here p.model s place && serves_any p.model s place.element
     then Some (record { to = hubs_from p + g; strict = false }) else None
 
 abbrev pub group_arrow : Plan → Place → ℕ → Option Arrow

@@ -15,7 +15,7 @@ ghost use Rattle.order_find.specs.declared.slots.Vertex.TheVariants.{Element, Co
 use crate::graph::NodeGraph;
 use crate::numbering::Place;
 use crate::slots::{Gives, Vertex};
-use crate::tables::{is_for, is_meant, leaves_below, parts_of, target_at};
+use crate::tables::{is_meant, leaves_below, parts_of, reads_here, target_at};
 use least_ranks::Arrow;
 use read_sources::{
     Source, Way, gives_total, is_nonzero, is_total, last_of, reads_from, serves_any, set_of, suits,
@@ -138,7 +138,11 @@ fn itself_arrow(graph: &NodeGraph, place: Place, source: Source) -> Option<Arrow
 {
     let model = graph.model();
     let last = last_of(model, source.cube);
-    if suits(source, true, is_total(model, source.cube, last, place.element)) {
+    if suits(
+        source,
+        true,
+        is_total(model, source.cube, last, place.element),
+    ) {
         Some(sent_to(graph, source, place.element))
     } else {
         None
@@ -211,8 +215,7 @@ fn read_arrow(graph: &NodeGraph, place: Place, k: u32, source: Source) -> Option
     ensures within { IfSome result (λ arrow. arrow.to < node_count graph.now) }
 {
     let model = graph.model();
-    let last = last_of(model, source.cube);
-    if is_for(model, source, place) && reads_from(model, source, last, place.element) {
+    if reads_here(model, source, place) {
         arrow_by(graph, place, k, source)
     } else {
         None
@@ -250,11 +253,7 @@ fn group_by(graph: &NodeGraph, place: Place, group: u32, source: Source) -> Opti
     ensures within { IfSome result (λ arrow. arrow.to < node_count graph.now) }
 {
     let model = graph.model();
-    let last = last_of(model, source.cube);
-    if is_for(model, source, place)
-        && reads_from(model, source, last, place.element)
-        && serves_any(model, source, place.element)
-    {
+    if reads_here(model, source, place) && serves_any(model, source, place.element) {
         Some(Arrow {
             to: graph.hubs_from() + group,
             strict: false,

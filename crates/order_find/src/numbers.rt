@@ -72,12 +72,7 @@ fn width_of(model: &Model, kind: bool, cube: u32) -> u32
 }
 
 // Adds the nodes of a kind of so many elements of a cube's last dimension.
-fn add_places(
-    places: &mut Vec<Place>,
-    cube: u32,
-    kind: bool,
-    width: u32,
-) -> Result<(), AllocError>
+fn add_places(places: &mut Vec<Place>, cube: u32, kind: bool, width: u32) -> Result<(), AllocError>
     requires few { length places.old.items ≤ most_places }
     ensures places { OnOk result (places.new.items ≡ places.old.items ++ places_of cube kind width) }
     ensures few { OnOk result (length places.new.items ≤ most_places) }

@@ -1,13 +1,13 @@
-ghost use Rattle.std.specs.Prelude.{◌≡◌, ◌<◌, ◌≤◌, Some, All, length, slice_get};
+ghost use Rattle.std.specs.Prelude.{◌≡◌, ◌<◌, ◌≤◌, IsTrue, Some, All, length, slice_get};
 ghost use Rattle.dim_core.specs.Outline.{Outline, most_elements, most_components};
 ghost use Rattle.cube_space.specs.Layout.{axes};
 ghost use Rattle.arrow_laws.specs.Nodes.{kind_in, last_of, node_kind};
 ghost use Rattle.order_find.specs.Numbers.{IsPlace, width};
 ghost use Rattle.read_sources.specs.Ways.{IsSource, cube_read};
-ghost use Rattle.order_find.specs.Slots.{MeansByKind, is_for, is_meant, leads_below, leaves_below, parts_of, target_at};
+ghost use Rattle.order_find.specs.Slots.{MeansByKind, is_for, reads_here, is_meant, leads_below, leaves_below, parts_of, target_at};
 
 use crate::numbering::Place;
-use read_sources::{Source, admits, cube_read, has_kinds, is_total, last_of};
+use read_sources::{Source, admits, cube_read, has_kinds, is_total, last_of, reads_from};
 use ref_order::{axis, weights};
 use rule_model::Model;
 
@@ -82,8 +82,8 @@ pub fn own_kind(model: &Model, source: Source) -> bool
     source.kind || !has_kinds(model, source.cube)
 }
 
-/// Whether a source reads for the cells of a node's kind.
-pub fn is_for(model: &Model, source: Source, place: Place) -> bool
+// Whether a source reads for the cells of a node's kind.
+fn is_for(model: &Model, source: Source, place: Place) -> bool
     requires { IsSource model.now source }
     ensures { result ≡ is_for model.now source.entry place }
 {
@@ -92,6 +92,16 @@ pub fn is_for(model: &Model, source: Source, place: Place) -> bool
     } else {
         !place.kind
     }
+}
+
+/// Whether a source reads for the cells of a node's kind, and from the node's element.
+pub fn reads_here(model: &Model, source: Source, place: Place) -> bool
+    requires { IsSource model.now source }
+    ensures reads { result ≡ reads_here model.now source.entry place }
+    ensures element { IsTrue result → place.element < width model.now.space source.entry.cube }
+{
+    is_for(model, source, place)
+        && reads_from(model, source, last_of(model, source.cube), place.element)
 }
 
 /// The node of the cells that a source reads, of this element of their last dimension.

@@ -1,7 +1,9 @@
 use Rattle.std.proofs.Common.{◌≡◌, ◌∙◌, ◌+◌, ◌==◌, sym, ap, subst, arith, suc, Some, length}
+use Rattle.std.specs.Prelude.{slice_index_or}
 use Rattle.std.specs.List.{list_any}
 use Rattle.std.proofs.lemmas.List.{with_items_is}
 use Rattle.std.proofs.lemmas.Result.{on_ok_weaker}
+use Rattle.order_find.specs.Numbers.{firsts_of}
 use Rattle.order_find.specs.Filing.{Adds, AreFiled}
 use Rattle.order_find.proofs.LookedAt.{IsListOf, list-of, rows-there, source-at, plan, filed-whole, filed-listed}
 use Rattle.order_find.proofs.filing.file.Goals as goal
@@ -20,7 +22,7 @@ add_each-requires-clause-within c = λ k d low.
     let m = c.args.model.now in
     let s = c.index-sources-k.result in
     let (source, at) = source-at m c.args.sources.now c.args.k s c.requires.sources c.requires.k c.index-sources-k.is in
-    let begins = c.first_of-first.ensures in
+    let begins = c.first_of-first.ensures ∙ ap (λ kind. slice_index_or (firsts_of c.args.numbering.now kind) s.cube 0) c.own_kind.ensures in
     let there = rows-there m c.args.numbering.now s c.first_of-first.result c.as_slice-in-Some.result.now c.requires.numbering source.cube begins (listed c).within k d low in
     omega (arith, there, ap length c.deref_mut.ensures.value, c.requires.filed.nodes)
 
@@ -34,7 +36,7 @@ returns-in-Some c =
     let first = c.first_of-first.result in
     let those = c.as_slice-in-Some.result.now in
     let (source, at) = source-at m sources c.args.k s c.requires.sources c.requires.k c.index-sources-k.is in
-    let begins = c.first_of-first.ensures in
+    let begins = c.first_of-first.ensures ∙ ap (λ kind. slice_index_or (firsts_of numbering kind) s.cube 0) c.own_kind.ensures in
     let is = list-of m s c.last_of-last.result c.set_of.result.now those source c.last_of-last.ensures.last c.set_of.ensures (c.in-Some.is ∙ ap Some (sym c.as_slice-in-Some.ensures)) in
     on_ok_weaker c.add_each.result
     (λ added.

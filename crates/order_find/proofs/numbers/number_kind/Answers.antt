@@ -1,5 +1,5 @@
-use Rattle.std.proofs.Common.{◌≡◌, ◌≤◌, ◌+◌, ◌++◌, ◌∷◌, [], sym, ap, subst, arith, length}
-use Rattle.order_find.specs.Numbers.{AreNumbered, width_of, places_of}
+use Rattle.std.proofs.Common.{◌≡◌, ◌+◌, ◌++◌, ◌∷◌, [], sym, ap, subst, arith, length}
+use Rattle.order_find.specs.Numbers.{AreNumbered, places_of}
 use Rattle.order_find.proofs.Numbered.{none-numbered, numbered-next}
 use Rattle.order_find.proofs.numbers.number_kind.Goals as goal
 
@@ -9,7 +9,7 @@ each-init c =
     let old = c.args.places.now.items in
     record {
       numbered = subst (λ firsts. AreNumbered m c.args.kind old 0 firsts old) (sym c.in_ok-firsts.ensures.items) (none-numbered m c.args.kind old);
-      few = c.requires;
+      few = c.requires.few;
     }
 
 pub each-preserved : goal.each-preserved
