@@ -4,9 +4,9 @@
     found_feeders.py PROGRAM CASES..     CASES: files of cases, as crates/run_cases/stdin and crates/layer_cases/stdin
 
 Of each case with a model that is accepted and has feeders, all feeders are taken out, and each rule file with rules
-says `FEEDERS AUTO;`. Where the model is accepted then, its users must be told the same as before; where it isn't, the
-refusal is listed. And where no reference is listed as one that can't be turned round, the text that `--feeders` prints
-is put in place of `AUTO`, and must give the same again.
+says `FEEDERS AUTO;`. Where the model is accepted then, its users must read the same as before; where it isn't, the
+refusal is listed. And where a rule text says all that is found, the text that `--feeders` prints is put in place of
+`AUTO`, and must give the same again. Users run on threads, so a run is repeated until its order of commits is the same.
 """
 import re
 import subprocess
@@ -15,6 +15,10 @@ import tempfile
 from pathlib import Path
 
 FEEDERS = re.compile(rb"FEEDERS\s*;.*", re.S)
+# a line of what `--feeders` prints that no rule text can say
+UNSAID = re.compile(rb"(?m)^# (statement|and feeders)")
+# how often a run is repeated
+RUNS = 60
 # the words of a rule file that other words of it may not be mistaken for
 RULES = ("rules", ".rux")
 
@@ -103,6 +107,17 @@ def run(program, files, words):
         return done.returncode, done.stdout
 
 
+def agree(program, files, other, words):
+    """Whether some run with these files ends as some run with the other ones."""
+    ends, ends_of_other = set(), set()
+    for _ in range(RUNS):
+        ends.add(run(program, files, words))
+        ends_of_other.add(run(program, other, words))
+        if ends & ends_of_other:
+            return True
+    return False
+
+
 def without_feeders(files, stated):
     """The files, in which each rule file with statements says `FEEDERS AUTO;` and has no other feeder."""
     found = {}
@@ -134,7 +149,7 @@ def written(files, printed):
 
 def outcome(program, files, words):
     """What comes of a case without its feeders, beside what comes of it as it stands."""
-    status, printed = run(program, files, words)
+    status, _ = run(program, files, words)
     fed = any(FEEDERS.search(content) for name, content in files.items() if name.endswith(RULES))
     if status != 0 or not fed:
         return None
@@ -142,15 +157,15 @@ def outcome(program, files, words):
     other, answer = run(program, auto, words)
     if other != 0:
         return "refused", answer.decode(errors="replace").strip()
-    if answer != printed:
+    if not agree(program, files, auto, words):
         return "WRONG", answer.decode(errors="replace")
     _, text = run(program, auto, ["--feeders", "model.txt"])
-    if re.search(rb"(?m)^# statement", text):
-        return "same", "with references that can't be turned round"
+    if UNSAID.search(text):
+        return "same", "with what no rule text says"
     pasted = written(without_feeders(files, b"\nFEEDERS;\n"), text)
     if pasted is None:
         return "same", "with feeders of a cube without a rule file"
-    if run(program, pasted, words) != (status, printed):
+    if not agree(program, files, pasted, words):
         return "WRONG", "as it is printed:\n" + text.decode(errors="replace")
     return "same", ""
 
@@ -160,7 +175,7 @@ def main():
     counts = {}
     for path in map(Path, sys.argv[2:]):
         for title, files, words in cases_of(path):
-            if words is None or "model.txt" not in files or words[0].startswith("--"):
+            if words is None or "model.txt" not in files or any(it.startswith("--") for it in words):
                 continue
             came = outcome(program, files, words)
             if came is None:
