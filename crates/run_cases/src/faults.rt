@@ -173,6 +173,10 @@ fn try_writes<R: Threads + Wait + AllocGlobal + Sync>(
     tally: &mut Tally,
 ) -> Result<(), AllocError> {
     let whole = done.out.bytes();
+    if whole.is_empty() {
+        // there is no piece
+        return Ok(());
+    }
     let last = done.out.calls;
     let mut before = 0;
     for call in 1..=last {
