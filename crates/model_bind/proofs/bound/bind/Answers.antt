@@ -31,5 +31,4 @@ returns c =
     let found = c.in_ok-found.found in
     let none = unrefused _ found c.in_ok-found.ensures.answered in
     record { comes = ruled c.args.text c.args.rules.now found.space found.orders none c.in_ok-found.ensures.space c.in_ok-found.ensures.orders c.in_ok-bound.bound c.in_ok-bound.ensures.comes
-    c.in_ok-model.model c.in_ok-model.ensures.comes
-; }
+    c.in_ok-model.model c.in_ok-model.ensures.comes; }
