@@ -1,12 +1,13 @@
 -- The rules of the cubes with the feeders that are found.
-use Rattle.std.proofs.Common.{◌≡◌, ◌≢◌, ◌⊎◌, inl, inr, refl, ap, ◌∙◌, sym, subst, arith, eq-eqb, ℕ, set, zero, suc, ◌+◌, ◌<◌, ◌≤◌, ◌==◌, Bool, true, false, Option, Some, None, List, [], ◌∷◌, ◌++◌, length, map, get_or, filter_map, All, if◌then◌else◌, append_assoc}
+use Rattle.std.proofs.Common.{◌≡◌, ◌≢◌, ◌⊎◌, inl, inr, refl, ap, ◌∙◌, sym, subst, arith, eq-eqb, ℕ, set, zero, suc, ◌+◌, ◌<◌, ◌≤◌, ◌==◌, Bool, true, false, Option, Some, None, List, [], ◌∷◌, ◌++◌, length, map, get_or, filter_map, All, if◌then◌else◌, Vec}
 use Rattle.std.specs.Prelude.{slice_index_or}
 use Rattle.std.specs.List.{range_with_len, cons_option}
-use Rattle.std.proofs.lemmas.List.{append-nil, length-append, length-set, get_or-set_same, get_or-set_other}
+use Rattle.std.proofs.lemmas.List.{append-nil, length-set, length-map, map-set, map-append, get_or-set_same, get_or-set_other}
 use Rattle.std.proofs.lemmas.Bool.{cases_eq}
 use Rattle.std.proofs.lemmas.List.Elements.{All-append, All-cons, All-nil, All-head, All-tail}
-use Rattle.std.proofs.lemmas.List.FromFn.{fill_by_all, get_or-map-range_with_len, length-map-range_with_len}
+use Rattle.std.proofs.lemmas.List.FromFn.{fill_by_all, map-range_with_len_more, get_or-map-range_with_len, length-map-range_with_len}
 use Rattle.std.proofs.lemmas.Bool.Decides.{Decides-eqb}
+use Rattle.std.specs.declared.alloc.Global.{Global}
 use Rattle.cube_space.specs.Layout.{Layout}
 use Rattle.rule_model.specs.declared.rules.CubeRules.{CubeRules}
 use Rattle.rule_model.specs.declared.rules.Feeder.{Feeder}
@@ -16,7 +17,7 @@ use Rattle.rule_model.specs.System.{cubes_of}
 use Rattle.model_counts.specs.Counts.{feeder_statements}
 use Rattle.feed_find.specs.declared.chosen.FoundFeeder.{FoundFeeder}
 use Rattle.feed_find.specs.Added.{IsFound, numbered, with_feeders, feeders_in, with_found}
-use Rattle.feed_find.specs.Views.{HaveFewFeeders, AreWithGroups, IsOwnAdded, groups_of}
+use Rattle.feed_find.specs.Views.{HaveFewFeeders, AreWithGroups, IsOwnAdded, groups_of, lists_in}
 
 -- ---- numbers
 
@@ -153,12 +154,20 @@ up-to-more cube rules now new groups left next low so added is = record {
         subst (λ k. get_or new k no_rules ≡ with_feeders (get_or rules k no_rules) (get_or groups k [])) (sym same)
         (added.own ∙ ap (λ (r : CubeRules). with_feeders r (get_or left cube [])) (so.others cube (omega arith)) ∙ ap (with_feeders (get_or rules cube no_rules)) (so.rest cube (omega arith)))
     by k less (inr other) = added.others k other ∙ so.done k (omega (arith, less, other))
+
     few-at : (k : ℕ) → k < length new → (k ≡ cube) ⊎ (k ≢ cube) → length (get_or new k no_rules).feeders < 4294967296
     few-at k less (inl same) = subst (λ k. length (get_or new k no_rules).feeders < 4294967296) (sym same) added.few
     few-at k less (inr other) = subst (λ (r : CubeRules). length r.feeders < 4294967296) (sym (added.others k other)) (so.few k (omega (arith, less, added.long)))
 
 pub up-to-all : (cube : ℕ) (rules now : List CubeRules) (groups left : List (List Feeder)) → length rules ≤ cube → AreUpTo cube rules groups now left → AreWithGroups rules groups now
 up-to-all cube rules now groups left end so = record { long = so.long; each = λ k low. so.done k (omega (arith, low, end)) }
+
+differs : (a b : ℕ) → (a ≡ b → ⊥) → (a == b) ≡ false
+differs a b other = off (a == b) refl
+  where
+    off : (t : Bool) → (a == b) ≡ t → (a == b) ≡ false
+    off true on = absurd (other ((Decides-eqb a b).0 on))
+    off false is = is
 
 -- one feeder more in the group of its cube
 pub grouped-more : (cubes : ℕ) (seen : List FoundFeeder) (x : FoundFeeder) (old new : List (List Feeder)) → old ≡ groups_of cubes seen → x.cube < cubes
@@ -168,8 +177,10 @@ grouped-more cubes seen x old new are low is =
   where
     wide : length old ≡ cubes
     wide = ap length are ∙ length-map-range_with_len (λ cube. feeders_in cube seen) 0 cubes
+
     had : (k : ℕ) → k < cubes → get_or old k [] ≡ feeders_in k seen
     had k less = ap (λ (gs : List (List Feeder)). get_or gs k []) are ∙ get_or-map-range_with_len (λ cube. feeders_in cube seen) 0 cubes k k [] less (omega arith)
+
     by : (k : ℕ) → k < cubes → (k ≡ x.cube) ⊎ (k ≢ x.cube) → get_or new k [] ≡ feeders_in k (seen ++ x ∷ [])
     by k less (inl same) =
         subst (λ k. get_or new k [] ≡ feeders_in k (seen ++ x ∷ [])) (sym same)
@@ -180,9 +191,24 @@ grouped-more cubes seen x old new are low is =
     by k less (inr other) =
         ap (λ (gs : List (List Feeder)). get_or gs k []) is ∙ get_or-set_other old x.cube k (get_or old x.cube [] ++ x.feeder ∷ []) [] other ∙ had k less
         ∙ sym (in-more k seen x ∙ ap (λ b. feeders_in k seen ++ (if b then x.feeder ∷ [] else [])) (differs x.cube k (λ e. other (sym e))) ∙ append-nil (feeders_in k seen))
-    differs : (a b : ℕ) → (a ≡ b → ⊥) → (a == b) ≡ false
-    differs a b other = off (a == b) refl
-      where
-        off : (t : Bool) → (a == b) ≡ t → (a == b) ≡ false
-        off true on = absurd (other ((Decides-eqb a b).0 on))
-        off false is = is
+
+-- ---- groups as vectors
+
+pub items-set : (groups : List (Vec Feeder Global)) (i : ℕ) (g : Vec Feeder Global) → lists_in (set groups i g) ≡ set (lists_in groups) i g.items
+items-set groups i g = map-set (λ (g : Vec Feeder Global). g.items) groups i g
+
+pub items-more : (groups : List (Vec Feeder Global)) (g : Vec Feeder Global) → lists_in (groups ++ g ∷ []) ≡ lists_in groups ++ g.items ∷ []
+items-more groups g = map-append (λ (g : Vec Feeder Global). g.items) groups (g ∷ [])
+
+pub items-at : (groups : List (Vec Feeder Global)) (i : ℕ) (g : Vec Feeder Global) → i < length groups → g ≡ get_or groups i g → g.items ≡ get_or (lists_in groups) i []
+items-at [] i g low is = absurd (omega (arith, low))
+items-at (x ∷ groups) zero g low is = ap (λ (g : Vec Feeder Global). g.items) is
+items-at (x ∷ groups) (suc i) g low is = items-at groups i g (omega (arith, low)) is
+
+pub groups-long : (cubes : ℕ) (seen : List FoundFeeder) (groups : List (Vec Feeder Global)) → lists_in groups ≡ groups_of cubes seen → length groups ≡ cubes
+groups-long cubes seen groups are =
+    sym (length-map groups (λ (g : Vec Feeder Global). g.items)) ∙ ap length are ∙ length-map-range_with_len (λ cube. feeders_in cube seen) 0 cubes
+
+pub groups-next : (n : ℕ) (fs : List Feeder) → fs ≡ [] → groups_of n [] ++ fs ∷ [] ≡ groups_of (n + 1) []
+groups-next n fs none =
+    ap (λ (fs : List Feeder). groups_of n [] ++ fs ∷ []) none ∙ sym (map-range_with_len_more (λ cube. feeders_in cube []) 0 n n (omega arith))

@@ -25,11 +25,11 @@ pub gathered-feeder : (picked : List Picked) (cube statement : ℕ) (one : Found
     → AreGathered (picked ++ as_picked cube statement (Found one) ∷ []) new
 gathered-feeder picked cube statement one old new so added same = record {
   feeders =
-    added ∙ ap (λ (fs : List FoundFeeder). insert_key same_found fs one) so.feeders
-    ∙ sym (ap each_once (filter_map-append feeder_of picked (as_picked cube statement (Found one) ∷ [])) ∙ folded (insert_key same_found) [] (filter_map feeder_of picked) (one ∷ []));
+      added ∙ ap (λ (fs : List FoundFeeder). insert_key same_found fs one) so.feeders
+      ∙ sym (ap each_once (filter_map-append feeder_of picked (as_picked cube statement (Found one) ∷ [])) ∙ folded (insert_key same_found) [] (filter_map feeder_of picked) (one ∷ []));
   unturned =
-    same ∙ so.unturned
-    ∙ sym (filter_map-append unturned_of picked (as_picked cube statement (Found one) ∷ []) ∙ append-nil (filter_map unturned_of picked));
+      same ∙ so.unturned
+      ∙ sym (filter_map-append unturned_of picked (as_picked cube statement (Found one) ∷ []) ∙ append-nil (filter_map unturned_of picked));
 }
 
 -- one more reference that can't be turned round
@@ -39,11 +39,11 @@ pub gathered-unturned : (picked : List Picked) (cube statement reference : ℕ) 
     → AreGathered (picked ++ as_picked cube statement (Unturned reference) ∷ []) new
 gathered-unturned picked cube statement reference old new so same added = record {
   feeders =
-    same ∙ so.feeders
-    ∙ sym (ap each_once (filter_map-append feeder_of picked (as_picked cube statement (Unturned reference) ∷ []) ∙ append-nil (filter_map feeder_of picked)));
+      same ∙ so.feeders
+      ∙ sym (ap each_once (filter_map-append feeder_of picked (as_picked cube statement (Unturned reference) ∷ []) ∙ append-nil (filter_map feeder_of picked)));
   unturned =
-    added ∙ ap (λ (us : List UnturnedOne). us ++ record { cube = cube; statement = statement; reference = reference } ∷ []) so.unturned
-    ∙ sym (filter_map-append unturned_of picked (as_picked cube statement (Unturned reference) ∷ []));
+      added ∙ ap (λ (us : List UnturnedOne). us ++ record { cube = cube; statement = statement; reference = reference } ∷ []) so.unturned
+      ∙ sym (filter_map-append unturned_of picked (as_picked cube statement (Unturned reference) ∷ []));
 }
 
 -- nothing more

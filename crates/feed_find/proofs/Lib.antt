@@ -2,4 +2,5 @@ pub mod Pointwise
 pub mod Gathering
 pub mod Adding
 pub mod Choices
-pub mod Same
+pub mod Sameness
+pub mod Counting

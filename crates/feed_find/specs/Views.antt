@@ -20,7 +20,7 @@ use Rattle.feed_find.specs.declared.need.Need.{Need}
 use Rattle.feed_find.specs.declared.need.TruthNeed.{TruthNeed}
 use Rattle.feed_find.specs.declared.asked.Asked.{Asked}
 use Rattle.feed_find.specs.declared.gathered.Gathered.{Gathered}
-use Rattle.feed_find.specs.Choosing.{choice, need, of_if}
+use Rattle.feed_find.specs.Choosing.{choice}
 use Rattle.feed_find.specs.Found.{Picked, feeder_of, unturned_of, each_once}
 use Rattle.feed_find.specs.Added.{IsFound, feeders_in, with_feeders}
 use Rattle.feed_find.specs.declared.chosen.FoundFeeder.{FoundFeeder}
@@ -83,17 +83,6 @@ pub record IsCountedTruth (truth : Truth) (before : ℕ) (need : TruthNeed) : Ty
   pub written : need.by_written.operands ≡ operands_of_truth truth
   pub all : need.by_all.operands ≡ operands_of_truth truth
   pub behind : need.behind ≡ before + length (truth_precedents truth)
-
--- the same of an IF, by its condition and its branches
-pub record IsCountedChoice (truth : TruthNeed) (a b : Formula) (need : Need) : Type 0 where
-  pub written : need.by_written.operands ≡ truth.by_written.operands + operands a + operands b
-  pub all : need.by_all.operands ≡ truth.by_all.operands + operands a + operands b
-  pub blamed : IsBlamedWithin need
-  pub behind : need.behind ≡ truth.behind + length (precedents a) + length (precedents b)
-
-abbrev pub need_of_branches : (Reference → Choice) → TruthNeed → Formula → Formula → Need
-need_of_branches choose truth a b =
-    of_if truth (need choose a truth.behind) (need choose b (need choose a truth.behind).behind)
 
 -- an argument follows a dimension of this cube, if it follows one, and has each element of it
 abbrev pub IsFrom : Layout → ℕ → Arg → Type 0

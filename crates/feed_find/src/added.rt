@@ -1,4 +1,4 @@
-ghost use Rattle.std.specs.Prelude.{◌≡◌, ◌+◌, ◌^◌, ◌≤◌, ◌<◌, ◌++◌, ◌∷◌, [], length, set, slice_index_or, All, IfOk, OnOk};
+ghost use Rattle.std.specs.Prelude.{◌≡◌, ◌+◌, ◌^◌, ◌<◌, ◌++◌, ◌∷◌, [], length, set, slice_index_or, All, IfOk, OnOk};
 ghost use Rattle.rule_model.specs.BoundModel.{no_rules};
 ghost use Rattle.feed_find.specs.Added.{IsFound, numbered, with_feeders, with_found};
 ghost use Rattle.feed_find.specs.Views.{groups_of, AreWithGroups, HaveFewFeeders, IsOwnAdded, lists_in};
@@ -45,12 +45,8 @@ fn add_numbered(feeders: &mut Vec<Feeder>, number: u32, feeder: Feeder) -> Resul
 }
 
 // Adds feeders, each as a feeder statement of its own, numbered from this one on.
-fn add_group(
-    feeders: &mut Vec<Feeder>,
-    first: u32,
-    group: Vec<Feeder>,
-) -> Result<(), AllocError>
-    requires { first + length group.items ≤ 2 ^ 32 }
+fn add_group(feeders: &mut Vec<Feeder>, first: u32, group: Vec<Feeder>) -> Result<(), AllocError>
+    requires { first + length group.items < 2 ^ 32 }
     ensures { OnOk result (feeders.new.items ≡ feeders.old.items ++ numbered first group.items) }
 {
     let mut number = first;
@@ -70,7 +66,10 @@ fn with_feeders(alloc: Global, rules: &mut CubeRules, group: Vec<Feeder>) -> Res
     let count = rules.feeders.as_slice().len() as u64;
     let first = feeder_statements(rules.feeders.as_slice());
     let more = group.len() as u64;
-    if more > MOST_FEEDERS || count + more > MOST_FEEDERS || first + more > MOST_FEEDERS {
+    if more > MOST_FEEDERS || count + more > MOST_FEEDERS {
+        return Err(AllocError);
+    }
+    if first > MOST_FEEDERS || first + more > MOST_FEEDERS {
         return Err(AllocError);
     }
     let own = mem::replace(&mut rules.feeders, ListOf::new(Vec::new(alloc)));

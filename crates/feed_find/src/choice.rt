@@ -1,7 +1,6 @@
 ghost use Rattle.std.specs.Prelude.{◌≡◌, IfOk};
 ghost use Rattle.rule_model.specs.Conditions.{IsReference, IsFeeder};
 ghost use Rattle.feed_turn.specs.Views.{AreOvers};
-
 ghost use Rattle.feed_find.specs.Views.{IsAsked, IsChoice, choose_from};
 
 use crate::asked::Asked;

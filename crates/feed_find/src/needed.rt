@@ -4,7 +4,7 @@ ghost use Rattle.rule_laws.specs.ZeroTest.{of_continue, operands, operands_of_tr
 ghost use Rattle.feed_turn.specs.Views.{AreOvers};
 ghost use Rattle.feed_find.specs.Choosing.{need, truth_need, of_reference};
 ghost use Rattle.feed_find.specs.Views.{IsAsked, IsChosen, IsCounted, IsCountedTruth};
-ghost use Rattle.feed_find.specs.Views.{IsCountedChoice, need_of_branches, is_askable, choose_from};
+ghost use Rattle.feed_find.specs.Views.{is_askable, choose_from};
 
 use crate::asked::Asked;
 use crate::choice::choose;
@@ -85,37 +85,11 @@ pub fn needed<'a>(
         }
         Formula::If(truth, left, right) => {
             let truth = truth_needed(alloc, asked, truth.get(), before, overs)?;
-            choice_needed(alloc, asked, truth, left.get(), right.get(), overs)
+            let left = needed(alloc, asked, left.get(), truth.behind, overs)?;
+            let right = needed(alloc, asked, right.get(), left.behind, overs)?;
+            of_if(alloc, truth, left, right)
         }
     }
-}
-
-// What is needed of an `IF`, by what is of its condition.
-#[cycle(needed)]
-fn choice_needed<'a>(
-    alloc: Global,
-    asked: Asked<'a>,
-    truth: TruthNeed,
-    left: &'a Formula,
-    right: &'a Formula,
-    overs: &mut [Option<Option<u32>>],
-) -> Result<Need, AllocError>
-    requires asked { IsAsked asked }
-    requires left { each_reference (is_askable asked) left.now ≡ true }
-    requires right { each_reference (is_askable asked) right.now ≡ true }
-    requires few { truth.by_written.operands + operands left.now + operands right.now < 2 ^ 32 }
-    requires alike { truth.by_all.operands ≡ truth.by_written.operands }
-    requires room { truth.behind + length (precedents left.now) + length (precedents right.now) < 2 ^ 32 }
-    requires valid { All (IsChosen asked.model.now.space) truth.chosen }
-    requires overs { AreOvers asked.model.now asked.cube asked.area.now overs.old }
-    ensures need { IfOk result (λ found. found ≡ need_of_branches (choose_from asked.entry) truth left.now right.now) }
-    ensures counted { IfOk result (IsCountedChoice truth left.now right.now) }
-    ensures valid { IfOk result (λ found. All (IsChosen asked.entry.model.now.space) found.chosen) }
-    ensures overs { AreOvers asked.entry.model.now asked.entry.cube asked.entry.area.now overs.new }
-{
-    let left = needed(alloc, asked, left, truth.behind, overs)?;
-    let right = needed(alloc, asked, right, left.behind, overs)?;
-    of_if(alloc, truth, left, right)
 }
 
 // What is needed of a condition of an area, behind so many references.

@@ -5,8 +5,8 @@ ghost use Rattle.feed_find.specs.Views.{IsBlamedWithin, HaveRoom, HaveRoomIn, Ha
 
 use crate::choice::Choice;
 use crate::chosen::{Chosen, FoundFeeder};
-use crate::need::{Need, TruthNeed};
 use crate::joined::joined;
+use crate::need::{Need, TruthNeed};
 use crate::picks::{chosen_branch, chosen_side, chosen_truth, unless};
 use crate::truths::{both, compared, either, opposite};
 use lists::ListOf;
@@ -28,12 +28,7 @@ pub fn plain(alloc: Global, before: u32, finding: Finding) -> Need
 }
 
 // What is needed of a reference that is chosen.
-fn chosen_one(
-    alloc: Global,
-    before: u32,
-    can: bool,
-    chosen: Chosen,
-) -> Result<Need, AllocError>
+fn chosen_one(alloc: Global, before: u32, can: bool, chosen: Chosen) -> Result<Need, AllocError>
     requires { before + 1 < 2 ^ 32 }
     ensures { IfOk result (λ need. need ≡ picked before can chosen) }
 {
@@ -100,12 +95,7 @@ pub fn of_unary(fun: Fun, inner: Need) -> Need
 }
 
 /// What is needed of an `IF`, by what is of its parts.
-pub fn of_if(
-    alloc: Global,
-    truth: TruthNeed,
-    left: Need,
-    right: Need,
-) -> Result<Need, AllocError>
+pub fn of_if(alloc: Global, truth: TruthNeed, left: Need, right: Need) -> Result<Need, AllocError>
     requires left { IsBlamedWithin left }
     requires right { IsBlamedWithin right }
     requires room { HaveRoomIn truth left right }

@@ -7,8 +7,8 @@ ghost use Rattle.feed_find.specs.Added.{IsFound};
 ghost use Rattle.feed_find.specs.Views.{IsChosen, AreGathered};
 
 use crate::asked::Asked;
-use crate::count::references;
 use crate::chosen::{Chosen, FoundFeeder};
+use crate::count::references;
 use crate::gathered::{Gathered, add_all};
 use crate::needed::needed;
 use crate::unturned::Unturned;
@@ -119,11 +119,11 @@ fn gather_in(
 }
 
 // Whether feeders are found for a cube.
-fn is_found_for(auto: &[bool], cube: u32) -> bool
-    ensures { result ≡ slice_index_or auto.now cube false }
+fn is_found_for(wanted: &[bool], cube: u32) -> bool
+    ensures { result ≡ slice_index_or wanted.now cube false }
 {
-    match auto.get(cube as usize) {
-        Some(auto) => *auto,
+    match wanted.get(cube as usize) {
+        Some(found) => *found,
         None => false,
     }
 }
@@ -132,17 +132,17 @@ fn is_found_for(auto: &[bool], cube: u32) -> bool
 fn gather_if(
     alloc: Global,
     model: &Model,
-    auto: &[bool],
+    wanted: &[bool],
     cube: u32,
     gathered: &mut Gathered,
 ) -> Result<(), AllocError>
     requires cube { cube < length model.now.space.cubes }
     requires feeders { All (IsFound model.now.space) gathered.old.feeders.items }
     ensures added { OnOk result ((picked : List Picked) → AreGathered picked gathered.old
-        → AreGathered (picked ++ picked_if model.now auto.now cube) gathered.new) }
+        → AreGathered (picked ++ picked_if model.now wanted.now cube) gathered.new) }
     ensures valid { OnOk result (All (IsFound model.now.space) gathered.new.feeders.items) }
 {
-    if is_found_for(auto, cube) {
+    if is_found_for(wanted, cube) {
         gather_in(alloc, model, cube, gathered)?;
     }
     Ok(())
@@ -157,9 +157,9 @@ fn gather_if(
 /// then surely takes. A reference that may name a consolidated cell which a statement governs can't be turned round,
 /// since no feeder covers it.
 #[tactic(auto, unfolding(crate::specs::Found::all_picked))]
-pub fn find(alloc: Global, model: &Model, auto: &[bool]) -> Result<Found, AllocError>
-    ensures feeders { IfOk result (λ found. found.feeders ≡ found_feeders model.now auto.now) }
-    ensures unturned { IfOk result (λ found. found.unturned ≡ all_unturned model.now auto.now) }
+pub fn find(alloc: Global, model: &Model, wanted: &[bool]) -> Result<Found, AllocError>
+    ensures feeders { IfOk result (λ found. found.feeders ≡ found_feeders model.now wanted.now) }
+    ensures unturned { IfOk result (λ found. found.unturned ≡ all_unturned model.now wanted.now) }
     ensures valid { IfOk result (λ found. All (IsFound model.now.space) found.feeders) }
 {
     let mut gathered = Gathered {
@@ -167,7 +167,7 @@ pub fn find(alloc: Global, model: &Model, auto: &[bool]) -> Result<Found, AllocE
         unturned: Vec::new(alloc),
     };
     'each: for cube in 0..model.space().cubes() {
-        gather_if(alloc, model, auto, cube, &mut gathered)?;
+        gather_if(alloc, model, wanted, cube, &mut gathered)?;
     }
     Ok(Found {
         feeders: ListOf::new(gathered.feeders),
