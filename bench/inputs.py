@@ -88,6 +88,41 @@ def attribute_moves(folder, n):
 # The cover.
 
 
+def turned_references(folder, n):
+    """n / 100 statements of a hundred references each, for a leaf of their own. A feeder is found for each reference."""
+    k = max(1, n // 100)
+    m = model(dimension("I", leaves("i", max(200, k))), dimension("K", "N 'S';\n" + leaves("u", 100)))
+    m += "CUBE 'C' ('K', 'I'); RULES 'r.rux'; ORDER 'K' ('S' 1); END;\n"
+    r = "SKIPCHECK;\n"
+    for i in range(1, k + 1):
+        r += f"['S', 'i{i}'] = N: " + " + ".join(f"['u{j}', 'i{i}']" for j in range(1, 101)) + ";\n"
+    return write(folder, m_txt=m, r_rux=r + "FEEDERS AUTO;\n", u_txt="PUT 'C' ('u1', 'i1') = 2;\nGET 'C' ('S', 'i1');\n")
+
+
+def moved_back(n, feeders):
+    """500 statements for n months, each of which reads another measure one to six months before."""
+    k = 500
+    m = model(dimension("T", leaves("t", n)), dimension("K", leaves("a", k) + leaves("b", k)))
+    m += "CUBE 'C' ('T', 'K'); RULES 'r.rux'; ORDER 'T'; END;\n"
+    r = "SKIPCHECK;\n"
+    r += "".join(f"['a{i}'] = N: DB('C', DIMNM('T', DIMIX('T', !T) - {i % 6 + 1}), 'b{i}');\n" for i in range(1, k + 1))
+    return dict(m_txt=m, r_rux=r + feeders(k), u_txt="PUT 'C' ('t1', 'b1') = 2;\nGET 'C' ('t3', 'a1');\n")
+
+
+def lags(folder, n):
+    """500 statements for n months, each of which reads another measure one to six months before, and their feeders."""
+    def feeders(k):
+        one = "".join(f"['b{i}'] => DB('C', DIMNM('T', DIMIX('T', !T) + {i % 6 + 1}), 'a{i}');\n" for i in range(1, k + 1))
+        return "FEEDERS;\n" + one
+
+    return write(folder, **moved_back(n, feeders))
+
+
+def turned_lags(folder, n):
+    """The same, where the feeders are found."""
+    return write(folder, **moved_back(n, lambda k: "FEEDERS AUTO;\n"))
+
+
 def listed_source(folder, n):
     """A reference to a total, and a feeder whose area lists each leaf of it."""
     names = ", ".join(f"'i{i}'" for i in range(1, n + 1))
@@ -523,6 +558,7 @@ SHAPES = [
     (equal_moves, 100000), (unmarked_moves, 100000), (wide_area, 90000), (shared_rule_file, 100000), (attributes, 100000),
     (attribute_moves, 100000),
     (listed_source, 90000), (climbing_target, 90000), (many_feeders, 1000), (own_feeders, 100000), (uncovered_feeders, 100000),
+    (turned_references, 100000), (lags, 99000), (turned_lags, 99000),
     (long_order, 900), (found_statements, 99000), (found_chain, 99000), (found_area, 90000), (found_moves, 90000), (found_equal_moves, 1000),
     (found_shared, 1000), (found_circle, 99000),
     (spread_equal, 99000), (spread_proportional, 99000), (totals_above_loop, 90000), (cancelling_weights, 50000), (dense_leaves, 90000),

@@ -21,7 +21,7 @@ folded f z (x ∷ xs) ys = folded f (f z x) xs ys
 
 -- one more feeder
 pub gathered-feeder : (picked : List Picked) (cube statement : ℕ) (one : FoundFeeder) (old new : Gathered) → AreGathered picked old
-    → new.feeders.items ≡ insert_key same_found old.feeders.items one → new.unturned.items ≡ old.unturned.items
+    → new.feeders ≡ insert_key same_found old.feeders one → new.unturned.items ≡ old.unturned.items
     → AreGathered (picked ++ as_picked cube statement (Found one) ∷ []) new
 gathered-feeder picked cube statement one old new so added same = record {
   feeders =
@@ -34,7 +34,7 @@ gathered-feeder picked cube statement one old new so added same = record {
 
 -- one more reference that can't be turned round
 pub gathered-unturned : (picked : List Picked) (cube statement reference : ℕ) (old new : Gathered) → AreGathered picked old
-    → new.feeders.items ≡ old.feeders.items
+    → new.feeders ≡ old.feeders
     → new.unturned.items ≡ old.unturned.items ++ record { cube = cube; statement = statement; reference = reference } ∷ []
     → AreGathered (picked ++ as_picked cube statement (Unturned reference) ∷ []) new
 gathered-unturned picked cube statement reference old new so same added = record {

@@ -4,3 +4,4 @@ pub mod Adding
 pub mod Choices
 pub mod Sameness
 pub mod Counting
+pub mod Filing

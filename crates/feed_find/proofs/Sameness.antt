@@ -1,5 +1,5 @@
 -- Tests that two areas, or two arguments, are the same.
-use Rattle.std.proofs.Common.{◌≡◌, ◌↔◌, refl, ap, ◌∙◌, sym, subst, arith, ℕ, ◌<◌, Bool, true, false, ◌&&◌, eq-eqb, nat_eq, Option, Some, None, List, length, get_or, IsTrue}
+use Rattle.std.proofs.Common.{◌≡◌, ◌↔◌, refl, ap, ◌∙◌, sym, subst, arith, ℕ, ◌<◌, Bool, true, false, ◌&&◌, ◌==◌, eq-eqb, nat_eq, Option, Some, None, List, length, get_or, IsTrue}
 use Rattle.std.specs.Bool.{Decides}
 use Rattle.std.specs.Prelude.{slice_get, slice_index_or}
 use Rattle.std.specs.Option.{option_eq}
@@ -55,3 +55,15 @@ found-same b r one other cubes on is areas =
     areas
     ∙ sym (ap (λ t. t && (same_reference one.feeder.target other.feeder.target && same_area one.feeder.area other.feeder.area)) (eq-eqb one.cube other.cube cubes)
     ∙ ap (λ t. t && same_area one.feeder.area other.feeder.area) (sym is ∙ on))
+
+last-true : (a b c : Bool) → (a && (b && c)) ≡ true → c ≡ true
+last-true true true c is = is
+last-true true false c is = absurd (cc is)
+last-true false b c is = absurd (cc is)
+
+-- the same feeders have the same areas
+pub areas-same : (one other : FoundFeeder) → same_found one other ≡ true → one.feeder.area.sets ≡ other.feeder.area.sets
+areas-same one other is =
+    let sets = pointwise (option_eq (pointwise nat_eq)) one.feeder.area.sets other.feeder.area.sets in
+    (slice_eq-Decides set-decides one.feeder.area.sets other.feeder.area.sets sets refl).0
+    (last-true (one.cube == other.cube) (same_reference one.feeder.target other.feeder.target) sets is)

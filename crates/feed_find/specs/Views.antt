@@ -92,7 +92,7 @@ IsFrom space cube (Moved from to) =
 
 -- the feeders and the references that were gathered from these
 pub record AreGathered (picked : List Picked) (gathered : Gathered) : Type 0 where
-  pub feeders : gathered.feeders.items ≡ each_once (filter_map feeder_of picked)
+  pub feeders : gathered.feeders ≡ each_once (filter_map feeder_of picked)
   pub unturned : gathered.unturned.items ≡ filter_map unturned_of picked
 
 -- ---- a model with what is found

@@ -11,6 +11,7 @@ mod asked;
 mod choice;
 mod chosen;
 mod count;
+mod found_table;
 mod gathered;
 mod joined;
 mod need;

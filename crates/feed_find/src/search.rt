@@ -9,6 +9,7 @@ ghost use Rattle.feed_find.specs.Views.{IsChosen, AreGathered};
 use crate::asked::Asked;
 use crate::chosen::{Chosen, FoundFeeder};
 use crate::count::references;
+use crate::found_table::FoundTable;
 use crate::gathered::{Gathered, add_all};
 use crate::needed::needed;
 use crate::unturned::Unturned;
@@ -84,10 +85,10 @@ fn gather_at<'a>(
 ) -> Result<(), AllocError>
     requires cube { cube < length model.now.space.cubes }
     requires place { place < length (rules_of model.now cube).statements }
-    requires feeders { All (IsFound model.now.space) gathered.old.feeders.items }
+    requires feeders { All (IsFound model.now.space) gathered.old.feeders }
     ensures added { OnOk result ((picked : List Picked) → AreGathered picked gathered.old
         → AreGathered (picked ++ picked_at model.now cube place) gathered.new) }
-    ensures valid { OnOk result (All (IsFound model.now.space) gathered.new.feeders.items) }
+    ensures valid { OnOk result (All (IsFound model.now.space) gathered.new.feeders) }
 {
     let space = model.space();
     let statement = &model.rules(cube).statements.as_slice()[place as usize];
@@ -104,10 +105,10 @@ fn gather_in(
     gathered: &mut Gathered,
 ) -> Result<(), AllocError>
     requires cube { cube < length model.now.space.cubes }
-    requires feeders { All (IsFound model.now.space) gathered.old.feeders.items }
+    requires feeders { All (IsFound model.now.space) gathered.old.feeders }
     ensures added { OnOk result ((picked : List Picked) → AreGathered picked gathered.old
         → AreGathered (picked ++ picked_in model.now cube) gathered.new) }
-    ensures valid { OnOk result (All (IsFound model.now.space) gathered.new.feeders.items) }
+    ensures valid { OnOk result (All (IsFound model.now.space) gathered.new.feeders) }
 {
     let _space = model.space();
     let hints = Hints::new();
@@ -137,10 +138,10 @@ fn gather_if(
     gathered: &mut Gathered,
 ) -> Result<(), AllocError>
     requires cube { cube < length model.now.space.cubes }
-    requires feeders { All (IsFound model.now.space) gathered.old.feeders.items }
+    requires feeders { All (IsFound model.now.space) gathered.old.feeders }
     ensures added { OnOk result ((picked : List Picked) → AreGathered picked gathered.old
         → AreGathered (picked ++ picked_if model.now wanted.now cube) gathered.new) }
-    ensures valid { OnOk result (All (IsFound model.now.space) gathered.new.feeders.items) }
+    ensures valid { OnOk result (All (IsFound model.now.space) gathered.new.feeders) }
 {
     if is_found_for(wanted, cube) {
         gather_in(alloc, model, cube, gathered)?;
@@ -163,14 +164,14 @@ pub fn find(alloc: Global, model: &Model, wanted: &[bool]) -> Result<Found, Allo
     ensures valid { IfOk result (λ found. All (IsFound model.now.space) found.feeders) }
 {
     let mut gathered = Gathered {
-        feeders: Vec::new(alloc),
+        feeders: FoundTable::new(alloc)?,
         unturned: Vec::new(alloc),
     };
     'each: for cube in 0..model.space().cubes() {
         gather_if(alloc, model, wanted, cube, &mut gathered)?;
     }
     Ok(Found {
-        feeders: ListOf::new(gathered.feeders),
+        feeders: gathered.feeders.into_feeders(),
         unturned: ListOf::new(gathered.unturned),
     })
 }

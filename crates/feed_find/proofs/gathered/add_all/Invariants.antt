@@ -10,6 +10,6 @@ invariant-loop-one l = record {
   next : (goal.iterator-loop-one).can_next l.one-iterator;
   finite : (goal.iterator-loop-one).is_finite l.one-iterator;
   added : (picked : List Picked) → AreGathered picked l.fn.gathered → AreGathered (picked ++ map (as_picked l.cube l.statement) l.yielded) l.gathered;
-  valid : All (IsFound l.space) l.gathered.feeders.items;
+  valid : All (IsFound l.space) l.gathered.feeders;
   left : All (IsChosen l.space) (into_iter_items l.one-iterator);
 }

@@ -10,12 +10,12 @@ use Rattle.feed_find.proofs.gathered.add_chosen.Goals as goal
 pub returns-in-Found-clause-added : goal.returns-in-Found-clause-added
 returns-in-Found-clause-added c =
     let old = c.args.gathered.now in
-    let new = record old { feeders = c.add_feeder.new.feeders } in
-    IfOk-weaker c.add_feeder.result (λ _. c.add_feeder.new.feeders.items ≡ insert_key same_found old.feeders.items c.in-Found.feeder)
+    let new = record old { feeders = c.insert.new.self } in
+    IfOk-weaker c.insert.result (λ _. c.insert.new.self ≡ insert_key same_found old.feeders c.in-Found.feeder)
     (λ _. (picked : List Picked) → AreGathered picked old → AreGathered (picked ++ as_picked c.args.cube c.args.statement c.args.chosen ∷ []) new)
     (λ _ added picked so. subst (λ (chosen : Chosen). AreGathered (picked ++ as_picked c.args.cube c.args.statement chosen ∷ []) new) (sym c.in-Found.is)
     (gathered-feeder picked c.args.cube c.args.statement c.in-Found.feeder old new so added refl))
-    c.add_feeder.ensures.added
+    c.insert.ensures.added
 
 pub returns-in_ok-push-in-Unturned-clause-added : goal.returns-in_ok-push-in-Unturned-clause-added
 returns-in_ok-push-in-Unturned-clause-added c = λ picked so.

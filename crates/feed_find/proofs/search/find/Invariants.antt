@@ -8,5 +8,5 @@ use Rattle.feed_find.proofs.search.find.Given as goal
 abbrev pub invariant-each : goal.invariant-each
 invariant-each l = record {
   added : AreGathered (flat_map (picked_if l.model l.wanted) (range_with_len 0 l.cube)) l.gathered;
-  valid : All (IsFound l.model.space) l.gathered.feeders.items;
+  valid : All (IsFound l.model.space) l.gathered.feeders;
 }

@@ -8,5 +8,5 @@ use Rattle.feed_find.proofs.search.gather_in.Given as goal
 abbrev pub invariant-each : goal.invariant-each
 invariant-each l = record {
   added : (picked : List Picked) → AreGathered picked l.fn.gathered → AreGathered (picked ++ flat_map (picked_at l.model l.cube) (range_with_len 0 l.place)) l.gathered;
-  valid : All (IsFound l.model.space) l.gathered.feeders.items;
+  valid : All (IsFound l.model.space) l.gathered.feeders;
 }
