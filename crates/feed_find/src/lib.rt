@@ -13,6 +13,7 @@ mod chosen;
 mod count;
 mod gathered;
 mod joined;
+mod kept;
 mod need;
 mod needed;
 mod needs;
