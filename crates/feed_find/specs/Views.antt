@@ -12,6 +12,7 @@ use Rattle.rule_laws.specs.Meaning.{precedents, truth_precedents}
 use Rattle.rule_laws.specs.ZeroTest.{operands, operands_of_truth}
 use Rattle.rule_model.specs.Conditions.{IsArea, IsFeeder}
 use Rattle.feed_check.specs.Inside.References.{is_reference}
+use Rattle.feed_turn.specs.Known.{AreTurns}
 use Rattle.feed_find.specs.declared.choice.Choice.{Choice}
 use Rattle.feed_find.specs.declared.choice.Choice.TheVariants as choices
 use Rattle.feed_find.specs.declared.chosen.Chosen.{Chosen}
@@ -19,6 +20,7 @@ use Rattle.feed_find.specs.declared.chosen.Chosen.TheVariants.{Found, Unturned}
 use Rattle.feed_find.specs.declared.need.Need.{Need}
 use Rattle.feed_find.specs.declared.need.TruthNeed.{TruthNeed}
 use Rattle.feed_find.specs.declared.asked.Asked.{Asked}
+use Rattle.feed_find.specs.declared.kept.Kept.{Kept}
 use Rattle.feed_find.specs.declared.gathered.Gathered.{Gathered}
 use Rattle.feed_find.specs.Choosing.{choice}
 use Rattle.feed_find.specs.Found.{Picked, feeder_of, unturned_of, each_once}
@@ -26,12 +28,16 @@ use Rattle.feed_find.specs.Added.{IsFound, feeders_in, with_feeders}
 use Rattle.feed_find.specs.declared.chosen.FoundFeeder.{FoundFeeder}
 use Rattle.rule_model.specs.declared.rules.Feeder.{Feeder}
 use Rattle.rule_model.specs.declared.rules.CubeRules.{CubeRules}
-use Rattle.rule_model.specs.BoundModel.{no_rules}
+use Rattle.rule_model.specs.BoundModel.{BoundModel, no_rules}
 
 -- a cube of the model and an area of it
 pub record IsAsked (asked : Asked) : Type 0 where
   pub cube : asked.cube < length asked.model.now.space.cubes
   pub area : IsArea asked.model.now.space asked.cube asked.area.now
+
+-- what is remembered from statement to statement of a cube
+pub record IsKept (model : BoundModel) (cube : ℕ) (kept : Kept) : Type 0 where
+  pub turns : AreTurns model cube kept.turns
 
 -- a reference that may be asked about
 abbrev pub is_askable : Asked → Reference → Bool

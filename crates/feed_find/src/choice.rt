@@ -1,9 +1,9 @@
 ghost use Rattle.std.specs.Prelude.{◌≡◌, IfOk};
 ghost use Rattle.rule_model.specs.Conditions.{IsReference, IsFeeder};
-ghost use Rattle.feed_turn.specs.Views.{AreOvers};
-ghost use Rattle.feed_find.specs.Views.{IsAsked, IsChoice, choose_from};
+ghost use Rattle.feed_find.specs.Views.{IsAsked, IsChoice, IsKept, choose_from};
 
 use crate::asked::Asked;
+use crate::kept::Kept;
 use feed_cover::{has_cover, names_no_governed};
 use feed_turn::{TurnView, turned_feeder};
 use rule_laws::Reference;
@@ -27,14 +27,14 @@ pub fn choose<'a>(
     alloc: Global,
     asked: Asked<'a>,
     reference: &'a Reference,
-    overs: &mut [Option<Option<u32>>],
+    kept: &mut Kept<'a>,
 ) -> Result<Choice, AllocError>
     requires asked { IsAsked asked }
     requires reference { IsReference asked.model.now.space asked.cube reference.now }
-    requires overs { AreOvers asked.model.now asked.cube asked.area.now overs.old }
+    requires kept { IsKept asked.model.now asked.cube kept.old }
     ensures choice { IfOk result (λ found. found ≡ choose_from asked.entry reference.now) }
     ensures valid { IfOk result (IsChoice asked.entry.model.now.space reference.now.cube) }
-    ensures overs { AreOvers asked.entry.model.now asked.entry.cube asked.entry.area.now overs.new }
+    ensures kept { IsKept asked.entry.model.now asked.entry.cube kept.new }
 {
     let _space = asked.model.space();
     let Asked {
@@ -55,7 +55,7 @@ pub fn choose<'a>(
         area,
         reference,
     };
-    match turned_feeder(alloc, view, 0, overs)? {
+    match turned_feeder(alloc, view, 0, &mut kept.turns)? {
         Some(feeder) => Ok(Choice::Turned(feeder)),
         None => Ok(Choice::Missing),
     }

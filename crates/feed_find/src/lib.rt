@@ -14,6 +14,7 @@ mod count;
 mod found_table;
 mod gathered;
 mod joined;
+mod kept;
 mod need;
 mod needed;
 mod needs;

@@ -4,17 +4,17 @@ ghost use Rattle.rule_model.specs.Conditions.{IsStatement, read_count};
 ghost use Rattle.feed_find.specs.Found.{Picked, counted_before, chosen_of, picked_at, picked_in, picked_if};
 ghost use Rattle.feed_find.specs.Found.{found_feeders, all_unturned};
 ghost use Rattle.feed_find.specs.Added.{IsFound};
-ghost use Rattle.feed_find.specs.Views.{IsChosen, AreGathered};
+ghost use Rattle.feed_find.specs.Views.{IsChosen, IsKept, AreGathered};
 
 use crate::asked::Asked;
 use crate::chosen::{Chosen, FoundFeeder};
 use crate::count::references;
 use crate::found_table::FoundTable;
 use crate::gathered::{Gathered, add_all};
+use crate::kept::Kept;
 use crate::needed::needed;
 use crate::unturned::Unturned;
 use feed_cover::Hints;
-use feed_turn::no_overs;
 use lists::ListOf;
 use rule_laws::findings_rest_on_references;
 use rule_model::{Form, Model, Statement};
@@ -51,11 +51,14 @@ fn chosen_of<'a>(
     cube: u32,
     statement: &'a Statement,
     hints: &'a Hints,
+    kept: &mut Kept<'a>,
 ) -> Result<ListOf<Chosen>, AllocError>
     requires cube { cube < length model.now.space.cubes }
     requires statement { IsStatement model.now.space cube statement.now }
+    requires kept { IsKept model.now cube kept.old }
     ensures chosen { IfOk result (λ chosen. chosen ≡ chosen_of model.now cube statement.now) }
     ensures valid { IfOk result (All (IsChosen model.now.space)) }
+    ensures kept { IsKept model.now cube kept.new }
 {
     let _space = model.space();
     findings_rest_on_references();
@@ -69,8 +72,7 @@ fn chosen_of<'a>(
         area,
         hints,
     };
-    let mut overs = no_overs(alloc, model, cube)?;
-    let found = needed(alloc, asked, formula, counted_before(statement), &mut overs)?;
+    let found = needed(alloc, asked, formula, counted_before(statement), kept)?;
     Ok(found.chosen)
 }
 
@@ -81,18 +83,21 @@ fn gather_at<'a>(
     cube: u32,
     place: u32,
     hints: &'a Hints,
+    kept: &mut Kept<'a>,
     gathered: &mut Gathered,
 ) -> Result<(), AllocError>
     requires cube { cube < length model.now.space.cubes }
     requires place { place < length (rules_of model.now cube).statements }
+    requires kept { IsKept model.now cube kept.old }
     requires feeders { All (IsFound model.now.space) gathered.old.feeders }
     ensures added { OnOk result ((picked : List Picked) → AreGathered picked gathered.old
         → AreGathered (picked ++ picked_at model.now cube place) gathered.new) }
     ensures valid { OnOk result (All (IsFound model.now.space) gathered.new.feeders) }
+    ensures kept { IsKept model.now cube kept.new }
 {
     let space = model.space();
     let statement = &model.rules(cube).statements.as_slice()[place as usize];
-    let chosen = chosen_of(alloc, model, cube, statement, hints)?;
+    let chosen = chosen_of(alloc, model, cube, statement, hints, kept)?;
     add_all(space, gathered, cube, place + 1, chosen)
 }
 
@@ -112,9 +117,10 @@ fn gather_in(
 {
     let _space = model.space();
     let hints = Hints::new();
+    let mut kept = Kept::none(alloc, model, cube)?;
     let count = model.rules(cube).statements.as_slice().len() as u32;
     'each: for place in 0..count {
-        gather_at(alloc, model, cube, place, &hints, gathered)?;
+        gather_at(alloc, model, cube, place, &hints, &mut kept, gathered)?;
     }
     Ok(())
 }

@@ -11,6 +11,7 @@ pub mod Found
 pub mod Shared
 pub mod Valid
 pub mod Overs
+pub mod Known
 pub mod Moves
 pub mod Law
 pub mod KeptWhole

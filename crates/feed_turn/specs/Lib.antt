@@ -4,4 +4,5 @@ pub mod Inverse
 pub mod Shift
 pub mod Turning
 pub mod Views
+pub mod Known
 pub mod Inside

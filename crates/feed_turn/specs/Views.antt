@@ -1,13 +1,11 @@
 -- What is turned round, as the code has it.
-use Rattle.std.specs.Prelude.{◌≡◌, ℕ, ◌<◌, Option, Some, List, length, slice_get, slice_index_or}
+use Rattle.std.specs.Prelude.{◌≡◌, ℕ, ◌<◌, Option, Some, List, length, slice_index_or}
 use Rattle.cube_space.specs.Layout.{axes, sizes}
 use Rattle.cube_space.specs.Cells.{IsSpace}
-use Rattle.rule_model.specs.BoundModel.{BoundModel}
-use Rattle.rule_model.specs.declared.area.Area.{Area}
 use Rattle.rule_model.specs.Conditions.{IsArea, IsReference}
 use Rattle.feed_turn.specs.declared.turn_view.TurnView.{TurnView}
 use Rattle.cover_laws.specs.Looking.{sent}
-use Rattle.feed_turn.specs.Turning.{Turn, area_over}
+use Rattle.feed_turn.specs.Turning.{Turn}
 
 abbrev pub turn_of : TurnView → Turn
 turn_of view = record {
@@ -31,9 +29,3 @@ pub record IsMoved (view : TurnView) (dim place : ℕ) (to : List (Option ℕ)) 
   pub whole : length to ≡ slice_index_or (sizes view.model.now.space view.cube) dim 0
   pub sends : (element target : ℕ) → sent to element ≡ Some target
       → target < slice_index_or (sizes view.model.now.space view.reference.now.cube) place 0
-
--- what is known of an area of a cube, for each dimension: the element over its leaves, if it was asked for
-pub record AreOvers (model : BoundModel) (cube : ℕ) (area : Area) (overs : List (Option (Option ℕ))) : Type 0 where
-  pub whole : length overs ≡ length (axes model.space cube)
-  pub known : (i : ℕ) (over : Option ℕ) → slice_get overs i ≡ Some (Some over)
-      → over ≡ area_over model.space cube area i

@@ -1,15 +1,14 @@
-ghost use Rattle.std.specs.Prelude.{◌≡◌, ◌<◌, length, slice_get, slice_index_or, option_and_then, All, IfOk};
-ghost use Rattle.rule_model.specs.declared.area.Area.{Area as AnyArea};
+ghost use Rattle.std.specs.Prelude.{◌≡◌, ◌<◌, None, length, slice_get, slice_index_or, option_and_then, All, IfOk, IsTrue};
 ghost use Rattle.cube_space.specs.Layout.{axes, sizes};
 ghost use Rattle.rule_model.specs.Conditions.{IsArea, IsSet};
 ghost use Rattle.feed_turn.specs.Leaves.{set_leaves, over};
 ghost use Rattle.feed_turn.specs.Turning.{area_leaves, area_over};
-ghost use Rattle.feed_turn.specs.Views.{AreOvers};
+ghost use Rattle.feed_turn.specs.Known.{AreOvers};
 
 use crate::axes::weights;
 use crate::leaves::{all_leaves, leaves_among};
 use crate::over::over_leaves;
-use cube_space::{axis, axis_count};
+use cube_space::axis;
 use dim_core::Dimension;
 use lists::ListOf;
 use rule_model::{Area, Model};
@@ -47,21 +46,8 @@ fn set_leaves(
     }
 }
 
-/// For each dimension of a cube, that nothing is known yet of an area.
-pub fn no_overs(
-    alloc: Global,
-    model: &Model,
-    cube: u32,
-) -> Result<Vec<Option<Option<u32>>>, AllocError>
-    requires { cube < length model.now.space.cubes }
-    ensures { IfOk result (λ overs. (area : AnyArea) → AreOvers model.now cube area overs.items) }
-{
-    let count = axis_count(model.space(), cube);
-    vec![in alloc; None; count as usize]
-}
-
-/// The element over the leaves that an area of a cube has in the dimension at a place. What is known is not worked out
-/// again.
+/// The element over the leaves that an area of a cube has in the dimension at a place. Where the area has all elements,
+/// it isn't worked out again.
 pub fn area_over(
     alloc: Global,
     model: &Model,
@@ -73,17 +59,46 @@ pub fn area_over(
     requires cube { cube < length model.now.space.cubes }
     requires place { place < length (axes model.now.space cube) }
     requires area { IsArea model.now.space cube area.now }
-    requires overs { AreOvers model.now cube area.now overs.old }
+    requires overs { AreOvers model.now cube overs.old }
     ensures over { IfOk result (λ found. found ≡ area_over model.now.space cube area.now place) }
-    ensures overs { AreOvers model.now cube area.now overs.new }
+    ensures overs { AreOvers model.now cube overs.new }
 {
+    if !has_all(model, cube, area, place) {
+        return worked_over(alloc, model, cube, area, place);
+    }
     if let Some(known) = overs[place as usize] {
         return Ok(known);
     }
-    let leaves = area_leaves(alloc, model, cube, area, place)?;
-    let over = over_of(model, cube, place, &leaves);
+    let over = worked_over(alloc, model, cube, area, place)?;
     overs[place as usize] = Some(over);
     Ok(over)
+}
+
+/// Whether an area of a cube has all elements of the dimension at a place.
+pub fn has_all(model: &Model, cube: u32, area: &Area, place: u32) -> bool
+    requires place { place < length (axes model.now.space cube) }
+    requires area { IsArea model.now.space cube area.now }
+    ensures { IsTrue result → slice_index_or area.now.sets place None ≡ None }
+{
+    let _space = model.space();
+    area.sets.as_slice()[place as usize].is_none()
+}
+
+// The same as `area_over`, worked out.
+fn worked_over(
+    alloc: Global,
+    model: &Model,
+    cube: u32,
+    area: &Area,
+    place: u32,
+) -> Result<Option<u32>, AllocError>
+    requires cube { cube < length model.now.space.cubes }
+    requires place { place < length (axes model.now.space cube) }
+    requires area { IsArea model.now.space cube area.now }
+    ensures { IfOk result (λ found. found ≡ area_over model.now.space cube area.now place) }
+{
+    let leaves = area_leaves(alloc, model, cube, area, place)?;
+    Ok(over_of(model, cube, place, &leaves))
 }
 
 // The element over these leaves of the dimension of a cube at a place.

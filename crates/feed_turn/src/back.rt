@@ -1,12 +1,14 @@
 ghost use Rattle.std.specs.Prelude.{◌≡◌, Some, length, slice_get, option_map, IfOk};
 ghost use Rattle.feed_turn.specs.Turning.{is_shared, keeps_each, is_kept, inverse_at, map_back, way_back, first_way};
 ghost use Rattle.feed_turn.specs.Views.{turn_of, IsTurn, IsMoved};
+ghost use Rattle.feed_turn.specs.Known.{AreTurns};
 
-use crate::area::area_leaves;
+use crate::area::{area_leaves, has_all};
 use crate::axes::{number_at, weights};
 use crate::inverse::inverse;
 use crate::shift::{goes, short_form};
 use crate::turn_view::TurnView;
+use crate::turns::{Known, Moving, Turns, recalled, remember};
 use cube_space::{axis, axis_count};
 use rule_laws::{Arg, ElementMap};
 use std::alloc::{AllocError, Global};
@@ -93,21 +95,69 @@ fn map_back(
     }
 }
 
-// The way back to a dimension by the argument at a place, if it follows that dimension.
-fn way_back(
+// The same, which isn't worked out again where the area has all elements of the dimension.
+fn known_back<'a>(
     alloc: Global,
-    view: TurnView,
+    view: TurnView<'a>,
     dim: u32,
     place: u32,
-    arg: &Arg,
+    to: &'a ElementMap,
+    turns: &mut Turns<'a>,
+) -> Result<Option<ElementMap>, AllocError>
+    requires view { IsTurn view }
+    requires moved { IsMoved view dim place to.now }
+    requires turns { AreTurns view.model.now view.cube turns.old }
+    ensures back { IfOk result (λ found. found ≡ map_back (turn_of view.entry) dim place to.now) }
+    ensures turns { AreTurns view.entry.model.now view.entry.cube turns.new }
+{
+    if !has_all(view.model, view.cube, view.area, dim) {
+        return map_back(alloc, view, dim, place, to);
+    }
+    let moving = Moving {
+        cube: view.reference.cube,
+        dim,
+        place,
+        to,
+    };
+    if let Some(known) = recalled(&turns.backs, moving) {
+        return shared(&turns.backs[known].found);
+    }
+    let back = map_back(alloc, view, dim, place, to)?;
+    let found = shared(&back)?;
+    remember(&mut turns.backs, Known { moving, found });
+    Ok(back)
+}
+
+fn shared(map: &Option<ElementMap>) -> Result<Option<ElementMap>, AllocError>
+    ensures { IfOk result (λ same. same ≡ map.now) }
+{
+    match map {
+        Some(map) => {
+            let same = map.share()?;
+            Ok(Some(same))
+        }
+        None => Ok(None),
+    }
+}
+
+// The way back to a dimension by the argument at a place, if it follows that dimension.
+fn way_back<'a>(
+    alloc: Global,
+    view: TurnView<'a>,
+    dim: u32,
+    place: u32,
+    arg: &'a Arg,
+    turns: &mut Turns<'a>,
 ) -> Result<Option<Arg>, AllocError>
     requires view { IsTurn view }
     requires arg { slice_get view.reference.now.args place ≡ Some arg.now }
-    ensures { IfOk result (λ found. found ≡ way_back (turn_of view.entry) dim place arg.now) }
+    requires turns { AreTurns view.model.now view.cube turns.old }
+    ensures way { IfOk result (λ found. found ≡ way_back (turn_of view.entry) dim place arg.now) }
+    ensures turns { AreTurns view.entry.model.now view.entry.cube turns.new }
 {
     match arg {
         Arg::Moved { from, to } if *from == dim => {
-            match map_back(alloc, view, dim, place, to)? {
+            match known_back(alloc, view, dim, place, to, turns)? {
                 Some(to) => Ok(Some(Arg::Moved { from: place, to })),
                 None => Ok(None),
             }
@@ -117,14 +167,21 @@ fn way_back(
 }
 
 /// The way back to a dimension by the first argument that has one.
-pub fn first_way(alloc: Global, view: TurnView, dim: u32) -> Result<Option<Arg>, AllocError>
-    requires { IsTurn view }
-    ensures { IfOk result (λ found. found
+pub fn first_way<'a>(
+    alloc: Global,
+    view: TurnView<'a>,
+    dim: u32,
+    turns: &mut Turns<'a>,
+) -> Result<Option<Arg>, AllocError>
+    requires view { IsTurn view }
+    requires turns { AreTurns view.model.now view.cube turns.old }
+    ensures way { IfOk result (λ found. found
         ≡ first_way (turn_of view.entry) dim 0 view.entry.reference.now.args) }
+    ensures turns { AreTurns view.entry.model.now view.entry.cube turns.new }
 {
     let args = view.reference.args.as_slice();
     'each: for place in 0..axis_count(view.model.space(), view.reference.cube) {
-        let way = way_back(alloc, view, dim, place, &args[place as usize])?;
+        let way = way_back(alloc, view, dim, place, &args[place as usize], turns)?;
         if way.is_some() {
             return Ok(way);
         }

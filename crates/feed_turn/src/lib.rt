@@ -5,10 +5,10 @@
 //! [`turned_feeders_cover`] is the law that it covers the reference as the feeder check decides it.
 #![tactic(auto)]
 
-pub use area::no_overs;
 pub use laws::turned_feeders_cover;
 pub use turn_view::TurnView;
 pub use turned::turned_feeder;
+pub use turns::Turns;
 
 mod area;
 mod axes;
@@ -22,3 +22,4 @@ mod shift;
 mod source;
 mod turn_view;
 mod turned;
+mod turns;

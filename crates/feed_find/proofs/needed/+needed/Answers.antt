@@ -26,7 +26,7 @@ needed-needed-requires-in-If-2 t c =
     let second : IsCounted l truth.behind left = c.in_ok-left-in-If.ensures.counted in
     let few : operands r < 4294967296 = omega (arith, c.requires.few, if-operands f l r by fe) in
     let room : left.behind + length (precedents r) < 4294967296 = omega (arith, c.requires.room, first.behind, second.behind, if-long f l r by fe) in
-    (search (rules, the_lemmas), (c.requires.asked, (each-right (is_askable c.args.asked) f l r by fe c.requires.known, (few, (room, c.in_ok-left-in-If.ensures.overs)))))
+    (search (rules, the_lemmas), (c.requires.asked, (each-right (is_askable c.args.asked) f l r by fe c.requires.known, (few, (room, c.in_ok-left-in-If.ensures.kept)))))
 
 pub needed-returns-in_ok-right-in-Binary-clause-counted : goal.needed-returns-in_ok-right-in-Binary-clause-counted
 needed-returns-in_ok-right-in-Binary-clause-counted t c =

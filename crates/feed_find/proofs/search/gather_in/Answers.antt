@@ -13,4 +13,5 @@ each-preserved c =
           gathered-same ((picked ++ flat_map f (range_with_len 0 k)) ++ f k) (picked ++ flat_map f (range_with_len 0 (k + 1))) c.gather_at.new.gathered (behind-more f picked k)
           (c.in_ok-gather_at.ensures.added (picked ++ flat_map f (range_with_len 0 k)) (c.each.invariant.added picked so));
       valid = c.in_ok-gather_at.ensures.valid;
+      kept = c.in_ok-gather_at.ensures.kept;
     }

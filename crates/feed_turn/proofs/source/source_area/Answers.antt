@@ -18,18 +18,18 @@ source_set-requires-clause-arg c =
     let low : c.each.place < length view.reference.now.args = omega (arith, c.each-test.true, c.axis_count-place-end.ensures.value, ap (λ (l : Layout). length (axes l view.reference.now.cube)) c.space.ensures.space, args-long view.model.now.space view.cube view.reference.now c.requires.reference) in
     arg-found c.as_slice-args.result.now view.reference.now.args c.each.place c.index-args-place.result c.as_slice-args.ensures low c.index-args-place.is
 
-pub each-preserved : goal.each-preserved
-each-preserved c =
+pub each-preserved-clause-sets : goal.each-preserved-clause-sets
+each-preserved-clause-sets c =
     let view = c.args.view in
     let low : c.each.place < length view.reference.now.args = omega (arith, c.each-test.true, c.axis_count-place-end.ensures.value, ap (λ (l : Layout). length (axes l view.reference.now.cube)) c.space.ensures.space, args-long view.model.now.space view.cube view.reference.now c.requires.reference) in
     let at = arg-found c.as_slice-args.result.now view.reference.now.args c.each.place c.index-args-place.result c.as_slice-args.ensures low c.index-args-place.is in
-    let more = sources-more (turn_of view) view.reference.now.args c.each.place c.index-args-place.result c.each.sets.items c.in_ok-source_set.field-0 at c.in_ok-source_set.ensures c.each.invariant in
+    let more = sources-more (turn_of view) view.reference.now.args c.each.place c.index-args-place.result c.each.sets.items c.in_ok-set.set at c.in_ok-set.ensures.set c.each.invariant.sets in
     more ∙ ap (λ (xs : List (Option (List ℕ))). xs ++ source_sets (turn_of view) (c.each.place + 1) (drop (c.each.place + 1) view.reference.now.args)) (sym c.in_ok-push.ensures.items)
 
-pub returns : goal.returns
+pub returns-clause-area : goal.returns-clause-area
 unfolding source_area
-returns c =
+returns-clause-area c =
     let view = c.args.view in
     let done = sources-done (turn_of view) view.reference.now.args c.each.place c.each.sets.items
-    (omega (arith, c.each-test.false, c.axis_count-place-end.ensures.value, ap (λ (l : Layout). length (axes l view.reference.now.cube)) c.space.ensures.space, args-long view.model.now.space view.cube view.reference.now c.requires.reference)) c.each.invariant in
+    (omega (arith, c.each-test.false, c.axis_count-place-end.ensures.value, ap (λ (l : Layout). length (axes l view.reference.now.cube)) c.space.ensures.space, args-long view.model.now.space view.cube view.reference.now c.requires.reference)) c.each.invariant.sets in
     ap (λ (sets : List (Option (List ℕ))). let area : Area = record { sets = sets } in area) (c.new.ensures ∙ done)

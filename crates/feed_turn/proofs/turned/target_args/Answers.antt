@@ -17,5 +17,5 @@ each-preserved c =
     let view = c.args.view in
     record {
       found = args-more (target_arg (turn_of view)) c.each.dim c.each.args.items c.in-Some.arg (sym c.in_ok-arg.ensures.arg ∙ c.in-Some.is) c.each.invariant.found ∙ ap Some (sym c.in_ok-push-in-Some.ensures.items);
-      overs = c.in_ok-arg.ensures.overs;
+      turns = c.in_ok-arg.ensures.turns;
     }

@@ -17,6 +17,6 @@ returns-clause-valid c =
     let made : turned_feeder (turn_of view) c.args.statement ≡ Some (feeder_to (turn_of view) c.args.statement c.in-Some.args.items) = ap (option_map (feeder_to (turn_of view) c.args.statement)) (sym found) in
     let valid = turned-valid space c.requires.view.valid view.cube c.requires.view.cube view.area.now c.requires.view.area r c.requires.view.reference c.args.statement (feeder_to (turn_of view) c.args.statement c.in-Some.args.items) made in
     record {
-      area = subst (IsArea space r.cube) (sym (c.in_ok-area.ensures ∙ c.in_ok-sources.ensures)) valid.area;
+      area = subst (IsArea space r.cube) (sym (c.in_ok-area.ensures ∙ c.in_ok-sources.ensures.area)) valid.area;
       target = subst (λ (args : List Arg). let target : Reference = record { cube = view.cube; args = args } in IsReference space r.cube target) (sym c.new-2.ensures) valid.target;
     }
