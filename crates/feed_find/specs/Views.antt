@@ -12,6 +12,7 @@ use Rattle.rule_laws.specs.Meaning.{precedents, truth_precedents}
 use Rattle.rule_laws.specs.ZeroTest.{operands, operands_of_truth}
 use Rattle.rule_model.specs.Conditions.{IsArea, IsFeeder}
 use Rattle.feed_check.specs.Inside.References.{is_reference}
+use Rattle.feed_cover.specs.Answers.{AreAnswers}
 use Rattle.feed_turn.specs.Known.{AreTurns}
 use Rattle.feed_find.specs.declared.choice.Choice.{Choice}
 use Rattle.feed_find.specs.declared.choice.Choice.TheVariants as choices
@@ -38,6 +39,7 @@ pub record IsAsked (asked : Asked) : Type 0 where
 -- what is remembered from statement to statement of a cube
 pub record IsKept (model : BoundModel) (cube : ℕ) (kept : Kept) : Type 0 where
   pub turns : AreTurns model cube kept.turns
+  pub answers : AreAnswers model cube kept.answers
 
 -- a reference that may be asked about
 abbrev pub is_askable : Asked → Reference → Bool

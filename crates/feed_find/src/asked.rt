@@ -1,4 +1,3 @@
-use feed_cover::Hints;
 use rule_model::{Area, Model};
 
 /// From where references are asked about: an area of a cube of a model.
@@ -7,5 +6,4 @@ pub struct Asked<'a> {
     pub model: &'a Model,
     pub cube: u32,
     pub area: &'a Area,
-    pub hints: &'a Hints,
 }

@@ -41,12 +41,11 @@ pub fn choose<'a>(
         model,
         cube,
         area,
-        hints,
     } = asked;
     if !names_no_governed(model, cube, area, reference) {
         return Ok(Choice::Missing);
     }
-    if has_cover(model, cube, area, reference, hints) {
+    if has_cover(model, cube, area, reference, &mut kept.answers) {
         return Ok(Choice::Covered);
     }
     let view = TurnView {

@@ -1,6 +1,7 @@
 ghost use Rattle.std.specs.Prelude.{◌<◌, length, IfOk};
 ghost use Rattle.feed_find.specs.Views.{IsKept};
 
+use feed_cover::CoverAnswers;
 use feed_turn::Turns;
 use rule_model::Model;
 use std::alloc::{AllocError, Global};
@@ -9,6 +10,7 @@ use std::alloc::{AllocError, Global};
 #[derive(Drop)]
 pub struct Kept<'a> {
     pub turns: Turns<'a>,
+    pub answers: CoverAnswers<'a>,
 }
 
 impl<'a> Kept<'a> {
@@ -18,6 +20,7 @@ impl<'a> Kept<'a> {
         ensures { IfOk result (IsKept model.now cube) }
     {
         let turns = Turns::none(alloc, model, cube)?;
-        Ok(Kept { turns })
+        let answers = CoverAnswers::none();
+        Ok(Kept { turns, answers })
     }
 }

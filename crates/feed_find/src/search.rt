@@ -14,7 +14,6 @@ use crate::gathered::{Gathered, add_all};
 use crate::kept::Kept;
 use crate::needed::needed;
 use crate::unturned::Unturned;
-use feed_cover::Hints;
 use lists::ListOf;
 use rule_laws::findings_rest_on_references;
 use rule_model::{Form, Model, Statement};
@@ -50,7 +49,6 @@ fn chosen_of<'a>(
     model: &'a Model,
     cube: u32,
     statement: &'a Statement,
-    hints: &'a Hints,
     kept: &mut Kept<'a>,
 ) -> Result<ListOf<Chosen>, AllocError>
     requires cube { cube < length model.now.space.cubes }
@@ -70,7 +68,6 @@ fn chosen_of<'a>(
         model,
         cube,
         area,
-        hints,
     };
     let found = needed(alloc, asked, formula, counted_before(statement), kept)?;
     Ok(found.chosen)
@@ -82,7 +79,6 @@ fn gather_at<'a>(
     model: &'a Model,
     cube: u32,
     place: u32,
-    hints: &'a Hints,
     kept: &mut Kept<'a>,
     gathered: &mut Gathered,
 ) -> Result<(), AllocError>
@@ -97,7 +93,7 @@ fn gather_at<'a>(
 {
     let space = model.space();
     let statement = &model.rules(cube).statements.as_slice()[place as usize];
-    let chosen = chosen_of(alloc, model, cube, statement, hints, kept)?;
+    let chosen = chosen_of(alloc, model, cube, statement, kept)?;
     add_all(space, gathered, cube, place + 1, chosen)
 }
 
@@ -116,11 +112,10 @@ fn gather_in(
     ensures valid { OnOk result (All (IsFound model.now.space) gathered.new.feeders) }
 {
     let _space = model.space();
-    let hints = Hints::new();
     let mut kept = Kept::none(alloc, model, cube)?;
     let count = model.rules(cube).statements.as_slice().len() as u32;
     'each: for place in 0..count {
-        gather_at(alloc, model, cube, place, &hints, &mut kept, gathered)?;
+        gather_at(alloc, model, cube, place, &mut kept, gathered)?;
     }
     Ok(())
 }
