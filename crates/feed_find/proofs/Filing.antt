@@ -38,7 +38,7 @@ filed-set feeders slots s places are low keeps = record {
 
 -- the places of slots of which one has others
 pub places-set : (slots : List (Vec ℕ Global)) (s : ℕ) (places : Vec ℕ Global) → places_of (set slots s places) ≡ set (places_of slots) s places.items
-places-set slots s places = map-set slots s places (λ (v : Vec ℕ Global). v.items)
+places-set slots s places = map-set (λ (v : Vec ℕ Global). v.items) slots s places
 
 pub places-at : (slots : List (Vec ℕ Global)) (s : ℕ) (places : Vec ℕ Global) → s < length slots → get_or slots s places ≡ places → get_or (places_of slots) s [] ≡ places.items
 places-at [] s places low is = absurd (omega (arith, low))
