@@ -113,8 +113,8 @@ pub fn add_product(
     Ok(())
 }
 
-// The same where the element at the place is this leaf: none where there is no leaf. Where the place is the last one,
-// the number of its row's first cell tells the cell.
+// The same where the element at the place is this leaf: none where there is no leaf. The number of a row's first cell
+// tells the cell.
 #[cycle(add_product)]
 fn add_choice(
     below: Below,
@@ -147,13 +147,9 @@ fn add_choice(
     add_product(below, place + 1, at, growth)
 }
 
-// The number from which the cells with these first elements are counted by the last one, where the place is the last.
-fn row_at(
-    model: &Model,
-    cube: u32,
-    place: usize,
-    at: &mut [u32; MAX_DIMENSIONS],
-) -> Option<u64>
+// Where the place is the last one, the number of the first cell of the row of these elements: each other cell of it is
+// as far behind as its last element says.
+fn row_at(model: &Model, cube: u32, place: usize, at: &mut [u32; MAX_DIMENSIONS]) -> Option<u64>
     requires cube { cube < length model.now.space.cubes }
     requires place { place < length (dims_of model.now.space cube) }
     ensures row { IfSome result (IsRow model.now.space cube place (take place at.old)) }
