@@ -1,18 +1,18 @@
 -- The cells whose elements differ in the last one alone have numbers in a row.
-use Rattle.std.proofs.Common.{◌≡◌, refl, sym, ap, ◌∙◌, subst, ℕ, zero, suc, ◌+◌, ◌*◌, ◌<◌, ◌≤◌, true, false, List, [], ◌∷◌, ◌++◌, length, drop, take, set, Option, Some, None, nat_lt, All, arith}
+use Rattle.std.proofs.Common.{◌≡◌, refl, sym, ap, ◌∙◌, subst, ℕ, zero, suc, ◌+◌, ◌<◌, ◌≤◌, true, false, List, [], ◌∷◌, ◌++◌, length, drop, Option, Some, None, nat_lt, All, arith}
 use Rattle.std.specs.Prelude.{slice_get, IfSome}
-use Rattle.std.proofs.lemmas.Bool.{and_parts, and_from, ltb-true, lt-ltb}
+use Rattle.std.proofs.lemmas.Bool.{and_parts, and_from, lt-ltb}
 use Rattle.dim_core.specs.Outline.{Outline}
 use Rattle.cube_space.specs.declared.shape.CubeShape.{CubeShape}
-use Rattle.cube_space.specs.Radix.{product, are_digits, number_of}
-use Rattle.cube_space.specs.Layout.{Layout, axes, axes_of, dims_of, sizes, sizes_of}
-use Rattle.cube_space.specs.Cells.{IsSpace, IsCell, cube_of, elements_of, cell_number}
+use Rattle.cube_space.specs.Radix.{are_digits, number_of}
+use Rattle.cube_space.specs.Layout.{Layout, axes, axes_of, dims_of, sizes_of}
+use Rattle.cube_space.specs.Cells.{IsSpace, elements_of, cell_number}
 use Rattle.cube_space.proofs.AxisSizes.{axes_of-cons, All-rest}
 use Rattle.cube_space.proofs.CubeDims.{dims_are, dims_within}
 use Rattle.cube_space.proofs.Places.{IsPlace, cell-place, cell_number-place, place-within, place_number}
 use Rattle.feed_sources.proofs.Axes.{axes-past}
 use Rattle.feed_sources.proofs.BelowFacts.{number-at}
-use Rattle.feed_map.specs.Inside.Leaves.{axes_from, GoesOn, GoesOnBy, IsInRow, IsRow}
+use Rattle.feed_map.specs.Inside.Leaves.{axes_from, GoesOnBy, IsInRow, IsRow}
 use Rattle.feed_map.proofs.LeafSteps.{some-by, by-some, number-goes, goes-number}
 
 -- ---- digits

@@ -1,4 +1,4 @@
-use Rattle.std.proofs.Common.{◌<◌, get_or, arith}
+use Rattle.std.proofs.Common.{arith}
 use Rattle.feed_map.proofs.Fresh.{rises-on}
 use Rattle.feed_map.proofs.growth.is_rising.Goals as goal
 
