@@ -1,11 +1,13 @@
 -- The cells that aren't known, cell by cell.
 use Rattle.std.proofs.Common.{◌≡◌, ◌≢◌, sym, subst, None, Some, ℕ, zero, suc, ◌+◌, ◌-◌, ◌<◌, ◌≤◌, ◌⊎◌, inl, inr, List, [], ◌∷◌, ◌++◌, length, take, get_or, arith}
 use Rattle.std.specs.List.{Contains, All, slice_get}
-use Rattle.std.specs.List.Sorted.{IsNonDecreasing, IsPermutation}
+use Rattle.std.specs.List.Sorted.{IsNonDecreasing, IsPermutation, IsStrictlyIncreasing}
+use Rattle.std.proofs.lemmas.Bool.{cases_lt}
+use Rattle.std.proofs.lemmas.List.Kept.{AllPairs-from_increasing}
 use Rattle.std.proofs.lemmas.Bool.Decides.{leb_tells}
 use Rattle.std.proofs.lemmas.List.{take_more}
 use Rattle.std.proofs.lemmas.List.Sorted.{Contains-permutation, IsPermutation-sym}
-use Rattle.std.proofs.lemmas.List.Elements.{Contains-append_left, Contains-push, Contains-push_cases}
+use Rattle.std.proofs.lemmas.List.Elements.{All-contains, Contains-append_left, Contains-push, Contains-push_cases}
 use Rattle.cell_store.specs.Cells.{next_from}
 use Rattle.cell_store.proofs.Rising.{AllAbove, Rises, Rises-from_increasing, increasing_from_Rises}
 use Rattle.feed_map.specs.Inside.Gains.{AreFresh}
@@ -131,3 +133,32 @@ beyond-first known found least sorted first is k d low has =
     let up = sorted 0 k d (omega arith) low in
     let at = first-of found least d first in
     none-above known least (get_or found k d) is has (omega (arith, up, at))
+
+-- ---- cells that rise
+
+-- one cell more
+pub rises-on : (xs : List ℕ) (place : ℕ) → 0 < place → ((k : ℕ) → k + 1 < place → get_or xs k 0 < get_or xs (k + 1) 0) → get_or xs (place - 1) 0 < get_or xs place 0
+    → (k : ℕ) → k + 1 < place + 1 → get_or xs k 0 < get_or xs (k + 1) 0
+rises-on xs place some before here k low =
+    elim (cases_lt (k + 1) place) [
+      | inl less ↦ before k less
+      | inr past ↦ (let e : place - 1 ≡ k = omega (arith, low, past) in
+          let f : place ≡ k + 1 = omega (arith, low, past) in
+          subst (λ (a : ℕ). get_or xs a 0 < get_or xs (k + 1) 0) e (subst (λ (b : ℕ). get_or xs (place - 1) 0 < get_or xs b 0) f here))
+    ]
+
+pub not-falling : (xs : List ℕ) → IsStrictlyIncreasing xs → IsNonDecreasing xs
+not-falling xs up i j d le low =
+    elim (cases_lt i j) [
+      | inl less ↦ (let under = AllPairs-from_increasing xs up i j d less low in omega (arith, under))
+      | inr past ↦ (let same : i ≡ j = omega (arith, le, past) in subst (λ (k : ℕ). get_or xs i d ≤ get_or xs k d) same (omega arith))
+    ]
+
+-- cells that rise, none of which is known
+pub fresh-all : (known found : List ℕ) → IsStrictlyIncreasing found → All (λ cell. Contains known cell → ⊥) found → AreFresh known found found
+fresh-all known found up none = record {
+  rising = up;
+  listed = λ c has. has;
+  new = λ c has. All-contains (λ cell. Contains known cell → ⊥) found c none has;
+  each = λ c has. inr has;
+}

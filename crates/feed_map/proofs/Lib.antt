@@ -5,6 +5,7 @@ mod LeafFacts
 mod DenseFacts
 pub mod FedFacts
 mod LeafSteps
+mod RowFacts
 mod FollowSteps
 mod Fresh
 mod StandFacts

@@ -1,6 +1,6 @@
 ghost use Rattle.std.specs.Prelude.{◌≡◌, ◌≢◌, ◌<◌, ◌≤◌, ◌-◌, ◌⊎◌, ◌↔◌, true, IsTrue, IsFalse, None, []};
 ghost use Rattle.std.specs.Prelude.{IfOk, IfErr, OnOk, All, Contains, length, slice_get, slice_index};
-ghost use Rattle.std.specs.List.Sorted.{IsNonDecreasing};
+ghost use Rattle.std.specs.List.Sorted.{IsNonDecreasing, IsStrictlyIncreasing};
 ghost use Rattle.feed_map.specs.Inside.Gains.{Gains, AreFresh, NoCell, StopsBy};
 
 use crate::fault::FedFault;
@@ -98,9 +98,35 @@ impl Growth {
 fn fresh_cells(alloc: Global, found: &mut Vec<u64>, known: &PageSet) -> Result<Vec<u64>, AllocError>
     ensures { IfOk result (λ fresh. AreFresh known.now found.old.items fresh.items) }
 {
+    if are_fresh(known, found) {
+        let fresh = Vec::from_slice(alloc, found)?;
+        return Ok(fresh);
+    }
     found.sort()?;
     let fresh = unknown_cells(alloc, found, known)?;
     Ok(fresh)
+}
+
+// Whether the cells rise, and all are greater than those that are known, as the leaf cells of a cube are found.
+fn are_fresh(known: &PageSet, found: &[u64]) -> bool
+    ensures { result ≡ true → AreFresh known.now found.now found.now }
+{
+    if !is_rising(found) {
+        return false;
+    }
+    are_beyond(known, found)
+}
+
+// Whether each cell is greater than the one before it.
+fn is_rising(cells: &[u64]) -> bool
+    ensures { result ≡ true → IsStrictlyIncreasing cells.now }
+{
+    'each: for place in 1..cells.len() {
+        if cells[place] <= cells[place - 1] {
+            return false;
+        }
+    }
+    true
 }
 
 // Those of these cells that aren't known, each once.

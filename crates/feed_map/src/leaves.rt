@@ -9,7 +9,7 @@ ghost use Rattle.rule_model.specs.System.{system_of};
 ghost use Rattle.feed_map.specs.Inside.Gains.{Gains, StopsBy};
 ghost use Rattle.feed_map.specs.Inside.Follows.{AreOpened};
 ghost use Rattle.feed_map.specs.Inside.Leaves.{candidates, candidate, leaf_at, own_leaves};
-ghost use Rattle.feed_map.specs.Inside.Leaves.{axes_from, AreRoots, IsRoot, IsBelow, IsBelowBy};
+ghost use Rattle.feed_map.specs.Inside.Leaves.{axes_from, AreRoots, IsRoot, IsBelow, IsBelowBy, IsRow, IsInRow};
 
 use crate::fault::FedFault;
 use crate::growth::Growth;
@@ -105,19 +105,22 @@ pub fn add_product(
     let (dimension, weights) = axis_of(below.model, below.cube, place);
     let root = root_of(below.roots, place);
     let leaves = leaves_at(below.leaves, place);
+    let row = row_at(below.model, below.cube, place, at);
     'each: for choice in 0..candidates(dimension, weights, leaves, root) {
         let leaf = leaf_at(dimension, weights, leaves, root, choice);
-        add_choice(below, place, leaf, at, growth)?;
+        add_choice(below, place, leaf, row, at, growth)?;
     }
     Ok(())
 }
 
-// The same where the element at the place is this leaf: none where there is no leaf.
+// The same where the element at the place is this leaf: none where there is no leaf. The number of a row's first cell
+// tells the cell.
 #[cycle(add_product)]
 fn add_choice(
     below: Below,
     place: usize,
     leaf: Option<u32>,
+    row: Option<u64>,
     at: &mut [u32; MAX_DIMENSIONS],
     growth: &mut Growth,
 ) -> Result<(), FedFault>
@@ -125,6 +128,8 @@ fn add_choice(
     requires place { place < length (dims_of below.model.now.space below.cube) }
     requires roots { AreRoots below.roots.now below.leaves.now (place + 1)
         (axes_from below.model.now.space below.cube (place + 1)) }
+    requires row { IfSome row (λ first. IfSome leaf
+        (IsInRow below.model.now.space below.cube place (take place at.old) first)) }
     ensures gains { OnOk result (Gains (IsBelowBy below.entry place (take place at.old) leaf) growth.old growth.new) }
     ensures stops { IfErr result (StopsBy (IsBelowBy below.entry place (take place at.old) leaf)
         growth.old growth.new) }
@@ -133,10 +138,32 @@ fn add_choice(
     let Some(leaf) = leaf else {
         return Ok(());
     };
+    if let Some(first) = row {
+        return growth.add(first + u64::from(leaf));
+    }
     // a cube has no more dimensions than there are places
     let _rank = rank_of(below.model, below.cube);
     at[place] = leaf;
     add_product(below, place + 1, at, growth)
+}
+
+// Where the place is the last one, the number of the first cell of the row of these elements: each other cell of it is
+// as far behind as its last element says.
+fn row_at(model: &Model, cube: u32, place: usize, at: &mut [u32; MAX_DIMENSIONS]) -> Option<u64>
+    requires cube { cube < length model.now.space.cubes }
+    requires place { place < length (dims_of model.now.space cube) }
+    ensures row { IfSome result (IsRow model.now.space cube place (take place at.old)) }
+    ensures front { take place at.new ≡ take place at.old }
+{
+    let space = model.space();
+    let rank = rank_of(model, cube);
+    if place + 1 < rank {
+        return None;
+    }
+    // a space says of itself how many cells there are at most
+    let _size = space.size();
+    at[place] = 0;
+    space.number(cube, &at[..place + 1])
 }
 
 // How many dimensions a cube has.

@@ -1,11 +1,11 @@
 -- Cells whose elements are leaves, dimension by dimension.
-use Rattle.std.specs.Prelude.{◌≡◌, ℕ, ◌+◌, ◌<◌, true, ⊤}
+use Rattle.std.specs.Prelude.{◌≡◌, ℕ, ◌+◌, ◌<◌, ◌≤◌, true, ⊤}
 use Rattle.std.specs.Prelude.{Option, Some, None, if◌then◌else◌, option_map, option_and_then}
 use Rattle.std.specs.Prelude.{List, [], ◌∷◌, ◌++◌, length, drop, filter, slice_get, slice_index_or}
 use Rattle.std.specs.List.{range_with_len}
 use Rattle.dim_core.specs.Outline.{Outline}
 use Rattle.dim_weights.specs.Table.{leaves_of}
-use Rattle.cube_space.specs.Layout.{Layout, axes_of, dims_of}
+use Rattle.cube_space.specs.Layout.{Layout, axes_of, dims_of, most_model_cells}
 use Rattle.cube_space.specs.Cells.{IsCell, is_leaf, is_leaf_cell, cube_of, cell_number}
 use Rattle.feed_map.specs.declared.leaves.Below.{Below}
 
@@ -83,6 +83,18 @@ abbrev pub IsBelowBy : Below → ℕ → List ℕ → Option ℕ → ℕ → Typ
 IsBelowBy below place front leaf cell =
     GoesOnBy below.model.now.space below.cube below.roots.now place
     (axes_from below.model.now.space below.cube (place + 1)) front leaf cell
+
+-- the cell of these elements and this leaf, which is the last one, has the number that is so far behind the first
+pub record IsInRow (space : Layout) (cube place : ℕ) (front : List ℕ) (first leaf : ℕ) : Type 0 where
+  pub last : length (dims_of space cube) ≤ place + 1
+  pub small : first + leaf < most_model_cells
+  pub number : cell_number space cube (front ++ leaf ∷ []) ≡ Some (first + leaf)
+
+-- so has the cell of these elements and any leaf
+abbrev pub IsRow : Layout → ℕ → ℕ → List ℕ → ℕ → Type 0
+IsRow space cube place front first =
+    (d : Outline) (ds : List Outline) (leaf : ℕ) → axes_from space cube place ≡ d ∷ ds → leaf < length d.elements
+    → IsInRow space cube place front first leaf
 
 -- a leaf cell of the cube
 abbrev pub IsLeafCellOf : Layout → ℕ → ℕ → Type 0

@@ -9,6 +9,7 @@ use Rattle.feed_map.specs.Inside.Leaves.{candidates, leaf_at, GoesOn, GoesOnBy, 
 use Rattle.feed_map.proofs.GainFacts.{gains-result, stops-result, handed-on}
 use Rattle.feed_sources.proofs.Axes.{axes-past}
 use Rattle.feed_map.proofs.LeafSteps.{front-kept, some-by, by-some, number-goes, goes-number, goes-more, goes-stops, goes-done}
+use Rattle.feed_map.proofs.RowFacts.{row-of, row-by, by-row}
 use Rattle.feed_map.proofs.leaves.+add_product.Goals.{add_choice-After-rank_of-rank, add_product-After-root_of-root}
 use Rattle.feed_map.proofs.leaves.+add_product.Goals as goal
 
@@ -17,6 +18,29 @@ put : (t : _) (c : add_choice-After-rank_of-rank t) → take (c.args.place + 1) 
 put t c =
     let long : length c.args.at.now ≡ 16 = search rules in
     take_more_set c.args.at.now c.args.place c.in-Some.leaf (omega (arith, c.requires.place, c.rank_of-rank.ensures.few, long))
+
+pub add_choice-returns-in-Some-row-clause-gains : goal.add_choice-returns-in-Some-row-clause-gains
+add_choice-returns-in-Some-row-clause-gains t c =
+    let space = c.args.below.model.now.space in
+    let ds = axes_of space.dimensions (drop (c.args.place + 1) (dims_of space c.args.below.cube)) in
+    let front = take c.args.place c.args.at.now in
+    let row = row-of space c.args.below.cube c.args.place front c.args.row c.args.leaf c.in-Some-row.first c.in-Some.leaf c.in-Some-row.is c.in-Some.is c.requires.row in
+    let same : c.from.result ≡ c.in-Some.leaf = omega arith in
+    gains-result c.add.result (λ cell. c.in-Some-row.first + c.from.result ≡ cell) (GoesOnBy space c.args.below.cube c.args.below.roots.now c.args.place ds front c.args.leaf)
+    (λ x told. row-by space c.args.below.cube c.args.below.roots.now c.args.place front c.in-Some-row.first c.in-Some.leaf c.args.leaf c.in-Some.is row x (omega (arith, same, told)))
+    (λ x goes. (let told = by-row space c.args.below.cube c.args.below.roots.now c.args.place front c.in-Some-row.first c.in-Some.leaf c.args.leaf c.in-Some.is row x goes in omega (arith, same, told)))
+    c.args.growth.now c.add.new.self c.add.ensures.gains
+
+pub add_choice-returns-in-Some-row-clause-stops : goal.add_choice-returns-in-Some-row-clause-stops
+add_choice-returns-in-Some-row-clause-stops t c =
+    let space = c.args.below.model.now.space in
+    let ds = axes_of space.dimensions (drop (c.args.place + 1) (dims_of space c.args.below.cube)) in
+    let front = take c.args.place c.args.at.now in
+    let row = row-of space c.args.below.cube c.args.place front c.args.row c.args.leaf c.in-Some-row.first c.in-Some.leaf c.in-Some-row.is c.in-Some.is c.requires.row in
+    let same : c.from.result ≡ c.in-Some.leaf = omega arith in
+    stops-result c.add.result (λ cell. c.in-Some-row.first + c.from.result ≡ cell) (GoesOnBy space c.args.below.cube c.args.below.roots.now c.args.place ds front c.args.leaf)
+    (λ x told. row-by space c.args.below.cube c.args.below.roots.now c.args.place front c.in-Some-row.first c.in-Some.leaf c.args.leaf c.in-Some.is row x (omega (arith, same, told)))
+    c.args.growth.now c.add.new.self c.add.ensures.stops
 
 pub add_choice-returns-clause-gains : goal.add_choice-returns-clause-gains
 add_choice-returns-clause-gains t c =
