@@ -5,7 +5,7 @@ use crate::fault::FindFault;
 use crate::filing::file_sources;
 use crate::numbering::{Numbering, Place};
 use crate::numbers::{first_of, number_nodes};
-use crate::vertices::vertex;
+use crate::vertex_numbers::vertex;
 use least_ranks::{Arrow, Graph};
 use lists::ListOf;
 use read_sources::{Group, Source, part_sources, sources_of};

@@ -22,7 +22,7 @@ mod reached;
 mod slots;
 mod source_arrows;
 mod tables;
-mod vertices;
+mod vertex_numbers;
 
 pub use circle::no_ranks_fit_a_circle;
 pub use fault::FindFault;
