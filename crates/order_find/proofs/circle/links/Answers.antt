@@ -1,4 +1,4 @@
-use Rattle.std.proofs.Common.{get_or}
+use Rattle.std.proofs.Common.{get_or, rules}
 use Rattle.std.proofs.lemmas.List.{get_or_default}
 use Rattle.least_ranks.specs.declared.arrow.Step.{Step}
 use Rattle.order_find.proofs.Linked.{links-more, links-done}
