@@ -1,5 +1,5 @@
-ghost use Rattle.std.specs.Prelude.{◌≡◌, ◌<◌, ◌==◌, ◌*◌, ◌∷◌, [], pos, codes, length, option_map, slice_get, slice_index_or, Some};
-ghost use Rattle.std.specs.Prelude.{IfOk, IfSome, IsTrue};
+ghost use Rattle.std.specs.Prelude.{◌≡◌, ◌<◌, ◌==◌, ◌*◌, ◌∷◌, [], pos, codes, length, option_map, Some};
+ghost use Rattle.std.specs.Prelude.{slice_get, slice_index_or, IfOk, IfSome, IsTrue};
 ghost use Rattle.std.specs.List.{list_all};
 ghost use Rattle.cube_fixed.specs.Range.{unit};
 ghost use Rattle.cube_space.specs.Layout.{dims_of, sizes};

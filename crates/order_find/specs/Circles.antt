@@ -24,7 +24,8 @@ pub record IsArrowOf (m : BoundModel) (cube statement reference : ℕ) (from to 
   pub there : slice_get (counted_of arrow.statement) at ≡ Some it
   pub reads : read_for arrow.kind it ≡ Some arrow.precedent
 
--- a link names the cube and the element of a node, of either kind, and an arrow that is made so leads from there to another
+-- a link names the cube and the element of a node, of either kind, and an arrow that is made so leads from there to
+-- another
 abbrev pub IsAt : Link → Node → Type 0
 IsAt link node = (link.cube ≡ node.cube) × (link.element ≡ node.element)
 

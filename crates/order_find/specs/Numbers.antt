@@ -1,6 +1,6 @@
 -- The numbers of the nodes of a model.
-use Rattle.std.specs.Prelude.{◌≡◌, ℕ, ◌+◌, ◌<◌, ◌⊎◌, ◌^◌, Bool, IsTrue, Some, List, map, length, slice_get, slice_index_or}
-use Rattle.std.specs.Prelude.{if◌then◌else◌}
+use Rattle.std.specs.Prelude.{◌≡◌, ℕ, ◌+◌, ◌<◌, ◌⊎◌, ◌^◌, Bool, IsTrue, Some, List, map, length}
+use Rattle.std.specs.Prelude.{slice_get, slice_index_or, if◌then◌else◌}
 use Rattle.std.specs.List.{range_with_len}
 use Rattle.rule_model.specs.BoundModel.{BoundModel}
 use Rattle.arrow_laws.specs.Nodes.{has_nodes}

@@ -1,7 +1,7 @@
 -- The graph of a model: its nodes, and the arrow in each slot of each node.
 use Rattle.std.specs.Prelude.{◌≡◌, ℕ, ◌+◌, ◌-◌, ◌<◌, ◌≤◌, ◌^◌, ◌&&◌, ◌||◌, Bool, true, false, not, nat_lt, ℤ}
-use Rattle.std.specs.Prelude.{Option, Some, None, is_some, option_map, unwrap_or, List, [], ◌++◌, map, length, All, Contains}
-use Rattle.std.specs.Prelude.{slice_get, slice_index_or, if◌then◌else◌}
+use Rattle.std.specs.Prelude.{Option, Some, None, is_some, option_map, unwrap_or, List, [], ◌++◌, map, length}
+use Rattle.std.specs.Prelude.{All, Contains, slice_get, slice_index_or, if◌then◌else◌}
 use Rattle.std.specs.Option.{option_map_or}
 use Rattle.std.specs.List.{range_with_len}
 use Rattle.dim_weights.specs.Table.{is_nonzero, leaves_of}
@@ -130,8 +130,8 @@ leaves_below m place =
 abbrev pub parts_of : Layout → Place → List (ℕ × ℤ)
 parts_of space place = parts_in (axes space place.cube) (last_of space place.cube) place.element
 
--- whether the node of such an element leads to that of a component: consolidated ones alone may be meant, and leaf cells
--- have leaves alone
+-- whether the node of such an element leads to that of a component: consolidated ones alone may be meant, and leaf
+-- cells have leaves alone
 abbrev pub is_meant : BoundModel → Place → Bool → ℕ → Bool
 is_meant m place totals part =
     admits (kind_in m place.cube place.kind)

@@ -1,5 +1,4 @@
-ghost use Rattle.std.specs.Prelude.{◌≡◌, ◌+◌, ◌<◌, ◌++◌, List, IfOk, OnOk, Some, None, length, unwrap_or};
-ghost use Rattle.std.specs.Prelude.{slice_get, slice_index_or, map};
+ghost use Rattle.std.specs.Prelude.{◌≡◌, ◌<◌, ◌++◌, List, IfOk, OnOk, Some, None, length, unwrap_or, slice_get, map};
 ghost use Rattle.std.specs.List.{IsFirstBest};
 ghost use Rattle.least_ranks.specs.Graph.{IsClosedWalk};
 ghost use Rattle.rule_model.specs.BoundModel.{BoundModel};
@@ -9,8 +8,8 @@ ghost use Rattle.order_find.specs.Numbers.{IsPlace};
 ghost use Rattle.order_find.specs.Slots.{arrows_of};
 ghost use Rattle.order_find.specs.PlanOfAll.{IsPlanOfAll};
 ghost use Rattle.order_find.specs.Circles.{IsCircle, BeginsLeast};
-ghost use Rattle.order_find.specs.Links.{reference_of, maker, made_by, member_maker, made_on, link_of, links_at};
-ghost use Rattle.order_find.specs.Links.{links_of, begins_behind, begun_of, is_before};
+ghost use Rattle.order_find.specs.Links.{reference_of, maker, made_by, made_on, links_at, links_of};
+ghost use Rattle.order_find.specs.Links.{begun_of, is_before};
 ghost use Rattle.order_find.specs.declared.link.Link.{Link};
 
 use crate::graph::NodeGraph;
@@ -46,20 +45,12 @@ fn begun(alloc: Global, graph: &NodeGraph, steps: &[Step]) -> Result<Vec<Step>, 
     ensures { IfOk result (λ begun. begun.items ≡ begun_of graph.now steps.now) }
 {
     let mut begun = Vec::from_slice(alloc, steps)?;
-    if !begins_behind(graph, steps) {
-        return Ok(begun);
-    }
-    begun.rotate_left(1);
-    Ok(begun)
-}
-
-// Whether the first step isn't from the node of an element.
-fn begins_behind(graph: &NodeGraph, steps: &[Step]) -> bool
-    ensures { result ≡ begins_behind graph.now steps.now }
-{
     match steps.first() {
-        Some(step) => graph.place(step.node).is_none(),
-        None => false,
+        Some(step) if graph.place(step.node).is_none() => {
+            begun.rotate_left(1);
+            Ok(begun)
+        }
+        _ => Ok(begun),
     }
 }
 
@@ -69,25 +60,9 @@ fn links(alloc: Global, graph: &NodeGraph, steps: &[Step]) -> Result<Vec<Link>, 
 {
     let mut links = Vec::new(alloc);
     'each: for k in 0..steps.len() {
-        add_link(graph, step_at(steps, k), step_after(steps, k), &mut links)?;
+        add_link(graph, steps[k], steps.get(k + 1).copied(), &mut links)?;
     }
     Ok(links)
-}
-
-// One of these steps.
-fn step_at(steps: &[Step], k: usize) -> Step
-    requires { k < length steps.now }
-    ensures { result ≡ slice_index_or steps.now k result }
-{
-    steps[k]
-}
-
-// The step after that.
-fn step_after(steps: &[Step], k: usize) -> Option<Step>
-    requires { k < length steps.now }
-    ensures { result ≡ slice_get steps.now (k + 1) }
-{
-    steps.get(k + 1).copied()
 }
 
 // Adds the link of a step, if it is from the node of an element.
@@ -99,51 +74,35 @@ fn add_link(
 ) -> Result<(), AllocError>
     ensures { OnOk result (links.new.items ≡ links.old.items ++ links_at graph.now step next) }
 {
+    let _model = graph.model();
     match graph.place(step.node) {
         Some(place) => {
-            links.push(link(graph, step, next, place))?;
+            let made = made_by(graph, step.node, place, step.slot as usize);
+            links.push(Link {
+                cube: place.cube,
+                element: place.element,
+                by: made_on(graph, made, next),
+            })?;
             Ok(())
         }
         None => Ok(()),
     }
 }
 
-// The link of a step from the node of an element.
-fn link(graph: &NodeGraph, step: Step, next: Option<Step>, place: Place) -> Link
-    requires { slice_get graph.now.numbering.places.items step.node ≡ Some place }
-    ensures { result ≡ link_of graph.now step next place }
-{
-    let _model = graph.model();
-    Link {
-        cube: place.cube,
-        element: place.element,
-        by: made_on(
-            graph,
-            made_by(graph, step.node, place, step.slot as usize),
-            next,
-        ),
-    }
-}
-
-// What makes an arrow, where the next step goes on from the node of a group.
+// What makes an arrow: where the next step goes on from the node of a group, the source in the slot of that step.
 fn made_on(graph: &NodeGraph, by: Option<LinkBy>, next: Option<Step>) -> LinkBy
     ensures { result ≡ made_on graph.now by next }
 {
     match (by, next) {
         (Some(by), _) => by,
         (None, None) => LinkBy::Below,
-        (None, Some(next)) => member_maker(graph, next),
-    }
-}
-
-// The reference of the source in the slot of a step from the node of a group.
-fn member_maker(graph: &NodeGraph, step: Step) -> LinkBy
-    ensures { result ≡ member_maker graph.now step }
-{
-    let group = step.node.saturating_sub(graph.hubs_from());
-    match graph.member(group, step.slot as usize) {
-        Some(source) => reference_of(source),
-        None => LinkBy::Below,
+        (None, Some(next)) => {
+            let group = next.node.saturating_sub(graph.hubs_from());
+            match graph.member(group, next.slot as usize) {
+                Some(source) => reference_of(source),
+                None => LinkBy::Below,
+            }
+        }
     }
 }
 
@@ -177,19 +136,10 @@ fn made_by(graph: &NodeGraph, node: u32, place: Place, slot: usize) -> Option<Li
 fn row_maker(graph: &NodeGraph, row: &[u32], slot: usize) -> Option<LinkBy>
     ensures { result ≡ unwrap_or (slice_get (map (λ k. Some (maker graph.now k)) row.now) slot) None }
 {
-    match row.get(slot) {
-        Some(k) => Some(maker(graph, *k)),
-        None => None,
-    }
-}
-
-// What makes the arrow by the source of this number.
-fn maker(graph: &NodeGraph, k: u32) -> LinkBy
-    ensures { result ≡ maker graph.now k }
-{
+    let k = *row.get(slot)?;
     match graph.source(k) {
-        Some(source) => reference_of(source),
-        None => LinkBy::Below,
+        Some(source) => Some(reference_of(source)),
+        None => Some(LinkBy::Below),
     }
 }
 

@@ -1,10 +1,11 @@
 ghost use Rattle.std.specs.Prelude.{◌≡◌, [], slice_index_or};
 
-use crate::arrows::{arrow_in, slots_in, vertex};
+use crate::arrows::{arrow_in, slots_in};
 use crate::fault::FindFault;
 use crate::filing::file_sources;
 use crate::numbering::{Numbering, Place};
 use crate::numbers::{first_of, number_nodes};
+use crate::vertex_numbers::vertex;
 use least_ranks::{Arrow, Graph};
 use lists::ListOf;
 use read_sources::{Group, Source, part_sources, sources_of};
@@ -75,7 +76,8 @@ impl<'a> NodeGraph<'a> {
     /// # Errors
     ///
     /// - [`FindFault::Unlagged`] exactly where some reference may read at a greater lag, with the first such reference.
-    /// - [`FindFault::Memory`] when out of memory. More than 2^28 nodes count as that, and so do more than 2^29 sources.
+    /// - [`FindFault::Memory`] when out of memory. More than 2^28 nodes count as that, and so do more than 2^29
+    ///   sources.
     pub fn of(alloc: Global, model: &'a Model) -> Result<NodeGraph<'a>, FindFault>
         ensures plan { IfOk result IsPlanOfAll }
         ensures model { IfOk result (λ graph. graph.model ≡ model.now) }
@@ -130,13 +132,6 @@ impl<'a> NodeGraph<'a> {
         self.numbering.places.len() as u32
     }
 
-    /// How many single sources there are.
-    pub(crate) fn source_count(&self) -> u32
-        ensures { result ≡ length self.now.sources }
-    {
-        self.sources.len() as u32
-    }
-
     /// The node of the model that has this number.
     pub(crate) fn place(&self, node: u32) -> Option<Place>
         ensures { result ≡ slice_get self.now.numbering.places.items node }
@@ -181,7 +176,7 @@ impl<'a> NodeGraph<'a> {
         ensures room { result + length self.now.sources < 2 ^ 32 }
     {
         let _model = self.model();
-        let sources = self.source_count();
+        let sources = self.sources.len() as u32;
         let both = self.components_from(true) + self.place_count();
         match (own, its) {
             (true, true) => both,
@@ -196,7 +191,7 @@ impl<'a> NodeGraph<'a> {
         ensures { result ≡ hubs_from self.now }
     {
         let _model = self.model();
-        self.given_from(false, false) + self.source_count()
+        self.given_from(false, false) + self.sources.len() as u32
     }
 
     /// How many groups there are.

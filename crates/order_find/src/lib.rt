@@ -18,8 +18,11 @@ mod link;
 mod numbering;
 mod numbers;
 mod orders;
+mod reached;
 mod slots;
+mod source_arrows;
 mod tables;
+mod vertex_numbers;
 
 pub use circle::no_ranks_fit_a_circle;
 pub use fault::FindFault;

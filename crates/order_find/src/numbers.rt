@@ -1,5 +1,6 @@
 ghost use Rattle.std.specs.Prelude.{◌≡◌, ◌<◌, ◌≤◌, ◌++◌, IfOk, OnOk, length, slice_index_or};
-ghost use Rattle.order_find.specs.Numbers.{AreNumbered, IsNumbering, count_of, firsts_of, width_of, places_of, most_places};
+ghost use Rattle.order_find.specs.Numbers.{AreNumbered, IsNumbering, count_of, firsts_of, width_of, places_of};
+ghost use Rattle.order_find.specs.Numbers.{most_places};
 
 use crate::numbering::{Numbering, Place};
 use read_sources::{has_kinds, last_of};

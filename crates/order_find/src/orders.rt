@@ -1,7 +1,7 @@
-ghost use Rattle.std.specs.Prelude.{◌≡◌, ◌<◌, true, false, Some, None, IsTrue, IfOk, OnOk, length, map, if◌then◌else◌};
+ghost use Rattle.std.specs.Prelude.{◌≡◌, ◌<◌, true, IsTrue, IfOk, OnOk, length, map};
 ghost use Rattle.rule_model.specs.Order.{position_of};
 ghost use Rattle.rule_model.specs.System.{cubes_of};
-ghost use Rattle.arrow_laws.specs.Nodes.{has_kinds, has_nodes};
+ghost use Rattle.arrow_laws.specs.Nodes.{has_nodes};
 ghost use Rattle.arrow_laws.specs.Ranked.{AreNodeRanks, order_by};
 ghost use Rattle.order_find.specs.Slots.{node_count};
 ghost use Rattle.order_find.specs.Cut.{ranks_of, all_ranks, positions_in, order_in};
@@ -35,29 +35,17 @@ fn order(alloc: Global, graph: &NodeGraph, cube: u32, ranks: &[u32]) -> Result<O
     requires cube { cube < length graph.now.model.space.cubes }
     ensures { IfOk result (λ order. order ≡ order_in graph.now ranks.now cube) }
 {
-    Ok(Order {
-        positions: positions(alloc, graph, cube, true, ranks)?,
-        totals: totals(alloc, graph, cube, ranks)?,
-    })
-}
-
-// The positions of consolidated cells, where the cells of a cube have kinds.
-fn totals(
-    alloc: Global,
-    graph: &NodeGraph,
-    cube: u32,
-    ranks: &[u32],
-) -> Result<Option<ListOf<Position>>, AllocError>
-    requires ranks { length ranks.now ≡ node_count graph.now }
-    requires cube { cube < length graph.now.model.space.cubes }
-    ensures { IfOk result (λ totals. totals ≡ (if has_kinds graph.now.model cube
-        then Some (positions_in graph.now ranks.now cube false) else None)) }
-{
-    if has_kinds(graph.model(), cube) {
-        Ok(Some(positions(alloc, graph, cube, false, ranks)?))
-    } else {
-        Ok(None)
+    let leaves = positions(alloc, graph, cube, true, ranks)?;
+    if !has_kinds(graph.model(), cube) {
+        return Ok(Order {
+            positions: leaves,
+            totals: None,
+        });
     }
+    Ok(Order {
+        positions: leaves,
+        totals: Some(positions(alloc, graph, cube, false, ranks)?),
+    })
 }
 
 // The positions of the cells of a kind.

@@ -1,10 +1,11 @@
 ghost use Rattle.std.specs.Prelude.{◌≡◌, ◌<◌, ◌≤◌, IsTrue, Some, All, length, slice_get};
 ghost use Rattle.dim_core.specs.Outline.{Outline, most_elements, most_components};
 ghost use Rattle.cube_space.specs.Layout.{axes};
-ghost use Rattle.arrow_laws.specs.Nodes.{kind_in, last_of, node_kind};
+ghost use Rattle.arrow_laws.specs.Nodes.{last_of, node_kind};
 ghost use Rattle.order_find.specs.Numbers.{IsPlace, width};
 ghost use Rattle.read_sources.specs.Ways.{IsSource, cube_read};
-ghost use Rattle.order_find.specs.Slots.{MeansByKind, is_for, reads_here, is_meant, leads_below, leaves_below, parts_of, target_at};
+ghost use Rattle.order_find.specs.Slots.{MeansByKind, is_for, reads_here, is_meant, leads_below, leaves_below};
+ghost use Rattle.order_find.specs.Slots.{parts_of, target_at};
 
 use crate::numbering::Place;
 use read_sources::{Source, admits, cube_read, has_kinds, is_total, last_of, reads_from};
@@ -51,18 +52,6 @@ pub fn parts_of(model: &Model, place: Place) -> &[(u32, i64)]
     dimension.components(place.element)
 }
 
-// The kind of the cells of a node, where those of its cube have kinds.
-fn kind_in(model: &Model, place: Place) -> Option<bool>
-    requires { place.cube < length model.now.space.cubes }
-    ensures { result ≡ kind_in model.now place.cube place.kind }
-{
-    if has_kinds(model, place.cube) {
-        Some(place.kind)
-    } else {
-        None
-    }
-}
-
 /// Whether the node of the components of an element, or of the consolidated ones alone, leads to that of this one.
 pub fn is_meant(model: &Model, place: Place, totals: bool, part: u32) -> bool
     requires place { IsPlace model.now place }
@@ -71,7 +60,8 @@ pub fn is_meant(model: &Model, place: Place, totals: bool, part: u32) -> bool
 {
     let last = last_of(model, place.cube);
     let total = is_total(model, place.cube, last, part);
-    admits(kind_in(model, place), !total) && (!totals || total)
+    let kind = has_kinds(model, place.cube).then_some(place.kind);
+    admits(kind, !total) && (!totals || total)
 }
 
 /// The kind of the nodes of the cells for which a source reads.

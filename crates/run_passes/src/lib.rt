@@ -2,8 +2,8 @@
 //!
 //! Read `specs/RefusalOrder.antt` first, the passes of a run in order, made of the words of crate `file_passes`; then
 //! [`run_passes`], which goes through them. What files are judged to be stands in crate `judged_files`. Behind `passes`
-//! there are `model_passes`, of the model with all that belongs to it, and `feeders_passes`, of the feeders that are found. `laws` says why no text is read further than to
-//! the first byte that is one too many.
+//! there are `model_passes`, of the model with all that belongs to it, and `feeders_passes`, of the feeders that are
+//! found. `laws` says why no text is read further than to the first byte that is one too many.
 #![tactic(auto)]
 
 mod feeders_passes;

@@ -6,7 +6,7 @@ use Rattle.ref_order.proofs.Sums.{element-below}
 use Rattle.read_sources.specs.Ways.{SentOver, way_of}
 use Rattle.order_find.specs.Slots.{reached_from, reached_by}
 use Rattle.order_find.proofs.Held.{held, set_in, size_in, reached-held, reached-past}
-use Rattle.order_find.proofs.arrows.reached_arrow.Goals as goal
+use Rattle.order_find.proofs.reached.reached_arrow.Goals as goal
 
 pub reached_from-requires-clause-element : goal.reached_from-requires-clause-element
 reached_from-requires-clause-element c =

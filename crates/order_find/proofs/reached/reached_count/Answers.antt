@@ -6,7 +6,7 @@ use Rattle.order_laws.proofs.SetFacts.{set-at}
 use Rattle.read_sources.specs.Ways.{SentOver, way_of}
 use Rattle.order_find.specs.Slots.{reached_by}
 use Rattle.order_find.proofs.Held.{set_in, size_in, reached-length, set-few}
-use Rattle.order_find.proofs.arrows.reached_count.Goals as goal
+use Rattle.order_find.proofs.reached.reached_count.Goals as goal
 
 pub returns-in-Over-clause-count : goal.returns-in-Over-clause-count
 returns-in-Over-clause-count c = λ gives.

@@ -1,7 +1,7 @@
 use Rattle.std.proofs.Common.{◌≡◌, ◌∙◌, ap}
 use Rattle.read_sources.specs.Ways.{Same, Component, SentOver, way_of}
 use Rattle.order_find.specs.Slots.{arrow_by}
-use Rattle.order_find.proofs.arrows.arrow_by.Goals as goal
+use Rattle.order_find.proofs.source_arrows.arrow_by.Goals as goal
 
 pub returns-in-Itself-clause-arrow : goal.returns-in-Itself-clause-arrow
 returns-in-Itself-clause-arrow c =
