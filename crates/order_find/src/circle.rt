@@ -1,4 +1,4 @@
-ghost use Rattle.std.specs.Prelude.{◌≡◌, ◌<◌, ◌++◌, List, IfOk, OnOk, Some, None, length, unwrap_or, slice_get, map};
+ghost use Rattle.std.specs.Prelude.{◌≡◌, ◌+◌, ◌<◌, ◌++◌, List, IfOk, OnOk, Some, None, length, unwrap_or, slice_get, map};
 ghost use Rattle.std.specs.List.{IsFirstBest};
 ghost use Rattle.least_ranks.specs.Graph.{IsClosedWalk};
 ghost use Rattle.rule_model.specs.BoundModel.{BoundModel};
@@ -60,9 +60,17 @@ fn links(alloc: Global, graph: &NodeGraph, steps: &[Step]) -> Result<Vec<Link>, 
 {
     let mut links = Vec::new(alloc);
     'each: for k in 0..steps.len() {
-        add_link(graph, steps[k], steps.get(k + 1).copied(), &mut links)?;
+        add_link(graph, steps[k], step_after(steps, k), &mut links)?;
     }
     Ok(links)
+}
+
+// The step after the one at this place.
+fn step_after(steps: &[Step], k: usize) -> Option<Step>
+    requires { k < length steps.now }
+    ensures { result ≡ slice_get steps.now (k + 1) }
+{
+    steps.get(k + 1).copied()
 }
 
 // Adds the link of a step, if it is from the node of an element.
