@@ -1,4 +1,5 @@
-ghost use Rattle.std.specs.Prelude.{◌≡◌, ◌+◌, ◌<◌, ◌++◌, List, IfOk, OnOk, Some, None, length, unwrap_or, slice_get, map};
+ghost use Rattle.std.specs.Prelude.{◌≡◌, ◌+◌, ◌<◌, ◌++◌, List, IfOk, OnOk, Some, None};
+ghost use Rattle.std.specs.Prelude.{length, unwrap_or, slice_get, map};
 ghost use Rattle.std.specs.List.{IsFirstBest};
 ghost use Rattle.least_ranks.specs.Graph.{IsClosedWalk};
 ghost use Rattle.rule_model.specs.BoundModel.{BoundModel};
