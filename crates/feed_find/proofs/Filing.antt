@@ -13,7 +13,7 @@ use Rattle.std.proofs.lemmas.Option.{slice_get-get_or}
 use Rattle.std.proofs.Math.Seq.{get_or-append_seam}
 use Rattle.feed_find.specs.declared.chosen.FoundFeeder.{FoundFeeder}
 use Rattle.feed_find.specs.Found.{same_reference, same_area, same_found}
-use Rattle.feed_find.specs.Filed.{mark_with, slot_of, places_of, AreFiled}
+use Rattle.feed_find.specs.Filed.{slot_count, mark_with, slot_of, places_of, AreFiled}
 use Rattle.feed_find.proofs.Sameness.{areas-same}
 
 -- ---- a slot with more places
@@ -62,7 +62,7 @@ filed-push feeders slots one are own = record { long = are.long; filed = λ plac
         let low : place < length feeders = omega (arith, less, before, length-append feeders (one ∷ [])) in
         subst (In place) (sym (get_or_append_left feeders (one ∷ []) other place low)) (are.filed place other low)
 
-pub filed-none : (slots : List (List ℕ)) → length slots ≡ 16384 → AreFiled [] slots
+pub filed-none : (slots : List (List ℕ)) → length slots ≡ slot_count → AreFiled [] slots
 filed-none slots long = record { long = long; filed = λ place one less. absurd (omega (arith, less)) }
 
 -- ---- which feeders are the same
@@ -98,7 +98,7 @@ none-there one feeders slots are none = list_any_none (same_found one) feeders (
 
 -- ---- what becomes of the slots where a place is added to one, or isn't
 
-module _ (feeders : List FoundFeeder) (slots : List (Vec ℕ Global)) (s : ℕ) (had has : Vec ℕ Global) (are : AreFiled feeders (places_of slots)) (low : s < 16384) (at : get_or slots s had ≡ had) where
+module _ (feeders : List FoundFeeder) (slots : List (Vec ℕ Global)) (s : ℕ) (had has : Vec ℕ Global) (are : AreFiled feeders (places_of slots)) (low : s < slot_count) (at : get_or slots s had ≡ had) where
   within : s < length slots
   within = omega (arith, low, are.long, length-map slots (λ (v : Vec ℕ Global). v.items))
 

@@ -4,7 +4,7 @@ ghost use Rattle.std.specs.Option.{option_map_or};
 ghost use Rattle.lists.specs.Keys.{insert_key};
 ghost use Rattle.feed_find.specs.Found.{same_found};
 ghost use Rattle.feed_find.specs.Added.{IsFound};
-ghost use Rattle.feed_find.specs.Filed.{head_of, mark_with, slot_of};
+ghost use Rattle.feed_find.specs.Filed.{head_of, mark_with, slot_of, slot_count};
 
 use crate::chosen::FoundFeeder;
 use crate::same::same_found;
@@ -38,7 +38,7 @@ impl Model for FoundTable {
 
 // Slots without places.
 fn no_slots(alloc: Global) -> Result<Vec<Vec<usize>>, AllocError>
-    ensures { IfOk result (λ slots. length slots.items ≡ 16384) }
+    ensures { IfOk result (λ slots. length slots.items ≡ slot_count) }
 {
     let mut slots = Vec::new(alloc);
     'each: for count in 0..SLOTS {
@@ -64,7 +64,7 @@ fn head_of(set: &Option<ListOf<u32>>) -> u64
 // The slot of a feeder.
 fn slot_of(found: &FoundFeeder) -> usize
     ensures slot { result ≡ slot_of found.now }
-    ensures within { result < 16384 }
+    ensures within { result < slot_count }
 {
     let sets = found.feeder.area.get().sets.as_slice();
     let mut mark = 0;

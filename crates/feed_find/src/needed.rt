@@ -41,7 +41,8 @@ fn reference_need<'a>(
     requires known { is_askable asked reference.now ≡ true }
     requires room { before + 1 < 2 ^ 32 }
     requires kept { IsKept asked.model.now asked.cube kept.old }
-    ensures need { IfOk result (λ need. need ≡ of_reference before reference.now (choose_from asked.entry reference.now)) }
+    ensures need { IfOk result (λ need. need
+        ≡ of_reference before reference.now (choose_from asked.entry reference.now)) }
     ensures valid { IfOk result (λ need. All (IsChosen asked.entry.model.now.space) need.chosen) }
     ensures kept { IsKept asked.entry.model.now asked.entry.cube kept.new }
 {
