@@ -9,7 +9,7 @@ ghost use Rattle.feed_check.specs.Verdict.{IsFirstFault, IsFaultOf, IsFirstBlame
 use crate::fault::FeedCheckFault;
 use crate::size::{MAX_DENSE, leaf_count};
 use crate::statement::blamed_in;
-use feed_cover::Hints;
+use feed_cover::CoverAnswers;
 use rule_model::Model;
 
 /// Checks the statements of a cube that says `SKIPCHECK`.
@@ -21,9 +21,9 @@ fn check_statements(model: &Model, cube: u32) -> Result<(), FeedCheckFault>
 {
     let _space = model.space();
     let statements = model.rules(cube).statements.as_slice();
-    let hints = Hints::new();
+    let mut answers = CoverAnswers::none();
     'each: for n in 0..statements.len() {
-        if let Some(operand) = blamed_in(model, cube, &statements[n], &hints) {
+        if let Some(operand) = blamed_in(model, cube, &statements[n], &mut answers) {
             let statement = n as u32 + 1;
             return Err(FeedCheckFault::NotFed {
                 cube,

@@ -1,9 +1,10 @@
 ghost use Rattle.std.specs.Prelude.{◌≡◌, ◌<◌, length};
 ghost use Rattle.rule_model.specs.Conditions.{IsArea};
 ghost use Rattle.cover_laws.specs.Covered.{is_covered};
+ghost use Rattle.feed_cover.specs.Answers.{AreAnswers};
 ghost use Rattle.feed_check.specs.Inside.References.{is_reference};
 
-use feed_cover::{Hints, is_covered};
+use feed_cover::{CoverAnswers, is_covered};
 use rule_laws::Reference;
 use rule_model::{Area, Model};
 use zero_check::Cover;
@@ -14,17 +15,18 @@ pub struct Covered<'a> {
     pub model: &'a Model,
     pub cube: u32,
     pub area: &'a Area,
-    pub hints: &'a Hints,
 }
 
-impl Cover for Covered<'_> {
+impl<'a> Cover<CoverAnswers<'a>> for Covered<'a> {
     ghost is_ready = { λ s. (s.cube < length s.model.now.space.cubes) × IsArea s.model.now.space s.cube s.area.now };
+
+    ghost is_kept = { λ s answers. AreAnswers s.model.now s.cube answers };
 
     ghost knows = { λ s r. is_reference s.model.now.space s.cube r };
 
     ghost covers = { λ s r. is_covered s.model.now s.cube s.area.now r };
 
-    fn covers(&self, reference: &Reference) -> bool {
-        is_covered(self.model, self.cube, self.area, reference, self.hints)
+    fn covers(&self, reference: &Reference, kept: &mut CoverAnswers<'a>) -> bool {
+        is_covered(self.model, self.cube, self.area, reference, kept)
     }
 }

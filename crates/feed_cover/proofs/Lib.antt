@@ -9,3 +9,5 @@ pub mod OneTests
 pub mod Wider
 pub mod Reaching
 pub mod Asked
+pub mod Alone
+pub mod Answered

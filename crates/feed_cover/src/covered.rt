@@ -6,9 +6,10 @@ ghost use Rattle.rule_model.specs.BoundModel.{rules_of};
 ghost use Rattle.rule_model.specs.Conditions.{IsArea, IsReference};
 ghost use Rattle.cover_laws.specs.Looking.{some_below};
 ghost use Rattle.cover_laws.specs.Covered.{names_no_total, names_no_governed, has_cover, is_covered};
+ghost use Rattle.feed_cover.specs.Answers.{AreAnswers};
 
+use crate::answers::CoverAnswers;
 use crate::feeds::feeds_from;
-use crate::hints::Hints;
 use crate::named::name_leaves;
 use crate::possible::is_possible;
 use crate::reference_view::{Counted, ReferenceView};
@@ -106,19 +107,21 @@ pub fn names_no_governed<'a>(
 }
 
 /// Whether some feeder of the model covers the reference, as far as what it names goes: where it names no governed
-/// consolidated cell. The hints say which feeder is asked first, and don't change the answer.
+/// consolidated cell. What was answered before isn't worked out again.
 #[tactic(auto, unfolding(cover_laws::specs::Covered::has_cover))]
-pub fn has_cover<'a>(
+pub fn has_cover<'a, 'b>(
     model: &'a Model,
     cube: u32,
-    area: &'a Area,
-    reference: &'a Reference,
-    hints: &Hints,
+    area: &'b Area,
+    reference: &'b Reference,
+    answers: &mut CoverAnswers<'a>,
 ) -> bool
     requires cube { cube < length model.now.space.cubes }
     requires area { IsArea model.now.space cube area.now }
     requires reference { IsReference model.now.space cube reference.now }
-    ensures { result ≡ has_cover model.now cube area.now reference.now }
+    requires answers { AreAnswers model.now cube answers.old }
+    ensures covers { result ≡ has_cover model.now cube area.now reference.now }
+    ensures answers { AreAnswers model.now cube answers.new }
 {
     let _space = model.space();
     let view = ReferenceView {
@@ -128,7 +131,7 @@ pub fn has_cover<'a>(
         counted: Counted::Leaves,
     };
     if is_possible(model, view) {
-        feeds_from(model, view, reference.cube, hints)
+        feeds_from(model, view, reference.cube, answers)
     } else {
         has_feeder(model)
     }
@@ -149,21 +152,23 @@ fn has_feeder(model: &Model) -> bool
 
 /// Whether feeders cover a reference of a statement of a cube with this area: it names no consolidated cell that a
 /// statement governs, and one feeder feeds each leaf cell of the area from each leaf cell at or below the one that it
-/// names from there. Where there is no such cell, any feeder of the model does. The hints say which feeder is asked
-/// first, and don't change the answer.
+/// names from there. Where there is no such cell, any feeder of the model does. What was answered before isn't
+/// worked out again.
 #[tactic(auto, unfolding(cover_laws::specs::Covered::is_covered))]
-pub fn is_covered<'a>(
+pub fn is_covered<'a, 'b>(
     model: &'a Model,
     cube: u32,
-    area: &'a Area,
-    reference: &'a Reference,
-    hints: &Hints,
+    area: &'b Area,
+    reference: &'b Reference,
+    answers: &mut CoverAnswers<'a>,
 ) -> bool
     requires cube { cube < length model.now.space.cubes }
     requires area { IsArea model.now.space cube area.now }
     requires reference { IsReference model.now.space cube reference.now }
-    ensures { result ≡ is_covered model.now cube area.now reference.now }
+    requires answers { AreAnswers model.now cube answers.old }
+    ensures covers { result ≡ is_covered model.now cube area.now reference.now }
+    ensures answers { AreAnswers model.now cube answers.new }
 {
     names_no_governed(model, cube, area, reference)
-        && has_cover(model, cube, area, reference, hints)
+        && has_cover(model, cube, area, reference, answers)
 }

@@ -1,36 +1,33 @@
 ghost use Rattle.std.specs.Prelude.{◌<◌};
 
 use rule_laws::{Arg, Reference};
-use std::cell::Cell;
 
 /// How many feeders are remembered.
 const SLOTS: usize = 64;
 
 /// Which feeders covered the references that were asked about last, by their numbers among those of their cubes. They
 /// are asked first, since one feeder mostly covers many references. A number that is wrong costs one question more.
-#[derive(Drop)]
+#[derive(Clone, Copy)]
 pub struct Hints {
-    feeders: Cell<[usize; SLOTS]>,
+    feeders: [usize; SLOTS],
 }
 
 impl Hints {
     /// None is known yet: the first feeder of each cube is tried first.
     pub fn new() -> Hints {
         Hints {
-            feeders: Cell::new([0; SLOTS]),
+            feeders: [0; SLOTS],
         }
     }
 
     /// The feeder that is to be asked first about a reference.
-    pub(crate) fn feeder_for(&self, reference: &Reference) -> usize {
-        self.feeders.get()[slot_of(reference)]
+    pub fn feeder_for(&self, reference: &Reference) -> usize {
+        self.feeders[slot_of(reference)]
     }
 
     /// Remembers the feeder that covers a reference.
-    pub(crate) fn remember(&self, reference: &Reference, feeder: usize) {
-        let mut feeders = self.feeders.get();
-        feeders[slot_of(reference)] = feeder;
-        self.feeders.set(feeders);
+    pub fn remember(&mut self, reference: &Reference, feeder: usize) {
+        self.feeders[slot_of(reference)] = feeder;
     }
 }
 

@@ -5,9 +5,10 @@
 //! the law of `cover_laws`.
 #![tactic(auto)]
 
+pub use answers::CoverAnswers;
 pub use covered::{has_cover, is_covered, names_no_governed};
-pub use hints::Hints;
 
+mod answers;
 mod back;
 mod covered;
 mod each;
@@ -17,9 +18,11 @@ mod named;
 mod narrow;
 mod overs;
 mod possible;
+mod question;
 mod reach;
 mod reference_view;
 mod set;
+mod shift;
 mod source;
 mod sourced;
 mod table;

@@ -1,4 +1,4 @@
-ghost use Rattle.std.specs.Prelude.{◌≡◌, ℕ, ◌<◌, ◌≤◌, length, drop, slice_index_or};
+ghost use Rattle.std.specs.Prelude.{◌≡◌, ℕ, ◌<◌, ◌≤◌, length, drop, slice_index_or, IfSome};
 ghost use Rattle.cube_space.specs.Layout.{axes, sizes};
 ghost use Rattle.rule_laws.specs.declared.reference.Arg.TheVariants.{Fixed};
 ghost use Rattle.rule_model.specs.Conditions.{IsArea};
@@ -6,8 +6,11 @@ ghost use Rattle.order_laws.specs.Scales.{is_leaf_element};
 ghost use Rattle.cover_laws.specs.Looking.{each_named, all_named};
 ghost use Rattle.cover_laws.specs.Covered.{are_sources};
 ghost use Rattle.feed_cover.specs.Views.{look_of, IsView};
+ghost use Rattle.feed_cover.specs.Answers.{AreAnswers, IsSourceQuestion};
 
+use crate::answers::{Answer, CoverAnswers};
 use crate::each::each_narrow;
+use crate::question::{Question, Test, question_of};
 use crate::reference_view::ReferenceView;
 use crate::table::is_shared;
 use crate::test::ElementTest;
@@ -75,6 +78,37 @@ pub fn name_leaves<'a>(model: &'a Model, view: ReferenceView<'a>, place: usize) 
 // of this area. Where it has all elements of the dimension, none needs to be looked at.
 fn names_sources<'a>(
     model: &'a Model,
+    view: ReferenceView,
+    area: &'a Area,
+    place: usize,
+    answers: &mut CoverAnswers<'a>,
+) -> bool
+    requires view { IsView model.now view }
+    requires area { IsArea model.now.space view.reference.now.cube area.now }
+    requires place { place < length view.reference.now.args }
+    requires answers { AreAnswers model.now view.cube answers.old }
+    ensures sources { result ≡ each_named (look_of model.now view.entry)
+        (are_sources (axes model.now.space view.entry.reference.now.cube) area.now.sets place)
+        (slice_index_or view.entry.reference.now.args place (Fixed 0)) }
+    ensures answers { AreAnswers model.now view.entry.cube answers.new }
+{
+    if area.sets.as_slice()[place].is_none() {
+        return true;
+    }
+    let Some(asked) = source_question(model, view, area, place) else {
+        return are_named_sources(model, view, area, place);
+    };
+    if let Some(known) = answers.recalled(asked) {
+        return known.is;
+    }
+    let is = are_named_sources(model, view, area, place);
+    answers.keep(Answer { asked, is });
+    is
+}
+
+// The same, element by element.
+fn are_named_sources<'a>(
+    model: &'a Model,
     view: ReferenceView<'a>,
     area: &'a Area,
     place: usize,
@@ -86,9 +120,6 @@ fn names_sources<'a>(
         (are_sources (axes model.now.space view.entry.reference.now.cube) area.now.sets place)
         (slice_index_or view.entry.reference.now.args place (Fixed 0)) }
 {
-    if area.sets.as_slice()[place].is_none() {
-        return true;
-    }
     let test = AreSources {
         model,
         cube: view.reference.cube,
@@ -98,24 +129,52 @@ fn names_sources<'a>(
     each_named(model, view, place, &test)
 }
 
+// The question that is so asked, where the answer serves for other statements too.
+fn source_question<'a>(
+    model: &Model,
+    view: ReferenceView,
+    area: &'a Area,
+    place: usize,
+) -> Option<Question<'a>>
+    requires view { IsView model.now view }
+    requires area { IsArea model.now.space view.reference.now.cube area.now }
+    requires place { place < length view.reference.now.args }
+    ensures { IfSome result (IsSourceQuestion view.entry area.now place) }
+{
+    let args = view.reference.args.as_slice();
+    let sets = area.sets.as_slice();
+    match (&args[place], &sets[place]) {
+        (Arg::Moved { from, to }, Some(listed)) => {
+            let listed = listed.as_slice();
+            let test = Test::Listed(listed);
+            question_of(model, view, *from as usize, place, to, test)
+        }
+        _ => None,
+    }
+}
+
 /// Whether each leaf that counts in an element which an argument from this place on names is among the sources of a
 /// feeder of this area.
 #[cycle(name_sources)]
 pub fn name_sources<'a>(
     model: &'a Model,
-    view: ReferenceView<'a>,
+    view: ReferenceView,
     area: &'a Area,
     place: usize,
+    answers: &mut CoverAnswers<'a>,
 ) -> bool
     requires view { IsView model.now view }
     requires area { IsArea model.now.space view.reference.now.cube area.now }
     requires place { place ≤ length view.reference.now.args }
-    ensures { result ≡ all_named (look_of model.now view.entry)
+    requires answers { AreAnswers model.now view.cube answers.old }
+    ensures sources { result ≡ all_named (look_of model.now view.entry)
         (are_sources (axes model.now.space view.entry.reference.now.cube) area.now.sets) place
         (drop place view.entry.reference.now.args) }
+    ensures answers { AreAnswers model.now view.entry.cube answers.new }
 {
     if place == view.reference.args.as_slice().len() {
         return true;
     }
-    names_sources(model, view, area, place) && name_sources(model, view, area, place + 1)
+    names_sources(model, view, area, place, answers)
+        && name_sources(model, view, area, place + 1, answers)
 }

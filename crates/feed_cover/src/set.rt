@@ -1,4 +1,4 @@
-ghost use Rattle.std.specs.Prelude.{◌≡◌, ◌<◌, length, slice_index_or, None};
+ghost use Rattle.std.specs.Prelude.{◌≡◌, ◌<◌, length, slice_index_or, None, IsTrue};
 ghost use Rattle.cube_space.specs.Layout.{axes, sizes};
 ghost use Rattle.rule_model.specs.Areas.{in_set};
 ghost use Rattle.rule_model.specs.Conditions.{IsSet};
@@ -18,6 +18,15 @@ fn set<'a>(model: &Model, view: ReferenceView<'a>, dim: usize) -> &'a Option<Lis
 {
     let _space = model.space();
     &view.area.sets.as_slice()[dim]
+}
+
+/// Whether the area has all elements of a dimension.
+pub fn has_all(model: &Model, view: ReferenceView, dim: usize) -> bool
+    requires view { IsView model.now view }
+    requires dim { dim < length (axes model.now.space view.cube) }
+    ensures { IsTrue result → slice_index_or view.entry.area.now.sets dim None ≡ None }
+{
+    set(model, view, dim).is_none()
 }
 
 /// How many elements the area has in a dimension.

@@ -87,12 +87,14 @@ pub fn of_choice(truth: &TruthFinding, left: &Finding, right: &Finding) -> Findi
 
 /// What is found of a formula.
 #[cycle(find)]
-pub fn finding<C: Cover>(cover: &C, formula: &Formula) -> Finding
+pub fn finding<K, C: Cover<K>>(cover: &C, formula: &Formula, kept: &mut K) -> Finding
     requires ready { C.is_ready cover.now }
+    requires kept { C.is_kept cover.now kept.old }
     requires known { each_reference (C.knows cover.now) formula.now ≡ true }
     requires few { operands formula.now < 2 ^ 32 }
     ensures value { result ≡ finding (C.covers cover.now) formula.now }
     ensures counted { result.operands ≡ operands formula.now }
+    ensures kept { C.is_kept cover.now kept.new }
     ensures within { result.blamed ≤ result.operands }
 {
     match formula {
@@ -106,81 +108,86 @@ pub fn finding<C: Cover>(cover: &C, formula: &Formula) -> Finding
             blamed: 0,
         },
         Formula::Children(_) => of_operand(false),
-        Formula::Ref(reference) => of_operand(cover.covers(reference)),
+        Formula::Ref(reference) => of_operand(cover.covers(reference, kept)),
         Formula::Binary(op, left, right) => {
-            let left = finding(cover, left.get());
-            let right = finding(cover, right.get());
+            let left = finding(cover, left.get(), kept);
+            let right = finding(cover, right.get(), kept);
             of_operation(*op, &left, &right)
         }
         Formula::Unary(fun, inner) => {
-            let inner = finding(cover, inner.get());
+            let inner = finding(cover, inner.get(), kept);
             of_function(*fun, &inner)
         }
         Formula::If(truth, left, right) => {
-            let truth = truth_finding(cover, truth.get());
-            choice_finding(cover, &truth, left.get(), right.get())
+            let truth = truth_finding(cover, truth.get(), kept);
+            choice_finding(cover, &truth, left.get(), right.get(), kept)
         }
     }
 }
 
 /// What is found of an `IF`, by what is found of its condition.
 #[cycle(find)]
-fn choice_finding<C: Cover>(
+fn choice_finding<K, C: Cover<K>>(
     cover: &C,
     truth: &TruthFinding,
     left: &Formula,
     right: &Formula,
+    kept: &mut K,
 ) -> Finding
     requires ready { C.is_ready cover.now }
+    requires kept { C.is_kept cover.now kept.old }
     requires left { each_reference (C.knows cover.now) left.now ≡ true }
     requires right { each_reference (C.knows cover.now) right.now ≡ true }
     requires few { truth.now.operands + operands left.now + operands right.now < 2 ^ 32 }
     ensures value { result ≡ of_choice truth.now (finding (C.covers cover.now) left.now)
         (finding (C.covers cover.now) right.now) }
     ensures counted { result.operands ≡ truth.now.operands + operands left.now + operands right.now }
+    ensures kept { C.is_kept cover.now kept.new }
     ensures within { result.blamed ≤ result.operands }
 {
-    let left = finding(cover, left);
-    let right = finding(cover, right);
+    let left = finding(cover, left, kept);
+    let right = finding(cover, right, kept);
     of_choice(truth, &left, &right)
 }
 
 /// What is found of a condition.
 #[cycle(find)]
-pub fn truth_finding<C: Cover>(cover: &C, truth: &Truth) -> TruthFinding
+pub fn truth_finding<K, C: Cover<K>>(cover: &C, truth: &Truth, kept: &mut K) -> TruthFinding
     requires ready { C.is_ready cover.now }
+    requires kept { C.is_kept cover.now kept.old }
     requires known { each_reference_of_truth (C.knows cover.now) truth.now ≡ true }
     requires few { operands_of_truth truth.now < 2 ^ 32 }
     ensures value { result ≡ truth_finding (C.covers cover.now) truth.now }
     ensures counted { result.operands ≡ operands_of_truth truth.now }
+    ensures kept { C.is_kept cover.now kept.new }
 {
     match truth {
         Truth::Compare(rel, left, right) => {
-            let left = finding(cover, left);
-            let right = finding(cover, right);
+            let left = finding(cover, left, kept);
+            let right = finding(cover, right, kept);
             TruthFinding {
                 sure: sure_comparison(*rel, known_value(&left), known_value(&right)),
                 operands: left.operands + right.operands,
             }
         }
         Truth::And(left, right) => {
-            let left = truth_finding(cover, left.get());
-            let right = truth_finding(cover, right.get());
+            let left = truth_finding(cover, left.get(), kept);
+            let right = truth_finding(cover, right.get(), kept);
             TruthFinding {
                 sure: sure_and(left.sure, right.sure),
                 operands: left.operands + right.operands,
             }
         }
         Truth::Or(left, right) => {
-            let left = truth_finding(cover, left.get());
-            let right = truth_finding(cover, right.get());
+            let left = truth_finding(cover, left.get(), kept);
+            let right = truth_finding(cover, right.get(), kept);
             TruthFinding {
                 sure: sure_or(left.sure, right.sure),
                 operands: left.operands + right.operands,
             }
         }
         Truth::Not(inner) => {
-            let inner = truth_finding(cover, inner.get());
+            let inner = truth_finding(cover, inner.get(), kept);
             TruthFinding {
                 sure: sure_not(inner.sure),
                 operands: inner.operands,
@@ -191,13 +198,15 @@ pub fn truth_finding<C: Cover>(cover: &C, truth: &Truth) -> TruthFinding
 
 /// Whether a formula is 0 wherever its covered references, `STET` and `CONTINUE` are; where the test fails, the operand
 /// that it is blamed on, counted from 1 in reading order.
-pub fn zero_verdict<C: Cover>(cover: &C, formula: &Formula) -> Result<(), u32>
+pub fn zero_verdict<K, C: Cover<K>>(cover: &C, formula: &Formula, kept: &mut K) -> Result<(), u32>
     requires ready { C.is_ready cover.now }
+    requires kept { C.is_kept cover.now kept.old }
     requires known { each_reference (C.knows cover.now) formula.now ≡ true }
     requires few { operands formula.now < 2 ^ 32 }
-    ensures { result ≡ zero_verdict (C.covers cover.now) formula.now }
+    ensures verdict { result ≡ zero_verdict (C.covers cover.now) formula.now }
+    ensures kept { C.is_kept cover.now kept.new }
 {
-    let found = finding(cover, formula);
+    let found = finding(cover, formula, kept);
     if found.is_zero {
         Ok(())
     } else {

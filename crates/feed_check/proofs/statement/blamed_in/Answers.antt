@@ -9,8 +9,8 @@ zero_verdict-requires-clause-known c =
 
 pub returns-in-Ok-clause-covered : goal.returns-in-Ok-clause-covered
 returns-in-Ok-clause-covered c none =
-    verdict-covered c.args.model.now c.space-space.ensures.valid c.space-space.ensures.rules c.args.cube c.requires.cube c.args.statement.now c.requires.statement c.in-Some.formula c.in-Some.is (sym c.zero_verdict.ensures ∙ c.in-Ok.is)
+    verdict-covered c.args.model.now c.space-space.ensures.valid c.space-space.ensures.rules c.args.cube c.requires.cube c.args.statement.now c.requires.statement c.in-Some.formula c.in-Some.is (sym c.zero_verdict.ensures.verdict ∙ c.in-Ok.is)
 
 pub returns-in-Err-clause-blamed : goal.returns-in-Err-clause-blamed
 returns-in-Err-clause-blamed c =
-    verdict-blamed c.args.model.now c.space-space.ensures.valid c.space-space.ensures.rules c.args.cube c.requires.cube c.args.statement.now c.requires.statement c.in-Some.formula c.in-Some.is (c.findings_rest_on_references.ensures.zero c.in-Some.formula) c.requires.skips c.in-Err.operand (sym c.zero_verdict.ensures ∙ c.in-Err.is)
+    verdict-blamed c.args.model.now c.space-space.ensures.valid c.space-space.ensures.rules c.args.cube c.requires.cube c.args.statement.now c.requires.statement c.in-Some.formula c.in-Some.is (c.findings_rest_on_references.ensures.zero c.in-Some.formula) c.requires.skips c.in-Err.operand (sym c.zero_verdict.ensures.verdict ∙ c.in-Err.is)

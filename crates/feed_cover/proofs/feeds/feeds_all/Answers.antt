@@ -16,7 +16,7 @@ returns-clause-feeds c =
     let own : c.args.own ≡ r.cube = search rules in
     let its : c.args.feeder.now.target.cube ≡ c.args.view.cube = search rules in
     let on : c.reaches_all.result ≡ true = search rules in
-    let reach = ap (λ l. all_reach l ds 0 c.args.feeder.now.target.args) (sym leaves) ∙ sym c.reaches_all.ensures ∙ on in
+    let reach = ap (λ l. all_reach l ds 0 c.args.feeder.now.target.args) (sym leaves) ∙ sym c.reaches_all.ensures.reach ∙ on in
     (rw c.get.ensures at c.has_sources.ensures.sources) ∙ ap (λ l. all_named l (are_sources ds c.args.feeder.now.area.sets) 0 r.args) leaves
     ∙ all-hold (c.args.own == r.cube) (c.args.feeder.now.target.cube == c.args.view.cube) (all_named look (are_sources ds c.args.feeder.now.area.sets) 0 r.args) (all_reach look ds 0 c.args.feeder.now.target.args)
     (eq-eqb _ _ own) (eq-eqb _ _ its) reach
@@ -29,5 +29,5 @@ returns-then-not-reaches_all-clause-feeds c =
     let leaves = look-leaves c.args.model.now c.args.view c.requires.counted in
     let look = look_below c.args.model.now c.args.view.cube c.args.view.area.now r in
     let off : c.reaches_all.result ≡ false = search rules in
-    let reach = c.reaches_all.ensures ∙ ap (λ l. all_reach l ds 0 c.args.feeder.now.target.args) leaves in
+    let reach = c.reaches_all.ensures.reach ∙ ap (λ l. all_reach l ds 0 c.args.feeder.now.target.args) leaves in
     sym off ∙ reach ∙ none-holds (c.args.own == r.cube) (c.args.feeder.now.target.cube == c.args.view.cube) (all_named look (are_sources ds c.args.feeder.now.area.sets) 0 r.args) (all_reach look ds 0 c.args.feeder.now.target.args) (sym reach ∙ off)

@@ -5,8 +5,8 @@ use Rattle.feed_cover.specs.Asked.{feeds}
 use Rattle.feed_cover.proofs.Asked.{all-none}
 use Rattle.feed_cover.proofs.feeds.feeds_from.Goals as goal
 
-pub returns : goal.returns
-returns c =
+pub returns-clause-feeds : goal.returns-clause-feeds
+returns-clause-feeds c =
     let off : c.feeds_by_leaf.result ≡ false = search rules in
     by c.filed_feeds.result (λ on. c.filed_feeds.ensures.some on)
     (λ no. all-none c.args.model.now c.args.view c.args.own c.requires.view c.requires.counted (c.feeds_by_leaf.ensures.none off) (c.filed_feeds.ensures.none no))

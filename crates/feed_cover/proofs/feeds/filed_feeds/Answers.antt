@@ -8,8 +8,8 @@ some_feeds-requires-clause-group c =
 
 pub returns-clause-some : goal.returns-clause-some
 returns-clause-some c = λ on.
-    group-some c.args.model.now c.args.view c.args.own c.requires.view c.requires.counted c.feeders_filed-group.result.now (sym c.some_feeds.ensures ∙ on)
+    group-some c.args.model.now c.args.view c.args.own c.requires.view c.requires.counted c.feeders_filed-group.result.now (sym c.some_feeds.ensures.some ∙ on)
 
 pub returns-clause-none : goal.returns-clause-none
 returns-clause-none c = λ off.
-    group-none c.args.model.now c.args.view c.args.own c.requires.view c.requires.counted c.feeders_filed-group.result.now c.args.leaf c.feeders_filed-group.ensures (sym c.some_feeds.ensures ∙ off)
+    group-none c.args.model.now c.args.view c.args.own c.requires.view c.requires.counted c.feeders_filed-group.result.now c.args.leaf c.feeders_filed-group.ensures (sym c.some_feeds.ensures.some ∙ off)

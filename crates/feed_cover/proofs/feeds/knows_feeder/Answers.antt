@@ -12,8 +12,8 @@ feeds_all-requires-clause-feeder c =
     feeder-at c.args.model.now c.args.own c.args.place c.as_slice-feeders.result.now c.index-feeders-place.result c.space-space.ensures.rules c.requires.own
     (c.as_slice-feeders.ensures ∙ ap (λ (r : CubeRules). r.feeders) c.rules.ensures) c.if-place-feeders.false c.index-feeders-place.is
 
-pub returns : goal.returns
-returns c = λ on.
+pub returns-clause-known : goal.returns-clause-known
+returns-clause-known c = λ on.
     let test = feeds_all c.args.model.now c.args.view.cube c.args.view.area.now c.args.view.reference.now c.args.own in
     let same = c.as_slice-feeders.ensures ∙ ap (λ (r : CubeRules). r.feeders) c.rules.ensures in
     let passes = ap test (sym c.index-feeders-place.is) ∙ sym c.feeds_all.ensures.feeds ∙ on in

@@ -36,8 +36,8 @@ reaches_from-requires-clause-place c =
     let move = move-at c.args.model.now.space c.args.view.reference.now.cube c.args.target.now c.as_slice.result.now c.args.dim c.in-Moved.from c.in-Moved.to c.index-as_slice-dim.result c.requires.target c.as_slice.ensures c.requires.dim c.index-as_slice-dim.is c.in-Moved.is in
     omega (arith, move.followed, args-long c.args.model.now.space c.args.view.cube c.args.view.reference.now c.requires.view.reference)
 
-pub returns-in-Moved : goal.returns-in-Moved
-returns-in-Moved c =
+pub returns-in-Moved-clause-reaches : goal.returns-in-Moved-clause-reaches
+returns-in-Moved-clause-reaches c =
     let look = look_of c.args.model.now c.args.view in
     let ds = axes c.args.model.now.space c.args.view.reference.now.cube in
     let move = move-at c.args.model.now.space c.args.view.reference.now.cube c.args.target.now c.as_slice.result.now c.args.dim c.in-Moved.from c.in-Moved.to c.index-as_slice-dim.result c.requires.target c.as_slice.ensures c.requires.dim c.index-as_slice-dim.is c.in-Moved.is in
@@ -46,7 +46,7 @@ returns-in-Moved c =
     let one = some-arg c.args.target.now.args c.args.dim c.index-as_slice-dim.result c.requires.dim in
     let two = some-arg c.args.target.now.args c.args.dim (Fixed 0) c.requires.dim in
     let arg = same-some (ap (λ xs. slice_index_or xs c.args.dim c.index-as_slice-dim.result) (sym c.as_slice.ensures) ∙ sym c.index-as_slice-dim.is) one two in
-    c.reaches_from.ensures ∙ sym (ap (λ o. option_map_or (reaches_from look ds c.args.dim c.in-Moved.to c.in-Moved.from) o false) there)
+    c.reaches_from.ensures.reaches ∙ sym (ap (λ o. option_map_or (reaches_from look ds c.args.dim c.in-Moved.to c.in-Moved.from) o false) there)
     ∙ ap (reaches look ds c.args.dim) (sym c.in-Moved.is ∙ arg)
   where
     same-some : {X : Type 0} {o : Option X} {x y z : X} → x ≡ y → o ≡ Some x → o ≡ Some z → y ≡ z
