@@ -1,5 +1,5 @@
 -- What is answered of all elements of a dimension.
-use Rattle.std.proofs.Common.{◌≡◌, ◌⊎◌, inl, inr, IfSome, refl, sym, ap, ◌∙◌, subst, ℕ, zero, suc, Bool, true, not, ◌||◌, Option, Some, None, List}
+use Rattle.std.proofs.Common.{◌≡◌, ◌⊎◌, inl, inr, IfSome, refl, sym, ap, ◌∙◌, subst, ℕ, zero, suc, Bool, true, not, ◌||◌, Option, Some, None, List, [], ◌∷◌}
 use Rattle.std.proofs.Math.ListN.{replicate}
 use Rattle.std.specs.Prelude.{slice_get, slice_index_or}
 use Rattle.std.specs.Option.{option_map_or}
@@ -120,3 +120,9 @@ source-question view area from place by test list (Some asked) argument set list
   set = set ∙ sym lists;
   lists = λ none. (let clash : None ≡ Some list = sym none ∙ lists in cc);
 }
+
+-- where one is kept at a place, the place is there
+pub kept-at : (kept : List (Option Answer)) (k : ℕ) (known : Answer) → slice_index_or kept k None ≡ Some known → slice_get kept k ≡ Some (Some known)
+kept-at [] k known is = absurd (cc)
+kept-at (one ∷ more) zero known is = ap Some is
+kept-at (one ∷ more) (suc k) known is = kept-at more k known is

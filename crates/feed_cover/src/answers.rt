@@ -45,7 +45,9 @@ impl<'a> CoverAnswers<'a> {
             × ((k : ℕ) × (slice_get self.now.kept k ≡ Some (Some known)))) }
     {
         'each: for k in 0..SLOTS {
-            let known = self.kept[k]?;
+            let Some(known) = self.kept[k] else {
+                return None;
+            };
             if ask_alike(known.asked, asked) {
                 return Some(known);
             }

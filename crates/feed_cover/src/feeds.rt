@@ -157,7 +157,12 @@ fn feeds_in_dim<'a>(
 }
 
 // Whether a feeder of a cube does that is filed by a leaf.
-fn feeds_by_leaf<'a>(model: &'a Model, view: ReferenceView, own: u32, answers: &mut CoverAnswers<'a>) -> bool
+fn feeds_by_leaf<'a>(
+    model: &'a Model,
+    view: ReferenceView,
+    own: u32,
+    answers: &mut CoverAnswers<'a>,
+) -> bool
     requires view { IsView model.now view }
     requires counted { view.counted ≡ Leaves }
     requires answers { AreAnswers model.now view.cube answers.old }
@@ -178,7 +183,12 @@ fn feeds_by_leaf<'a>(model: &'a Model, view: ReferenceView, own: u32, answers: &
 
 /// Whether some feeder of a cube does. The one that covered the last reference like this is asked first, then those
 /// that are filed by the leaves that the area has alone, and last those that are filed by none.
-pub fn feeds_from<'a>(model: &'a Model, view: ReferenceView, own: u32, answers: &mut CoverAnswers<'a>) -> bool
+pub fn feeds_from<'a>(
+    model: &'a Model,
+    view: ReferenceView,
+    own: u32,
+    answers: &mut CoverAnswers<'a>,
+) -> bool
     requires view { IsView model.now view }
     requires counted { view.counted ≡ Leaves }
     requires answers { AreAnswers model.now view.cube answers.old }
