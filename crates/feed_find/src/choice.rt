@@ -37,11 +37,7 @@ pub fn choose<'a>(
     ensures kept { IsKept asked.entry.model.now asked.entry.cube kept.new }
 {
     let _space = asked.model.space();
-    let Asked {
-        model,
-        cube,
-        area,
-    } = asked;
+    let Asked { model, cube, area } = asked;
     if !names_no_governed(model, cube, area, reference) {
         return Ok(Choice::Missing);
     }

@@ -64,11 +64,7 @@ fn chosen_of<'a>(
         return Ok(ListOf::new(Vec::new(alloc)));
     };
     let area = &statement.area;
-    let asked = Asked {
-        model,
-        cube,
-        area,
-    };
+    let asked = Asked { model, cube, area };
     let found = needed(alloc, asked, formula, counted_before(statement), kept)?;
     Ok(found.chosen)
 }
