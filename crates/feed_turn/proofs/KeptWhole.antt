@@ -1,10 +1,10 @@
 -- An identity of a dimension names each of its leaves from all of them.
-use Rattle.std.proofs.Common.{◌≡◌, ap, ◌∙◌, sym, refl, subst, ℕ, ◌<◌, Bool, true, false, not, ◌||◌, ◌==◌, Option, Some, None, List, [], length, filter, if◌then◌else◌}
+use Rattle.std.proofs.Common.{◌≡◌, ap, ◌∙◌, sym, refl, ℕ, ◌<◌, Bool, true, false, not, ◌||◌, Option, Some, None, List, [], length, filter, if◌then◌else◌}
 use Rattle.std.specs.Prelude.{slice_get, slice_index_or, option_and_then}
 use Rattle.std.specs.Option.{option_map_or}
 use Rattle.std.proofs.lemmas.Bool.Decides.{Decides-eqb}
 use Rattle.dim_core.specs.Outline.{Outline}
-use Rattle.cube_space.specs.Layout.{Layout, axes, sizes, dims_of}
+use Rattle.cube_space.specs.Layout.{axes, sizes, dims_of}
 use Rattle.cube_space.specs.Cells.{IsSpace, is_leaf}
 use Rattle.lists.proofs.Members.{kept_member}
 use Rattle.rule_laws.specs.declared.reference.Arg.TheVariants.{Moved}

@@ -7,12 +7,12 @@ use Rattle.std.proofs.lemmas.Bool.{and_parts, and_from, or_right, ltb-true}
 use Rattle.std.proofs.lemmas.Bool.Decides.{Decides-eqb}
 use Rattle.std.proofs.lemmas.List.FromFn.{get_or-map-range_with_len, length-map-range_with_len}
 use Rattle.std.proofs.lemmas.Option.{get_or_from_slice_get, slice_get_within}
-use Rattle.lists.proofs.Found.{mapped, and_then_found}
-use Rattle.lists.proofs.Members.{contains_from_among, kept_member}
-use Rattle.dim_core.specs.Outline.{Outline, IsDimension, IsElement}
+use Rattle.lists.proofs.Found.{mapped}
+use Rattle.lists.proofs.Members.{kept_member}
+use Rattle.dim_core.specs.Outline.{Outline, IsElement}
 use Rattle.dim_weights.specs.Coefficients.{coef}
 use Rattle.dim_weights.specs.Table.{is_nonzero, leaves_of}
-use Rattle.cube_space.specs.Layout.{Layout, axes, sizes, dims_of}
+use Rattle.cube_space.specs.Layout.{axes, sizes}
 use Rattle.cube_space.specs.Cells.{IsSpace, is_leaf}
 use Rattle.rule_laws.specs.declared.reference.Reference.{Reference}
 use Rattle.rule_laws.specs.declared.reference.Arg.{Arg}
@@ -25,15 +25,15 @@ use Rattle.rule_model.specs.Conditions.{IsArea, IsReference}
 use Rattle.model_laws.proofs.Levels.{axis-is}
 use Rattle.order_laws.specs.Scales.{is_leaf_element}
 use Rattle.cover_laws.specs.Looking.{Look, sent, is_narrow, is_possible, each_narrow, each_named, all_named}
-use Rattle.cover_laws.specs.Covered.{leaves_at, counts_in, look_below, are_sources, stands_over, each_sent, reaches_from, reaches, all_reach, feeds_all, covers}
+use Rattle.cover_laws.specs.Covered.{counts_in, look_below, are_sources, stands_over, each_sent, reaches_from, reaches, all_reach, feeds_all, covers}
 use Rattle.cover_laws.proofs.Looks.{IsNarrow, each_narrow-intro, all_named-intro}
 use Rattle.cover_laws.proofs.Counted.{own-counts, only-own, in-among, contained}
 use Rattle.cover_laws.proofs.Reached.{all-intro}
-use Rattle.feed_turn.specs.Leaves.{set_elements, set_leaves, counts, over}
-use Rattle.feed_turn.specs.Named.{is_named, named_set}
+use Rattle.feed_turn.specs.Leaves.{set_leaves, counts, over}
+use Rattle.feed_turn.specs.Named.{named_set}
 use Rattle.feed_turn.specs.Inverse.{inverse}
 use Rattle.feed_turn.specs.Shift.{short_form}
-use Rattle.feed_turn.specs.Turning.{Turn, area_leaves, area_over, source_set, source_sets, source_area, is_shared, keeps_each, is_kept, inverse_at, map_back, way_back, first_way, target_arg, all_found, target_args, feeder_to, turned_feeder}
+use Rattle.feed_turn.specs.Turning.{Turn, area_leaves, area_over, source_set, source_sets, source_area, is_shared, keeps_each, is_kept, inverse_at, map_back, way_back, first_way, target_arg, target_args, feeder_to, turned_feeder}
 use Rattle.feed_turn.proofs.Ranges.{range-at, within}
 use Rattle.feed_turn.proofs.Shared.{same-axis}
 use Rattle.feed_turn.proofs.Places.{size-at, axis-there, IsMove, move-at}

@@ -1,4 +1,4 @@
-use Rattle.std.proofs.Common.{◌≡◌, refl, ◌<◌, ◌∙◌, sym, ap, arith, true, false, not, Option, Some, None, length}
+use Rattle.std.proofs.Common.{◌≡◌, refl, ◌<◌, ◌∙◌, sym, ap, arith, false, not, Option, Some, None, length}
 use Rattle.std.specs.Prelude.{is_some}
 use Rattle.feed_turn.proofs.Places.{sets-long, set-found}
 use Rattle.feed_turn.proofs.area.has_all.Goals as goal
