@@ -1,5 +1,5 @@
 -- Where one argument alone follows a dimension of which the area has all elements.
-use Rattle.std.proofs.Common.{◌≡◌, refl, sym, ap, ◌∙◌, arith, subst, ℕ, zero, suc, ◌+◌, ◌==◌, Bool, true, false, not, ◌&&◌, ◌||◌, Option, Some, None, List, [], ◌∷◌}
+use Rattle.std.proofs.Common.{◌≡◌, refl, ap, ◌∙◌, arith, ℕ, zero, suc, ◌+◌, ◌==◌, Bool, true, false, not, ◌&&◌, ◌||◌, Option, Some, None, List, [], ◌∷◌}
 use Rattle.std.specs.Prelude.{slice_get, slice_index_or}
 use Rattle.std.specs.Option.{option_map_or}
 use Rattle.std.proofs.lemmas.Bool.{and_parts, eq-eqb}
@@ -7,7 +7,6 @@ use Rattle.std.proofs.Math.Bool.{and-true}
 use Rattle.cube_space.specs.Layout.{axes, sizes}
 use Rattle.rule_laws.specs.declared.reference.Arg.{Arg}
 use Rattle.rule_laws.specs.declared.reference.Arg.TheVariants.{Fixed, Moved}
-use Rattle.rule_model.specs.BoundModel.{BoundModel}
 use Rattle.order_laws.specs.Scales.{set_count, set_element, is_leaf_element}
 use Rattle.cover_laws.specs.Looking.{Look, each_below, sent, name_each, names_one, is_narrow, each_narrow}
 use Rattle.cover_laws.specs.Covered.{has_leaves}

@@ -1,25 +1,24 @@
 -- What is answered of all elements of a dimension.
-use Rattle.std.proofs.Common.{◌≡◌, ◌⊎◌, inl, inr, IfSome, refl, sym, ap, ◌∙◌, subst, ℕ, zero, suc, Bool, true, not, ◌||◌, Option, Some, None, List, [], ◌∷◌}
+use Rattle.std.proofs.Common.{◌≡◌, ◌⊎◌, inl, inr, IfSome, refl, sym, ap, ◌∙◌, subst, ℕ, zero, suc, true, Option, Some, None, List, [], ◌∷◌}
 use Rattle.std.proofs.Math.ListN.{replicate}
 use Rattle.std.specs.Prelude.{slice_get, slice_index_or}
 use Rattle.std.specs.Option.{option_map_or}
-use Rattle.cube_space.specs.Layout.{Layout, axes, sizes}
+use Rattle.cube_space.specs.Layout.{Layout, axes}
 use Rattle.rule_laws.specs.declared.reference.Arg.TheVariants.{Fixed, Moved}
 use Rattle.rule_model.specs.declared.area.Area.{Area}
 use Rattle.rule_model.specs.BoundModel.{BoundModel}
-use Rattle.cover_laws.specs.Looking.{each_below, sent, each_narrow, each_named}
+use Rattle.cover_laws.specs.Looking.{sent, each_narrow, each_named}
 use Rattle.cover_laws.specs.Covered.{has_leaves, counts_in, each_sent, are_sources}
 use Rattle.feed_cover.specs.declared.answers.Answer.{Answer}
 use Rattle.feed_cover.specs.declared.answers.CoverAnswers.{CoverAnswers}
 use Rattle.feed_cover.specs.declared.back.Back.{Back}
 use Rattle.feed_cover.specs.declared.question.Question.{Question}
 use Rattle.feed_cover.specs.declared.question.Test.{Test}
-use Rattle.feed_cover.specs.declared.question.Test.TheVariants.{SentBack, Listed}
+use Rattle.feed_cover.specs.declared.question.Test.TheVariants.{SentBack}
 use Rattle.feed_cover.specs.declared.reference_view.Counted.{Counted}
-use Rattle.feed_cover.specs.declared.reference_view.Counted.TheVariants.{Leaves}
 use Rattle.feed_cover.specs.declared.reference_view.ReferenceView.{ReferenceView}
 use Rattle.feed_cover.specs.declared.shift.Shift.{Shift}
-use Rattle.feed_cover.specs.Answers.{map_of, back_of, listed_of, is_narrow_by, passes_by, answer_by, answer_of, AreAnswers, IsQuestion, IsBackQuestion, IsSourceQuestion}
+use Rattle.feed_cover.specs.Answers.{map_of, back_of, listed_of, passes_by, answer_by, answer_of, AreAnswers, IsQuestion, IsBackQuestion, IsSourceQuestion}
 use Rattle.feed_cover.specs.Views.{counts_of, look_of}
 use Rattle.feed_cover.specs.Tests.{is_sent_back}
 use Rattle.feed_cover.proofs.Alone.{narrow-alone}

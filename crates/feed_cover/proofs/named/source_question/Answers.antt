@@ -1,4 +1,4 @@
-use Rattle.std.proofs.Common.{◌≡◌, ◌∙◌, ◌<◌, sym, ap, arith, length, Some}
+use Rattle.std.proofs.Common.{◌∙◌, ◌<◌, sym, ap, arith, length, Some}
 use Rattle.rule_laws.specs.declared.reference.Arg.TheVariants.{Fixed}
 use Rattle.ref_order.proofs.Args.{args-long}
 use Rattle.ref_order.proofs.Sums.{sets-long, set-found}
