@@ -7,13 +7,13 @@ use Rattle.rule_laws.specs.declared.operation.Op.{Op}
 use Rattle.rule_laws.specs.declared.formula.Formula.{Formula}
 use Rattle.rule_laws.specs.declared.formula.Formula.TheVariants.{Binary, If}
 use Rattle.rule_laws.specs.declared.formula.Truth.{Truth}
-use Rattle.rule_laws.specs.declared.formula.Truth.TheVariants.{Or}
+use Rattle.rule_laws.specs.declared.formula.Truth.TheVariants.{And, Or}
 use Rattle.rule_laws.specs.Meaning.{Precedent, precedents, truth_precedents, precedents_step, truth_precedents_step, each_reference, each_reference_of_truth, each_reference_step, each_reference_truth_step}
 use Rattle.rule_laws.specs.ZeroTest.{operands, operands_of_truth, operands_step, truth_operands_step}
-use Rattle.rule_laws.proofs.FormulaFolds.{of-binary, of-if, of-or}
+use Rattle.rule_laws.proofs.FormulaFolds.{of-binary, of-if, of-and, of-or}
 use Rattle.feed_find.specs.declared.need.Need.{Need}
 use Rattle.feed_find.specs.declared.need.TruthNeed.{TruthNeed}
-use Rattle.feed_find.specs.Choosing.{of_binary, of_if, of_either}
+use Rattle.feed_find.specs.Choosing.{of_binary, of_if, of_both, of_either}
 use Rattle.feed_find.specs.Views.{IsCounted, IsCountedTruth, IsBlamedWithin}
 
 -- ---- an operation
@@ -70,6 +70,22 @@ counted-or f l r before a b found is left right so = record {
   written = omega (arith, ap (λ (n : TruthNeed). n.by_written.operands) so, left.written, right.written, or-operands f l r is);
   all = omega (arith, ap (λ (n : TruthNeed). n.by_all.operands) so, left.all, right.all, or-operands f l r is);
   behind = omega (arith, ap (λ (n : TruthNeed). n.behind) so, left.behind, right.behind, or-long f l r is);
+}
+
+and-operands : (f l r : Truth) → f ≡ And l r → operands_of_truth f ≡ operands_of_truth l + operands_of_truth r
+and-operands f l r is = ap operands_of_truth is ∙ of-and ℕ ℕ operands_step truth_operands_step l r
+
+and-long : (f l r : Truth) → f ≡ And l r → length (truth_precedents f) ≡ length (truth_precedents l) + length (truth_precedents r)
+and-long f l r is =
+    ap (λ (ps : List Precedent). length ps) (ap truth_precedents is ∙ of-and (List Precedent) (List Precedent) precedents_step truth_precedents_step l r)
+    ∙ length-append (truth_precedents l) (truth_precedents r)
+
+pub counted-and : (f l r : Truth) (before : ℕ) (a b found : TruthNeed) → f ≡ And l r → IsCountedTruth l before a → IsCountedTruth r a.behind b
+    → found ≡ of_both a b → IsCountedTruth f before found
+counted-and f l r before a b found is left right so = record {
+  written = omega (arith, ap (λ (n : TruthNeed). n.by_written.operands) so, left.written, right.written, and-operands f l r is);
+  all = omega (arith, ap (λ (n : TruthNeed). n.by_all.operands) so, left.all, right.all, and-operands f l r is);
+  behind = omega (arith, ap (λ (n : TruthNeed). n.behind) so, left.behind, right.behind, and-long f l r is);
 }
 
 -- what holds of a value in two ways holds in both

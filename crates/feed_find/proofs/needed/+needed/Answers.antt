@@ -2,7 +2,7 @@ use Rattle.std.proofs.Common.{rules, ◌≡◌, ◌<◌, ◌+◌, arith, length,
 use Rattle.std.proofs.lemmas.Result.{IfOk-weaker}
 use Rattle.rule_laws.specs.declared.formula.Formula.TheVariants.{Binary, If}
 use Rattle.rule_laws.specs.declared.formula.Formula.TheViews.{the_lemmas}
-use Rattle.rule_laws.specs.declared.formula.Truth.TheVariants.{Or}
+use Rattle.rule_laws.specs.declared.formula.Truth.TheVariants.{And, Or}
 use Rattle.rule_laws.specs.Meaning.{precedents}
 use Rattle.rule_laws.specs.ZeroTest.{operands}
 use Rattle.feed_find.specs.declared.need.Need.{Need}
@@ -10,7 +10,7 @@ use Rattle.feed_find.specs.declared.need.TruthNeed.{TruthNeed}
 use Rattle.feed_find.specs.Choosing.{of_binary, of_if, of_both, of_either}
 use Rattle.feed_find.specs.Views.{IsChosen, IsCounted, IsCountedTruth, IsBlamedWithin, is_askable}
 use Rattle.feed_find.proofs.Choices.{binary-all, if-all, both-all, or-all}
-use Rattle.feed_find.proofs.Counting.{counted-binary, counted-if, counted-or, both-ok, if-operands, if-long, each-right}
+use Rattle.feed_find.proofs.Counting.{counted-binary, counted-if, counted-and, counted-or, both-ok, if-operands, if-long, each-right}
 use Rattle.feed_find.proofs.needed.+needed.Goals as goal
 
 pub needed-needed-requires-in-If-2 : goal.needed-needed-requires-in-If-2
@@ -78,6 +78,17 @@ truth_needed-returns-in_ok-right-in-And-clause-valid t c =
     let right = c.in_ok-right-in-And.right in
     IfOk-weaker c.of_both.result (λ (n : TruthNeed). n ≡ of_both left right) (λ (n : TruthNeed). All P n.chosen)
     (λ n is. subst (λ (n : TruthNeed). All P n.chosen) (sym is) (both-all P left right c.in_ok-left-in-And.ensures.valid c.in_ok-right-in-And.ensures.valid)) c.of_both.ensures
+
+pub truth_needed-returns-in_ok-right-in-And-clause-counted : goal.truth_needed-returns-in_ok-right-in-And-clause-counted
+truth_needed-returns-in_ok-right-in-And-clause-counted t c =
+    let f = c.args.truth.now in
+    let left = c.in_ok-left-in-And.left in
+    let right = c.in_ok-right-in-And.right in
+    let l = c.get.result.now in
+    let r = c.get-in-And.result.now in
+    let fe : f ≡ And l r = cc in
+    IfOk-weaker c.of_both.result (λ (n : TruthNeed). n ≡ of_both left right) (IsCountedTruth f c.args.before)
+    (λ n is. counted-and f l r c.args.before left right n fe c.in_ok-left-in-And.ensures.counted c.in_ok-right-in-And.ensures.counted is) c.of_both.ensures
 
 pub truth_needed-returns-in_ok-right-in-Or-clause-counted : goal.truth_needed-returns-in_ok-right-in-Or-clause-counted
 truth_needed-returns-in_ok-right-in-Or-clause-counted t c =
