@@ -103,7 +103,8 @@ def moved_back(n, feeders):
     """500 statements for n months, each of which reads another measure one to six months before."""
     k = 500
     m = model(dimension("T", leaves("t", n)), dimension("K", leaves("a", k) + leaves("b", k)))
-    m += "CUBE 'C' ('T', 'K'); RULES 'r.rux'; ORDER 'T'; END;\n"
+    order = ", ".join(f"'a{i}' 1" for i in range(1, k + 1))
+    m += f"CUBE 'C' ('T', 'K'); RULES 'r.rux'; ORDER 'K' ({order}); END;\n"
     r = "SKIPCHECK;\n"
     r += "".join(f"['a{i}'] = N: DB('C', DIMNM('T', DIMIX('T', !T) - {i % 6 + 1}), 'b{i}');\n" for i in range(1, k + 1))
     return dict(m_txt=m, r_rux=r + feeders(k), u_txt="PUT 'C' ('t1', 'b1') = 2;\nGET 'C' ('t3', 'a1');\n")
