@@ -16,7 +16,7 @@ pub use arithmetic::{abs, add, compare, floor, max, min, mul, round, sign, sub};
 pub use division::{div, div_safe, remainder};
 pub use fixed_printing::print_fixed;
 pub use laws::{law_of_opposites, laws_of_zero};
-pub use money::Money;
+pub use money::{Money, UNIT};
 pub use places::{round_to, trunc};
 pub use printing::print;
 pub use reading::{NumberFault, read};
