@@ -8,4 +8,5 @@ mod Tables
 mod Moves
 mod AlikeFacts
 mod MapsMade
+mod NumbersMade
 pub mod ArgumentFacts

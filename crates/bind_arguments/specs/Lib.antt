@@ -1,5 +1,6 @@
 pub mod Written
 pub mod Bound
 pub mod Argument
+pub mod Numbers
 pub mod Maps
 pub mod Inside

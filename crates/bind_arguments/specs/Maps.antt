@@ -1,13 +1,24 @@
--- The maps that were made of arguments.
-use Rattle.std.specs.Prelude.{◌≡◌, List, All}
+-- The maps that were made of arguments, and the tables that were made of functions.
+use Rattle.std.specs.Prelude.{◌≡◌, List, All, ◌×◌}
 use Rattle.cube_space.specs.Layout.{Layout}
 use Rattle.bind_arguments.specs.Argument.{table_over}
-use Rattle.bind_arguments.specs.declared.bound_maps.BoundMap.{BoundMap}
+use Rattle.bind_arguments.specs.declared.own_maps.BoundMap.{BoundMap}
+use Rattle.bind_arguments.specs.declared.bound_tables.BoundTable.{BoundTable}
+use Rattle.bind_arguments.specs.Numbers.{AreTablesIn}
 
 -- it leads from each element where its argument does in this space
 abbrev pub IsMapIn : Layout → BoundMap → Type 0
 IsMapIn space made = made.targets ≡ table_over space made.dim made.argument made.len
 
 -- each of them does
-unfoldable pub AreMapsIn : Layout → List BoundMap → Type 0
-AreMapsIn space maps = All (IsMapIn space) maps
+unfoldable pub AreOwnMapsIn : Layout → List BoundMap → Type 0
+AreOwnMapsIn space maps = All (IsMapIn space) maps
+
+-- what was made so far
+pub record Made : Type 0 where
+  pub maps : List BoundMap
+  pub tables : List BoundTable
+
+-- all of it is right in this space
+unfoldable pub AreMapsIn : Layout → Made → Type 0
+AreMapsIn space made = AreOwnMapsIn space made.maps × AreTablesIn space made.tables

@@ -1,63 +1,54 @@
-ghost use Rattle.std.specs.Prelude.{◌≡◌, ◌<◌, ◌++◌, ◌∷◌, ℕ, [], length};
-ghost use Rattle.std.specs.Prelude.{IfOk, IfSome, OnOk, OnErr, IsTrue};
-ghost use Rattle.cube_space.specs.Layout.{Layout};
+ghost use Rattle.std.specs.Prelude.{◌≡◌, ◌<◌, ℕ, length, IfOk, IsTrue};
+ghost use Rattle.cube_space.specs.Layout.{Layout, axes};
 ghost use Rattle.bind_arguments.specs.Argument.{table_over};
-ghost use Rattle.bind_arguments.specs.Maps.{IsMapIn, AreMapsIn};
-ghost use Rattle.bind_arguments.specs.Inside.Within.{is_within};
+ghost use Rattle.bind_arguments.specs.Inside.Within.{is_within as is_argument_within};
+ghost use Rattle.bind_arguments.specs.Maps.{AreMapsIn};
+ghost use Rattle.bind_arguments.specs.Numbers.{is_within_at, numbers_at};
 
-use crate::alike::{is_alike, key_of};
 use crate::bound_argument::BoundArgument;
-use crate::giving::elements_given;
-use cube_space::Space;
-use rule_laws::ElementMap;
+use crate::bound_tables::BoundTables;
+use crate::element_function::ElementFunction;
+use crate::own_maps::OwnMaps;
+use cube_space::{Space, axis_number};
+use rule_laws::{ElementMap, ElementTable};
 use std::alloc::{AllocError, Global};
 use std::marker::Model;
-use word_table::WordTable;
 
-/// Where an argument leads from each of so many elements of the dimension that it follows.
-#[derive(Drop)]
-pub(crate) struct BoundMap {
-    pub(crate) len: u32,
-    /// The dimension of the elements that it leads to, by its number in the model.
-    pub(crate) dim: u32,
-    pub(crate) argument: BoundArgument,
-    pub(crate) targets: ElementMap,
-}
-
-/// The maps of the arguments that were bound so far, in all cubes of a model. Arguments that mean the same share one.
+/// The maps of the arguments and the tables of the functions that were bound so far, in all cubes of a model. What
+/// means the same shares one.
 #[derive(Drop)]
 pub struct BoundMaps {
-    made: Vec<BoundMap>,
-    /// The key of each map.
-    keys: WordTable,
+    maps: OwnMaps,
+    tables: BoundTables,
 }
 
 impl Model for BoundMaps {
-    ghost use Rattle.std.specs.Coded.{codes};
-    ghost use Rattle.std.specs.Prelude.{List};
+    ghost use Rattle.bind_arguments.specs.Maps.{Made};
     ghost use Rattle.bind_arguments.specs.contracts.bound_argument.BoundArgument as argument;
-    ghost use Rattle.bind_arguments.specs.declared.bound_maps.BoundMap.{BoundMap};
+    ghost use Rattle.std.specs.Coded.{codes};
 
-    ghost Value = { List BoundMap };
+    ghost Value = { Made };
 
     ghost coded = { Prim.hlevel (codes, argument.the_row.coded) };
 
-    ghost view = { λ maps. maps.made.items };
+    ghost view = { λ bound. record { maps = bound.maps; tables = bound.tables } };
 }
 
 impl BoundMaps {
     /// None yet.
+    #[tactic(auto, unfolding(crate::specs::Maps::AreMapsIn))]
     pub fn new(alloc: Global) -> BoundMaps
         ensures { (space : Layout) → AreMapsIn space result }
     {
         BoundMaps {
-            made: Vec::new(alloc),
-            keys: WordTable::new(alloc),
+            maps: OwnMaps::new(alloc),
+            tables: BoundTables::new(alloc),
         }
     }
 
     /// The map of an argument from so many elements of the dimension that it follows into a dimension: the one that
     /// was made before, or a new one.
+    #[tactic(auto, unfolding(crate::specs::Maps::AreMapsIn))]
     pub(crate) fn map_of(
         &mut self,
         alloc: Global,
@@ -67,68 +58,32 @@ impl BoundMaps {
         len: u32,
     ) -> Result<ElementMap, AllocError>
         requires dim { dim < length space.now.dimensions }
-        requires within { (cube : ℕ) × IsTrue (is_within space.now cube argument) }
+        requires within { (cube : ℕ) × IsTrue (is_argument_within space.now cube argument) }
         requires maps { AreMapsIn space.now self.old }
         ensures map { IfOk result (λ map. map ≡ table_over space.now dim argument len) }
         ensures maps { AreMapsIn space.now self.new }
     {
-        let key = key_of(alloc, len, dim, &argument)?;
-        match self.find(&key, len, dim, &argument) {
-            Some(targets) => targets.share(),
-            None => {
-                let targets = elements_given(alloc, space, dim, &argument, len)?;
-                let shared = targets.share()?;
-                self.add(
-                    alloc,
-                    &key,
-                    BoundMap {
-                        len,
-                        dim,
-                        argument,
-                        targets,
-                    },
-                )?;
-                Ok(shared)
-            }
-        }
+        self.maps.map_of(alloc, space, dim, argument, len)
     }
 
-    // The map with this key, where it is that of an argument that means the same.
-    fn find(&self, key: &[u8], len: u32, dim: u32, argument: &BoundArgument) -> Option<&ElementMap>
-        ensures { (space : Layout) → AreMapsIn space self.now
-            → IfSome result (λ map. map.now ≡ table_over space dim argument.now len) }
+    /// The table of a function over the dimension at a place of a cube: the one that was made before, or a new one.
+    #[tactic(auto, unfolding(crate::specs::Maps::AreMapsIn))]
+    pub fn table_of(
+        &mut self,
+        alloc: Global,
+        space: &Space,
+        cube: u32,
+        place: u32,
+        function: ElementFunction,
+    ) -> Result<ElementTable, AllocError>
+        requires cube { cube < length space.now.cubes }
+        requires place { place < length (axes space.now cube) }
+        requires within { is_within_at space.now cube place function }
+        requires maps { AreMapsIn space.now self.old }
+        ensures table { IfOk result (λ table. table ≡ numbers_at space.now cube place function) }
+        ensures maps { AreMapsIn space.now self.new }
     {
-        match self.keys.place_of(key) {
-            Some(place) => match self.made.get(place) {
-                Some(made) => made.targets_for(len, dim, argument),
-                None => None,
-            },
-            None => None,
-        }
-    }
-
-    // Adds a map as the last.
-    fn add(&mut self, alloc: Global, key: &[u8], made: BoundMap) -> Result<(), AllocError>
-        ensures added { OnOk result (self.new ≡ self.old ++ made ∷ []) }
-        ensures err { OnErr result (self.new ≡ self.old) }
-    {
-        self.made.reserve(1)?;
-        self.keys.push(alloc, key)?;
-        self.made.push_reserved(made);
-        Ok(())
-    }
-}
-
-impl BoundMap {
-    // The targets, where they are those of an argument that means the same.
-    fn targets_for(&self, len: u32, dim: u32, argument: &BoundArgument) -> Option<&ElementMap>
-        ensures { (space : Layout) → IsMapIn space self.now
-            → IfSome result (λ map. map.now ≡ table_over space dim argument.now len) }
-    {
-        if self.len == len && self.dim == dim && is_alike(&self.argument, argument) {
-            Some(&self.targets)
-        } else {
-            None
-        }
+        let dim = axis_number(space, cube, place);
+        self.tables.table_of(alloc, space, dim, function)
     }
 }

@@ -51,7 +51,7 @@ pub(crate) fn place_among(space: &Space, dims: &[u32], name: &Name) -> Option<u3
 }
 
 /// The name that a text is, if some element of the dimension has an attribute of this name.
-pub(crate) fn attribute_named(
+pub fn attribute_named(
     alloc: Global,
     dimension: &Dimension,
     text: &[u8],

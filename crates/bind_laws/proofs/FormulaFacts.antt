@@ -29,10 +29,14 @@ use Rattle.rule_bind.specs.Functions.{function_of, operator_of}
 use Rattle.rule_bind.specs.References.{db_of, children_of}
 use Rattle.rule_bind.specs.Formulas.{Meanings, Meant, alone, children, unary, binary, choice, choice_call, unary_call, binary_call, children_call, call_value, operator_value, operator_truth, meanings_step, meanings, meant}
 use Rattle.rule_bind.proofs.FormulaFacts.{by_layer}
+use Rattle.rule_bind.specs.declared.function.OwnFunction.{OwnFunction}
+use Rattle.rule_bind.specs.declared.function.OwnFunction.TheVariants as own
+use Rattle.rule_bind.specs.declared.function.Function.TheVariants as functions
+use Rattle.bind_laws.proofs.OwnFacts.{call_table}
 use Rattle.bind_laws.proofs.Got.{got, answer}
 use Rattle.bind_laws.proofs.AreaFacts.{bracket_valid}
 use Rattle.bind_laws.proofs.ReferenceFacts.{db_valid, children_low}
-use Rattle.rule_laws.proofs.PrecedentFacts.{number_reads, stet_reads, continue_reads, children_reads, reference_reads, binary_reads, unary_reads, if_reads, compare_reads, and_reads, or_reads, not_reads}
+use Rattle.rule_laws.proofs.PrecedentFacts.{number_reads, stet_reads, continue_reads, children_reads, reference_reads, table_reads, binary_reads, unary_reads, if_reads, compare_reads, and_reads, or_reads, not_reads}
 
 pub either_way : {X : Type 0} (P : X → Type 0) (b : Bool) (x y : X) → P x → P y → P (if b then x else y)
 either_way P true x y first second = first
@@ -106,6 +110,11 @@ module _ (space : Layout) (cube : ℕ) where
   alone_good Part x none f is = given Part x f is (none_read Part (precedents x) none)
   alone_good ConsolidatedPart x none f is = given ConsolidatedPart x f is (none_read ConsolidatedPart (precedents x) none)
   alone_good Within x none f is = absurd (cc is)
+
+  own_call_good : (at : Standing) (function : OwnFunction) (ms : List Meant) → IsGood at (call_value space cube at (functions.Own function) ms)
+  own_call_good at function ms f is =
+      let (place, table, same) = call_table space cube function (map (λ m. m.0) ms) f is in
+      subst (λ g. AreRead at (precedents g)) (sym same) (none_read at (precedents (formulas.Table place table)) (table_reads place table))
 
   children_good : (at : Standing) (tree : Tree) → IsGood at (children space cube at tree)
   children_good Part tree f is = absurd (cc is)
@@ -197,7 +206,12 @@ module _ (space : Layout) (cube : ℕ) where
         (either_way (λ function. IsGood at (call_value space cube at function ms)) (bytes_eq word (codes "MIN")) _ _ (binary_call_good at ops.Min ms all)
         (either_way (λ function. IsGood at (call_value space cube at function ms)) (bytes_eq word (codes "MOD")) _ _ (binary_call_good at ops.Mod ms all)
         (either_way (λ function. IsGood at (call_value space cube at function ms)) (bytes_eq word (codes "ROUNDP")) _ _ (binary_call_good at ops.RoundTo ms all)
-        (λ f is. absurd (cc is)))))))))))))
+        (either_way (λ function. IsGood at (call_value space cube at function ms)) (bytes_eq word (codes "DIMIX")) _ _ (own_call_good at own.Place ms)
+        (either_way (λ function. IsGood at (call_value space cube at function ms)) (bytes_eq word (codes "ELLEV")) _ _ (own_call_good at own.Level ms)
+        (either_way (λ function. IsGood at (call_value space cube at function ms)) (bytes_eq word (codes "ELISPAR")) _ _ (own_call_good at own.HasParent ms)
+        (either_way (λ function. IsGood at (call_value space cube at function ms)) (bytes_eq word (codes "ELISCOMP")) _ _ (own_call_good at own.IsComponent ms)
+        (either_way (λ function. IsGood at (call_value space cube at function ms)) (bytes_eq word (codes "ATTRN")) _ _ (own_call_good at own.Attribute ms)
+        (λ f is. absurd (cc is))))))))))))))))))
 
     abbrev Held : Type 0
     Held = (tree : Tree) × IsSound (meanings space cube tree)

@@ -98,6 +98,7 @@ module _ (g : Given) where
   layers Formula-F.Continue = record { counted = refl; few = omega arith }
   layers (Formula-F.Children dim) = record { counted = refl; few = children dim (g.has_components dim) }
   layers (Formula-F.Ref r) = record { counted = refl; few = omega arith }
+  layers (Formula-F.Table dim table) = record { counted = refl; few = omega arith }
   layers (Formula-F.Binary op a b) = both a.x.items b.x.items a.x.references b.x.references a.y b.y a.holds b.holds
   layers (Formula-F.Unary function a) = a.holds
   layers (Formula-F.If t a b) =

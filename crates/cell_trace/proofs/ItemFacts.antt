@@ -109,6 +109,7 @@ module _ (g : Given) (space : Layout) (cell : ℕ) (target : (r : Reference) (x 
 
   layers : Layers (visit_step g) test_step nothing nothing_of nothing nothing_of Of OfTest
   layers (Formula-F.Number k) = none
+  layers (Formula-F.Table dim table) = none
   layers Formula-F.Stet = one (Some Own) tt
   layers Formula-F.Continue = one (Some Rest) tt
   layers (Formula-F.Children dim) = children dim (g.has_components dim) refl

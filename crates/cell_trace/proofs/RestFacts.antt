@@ -31,6 +31,7 @@ module _ (p : Place) (rest other : Value) where
     other_own = λ dim none. (no_components p dim none).0;
     target = λ r. refl;
     components = λ dim. refl;
+    elements = λ dim. refl;
   }
 
   pub without_rest : (f : Formula) → reaches_rest (visit (given_at p rest) f).items ≡ false → visit (given_at p other) f ≡ visit (given_at p rest) f

@@ -50,6 +50,7 @@ module _ (given : Given) where
       by true = refl
       by false = refl
   layers (Formula-F.Ref r) = (refl, refl)
+  layers (Formula-F.Table dim table) = (refl, refl)
   layers (Formula-F.Binary op a b) =
       (simp length-append (omega (arith, a.holds, b.holds)), simp numbered-append (omega (arith, a.holds, b.holds)))
   layers (Formula-F.Unary function a) = a.holds
@@ -130,6 +131,7 @@ module _ (p : Place) (rest : Value) where
       by true = one (Some (Children dim)) tt
       by false = All-cons (IsItem p) None (Some Own ∷ []) tt (one (Some Own) tt)
   item_layers (Formula-F.Ref r) = one (Some (Read (target_at p r))) (some_cell r (target_at p r) refl)
+  item_layers (Formula-F.Table dim table) = All-nil (IsItem p)
   item_layers (Formula-F.Binary op a b) = all_append a.x.items b.x.items a.holds b.holds
   item_layers (Formula-F.Unary function a) = a.holds
   item_layers (Formula-F.If t a b) = all_append t.x.items _ t.holds (by t.x.holds)

@@ -29,6 +29,7 @@ module _ (g : Given) where
   means Formula-F.Continue = refl
   means (Formula-F.Children dim) = refl
   means (Formula-F.Ref r) = refl
+  means (Formula-F.Table dim table) = refl
   means (Formula-F.Binary op a b) = rw (a.holds, b.holds) refl
   means (Formula-F.Unary function a) = ap (function_of function) a.holds
   means (Formula-F.If t a b) = rw (t.holds, a.holds, b.holds) refl
@@ -117,6 +118,7 @@ module _ (g h : Given) (cell : AreOfOneCell g h) where
   layers Formula-F.Continue = record { references = refl; whole = λ agree. rw (agree.rest (Contains-push [] (Some Rest))) refl }
   layers (Formula-F.Children dim) = children dim
   layers (Formula-F.Ref r) = record { references = refl; whole = λ agree. rw (cell.target r, agree.reads r (Contains-push [] (Some (Read (g.target r))))) refl }
+  layers (Formula-F.Table dim table) = record { references = refl; whole = λ agree. rw (cell.elements dim) refl }
   layers (Formula-F.Binary op a b) = record {
     references = rw (a.holds.references, b.holds.references) refl;
     whole = λ agree. rw (a.holds.whole (left a.x.items b.x.items agree), b.holds.whole (right a.x.items b.x.items agree)) refl;

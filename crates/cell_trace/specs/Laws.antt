@@ -40,12 +40,14 @@ TheSumsAddUp = (values : ℕ → Value) (cells : List (ℕ × ℤ))
 abbrev pub GivesOwn : Given → Type 0
 GivesOwn g = (dim : ℕ) → g.has_components dim ≡ false → g.others.children dim ≡ g.others.stet
 
--- two are of one cell: references name the same cells, and the cell's element has components in the same dimensions
+-- two are of one cell: references name the same cells, the cell's elements are the same, and they have components in the
+-- same dimensions
 pub record AreOfOneCell (g h : Given) : Type 0 where
   pub own : GivesOwn g
   pub other_own : GivesOwn h
   pub target : (r : Reference) → h.target r ≡ g.target r
   pub components : (dim : ℕ) → h.has_components dim ≡ g.has_components dim
+  pub elements : (dim : ℕ) → h.others.own dim ≡ g.others.own dim
 
 -- two give the same in what is evaluated
 pub record Agree (g h : Given) (items : List (Option Item)) : Type 0 where

@@ -10,12 +10,13 @@ use Rattle.rule_laws.specs.declared.formula.Formula.TheOpen.{Formula-F, Truth-F}
 use Rattle.rule_laws.specs.declared.formula.Truth.{Truth}
 use Rattle.rule_laws.specs.declared.reference.Reference.{Reference}
 use Rattle.rule_laws.specs.Meaning.{Others}
+use Rattle.rule_laws.specs.Tables.{number_of}
 use Rattle.rule_laws.specs.Operation.{operation_of, function_of, comparison_of}
 use Rattle.cell_trace.specs.declared.item.Item.{Item}
 use Rattle.cell_trace.specs.declared.item.Item.TheVariants.{Read, Children, Own, Rest}
 
 -- what a formula takes at a cell: the cell that each reference names and what it gives, whether the cell's element has
--- components in a dimension, and what STET, CONTINUE and ConsolidateChildren give
+-- components in a dimension, what STET, CONTINUE and ConsolidateChildren give, and the cell's element in each dimension
 pub record Given : Type 0 where
   pub target : Reference → Option ℕ
   pub named : Reference → Value
@@ -51,6 +52,8 @@ visit_step given (Formula-F.Children dim) =
     }
 visit_step given (Formula-F.Ref r) =
     record { value = given.named r; references = 1; items = Some (Read (given.target r)) ∷ [] }
+visit_step given (Formula-F.Table dim table) =
+    record { value = Num (number_of table (given.others.own dim)); references = 0; items = [] }
 visit_step given (Formula-F.Binary op a b) =
     record {
       value = operation_of op a.value b.value;

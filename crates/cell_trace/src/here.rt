@@ -1,7 +1,7 @@
 ghost use Rattle.std.specs.Prelude.{◌≡◌, true, false, None, is_some, IfOk, IfSome, MatchOption};
 ghost use Rattle.cell_reader.specs.Snapshots.{version_of};
 ghost use Rattle.cell_trace.specs.Inside.Chain.{IsNext};
-ghost use Rattle.cell_trace.specs.Inside.Place.{has_components_at, stet_at, target_at};
+ghost use Rattle.cell_trace.specs.Inside.Place.{has_components_at, own_at, stet_at, target_at};
 ghost use Rattle.cell_trace.specs.Inside.Sums.{IsOwnSum, IsSumIn};
 ghost use Rattle.cell_values.specs.Reading.{value_on};
 ghost use Rattle.cube_space.specs.Cells.{IsCell, is_leaf_cell, cube_of, elements_of};
@@ -85,6 +85,16 @@ impl<'a> Here<'a> {
         ensures cell { IfSome result (IsCell self.now.version.model.space) }
     {
         target_from(self.version.model().space(), self.elements, reference)
+    }
+
+    /// The cell's element in the dimension at this place; 0 where the cube has no such place.
+    pub(crate) fn own(&self, dim: u32) -> u32
+        ensures { result ≡ own_at self.now dim }
+    {
+        match self.elements.get(dim as usize) {
+            Some(element) => *element,
+            None => 0,
+        }
     }
 
     /// Whether the cell's element in the dimension at this place has components.

@@ -15,6 +15,7 @@ pub(crate) fn references(formula: &Formula) -> u32
         Formula::Continue => 0,
         Formula::Children(_) => 1,
         Formula::Ref(_) => 1,
+        Formula::Table(_, _) => 0,
         Formula::Binary(_, left, right) => references(left.get()) + references(right.get()),
         Formula::Unary(_, inner) => references(inner.get()),
         Formula::If(truth, left, right) => {

@@ -1,5 +1,7 @@
 ghost use Rattle.std.specs.Prelude.{◌≡◌, ◌++◌, ◌<◌, ◌^◌, [], ◌∷◌, None, Some, length, IfOk, OnOk, if◌then◌else◌};
-ghost use Rattle.cell_trace.specs.Inside.Place.{given_at, has_components_at, named_at, target_at};
+ghost use Rattle.cell_trace.specs.Inside.Place.{given_at, has_components_at, named_at, own_at, target_at};
+ghost use Rattle.cube_fixed.specs.declared.value.Value.TheVariants.{Num};
+ghost use Rattle.rule_laws.specs.Tables.{number_of};
 ghost use Rattle.cell_trace.specs.Inside.Sums.{IsReady};
 ghost use Rattle.cell_trace.specs.Visits.{Given, passed, test, visit};
 ghost use Rattle.cell_trace.specs.declared.item.Item.TheVariants.{Children, Own, Read};
@@ -11,7 +13,7 @@ use crate::known::{Known, children, stet};
 use crate::references::{references, truth_references};
 use cell_reader::Snapshot;
 use cube_fixed::Value;
-use rule_laws::{Formula, Reference, Truth};
+use rule_laws::{ElementTable, Formula, Reference, Truth};
 use std::alloc::AllocError;
 
 // Passes over so many references.
@@ -45,6 +47,13 @@ fn named(
         Some(cell) => here.value(cell, reader),
         None => Ok(Value::ZERO),
     }
+}
+
+// What a table has for the cell.
+fn table_number(here: &Here, dim: u32, table: &ElementTable) -> Value
+    ensures { result ≡ Num (number_of table.now (own_at here.now dim)) }
+{
+    Value::Num(table.get(here.own(dim) as usize))
 }
 
 // Reaches `ConsolidateChildren` in a dimension.
@@ -110,6 +119,7 @@ pub(crate) fn visit(
             children(here, *dim, known, reader)
         }
         Formula::Ref(reference) => named(here, reference, known, reader, items),
+        Formula::Table(dim, table) => Ok(table_number(here, *dim, table)),
         Formula::Binary(op, left, right) => {
             let left = visit(here, rest, left.get(), known, reader, items)?;
             let right = visit(here, rest, right.get(), known, reader, items)?;

@@ -80,7 +80,7 @@ fn walk<'a>(
     ensures known { IsKnown cells.entry.model.now cells.entry.cube cells.entry.area.now known.new }
 {
     match formula {
-        Formula::Number(_) | Formula::Stet | Formula::Continue => seen,
+        Formula::Number(_) | Formula::Stet | Formula::Continue | Formula::Table(_, _) => seen,
         Formula::Children(dim) => read(cells, known, kind, Read::Children(*dim), seen),
         Formula::Ref(reference) => read(cells, known, kind, Read::Cell(reference), seen),
         Formula::Binary(_, left, right) => {

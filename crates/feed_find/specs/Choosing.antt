@@ -175,6 +175,7 @@ need_step choose Formula-F.Stet n = plain n (of_operand true)
 need_step choose Formula-F.Continue n = plain n of_continue
 need_step choose (Formula-F.Children dim) n = plain (n + 1) (of_operand false)
 need_step choose (Formula-F.Ref r) n = of_reference n r (choose r)
+need_step choose (Formula-F.Table dim table) n = plain n (of_operand false)
 need_step choose (Formula-F.Binary op a b) n = of_binary op (a n) (b (a n).behind)
 need_step choose (Formula-F.Unary function a) n = of_unary function (a n)
 need_step choose (Formula-F.If truth a b) n =

@@ -10,7 +10,7 @@ pub fn references(formula: &Formula) -> u32
     ensures { result ≡ length (precedents formula.now) }
 {
     match formula {
-        Formula::Number(_) | Formula::Stet | Formula::Continue => 0,
+        Formula::Number(_) | Formula::Stet | Formula::Continue | Formula::Table(_, _) => 0,
         Formula::Children(_) | Formula::Ref(_) => 1,
         Formula::Binary(_, left, right) => references(left.get()) + references(right.get()),
         Formula::Unary(_, inner) => references(inner.get()),

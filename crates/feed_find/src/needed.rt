@@ -74,6 +74,7 @@ pub fn needed<'a>(
         Formula::Stet => Ok(plain(alloc, before, of_operand(true))),
         Formula::Continue => Ok(plain(alloc, before, of_continue())),
         Formula::Children(_) => Ok(plain(alloc, before + 1, of_operand(false))),
+        Formula::Table(_, _) => Ok(plain(alloc, before, of_operand(false))),
         Formula::Ref(reference) => reference_need(alloc, asked, reference, before, kept),
         Formula::Binary(op, left, right) => {
             let left = needed(alloc, asked, left.get(), before, kept)?;

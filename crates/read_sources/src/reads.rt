@@ -33,7 +33,7 @@ fn add_reads<'a>(formula: &'a Formula, found: &mut Vec<Read<'a>>) -> Result<(), 
         ≡ map precedent_of found.old.items ++ precedents formula.now) }
 {
     match formula {
-        Formula::Number(_) | Formula::Stet | Formula::Continue => Ok(()),
+        Formula::Number(_) | Formula::Stet | Formula::Continue | Formula::Table(_, _) => Ok(()),
         Formula::Children(dim) => add(found, Read::Children(*dim)),
         Formula::Ref(reference) => add(found, Read::Cell(reference)),
         Formula::Binary(_, left, right) => {

@@ -22,6 +22,7 @@ use Rattle.rule_bind.specs.declared.standing.Standing.{Standing}
 use Rattle.rule_bind.specs.declared.standing.Standing.TheVariants.{Part, ConsolidatedPart, Within}
 use Rattle.rule_bind.specs.Functions.{function_of, operator_of}
 use Rattle.rule_bind.specs.References.{db_of, children_of}
+use Rattle.rule_bind.specs.OwnNumbers.{own_call}
 
 -- what a formula means as a value, by where it stands, and as a truth
 pub record Meanings : Type 0 where
@@ -85,6 +86,8 @@ call_value space cube at functions.Db arguments =
 call_value space cube at functions.Children arguments = children_call space cube at arguments
 call_value space cube at (functions.One function) arguments = unary_call function arguments
 call_value space cube at (functions.Two op) arguments = binary_call op arguments
+call_value space cube at (functions.Own function) arguments =
+    own_call space cube function (map (λ m. m.0) arguments)
 call_value space cube at functions.Other arguments = Err Unsupported
 
 abbrev pub operator_value : Operator → Meant → Meant → Meaning Formula

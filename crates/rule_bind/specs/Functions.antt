@@ -9,6 +9,17 @@ use Rattle.rule_bind.specs.declared.operator.Operator.{Operator}
 use Rattle.rule_bind.specs.declared.operator.Operator.TheVariants as operators
 use Rattle.rule_bind.specs.declared.function.Function.{Function}
 use Rattle.rule_bind.specs.declared.function.Function.TheVariants as functions
+use Rattle.rule_bind.specs.declared.function.OwnFunction.TheVariants as own
+
+-- a function of the cell's own element by its word
+abbrev pub own_function : List ℕ → Function
+own_function word =
+    if bytes_eq word (codes "DIMIX") then functions.Own own.Place
+    else if bytes_eq word (codes "ELLEV") then functions.Own own.Level
+    else if bytes_eq word (codes "ELISPAR") then functions.Own own.HasParent
+    else if bytes_eq word (codes "ELISCOMP") then functions.Own own.IsComponent
+    else if bytes_eq word (codes "ATTRN") then functions.Own own.Attribute
+    else functions.Other
 
 -- a function of values by its word
 abbrev pub value_function : List ℕ → Function
@@ -22,7 +33,7 @@ value_function word =
     else if bytes_eq word (codes "MIN") then functions.Two ops.Min
     else if bytes_eq word (codes "MOD") then functions.Two ops.Mod
     else if bytes_eq word (codes "ROUNDP") then functions.Two ops.RoundTo
-    else functions.Other
+    else own_function word
 
 -- a function by its word in capitals
 abbrev pub function_of : List ℕ → Function

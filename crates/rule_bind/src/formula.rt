@@ -8,6 +8,7 @@ ghost use Rattle.rule_bind.specs.Formulas.{value_of, truth_of};
 
 use crate::function::{Function, function_of};
 use crate::operator::{Operator, operator_of};
+use crate::own_numbers::own_call;
 use crate::reference::{children_of, db_of};
 use crate::standing::Standing;
 use bind_areas::{BindCause, bind_bracket};
@@ -217,6 +218,7 @@ fn call_of(
             [dim] => children(alloc, space, cube, at, dim),
             _ => Err(BindCause::WrongCount),
         },
+        Function::Own(function) => own_call(alloc, space, maps, cube, function, arguments),
         Function::Other => Err(BindCause::Unsupported),
     }
 }

@@ -1,7 +1,22 @@
 ghost use Rattle.std.specs.Prelude.{◌≡◌};
-ghost use Rattle.rule_bind.specs.Functions.{value_function, function_of};
+ghost use Rattle.rule_bind.specs.Functions.{own_function, value_function, function_of};
 
 use rule_laws::{Fun, Op};
+
+/// A function of the cell's own element in one dimension.
+#[derive(Clone, Copy, PartialEq, Eq)]
+pub(crate) enum OwnFunction {
+    /// `DIMIX`
+    Place,
+    /// `ELLEV`
+    Level,
+    /// `ELISPAR`
+    HasParent,
+    /// `ELISCOMP`
+    IsComponent,
+    /// `ATTRN`
+    Attribute,
+}
 
 /// A function that is a value.
 #[derive(Clone, Copy, PartialEq, Eq)]
@@ -16,8 +31,29 @@ pub(crate) enum Function {
     One(Fun),
     /// A function of two values.
     Two(Op),
+    /// A function of the cell's own element.
+    Own(OwnFunction),
     /// None that is known.
     Other,
+}
+
+// A function of the cell's own element by its word.
+fn own_function(word: &[u8]) -> Function
+    ensures { result ≡ own_function word.now }
+{
+    if word == b"DIMIX".as_slice() {
+        Function::Own(OwnFunction::Place)
+    } else if word == b"ELLEV".as_slice() {
+        Function::Own(OwnFunction::Level)
+    } else if word == b"ELISPAR".as_slice() {
+        Function::Own(OwnFunction::HasParent)
+    } else if word == b"ELISCOMP".as_slice() {
+        Function::Own(OwnFunction::IsComponent)
+    } else if word == b"ATTRN".as_slice() {
+        Function::Own(OwnFunction::Attribute)
+    } else {
+        Function::Other
+    }
 }
 
 // A function of values by its word.
@@ -43,7 +79,7 @@ fn value_function(word: &[u8]) -> Function
     } else if word == b"ROUNDP".as_slice() {
         Function::Two(Op::RoundTo)
     } else {
-        Function::Other
+        own_function(word)
     }
 }
 

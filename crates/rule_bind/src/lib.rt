@@ -18,6 +18,7 @@ mod feeder;
 mod formula;
 mod function;
 mod operator;
+mod own_numbers;
 mod reference;
 mod standing;
 mod statement;

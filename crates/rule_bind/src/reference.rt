@@ -50,8 +50,8 @@ fn arg_of(
     }
 }
 
-// The bytes of a formula that is a quoted text alone.
-fn text_in(tree: &Tree) -> Option<&[u8]>
+/// The bytes of a formula that is a quoted text alone.
+pub(crate) fn text_in(tree: &Tree) -> Option<&[u8]>
     ensures { option_copied result ≡ text_in tree.now }
 {
     match tree {
@@ -71,8 +71,8 @@ fn name_in(alloc: Global, text: &[u8]) -> Result<Option<Name>, BindCause>
     }
 }
 
-// The name that a formula is which must be a quoted text.
-fn fixed_name(alloc: Global, tree: &Tree) -> Result<Option<Name>, BindCause>
+/// The name that a formula is which must be a quoted text.
+pub(crate) fn fixed_name(alloc: Global, tree: &Tree) -> Result<Option<Name>, BindCause>
     ensures { Answers (fixed_name tree.now) result }
 {
     match text_in(tree) {

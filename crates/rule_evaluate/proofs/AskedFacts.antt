@@ -65,6 +65,7 @@ module _ (w : RuleSystem) (t : Readings) (c : ℕ) (may : Ask → Bool) (own : m
     layers Formula-F.Continue read = refl
     layers (Formula-F.Children dim) read = children-passes dim (read (Components dim) (Contains-push [] (Components dim)))
     layers (Formula-F.Ref r) read = named-passes r (read (Named r) (Contains-push [] (Named r)))
+    layers (Formula-F.Table dim table) read = refl
     layers (Formula-F.Binary op a b) read =
         all (a.x.passes may) (b.x.passes may) (a.holds (each_left (MayRead w may c) a.y b.y read)) (b.holds (each_right (MayRead w may c) a.y b.y read))
     layers (Formula-F.Unary function a) read = a.holds read

@@ -12,6 +12,8 @@ use Rattle.rule_laws.specs.declared.formula.Formula.TheOpen.{Formula-F, Truth-F}
 use Rattle.rule_laws.specs.declared.formula.Formula.TheVariants.{If, rolls-If}
 use Rattle.rule_laws.specs.declared.formula.Formula.TheViews.{roll-Formula}
 use Rattle.rule_laws.specs.declared.formula.Truth.{Truth}
+use Rattle.cube_fixed.specs.declared.value.Value.TheVariants.{Num}
+use Rattle.rule_laws.specs.Tables.{number_of}
 use Rattle.rule_laws.specs.Operation.{function_of}
 use Rattle.rule_laws.specs.Meaning.{value_step, truth_step}
 use Rattle.rule_laws.specs.RuleSystem.{RuleSystem, named}
@@ -52,6 +54,10 @@ module _ (w : RuleSystem) (t : Readings) (c : ℕ) where
   unfolding sources_of
   stet_facts = (refl, refl)
 
+  table_facts : (dim : ℕ) (table : List ℤ) → ((unasked (Num (number_of table (s.own dim)))).continues ≡ false) × ((unasked (Num (number_of table (s.own dim)))).value ≡ Num (number_of table (w.own c dim)))
+  unfolding sources_of
+  table_facts dim table = (refl, refl)
+
   children_plain : (dim : ℕ) → (s.children dim).goes_on ≡ (s.children dim).continues
   unfolding sources_of
   children_plain dim = by (w.components c dim)
@@ -86,6 +92,7 @@ module _ (w : RuleSystem) (t : Readings) (c : ℕ) where
     layers Formula-F.Continue = (refl, refl)
     layers (Formula-F.Children dim) = children_facts dim
     layers (Formula-F.Ref r) = named_facts r
+    layers (Formula-F.Table dim table) = table_facts dim table
     layers (Formula-F.Binary op a b) = (rw (a.holds.0, b.holds.0) refl, rw (a.holds.1, b.holds.1) refl)
     layers (Formula-F.Unary function a) = (a.holds.0, ap (function_of function) a.holds.1)
     layers (Formula-F.If x a b) = (rw (x.holds.0, a.holds.0, b.holds.0) refl, rw (x.holds.1, a.holds.1, b.holds.1) refl)
@@ -119,6 +126,7 @@ module _ (w : RuleSystem) (t : Readings) (c : ℕ) where
     plain_layer Formula-F.Continue differs = rw (fold-roll-Formula Course Trial (course_step s rest) trial_step Formula-F.Continue) refl
     plain_layer (Formula-F.Children dim) differs = rw (fold-roll-Formula Course Trial (course_step s rest) trial_step (Formula-F.Children dim)) (children_plain dim)
     plain_layer (Formula-F.Ref r) differs = rw (fold-roll-Formula Course Trial (course_step s rest) trial_step (Formula-F.Ref r)) (named_plain r)
+    plain_layer (Formula-F.Table dim table) differs = rw (fold-roll-Formula Course Trial (course_step s rest) trial_step (Formula-F.Table dim table)) refl
     plain_layer (Formula-F.Binary op f g) differs = rw (fold-roll-Formula Course Trial (course_step s rest) trial_step (Formula-F.Binary op f.0 g.0)) refl
     plain_layer (Formula-F.Unary function f) differs = rw (fold-roll-Formula Course Trial (course_step s rest) trial_step (Formula-F.Unary function f.0)) refl
     plain_layer (Formula-F.If x f g) differs = absurd (differs x.0 f.0 g.0 (rolls-If x.0 f.0 g.0))
@@ -157,6 +165,7 @@ module _ (w : RuleSystem) (t : Readings) (c : ℕ) where
     same_layers Formula-F.Continue e = cc
     same_layers (Formula-F.Children dim) e = refl
     same_layers (Formula-F.Ref r) e = refl
+    same_layers (Formula-F.Table dim table) e = refl
     same_layers (Formula-F.Binary op a b) e =
         let (ea, eb) = either a.x.continues b.x.continues e in
         rw (a.holds ea, b.holds eb) refl

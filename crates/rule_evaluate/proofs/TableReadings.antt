@@ -18,7 +18,7 @@ module _ (w : RuleSystem) (stored : Stored) (table : ℕ → Value) (c : ℕ) wh
 
   formula-same : (x y : Value) → x ≡ y → (f : Formula) → formula_by w (readings_of w stored table) c x f ≡ value_at w stored table c y f
   formula-same x y same f =
-      formula_value-agree (named w table c) (named w table c) (others_by w (readings_of w stored table) c x) (others w stored table c y) refl same f (λ p has. alike p)
+      formula_value-agree (named w table c) (named w table c) (others_by w (readings_of w stored table) c x) (others w stored table c y) refl same refl f (λ p has. alike p)
     where
       alike : (p : Precedent) → Alike (named w table c) (named w table c) (others_by w (readings_of w stored table) c x) (others w stored table c y) p
       alike (Named r) = refl

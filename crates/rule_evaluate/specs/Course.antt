@@ -12,6 +12,7 @@ use Rattle.rule_laws.specs.declared.formula.Formula.TheFolds.{fold-Formula, fold
 use Rattle.rule_laws.specs.declared.formula.Formula.TheOpen.{Formula-F, Truth-F}
 use Rattle.rule_laws.specs.declared.formula.Truth.{Truth}
 use Rattle.rule_laws.specs.Meaning.{Precedent, Named, Components}
+use Rattle.rule_laws.specs.Tables.{number_of}
 use Rattle.rule_laws.specs.Operation.{operation_of, function_of, comparison_of}
 use Rattle.rule_laws.specs.RuleSystem.{RuleSystem, Rule, part_at}
 use Rattle.rule_evaluate.specs.declared.ask.Ask.{Ask}
@@ -47,11 +48,13 @@ asked_once v question = record { value = v; passes = λ may. may question; conti
 abbrev pub continued : Value → Course
 continued rest = record { value = rest; passes = λ may. true; continues = true; goes_on = true }
 
--- what a formula takes at a cell: by each reference, by STET, and by ConsolidateChildren in each dimension
+-- what a formula takes at a cell: by each reference, by STET, and by ConsolidateChildren in each dimension; and the
+-- cell's element in each dimension
 pub record Sources : Type 0 where
   pub named : Reference → Course
   pub stet : Course
   pub children : ℕ → Course
+  pub own : ℕ → ℕ
 
 -- the course of a formula by those of its parts, where the statements after it give `rest`
 abbrev pub course_step : Sources → Value → Formula-F Course Trial → Course
@@ -60,6 +63,7 @@ course_step s rest Formula-F.Stet = s.stet
 course_step s rest Formula-F.Continue = continued rest
 course_step s rest (Formula-F.Children dim) = s.children dim
 course_step s rest (Formula-F.Ref r) = s.named r
+course_step s rest (Formula-F.Table dim table) = unasked (Num (number_of table (s.own dim)))
 course_step s rest (Formula-F.Binary op a b) =
     record {
       value = operation_of op a.value b.value;
@@ -118,6 +122,7 @@ sources_of w t c =
       children = λ dim.
           option_map_or (λ components. asked_once (t.children c dim) (of_children c dim)) (w.components c dim)
           (asked_once (t.base c) (of_base c));
+      own = w.own c;
     }
 
 -- the course of a formula of a statement, before these statements

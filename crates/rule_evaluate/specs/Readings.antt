@@ -19,7 +19,7 @@ children_by w t c dim = option_map_or (λ components. t.children c dim) (w.compo
 
 -- what a formula takes at a cell beside its references, where the statements after it give `rest`
 abbrev pub others_by : RuleSystem → Readings → ℕ → Value → Others
-others_by w t c rest = record { stet = t.base c; rest = rest; children = children_by w t c }
+others_by w t c rest = record { stet = t.base c; rest = rest; children = children_by w t c; own = w.own c }
 
 -- what a formula gives a cell, where the statements after it give `rest`
 abbrev pub formula_by : RuleSystem → Readings → ℕ → Value → Formula → Value

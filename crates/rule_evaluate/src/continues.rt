@@ -15,6 +15,7 @@ pub(crate) fn continues(formula: &Formula) -> bool
         Formula::Continue => true,
         Formula::Children(_) => false,
         Formula::Ref(_) => false,
+        Formula::Table(_, _) => false,
         Formula::Binary(_, left, right) => continues(left.get()) || continues(right.get()),
         Formula::Unary(_, inner) => continues(inner.get()),
         Formula::If(truth, left, right) => {

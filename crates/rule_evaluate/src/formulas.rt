@@ -1,11 +1,14 @@
 ghost use Rattle.std.specs.Prelude.{◌≡◌, true, false, IfOk, IfErr};
 ghost use Rattle.rule_model.specs.Input.{has_continue};
+ghost use Rattle.cube_fixed.specs.declared.value.Value.TheVariants.{Num};
+ghost use Rattle.rule_laws.specs.Tables.{number_of};
+ghost use Rattle.rule_evaluate.specs.Readings.{Readings};
 ghost use Rattle.rule_evaluate.specs.Inside.Scene.{sources_at, course_at, trial_at};
 
 use crate::here::Here;
 use crate::refs::Refs;
 use cube_fixed::Value;
-use rule_laws::{Formula, Reference, Truth};
+use rule_laws::{ElementTable, Formula, Reference, Truth};
 
 /// What `STET` gives.
 #[tactic(auto, unfolding(crate::specs::Course::sources_of))]
@@ -66,6 +69,14 @@ fn children<M, R: Refs<M>>(
     }
 }
 
+// What a table has for the cell.
+#[tactic(auto, unfolding(crate::specs::Course::sources_of, rule_model::specs::System::system_of))]
+fn table_number(here: &Here, dim: u32, table: &ElementTable) -> Value
+    ensures { (t : Readings) → result ≡ Num (number_of table.now ((sources_at here.now t).own dim)) }
+{
+    Value::Num(table.get(here.own(dim) as usize))
+}
+
 /// What a formula gives, where the statements after it give `rest`. Both operands of an operation are evaluated, also
 /// where the first is stopped: so one evaluation asks all that it needs whatever the answers are.
 #[cycle(value)]
@@ -90,6 +101,7 @@ pub(crate) fn value_of<M, R: Refs<M>>(
         Formula::Continue => Ok(*rest),
         Formula::Children(dim) => children(here, *dim, refs, memory),
         Formula::Ref(reference) => named(here, reference, refs, memory),
+        Formula::Table(dim, table) => Ok(table_number(here, *dim, table)),
         Formula::Binary(op, left, right) => {
             let left = value_of(here, rest, left.get(), refs, memory);
             let right = value_of(here, rest, right.get(), refs, memory);

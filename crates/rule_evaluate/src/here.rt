@@ -1,6 +1,6 @@
 ghost use Rattle.std.specs.Prelude.{◌≡◌, None, true, is_some, MatchOption};
 ghost use Rattle.cube_space.specs.Cells.{IsCell, is_place, cube_of, elements_of};
-ghost use Rattle.rule_model.specs.Targets.{target, component_cells};
+ghost use Rattle.rule_model.specs.Targets.{target, component_cells, element_at};
 ghost use Rattle.rule_model.specs.Governing.{governing_from};
 ghost use Rattle.rule_evaluate.specs.Inside.Scene.{IsGoverning};
 
@@ -61,6 +61,16 @@ impl<'a> Here<'a> {
         ensures { result ≡ target self.now.model.space reference.now self.now.cell }
     {
         target_from(self.model.space(), self.elements, reference)
+    }
+
+    /// The cell's element in the dimension at this place; 0 where the cube has no such place.
+    pub(crate) fn own(&self, dim: u32) -> u32
+        ensures { result ≡ element_at self.now.model.space self.now.cell dim }
+    {
+        match self.elements.get(dim as usize) {
+            Some(element) => *element,
+            None => 0,
+        }
     }
 
     /// Whether the cell's element in the dimension at this place has components.

@@ -33,6 +33,7 @@ module _ (covers other : Reference → Bool) where
   layers Formula-F.Continue agree = refl
   layers (Formula-F.Children dim) agree = refl
   layers (Formula-F.Ref r) agree = let same : covers r ≡ other r = agree (Named r) (Contains-push [] (Named r)) in rw same refl
+  layers (Formula-F.Table dim table) agree = refl
   layers (Formula-F.Binary op a b) agree = rw (a.holds (each_left Alike a.x b.x agree), b.holds (each_right Alike a.x b.x agree)) refl
   layers (Formula-F.Unary function a) agree = ap (of_function function) (a.holds agree)
   layers (Formula-F.If t a b) agree =
@@ -109,6 +110,7 @@ module _ (covers : Reference → Bool) where
   counted Formula-F.Continue = (refl, omega arith)
   counted (Formula-F.Children dim) = (refl, omega arith)
   counted (Formula-F.Ref r) = (refl, omega arith)
+  counted (Formula-F.Table dim table) = (refl, omega arith)
   counted (Formula-F.Binary op a b) =
       let h = side-within op a.y b.y (rw a.holds.0 a.holds.1) (rw b.holds.0 b.holds.1) in
       (omega (arith, a.holds.0, b.holds.0), omega (arith, a.holds.0, b.holds.0, h))
@@ -162,6 +164,7 @@ module _ (test : Reference → Bool) where
     λ on s has. (let same : Named r ≡ Named s = Contains-push_only (Named r) (Named s) has in let is : r ≡ s = cc in subst (λ x. test x ≡ true) is on),
     λ each. each r (Contains-push [] (Named r)),
   )
+  passed (Formula-F.Table dim table) = none-passed
   passed (Formula-F.Binary op a b) = both-passed a.x b.x a.y b.y a.z b.z a.holds b.holds
   passed (Formula-F.Unary function a) = a.holds
   passed (Formula-F.If t a b) = both-passed (t.x ++ a.x) b.x (t.y && a.y) b.y (t.z && a.z) b.z (both-passed t.x a.x t.y a.y t.z a.z t.holds a.holds) b.holds

@@ -75,6 +75,7 @@ module _ {A A' B B' C C' : Type 0} (a : Formula-F A A' → A) (a' : Truth-F A A'
     layer Formula-F.Continue = rolled Formula-F.Continue (layers Formula-F.Continue)
     layer (Formula-F.Children dim) = rolled (Formula-F.Children dim) (layers (Formula-F.Children dim))
     layer (Formula-F.Ref r) = rolled (Formula-F.Ref r) (layers (Formula-F.Ref r))
+    layer (Formula-F.Table dim table) = rolled (Formula-F.Table dim table) (layers (Formula-F.Table dim table))
     layer (Formula-F.Binary op f g) = rolled (Formula-F.Binary op f.0 g.0) (layers (Formula-F.Binary op (given f) (given g)))
     layer (Formula-F.Unary function f) = rolled (Formula-F.Unary function f.0) (layers (Formula-F.Unary function (given f)))
     layer (Formula-F.If t f g) = rolled (Formula-F.If t.0 f.0 g.0) (layers (Formula-F.If (given_truth t) (given f) (given g)))

@@ -1,4 +1,4 @@
--- A formula reads only its precedents, STET and CONTINUE.
+-- A formula reads only its precedents, STET, CONTINUE and the cell's elements.
 use Rattle.std.proofs.Common.{◌≡◌, refl, ap, not, List, [], ◌++◌}
 use Rattle.std.specs.List.{Contains}
 use Rattle.std.proofs.lemmas.List.Elements.{Contains-append_left, Contains-append_right, Contains-push}
@@ -6,6 +6,8 @@ use Rattle.cube_fixed.specs.declared.value.Value.{Value}
 use Rattle.rule_laws.specs.declared.reference.Reference.{Reference}
 use Rattle.rule_laws.specs.declared.formula.Formula.{Formula}
 use Rattle.rule_laws.specs.declared.formula.Formula.TheOpen.{Formula-F, Truth-F}
+use Rattle.cube_fixed.specs.declared.value.Value.TheVariants.{Num}
+use Rattle.rule_laws.specs.Tables.{number_of}
 use Rattle.rule_laws.specs.Operation.{function_of}
 use Rattle.rule_laws.specs.Meaning.{Others, value_step, truth_step, formula_value, Precedent, Named, Components, precedents_step, truth_precedents_step, precedents}
 use Rattle.rule_laws.proofs.Folds.{Layers, TruthLayers, by_layers}
@@ -22,7 +24,7 @@ abbrev pub Alike : (Reference → Value) → (Reference → Value) → Others �
 Alike named other xs ys (Named r) = named r ≡ other r
 Alike named other xs ys (Components dim) = xs.children dim ≡ ys.children dim
 
-module _ (named other : Reference → Value) (xs ys : Others) (stet : xs.stet ≡ ys.stet) (rest : xs.rest ≡ ys.rest) where
+module _ (named other : Reference → Value) (xs ys : Others) (stet : xs.stet ≡ ys.stet) (rest : xs.rest ≡ ys.rest) (own : xs.own ≡ ys.own) where
   abbrev alike : Precedent → Type 0
   alike = Alike named other xs ys
 
@@ -38,6 +40,7 @@ module _ (named other : Reference → Value) (xs ys : Others) (stet : xs.stet �
   layers Formula-F.Continue agree = rest
   layers (Formula-F.Children dim) agree = agree (Components dim) (Contains-push [] (Components dim))
   layers (Formula-F.Ref r) agree = agree (Named r) (Contains-push [] (Named r))
+  layers (Formula-F.Table dim table) agree = ap (λ o. Num (number_of table (o dim))) own
   layers (Formula-F.Binary op a b) agree = rw (a.holds (each_left alike a.x b.x agree), b.holds (each_right alike a.x b.x agree)) refl
   layers (Formula-F.Unary function a) agree = ap (function_of function) (a.holds agree)
   layers (Formula-F.If t a b) agree =

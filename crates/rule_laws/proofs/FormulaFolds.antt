@@ -1,5 +1,5 @@
 -- What a fold gives of a formula and of a truth, by its root.
-use Rattle.std.proofs.Common.{◌≡◌, sym, ◌∙◌, ap, ℕ, ℤ}
+use Rattle.std.proofs.Common.{◌≡◌, sym, ◌∙◌, ap, ℕ, ℤ, List}
 use Rattle.rule_laws.specs.declared.operation.Op.{Op}
 use Rattle.rule_laws.specs.declared.operation.Fun.{Fun}
 use Rattle.rule_laws.specs.declared.operation.Rel.{Rel}
@@ -7,7 +7,7 @@ use Rattle.rule_laws.specs.declared.reference.Reference.{Reference}
 use Rattle.rule_laws.specs.declared.formula.Formula.{Formula}
 use Rattle.rule_laws.specs.declared.formula.Formula.TheFolds.{fold-Formula, fold-Truth, fold-roll-Formula, fold-roll-Truth}
 use Rattle.rule_laws.specs.declared.formula.Formula.TheOpen.{Formula-F, Truth-F}
-use Rattle.rule_laws.specs.declared.formula.Formula.TheVariants.{Number, Stet, Continue, Children, Ref, Binary, Unary, If, rolls-Number, rolls-Stet, rolls-Continue, rolls-Children, rolls-Ref, rolls-Binary, rolls-Unary, rolls-If}
+use Rattle.rule_laws.specs.declared.formula.Formula.TheVariants.{Number, Stet, Continue, Children, Ref, Table, Binary, Unary, If, rolls-Number, rolls-Stet, rolls-Continue, rolls-Children, rolls-Ref, rolls-Table, rolls-Binary, rolls-Unary, rolls-If}
 use Rattle.rule_laws.specs.declared.formula.Truth.{Truth}
 use Rattle.rule_laws.specs.declared.formula.Truth.TheVariants.{Compare, And, Or, Not, rolls-Compare, rolls-And, rolls-Or, rolls-Not}
 
@@ -32,6 +32,9 @@ module _ (V T : Type 0) (step : Formula-F V T → V) (truth_step : Truth-F V T �
 
   pub of-ref : (r : Reference) → of (Ref r) ≡ step (Formula-F.Ref r)
   of-ref r = ap of (sym (rolls-Ref r)) ∙ fold-roll-Formula V T step truth_step (Formula-F.Ref r)
+
+  pub of-table : (dim : ℕ) (table : List ℤ) → of (Table dim table) ≡ step (Formula-F.Table dim table)
+  of-table dim table = ap of (sym (rolls-Table dim table)) ∙ fold-roll-Formula V T step truth_step (Formula-F.Table dim table)
 
   pub of-binary : (op : Op) (a b : Formula) → of (Binary op a b) ≡ step (Formula-F.Binary op (of a) (of b))
   of-binary op a b = ap of (sym (rolls-Binary op a b)) ∙ fold-roll-Formula V T step truth_step (Formula-F.Binary op a b)

@@ -8,7 +8,7 @@ use Rattle.rule_laws.specs.declared.formula.Formula.{Formula}
 use Rattle.rule_laws.specs.declared.formula.Formula.TheVariants as formulas
 use Rattle.rule_laws.specs.declared.formula.Truth.{Truth}
 use Rattle.rule_laws.specs.declared.formula.Truth.TheVariants as truths
-use Rattle.rule_laws.proofs.FormulaFolds.{of-number, of-stet, of-continue, of-children, of-ref, of-binary, of-unary, of-if, of-compare, of-and, of-or, of-not}
+use Rattle.rule_laws.proofs.FormulaFolds.{of-number, of-stet, of-continue, of-children, of-ref, of-table, of-binary, of-unary, of-if, of-compare, of-and, of-or, of-not}
 use Rattle.rule_laws.specs.Meaning.{Precedent, Named, Components, precedents_step, truth_precedents_step, precedents, truth_precedents}
 
 pub number_reads : (k : ℤ) → precedents (formulas.Number k) ≡ []
@@ -25,6 +25,9 @@ children_reads dim = of-children (List Precedent) (List Precedent) precedents_st
 
 pub reference_reads : (r : Reference) → precedents (formulas.Ref r) ≡ Named r ∷ []
 reference_reads r = of-ref (List Precedent) (List Precedent) precedents_step truth_precedents_step r
+
+pub table_reads : (dim : ℕ) (table : List ℤ) → precedents (formulas.Table dim table) ≡ []
+table_reads dim table = of-table (List Precedent) (List Precedent) precedents_step truth_precedents_step dim table
 
 pub binary_reads : (op : Op) (a b : Formula) → precedents (formulas.Binary op a b) ≡ precedents a ++ precedents b
 binary_reads op a b = of-binary (List Precedent) (List Precedent) precedents_step truth_precedents_step op a b

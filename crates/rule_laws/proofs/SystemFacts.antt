@@ -160,7 +160,7 @@ module _ (w : RuleSystem) (formed : IsWellFormed w) where
             let ys : Others = others w stored T c (value_by w stored T c rules) in
             let same : (p : Precedent) → Contains (precedents f) p → Alike (named w S c) (named w T c) xs ys p =
             λ p has. precedent-agree (value_by w stored S c rules) (value_by w stored T c rules) p (less p has) in
-            rw some (formula_value-agree (named w S c) (named w T c) xs ys base-agree later f same)
+            rw some (formula_value-agree (named w S c) (named w T c) xs ys base-agree later refl f same)
 
   pub right_side-grounded : (stored : Stored) → IsOrdered w → IsGrounded (IsCell w) (depth w) (right_side w stored)
   right_side-grounded stored ordered S T c cell agree = value_by-agree stored S T c cell agree w.rules ordered

@@ -19,6 +19,7 @@ use Rattle.rule_laws.specs.declared.operation.Op.TheVariants.{Add, Sub, Mul, Div
 use Rattle.rule_laws.specs.declared.operation.Fun.{Fun}
 use Rattle.rule_laws.specs.declared.operation.Fun.TheVariants.{Minus, Abs, Sign, Int, Round, Trunc}
 use Rattle.rule_laws.specs.declared.operation.Rel.{Rel}
+use Rattle.rule_laws.specs.Tables.{number_of}
 use Rattle.rule_laws.specs.Operation.{operation_of, function_of, comparison_of}
 use Rattle.rule_laws.specs.Meaning.{Others, value_step, truth_step, formula_value, Precedent, Named, precedents_step, truth_precedents_step, precedents}
 use Rattle.rule_laws.specs.ZeroTest.{written_as, is_other_than_zero, is_divisor, known_value, sure_comparison, sure_and, sure_or, zero_operation, zero_choice, finding_step, truth_finding_step, zero_test}
@@ -155,6 +156,7 @@ module _ (covers : Reference → Bool) (named : Reference → Value) (others : O
   layers Formula-F.Continue zeros = unwritten true _ _ others.rest (λ e. rest)
   layers (Formula-F.Children dim) zeros = unwritten false _ _ (others.children dim) (λ e. cc)
   layers (Formula-F.Ref r) zeros = unwritten (covers r) _ _ (named r) (λ e. zeros r (Contains-push [] (Named r)) e)
+  layers (Formula-F.Table dim table) zeros = unwritten false _ _ (Num (number_of table (others.own dim))) (λ e. cc)
   layers (Formula-F.Binary op a b) zeros =
       let left = a.holds (left-zero covers named a.x b.x zeros) in
       let right = b.holds (right-zero covers named a.x b.x zeros) in

@@ -1,4 +1,5 @@
 pub mod Maps
+pub mod Tables
 pub mod Operation
 pub mod Meaning
 pub mod RuleSystem

@@ -7,14 +7,16 @@ use Rattle.rule_laws.specs.declared.formula.Formula.{Formula}
 use Rattle.rule_laws.specs.declared.formula.Formula.TheFolds.{fold-Formula, fold-Truth}
 use Rattle.rule_laws.specs.declared.formula.Formula.TheOpen.{Formula-F, Truth-F}
 use Rattle.rule_laws.specs.declared.formula.Truth.{Truth}
+use Rattle.rule_laws.specs.Tables.{number_of}
 use Rattle.rule_laws.specs.Operation.{operation_of, function_of, comparison_of}
 
--- what a formula takes at a cell beside its references: what STET gives, what CONTINUE gives, and what
--- ConsolidateChildren gives in each dimension of the cube
+-- what a formula takes at a cell beside its references: what STET gives, what CONTINUE gives, what ConsolidateChildren
+-- gives in each dimension of the cube, and the cell's element in each of them
 pub record Others : Type 0 where
   pub stet : Value
   pub rest : Value
   pub children : ℕ → Value
+  pub own : ℕ → ℕ
 
 -- the value of a formula by the values of its parts; `named` says what each reference gives
 abbrev pub value_step : (Reference → Value) → Others → Formula-F Value Bool → Value
@@ -23,6 +25,7 @@ value_step named others Formula-F.Stet = others.stet
 value_step named others Formula-F.Continue = others.rest
 value_step named others (Formula-F.Children dim) = others.children dim
 value_step named others (Formula-F.Ref r) = named r
+value_step named others (Formula-F.Table dim table) = Num (number_of table (others.own dim))
 value_step named others (Formula-F.Binary op a b) = operation_of op a b
 value_step named others (Formula-F.Unary function a) = function_of function a
 value_step named others (Formula-F.If truth a b) = if truth then a else b
@@ -53,6 +56,7 @@ precedents_step Formula-F.Stet = []
 precedents_step Formula-F.Continue = []
 precedents_step (Formula-F.Children dim) = Components dim ∷ []
 precedents_step (Formula-F.Ref r) = Named r ∷ []
+precedents_step (Formula-F.Table dim table) = []
 precedents_step (Formula-F.Binary op a b) = a ++ b
 precedents_step (Formula-F.Unary function a) = a
 precedents_step (Formula-F.If truth a b) = (truth ++ a) ++ b
@@ -76,6 +80,7 @@ each_reference_step test Formula-F.Stet = true
 each_reference_step test Formula-F.Continue = true
 each_reference_step test (Formula-F.Children dim) = true
 each_reference_step test (Formula-F.Ref r) = test r
+each_reference_step test (Formula-F.Table dim table) = true
 each_reference_step test (Formula-F.Binary op a b) = a && b
 each_reference_step test (Formula-F.Unary function a) = a
 each_reference_step test (Formula-F.If truth a b) = (truth && a) && b

@@ -38,6 +38,8 @@ pub record RuleSystem : Type 0 where
   -- of a cell and a dimension: the cells that have each component in place of the cell's element, with the component's
   -- weight, each naming counted; none where the element is a leaf
   pub components : ℕ → ℕ → Option (List (ℕ × ℤ))
+  -- the element of a cell in the dimension at a place of its cube
+  pub own : ℕ → ℕ → ℕ
   -- the statements and the feeders, those of a cube in their order
   pub rules : List Rule
   pub feeds : List Feed
@@ -93,7 +95,12 @@ named w table c r = option_map_or table (w.target r c) zero_value
 -- what a formula takes at a cell beside its references, where the statements after it give `rest`
 abbrev pub others : RuleSystem → Stored → (ℕ → Value) → ℕ → Value → Others
 others w stored table c rest =
-    record { stet = base w stored table c; rest = rest; children = children_value w stored table c }
+    record {
+      stet = base w stored table c;
+      rest = rest;
+      children = children_value w stored table c;
+      own = w.own c;
+    }
 
 -- what a formula gives a cell, where the statements after it give `rest`
 abbrev pub value_at : RuleSystem → Stored → (ℕ → Value) → ℕ → Value → Formula → Value

@@ -153,6 +153,7 @@ finding_step covers Formula-F.Stet = of_operand true
 finding_step covers Formula-F.Continue = of_continue
 finding_step covers (Formula-F.Children dim) = of_operand false
 finding_step covers (Formula-F.Ref r) = of_operand (covers r)
+finding_step covers (Formula-F.Table dim table) = of_operand false
 finding_step covers (Formula-F.Binary op a b) = of_operation op a b
 finding_step covers (Formula-F.Unary function a) = of_function function a
 finding_step covers (Formula-F.If truth a b) = of_choice truth a b
@@ -189,6 +190,7 @@ operands_step Formula-F.Stet = 1
 operands_step Formula-F.Continue = 0
 operands_step (Formula-F.Children dim) = 1
 operands_step (Formula-F.Ref r) = 1
+operands_step (Formula-F.Table dim table) = 1
 operands_step (Formula-F.Binary op a b) = a + b
 operands_step (Formula-F.Unary function a) = a
 operands_step (Formula-F.If truth a b) = truth + a + b
@@ -199,7 +201,7 @@ truth_operands_step (Truth-F.And a b) = a + b
 truth_operands_step (Truth-F.Or a b) = a + b
 truth_operands_step (Truth-F.Not a) = a
 
--- how many operands a formula has: its numbers, references, STETs and ConsolidateChildrens; CONTINUE is none
+-- how many operands a formula has: its numbers, references, tables, STETs and ConsolidateChildrens; CONTINUE is none
 abbrev pub operands : Formula → ℕ
 operands = fold-Formula ℕ ℕ operands_step truth_operands_step
 

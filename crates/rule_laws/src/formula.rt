@@ -1,3 +1,4 @@
+use crate::element_table::ElementTable;
 use crate::operation::{Fun, Op, Rel};
 use crate::reference::Reference;
 use cube_fixed::Money;
@@ -16,6 +17,8 @@ pub enum Formula {
     /// (`ConsolidateChildren` of TM1 Rules). Where that element is a leaf, what `STET` gives.
     Children(u32),
     Ref(Reference),
+    /// What the table has for the cell's element in the dimension at this place of the cube.
+    Table(u32, ElementTable),
     Binary(Op, Boxed<Formula>, Boxed<Formula>),
     Unary(Fun, Boxed<Formula>),
     /// The first formula where the truth holds, else the second.

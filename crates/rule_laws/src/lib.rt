@@ -17,6 +17,7 @@
 #![tactic(auto)]
 
 pub use element_map::ElementMap;
+pub use element_table::ElementTable;
 pub use finding::{Finding, TruthFinding};
 pub use formula::{Formula, Truth};
 pub use laws::{
@@ -27,6 +28,7 @@ pub use operation::{Fun, Op, Rel};
 pub use reference::{Arg, Reference};
 
 mod element_map;
+mod element_table;
 mod finding;
 mod formula;
 mod laws;

@@ -11,7 +11,7 @@ use Rattle.rule_model.specs.declared.rules.Feeder.{Feeder}
 use Rattle.rule_model.specs.BoundModel.{BoundModel, rules_of}
 use Rattle.rule_model.specs.Weights.{leaves_below}
 use Rattle.rule_model.specs.Areas.{in_area, is_source}
-use Rattle.rule_model.specs.Targets.{target, component_cells}
+use Rattle.rule_model.specs.Targets.{target, component_cells, element_at}
 use Rattle.rule_model.specs.Order.{most_positions, number_at, rank, cell_level, level_count}
 
 -- a statement of a cube, and a feeder of a cube
@@ -50,6 +50,7 @@ system_of model =
       rules = flat_map (cube_rules model) (cubes_of model);
       feeds = flat_map (cube_feeds model) (cubes_of model);
       target = target model.space;
+      own = element_at model.space;
       rank = rank model;
       level = cell_level model.space;
       levels = level_count model.space;

@@ -83,6 +83,7 @@ fn words_of(formula: &Formula) -> Words
         },
         Formula::Children(_) => Words::NONE,
         Formula::Ref(_) => Words::NONE,
+        Formula::Table(_, _) => Words::NONE,
         Formula::Binary(_, left, right) => words_of(left.get()).or(words_of(right.get())),
         Formula::Unary(_, inner) => words_of(inner.get()),
         Formula::If(truth, left, right) => truth_words_of(truth.get())

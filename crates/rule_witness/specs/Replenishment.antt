@@ -107,6 +107,7 @@ replenishment =
       rules = passing_rule ∷ opening_rule ∷ summing_rule ∷ purchase_rule ∷ [];
       feeds = stock_feed ∷ [];
       target = λ r c. named_cell r.cube r.args;
+      own = λ c dim. 0;
       rank = λ c. if c == closing then 0 else if c == purchase then 2 else 1;
       level = λ c. if c == available then 1 else 0;
       levels = 2;

@@ -3,14 +3,18 @@ ghost use Rattle.rule_laws.specs.ZeroTest.{operands, operands_of_truth};
 
 use rule_laws::{Formula, Truth};
 
-/// How many operands a formula has: its numbers, references, `STET`s and `ConsolidateChildren`s.
+/// How many operands a formula has: its numbers, references, tables, `STET`s and `ConsolidateChildren`s.
 #[cycle(operands)]
 pub fn operands(formula: &Formula) -> u32
     requires { operands formula.now < 2 ^ 32 }
     ensures { result ≡ operands formula.now }
 {
     match formula {
-        Formula::Number(_) | Formula::Stet | Formula::Children(_) | Formula::Ref(_) => 1,
+        Formula::Number(_)
+        | Formula::Stet
+        | Formula::Children(_)
+        | Formula::Ref(_)
+        | Formula::Table(_, _) => 1,
         Formula::Continue => 0,
         Formula::Binary(_, left, right) => operands(left.get()) + operands(right.get()),
         Formula::Unary(_, inner) => operands(inner.get()),

@@ -107,7 +107,7 @@ pub fn finding<K, C: Cover<K>>(cover: &C, formula: &Formula, kept: &mut K) -> Fi
             operands: 0,
             blamed: 0,
         },
-        Formula::Children(_) => of_operand(false),
+        Formula::Children(_) | Formula::Table(_, _) => of_operand(false),
         Formula::Ref(reference) => of_operand(cover.covers(reference, kept)),
         Formula::Binary(op, left, right) => {
             let left = finding(cover, left.get(), kept);

@@ -10,7 +10,7 @@ use Rattle.cell_versions.specs.Versions.{NumberedVersion}
 use Rattle.rule_laws.specs.declared.reference.Reference.{Reference}
 use Rattle.rule_laws.specs.RuleSystem.{weighted_sum}
 use Rattle.rule_model.specs.BoundModel.{BoundModel}
-use Rattle.rule_model.specs.Targets.{target, component_cells}
+use Rattle.rule_model.specs.Targets.{target, component_cells, element_at}
 use Rattle.rule_model.specs.Weights.{leaves_below}
 use Rattle.stored_laws.specs.Stored.{stored_in}
 use Rattle.cell_trace.specs.Visits.{Given}
@@ -53,6 +53,10 @@ unfoldable pub children_at : Place → ℕ → Value
 children_at p dim =
     option_map_or (weighted_sum (value_on p.version)) (component_cells p.version.model.space p.cell dim) (stet_at p)
 
+-- the cell's element in a dimension
+abbrev pub own_at : Place → ℕ → ℕ
+own_at p dim = element_at p.version.model.space p.cell dim
+
 -- what a formula takes, where the statements after it give `rest`
 abbrev pub given_at : Place → Value → Given
 given_at p rest =
@@ -60,5 +64,5 @@ given_at p rest =
       target = target_at p;
       named = named_at p;
       has_components = has_components_at p;
-      others = record { stet = stet_at p; rest = rest; children = children_at p };
+      others = record { stet = stet_at p; rest = rest; children = children_at p; own = own_at p };
     }

@@ -1,7 +1,7 @@
 use Rattle.std.proofs.Common.{◌∙◌, ap}
 use Rattle.bind_arguments.specs.Argument.{table_over}
 use Rattle.bind_arguments.proofs.AlikeFacts.{alike_tables}
-use Rattle.bind_arguments.proofs.bound_maps.BoundMap.targets_for.Goals as goal
+use Rattle.bind_arguments.proofs.own_maps.BoundMap.targets_for.Goals as goal
 
 pub returns-then-is_alike : goal.returns-then-is_alike
 returns-then-is_alike c space right =

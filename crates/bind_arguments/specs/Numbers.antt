@@ -1,0 +1,55 @@
+-- The numbers that a function gives the elements of a dimension, in millionths.
+use Rattle.std.specs.Prelude.{◌≡◌, ℕ, ◌+◌, ◌*◌, ◌==◌, Bool, ℤ, pos, List, [], map, length, slice_get, All, IfSome, ⊤, ◌<◌, Result, Ok, Err, if◌then◌else◌}
+use Rattle.std.specs.List.{list_any, range_with_len}
+use Rattle.cube_fixed.specs.Range.{unit}
+use Rattle.cube_fixed.specs.Text.{number_of, reading_of}
+use Rattle.cube_fixed.specs.declared.reading.NumberFault.{NumberFault}
+use Rattle.dim_core.specs.Outline.{Outline, level, components_of, attribute_of}
+use Rattle.std.specs.Option.{option_map_or}
+use Rattle.cube_space.specs.Layout.{Layout, axes}
+use Rattle.bind_arguments.specs.Bound.{dimension_at}
+use Rattle.bind_arguments.specs.declared.element_function.ElementFunction.{ElementFunction}
+use Rattle.bind_arguments.specs.declared.element_function.ElementFunction.TheVariants as functions
+use Rattle.bind_arguments.specs.declared.bound_tables.BoundTable.{BoundTable}
+
+-- a text as a number; 0 where it is none, or out of range
+abbrev pub read_or_zero : Result ℤ NumberFault → ℤ
+read_or_zero (Ok number) = number
+read_or_zero (Err fault) = pos 0
+
+-- whether an element is a component of another one, whatever its weight
+abbrev pub is_component : Outline → ℕ → ℕ → Bool
+is_component d parent element = list_any (λ part. part.0 == element) (components_of d parent)
+
+abbrev pub number_for : Outline → ElementFunction → ℕ → ℤ
+number_for d functions.Place element = pos ((element + 1) * unit)
+number_for d functions.Level element = pos (level d element * unit)
+number_for d (functions.ComponentOf parent) element = if is_component d parent element then pos unit else pos 0
+number_for d (functions.Attribute name) element = read_or_zero (reading_of (number_of (attribute_of d element name)))
+
+-- the element whose components are asked for is one of the dimension
+abbrev pub is_within : Outline → ElementFunction → Type 0
+is_within d functions.Place = ⊤
+is_within d functions.Level = ⊤
+is_within d (functions.ComponentOf parent) = parent < length d.elements
+is_within d (functions.Attribute name) = ⊤
+
+-- for each element of the dimension
+unfoldable pub numbers_over : Outline → ElementFunction → List ℤ
+numbers_over d function = map (number_for d function) (range_with_len 0 (length d.elements))
+
+-- over the dimension at a place of a cube
+abbrev pub numbers_at : Layout → ℕ → ℕ → ElementFunction → List ℤ
+numbers_at space cube place function =
+    option_map_or (λ d. numbers_over d function) (slice_get (axes space cube) place) []
+
+abbrev pub is_within_at : Layout → ℕ → ℕ → ElementFunction → Type 0
+is_within_at space cube place function = IfSome (slice_get (axes space cube) place) (λ d. is_within d function)
+
+-- a table that was made has the numbers of its function in this space
+abbrev pub IsTableIn : Layout → BoundTable → Type 0
+IsTableIn space made = made.numbers ≡ numbers_over (dimension_at space made.dim) made.function
+
+-- each of them has
+unfoldable pub AreTablesIn : Layout → List BoundTable → Type 0
+AreTablesIn space made = All (IsTableIn space) made

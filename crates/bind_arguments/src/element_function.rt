@@ -1,0 +1,14 @@
+use dim_name::Name;
+
+/// A function that gives each element of a dimension a number.
+#[derive(Drop)]
+pub enum ElementFunction {
+    /// `DIMIX`: its place in the dimension, from 1.
+    Place,
+    /// `ELLEV`: its level, which is 0 for a leaf and one more than the greatest of its components for a consolidation.
+    Level,
+    /// `ELISPAR` and `ELISCOMP`: 1 for a component of the element of this index, whatever its weight, and 0 for others.
+    ComponentOf(u32),
+    /// `ATTRN`: its text of this attribute as a number; 0 where that is no number.
+    Attribute(Name),
+}

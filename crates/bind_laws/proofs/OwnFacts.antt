@@ -1,0 +1,62 @@
+-- A function of the cell's own element means a table.
+use Rattle.std.proofs.Common.{◌≡◌, ℕ, ℤ, List, [], ◌∷◌, Ok, sym}
+use Rattle.cube_space.specs.Layout.{Layout}
+use Rattle.rule_laws.specs.declared.formula.Formula.{Formula}
+use Rattle.rule_laws.specs.declared.formula.Formula.TheVariants as formulas
+use Rattle.rule_tree.specs.declared.tree.Tree.{Tree}
+use Rattle.bind_areas.specs.Meaning.{Meaning, ◌>>=◌}
+use Rattle.bind_arguments.specs.Numbers.{numbers_at}
+use Rattle.bind_arguments.specs.declared.element_function.ElementFunction.{ElementFunction}
+use Rattle.bind_arguments.specs.declared.element_function.ElementFunction.TheVariants as functions
+use Rattle.rule_bind.specs.OwnNumbers.{axis_named, own_place, element_at, attribute_at, table_at, plain_call, parent_call, component_call, attribute_call, own_call}
+use Rattle.rule_bind.specs.declared.function.OwnFunction.{OwnFunction}
+use Rattle.rule_bind.specs.declared.function.OwnFunction.TheVariants as own
+use Rattle.bind_laws.proofs.Got.{got, answer}
+
+abbrev pub IsTable : Formula → Type 0
+IsTable f = (place : ℕ) × ((table : List ℤ) × (f ≡ formulas.Table place table))
+
+module _ (space : Layout) (cube : ℕ) where
+  made : (place : ℕ) (function : ElementFunction) (f : Formula) → answer (table_at space cube place function) ≡ Ok f → IsTable f
+  made place function f is =
+      let same : table_at space cube place function ≡ f = cc is in
+      (place, numbers_at space cube place function, sym same)
+
+  plain : (function : ElementFunction) (trees : List Tree) (f : Formula) → plain_call space cube function trees ≡ Ok f → IsTable f
+  plain function (dim ∷ of ∷ []) f is =
+      let (place, first, more) = got (axis_named space cube dim) (λ place. own_place space cube place of >>= (λ own. Ok (table_at space cube own function))) f is in
+      let (own, second, rest) = got (own_place space cube place of) (λ own. Ok (table_at space cube own function)) f more in
+      made own function f rest
+  plain function _ f is = absurd (cc is)
+
+  parent : (trees : List Tree) (f : Formula) → parent_call space cube trees ≡ Ok f → IsTable f
+  parent (dim ∷ element ∷ of ∷ []) f is =
+      let (place, first, many) = got (axis_named space cube dim) (λ place. element_at space cube place element >>= (λ above. own_place space cube place of >>= (λ own. Ok (table_at space cube own (functions.ComponentOf above))))) f is in
+      let (above, second, more) = got (element_at space cube place element) (λ above. own_place space cube place of >>= (λ own. Ok (table_at space cube own (functions.ComponentOf above)))) f many in
+      let (own, third, rest) = got (own_place space cube place of) (λ own. Ok (table_at space cube own (functions.ComponentOf above))) f more in
+      made own (functions.ComponentOf above) f rest
+  parent _ f is = absurd (cc is)
+
+  component : (trees : List Tree) (f : Formula) → component_call space cube trees ≡ Ok f → IsTable f
+  component (dim ∷ of ∷ element ∷ []) f is =
+      let (place, first, many) = got (axis_named space cube dim) (λ place. own_place space cube place of >>= (λ own. element_at space cube own element >>= (λ above. Ok (table_at space cube own (functions.ComponentOf above))))) f is in
+      let (own, second, more) = got (own_place space cube place of) (λ own. element_at space cube own element >>= (λ above. Ok (table_at space cube own (functions.ComponentOf above)))) f many in
+      let (above, third, rest) = got (element_at space cube own element) (λ above. Ok (table_at space cube own (functions.ComponentOf above))) f more in
+      made own (functions.ComponentOf above) f rest
+  component _ f is = absurd (cc is)
+
+  attribute : (trees : List Tree) (f : Formula) → attribute_call space cube trees ≡ Ok f → IsTable f
+  attribute (dim ∷ of ∷ name ∷ []) f is =
+      let (place, first, many) = got (axis_named space cube dim) (λ place. own_place space cube place of >>= (λ own. attribute_at space cube own name >>= (λ found. Ok (table_at space cube own (functions.Attribute found))))) f is in
+      let (own, second, more) = got (own_place space cube place of) (λ own. attribute_at space cube own name >>= (λ found. Ok (table_at space cube own (functions.Attribute found)))) f many in
+      let (found, third, rest) = got (attribute_at space cube own name) (λ found. Ok (table_at space cube own (functions.Attribute found))) f more in
+      made own (functions.Attribute found) f rest
+  attribute _ f is = absurd (cc is)
+
+  pub call_table : (function : OwnFunction) (trees : List Tree) (f : Formula) → own_call space cube function trees ≡ Ok f → IsTable f
+  unfolding own_call
+  call_table own.Place trees f is = plain functions.Place trees f is
+  call_table own.Level trees f is = plain functions.Level trees f is
+  call_table own.HasParent trees f is = parent trees f is
+  call_table own.IsComponent trees f is = component trees f is
+  call_table own.Attribute trees f is = attribute trees f is
