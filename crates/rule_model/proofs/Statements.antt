@@ -139,6 +139,7 @@ own_system model cell =
       rules = rules_for model cell;
       feeds = (system_of model).feeds;
       target = (system_of model).target;
+      own = (system_of model).own;
       rank = (system_of model).rank;
       level = (system_of model).level;
       levels = (system_of model).levels;
