@@ -1,16 +1,43 @@
 -- Tables that are made, and that were made already.
-use Rattle.std.proofs.Common.{◌≡◌, ◌∙◌, ◌<◌, ◌+◌, ℕ, ℤ, List, [], ◌∷◌, ◌++◌, length, get_or, map, ap, sym, subst, arith}
+use Rattle.std.proofs.Common.{◌≡◌, ◌∙◌, ◌<◌, ◌+◌, ◌==◌, ◌&&◌, nat_eq, find, unwrap_or, pos, Bool, if◌then◌else◌, ℕ, ℤ, List, [], ◌∷◌, ◌++◌, length, get_or, map, ap, sym, subst, arith}
 use Rattle.std.proofs.lemmas.List.Elements.{All-push}
 use Rattle.std.proofs.lemmas.List.FromFn.{map-range_with_len_more}
 use Rattle.std.specs.List.{range_with_len}
 use Rattle.cube_space.specs.Layout.{Layout}
-use Rattle.bind_arguments.specs.Numbers.{IsTableIn, AreTablesIn}
+use Rattle.std.specs.Cmp.Lexicographic.{pointwise}
+use Rattle.std.specs.Option.{option_map}
+use Rattle.cube_fixed.specs.Range.{unit}
+use Rattle.cube_fixed.specs.Text.{number_of, reading_of}
+use Rattle.dim_core.specs.Outline.{Outline}
+use Rattle.dim_core.specs.declared.attribute.Attribute.{Attribute}
+use Rattle.dim_name.specs.Name.{key_of}
+use Rattle.bind_arguments.specs.Numbers.{is_component, number_for, numbers_over, read_or_zero, IsTableIn, AreTablesIn}
+use Rattle.bind_arguments.specs.declared.element_function.ElementFunction.{ElementFunction}
+use Rattle.bind_arguments.specs.declared.element_function.ElementFunction.TheVariants as functions
 use Rattle.bind_arguments.specs.declared.bound_tables.BoundTable.{BoundTable}
 
 -- one element more has its number
 pub one_more : (f : ℕ → ℤ) (n : ℕ) (before after : List ℤ) (number : ℤ) → before ≡ map f (range_with_len 0 n) → number ≡ f n → after ≡ before ++ number ∷ [] → after ≡ map f (range_with_len 0 (n + 1))
 one_more f n before after number so is pushed =
     pushed ∙ ap (λ l. l ++ number ∷ []) so ∙ ap (λ x. map f (range_with_len 0 n) ++ x ∷ []) is ∙ sym (map-range_with_len_more f 0 n n (omega arith))
+
+-- all elements have theirs
+pub whole : (d : Outline) (function : ElementFunction) (n : ℕ) (numbers : List ℤ) → n ≡ length d.elements → numbers ≡ map (number_for d function) (range_with_len 0 n) → numbers ≡ numbers_over d function
+unfolding numbers_over
+whole d function n numbers all so = so ∙ ap (λ k. map (number_for d function) (range_with_len 0 k)) all
+
+-- the text of an attribute by the key of its name
+abbrev text_by : Outline → ℕ → List ℕ → List ℕ
+text_by d element key = unwrap_or (option_map (λ (a : Attribute). a.text) (find (λ (a : Attribute). (element == a.element) && pointwise nat_eq key (key_of a.name)) d.attributes)) []
+
+pub same_attributes : (d : Outline) (name other : List ℕ) → key_of name ≡ key_of other → numbers_over d (functions.Attribute name) ≡ numbers_over d (functions.Attribute other)
+unfolding numbers_over
+same_attributes d name other same =
+    ap (λ (key : List ℕ). map (λ element. read_or_zero (reading_of (number_of (text_by d element key)))) (range_with_len 0 (length d.elements))) same
+
+-- a number of a mark is that of the element
+pub marked : (d : Outline) (parent element : ℕ) (mark : Bool) (number : ℤ) → mark ≡ is_component d parent element → number ≡ (if mark then pos unit else pos 0) → number ≡ number_for d (functions.ComponentOf parent) element
+marked d parent element mark number is so = so ∙ ap (λ (b : Bool). if b then pos unit else pos 0) is
 
 module _ (space : Layout) where
   pub no_tables : AreTablesIn space []

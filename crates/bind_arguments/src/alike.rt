@@ -49,8 +49,8 @@ pub(crate) fn is_alike(argument: &BoundArgument, other: &BoundArgument) -> bool
     }
 }
 
-// Whether two names are of the same attribute.
-fn is_same_attribute(attribute: &Name, other: &Name) -> bool
+/// Whether two names are of the same attribute.
+pub(crate) fn is_same_attribute(attribute: &Name, other: &Name) -> bool
     ensures { IsTrue result → key_of attribute.now ≡ key_of other.now }
 {
     attribute.key() == other.key()

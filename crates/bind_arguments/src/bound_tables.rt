@@ -4,6 +4,7 @@ ghost use Rattle.dim_core.specs.Outline.{Outline};
 ghost use Rattle.bind_arguments.specs.Bound.{dimension_at};
 ghost use Rattle.bind_arguments.specs.Numbers.{AreTablesIn, IsTableIn, is_within, numbers_over};
 
+use crate::alike::is_same_attribute;
 use crate::element_function::ElementFunction;
 use crate::numbers::numbers_over;
 use cube_space::Space;
@@ -48,7 +49,7 @@ fn is_same(function: &ElementFunction, other: &ElementFunction) -> bool
             parent == other
         }
         (ElementFunction::Attribute(name), ElementFunction::Attribute(other)) => {
-            name.key() == other.key()
+            is_same_attribute(name, other)
         }
         _ => false,
     }
