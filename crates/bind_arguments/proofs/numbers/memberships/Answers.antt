@@ -1,4 +1,4 @@
-use Rattle.std.proofs.Common.{◌≡◌, ◌∙◌, ◌<◌, ap, sym, arith, false, length, get_or}
+use Rattle.std.proofs.Common.{◌≡◌, ◌∙◌, ◌<◌, arith, length}
 use Rattle.bind_arguments.specs.Numbers.{is_component, number_for}
 use Rattle.bind_arguments.specs.declared.element_function.ElementFunction.TheVariants as functions
 use Rattle.bind_arguments.proofs.NumbersMade.{one_more, whole, marked}
@@ -6,10 +6,10 @@ use Rattle.bind_arguments.proofs.numbers.memberships.Goals as goal
 
 pub loop-element-preserved : goal.loop-element-preserved
 loop-element-preserved c =
-    let low : c.loop-element.element < length c.in_ok-marks.marks.items = ? in
+    let low : c.loop-element.element < length c.in_ok-marks.marks.items = omega (arith, c.loop-element-test.true, c.len-element-end.ensures) in
     one_more (number_for c.args.dimension.now (functions.ComponentOf c.args.parent)) c.loop-element.element c.loop-element.numbers.items c.push.new.self.items c.number_of_mark.result
     c.loop-element.invariant
-    (marked c.args.dimension.now c.args.parent c.loop-element.element c.index.result.now c.number_of_mark.result (? ∙ c.in_ok-marks.ensures.marks c.loop-element.element low) c.number_of_mark.ensures)
+    (marked c.args.dimension.now c.args.parent c.loop-element.element c.index.result.now c.number_of_mark.result (c.index.ensures ∙ c.in_ok-marks.ensures.marks c.loop-element.element c.index.result.now low) c.number_of_mark.ensures)
     c.in_ok-push.ensures.items
 
 pub returns : goal.returns
