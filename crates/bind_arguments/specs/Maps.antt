@@ -1,5 +1,5 @@
 -- The maps that were made of arguments, and the tables that were made of functions.
-use Rattle.std.specs.Prelude.{◌≡◌, List, All, ◌×◌}
+use Rattle.std.specs.Prelude.{◌≡◌, List, All}
 use Rattle.cube_space.specs.Layout.{Layout}
 use Rattle.bind_arguments.specs.Argument.{table_over}
 use Rattle.bind_arguments.specs.declared.own_maps.BoundMap.{BoundMap}

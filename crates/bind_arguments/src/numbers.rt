@@ -1,4 +1,4 @@
-ghost use Rattle.std.specs.Prelude.{◌≡◌, ◌*◌, ◌<◌, ℕ, Bool, pos, length, get_or, IfOk, if◌then◌else◌};
+ghost use Rattle.std.specs.Prelude.{◌≡◌, ◌*◌, ◌<◌, ℕ, pos, false, length, get_or, IfOk, if◌then◌else◌};
 ghost use Rattle.cube_fixed.specs.Range.{unit};
 ghost use Rattle.cube_fixed.specs.Text.{number_of, reading_of};
 ghost use Rattle.dim_core.specs.Outline.{level, attribute_of};
@@ -77,8 +77,8 @@ fn attributes(alloc: Global, dimension: &Dimension, name: &Name) -> Result<Vec<M
 fn components_of(alloc: Global, dimension: &Dimension, parent: u32) -> Result<Vec<bool>, AllocError>
     requires { parent < length dimension.now.elements }
     ensures len { IfOk result (λ marks. length marks.items ≡ length dimension.now.elements) }
-    ensures marks { IfOk result (λ marks. (element : ℕ) (other : Bool) → element < length marks.items
-        → get_or marks.items element other ≡ is_component dimension.now parent element) }
+    ensures marks { IfOk result (λ marks. (element : ℕ) → element < length marks.items
+        → get_or marks.items element false ≡ is_component dimension.now parent element) }
 {
     let mut marks = Vec::from_elem(alloc, false, dimension.len() as usize)?;
     for part in dimension.components(parent) {
