@@ -1,10 +1,9 @@
 -- Tables that are made, and that were made already.
-use Rattle.std.proofs.Common.{◌≡◌, ◌∙◌, ◌<◌, ◌+◌, ◌==◌, ◌&&◌, nat_eq, find, unwrap_or, Some, pos, Bool, if◌then◌else◌, ℕ, ℤ, List, [], ◌∷◌, ◌++◌, length, get_or, map, ap, sym, subst, arith}
+use Rattle.std.proofs.Common.{◌≡◌, ◌∙◌, ◌<◌, ◌+◌, ◌==◌, ◌&&◌, nat_eq, find, unwrap_or, pos, Bool, if◌then◌else◌, ℕ, ℤ, List, [], ◌∷◌, ◌++◌, length, get_or, map, ap, sym, subst, arith}
 use Rattle.std.proofs.lemmas.List.Elements.{All-push}
 use Rattle.std.proofs.lemmas.List.FromFn.{map-range_with_len_more}
 use Rattle.std.specs.List.{range_with_len}
 use Rattle.cube_space.specs.Layout.{Layout}
-use Rattle.std.proofs.lemmas.Option.{slice_get-get_or}
 use Rattle.std.specs.Cmp.Lexicographic.{pointwise}
 use Rattle.std.specs.Option.{option_map}
 use Rattle.cube_fixed.specs.Range.{unit}
@@ -30,16 +29,6 @@ whole d function n numbers all so = so ∙ ap (λ k. map (number_for d function)
 -- the text of an attribute by the key of its name
 abbrev text_by : Outline → ℕ → List ℕ → List ℕ
 text_by d element key = unwrap_or (option_map (λ (a : Attribute). a.text) (find (λ (a : Attribute). (element == a.element) && pointwise nat_eq key (key_of a.name)) d.attributes)) []
-
-pub same_attributes : (d : Outline) (name other : List ℕ) → key_of name ≡ key_of other → numbers_over d (functions.Attribute name) ≡ numbers_over d (functions.Attribute other)
-unfolding numbers_over
-same_attributes d name other same =
-    ap (λ (key : List ℕ). map (λ element. read_or_zero (reading_of (number_of (text_by d element key)))) (range_with_len 0 (length d.elements))) same
-
-pub same_at : {X : Type 0} (xs : List X) (i : ℕ) (a b : X) → i < length xs → get_or xs i a ≡ get_or xs i b
-same_at xs i a b low =
-    let same : Some (get_or xs i a) ≡ Some (get_or xs i b) = sym (slice_get-get_or xs i a low) ∙ slice_get-get_or xs i b low in
-    cc
 
 -- a number of a mark is that of the element
 pub marked : (d : Outline) (parent element : ℕ) (mark : Bool) (number : ℤ) → mark ≡ is_component d parent element → number ≡ (if mark then pos unit else pos 0) → number ≡ number_for d (functions.ComponentOf parent) element

@@ -6,4 +6,4 @@ use Rattle.bind_arguments.proofs.bound_tables.is_same.Goals as goal
 pub returns-in-Attribute-Attribute : goal.returns-in-Attribute-Attribute
 returns-in-Attribute-Attribute c equal d =
     let at = c.in-Attribute-Attribute in
-    ap (numbers_over d) at.is-0 ∙ same_attributes d at.name.now at.other.now (c.is_same_attribute.ensures equal) ∙ sym (ap (numbers_over d) at.is-1)
+    ap (numbers_over d) at.is-0 ∙ same_attributes d at.name at.other (c.is_same_attribute.ensures equal) ∙ sym (ap (numbers_over d) at.is-1)
