@@ -30,6 +30,11 @@ whole d function n numbers all so = so ∙ ap (λ k. map (number_for d function)
 abbrev text_by : Outline → ℕ → List ℕ → List ℕ
 text_by d element key = unwrap_or (option_map (λ (a : Attribute). a.text) (find (λ (a : Attribute). (element == a.element) && pointwise nat_eq key (key_of a.name)) d.attributes)) []
 
+pub same_attributes : (d : Outline) (name other : List ℕ) → key_of name ≡ key_of other → numbers_over d (functions.Attribute name) ≡ numbers_over d (functions.Attribute other)
+unfolding numbers_over
+same_attributes d name other same =
+    ap (λ (key : List ℕ). map (λ element. read_or_zero (reading_of (number_of (text_by d element key)))) (range_with_len 0 (length d.elements))) same
+
 -- a number of a mark is that of the element
 pub marked : (d : Outline) (parent element : ℕ) (mark : Bool) (number : ℤ) → mark ≡ is_component d parent element → number ≡ (if mark then pos unit else pos 0) → number ≡ number_for d (functions.ComponentOf parent) element
 marked d parent element mark number is so = so ∙ ap (λ (b : Bool). if b then pos unit else pos 0) is
