@@ -85,7 +85,7 @@ fn attribute_at(
     requires cube { cube < length space.now.cubes }
     requires place { place < length (axes space.now cube) }
     ensures answers { Answers (attribute_at space.now cube place tree.now) result }
-    ensures within { IfOk result (λ name. is_within_at space.now cube place (functions.Attribute name.now)) }
+    ensures within { IfOk result (λ name. is_within_at space.now cube place (functions.Attribute name)) }
 {
     let Some(text) = text_in(tree) else {
         return Err(BindCause::Unsupported);
