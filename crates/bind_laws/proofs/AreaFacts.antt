@@ -8,7 +8,7 @@ use Rattle.rule_tree.specs.declared.rule.EntryText.{EntryText}
 use Rattle.rule_tree.specs.declared.tree.SimpleText.{SimpleText}
 use Rattle.bind_areas.specs.Areas.{placed, sets_at, args_at, alone, area_of, bracket_of}
 use Rattle.bind_areas.proofs.ValidFacts.{sets_valid, args_valid, own_sizes}
-use Rattle.bind_laws.proofs.Got.{got}
+use Rattle.rule_bind.proofs.Got.{got}
 
 pub area_valid : (space : Layout) (cube : ℕ) (entries : List EntryText) (area : Area) → area_of space cube entries ≡ Ok area → IsArea space cube area
 unfolding area_of

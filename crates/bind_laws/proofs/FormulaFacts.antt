@@ -29,11 +29,8 @@ use Rattle.rule_bind.specs.Functions.{function_of, operator_of}
 use Rattle.rule_bind.specs.References.{db_of, children_of}
 use Rattle.rule_bind.specs.Formulas.{Meanings, Meant, alone, children, unary, binary, choice, choice_call, unary_call, binary_call, children_call, call_value, operator_value, operator_truth, meanings_step, meanings, meant}
 use Rattle.rule_bind.proofs.FormulaFacts.{by_layer}
-use Rattle.rule_bind.specs.declared.function.OwnFunction.{OwnFunction}
-use Rattle.rule_bind.specs.declared.function.OwnFunction.TheVariants as own
-use Rattle.rule_bind.specs.declared.function.Function.TheVariants as functions
-use Rattle.bind_laws.proofs.OwnFacts.{call_table}
-use Rattle.bind_laws.proofs.Got.{got, answer}
+use Rattle.rule_bind.proofs.OwnFacts.{IsTable, call_table}
+use Rattle.rule_bind.proofs.Got.{got, answer}
 use Rattle.bind_laws.proofs.AreaFacts.{bracket_valid}
 use Rattle.bind_laws.proofs.ReferenceFacts.{db_valid, children_low}
 use Rattle.rule_laws.proofs.PrecedentFacts.{number_reads, stet_reads, continue_reads, children_reads, reference_reads, table_reads, binary_reads, unary_reads, if_reads, compare_reads, and_reads, or_reads, not_reads}
@@ -111,9 +108,8 @@ module _ (space : Layout) (cube : ℕ) where
   alone_good ConsolidatedPart x none f is = given ConsolidatedPart x f is (none_read ConsolidatedPart (precedents x) none)
   alone_good Within x none f is = absurd (cc is)
 
-  own_call_good : (at : Standing) (function : OwnFunction) (ms : List Meant) → IsGood at (call_value space cube at (functions.Own function) ms)
-  own_call_good at function ms f is =
-      let (place, table, same) = call_table space cube function (map (λ m. m.0) ms) f is in
+  table_good : (at : Standing) (f : Formula) → IsTable f → AreRead at (precedents f)
+  table_good at f (place, table, same) =
       subst (λ g. AreRead at (precedents g)) (sym same) (none_read at (precedents (formulas.Table place table)) (table_reads place table))
 
   children_good : (at : Standing) (tree : Tree) → IsGood at (children space cube at tree)
@@ -206,11 +202,11 @@ module _ (space : Layout) (cube : ℕ) where
         (either_way (λ function. IsGood at (call_value space cube at function ms)) (bytes_eq word (codes "MIN")) _ _ (binary_call_good at ops.Min ms all)
         (either_way (λ function. IsGood at (call_value space cube at function ms)) (bytes_eq word (codes "MOD")) _ _ (binary_call_good at ops.Mod ms all)
         (either_way (λ function. IsGood at (call_value space cube at function ms)) (bytes_eq word (codes "ROUNDP")) _ _ (binary_call_good at ops.RoundTo ms all)
-        (either_way (λ function. IsGood at (call_value space cube at function ms)) (bytes_eq word (codes "DIMIX")) _ _ (own_call_good at own.Place ms)
-        (either_way (λ function. IsGood at (call_value space cube at function ms)) (bytes_eq word (codes "ELLEV")) _ _ (own_call_good at own.Level ms)
-        (either_way (λ function. IsGood at (call_value space cube at function ms)) (bytes_eq word (codes "ELISPAR")) _ _ (own_call_good at own.HasParent ms)
-        (either_way (λ function. IsGood at (call_value space cube at function ms)) (bytes_eq word (codes "ELISCOMP")) _ _ (own_call_good at own.IsComponent ms)
-        (either_way (λ function. IsGood at (call_value space cube at function ms)) (bytes_eq word (codes "ATTRN")) _ _ (own_call_good at own.Attribute ms)
+        (either_way (λ function. IsGood at (call_value space cube at function ms)) (bytes_eq word (codes "DIMIX")) _ _ (λ f is. table_good at f (call_table space cube _ (map (λ m. m.0) ms) f is))
+        (either_way (λ function. IsGood at (call_value space cube at function ms)) (bytes_eq word (codes "ELLEV")) _ _ (λ f is. table_good at f (call_table space cube _ (map (λ m. m.0) ms) f is))
+        (either_way (λ function. IsGood at (call_value space cube at function ms)) (bytes_eq word (codes "ELISPAR")) _ _ (λ f is. table_good at f (call_table space cube _ (map (λ m. m.0) ms) f is))
+        (either_way (λ function. IsGood at (call_value space cube at function ms)) (bytes_eq word (codes "ELISCOMP")) _ _ (λ f is. table_good at f (call_table space cube _ (map (λ m. m.0) ms) f is))
+        (either_way (λ function. IsGood at (call_value space cube at function ms)) (bytes_eq word (codes "ATTRN")) _ _ (λ f is. table_good at f (call_table space cube _ (map (λ m. m.0) ms) f is))
         (λ f is. absurd (cc is))))))))))))))))))
 
     abbrev Held : Type 0

@@ -28,11 +28,8 @@ use Rattle.rule_bind.specs.Functions.{function_of, operator_of}
 use Rattle.rule_bind.specs.References.{db_of, children_of}
 use Rattle.rule_bind.specs.Formulas.{Meanings, Meant, alone, children, unary, binary, choice, choice_call, unary_call, binary_call, children_call, call_value, operator_value, operator_truth, meanings_step, meanings, meant}
 use Rattle.rule_bind.proofs.FormulaFacts.{by_layer}
-use Rattle.rule_bind.specs.declared.function.OwnFunction.{OwnFunction}
-use Rattle.rule_bind.specs.declared.function.OwnFunction.TheVariants as own
-use Rattle.rule_bind.specs.declared.function.Function.TheVariants as functions
-use Rattle.bind_laws.proofs.OwnFacts.{call_table}
-use Rattle.bind_laws.proofs.Got.{got, answer}
+use Rattle.rule_bind.proofs.OwnFacts.{IsTable, call_table}
+use Rattle.rule_bind.proofs.Got.{got, answer}
 use Rattle.bind_laws.proofs.FormulaFacts.{either_way}
 
 -- of an operand at most one is counted, and of all else what is counted of its parts
@@ -165,9 +162,8 @@ module _ (of : Formula → ℕ) (of_truth : Truth → ℕ) (counts : IsCount of 
     binary_call_light op (l ∷ r ∷ []) light = binary_light (nodes l) (nodes r) (called (l ∷ r ∷ [])) op (meant space cube l) (meant space cube r) light.0 light.1.0 (omega arith)
     binary_call_light op _ light = λ f is. absurd (cc is)
 
-    own_call_light : (at : Standing) (function : OwnFunction) (trees : List Tree) → IsLight (called trees) (call_value space cube at (functions.Own function) (all_meant trees))
-    own_call_light at function trees f is =
-        let (place, table, same) = call_table space cube function (map (λ m. m.0) (all_meant trees)) f is in
+    table_light : (trees : List Tree) (f : Formula) → IsTable f → of f ≤ called trees
+    table_light trees f (place, table, same) =
         subst (λ g. of g ≤ called trees) (sym same) (omega (arith, counts.table place table))
 
     children_call_light : (at : Standing) (trees : List Tree) → IsLight (called trees) (children_call space cube at (all_meant trees))
@@ -189,11 +185,11 @@ module _ (of : Formula → ℕ) (of_truth : Truth → ℕ) (counts : IsCount of 
         (either_way (λ function. P (call_value space cube at function (all_meant trees))) (bytes_eq word (codes "MIN")) _ _ (binary_call_light ops.Min trees all)
         (either_way (λ function. P (call_value space cube at function (all_meant trees))) (bytes_eq word (codes "MOD")) _ _ (binary_call_light ops.Mod trees all)
         (either_way (λ function. P (call_value space cube at function (all_meant trees))) (bytes_eq word (codes "ROUNDP")) _ _ (binary_call_light ops.RoundTo trees all)
-        (either_way (λ function. P (call_value space cube at function (all_meant trees))) (bytes_eq word (codes "DIMIX")) _ _ (own_call_light at own.Place trees)
-        (either_way (λ function. P (call_value space cube at function (all_meant trees))) (bytes_eq word (codes "ELLEV")) _ _ (own_call_light at own.Level trees)
-        (either_way (λ function. P (call_value space cube at function (all_meant trees))) (bytes_eq word (codes "ELISPAR")) _ _ (own_call_light at own.HasParent trees)
-        (either_way (λ function. P (call_value space cube at function (all_meant trees))) (bytes_eq word (codes "ELISCOMP")) _ _ (own_call_light at own.IsComponent trees)
-        (either_way (λ function. P (call_value space cube at function (all_meant trees))) (bytes_eq word (codes "ATTRN")) _ _ (own_call_light at own.Attribute trees)
+        (either_way (λ function. P (call_value space cube at function (all_meant trees))) (bytes_eq word (codes "DIMIX")) _ _ (λ f is. table_light trees f (call_table space cube _ (map (λ m. m.0) (all_meant trees)) f is))
+        (either_way (λ function. P (call_value space cube at function (all_meant trees))) (bytes_eq word (codes "ELLEV")) _ _ (λ f is. table_light trees f (call_table space cube _ (map (λ m. m.0) (all_meant trees)) f is))
+        (either_way (λ function. P (call_value space cube at function (all_meant trees))) (bytes_eq word (codes "ELISPAR")) _ _ (λ f is. table_light trees f (call_table space cube _ (map (λ m. m.0) (all_meant trees)) f is))
+        (either_way (λ function. P (call_value space cube at function (all_meant trees))) (bytes_eq word (codes "ELISCOMP")) _ _ (λ f is. table_light trees f (call_table space cube _ (map (λ m. m.0) (all_meant trees)) f is))
+        (either_way (λ function. P (call_value space cube at function (all_meant trees))) (bytes_eq word (codes "ATTRN")) _ _ (λ f is. table_light trees f (call_table space cube _ (map (λ m. m.0) (all_meant trees)) f is))
         (λ f is. absurd (cc is))))))))))))))))))
 
     abbrev IsLightTree : Tree → Type 0

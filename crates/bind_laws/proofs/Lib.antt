@@ -1,8 +1,6 @@
-pub mod Got
 mod AreaFacts
 mod CubeFacts
 mod ReferenceFacts
-mod OwnFacts
 mod FormulaFacts
 mod FormulaSizes
 mod CountFacts

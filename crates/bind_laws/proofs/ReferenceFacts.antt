@@ -23,7 +23,7 @@ use Rattle.bind_arguments.specs.Argument.{argument_of}
 use Rattle.bind_arguments.specs.Bound.{dimension_at}
 use Rattle.bind_arguments.specs.declared.fault.ArgumentFault.{ArgumentFault}
 use Rattle.rule_bind.specs.References.{caused, fixed_name, cube_of, dimension_called, children_of, args_of, cell_of_target, db_of}
-use Rattle.bind_laws.proofs.Got.{got, passed}
+use Rattle.rule_bind.proofs.Got.{got, passed}
 use Rattle.bind_laws.proofs.CubeFacts.{dims_within}
 use Rattle.bind_arguments.proofs.ArgumentFacts.{and_then_found, there, argument_valid}
 

@@ -29,7 +29,7 @@ use Rattle.rule_bind.specs.declared.standing.Standing.TheVariants as standings
 use Rattle.rule_bind.specs.Rules.{part_of, consolidated_of, Parts, parts_of, form_of, statement_of, target_of, feeders_to, feeders_of, standing_at, statements_of, all_feeders_of, rules_of}
 use Rattle.rule_tree.specs.Sizes.{IsWithinLimits}
 use Rattle.cube_lex.specs.Reading.{most_text_bytes}
-use Rattle.bind_laws.proofs.Got.{got, answer, unplaced}
+use Rattle.rule_bind.proofs.Got.{got, answer, unplaced}
 use Rattle.bind_laws.proofs.AreaFacts.{area_valid, bracket_valid}
 use Rattle.bind_laws.proofs.ReferenceFacts.{db_valid}
 use Rattle.bind_laws.proofs.FormulaFacts.{IsRead, sound}

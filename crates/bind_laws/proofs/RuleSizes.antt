@@ -25,7 +25,7 @@ use Rattle.bind_areas.specs.Areas.{area_of}
 use Rattle.rule_bind.specs.declared.fault.BindAt.TheVariants as places
 use Rattle.rule_bind.specs.declared.standing.Standing.TheVariants as standings
 use Rattle.rule_bind.specs.Rules.{part_of, consolidated_of, Parts, parts_of, form_of, statement_of, target_of, feeders_to, feeders_of, standing_at, statements_of, all_feeders_of}
-use Rattle.bind_laws.proofs.Got.{got, answer, unplaced}
+use Rattle.rule_bind.proofs.Got.{got, answer, unplaced}
 use Rattle.bind_laws.proofs.FormulaSizes.{IsCount, light}
 use Rattle.bind_laws.proofs.CountFacts.{reads_count, operands_count}
 

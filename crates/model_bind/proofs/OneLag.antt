@@ -16,7 +16,7 @@ use Rattle.bind_order.specs.Orders.{plain_order, equal_order}
 use Rattle.bind_order.specs.declared.lag.Lag.{Lag}
 use Rattle.rule_bind.specs.declared.fault.BindFault.{BindFault}
 use Rattle.rule_bind.specs.Rules.{statements_of, all_feeders_of, rules_of}
-use Rattle.bind_laws.proofs.Got.{got}
+use Rattle.rule_bind.proofs.Got.{got}
 use Rattle.arrow_laws.specs.Ranked.{HasOneLag}
 use Rattle.model_bind.specs.Files.{RuleFile}
 use Rattle.model_bind.specs.declared.bound.BoundRules.{BoundRules}

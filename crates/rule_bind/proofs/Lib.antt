@@ -1,2 +1,4 @@
 pub mod InTurn
 pub mod FormulaFacts
+pub mod Got
+pub mod OwnFacts

@@ -11,7 +11,7 @@ use Rattle.bind_arguments.specs.declared.element_function.ElementFunction.TheVar
 use Rattle.rule_bind.specs.OwnNumbers.{axis_named, own_place, element_at, attribute_at, table_at, plain_call, parent_call, component_call, attribute_call, own_call}
 use Rattle.rule_bind.specs.declared.function.OwnFunction.{OwnFunction}
 use Rattle.rule_bind.specs.declared.function.OwnFunction.TheVariants as own
-use Rattle.bind_laws.proofs.Got.{got, answer}
+use Rattle.rule_bind.proofs.Got.{got, answer}
 
 abbrev pub IsTable : Formula → Type 0
 IsTable f = (place : ℕ) × ((table : List ℤ) × (f ≡ formulas.Table place table))
