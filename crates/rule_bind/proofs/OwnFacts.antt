@@ -14,7 +14,7 @@ use Rattle.rule_bind.specs.declared.function.OwnFunction.TheVariants as own
 use Rattle.rule_bind.proofs.Got.{got, answer}
 
 abbrev pub IsTable : Formula → Type 0
-IsTable f = (place : ℕ) × ((table : List ℤ) × (f ≡ formulas.Table place table))
+IsTable f = (place : ℕ) × (table : List ℤ) × (f ≡ formulas.Table place table)
 
 module _ (space : Layout) (cube : ℕ) where
   made : (place : ℕ) (function : ElementFunction) (f : Formula) → answer (table_at space cube place function) ≡ Ok f → IsTable f
