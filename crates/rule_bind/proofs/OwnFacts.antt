@@ -4,7 +4,7 @@ use Rattle.cube_space.specs.Layout.{Layout}
 use Rattle.rule_laws.specs.declared.formula.Formula.{Formula}
 use Rattle.rule_laws.specs.declared.formula.Formula.TheVariants as formulas
 use Rattle.rule_tree.specs.declared.tree.Tree.{Tree}
-use Rattle.bind_areas.specs.Meaning.{Meaning, ◌>>=◌}
+use Rattle.bind_areas.specs.Meaning.{◌>>=◌}
 use Rattle.bind_arguments.specs.Numbers.{numbers_at}
 use Rattle.bind_arguments.specs.declared.element_function.ElementFunction.{ElementFunction}
 use Rattle.bind_arguments.specs.declared.element_function.ElementFunction.TheVariants as functions

@@ -1,5 +1,4 @@
-use Rattle.std.proofs.Common.{◌≡◌, ◌∙◌, ◌*◌, ap, arith, pos, length}
-use Rattle.cube_fixed.specs.Range.{unit}
+use Rattle.std.proofs.Common.{◌≡◌, ◌∙◌, ap, arith, length}
 use Rattle.cube_fixed.specs.Text.{number_of, reading_of}
 use Rattle.bind_arguments.specs.Numbers.{number_for, read_or_zero}
 use Rattle.bind_arguments.specs.declared.element_function.ElementFunction.TheVariants as functions
