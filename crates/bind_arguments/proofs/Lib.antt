@@ -9,4 +9,5 @@ mod Moves
 mod AlikeFacts
 mod MapsMade
 mod NumbersMade
+mod BelowFacts
 pub mod ArgumentFacts

@@ -11,7 +11,7 @@ use Rattle.cube_fixed.specs.Text.{number_of, reading_of}
 use Rattle.dim_core.specs.Outline.{Outline}
 use Rattle.dim_core.specs.declared.attribute.Attribute.{Attribute}
 use Rattle.dim_name.specs.Name.{key_of}
-use Rattle.bind_arguments.specs.Numbers.{is_component, number_for, numbers_over, read_or_zero, IsTableIn, AreTablesIn}
+use Rattle.bind_arguments.specs.Numbers.{is_component, is_below, number_for, numbers_over, read_or_zero, IsTableIn, AreTablesIn}
 use Rattle.bind_arguments.specs.declared.element_function.ElementFunction.{ElementFunction}
 use Rattle.bind_arguments.specs.declared.element_function.ElementFunction.TheVariants as functions
 use Rattle.bind_arguments.specs.declared.bound_tables.BoundTable.{BoundTable}
@@ -38,6 +38,9 @@ same_attributes d name other same =
 -- a number of a mark is that of the element
 pub marked : (d : Outline) (parent element : ℕ) (mark : Bool) (number : ℤ) → mark ≡ is_component d parent element → number ≡ (if mark then pos unit else pos 0) → number ≡ number_for d (functions.ComponentOf parent) element
 marked d parent element mark number is so = so ∙ ap (λ (b : Bool). if b then pos unit else pos 0) is
+
+pub below_marked : (d : Outline) (above element : ℕ) (mark : Bool) (number : ℤ) → mark ≡ is_below d above element → number ≡ (if mark then pos unit else pos 0) → number ≡ number_for d (functions.Below above) element
+below_marked d above element mark number is so = so ∙ ap (λ (b : Bool). if b then pos unit else pos 0) is
 
 module _ (space : Layout) where
   pub no_tables : AreTablesIn space []

@@ -4,7 +4,8 @@ use Rattle.std.specs.List.{list_any, range_with_len}
 use Rattle.cube_fixed.specs.Range.{unit}
 use Rattle.cube_fixed.specs.Text.{number_of, reading_of}
 use Rattle.cube_fixed.specs.declared.reading.NumberFault.{NumberFault}
-use Rattle.dim_core.specs.Outline.{Outline, level, components_of, attribute_of}
+use Rattle.dim_core.specs.Outline.{Outline, level, components_of, component_lists, attribute_of}
+use Rattle.dim_order.specs.Loops.{is_reached}
 use Rattle.std.specs.Option.{option_map_or}
 use Rattle.cube_space.specs.Layout.{Layout, axes}
 use Rattle.bind_arguments.specs.Bound.{dimension_at}
@@ -21,10 +22,15 @@ read_or_zero (Err fault) = pos 0
 abbrev pub is_component : Outline → ℕ → ℕ → Bool
 is_component d parent element = list_any (λ part. part.0 == element) (components_of d parent)
 
+-- whether an element lies below another one, at any depth and whatever the weights
+abbrev pub is_below : Outline → ℕ → ℕ → Bool
+is_below d above element = is_reached (component_lists d.elements) (length d.elements) above element
+
 abbrev pub number_for : Outline → ElementFunction → ℕ → ℤ
 number_for d functions.Place element = pos ((element + 1) * unit)
 number_for d functions.Level element = pos (level d element * unit)
 number_for d (functions.ComponentOf parent) element = if is_component d parent element then pos unit else pos 0
+number_for d (functions.Below above) element = if is_below d above element then pos unit else pos 0
 number_for d (functions.Attribute name) element = read_or_zero (reading_of (number_of (attribute_of d element name)))
 
 -- the element whose components are asked for is one of the dimension
@@ -32,6 +38,7 @@ abbrev pub is_within : Outline → ElementFunction → Type 0
 is_within d functions.Place = ⊤
 is_within d functions.Level = ⊤
 is_within d (functions.ComponentOf parent) = parent < length d.elements
+is_within d (functions.Below above) = above < length d.elements
 is_within d (functions.Attribute name) = ⊤
 
 -- for each element of the dimension

@@ -48,6 +48,7 @@ fn is_same(function: &ElementFunction, other: &ElementFunction) -> bool
         (ElementFunction::ComponentOf(parent), ElementFunction::ComponentOf(other)) => {
             parent == other
         }
+        (ElementFunction::Below(above), ElementFunction::Below(other)) => above == other,
         (ElementFunction::Attribute(name), ElementFunction::Attribute(other)) => {
             is_same_attribute(name, other)
         }
@@ -66,6 +67,10 @@ fn key_of(alloc: Global, dim: u32, function: &ElementFunction) -> Result<Vec<u8>
         ElementFunction::ComponentOf(parent) => {
             key.extend_from_slice(b"<")?;
             key.extend_from_slice(&parent.to_le_bytes())?;
+        }
+        ElementFunction::Below(above) => {
+            key.extend_from_slice(b">")?;
+            key.extend_from_slice(&above.to_le_bytes())?;
         }
         ElementFunction::Attribute(name) => {
             key.extend_from_slice(b".")?;

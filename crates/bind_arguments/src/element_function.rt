@@ -9,6 +9,9 @@ pub enum ElementFunction {
     Level,
     /// `ELISPAR` and `ELISCOMP`: 1 for a component of the element of this index, whatever its weight, and 0 for others.
     ComponentOf(u32),
+    /// `ELISANC`: 1 for what lies below the element of this index, at any depth and whatever the weights, and 0 for
+    /// others.
+    Below(u32),
     /// `ATTRN`: its text of this attribute as a number; 0 where that is no number.
     Attribute(Name),
 }

@@ -22,6 +22,7 @@ mod bound_tables;
 mod element_function;
 mod fault;
 mod giving;
+mod marks;
 mod naming;
 mod numbers;
 mod own_maps;

@@ -1,11 +1,12 @@
-ghost use Rattle.std.specs.Prelude.{◌≡◌, ◌*◌, ◌<◌, ℕ, pos, false, length, get_or, IfOk, if◌then◌else◌};
+ghost use Rattle.std.specs.Prelude.{◌≡◌, ◌*◌, ◌<◌, pos, length, IfOk, if◌then◌else◌};
 ghost use Rattle.cube_fixed.specs.Range.{unit};
 ghost use Rattle.cube_fixed.specs.Text.{number_of, reading_of};
 ghost use Rattle.dim_core.specs.Outline.{level, attribute_of};
 ghost use Rattle.bind_arguments.specs.declared.element_function.ElementFunction.TheVariants as functions;
-ghost use Rattle.bind_arguments.specs.Numbers.{is_component, is_within, number_for, numbers_over, read_or_zero};
+ghost use Rattle.bind_arguments.specs.Numbers.{is_within, number_for, numbers_over, read_or_zero};
 
 use crate::element_function::ElementFunction;
+use crate::marks::{components_of, elements_below};
 use cube_fixed::{Money, read};
 use dim_core::Dimension;
 use dim_name::Name;
@@ -25,6 +26,7 @@ pub(crate) fn numbers_over(
         ElementFunction::Place => places(alloc, dimension)?,
         ElementFunction::Level => levels(alloc, dimension)?,
         ElementFunction::ComponentOf(parent) => memberships(alloc, dimension, *parent)?,
+        ElementFunction::Below(above) => descents(alloc, dimension, *above)?,
         ElementFunction::Attribute(name) => attributes(alloc, dimension, name)?,
     };
     ElementTable::new(alloc, numbers)
@@ -73,20 +75,6 @@ fn attributes(alloc: Global, dimension: &Dimension, name: &Name) -> Result<Vec<M
     Ok(numbers)
 }
 
-// Which elements are components of this one.
-fn components_of(alloc: Global, dimension: &Dimension, parent: u32) -> Result<Vec<bool>, AllocError>
-    requires { parent < length dimension.now.elements }
-    ensures len { IfOk result (λ marks. length marks.items ≡ length dimension.now.elements) }
-    ensures marks { IfOk result (λ marks. (element : ℕ) → element < length marks.items
-        → get_or marks.items element false ≡ is_component dimension.now parent element) }
-{
-    let mut marks = Vec::from_elem(alloc, false, dimension.len() as usize)?;
-    for part in dimension.components(parent) {
-        marks[part.0 as usize] = true;
-    }
-    Ok(marks)
-}
-
 // 1 for what holds, 0 for what doesn't.
 fn number_of_mark(mark: bool) -> Money
     ensures { result ≡ (if mark then pos unit else pos 0) }
@@ -104,6 +92,19 @@ fn memberships(alloc: Global, dimension: &Dimension, parent: u32) -> Result<Vec<
     ensures { IfOk result (λ numbers. numbers.items ≡ numbers_over dimension.now (functions.ComponentOf parent)) }
 {
     let marks = components_of(alloc, dimension, parent)?;
+    let mut numbers = Vec::with_capacity(alloc, marks.len())?;
+    for element in 0..marks.len() {
+        numbers.push(number_of_mark(marks[element]))?;
+    }
+    Ok(numbers)
+}
+
+// 1 for each element below this one, 0 for the others.
+fn descents(alloc: Global, dimension: &Dimension, above: u32) -> Result<Vec<Money>, AllocError>
+    requires { above < length dimension.now.elements }
+    ensures { IfOk result (λ numbers. numbers.items ≡ numbers_over dimension.now (functions.Below above)) }
+{
+    let marks = elements_below(alloc, dimension, above)?;
     let mut numbers = Vec::with_capacity(alloc, marks.len())?;
     for element in 0..marks.len() {
         numbers.push(number_of_mark(marks[element]))?;

@@ -205,9 +205,10 @@ module _ (space : Layout) (cube : ℕ) where
         (either_way (λ function. IsGood at (call_value space cube at function ms)) (bytes_eq word (codes "DIMIX")) _ _ (λ f is. table_good at f (call_table space cube _ (map (λ m. m.0) ms) f is))
         (either_way (λ function. IsGood at (call_value space cube at function ms)) (bytes_eq word (codes "ELLEV")) _ _ (λ f is. table_good at f (call_table space cube _ (map (λ m. m.0) ms) f is))
         (either_way (λ function. IsGood at (call_value space cube at function ms)) (bytes_eq word (codes "ELISPAR")) _ _ (λ f is. table_good at f (call_table space cube _ (map (λ m. m.0) ms) f is))
+        (either_way (λ function. IsGood at (call_value space cube at function ms)) (bytes_eq word (codes "ELISANC")) _ _ (λ f is. table_good at f (call_table space cube _ (map (λ m. m.0) ms) f is))
         (either_way (λ function. IsGood at (call_value space cube at function ms)) (bytes_eq word (codes "ELISCOMP")) _ _ (λ f is. table_good at f (call_table space cube _ (map (λ m. m.0) ms) f is))
         (either_way (λ function. IsGood at (call_value space cube at function ms)) (bytes_eq word (codes "ATTRN")) _ _ (λ f is. table_good at f (call_table space cube _ (map (λ m. m.0) ms) f is))
-        (λ f is. absurd (cc is))))))))))))))))))
+        (λ f is. absurd (cc is)))))))))))))))))))
 
     abbrev Held : Type 0
     Held = (tree : Tree) × IsSound (meanings space cube tree)

@@ -188,9 +188,10 @@ module _ (of : Formula → ℕ) (of_truth : Truth → ℕ) (counts : IsCount of 
         (either_way (λ function. P (call_value space cube at function (all_meant trees))) (bytes_eq word (codes "DIMIX")) _ _ (λ f is. table_light trees f (call_table space cube _ (map (λ m. m.0) (all_meant trees)) f is))
         (either_way (λ function. P (call_value space cube at function (all_meant trees))) (bytes_eq word (codes "ELLEV")) _ _ (λ f is. table_light trees f (call_table space cube _ (map (λ m. m.0) (all_meant trees)) f is))
         (either_way (λ function. P (call_value space cube at function (all_meant trees))) (bytes_eq word (codes "ELISPAR")) _ _ (λ f is. table_light trees f (call_table space cube _ (map (λ m. m.0) (all_meant trees)) f is))
+        (either_way (λ function. P (call_value space cube at function (all_meant trees))) (bytes_eq word (codes "ELISANC")) _ _ (λ f is. table_light trees f (call_table space cube _ (map (λ m. m.0) (all_meant trees)) f is))
         (either_way (λ function. P (call_value space cube at function (all_meant trees))) (bytes_eq word (codes "ELISCOMP")) _ _ (λ f is. table_light trees f (call_table space cube _ (map (λ m. m.0) (all_meant trees)) f is))
         (either_way (λ function. P (call_value space cube at function (all_meant trees))) (bytes_eq word (codes "ATTRN")) _ _ (λ f is. table_light trees f (call_table space cube _ (map (λ m. m.0) (all_meant trees)) f is))
-        (λ f is. absurd (cc is))))))))))))))))))
+        (λ f is. absurd (cc is)))))))))))))))))))
 
     abbrev IsLightTree : Tree → Type 0
     IsLightTree tree = AreLight (nodes tree) (meanings space cube tree)

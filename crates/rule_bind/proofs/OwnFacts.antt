@@ -1,5 +1,5 @@
 -- A function of the cell's own element means a table.
-use Rattle.std.proofs.Common.{◌≡◌, ℕ, ℤ, List, [], ◌∷◌, Ok, sym}
+use Rattle.std.proofs.Common.{◌≡◌, ℕ, ℤ, Bool, true, false, List, [], ◌∷◌, Ok, sym}
 use Rattle.cube_space.specs.Layout.{Layout}
 use Rattle.rule_laws.specs.declared.formula.Formula.{Formula}
 use Rattle.rule_laws.specs.declared.formula.Formula.TheVariants as formulas
@@ -8,7 +8,7 @@ use Rattle.bind_areas.specs.Meaning.{◌>>=◌}
 use Rattle.bind_arguments.specs.Numbers.{numbers_at}
 use Rattle.bind_arguments.specs.declared.element_function.ElementFunction.{ElementFunction}
 use Rattle.bind_arguments.specs.declared.element_function.ElementFunction.TheVariants as functions
-use Rattle.rule_bind.specs.OwnNumbers.{axis_named, own_place, element_at, attribute_at, table_at, plain_call, parent_call, component_call, attribute_call, own_call}
+use Rattle.rule_bind.specs.OwnNumbers.{axis_named, own_place, element_at, attribute_at, table_at, under, plain_call, upper_call, component_call, attribute_call, own_call}
 use Rattle.rule_bind.specs.declared.function.OwnFunction.{OwnFunction}
 use Rattle.rule_bind.specs.declared.function.OwnFunction.TheVariants as own
 use Rattle.rule_bind.proofs.Got.{got, answer}
@@ -29,13 +29,13 @@ module _ (space : Layout) (cube : ℕ) where
       made own function f rest
   plain function _ f is = absurd (cc is)
 
-  parent : (trees : List Tree) (f : Formula) → parent_call space cube trees ≡ Ok f → IsTable f
-  parent (dim ∷ element ∷ of ∷ []) f is =
-      let (place, first, many) = got (axis_named space cube dim) (λ place. element_at space cube place element >>= (λ above. own_place space cube place of >>= (λ own. Ok (table_at space cube own (functions.ComponentOf above))))) f is in
-      let (above, second, more) = got (element_at space cube place element) (λ above. own_place space cube place of >>= (λ own. Ok (table_at space cube own (functions.ComponentOf above)))) f many in
-      let (own, third, rest) = got (own_place space cube place of) (λ own. Ok (table_at space cube own (functions.ComponentOf above))) f more in
-      made own (functions.ComponentOf above) f rest
-  parent _ f is = absurd (cc is)
+  upper : (deep : Bool) (trees : List Tree) (f : Formula) → upper_call space cube deep trees ≡ Ok f → IsTable f
+  upper deep (dim ∷ element ∷ of ∷ []) f is =
+      let (place, first, many) = got (axis_named space cube dim) (λ place. element_at space cube place element >>= (λ above. own_place space cube place of >>= (λ own. Ok (table_at space cube own (under deep above))))) f is in
+      let (above, second, more) = got (element_at space cube place element) (λ above. own_place space cube place of >>= (λ own. Ok (table_at space cube own (under deep above)))) f many in
+      let (own, third, rest) = got (own_place space cube place of) (λ own. Ok (table_at space cube own (under deep above))) f more in
+      made own (under deep above) f rest
+  upper deep _ f is = absurd (cc is)
 
   component : (trees : List Tree) (f : Formula) → component_call space cube trees ≡ Ok f → IsTable f
   component (dim ∷ of ∷ element ∷ []) f is =
@@ -57,6 +57,7 @@ module _ (space : Layout) (cube : ℕ) where
   unfolding own_call
   call_table own.Place trees f is = plain functions.Place trees f is
   call_table own.Level trees f is = plain functions.Level trees f is
-  call_table own.HasParent trees f is = parent trees f is
+  call_table own.HasParent trees f is = upper false trees f is
+  call_table own.HasAncestor trees f is = upper true trees f is
   call_table own.IsComponent trees f is = component trees f is
   call_table own.Attribute trees f is = attribute trees f is

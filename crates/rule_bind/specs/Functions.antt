@@ -17,6 +17,7 @@ own_function word =
     if bytes_eq word (codes "DIMIX") then functions.Own own.Place
     else if bytes_eq word (codes "ELLEV") then functions.Own own.Level
     else if bytes_eq word (codes "ELISPAR") then functions.Own own.HasParent
+    else if bytes_eq word (codes "ELISANC") then functions.Own own.HasAncestor
     else if bytes_eq word (codes "ELISCOMP") then functions.Own own.IsComponent
     else if bytes_eq word (codes "ATTRN") then functions.Own own.Attribute
     else functions.Other

@@ -1,5 +1,5 @@
 -- What functions of the cell's own element mean: a table over the dimension whose element they take.
-use Rattle.std.specs.Prelude.{ℕ, ◌==◌, List, [], ◌∷◌, Option, Some, None, Err, ok_or, option_and_then}
+use Rattle.std.specs.Prelude.{ℕ, ◌==◌, Bool, true, false, List, [], ◌∷◌, Option, Some, None, Err, ok_or, option_and_then}
 use Rattle.std.specs.Prelude.{slice_get, if◌then◌else◌}
 use Rattle.cube_space.specs.Layout.{Layout, axes}
 use Rattle.cube_space.specs.Axes.{axis_called}
@@ -62,14 +62,19 @@ plain_call space cube function (dim ∷ of ∷ []) = do
   done (table_at space cube own function)
 plain_call space cube function _ = Err WrongCount
 
--- an element and the cell's own one, of which the first is the other's parent
-abbrev pub parent_call : Layout → ℕ → List Tree → Meaning Formula
-parent_call space cube (dim ∷ element ∷ of ∷ []) = do
+-- whether the cell's own element is a component of another one, or lies below it at any depth
+abbrev pub under : Bool → ℕ → ElementFunction
+under true above = functions.Below above
+under false parent = functions.ComponentOf parent
+
+-- an element and the cell's own one, of which the first is above the other
+abbrev pub upper_call : Layout → ℕ → Bool → List Tree → Meaning Formula
+upper_call space cube deep (dim ∷ element ∷ of ∷ []) = do
   place ← axis_named space cube dim
-  parent ← element_at space cube place element
+  above ← element_at space cube place element
   own ← own_place space cube place of
-  done (table_at space cube own (functions.ComponentOf parent))
-parent_call space cube _ = Err WrongCount
+  done (table_at space cube own (under deep above))
+upper_call space cube deep _ = Err WrongCount
 
 -- the cell's own element and one whose component it is
 abbrev pub component_call : Layout → ℕ → List Tree → Meaning Formula
@@ -93,6 +98,7 @@ attribute_call space cube _ = Err WrongCount
 unfoldable pub own_call : Layout → ℕ → OwnFunction → List Tree → Meaning Formula
 own_call space cube own.Place arguments = plain_call space cube functions.Place arguments
 own_call space cube own.Level arguments = plain_call space cube functions.Level arguments
-own_call space cube own.HasParent arguments = parent_call space cube arguments
+own_call space cube own.HasParent arguments = upper_call space cube false arguments
+own_call space cube own.HasAncestor arguments = upper_call space cube true arguments
 own_call space cube own.IsComponent arguments = component_call space cube arguments
 own_call space cube own.Attribute arguments = attribute_call space cube arguments

@@ -12,6 +12,8 @@ pub(crate) enum OwnFunction {
     Level,
     /// `ELISPAR`
     HasParent,
+    /// `ELISANC`
+    HasAncestor,
     /// `ELISCOMP`
     IsComponent,
     /// `ATTRN`
@@ -47,6 +49,8 @@ fn own_function(word: &[u8]) -> Function
         Function::Own(OwnFunction::Level)
     } else if word == b"ELISPAR".as_slice() {
         Function::Own(OwnFunction::HasParent)
+    } else if word == b"ELISANC".as_slice() {
+        Function::Own(OwnFunction::HasAncestor)
     } else if word == b"ELISCOMP".as_slice() {
         Function::Own(OwnFunction::IsComponent)
     } else if word == b"ATTRN".as_slice() {

@@ -5,7 +5,7 @@ ghost use Rattle.bind_areas.specs.Meaning.{Answers};
 ghost use Rattle.bind_arguments.specs.Maps.{AreMapsIn};
 ghost use Rattle.bind_arguments.specs.Numbers.{is_within_at};
 ghost use Rattle.rule_bind.specs.OwnNumbers.{axis_named, own_place, element_at, attribute_at, table_at};
-ghost use Rattle.rule_bind.specs.OwnNumbers.{plain_call, parent_call, component_call, attribute_call, own_call};
+ghost use Rattle.rule_bind.specs.OwnNumbers.{plain_call, upper_call, component_call, attribute_call, own_call};
 
 use crate::function::OwnFunction;
 use crate::reference::{fixed_name, text_in};
@@ -141,26 +141,32 @@ fn plain_call(
     }
 }
 
-// Whether an element is a parent of the cell's own one.
-fn parent_call(
+// Whether an element is a parent of the cell's own one, or lies above it.
+fn upper_call(
     alloc: Global,
     space: &Space,
     maps: &mut BoundMaps,
     cube: u32,
+    deep: bool,
     arguments: &[Tree],
 ) -> Result<Formula, BindCause>
     requires cube { cube < length space.now.cubes }
     requires maps { AreMapsIn space.now maps.old }
-    ensures answers { Answers (parent_call space.now cube arguments.now) result }
+    ensures answers { Answers (upper_call space.now cube deep arguments.now) result }
     ensures maps { AreMapsIn space.now maps.new }
 {
     match arguments {
         [dim, element, of] => {
             let place = axis_named(alloc, space, cube, dim)?;
-            let parent = element_at(alloc, space, cube, place, element)?;
+            let above = element_at(alloc, space, cube, place, element)?;
             let own = own_place(space, cube, place, of)?;
-            let function = ElementFunction::ComponentOf(parent);
-            table_at(alloc, space, maps, cube, own, function)
+            if deep {
+                let function = ElementFunction::Below(above);
+                table_at(alloc, space, maps, cube, own, function)
+            } else {
+                let function = ElementFunction::ComponentOf(above);
+                table_at(alloc, space, maps, cube, own, function)
+            }
         }
         _ => Err(BindCause::WrongCount),
     }
@@ -238,7 +244,8 @@ pub(crate) fn own_call(
         OwnFunction::Level => {
             plain_call(alloc, space, maps, cube, ElementFunction::Level, arguments)
         }
-        OwnFunction::HasParent => parent_call(alloc, space, maps, cube, arguments),
+        OwnFunction::HasParent => upper_call(alloc, space, maps, cube, false, arguments),
+        OwnFunction::HasAncestor => upper_call(alloc, space, maps, cube, true, arguments),
         OwnFunction::IsComponent => component_call(alloc, space, maps, cube, arguments),
         OwnFunction::Attribute => attribute_call(alloc, space, maps, cube, arguments),
     }
