@@ -8,7 +8,8 @@ use Rattle.rule_laws.specs.declared.formula.Formula.{Formula}
 use Rattle.rule_laws.specs.declared.formula.Formula.TheVariants as formulas
 use Rattle.rule_tree.specs.declared.tree.Tree.{Tree, out-Tree}
 use Rattle.rule_tree.specs.declared.tree.Tree.TheOpen.{Tree-F}
-use Rattle.bind_areas.specs.declared.cause.BindCause.TheVariants.{UnknownName, WrongCount, Unsupported}
+use Rattle.bind_areas.specs.declared.cause.BindCause.TheVariants.{UnknownName, WrongCount, DynamicReference}
+use Rattle.bind_areas.specs.declared.cause.BindCause.TheVariants.{Unsupported}
 use Rattle.bind_areas.specs.Meaning.{Meaning, done, ◌>>=◌}
 use Rattle.bind_arguments.specs.Bound.{attribute_named}
 use Rattle.bind_arguments.specs.Numbers.{numbers_at}
@@ -48,7 +49,7 @@ element_at space cube place tree = do
 -- the attribute of this name that some element of the dimension at a place has
 unfoldable pub attribute_at : Layout → ℕ → ℕ → Tree → Meaning (List ℕ)
 attribute_at space cube place tree = do
-  text ← ok_or (text_in tree) Unsupported
+  text ← ok_or (text_in tree) DynamicReference
   ok_or (option_and_then (λ d. attribute_named d text) (slice_get (axes space cube) place)) UnknownName
 
 abbrev pub table_at : Layout → ℕ → ℕ → ElementFunction → Formula

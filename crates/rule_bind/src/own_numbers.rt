@@ -88,7 +88,7 @@ fn attribute_at(
     ensures within { IfOk result (λ name. is_within_at space.now cube place (functions.Attribute name)) }
 {
     let Some(text) = text_in(tree) else {
-        return Err(BindCause::Unsupported);
+        return Err(BindCause::DynamicReference);
     };
     match attribute_named(alloc, axis(space, cube, place), text)? {
         Some(name) => Ok(name),
