@@ -1,21 +1,23 @@
 -- The readers of a load are exact.
-use Rattle.std.proofs.Common.{ℕ, List, [], ◌∷◌, ◌++◌, Option, Some, None, true, false, codes, ◌∙◌, ap}
+use Rattle.std.proofs.Common.{ℕ, List, [], ◌∷◌, ◌++◌, Some, None, true, false, codes, ◌∙◌, ap}
 use Rattle.cube_lex.specs.Lexeme.{Lexeme}
 use Rattle.grammar.specs.Grammar.{Grammar, one, both, done}
 use Rattle.grammar.specs.Reading.{starts}
 use Rattle.grammar.specs.Tokens.{word, file, is_sign, is_word, is_text}
-use Rattle.grammar.proofs.Exact.{Exact, Always, Not, exact_gives, exact_then, exact_both, exact_made, exact_choose}
-use Rattle.grammar.proofs.Begins.{Begins, begins_both, begins_optional, exact_or, exact_option, starts_text}
+use Rattle.grammar.proofs.Exact.{Exact, Always, Not, exact_gives, exact_then, exact_both, exact_made, exact_before, exact_choose}
+use Rattle.grammar.proofs.Begins.{Begins, begins_both, begins_optional, made_is, exact_or, exact_option, starts_text}
 use Rattle.grammar.proofs.After.{exact_rest_after}
 use Rattle.grammar.proofs.Tokens.{exact_sign, exact_word, exact_name, exact_file, exact_text, exact_whole_number, sign_begins, word_begins, text_begins, sign_no_text, money_no_text}
 use Rattle.user_text.specs.Counting.{count, counting}
-use Rattle.user_text.specs.UserText.{skip, source, value, param, next_param, params_behind, with_params, loading, load}
+use Rattle.user_text.specs.FileSigns.{comma, separator}
+use Rattle.user_text.specs.UserText.{Source, skip, source, value, param, next_param, params_behind, with_params, loading, load}
 use Rattle.user_text.specs.Readers.Reading.{read_skip, read_source, read_value, read_param, read_next_param, read_further_params, read_params, read_load}
 use Rattle.user_text.specs.declared.command.ParamText.{ParamText}
 use Rattle.user_text.specs.declared.command.ParamText.TheVariants as params
 use Rattle.user_text.specs.declared.command.UserCommand.{UserCommand}
 use Rattle.user_text.proofs.CellExact.{amount_exact, closed, closed_sign, closed_word}
 use Rattle.user_text.proofs.NewVariables.{exact_new_variable}
+use Rattle.user_text.proofs.SignsExact.{said_separator, separator_exact, optional_no}
 
 skip_exact : Exact counting skip skip read_skip (Not (is_word (codes "SKIP")))
 unfolding read_skip
@@ -25,20 +27,43 @@ skip_exact = exact_option (is_word (codes "SKIP")) 0 (begins_both (word_begins (
 record BehindSource (rest : List Lexeme) : Type 0 where
   from : Not (is_word (codes "FROM")) rest
   skip : Not (is_word (codes "SKIP")) rest
+  separator : Not (is_word (codes "SEPARATOR")) rest
 
--- `FROM file [ SKIP whole ]`
-abbrev given_source : Grammar Lexeme (Option (List ℕ) × ℕ)
-given_source = both (one (word (codes "FROM"))) (λ _. both (one file) (λ path. both skip (λ records. done (Some path, records))))
+-- what may stand behind the file
+record BehindFile (rest : List Lexeme) : Type 0 where
+  skip : Not (is_word (codes "SKIP")) rest
+  separator : Not (is_word (codes "SEPARATOR")) rest
+
+-- `[ SEPARATOR ( Text | TAB ) ]`, with what stands before it
+abbrev signs_rest : List ℕ → ℕ → Grammar Lexeme Source
+signs_rest path records = both separator (λ byte. done (Some path, records, byte))
+
+said_no_skip : Begins said_separator (is_word (codes "SKIP")) false
+said_no_skip = begins_both (word_begins (codes "SEPARATOR") (codes "SKIP"))
+
+no_skip : (path : List ℕ) (records : ℕ) (v : List Lexeme) (b : Source) (rest : List Lexeme) → signs_rest path records v b → BehindFile rest → Not (is_word (codes "SKIP")) (v ++ rest)
+no_skip path records v b rest l stops =
+    let (byte, h) = made_is separator (λ byte. (Some path, records, byte)) v b l in
+    optional_no said_no_skip v byte rest h stops.skip
+
+-- `FROM file [ SKIP whole ] [ SEPARATOR ( Text | TAB ) ]`
+abbrev given_source : Grammar Lexeme Source
+given_source = both (one (word (codes "FROM"))) (λ _. both (one file) (λ path. both skip (signs_rest path)))
 
 given_source_begins : Begins given_source (is_word (codes "FROM")) true
 given_source_begins = begins_both (word_begins (codes "FROM") (codes "FROM"))
 
+behind_separator : (rest : List Lexeme) → BehindFile rest → Not (is_word (codes "SEPARATOR")) rest
+behind_separator rest stops = stops.separator
+
 source_exact : Exact counting source source read_source BehindSource
 unfolding read_source
-source_exact = exact_choose {S = Not (is_word (codes "SKIP"))} {S' = Always} {S'' = BehindSource} (is_word (codes "FROM"))
-    (exact_then (exact_word count (codes "FROM")) (λ _. exact_then (exact_file count) (λ path. exact_made (λ records. (Some path, records)) skip_exact)))
-    (exact_gives counting (None, 0))
-    (λ u a rest h stops. (starts_text given_source_begins u a rest h, stops.skip))
+source_exact = exact_choose {S = BehindFile} {S' = Always} {S'' = BehindSource} (is_word (codes "FROM"))
+    (exact_then (exact_word count (codes "FROM")) (λ _. exact_then (exact_file count) (λ path. exact_both skip_exact
+    (λ records. exact_before behind_separator (exact_made (λ byte. (Some path, records, byte)) separator_exact))
+    (λ records v b rest l stops. no_skip path records v b rest l stops))))
+    (exact_gives counting (None, 0, comma))
+    (λ u a rest h stops. (starts_text given_source_begins u a rest h, record { skip = stops.skip; separator = stops.separator }))
     (λ u a rest nothing stops. (ap (λ x. starts (is_word (codes "FROM")) (x ++ rest)) nothing.0 ∙ stops.from, tt))
 
 value_exact : Exact counting value value read_value Always
@@ -75,14 +100,17 @@ params_exact = exact_choose {S = Not (is_sign (codes ","))} {S' = Always} {S'' =
     (λ u a rest nothing stops. (ap (λ x. starts (is_word (codes "WITH")) (x ++ rest)) nothing.0 ∙ stops.with_word, tt))
 
 -- what stands behind the source
-abbrev load_rest : ℕ → List ℕ → Option (List ℕ) × ℕ → Grammar Lexeme UserCommand
+abbrev load_rest : ℕ → List ℕ → Source → Grammar Lexeme UserCommand
 load_rest line script records = both with_params (λ variables. closed (loading line script records variables))
 
-rest_no_from : (line : ℕ) (script : List ℕ) (records : Option (List ℕ) × ℕ) → Begins (load_rest line script records) (is_word (codes "FROM")) false
+rest_no_from : (line : ℕ) (script : List ℕ) (records : Source) → Begins (load_rest line script records) (is_word (codes "FROM")) false
 rest_no_from line script records = begins_optional (begins_both (word_begins (codes "WITH") (codes "FROM"))) (λ variables. closed_word (loading line script records variables) (codes "FROM"))
 
-rest_no_skip : (line : ℕ) (script : List ℕ) (records : Option (List ℕ) × ℕ) → Begins (load_rest line script records) (is_word (codes "SKIP")) false
+rest_no_skip : (line : ℕ) (script : List ℕ) (records : Source) → Begins (load_rest line script records) (is_word (codes "SKIP")) false
 rest_no_skip line script records = begins_optional (begins_both (word_begins (codes "WITH") (codes "SKIP"))) (λ variables. closed_word (loading line script records variables) (codes "SKIP"))
+
+rest_no_separator : (line : ℕ) (script : List ℕ) (records : Source) → Begins (load_rest line script records) (is_word (codes "SEPARATOR")) false
+rest_no_separator line script records = begins_optional (begins_both (word_begins (codes "WITH") (codes "SEPARATOR"))) (λ variables. closed_word (loading line script records variables) (codes "SEPARATOR"))
 
 pub load_exact : Exact counting load load read_load Always
 unfolding read_load
@@ -96,4 +124,5 @@ load_exact = exact_then (exact_word count (codes "LOAD")) (λ line. exact_then (
     (λ records v b rest l stops. record {
       from = starts_text (rest_no_from line script records) v b rest l;
       skip = starts_text (rest_no_skip line script records) v b rest l;
+      separator = starts_text (rest_no_separator line script records) v b rest l;
     })))

@@ -6,7 +6,8 @@ use Rattle.grammar.specs.After.{all_after}
 use Rattle.grammar.specs.Lists.{read_listed, read_minus, read_names}
 use Rattle.grammar.specs.Tokens.{sign, word, whole, name, text, money, file, is_sign, is_word, is_text}
 use Rattle.user_text.specs.Counting.{count}
-use Rattle.user_text.specs.UserText.{signed, new_variable, loading, viewing}
+use Rattle.user_text.specs.FileSigns.{comma, tab, point, sign_but}
+use Rattle.user_text.specs.UserText.{Source, signed, new_variable, loading, viewing}
 use Rattle.user_text.specs.declared.command.CellText.{CellText}
 use Rattle.user_text.specs.declared.command.ParamText.{ParamText}
 use Rattle.user_text.specs.declared.command.ParamText.TheVariants as params
@@ -66,10 +67,22 @@ read_get = do
 unfoldable pub read_skip : Plan ℕ
 read_skip = choose (is_word (codes "SKIP")) (do take_word (codes "SKIP"); take_one count whole) (gives 0)
 
-unfoldable pub read_source : Plan (Option (List ℕ) × ℕ)
+unfoldable pub read_given_separator : Plan ℕ
+read_given_separator = choose is_text (take_one count (sign_but point)) (do take_word (codes "TAB"); gives tab)
+
+unfoldable pub read_separator : Plan ℕ
+read_separator =
+    choose (is_word (codes "SEPARATOR")) (do take_word (codes "SEPARATOR"); read_given_separator) (gives comma)
+
+unfoldable pub read_source : Plan Source
 read_source = choose (is_word (codes "FROM"))
-    (do take_word (codes "FROM"); path ← take_one count file; records ← read_skip; gives (Some path, records))
-    (gives (None, 0))
+    (do
+      take_word (codes "FROM")
+      path ← take_one count file
+      records ← read_skip
+      byte ← read_separator
+      gives (Some path, records, byte))
+    (gives (None, 0, comma))
 
 unfoldable pub read_value : Plan ParamText
 read_value = choose is_text
