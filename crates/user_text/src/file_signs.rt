@@ -15,39 +15,55 @@ use std::alloc::{AllocError, Global};
 /// Between columns, where a load says nothing else.
 pub const COMMA: u8 = b',';
 
+/// Between units and decimals, where a load says nothing else.
+pub const POINT: u8 = b'.';
+
 /// What the word TAB stands for.
 const TAB: u8 = b'\t';
 
-/// Between units and decimals.
-const POINT: u8 = b'.';
-
-/// Whether a file has the byte for something else than between columns.
+/// Whether a file has the byte for something else than these signs.
 fn has_other_use(byte: u8) -> bool
     ensures { result ≡ file_signs.has_other_use byte }
 {
     byte.is_ascii_digit() || matches!(byte, b'+' | b'-' | b'"' | b'\n' | b'\r')
 }
 
-/// The byte, where these bytes are one that may be a sign of a file, other than this one.
-fn sign_in(taken: u8, bytes: &[u8]) -> Option<u8>
-    ensures { result ≡ file_signs.other_than taken (file_signs.sign_in bytes.now) }
+/// The byte, where these bytes are one that may be a sign of a file.
+fn sign_in(bytes: &[u8]) -> Option<u8>
+    ensures { result ≡ file_signs.sign_in bytes.now }
 {
     match bytes {
-        [byte] if !has_other_use(*byte) && *byte != taken => Some(*byte),
+        [byte] if !has_other_use(*byte) => Some(*byte),
         _ => None,
     }
 }
 
-/// The sign that a token is, if it is one other than this.
-fn sign_of(alloc: Global, token: &Token<'_>, taken: u8) -> Result<Option<u8>, AllocError>
-    ensures { IfOk result (λ byte. byte ≡ file_signs.sign_but taken (lexeme_of token.now)) }
+/// The sign of a file that a token is, if it is one.
+fn sign_of(alloc: Global, token: &Token<'_>) -> Result<Option<u8>, AllocError>
+    ensures { IfOk result (λ byte. byte ≡ file_signs.sign_text (lexeme_of token.now)) }
 {
     match token.kind {
         Kind::Text => {
             let bytes = unquoted(alloc, token.piece)?;
-            Ok(sign_in(taken, &bytes))
+            Ok(sign_in(&bytes))
         }
         _ => Ok(None),
+    }
+}
+
+/// Takes a quoted text that is a sign of a file.
+fn sign_text(alloc: Global, cursor: &mut Cursor<'_, Counted>) -> Result<u8, Stop<TooMany>>
+    ensures { Reads (λ byte. byte) (take_one count file_signs.sign_text) cursor.old result cursor.new }
+{
+    let Some(token) = cursor.peek() else {
+        return Err(cursor.unexpected());
+    };
+    match sign_of(alloc, &token)? {
+        Some(byte) => {
+            cursor.advance()?;
+            Ok(byte)
+        }
+        None => Err(cursor.unexpected()),
     }
 }
 
@@ -58,12 +74,12 @@ fn sign_but(alloc: Global, cursor: &mut Cursor<'_, Counted>, taken: u8) -> Resul
     let Some(token) = cursor.peek() else {
         return Err(cursor.unexpected());
     };
-    match sign_of(alloc, &token, taken)? {
-        Some(byte) => {
+    match sign_of(alloc, &token)? {
+        Some(byte) if byte != taken => {
             cursor.advance()?;
             Ok(byte)
         }
-        None => Err(cursor.unexpected()),
+        _ => Err(cursor.unexpected()),
     }
 }
 
@@ -73,7 +89,7 @@ fn given_separator(alloc: Global, cursor: &mut Cursor<'_, Counted>) -> Result<u8
     ensures { Reads (λ byte. byte) reading.read_given_separator cursor.old result cursor.new }
 {
     if text_comes(cursor) {
-        sign_but(alloc, cursor, POINT)
+        sign_text(alloc, cursor)
     } else {
         word(cursor, b"TAB")?;
         Ok(TAB)
@@ -90,5 +106,37 @@ pub fn separator_at(alloc: Global, cursor: &mut Cursor<'_, Counted>) -> Result<u
         given_separator(alloc, cursor)
     } else {
         Ok(COMMA)
+    }
+}
+
+/// Reads what stands between units and decimals, with its word. It isn't what stands between columns.
+#[tactic(auto, unfolding(crate::specs::Readers::Reading::read_given_decimal))]
+fn given_decimal(
+    alloc: Global,
+    cursor: &mut Cursor<'_, Counted>,
+    separator: u8,
+) -> Result<u8, Stop<TooMany>>
+    ensures { Reads (λ byte. byte) (reading.read_given_decimal separator) cursor.old result cursor.new }
+{
+    word(cursor, b"DECIMAL")?;
+    sign_but(alloc, cursor, separator)
+}
+
+/// Reads what stands between units and decimals. Where nothing is said it is a point, and so something has to be said
+/// where a point stands between columns.
+#[tactic(auto, unfolding(crate::specs::Readers::Reading::read_decimal, crate::specs::Readers::Reading::read_decimal_by))]
+pub fn decimal_at(
+    alloc: Global,
+    cursor: &mut Cursor<'_, Counted>,
+    separator: u8,
+) -> Result<u8, Stop<TooMany>>
+    ensures { Reads (λ byte. byte) (reading.read_decimal separator) cursor.old result cursor.new }
+{
+    if separator == POINT {
+        given_decimal(alloc, cursor, separator)
+    } else if word_comes(cursor, b"DECIMAL") {
+        given_decimal(alloc, cursor, separator)
+    } else {
+        Ok(POINT)
     }
 }
