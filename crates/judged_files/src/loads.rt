@@ -145,6 +145,7 @@ fn load_command(
         script,
         records: records_of(alloc, sources, &load.file, load.separator)?,
         skip: load.skip,
+        decimal: load.decimal,
         params: load.params,
     };
     Ok(Act::Do(PlanCommand::Load(job, Arc::try_clone(bound)?)))
