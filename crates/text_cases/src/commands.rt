@@ -57,7 +57,8 @@ fn add_load(lines: &mut Lines, line: u32, load: &LoadText) {
     match &load.file {
         Some(file) => {
             let file = shown(file.as_slice());
-            lines.add(&(line, "LOAD", script, file, load.skip, load.separator));
+            let signs = (load.separator, load.decimal);
+            lines.add(&(line, "LOAD", script, file, load.skip, signs));
         }
         None => lines.add(&(line, "LOAD", script)),
     }
