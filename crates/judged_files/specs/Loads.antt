@@ -43,10 +43,12 @@ user_files commands = filter_map (λ command. file_of command.body) commands
 abbrev pub record_files : List (List UserCommand) → List (List ℕ)
 record_files users = flat_map user_files users
 
--- the records of the file of this name, behind those that are passed over; without a file there are none
-abbrev pub records_of : List Source → Option (List ℕ) → ℕ → Option (List (List (List ℕ)))
-records_of sources None skip = Some []
-records_of sources (Some name) skip = option_map (λ source. rows_of skip source.1) (source_of sources name)
+-- the records of the file of this name, with this byte between columns, behind those that are passed over; without a
+-- file there are none
+abbrev pub records_of : List Source → Option (List ℕ) → ℕ → ℕ → Option (List (List (List ℕ)))
+records_of sources None separator skip = Some []
+records_of sources (Some name) separator skip =
+    option_map (λ source. rows_of separator skip source.1) (source_of sources name)
 
 -- a load's script is one of the model, and its file is one of those that were read
 pub record IsReadyLoad (files : ModelFiles) (sources : List Source) (load : LoadText) : Type 0 where
@@ -68,12 +70,14 @@ IsReady files sources bodies.Discard = Unit {0}
 abbrev pub AreReady : ModelFiles → List Source → List UserCommand → Type 0
 AreReady files sources commands = All (λ command. IsReady files sources command.body) commands
 
--- a load as it is run: by the place of its script in the model, with its records and what is set
+-- a load as it is run: by the place of its script in the model, with its records, the byte between units and decimals of
+-- their numbers, and what is set
 pub record IsLoad (files : ModelFiles) (sources : List Source) (load : LoadText) (job : LoadJob) (bound : BoundScript)
     : Type 0 where
   pub place : place_of files.script_names load.script ≡ Some job.script
   pub script : slice_get files.bound job.script ≡ Some bound
-  pub records : records_of sources load.file load.skip ≡ Some (rows_in job)
+  pub records : records_of sources load.file load.separator load.skip ≡ Some (rows_in job)
+  pub decimal : job.decimal ≡ load.decimal
   pub params : job.params ≡ load.params
 
 abbrev pub IsLoadCommand : ModelFiles → List Source → LoadText → Act PlanCommand → Type 0

@@ -51,7 +51,8 @@ fn add_files(
 }
 
 /// The commands of all users as they are run: what opens or ends a sandbox, and the commands of the model. The scripts
-/// and the files of their loads are there. Each file of records is read as records once, for all loads of it.
+/// and the files of their loads are there. Each file of records is read as records once, for all loads of it that have
+/// the same byte between columns.
 pub fn commands_of(
     alloc: Global,
     files: &ModelFiles,
@@ -61,21 +62,22 @@ pub fn commands_of(
     requires { All (AreReady files.now sources.now) users }
     ensures { IfOk result (λ commands. AllZip (AreCommands files.now sources.now) users commands) }
 {
-    let Ok(sources) = FileRecords::new(alloc, sources) else {
+    let Ok(mut sources) = FileRecords::new(alloc, sources) else {
         return Err(AllocError);
     };
-    all_commands(alloc, files, &sources, users)
+    all_commands(alloc, files, &mut sources, users)
 }
 
 // The commands of all users.
 fn all_commands(
     alloc: Global,
     files: &ModelFiles,
-    sources: &FileRecords<'_, '_>,
+    sources: &mut FileRecords<'_, '_>,
     users: ListOf<ListOf<UserCommand>>,
 ) -> Result<ListOf<ListOf<Act<PlanCommand>>>, AllocError>
-    requires { All (AreReady files.now sources.now) users }
-    ensures { IfOk result (λ commands. AllZip (AreCommands files.now sources.now) users commands) }
+    requires { All (AreReady files.now sources.old) users }
+    ensures kept { sources.new ≡ sources.old }
+    ensures commands { IfOk result (λ commands. AllZip (AreCommands files.now sources.old) users commands) }
 {
     let mut all = Vec::new(alloc);
     for texts in users.into_vec() {
@@ -89,11 +91,12 @@ fn all_commands(
 fn user_commands(
     alloc: Global,
     files: &ModelFiles,
-    sources: &FileRecords<'_, '_>,
+    sources: &mut FileRecords<'_, '_>,
     texts: ListOf<UserCommand>,
 ) -> Result<ListOf<Act<PlanCommand>>, AllocError>
-    requires { AreReady files.now sources.now texts }
-    ensures { IfOk result (λ commands. AreCommands files.now sources.now texts commands) }
+    requires { AreReady files.now sources.old texts }
+    ensures kept { sources.new ≡ sources.old }
+    ensures commands { IfOk result (λ commands. AreCommands files.now sources.old texts commands) }
 {
     let mut commands = Vec::new(alloc);
     for text in texts.into_vec() {
@@ -106,11 +109,12 @@ fn user_commands(
 fn command_of(
     alloc: Global,
     files: &ModelFiles,
-    sources: &FileRecords<'_, '_>,
+    sources: &mut FileRecords<'_, '_>,
     body: UserBody,
 ) -> Result<Act<PlanCommand>, AllocError>
-    requires { IsReady files.now sources.now body }
-    ensures { IfOk result (λ command. IsCommand files.now sources.now body command) }
+    requires { IsReady files.now sources.old body }
+    ensures kept { sources.new ≡ sources.old }
+    ensures command { IfOk result (λ command. IsCommand files.now sources.old body command) }
 {
     match body {
         UserBody::Put(cell, number) => Ok(Act::Do(PlanCommand::Put(cell, number))),
@@ -129,17 +133,19 @@ fn command_of(
 fn load_command(
     alloc: Global,
     files: &ModelFiles,
-    sources: &FileRecords<'_, '_>,
+    sources: &mut FileRecords<'_, '_>,
     load: LoadText,
 ) -> Result<Act<PlanCommand>, AllocError>
-    requires { IsReadyLoad files.now sources.now load }
-    ensures { IfOk result (λ command. IsLoadCommand files.now sources.now load command) }
+    requires { IsReadyLoad files.now sources.old load }
+    ensures kept { sources.new ≡ sources.old }
+    ensures command { IfOk result (λ command. IsLoadCommand files.now sources.old load command) }
 {
     let (script, bound) = files.named(&load.script);
     let job = LoadJob {
         script,
-        records: records_of(sources, &load.file)?,
+        records: records_of(alloc, sources, &load.file, load.separator)?,
         skip: load.skip,
+        decimal: load.decimal,
         params: load.params,
     };
     Ok(Act::Do(PlanCommand::Load(job, Arc::try_clone(bound)?)))
@@ -155,16 +161,19 @@ fn trace_command(files: &ModelFiles, cell: CellText) -> Result<Act<PlanCommand>,
 
 // The records of a load's file, which is among those that were read.
 fn records_of(
-    sources: &FileRecords<'_, '_>,
+    alloc: Global,
+    sources: &mut FileRecords<'_, '_>,
     file: &Option<ListOf<u8>>,
+    separator: u8,
 ) -> Result<Option<SharedRecords>, AllocError>
-    requires { IfSome file.now (λ name. IsSome (source_of sources.now name)) }
-    ensures { IfOk result (λ records. (skip : ℕ)
-        → records_of sources.now file.now skip ≡ Some (drop skip (shared_records records))) }
+    requires { IfSome file.now (λ name. IsSome (source_of sources.old name)) }
+    ensures kept { sources.new ≡ sources.old }
+    ensures records { IfOk result (λ records. (skip : ℕ)
+        → records_of sources.old file.now separator skip ≡ Some (drop skip (shared_records records))) }
 {
     match file {
         Some(name) => {
-            let records = sources.records(name.as_slice())?;
+            let records = sources.records(alloc, name.as_slice(), separator)?;
             Ok(Some(records))
         }
         None => Ok(None),

@@ -38,6 +38,7 @@ module _ (files : ModelFiles) (sources : List Source) where
         place = place;
         script = some_same (sym p.script ∙ ap (slice_get files.bound) place ∙ q.script);
         records = some_same (sym p.records ∙ q.records);
+        decimal = p.decimal ∙ sym q.decimal;
         params = p.params ∙ sym q.params;
       }
 

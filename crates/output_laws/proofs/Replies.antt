@@ -174,7 +174,7 @@ ended_plain (Stopped section row statement reason) writes = stopped_plain sectio
 
 load_plain : (content : Content) (job : LoadJob) (script : BoundScript) → IsPlain (load_effect content job script)
 load_plain content job script =
-    let outcome = load script job.params (rows_in job) (store_of content.model content.stored) [] in
+    let outcome = load script job.params job.decimal (rows_in job) (store_of content.model content.stored) [] in
     ended_plain (ran_of outcome) (writes_of outcome)
 
 -- ---- replies in a sandbox

@@ -45,9 +45,10 @@ same_effect (Load job script) (Trace text files) same content = absurd same
 same_effect (Load job script) (Fixed writes) same content = absurd same
 same_effect (Load job script) (Load other again) same content =
     let store = store_of content.model content.stored in
-    ap (λ rows. ended_effect (ran_of (load (arc_value script) job.params rows store [])) (writes_of (load (arc_value script) job.params rows store []))) same.records
-    ∙ ap (λ params. ended_effect (ran_of (load (arc_value script) params (rows_in other) store [])) (writes_of (load (arc_value script) params (rows_in other) store []))) same.params
-    ∙ ap (λ bound. ended_effect (ran_of (load bound other.params (rows_in other) store [])) (writes_of (load bound other.params (rows_in other) store []))) same.script
+    ap (λ rows. ended_effect (ran_of (load (arc_value script) job.params job.decimal rows store [])) (writes_of (load (arc_value script) job.params job.decimal rows store []))) same.records
+    ∙ ap (λ byte. ended_effect (ran_of (load (arc_value script) job.params byte (rows_in other) store [])) (writes_of (load (arc_value script) job.params byte (rows_in other) store []))) same.decimal
+    ∙ ap (λ params. ended_effect (ran_of (load (arc_value script) params other.decimal (rows_in other) store [])) (writes_of (load (arc_value script) params other.decimal (rows_in other) store []))) same.params
+    ∙ ap (λ bound. ended_effect (ran_of (load bound other.params other.decimal (rows_in other) store [])) (writes_of (load bound other.params other.decimal (rows_in other) store []))) same.script
 
 same_answer : (a b : Act PlanCommand) → IsSameAct a b → (content : Content) (layer : Option (List (ℕ × ℤ))) → answer content layer a ≡ answer content layer b
 same_answer Open b same content layer = ap (λ act. answer content layer act) (sym same)

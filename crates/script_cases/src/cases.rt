@@ -42,8 +42,15 @@ fn answer_script(
         stored: scene.stored,
         fed: scene.fed,
     };
-    let records = rows(alloc, &scene.file, 0)?;
-    let ran = run(alloc, script, records.behind(0), &scene.params, &mut cells)?;
+    let records = rows(alloc, &scene.file, scene.separator, 0)?;
+    let ran = run(
+        alloc,
+        script,
+        records.behind(0),
+        scene.decimal,
+        &scene.params,
+        &mut cells,
+    )?;
     let line = ran_text(alloc, &ran)?;
     write_answer(out, line.as_bytes())?;
     for (cell, number) in &cells.writes {

@@ -10,6 +10,8 @@
 //! text T a b                           a parameter
 //! row Jan,Units,10                     a record of columns
 //! row                                  a record without columns
+//! separator ;                          the byte between columns of the rows
+//! decimal ,                            the byte between units and decimals of their numbers
 //! |Data: CellPutN(V3, 'Plan', V1, V2); a line of the script
 //! ```
 //!

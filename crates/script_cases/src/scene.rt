@@ -14,6 +14,10 @@ pub struct Scene {
     pub params: LoadParams,
     /// The file of the records, a line for each.
     pub file: Vec<u8>,
+    /// The byte between the columns of the file.
+    pub separator: u8,
+    /// The byte between units and decimals of the numbers in the file.
+    pub decimal: u8,
     pub script: Vec<u8>,
 }
 
@@ -35,6 +39,11 @@ fn value_of(text: &str) -> Value {
     }
 }
 
+// The byte that a line gives for a sign of the file, 0 where it gives none.
+fn first_byte(text: &str) -> u8 {
+    text.as_bytes().first().copied().unwrap_or(0)
+}
+
 impl Scene {
     pub fn new(alloc: Global) -> Scene {
         Scene {
@@ -43,6 +52,8 @@ impl Scene {
             fed: ROOM,
             params: LoadParams::new(alloc),
             file: Vec::new(alloc),
+            separator: b',',
+            decimal: b'.',
             script: Vec::new(alloc),
         }
     }
@@ -57,6 +68,14 @@ impl Scene {
             "number" => self.add_number(alloc, rest),
             "text" => self.add_text(alloc, rest),
             "row" => self.add_row(rest),
+            "separator" => {
+                self.separator = first_byte(rest);
+                Ok(true)
+            }
+            "decimal" => {
+                self.decimal = first_byte(rest);
+                Ok(true)
+            }
             "stored" => {
                 self.stored = rest.parse::<u64>().unwrap_or(ROOM);
                 Ok(true)

@@ -193,14 +193,14 @@ module _ (store : Store) (R : Progress → List Write → Progress → List Writ
   statements_steady (s ∷ statements) here p w =
       then_steady p w (deed_of s store here p w) (block_of statements store here) (statement_steady s here p w) (statements_steady statements here)
 
-  records_steady : (body : List Statement) (row : ℕ) (rows : List (List (List ℕ))) → IsSteadyDoing (records (block_of body) store row rows)
-  records_steady body row [] p w = chain.same p w
-  records_steady body row (columns ∷ rows) p w =
-      record_steady p w (block_of body store (setting Body row columns) p w) (records (block_of body) store (row + 1) rows)
-      (statements_steady body (setting Body row columns) p w) (records_steady body (row + 1) rows)
+  records_steady : (decimal : ℕ) (body : List Statement) (row : ℕ) (rows : List (List (List ℕ))) → IsSteadyDoing (records decimal (block_of body) store row rows)
+  records_steady decimal body row [] p w = chain.same p w
+  records_steady decimal body row (columns ∷ rows) p w =
+      record_steady p w (block_of body store (setting decimal Body row columns) p w) (records decimal (block_of body) store (row + 1) rows)
+      (statements_steady body (setting decimal Body row columns) p w) (records_steady decimal body (row + 1) rows)
 
-  pub sections_steady : (script : BoundScript) (rows : List (List (List ℕ))) → IsSteadyDoing (sections script store rows)
-  sections_steady script rows p w =
-      end_steady p w (then_do (block_of script.prolog store (setting Prolog 0 []) p w) (records (block_of script.body) store 1 rows)) (block_of script.epilog store (setting Epilog 0 []))
-      (then_steady p w (block_of script.prolog store (setting Prolog 0 []) p w) (records (block_of script.body) store 1 rows) (statements_steady script.prolog (setting Prolog 0 []) p w) (records_steady script.body 1 rows))
-      (statements_steady script.epilog (setting Epilog 0 []))
+  pub sections_steady : (script : BoundScript) (decimal : ℕ) (rows : List (List (List ℕ))) → IsSteadyDoing (sections script store decimal rows)
+  sections_steady script decimal rows p w =
+      end_steady p w (then_do (block_of script.prolog store (setting decimal Prolog 0 []) p w) (records decimal (block_of script.body) store 1 rows)) (block_of script.epilog store (setting decimal Epilog 0 []))
+      (then_steady p w (block_of script.prolog store (setting decimal Prolog 0 []) p w) (records decimal (block_of script.body) store 1 rows) (statements_steady script.prolog (setting decimal Prolog 0 []) p w) (records_steady decimal script.body 1 rows))
+      (statements_steady script.epilog (setting decimal Epilog 0 []))

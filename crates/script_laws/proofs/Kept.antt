@@ -26,6 +26,6 @@ module _ (store : Store) (P : List Write → Type 0)
   ends : (p : Progress) (w : List Write) (o : Outcome) → Reaches store Along chain p w o → P w → P (writes_of o)
   ends p w (Ended ending q v) along h = along h
 
-  pub load_keeps : (script : BoundScript) (params : List (List ℕ × ParamText)) (rows : List (List (List ℕ))) (writes : List Write) → P writes → P (writes_of (load script params rows store writes))
-  load_keeps script params rows writes h =
-      ends (start script params) writes (load script params rows store writes) (sections_steady store Along chain script rows (start script params) writes) h
+  pub load_keeps : (script : BoundScript) (params : List (List ℕ × ParamText)) (decimal : ℕ) (rows : List (List (List ℕ))) (writes : List Write) → P writes → P (writes_of (load script params decimal rows store writes))
+  load_keeps script params decimal rows writes h =
+      ends (start script params) writes (load script params decimal rows store writes) (sections_steady store Along chain script decimal rows (start script params) writes) h

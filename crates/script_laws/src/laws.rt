@@ -24,7 +24,7 @@ pub fn what_each_write_keeps_a_load_keeps()
     ensures { (store : Store) (keeps : List Write → Bool)
         → ((before after : List Write) (cube : List ℕ) (elements : List (List ℕ)) (value : Value)
         → keeps before ≡ true → writing store before cube elements value ≡ Ok after → keeps after ≡ true)
-        → (script : BoundScript) (params : List (List ℕ × ParamText)) (rows : List (List (List ℕ)))
-        → (writes : List Write) → keeps writes ≡ true
-        → keeps (writes_of (load script params rows store writes)) ≡ true }
+        → (script : BoundScript) (params : List (List ℕ × ParamText)) (decimal : ℕ)
+        → (rows : List (List (List ℕ))) (writes : List Write) → keeps writes ≡ true
+        → keeps (writes_of (load script params decimal rows store writes)) ≡ true }
 {}

@@ -22,8 +22,9 @@ use Rattle.script_run.specs.Meaning.{Outcome, Ended, Doing, Deed, then_do, block
 abbrev pub most_steps : ℕ
 most_steps = 1000000
 
-abbrev pub setting : Section → ℕ → List (List ℕ) → Setting
-setting section row columns = record { section = section; row = row; columns = columns }
+abbrev pub setting : ℕ → Section → ℕ → List (List ℕ) → Setting
+setting decimal section row columns =
+    record { section = section; row = row; columns = columns; decimal = decimal }
 
 -- Data goes on with the next record, also behind ItemSkip
 abbrev pub next_record : Outcome → Doing → Outcome
@@ -33,10 +34,10 @@ next_record (Ended Broken p w) go = Ended Broken p w
 next_record (Ended (Stopped reason) p w) go = Ended (Stopped reason) p w
 
 -- Data, once for each record, which are numbered from here
-abbrev pub records : Deed → Store → ℕ → List (List (List ℕ)) → Doing
-records body store row [] p w = Ended Next p w
-records body store row (columns ∷ rows) p w =
-    next_record (body store (setting Body row columns) p w) (records body store (row + 1) rows)
+abbrev pub records : ℕ → Deed → Store → ℕ → List (List (List ℕ)) → Doing
+records decimal body store row [] p w = Ended Next p w
+records decimal body store row (columns ∷ rows) p w =
+    next_record (body store (setting decimal Body row columns) p w) (records decimal body store (row + 1) rows)
 
 -- the Epilog comes, unless the load was stopped
 abbrev pub in_the_end : Outcome → Doing → Outcome
@@ -46,11 +47,12 @@ in_the_end (Ended Broken p w) go = go p w
 in_the_end (Ended (Stopped reason) p w) go = Ended (Stopped reason) p w
 
 -- Prolog, then Data for each record, then the Epilog
-abbrev pub sections : BoundScript → Store → List (List (List ℕ)) → Doing
-sections script store rows p w =
+abbrev pub sections : BoundScript → Store → ℕ → List (List (List ℕ)) → Doing
+sections script store decimal rows p w =
     in_the_end
-    (then_do (block_of script.prolog store (setting Prolog 0 []) p w) (records (block_of script.body) store 1 rows))
-    (block_of script.epilog store (setting Epilog 0 []))
+    (then_do (block_of script.prolog store (setting decimal Prolog 0 []) p w)
+    (records decimal (block_of script.body) store 1 rows))
+    (block_of script.epilog store (setting decimal Epilog 0 []))
 
 abbrev pub param_value : ParamText → Kept
 param_value (params_of.Number millionths) = kept.Number (Num millionths)
@@ -68,9 +70,9 @@ start script params = record {
   last = record { section = Prolog; row = 0; statement = 0 };
 }
 
--- a load, from the writes before it
-abbrev pub load : BoundScript → List (List ℕ × ParamText) → List (List (List ℕ)) → Store → List Write → Outcome
-load script params rows store writes = sections script store rows (start script params) writes
+-- a load over records whose numbers have this byte between units and decimals, from the writes before it
+abbrev pub load : BoundScript → List (List ℕ × ParamText) → ℕ → List (List (List ℕ)) → Store → List Write → Outcome
+load script params decimal rows store writes = sections script store decimal rows (start script params) writes
 
 -- how a load ended whose last execution stands there: its reason says why
 abbrev pub ran_at : Ending → ExecutionPlace → Ran

@@ -80,12 +80,17 @@ columns_in Body columns = Some columns
 columns_in Epilog columns = None
 
 abbrev pub scene_of : Setting → Progress → Scene
-scene_of here p = record { variables = p.variables; columns = columns_in here.section here.columns }
+scene_of here p = record {
+  variables = p.variables;
+  columns = columns_in here.section here.columns;
+  decimal = here.decimal;
+}
 
 -- what a variable holds after this is assigned to it
 abbrev pub as_kept : Datum → Result Kept LoadReason
 as_kept (data_of.Number value) = Ok (kept.Number value)
 as_kept (data_of.Text bytes) = Ok (kept.Text bytes)
+as_kept (data_of.Column bytes decimal) = Ok (kept.Text bytes)
 as_kept (data_of.Truth truth) = Err TypeMismatch
 
 -- what an expression gives here

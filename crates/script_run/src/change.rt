@@ -35,7 +35,9 @@ fn kept(
 {
     match datum {
         Ok(Datum::Number(value)) => Ok(Ok(Kept::Number(value))),
-        Ok(Datum::Text(text)) => Ok(Ok(Kept::Text(text.into_list(alloc)?))),
+        Ok(Datum::Text(text) | Datum::Column(text, _)) => {
+            Ok(Ok(Kept::Text(text.into_list(alloc)?)))
+        }
         Ok(Datum::Truth(_)) => Ok(Err(LoadReason::TypeMismatch)),
         Err(reason) => Ok(Err(reason)),
     }
@@ -126,7 +128,7 @@ fn arguments<'a, C: WorkCells>(
 {
     let value = value_of(alloc, value, sight, cells)?;
     let names = texts_of(alloc, names, sight, cells)?;
-    Ok(both(as_amount(value), names))
+    Ok(both(as_amount(alloc, value)?, names))
 }
 
 /// Writes a value into the cell of these names, if that isn't refused.

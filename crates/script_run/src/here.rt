@@ -13,6 +13,7 @@ pub(crate) struct Here<'a> {
     section: Section,
     row: u32,
     columns: &'a Record<'a>,
+    decimal: u8,
 }
 
 impl<'a> Model for Here<'a> {
@@ -20,20 +21,33 @@ impl<'a> Model for Here<'a> {
 
     ghost Value = { Setting };
 
-    ghost view = { λ here. record { section = here.section; row = here.row; columns = here.columns.now } };
+    ghost view = { λ here. record {
+      section = here.section;
+      row = here.row;
+      columns = here.columns.now;
+      decimal = here.decimal;
+    } };
 }
 
 impl<'a> Here<'a> {
     ghost use Rattle.script_run.specs.Load.{setting};
 
-    pub(crate) fn new(section: Section, row: u32, columns: &'a Record<'a>) -> Here<'a>
-        ensures { result ≡ setting section row columns.now }
+    pub(crate) fn new(decimal: u8, section: Section, row: u32, columns: &'a Record<'a>) -> Here<'a>
+        ensures { result ≡ setting decimal section row columns.now }
     {
         Here {
             section,
             row,
             columns,
+            decimal,
         }
+    }
+
+    /// The byte between units and decimals of numbers in columns.
+    pub(crate) fn decimal(&self) -> u8
+        ensures { result ≡ self.now.decimal }
+    {
+        self.decimal
     }
 
     pub(crate) fn place_of(&self, statement: u32) -> ExecutionPlace

@@ -67,7 +67,7 @@ impl Run {
     pub(crate) fn sight<'a>(&'a self, here: &Here<'a>) -> Sight<'a>
         ensures { result ≡ scene_of here.now self.now }
     {
-        Sight::new(self.variables.as_slice(), here.columns())
+        Sight::new(self.variables.as_slice(), here.columns(), here.decimal())
     }
 
     /// Sets a variable.

@@ -88,23 +88,25 @@ fn ran_at(ending: Ending, last: ExecutionPlace) -> Ran
 }
 
 /// Runs a bound script: the Prolog, Data once for each record, and the Epilog. The parameters are variables, by their
-/// words in capitals, that are set before. The first reason ends the load, and what was written is then to be dropped.
+/// words in capitals, that are set before. Numbers in the records have `decimal` between units and decimals. The first
+/// reason ends the load, and what was written is then to be dropped.
 ///
 /// Out of memory, nothing is said of the writes.
 pub fn run<C: WorkCells>(
     alloc: Global,
     script: &BoundScript,
     rows: Rows<'_>,
+    decimal: u8,
     params: &LoadParams,
     cells: &mut C,
 ) -> Result<Ran, AllocError>
     ensures ran { IfOk result (λ ran. ran ≡ ran_of
-        (load script.now params.now rows.entry (C.store cells.old) (C.writes cells.old))) }
+        (load script.now params.now decimal rows.entry (C.store cells.old) (C.writes cells.old))) }
     ensures writes { IfOk result (λ _. C.writes cells.new ≡ writes_of
-        (load script.now params.now rows.entry (C.store cells.old) (C.writes cells.old))) }
+        (load script.now params.now decimal rows.entry (C.store cells.old) (C.writes cells.old))) }
     ensures store { C.store cells.new ≡ C.store cells.old }
 {
     let mut run = start(alloc, script, params)?;
-    let ending = run_sections(alloc, script, rows, &mut run, cells)?;
+    let ending = run_sections(alloc, script, rows, decimal, &mut run, cells)?;
     Ok(ran_at(ending, run.last()))
 }

@@ -18,16 +18,17 @@ fn run_records<C: WorkCells>(
     alloc: Global,
     body: &[Statement],
     mut rows: Rows<'_>,
+    decimal: u8,
     run: &mut Run,
     cells: &mut C,
 ) -> Result<Ending, AllocError>
     ensures ended { IfOk result (λ ending. Ended ending run.new (C.writes cells.new)
-        ≡ records (block_of body.now) (C.store cells.old) 1 rows.entry run.old (C.writes cells.old)) }
+        ≡ records decimal (block_of body.now) (C.store cells.old) 1 rows.entry run.old (C.writes cells.old)) }
     ensures store { C.store cells.new ≡ C.store cells.old }
 {
     let mut row = 1u32;
     'each: while let Some(record) = rows.next() {
-        let here = Here::new(Section::Body, row, &record);
+        let here = Here::new(decimal, Section::Body, row, &record);
         match run_block(alloc, body, &here, run, cells)? {
             Ending::Next => {}
             Ending::Skipped => {}
@@ -51,18 +52,19 @@ fn run_records_after_prolog<C: WorkCells>(
     alloc: Global,
     script: &BoundScript,
     rows: Rows<'_>,
+    decimal: u8,
     run: &mut Run,
     cells: &mut C,
 ) -> Result<Ending, AllocError>
     ensures ended { IfOk result (λ ending. Ended ending run.new (C.writes cells.new)
-        ≡ then_do (block_of script.now.prolog (C.store cells.old) (setting sections_of.Prolog 0 [])
-        run.old (C.writes cells.old)) (records (block_of script.now.body) (C.store cells.old) 1 rows.entry)) }
+        ≡ then_do (block_of script.now.prolog (C.store cells.old) (setting decimal sections_of.Prolog 0 [])
+        run.old (C.writes cells.old)) (records decimal (block_of script.now.body) (C.store cells.old) 1 rows.entry)) }
     ensures store { C.store cells.new ≡ C.store cells.old }
 {
     let none = Record::empty();
-    let here = Here::new(Section::Prolog, 0, &none);
+    let here = Here::new(decimal, Section::Prolog, 0, &none);
     match run_block(alloc, script.prolog.as_slice(), &here, run, cells)? {
-        Ending::Next => run_records(alloc, script.body.as_slice(), rows, run, cells),
+        Ending::Next => run_records(alloc, script.body.as_slice(), rows, decimal, run, cells),
         Ending::Skipped => Ok(Ending::Skipped),
         Ending::Broken => Ok(Ending::Broken),
         Ending::Stopped(reason) => Ok(Ending::Stopped(reason)),
@@ -73,16 +75,17 @@ fn run_records_after_prolog<C: WorkCells>(
 fn run_epilog<C: WorkCells>(
     alloc: Global,
     script: &BoundScript,
+    decimal: u8,
     run: &mut Run,
     cells: &mut C,
 ) -> Result<Ending, AllocError>
     ensures ended { IfOk result (λ ending. Ended ending run.new (C.writes cells.new)
-        ≡ block_of script.now.epilog (C.store cells.old) (setting sections_of.Epilog 0 [])
+        ≡ block_of script.now.epilog (C.store cells.old) (setting decimal sections_of.Epilog 0 [])
         run.old (C.writes cells.old)) }
     ensures store { C.store cells.new ≡ C.store cells.old }
 {
     let none = Record::empty();
-    let here = Here::new(Section::Epilog, 0, &none);
+    let here = Here::new(decimal, Section::Epilog, 0, &none);
     run_block(alloc, script.epilog.as_slice(), &here, run, cells)
 }
 
@@ -91,17 +94,18 @@ pub(crate) fn run_sections<C: WorkCells>(
     alloc: Global,
     script: &BoundScript,
     rows: Rows<'_>,
+    decimal: u8,
     run: &mut Run,
     cells: &mut C,
 ) -> Result<Ending, AllocError>
     ensures ended { IfOk result (λ ending. Ended ending run.new (C.writes cells.new)
-        ≡ sections script.now (C.store cells.old) rows.entry run.old (C.writes cells.old)) }
+        ≡ sections script.now (C.store cells.old) decimal rows.entry run.old (C.writes cells.old)) }
     ensures store { C.store cells.new ≡ C.store cells.old }
 {
-    match run_records_after_prolog(alloc, script, rows, run, cells)? {
-        Ending::Next => run_epilog(alloc, script, run, cells),
-        Ending::Skipped => run_epilog(alloc, script, run, cells),
-        Ending::Broken => run_epilog(alloc, script, run, cells),
+    match run_records_after_prolog(alloc, script, rows, decimal, run, cells)? {
+        Ending::Next => run_epilog(alloc, script, decimal, run, cells),
+        Ending::Skipped => run_epilog(alloc, script, decimal, run, cells),
+        Ending::Broken => run_epilog(alloc, script, decimal, run, cells),
         Ending::Stopped(reason) => Ok(Ending::Stopped(reason)),
     }
 }

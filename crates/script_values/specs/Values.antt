@@ -22,6 +22,7 @@ use Rattle.script_values.specs.declared.load_reason.LoadReason.{LoadReason}
 use Rattle.script_values.specs.declared.load_reason.LoadReason.TheVariants.{UnknownName, NotANumber, UnsetVariable}
 use Rattle.script_values.specs.declared.load_reason.LoadReason.TheVariants.{TypeMismatch, TextLimit}
 use Rattle.script_values.specs.Cells.{Store, Write, reading}
+use Rattle.script_values.specs.Pointed.{pointed}
 use Rattle.script_values.specs.Scene.{Scene}
 
 -- ---- a datum as what is wanted
@@ -52,15 +53,21 @@ amount_said (byte ∷ bytes) = amount_read (reading_of (number_of (byte ∷ byte
 abbrev pub amount_in : List ℕ → Result Value LoadReason
 amount_in text = amount_said (trimmed text)
 
+-- the same of a column, where this byte stands between units and decimals
+abbrev pub column_amount : ℕ → List ℕ → Result Value LoadReason
+column_amount decimal text = amount_said (pointed decimal (trimmed text))
+
 -- a datum where a number is wanted
 abbrev pub as_amount : Datum → Result Value LoadReason
 as_amount (data_of.Number value) = Ok value
 as_amount (data_of.Text text) = amount_in text
+as_amount (data_of.Column text decimal) = column_amount decimal text
 as_amount (data_of.Truth truth) = Err TypeMismatch
 
 -- where a text is wanted
 abbrev pub as_text : Datum → Result (List ℕ) LoadReason
 as_text (data_of.Text text) = Ok text
+as_text (data_of.Column text decimal) = Ok text
 as_text (data_of.Number value) = Err TypeMismatch
 as_text (data_of.Truth truth) = Err TypeMismatch
 
@@ -69,6 +76,14 @@ abbrev pub as_truth : Datum → Result Bool LoadReason
 as_truth (data_of.Truth truth) = Ok truth
 as_truth (data_of.Number value) = Err TypeMismatch
 as_truth (data_of.Text text) = Err TypeMismatch
+as_truth (data_of.Column text decimal) = Err TypeMismatch
+
+-- where the number is wanted that a text says
+abbrev pub as_said : Datum → Result Value LoadReason
+as_said (data_of.Text text) = amount_in text
+as_said (data_of.Column text decimal) = column_amount decimal text
+as_said (data_of.Number value) = Err TypeMismatch
+as_said (data_of.Truth truth) = Err TypeMismatch
 
 -- what is given, taken as what is wanted: a reason why nothing is given goes first
 abbrev pub taken : {A B : Type 0} → (A → Result B LoadReason) → Result A LoadReason → Result B LoadReason
@@ -128,9 +143,9 @@ filled (Some bytes) = bytes
 filled None = []
 
 -- outside of the Data section there is no column
-abbrev pub column : ℕ → Option (List (List ℕ)) → Result Datum LoadReason
-column place (Some columns) = Ok (data_of.Text (filled (slice_get columns place)))
-column place None = Err UnsetVariable
+abbrev pub column : ℕ → ℕ → Option (List (List ℕ)) → Result Datum LoadReason
+column decimal place (Some columns) = Ok (data_of.Column (filled (slice_get columns place)) decimal)
+column decimal place None = Err UnsetVariable
 
 -- the most bytes of a text that is put together
 abbrev pub most_text_bytes : ℕ
@@ -161,7 +176,7 @@ abbrev pub value_step : Term-F Reading → Reading
 value_step (Term-F.Number millionths) scene store writes = Ok (data_of.Number (Num millionths))
 value_step (Term-F.Text bytes) scene store writes = Ok (data_of.Text bytes)
 value_step (Term-F.Variable place) scene store writes = held (slice_get scene.variables place)
-value_step (Term-F.Column place) scene store writes = column place scene.columns
+value_step (Term-F.Column place) scene store writes = column scene.decimal place scene.columns
 value_step (Term-F.Get names) scene store writes =
     done (λ value. data_of.Number value)
     (taken (cell_value store writes) (each_text names scene store writes))
@@ -170,7 +185,7 @@ value_step (Term-F.Amount function a) scene store writes =
 value_step (Term-F.Amounts op a b) scene store writes = operated op (a scene store writes) (b scene store writes)
 value_step (Term-F.Compare rel a b) scene store writes = compared rel (a scene store writes) (b scene store writes)
 value_step (Term-F.ToNumber a) scene store writes =
-    done (λ value. data_of.Number value) (taken amount_in (text (a scene store writes)))
+    done (λ value. data_of.Number value) (taken as_said (a scene store writes))
 value_step (Term-F.ToText a) scene store writes =
     done (λ value. data_of.Text (printed value)) (amount (a scene store writes))
 value_step (Term-F.Join a b) scene store writes =

@@ -5,6 +5,7 @@
 #![tactic(auto)]
 
 mod cells;
+mod column_number;
 mod datum;
 mod kept;
 mod load_reason;

@@ -1,7 +1,8 @@
-ghost use Rattle.std.specs.Prelude.{◌≡◌, slice_get};
+ghost use Rattle.std.specs.Prelude.{◌≡◌, slice_get, IfOk};
 ghost use Rattle.std.specs.Option.{option_map};
 ghost use Rattle.script_values.specs.Values.{amount, held, column, filled, text};
 
+use crate::column_number::column_amount;
 use crate::datum::Datum;
 use crate::kept::Kept;
 use crate::load_reason::LoadReason;
@@ -9,15 +10,17 @@ use crate::text::Text;
 use crate::wanted::amount_in;
 use cube_fixed::Value;
 use sqlite_items::at;
+use std::alloc::{AllocError, Global};
 use std::marker::Model;
 use user_text::Record;
 
-/// What an expression sees beside the cells: the variables by their numbers, and in the Data section the columns of the
-/// record.
+/// What an expression sees beside the cells: the variables by their numbers, in the Data section the columns of the
+/// record, and the byte between units and decimals of numbers in columns.
 #[derive(Drop)]
 pub struct Sight<'a> {
     variables: &'a [Option<Kept>],
     columns: Option<&'a Record<'a>>,
+    decimal: u8,
 }
 
 impl<'a> Model for Sight<'a> {
@@ -29,6 +32,7 @@ impl<'a> Model for Sight<'a> {
     ghost view = { λ sight. record {
       variables = sight.variables.now;
       columns = option_map (λ columns. columns.now) sight.columns;
+      decimal = sight.decimal;
     } };
 }
 
@@ -65,11 +69,20 @@ fn filled<'a>(columns: &'a Record<'a>, place: usize) -> Text<'a>
 }
 
 impl<'a> Sight<'a> {
-    pub fn new(variables: &'a [Option<Kept>], columns: Option<&'a Record<'a>>) -> Sight<'a>
+    pub fn new(
+        variables: &'a [Option<Kept>],
+        columns: Option<&'a Record<'a>>,
+        decimal: u8,
+    ) -> Sight<'a>
         ensures variables { result.variables ≡ variables.now }
         ensures columns { result.columns ≡ option_map (λ columns. columns.now) columns.entry }
+        ensures decimal { result.decimal ≡ decimal }
     {
-        Sight { variables, columns }
+        Sight {
+            variables,
+            columns,
+            decimal,
+        }
     }
 
     /// What a variable gives.
@@ -88,17 +101,34 @@ impl<'a> Sight<'a> {
 
     /// What a column gives.
     pub(crate) fn column(&self, place: usize) -> Result<Datum<'a>, LoadReason>
-        ensures { result ≡ column place self.now.columns }
+        ensures { result ≡ column self.now.decimal place self.now.columns }
     {
         match self.columns {
-            Some(columns) => Ok(Datum::Text(filled(columns, place))),
+            Some(columns) => Ok(Datum::Column(filled(columns, place), self.decimal)),
             None => Err(LoadReason::UnsetVariable),
+        }
+    }
+
+    /// What a column gives as a number.
+    pub(crate) fn column_amount(
+        &self,
+        alloc: Global,
+        place: usize,
+    ) -> Result<Result<Value, LoadReason>, AllocError>
+        ensures { IfOk result (λ answer. answer ≡ amount (column self.now.decimal place self.now.columns)) }
+    {
+        match self.columns {
+            Some(columns) => {
+                let text = filled(columns, place);
+                column_amount(alloc, self.decimal, text.as_slice())
+            }
+            None => Ok(Err(LoadReason::UnsetVariable)),
         }
     }
 
     /// What a column gives as a text.
     pub(crate) fn text(&self, place: usize) -> Result<Text<'a>, LoadReason>
-        ensures { result ≡ text (column place self.now.columns) }
+        ensures { result ≡ text (column self.now.decimal place self.now.columns) }
     {
         match self.columns {
             Some(columns) => Ok(filled(columns, place)),

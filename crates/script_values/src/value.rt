@@ -58,14 +58,16 @@ pub fn value_of<'a, C: WorkCells>(
         Term::Variable(place) => Ok(sight.variable(*place)),
         Term::Column(place) => Ok(sight.column(*place)),
         Term::Get(names) => value_in_cell(alloc, names.as_slice(), sight, cells),
-        Term::Amount(fun, inner) => Ok(function(*fun, value_of(alloc, inner.get(), sight, cells)?)),
+        Term::Amount(fun, inner) => {
+            function(alloc, *fun, value_of(alloc, inner.get(), sight, cells)?)
+        }
         Term::Amounts(op, left, right) => {
             operated(alloc, *op, left.get(), right.get(), sight, cells)
         }
         Term::Compare(rel, left, right) => {
             compared(alloc, *rel, left.get(), right.get(), sight, cells)
         }
-        Term::ToNumber(inner) => Ok(number_in(value_of(alloc, inner.get(), sight, cells)?)),
+        Term::ToNumber(inner) => number_in(alloc, value_of(alloc, inner.get(), sight, cells)?),
         Term::ToText(inner) => text_of(alloc, value_of(alloc, inner.get(), sight, cells)?),
         Term::Join(left, right) => {
             let (left, right) = two_values(alloc, left.get(), right.get(), sight, cells)?;
@@ -107,8 +109,8 @@ fn amount_of<'a, C: WorkCells>(
     match term {
         Term::Number(number) => Ok(Ok(Value::Num(*number))),
         Term::Variable(place) => Ok(sight.amount(*place)),
-        Term::Column(place) => Ok(as_amount(sight.column(*place))),
-        _ => Ok(as_amount(value_of(alloc, term, sight, cells)?)),
+        Term::Column(place) => sight.column_amount(alloc, *place),
+        _ => as_amount(alloc, value_of(alloc, term, sight, cells)?),
     }
 }
 

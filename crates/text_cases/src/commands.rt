@@ -55,7 +55,11 @@ fn add_command(alloc: Global, lines: &mut Lines, command: &UserCommand) -> Resul
 fn add_load(lines: &mut Lines, line: u32, load: &LoadText) {
     let script = shown(load.script.shown());
     match &load.file {
-        Some(file) => lines.add(&(line, "LOAD", script, shown(file.as_slice()), load.skip)),
+        Some(file) => {
+            let file = shown(file.as_slice());
+            let signs = (load.separator, load.decimal);
+            lines.add(&(line, "LOAD", script, file, load.skip, signs));
+        }
         None => lines.add(&(line, "LOAD", script)),
     }
     for (word, value) in load.params.as_slice() {

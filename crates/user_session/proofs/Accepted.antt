@@ -87,9 +87,9 @@ load-within : (content : Content) (job : LoadJob) (script : BoundScript) (writes
     → AreWithin content writes
 load-within content job script writes reply is =
     let store = store_of content.model content.stored in
-    let outcome = load script job.params (rows_in job) store [] in
+    let outcome = load script job.params job.decimal (rows_in job) store [] in
     let kept : AreWithin content (writes_of outcome) =
-    load_keeps store (AreWithin content) (λ before after cube elements value within written. write-kept content before after within cube elements value written) script job.params (rows_in job) [] (before-writes content) in
+    load_keeps store (AreWithin content) (λ before after cube elements value within written. write-kept content before after within cube elements value written) script job.params job.decimal (rows_in job) [] (before-writes content) in
     ended-within content (ran_of outcome) (writes_of outcome) writes reply kept is
 
 -- ---- fixed writes that are accepted

@@ -29,11 +29,11 @@ stopped-effect run outcome ran section row statement reason same is stopped =
     subst Stops same (rw ended refl)
 
 -- a load over the same records on the same version
-pub same-load : (script : BoundScript) (params others : List (List ℕ × ParamText)) (rows records : List (List (List ℕ))) (begun version : NumberedVersion) (writes : List (ℕ × ℤ))
+pub same-load : (script : BoundScript) (params others : List (List ℕ × ParamText)) (decimal : ℕ) (rows records : List (List (List ℕ))) (begun version : NumberedVersion) (writes : List (ℕ × ℤ))
     → params ≡ others → rows ≡ records → begun ≡ version → writes ≡ []
-    → load script params rows (store_of begun.model begun.stored) writes ≡ load script others records (store_of version.model version.stored) []
-same-load script params others rows records begun version writes same_params same_rows same_version none =
-    let Same : List (List ℕ × ParamText) → List (List (List ℕ)) → NumberedVersion → List (ℕ × ℤ) → Type 0 = λ ps rs v ws. load script params rows (store_of begun.model begun.stored) writes ≡ load script ps rs (store_of v.model v.stored) ws in
+    → load script params decimal rows (store_of begun.model begun.stored) writes ≡ load script others decimal records (store_of version.model version.stored) []
+same-load script params others decimal rows records begun version writes same_params same_rows same_version none =
+    let Same : List (List ℕ × ParamText) → List (List (List ℕ)) → NumberedVersion → List (ℕ × ℤ) → Type 0 = λ ps rs v ws. load script params decimal rows (store_of begun.model begun.stored) writes ≡ load script ps decimal rs (store_of v.model v.stored) ws in
     subst (λ (ps : List (List ℕ × ParamText)). Same ps records version []) same_params
     (subst (λ (rs : List (List (List ℕ))). Same params rs version []) same_rows
     (subst (λ (v : NumberedVersion). Same params rows v []) same_version

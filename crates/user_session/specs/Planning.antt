@@ -122,7 +122,7 @@ ended_effect (Stopped section row statement reason) writes =
 -- a load of a script over records, from no writes
 abbrev pub load_effect : Content → LoadJob → BoundScript → PlanEffect
 load_effect content job script =
-    let outcome = load script job.params (rows_in job) (store_of content.model content.stored) [] in
+    let outcome = load script job.params job.decimal (rows_in job) (store_of content.model content.stored) [] in
     ended_effect (ran_of outcome) (writes_of outcome)
 
 -- a question for a table: the table that its text means, or why it means none

@@ -28,7 +28,14 @@ pub(crate) fn load(
 {
     let work = Work::over(alloc, state)?;
     let mut cells = LoadCells::new(alloc, work)?;
-    match run(alloc, script, job.rows(), &job.params, &mut cells)? {
+    match run(
+        alloc,
+        script,
+        job.rows(),
+        job.decimal,
+        &job.params,
+        &mut cells,
+    )? {
         Ran::Done => {
             let writes = cells.into_work().writes(alloc)?;
             committed(alloc, writes)

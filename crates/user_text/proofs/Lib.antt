@@ -1,5 +1,6 @@
 pub mod CellExact
 pub mod NewVariables
+pub mod SignsExact
 pub mod LoadExact
 pub mod ViewExact
 pub mod SpreadExact

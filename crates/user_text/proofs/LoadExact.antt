@@ -1,21 +1,24 @@
 -- The readers of a load are exact.
-use Rattle.std.proofs.Common.{ℕ, List, [], ◌∷◌, ◌++◌, Option, Some, None, true, false, codes, ◌∙◌, ap}
+use Rattle.std.proofs.Common.{ℕ, List, [], ◌∷◌, ◌++◌, Some, None, true, false, codes, refl, ◌≡◌, ◌∙◌, ap}
+use Rattle.std.specs.Str.{str_eq_ignore_ascii_case}
 use Rattle.cube_lex.specs.Lexeme.{Lexeme}
-use Rattle.grammar.specs.Grammar.{Grammar, one, both, done}
-use Rattle.grammar.specs.Reading.{starts}
-use Rattle.grammar.specs.Tokens.{word, file, is_sign, is_word, is_text}
-use Rattle.grammar.proofs.Exact.{Exact, Always, Not, exact_gives, exact_then, exact_both, exact_made, exact_choose}
+use Rattle.grammar.specs.Grammar.{Grammar, both, done}
+use Rattle.grammar.specs.Reading.{both_of, gives, starts}
+use Rattle.grammar.specs.Tokens.{is_sign, is_word, is_text}
+use Rattle.grammar.proofs.Exact.{Exact, Always, Not, exact_gives, exact_then, exact_both, exact_made, exact_before, exact_choose}
 use Rattle.grammar.proofs.Begins.{Begins, begins_both, begins_optional, exact_or, exact_option, starts_text}
 use Rattle.grammar.proofs.After.{exact_rest_after}
 use Rattle.grammar.proofs.Tokens.{exact_sign, exact_word, exact_name, exact_file, exact_text, exact_whole_number, sign_begins, word_begins, text_begins, sign_no_text, money_no_text}
 use Rattle.user_text.specs.Counting.{count, counting}
-use Rattle.user_text.specs.UserText.{skip, source, value, param, next_param, params_behind, with_params, loading, load}
-use Rattle.user_text.specs.Readers.Reading.{read_skip, read_source, read_value, read_param, read_next_param, read_further_params, read_params, read_load}
+use Rattle.user_text.specs.FileSigns.{comma, decimal_point, separator, decimal}
+use Rattle.user_text.specs.UserText.{Source, skip, given_source, source, value, param, next_param, params_behind, with_params, loading, load}
+use Rattle.user_text.specs.Readers.Reading.{read_skip, read_separator, read_decimal, read_given_source, read_source, read_value, read_param, read_next_param, read_further_params, read_params, read_load}
 use Rattle.user_text.specs.declared.command.ParamText.{ParamText}
 use Rattle.user_text.specs.declared.command.ParamText.TheVariants as params
 use Rattle.user_text.specs.declared.command.UserCommand.{UserCommand}
 use Rattle.user_text.proofs.CellExact.{amount_exact, closed, closed_sign, closed_word}
 use Rattle.user_text.proofs.NewVariables.{exact_new_variable}
+use Rattle.user_text.proofs.SignsExact.{Passed, passed_both, passed_decimal, passed_done, passed_option, said_separator, separator_exact, decimal_exact}
 
 skip_exact : Exact counting skip skip read_skip (Not (is_word (codes "SKIP")))
 unfolding read_skip
@@ -25,20 +28,57 @@ skip_exact = exact_option (is_word (codes "SKIP")) 0 (begins_both (word_begins (
 record BehindSource (rest : List Lexeme) : Type 0 where
   from : Not (is_word (codes "FROM")) rest
   skip : Not (is_word (codes "SKIP")) rest
+  separator : Not (is_word (codes "SEPARATOR")) rest
+  decimal : Not (is_word (codes "DECIMAL")) rest
 
--- `FROM file [ SKIP whole ]`
-abbrev given_source : Grammar Lexeme (Option (List ℕ) × ℕ)
-given_source = both (one (word (codes "FROM"))) (λ _. both (one file) (λ path. both skip (λ records. done (Some path, records))))
+-- what may stand behind the file
+record BehindFile (rest : List Lexeme) : Type 0 where
+  skip : Not (is_word (codes "SKIP")) rest
+  separator : Not (is_word (codes "SEPARATOR")) rest
+  decimal : Not (is_word (codes "DECIMAL")) rest
+
+separator_no_skip : Begins said_separator (is_word (codes "SKIP")) false
+separator_no_skip = begins_both (word_begins (codes "SEPARATOR") (codes "SKIP"))
+
+behind_decimal : (rest : List Lexeme) → BehindFile rest → Not (is_word (codes "DECIMAL")) rest
+behind_decimal rest stops = stops.decimal
+
+-- the signs of a file of this name, of which so many records are passed over
+module _ (path : List ℕ) (records : ℕ) where
+  -- [ "DECIMAL" Text ]
+  abbrev decimal_rest : ℕ → Grammar Lexeme Source
+  decimal_rest byte = both (decimal byte) (λ mark. done (Some path, records, byte, mark))
+
+  -- [ "SEPARATOR" ( Text | "TAB" ) ] [ "DECIMAL" Text ]
+  abbrev signs_rest : Grammar Lexeme Source
+  signs_rest = both separator decimal_rest
+
+  decimal_no_word : (byte : ℕ) (other : List ℕ) → str_eq_ignore_ascii_case (codes "DECIMAL") other ≡ false → Passed (is_word other) (decimal_rest byte)
+  decimal_no_word byte other differs = passed_both (passed_decimal byte other differs) (λ mark. passed_done)
+
+  signs_no_skip : Passed (is_word (codes "SKIP")) signs_rest
+  signs_no_skip = passed_both (passed_option separator_no_skip) (λ byte. decimal_no_word byte (codes "SKIP") refl)
+
+  signs_exact : Exact counting signs_rest signs_rest (both_of read_separator (λ byte. both_of (read_decimal byte) (λ mark. gives (Some path, records, byte, mark)))) BehindFile
+  signs_exact = exact_both separator_exact
+      (λ byte. exact_before behind_decimal (exact_made (λ mark. (Some path, records, byte, mark)) (decimal_exact byte)))
+      (λ byte v b rest l stops. (decimal_no_word byte (codes "SEPARATOR") refl).at v b rest l stops.separator)
+
+given_source_exact : Exact counting given_source given_source read_given_source BehindFile
+unfolding read_given_source
+given_source_exact = exact_then (exact_word count (codes "FROM")) (λ _. exact_then (exact_file count) (λ path. exact_both skip_exact
+    (λ records. signs_exact path records)
+    (λ records v b rest l stops. (signs_no_skip path records).at v b rest l stops.skip)))
 
 given_source_begins : Begins given_source (is_word (codes "FROM")) true
 given_source_begins = begins_both (word_begins (codes "FROM") (codes "FROM"))
 
 source_exact : Exact counting source source read_source BehindSource
 unfolding read_source
-source_exact = exact_choose {S = Not (is_word (codes "SKIP"))} {S' = Always} {S'' = BehindSource} (is_word (codes "FROM"))
-    (exact_then (exact_word count (codes "FROM")) (λ _. exact_then (exact_file count) (λ path. exact_made (λ records. (Some path, records)) skip_exact)))
-    (exact_gives counting (None, 0))
-    (λ u a rest h stops. (starts_text given_source_begins u a rest h, stops.skip))
+source_exact = exact_choose {S = BehindFile} {S' = Always} {S'' = BehindSource} (is_word (codes "FROM"))
+    given_source_exact
+    (exact_gives counting (None, 0, comma, decimal_point))
+    (λ u a rest h stops. (starts_text given_source_begins u a rest h, record { skip = stops.skip; separator = stops.separator; decimal = stops.decimal }))
     (λ u a rest nothing stops. (ap (λ x. starts (is_word (codes "FROM")) (x ++ rest)) nothing.0 ∙ stops.from, tt))
 
 value_exact : Exact counting value value read_value Always
@@ -75,14 +115,20 @@ params_exact = exact_choose {S = Not (is_sign (codes ","))} {S' = Always} {S'' =
     (λ u a rest nothing stops. (ap (λ x. starts (is_word (codes "WITH")) (x ++ rest)) nothing.0 ∙ stops.with_word, tt))
 
 -- what stands behind the source
-abbrev load_rest : ℕ → List ℕ → Option (List ℕ) × ℕ → Grammar Lexeme UserCommand
+abbrev load_rest : ℕ → List ℕ → Source → Grammar Lexeme UserCommand
 load_rest line script records = both with_params (λ variables. closed (loading line script records variables))
 
-rest_no_from : (line : ℕ) (script : List ℕ) (records : Option (List ℕ) × ℕ) → Begins (load_rest line script records) (is_word (codes "FROM")) false
+rest_no_from : (line : ℕ) (script : List ℕ) (records : Source) → Begins (load_rest line script records) (is_word (codes "FROM")) false
 rest_no_from line script records = begins_optional (begins_both (word_begins (codes "WITH") (codes "FROM"))) (λ variables. closed_word (loading line script records variables) (codes "FROM"))
 
-rest_no_skip : (line : ℕ) (script : List ℕ) (records : Option (List ℕ) × ℕ) → Begins (load_rest line script records) (is_word (codes "SKIP")) false
+rest_no_skip : (line : ℕ) (script : List ℕ) (records : Source) → Begins (load_rest line script records) (is_word (codes "SKIP")) false
 rest_no_skip line script records = begins_optional (begins_both (word_begins (codes "WITH") (codes "SKIP"))) (λ variables. closed_word (loading line script records variables) (codes "SKIP"))
+
+rest_no_decimal : (line : ℕ) (script : List ℕ) (records : Source) → Begins (load_rest line script records) (is_word (codes "DECIMAL")) false
+rest_no_decimal line script records = begins_optional (begins_both (word_begins (codes "WITH") (codes "DECIMAL"))) (λ variables. closed_word (loading line script records variables) (codes "DECIMAL"))
+
+rest_no_separator : (line : ℕ) (script : List ℕ) (records : Source) → Begins (load_rest line script records) (is_word (codes "SEPARATOR")) false
+rest_no_separator line script records = begins_optional (begins_both (word_begins (codes "WITH") (codes "SEPARATOR"))) (λ variables. closed_word (loading line script records variables) (codes "SEPARATOR"))
 
 pub load_exact : Exact counting load load read_load Always
 unfolding read_load
@@ -96,4 +142,6 @@ load_exact = exact_then (exact_word count (codes "LOAD")) (λ line. exact_then (
     (λ records v b rest l stops. record {
       from = starts_text (rest_no_from line script records) v b rest l;
       skip = starts_text (rest_no_skip line script records) v b rest l;
+      separator = starts_text (rest_no_separator line script records) v b rest l;
+      decimal = starts_text (rest_no_decimal line script records) v b rest l;
     })))

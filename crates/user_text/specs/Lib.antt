@@ -1,3 +1,4 @@
+pub mod FileSigns
 pub mod UserText
 pub mod Counting
 pub mod Answers

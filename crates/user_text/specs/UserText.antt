@@ -10,6 +10,7 @@ use Rattle.grammar.specs.After.{many_after}
 use Rattle.grammar.specs.Lists.{listed, minus, names}
 use Rattle.grammar.specs.Tokens.{sign, word, whole, name, text, money, file, when, is_word_kind, capitals}
 use Rattle.grammar.specs.Variables.{is_variable}
+use Rattle.user_text.specs.FileSigns.{comma, decimal_point, separator, decimal}
 use Rattle.user_text.specs.declared.command.CellText.{CellText}
 use Rattle.user_text.specs.declared.command.ParamText.{ParamText}
 use Rattle.user_text.specs.declared.command.ParamText.TheVariants as params
@@ -61,11 +62,24 @@ get = do
 abbrev pub skip : Grammar Lexeme ℕ
 skip = either (do one (word (codes "SKIP")); one whole) (done 0)
 
--- [ "FROM" file [ "SKIP" whole ] ]
-abbrev pub source : Grammar Lexeme (Option (List ℕ) × ℕ)
-source = either
-    (do one (word (codes "FROM")); path ← one file; records ← skip; done (Some path, records))
-    (done (None, 0))
+-- the file of the records, how many records are passed over, what stands between columns, and what between units and
+-- decimals
+abbrev pub Source : Type 0
+Source = Option (List ℕ) × ℕ × ℕ × ℕ
+
+-- "FROM" file [ "SKIP" whole ] [ "SEPARATOR" ( Text | "TAB" ) ] [ "DECIMAL" Text ]
+abbrev pub given_source : Grammar Lexeme Source
+given_source = do
+  one (word (codes "FROM"))
+  path ← one file
+  records ← skip
+  byte ← separator
+  mark ← decimal byte
+  done (Some path, records, byte, mark)
+
+-- [ "FROM" file [ "SKIP" whole ] [ "SEPARATOR" ( Text | "TAB" ) ] [ "DECIMAL" Text ] ]
+abbrev pub source : Grammar Lexeme Source
+source = either given_source (done (None, 0, comma, decimal_point))
 
 -- whether a parameter of this word is among these
 abbrev pub is_set : List (List ℕ × ParamText) → List ℕ → Bool
@@ -113,13 +127,21 @@ params_behind = do
 abbrev pub with_params : Grammar Lexeme (List (List ℕ × ParamText))
 with_params = either params_behind (done [])
 
-abbrev pub loading : ℕ → List ℕ → Option (List ℕ) × ℕ → List (List ℕ × ParamText) → UserCommand
+abbrev pub loading : ℕ → List ℕ → Source → List (List ℕ × ParamText) → UserCommand
 loading line script records variables = record {
   line = line;
-  body = bodies.Load (record { script = script; file = records.0; skip = records.1; params = variables });
+  body = bodies.Load (record {
+    script = script;
+    file = records.0;
+    skip = records.1;
+    separator = records.2;
+    decimal = records.3;
+    params = variables;
+  });
 }
 
--- "LOAD" name [ "FROM" file [ "SKIP" whole ] ] [ "WITH" param { "," param } ] ";"
+-- "LOAD" name [ "FROM" file [ "SKIP" whole ] [ "SEPARATOR" ( Text | "TAB" ) ] [ "DECIMAL" Text ] ]
+-- [ "WITH" param { "," param } ] ";"
 abbrev pub load : Grammar Lexeme UserCommand
 load = do
   line ← one (word (codes "LOAD"))

@@ -26,6 +26,10 @@ pub struct LoadText {
     pub file: Option<ListOf<u8>>,
     /// How many records at the file's beginning are passed over.
     pub skip: u32,
+    /// The byte between the columns of the file.
+    pub separator: u8,
+    /// The byte between units and decimals of the numbers in the file. It is another one than `separator`.
+    pub decimal: u8,
     /// The variables that are set before the script's Prolog. Words are in capitals, and each stands once.
     pub params: LoadParams,
 }

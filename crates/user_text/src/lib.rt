@@ -11,6 +11,7 @@ mod cell;
 mod command;
 mod counted;
 mod fault;
+mod file_signs;
 mod job_rows;
 mod load;
 mod load_job;

@@ -5,6 +5,7 @@ ghost use Rattle.user_text.specs.Readers.Reading as reading;
 use crate::command::{LoadText, UserBody, UserCommand};
 use crate::counted::Counted;
 use crate::fault::TooMany;
+use crate::file_signs::{COMMA, POINT, decimal_at, separator_at};
 use crate::params::params_at;
 use grammar::{Cursor, Stop, file, name, sign, whole, word, word_comes};
 use lists::ListOf;
@@ -23,25 +24,37 @@ fn skip_at(cursor: &mut Cursor<'_, Counted>) -> Result<u32, Stop<TooMany>>
     }
 }
 
+/// Where the records come from: the file, how many records are passed over, and the bytes between columns and between
+/// units and decimals.
+type Source = (Option<ListOf<u8>>, u32, u8, u8);
+
+/// Reads the file of the records, and how it is read.
+#[tactic(auto, unfolding(crate::specs::Readers::Reading::read_given_source))]
+fn given_source(alloc: Global, cursor: &mut Cursor<'_, Counted>) -> Result<Source, Stop<TooMany>>
+    ensures { Reads (λ source. source) reading.read_given_source cursor.old result cursor.new }
+{
+    word(cursor, b"FROM")?;
+    let path = file(alloc, cursor)?;
+    let skip = skip_at(cursor)?;
+    let separator = separator_at(alloc, cursor)?;
+    let decimal = decimal_at(alloc, cursor, separator)?;
+    Ok((Some(ListOf::new(path)), skip, separator, decimal))
+}
+
 /// Reads where the records come from, if they do.
 #[tactic(auto, unfolding(crate::specs::Readers::Reading::read_source))]
-fn source_at(
-    alloc: Global,
-    cursor: &mut Cursor<'_, Counted>,
-) -> Result<(Option<ListOf<u8>>, u32), Stop<TooMany>>
+fn source_at(alloc: Global, cursor: &mut Cursor<'_, Counted>) -> Result<Source, Stop<TooMany>>
     ensures { Reads (λ source. source) reading.read_source cursor.old result cursor.new }
 {
     if word_comes(cursor, b"FROM") {
-        word(cursor, b"FROM")?;
-        let path = file(alloc, cursor)?;
-        let skip = skip_at(cursor)?;
-        Ok((Some(ListOf::new(path)), skip))
+        given_source(alloc, cursor)
     } else {
-        Ok((None, 0))
+        Ok((None, 0, COMMA, POINT))
     }
 }
 
-/// Reads `LOAD name [ FROM file [ SKIP whole ] ] [ WITH param { , param } ] ;`.
+/// Reads `LOAD name [ FROM file [ SKIP whole ] [ SEPARATOR ( Text | TAB ) ] [ DECIMAL Text ] ]
+/// [ WITH param { , param } ] ;`.
 #[tactic(auto, unfolding(crate::specs::Readers::Reading::read_load))]
 pub fn load_at(
     alloc: Global,
@@ -51,13 +64,15 @@ pub fn load_at(
 {
     let line = word(cursor, b"LOAD")?;
     let script = name(alloc, cursor)?;
-    let (file, skip) = source_at(alloc, cursor)?;
+    let (file, skip, separator, decimal) = source_at(alloc, cursor)?;
     let params = params_at(alloc, cursor)?;
     sign(cursor, b";")?;
     let body = UserBody::Load(LoadText {
         script,
         file,
         skip,
+        separator,
+        decimal,
         params,
     });
     Ok(UserCommand { line, body })

@@ -16,6 +16,8 @@ pub struct LoadJob {
     pub records: Option<Arc<Records, Global>>,
     /// How many records at the file's beginning are passed over.
     pub skip: u32,
+    /// The byte between units and decimals of the numbers in the file.
+    pub decimal: u8,
     /// The variables that are set before the script's Prolog, each once, in capitals.
     pub params: LoadParams,
 }

@@ -83,12 +83,14 @@ fn add(
     Ok(())
 }
 
-/// The records of a file behind the first `skip` ones. Every list of bytes is a list of records.
-pub fn rows(alloc: Global, bytes: &[u8], skip: u32) -> Result<Records, AllocError>
-    ensures { IfOk result (λ records. records ≡ rows_of skip bytes.now) }
+/// The records of a file behind the first `skip` ones, where this byte stands between columns. Every list of bytes is a
+/// list of records.
+pub fn rows(alloc: Global, bytes: &[u8], separator: u8, skip: u32) -> Result<Records, AllocError>
+    ensures { IfOk result (λ records. records ≡ rows_of separator skip bytes.now) }
 {
     let text = without_mark(bytes);
     let mut reader = ReaderBuilder::new()
+        .delimiter(separator)
         .has_headers(false)
         .flexible(true)
         .from_reader(alloc, text);

@@ -1,12 +1,13 @@
 -- The readers of a user's text, in the shape of the code.
-use Rattle.std.specs.Prelude.{ℕ, ℤ, Bool, true, false, ◌||◌, List, [], ◌∷◌, Option, Some, None, codes}
+use Rattle.std.specs.Prelude.{ℕ, ℤ, Bool, true, false, ◌==◌, ◌||◌, List, [], ◌∷◌, Option, Some, None, codes}
 use Rattle.cube_lex.specs.Lexeme.{Lexeme}
 use Rattle.grammar.specs.Reading.{Reader, gives, take_one, choose, all_of, ◌>>=◌, ◌>>◌}
 use Rattle.grammar.specs.After.{all_after}
 use Rattle.grammar.specs.Lists.{read_listed, read_minus, read_names}
 use Rattle.grammar.specs.Tokens.{sign, word, whole, name, text, money, file, is_sign, is_word, is_text}
 use Rattle.user_text.specs.Counting.{count}
-use Rattle.user_text.specs.UserText.{signed, new_variable, loading, viewing}
+use Rattle.user_text.specs.FileSigns.{comma, tab, decimal_point, sign_text, sign_but}
+use Rattle.user_text.specs.UserText.{Source, signed, new_variable, loading, viewing}
 use Rattle.user_text.specs.declared.command.CellText.{CellText}
 use Rattle.user_text.specs.declared.command.ParamText.{ParamText}
 use Rattle.user_text.specs.declared.command.ParamText.TheVariants as params
@@ -66,10 +67,34 @@ read_get = do
 unfoldable pub read_skip : Plan ℕ
 read_skip = choose (is_word (codes "SKIP")) (do take_word (codes "SKIP"); take_one count whole) (gives 0)
 
-unfoldable pub read_source : Plan (Option (List ℕ) × ℕ)
-read_source = choose (is_word (codes "FROM"))
-    (do take_word (codes "FROM"); path ← take_one count file; records ← read_skip; gives (Some path, records))
-    (gives (None, 0))
+unfoldable pub read_given_separator : Plan ℕ
+read_given_separator = choose is_text (take_one count sign_text) (do take_word (codes "TAB"); gives tab)
+
+unfoldable pub read_separator : Plan ℕ
+read_separator =
+    choose (is_word (codes "SEPARATOR")) (do take_word (codes "SEPARATOR"); read_given_separator) (gives comma)
+
+unfoldable pub read_given_decimal : ℕ → Plan ℕ
+read_given_decimal byte = do take_word (codes "DECIMAL"); take_one count (sign_but byte)
+
+unfoldable pub read_decimal_by : Bool → ℕ → Plan ℕ
+read_decimal_by true byte = read_given_decimal byte
+read_decimal_by false byte = choose (is_word (codes "DECIMAL")) (read_given_decimal byte) (gives decimal_point)
+
+unfoldable pub read_decimal : ℕ → Plan ℕ
+read_decimal byte = read_decimal_by (byte == decimal_point) byte
+
+unfoldable pub read_given_source : Plan Source
+read_given_source = do
+  take_word (codes "FROM")
+  path ← take_one count file
+  records ← read_skip
+  byte ← read_separator
+  mark ← read_decimal byte
+  gives (Some path, records, byte, mark)
+
+unfoldable pub read_source : Plan Source
+read_source = choose (is_word (codes "FROM")) read_given_source (gives (None, 0, comma, decimal_point))
 
 unfoldable pub read_value : Plan ParamText
 read_value = choose is_text

@@ -12,11 +12,12 @@ user_commands-requires c =
     let rest = into_iter_items c.next.new.self in
     let parts : c.args.users ≡ before ++ here ∷ rest =
     sym c.into_vec-texts-items.ensures ∙ sym c.into_iter-texts-iterator.ensures.into_iter_gives.0 ∙ taken_front c.into_iter-texts-iterator.result before c.loop-texts.texts-iterator c.loop-texts.yielded_by ∙ ap (λ l. before ++ l) c.in-Some.ensures.steps.0 in
-    all-here (AreReady c.args.files.now c.args.sources.now) before here rest (subst (All (AreReady c.args.files.now c.args.sources.now)) parts c.requires)
+    subst (λ files. AreReady c.args.files.now files here) (sym c.loop-texts.invariant.0)
+    (all-here (AreReady c.args.files.now c.args.sources.now) before here rest (subst (All (AreReady c.args.files.now c.args.sources.now)) parts c.requires))
 
-pub returns : goal.returns
-returns c =
+pub returns-clause-commands : goal.returns-clause-commands
+returns-clause-commands c =
     let none : into_iter_items c.loop-texts.texts-iterator ≡ [] =
     nothing_left (into_iter_items c.loop-texts.texts-iterator) (sym c.loop-texts.texts-iterator.rest.ok.0 ∙ c.in-None.ensures.steps.0) in
-    let all = c.loop-texts.invariant [] (rw none tt) in
+    let all = c.loop-texts.invariant.1 [] (rw none tt) in
     rw (c.new.ensures, ← append-nil c.loop-texts.all.items) all

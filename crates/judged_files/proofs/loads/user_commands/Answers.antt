@@ -12,11 +12,12 @@ command_of-requires c =
     let rest = into_iter_items c.next.new.self in
     let parts : c.args.texts ≡ before ++ here ∷ rest =
     sym c.into_vec-text-items.ensures ∙ sym c.into_iter-text-iterator.ensures.into_iter_gives.0 ∙ taken_front c.into_iter-text-iterator.result before c.loop-text.text-iterator c.loop-text.yielded_by ∙ ap (λ l. before ++ l) c.in-Some.ensures.steps.0 in
-    all-here (λ command. IsReady c.args.files.now c.args.sources.now command.body) before here rest (subst (All (λ command. IsReady c.args.files.now c.args.sources.now command.body)) parts c.requires)
+    subst (λ files. IsReady c.args.files.now files here.body) (sym c.loop-text.invariant.0)
+    (all-here (λ command. IsReady c.args.files.now c.args.sources.now command.body) before here rest (subst (All (λ command. IsReady c.args.files.now c.args.sources.now command.body)) parts c.requires))
 
-pub returns : goal.returns
-returns c =
+pub returns-clause-commands : goal.returns-clause-commands
+returns-clause-commands c =
     let none : into_iter_items c.loop-text.text-iterator ≡ [] =
     nothing_left (into_iter_items c.loop-text.text-iterator) (sym c.loop-text.text-iterator.rest.ok.0 ∙ c.in-None.ensures.steps.0) in
-    let all = c.loop-text.invariant [] (rw none tt) in
+    let all = c.loop-text.invariant.1 [] (rw none tt) in
     rw (c.new.ensures, ← append-nil c.loop-text.commands.items) all
