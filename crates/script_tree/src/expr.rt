@@ -18,6 +18,16 @@ pub enum ScriptFun {
     Max,
     /// Of two arguments.
     Min,
+    /// The text without the spaces and tabs at its ends.
+    Trim,
+    Upper,
+    Lower,
+    /// How many characters a text has.
+    Long,
+    /// Where a text stands in another one: what is looked for, and where.
+    Scan,
+    /// Characters of a text: the text, the place of the first one, and how many.
+    Subst,
 }
 
 /// An operator between two expressions.
