@@ -41,8 +41,8 @@ pub fn arrows_are_made_by_dimension()
         → IsJoinedByDimension m cube s.area kind p from to ↔ IsJoined m cube s kind p from to }
 {}
 
-/// Where ranks fit the arrows of a model whose cubes have the same first position for cells of both kinds, and are within
-/// the limit, what holds of the rules of the model holds with the orders that they make.
+/// Where ranks fit the arrows of a model whose cubes have the same first position for cells of both kinds, and are
+/// within the limit, what holds of the rules of the model holds with the orders that they make.
 pub fn fitting_ranks_make_orders()
     ensures { (m : BoundModel) (ranks : NodeRanks) → IsSpace m.space → AreRules m.space m.rules
         → All HasOneLag m.rules → FitArrows m ranks → AreNodeRanks m ranks

@@ -5,11 +5,8 @@ ghost use Rattle.bind_arguments.specs.Written as written;
 ghost use Rattle.bind_arguments.specs.Written.{part_in};
 ghost use Rattle.bind_arguments.specs.Inside.Reading.{text_of_part, whole_of_part, shift_in};
 
-use cube_fixed::Money;
+use cube_fixed::{Money, UNIT};
 use rule_tree::{Tree, TreeOp};
-
-/// One whole unit, in millionths.
-const UNIT: i64 = 1_000_000;
 
 /// The text that a formula is, if it is one.
 pub(crate) fn text_of(tree: &Tree) -> Option<&[u8]>
@@ -27,8 +24,9 @@ pub(crate) fn whole_number(number: Money) -> Option<i64>
     ensures small { IfSome result IsInRange }
 {
     let millionths = number.millionths();
-    if millionths.rem_euclid(UNIT) == 0 {
-        Some(millionths.div_euclid(UNIT))
+    let unit = UNIT as i64;
+    if millionths.rem_euclid(unit) == 0 {
+        Some(millionths.div_euclid(unit))
     } else {
         None
     }

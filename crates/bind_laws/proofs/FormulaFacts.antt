@@ -192,9 +192,12 @@ module _ (space : Layout) (cube : ℕ) where
         (either_way (λ function. IsGood at (call_value space cube at function ms)) (bytes_eq word (codes "SIGN")) _ _ (unary_call_good at funs.Sign ms all)
         (either_way (λ function. IsGood at (call_value space cube at function ms)) (bytes_eq word (codes "INT")) _ _ (unary_call_good at funs.Int ms all)
         (either_way (λ function. IsGood at (call_value space cube at function ms)) (bytes_eq word (codes "ROUND")) _ _ (unary_call_good at funs.Round ms all)
+        (either_way (λ function. IsGood at (call_value space cube at function ms)) (bytes_eq word (codes "TRUNC")) _ _ (unary_call_good at funs.Trunc ms all)
         (either_way (λ function. IsGood at (call_value space cube at function ms)) (bytes_eq word (codes "MAX")) _ _ (binary_call_good at ops.Max ms all)
         (either_way (λ function. IsGood at (call_value space cube at function ms)) (bytes_eq word (codes "MIN")) _ _ (binary_call_good at ops.Min ms all)
-        (λ f is. absurd (cc is))))))))))
+        (either_way (λ function. IsGood at (call_value space cube at function ms)) (bytes_eq word (codes "MOD")) _ _ (binary_call_good at ops.Mod ms all)
+        (either_way (λ function. IsGood at (call_value space cube at function ms)) (bytes_eq word (codes "ROUNDP")) _ _ (binary_call_good at ops.RoundTo ms all)
+        (λ f is. absurd (cc is)))))))))))))
 
     abbrev Held : Type 0
     Held = (tree : Tree) × IsSound (meanings space cube tree)

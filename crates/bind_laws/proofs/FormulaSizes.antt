@@ -174,9 +174,12 @@ module _ (of : Formula → ℕ) (of_truth : Truth → ℕ) (counts : IsCount of 
         (either_way (λ function. P (call_value space cube at function (all_meant trees))) (bytes_eq word (codes "SIGN")) _ _ (unary_call_light funs.Sign trees all)
         (either_way (λ function. P (call_value space cube at function (all_meant trees))) (bytes_eq word (codes "INT")) _ _ (unary_call_light funs.Int trees all)
         (either_way (λ function. P (call_value space cube at function (all_meant trees))) (bytes_eq word (codes "ROUND")) _ _ (unary_call_light funs.Round trees all)
+        (either_way (λ function. P (call_value space cube at function (all_meant trees))) (bytes_eq word (codes "TRUNC")) _ _ (unary_call_light funs.Trunc trees all)
         (either_way (λ function. P (call_value space cube at function (all_meant trees))) (bytes_eq word (codes "MAX")) _ _ (binary_call_light ops.Max trees all)
         (either_way (λ function. P (call_value space cube at function (all_meant trees))) (bytes_eq word (codes "MIN")) _ _ (binary_call_light ops.Min trees all)
-        (λ f is. absurd (cc is))))))))))
+        (either_way (λ function. P (call_value space cube at function (all_meant trees))) (bytes_eq word (codes "MOD")) _ _ (binary_call_light ops.Mod trees all)
+        (either_way (λ function. P (call_value space cube at function (all_meant trees))) (bytes_eq word (codes "ROUNDP")) _ _ (binary_call_light ops.RoundTo trees all)
+        (λ f is. absurd (cc is)))))))))))))
 
     abbrev IsLightTree : Tree → Type 0
     IsLightTree tree = AreLight (nodes tree) (meanings space cube tree)

@@ -13,8 +13,8 @@ use std::alloc::Global;
 
 /// Checks the declared order of a model: that its height is at most [`MAX_HEIGHT`](crate::MAX_HEIGHT), and that what
 /// each part of a statement reads stands before each cell of the statement's area that the part is for, where it reads
-/// a cell from there. Which statement governs a cell doesn't count. Memory speeds the check alone: where it is short, the
-/// answer is the same.
+/// a cell from there. Which statement governs a cell doesn't count. Memory speeds the check alone: where it is short,
+/// the answer is the same.
 pub fn check_order(alloc: Global, model: &Model) -> Result<(), OrderFault>
     ensures ordered { OnOk result (IsOrderedByPlace (system_of model.now) (positions_of model.now)) }
     ensures low { OnOk result (product (position_sizes model.now) ≤ most_height) }

@@ -1,5 +1,5 @@
 -- The decimals of a fraction, as they are written and as they read back.
-use Rattle.std.proofs.Common.{◌≡◌, ◌≢◌, ◌∙◌, sym, ap, refl, arith, lit≤, ℕ, zero, suc, ◌+◌, ◌-◌, ◌*◌, ◌/◌, ◌%◌, ◌^◌, ◌<◌, ◌≤◌, false, ◌==◌, List, [], ◌∷◌, ◌++◌, get_or, cond, append_assoc, append-nil}
+use Rattle.std.proofs.Common.{◌≡◌, ◌≢◌, ◌∙◌, sym, ap, refl, arith, lit≤, ℕ, zero, suc, ◌+◌, ◌-◌, ◌*◌, ◌/◌, ◌%◌, ◌^◌, ◌<◌, ◌≤◌, false, ◌==◌, List, [], ◌∷◌, ◌++◌, get_or, cond, take, append_assoc, append-nil}
 use Rattle.std.proofs.lemmas.Bool.Decides.{nat_tests}
 use Rattle.std.proofs.lemmas.Nat.{div-add-mod', mod_below}
 use Rattle.std.proofs.Math.Nat.{zero-div, one-le-pow}
@@ -90,3 +90,9 @@ place_at (suc (suc (suc zero))) h = refl
 place_at (suc (suc (suc (suc zero)))) h = refl
 place_at (suc (suc (suc (suc (suc zero))))) h = refl
 place_at (suc (suc (suc (suc (suc (suc i)))))) h = absurd (omega arith)
+
+-- ---- so many digits
+
+-- one digit more is written, of so many
+pub digit_step : (k left rest : ℕ) (text : List ℕ) → (text ++ (48 + rest / 10 ^ k) ∷ []) ++ take left (digits_in k (rest % 10 ^ k)) ≡ text ++ take (suc left) (digits_in (suc k) rest)
+digit_step k left rest text = append_assoc text ((48 + rest / 10 ^ k) ∷ []) (take left (digits_in k (rest % 10 ^ k)))

@@ -1,7 +1,7 @@
 -- The text of a number: what it says, and how it is written.
-use Rattle.std.specs.Prelude.{ℕ, zero, suc, ◌+◌, ◌*◌, ◌/◌, ◌%◌, ◌^◌, ◌==◌, ℤ, pos, neg_ℤ, unsigned_abs, Bool, true}
-use Rattle.std.specs.Prelude.{false, not, ◌&&◌, if◌then◌else◌, List, [], ◌∷◌, ◌++◌, length, drop, Option, Some, None}
-use Rattle.std.specs.Prelude.{Result, Ok, Err, codes, decimal}
+use Rattle.std.specs.Prelude.{ℕ, zero, suc, ◌+◌, ◌-◌, ◌*◌, ◌/◌, ◌%◌, ◌^◌, ◌==◌, ℤ, pos, neg_ℤ, unsigned_abs, Bool, true}
+use Rattle.std.specs.Prelude.{false, not, ◌&&◌, if◌then◌else◌, List, [], ◌∷◌, ◌++◌, length, take, drop, Option, Some}
+use Rattle.std.specs.Prelude.{None, Result, Ok, Err, codes, decimal}
 use Rattle.std.specs.Int.{is_negative}
 use Rattle.std.specs.Char.{is_ascii_digit}
 use Rattle.std.specs.List.{before_first, after_first, list_all, list_any}
@@ -12,6 +12,7 @@ use Rattle.cube_fixed.specs.declared.reading.NumberFault.{NumberFault}
 use Rattle.cube_fixed.specs.declared.reading.NumberFault.TheVariants.{NotANumber, TooLarge}
 use Rattle.cube_fixed.specs.Range.{unit, is_in_range}
 use Rattle.cube_fixed.specs.Rounding.{nearest}
+use Rattle.cube_fixed.specs.Places.{rounded_at, decimals_for}
 
 -- ---- reading
 
@@ -79,9 +80,27 @@ unfoldable pub fraction_text : ℕ → List ℕ
 fraction_text zero = []
 fraction_text (suc n) = 46 ∷ without_zeros_at_end (digits_in 6 (suc n))
 
--- the text of a value: `-` where it is negative, the whole units, and the fraction
+-- `-` where the number is negative, and the whole units
+abbrev pub units_text : ℤ → List ℕ
+units_text z = (if is_negative z then codes "-" else []) ++ decimal (unsigned_abs z / unit)
+
+-- the text of a value: its units, and the fraction
 unfoldable pub printed : Value → List ℕ
-printed (Num z) =
-    (if is_negative z then codes "-" else []) ++
-    decimal (unsigned_abs z / unit) ++ fraction_text (unsigned_abs z % unit)
+printed (Num z) = units_text z ++ fraction_text (unsigned_abs z % unit)
 printed Over = codes "#OVER"
+
+-- ---- writing so many decimals
+
+-- nothing for no decimals, else the point and so many of the six
+abbrev pub decimals_text : ℕ → ℕ → List ℕ
+decimals_text zero n = []
+decimals_text (suc k) n = 46 ∷ take (suc k) (digits_in 6 n)
+
+-- the text of a value with so many decimals, those behind them cut off
+unfoldable pub printed_in : ℕ → Value → List ℕ
+printed_in decimals (Num z) = units_text z ++ decimals_text decimals (unsigned_abs z % unit)
+printed_in decimals Over = codes "#OVER"
+
+-- the text of a value, rounded to so many decimals and written with them
+abbrev pub fixed_text : Value → Value → List ℕ
+fixed_text a n = printed_in (decimals_for n) (rounded_at (6 - decimals_for n) a)

@@ -1,6 +1,6 @@
-ghost use Rattle.std.specs.Prelude.{◌≡◌, pos};
+ghost use Rattle.std.specs.Prelude.{◌≡◌, ◌*◌, pos};
 ghost use Rattle.std.specs.Option.{SomeIff};
-ghost use Rattle.cube_fixed.specs.Range.{IsInRange};
+ghost use Rattle.cube_fixed.specs.Range.{unit, IsInRange};
 
 use std::marker::Model;
 
@@ -41,6 +41,15 @@ impl Money {
             Some(Money { millionths })
         } else {
             None
+        }
+    }
+
+    /// The number of so many whole units.
+    pub fn of_units(units: u32) -> Money
+        ensures { result ≡ pos (units * unit) }
+    {
+        Money {
+            millionths: i64::from(units) * UNIT as i64,
         }
     }
 

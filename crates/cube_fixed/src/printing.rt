@@ -1,7 +1,7 @@
 ghost use Rattle.std.specs.Prelude.{◌≡◌, ◌++◌, ◌<◌, IfOk, OnOk, OnErr};
 ghost use Rattle.cube_fixed.specs.declared.value.Value.TheVariants.{Num};
 ghost use Rattle.cube_fixed.specs.Range.{unit};
-ghost use Rattle.cube_fixed.specs.Text.{fraction_text, printed};
+ghost use Rattle.cube_fixed.specs.Text.{units_text, fraction_text, printed};
 
 use crate::money::{Money, UNIT};
 use crate::value::Value;
@@ -23,16 +23,22 @@ pub fn print(alloc: Global, v: Value, out: &mut Vec<u8>) -> Result<(), AllocErro
     }
 }
 
+/// The sign of a number, and its whole units.
+pub(crate) fn units_text(alloc: Global, number: Money) -> Result<Vec<u8>, AllocError>
+    ensures { IfOk result (λ text. text.items ≡ units_text number) }
+{
+    let millionths = number.millionths();
+    let sign = if millionths < 0 { "-" } else { "" };
+    let whole = millionths.unsigned_abs() / UNIT;
+    Ok(format!(in alloc; "{sign}{whole}")?.into_bytes())
+}
+
 #[tactic(auto, unfolding(crate::specs::Text::printed))]
 fn text_of(alloc: Global, number: Money) -> Result<Vec<u8>, AllocError>
     ensures { IfOk result (λ text. text.items ≡ printed (Num number)) }
 {
-    let millionths = number.millionths();
-    let sign = if millionths < 0 { "-" } else { "" };
-    let size = millionths.unsigned_abs();
-    let whole = size / UNIT;
-    let mut text = format!(in alloc; "{sign}{whole}")?.into_bytes();
-    push_fraction(&mut text, size % UNIT)?;
+    let mut text = units_text(alloc, number)?;
+    push_fraction(&mut text, number.millionths().unsigned_abs() % UNIT)?;
     Ok(text)
 }
 

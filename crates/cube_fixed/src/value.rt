@@ -1,4 +1,9 @@
+ghost use Rattle.std.specs.Prelude.{◌≡◌, ◌*◌, pos};
+ghost use Rattle.cube_fixed.specs.Arithmetic.{fit};
+ghost use Rattle.cube_fixed.specs.Range.{unit};
+
 use crate::money::Money;
+use crate::rounding::{MILLIONTHS_PER_UNIT, fitted};
 
 /// What a cell or a formula holds: a number, or the mark of a result that is out of range.
 #[derive(Clone, Copy, Debug, PartialEq, Eq)]
@@ -12,4 +17,11 @@ pub enum Value {
 impl Value {
     /// The number 0.
     pub const ZERO: Value = Value::Num(Money::ZERO);
+
+    /// The number of so many whole units.
+    pub fn of_units(units: u64) -> Value
+        ensures { result ≡ fit (pos (units * unit)) }
+    {
+        fitted(i128::from(units) * MILLIONTHS_PER_UNIT)
+    }
 }

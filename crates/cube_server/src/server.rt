@@ -19,9 +19,10 @@ use std::thread::Threads;
 /// leaves.
 ///
 /// The words are those after the program's own name: a model file and 1 to 16 user files, or `--check` or `--feeders`
-/// and a model file, or `--sample` and its records. The model is read and judged first; then the files of its cubes' rules, its
-/// scripts, all user files and the files of their loads, each kind read in order and then judged in order. A name that
-/// was read isn't read again. A sample's files are made, and none is asked for. Until then nothing waits for a thread:
+/// and a model file, or `--sample` and its records. The model is read and judged first; then the files of its cubes'
+/// rules, its scripts, all user files and the files of their loads, each kind read in order and then judged in order. A
+/// name that was read isn't read again. A sample's files are made, and none is asked for. Until then nothing waits for
+/// a thread:
 /// it is the call of [`run_passes::run_passes`].
 ///
 /// Each user runs on a thread of its own and passes the gate at the parts of its commands; where a thread can't be

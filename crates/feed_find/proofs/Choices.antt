@@ -3,7 +3,7 @@ use Rattle.std.proofs.Common.{◌≡◌, refl, ap, sym, subst, Bool, true, false
 use Rattle.std.specs.Prelude.{is_some}
 use Rattle.std.proofs.lemmas.List.Elements.{All-append, All-nil}
 use Rattle.rule_laws.specs.declared.operation.Op.{Op}
-use Rattle.rule_laws.specs.declared.operation.Op.TheVariants.{Add, Sub, Mul, DivSafe, Div, Max, Min}
+use Rattle.rule_laws.specs.declared.operation.Op.TheVariants.{Add, Sub, Mul, DivSafe, Div, Max, Min, Mod, RoundTo}
 use Rattle.rule_laws.specs.declared.operation.Rel.{Rel}
 use Rattle.feed_find.specs.declared.chosen.Chosen.{Chosen}
 use Rattle.feed_find.specs.declared.need.Need.{Need}
@@ -27,6 +27,8 @@ module _ (P : Chosen → Type 0) where
   side-all Mul a b left right = either-all (not a.by_all.is_zero && b.by_all.is_zero) b.chosen a.chosen right left
   side-all DivSafe a b left right = either-all (not a.by_all.is_zero && b.by_all.is_zero) b.chosen a.chosen right left
   side-all Div a b left right = left
+  side-all Mod a b left right = left
+  side-all RoundTo a b left right = left
 
   pub binary-all : (op : Op) (a b : Need) → All P a.chosen → All P b.chosen → All P (of_binary op a b).chosen
   binary-all op a b left right = unless-all (of_binary op a b).by_written.is_zero (chosen_side op a b) (side-all op a b left right)

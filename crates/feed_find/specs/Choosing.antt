@@ -4,7 +4,7 @@ use Rattle.std.specs.Prelude.{Option, Some, None, List, [], ◌∷◌, ◌++◌}
 use Rattle.std.specs.Option.{option_map_or}
 use Rattle.rule_laws.specs.declared.finding.Finding.{Finding}
 use Rattle.rule_laws.specs.declared.operation.Op.{Op}
-use Rattle.rule_laws.specs.declared.operation.Op.TheVariants.{Add, Sub, Mul, DivSafe, Div, Max, Min}
+use Rattle.rule_laws.specs.declared.operation.Op.TheVariants.{Add, Sub, Mul, DivSafe, Div, Max, Min, Mod, RoundTo}
 use Rattle.rule_laws.specs.declared.operation.Fun.{Fun}
 use Rattle.rule_laws.specs.declared.operation.Rel.{Rel}
 use Rattle.rule_laws.specs.declared.reference.Reference.{Reference}
@@ -72,7 +72,7 @@ unless false chosen = chosen
 abbrev pub chosen_factor : Need → Need → List Chosen
 chosen_factor a b = if not a.by_all.is_zero && b.by_all.is_zero then b.chosen else a.chosen
 
--- of a sum both sides, of a quotient the left one
+-- of a sum both sides, of a division and a rounding the left one
 abbrev pub chosen_side : Op → Need → Need → List Chosen
 chosen_side Add a b = a.chosen ++ b.chosen
 chosen_side Sub a b = a.chosen ++ b.chosen
@@ -81,6 +81,8 @@ chosen_side Min a b = a.chosen ++ b.chosen
 chosen_side Mul a b = chosen_factor a b
 chosen_side DivSafe a b = chosen_factor a b
 chosen_side Div a b = a.chosen
+chosen_side Mod a b = a.chosen
+chosen_side RoundTo a b = a.chosen
 
 abbrev pub of_binary : Op → Need → Need → Need
 of_binary op a b = record {

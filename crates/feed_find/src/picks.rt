@@ -38,7 +38,7 @@ pub fn chosen_side(op: Op, left: Need, right: Need) -> Result<ListOf<Chosen>, Al
     match op {
         Op::Add | Op::Sub | Op::Max | Op::Min => joined(left.chosen, right.chosen),
         Op::Mul | Op::DivSafe => Ok(chosen_factor(left, right)),
-        Op::Div => Ok(left.chosen),
+        Op::Div | Op::Mod | Op::RoundTo => Ok(left.chosen),
     }
 }
 

@@ -38,10 +38,7 @@ fn number(n: u32) -> Tree
     ensures number { result ≡ trees.Number (pos (n * unit)) }
     ensures writable { IsTrue (is_writable result) }
 {
-    match Money::of(i64::from(n) * 1_000_000) {
-        Some(money) => Tree::Number(money),
-        None => unreachable!(),
-    }
+    Tree::Number(Money::of_units(n))
 }
 
 // The index of the cell's own element.

@@ -52,8 +52,8 @@ fn meets(given: Given, own: bool, its: bool) -> bool
     }
 }
 
-/// Whether elements that give, or don't give, a consolidated element, and one from which one is named that is meant, may
-/// be those of a cell from which a source reads.
+/// Whether elements that give, or don't give, a consolidated element, and one from which one is named that is meant,
+/// may be those of a cell from which a source reads.
 pub fn suits(source: Source, own: bool, its: bool) -> bool
     ensures { result ≡ suits source.entry own its }
 {

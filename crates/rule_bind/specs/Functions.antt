@@ -17,8 +17,11 @@ value_function word =
     else if bytes_eq word (codes "SIGN") then functions.One funs.Sign
     else if bytes_eq word (codes "INT") then functions.One funs.Int
     else if bytes_eq word (codes "ROUND") then functions.One funs.Round
+    else if bytes_eq word (codes "TRUNC") then functions.One funs.Trunc
     else if bytes_eq word (codes "MAX") then functions.Two ops.Max
     else if bytes_eq word (codes "MIN") then functions.Two ops.Min
+    else if bytes_eq word (codes "MOD") then functions.Two ops.Mod
+    else if bytes_eq word (codes "ROUNDP") then functions.Two ops.RoundTo
     else functions.Other
 
 -- a function by its word in capitals

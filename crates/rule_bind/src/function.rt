@@ -32,10 +32,16 @@ fn value_function(word: &[u8]) -> Function
         Function::One(Fun::Int)
     } else if word == b"ROUND".as_slice() {
         Function::One(Fun::Round)
+    } else if word == b"TRUNC".as_slice() {
+        Function::One(Fun::Trunc)
     } else if word == b"MAX".as_slice() {
         Function::Two(Op::Max)
     } else if word == b"MIN".as_slice() {
         Function::Two(Op::Min)
+    } else if word == b"MOD".as_slice() {
+        Function::Two(Op::Mod)
+    } else if word == b"ROUNDP".as_slice() {
+        Function::Two(Op::RoundTo)
     } else {
         Function::Other
     }

@@ -1,12 +1,12 @@
 -- What is found of a formula rests on its references alone, and its operands are counted right.
-use Rattle.std.proofs.Common.{◌≡◌, refl, ◌∙◌, ap, subst, inl, inr, arith, ℕ, zero, suc, ◌+◌, ◌≤◌, Bool, true, false, ◌&&◌, List, [], ◌∷◌, ◌++◌, Option, None, Some}
+use Rattle.std.proofs.Common.{if◌then◌else◌, min, ◌≡◌, refl, ◌∙◌, ap, subst, inl, inr, arith, ℕ, zero, suc, ◌+◌, ◌≤◌, Bool, true, false, ◌&&◌, List, [], ◌∷◌, ◌++◌, Option, None, Some}
 use Rattle.std.specs.List.{Contains}
 use Rattle.std.specs.Prelude.{IsTrue, ◌↔◌}
 use Rattle.std.proofs.lemmas.List.Elements.{Contains-push, Contains-append_left, Contains-append_right, Contains-append_cases}
 use Rattle.rule_laws.specs.declared.finding.Finding.{Finding}
 use Rattle.rule_laws.specs.declared.finding.TruthFinding.{TruthFinding}
 use Rattle.rule_laws.specs.declared.operation.Op.{Op}
-use Rattle.rule_laws.specs.declared.operation.Op.TheVariants.{Add, Sub, Mul, DivSafe, Div, Max, Min}
+use Rattle.rule_laws.specs.declared.operation.Op.TheVariants.{Add, Sub, Mul, DivSafe, Div, Max, Min, Mod, RoundTo}
 use Rattle.rule_laws.specs.declared.reference.Reference.{Reference}
 use Rattle.rule_laws.specs.declared.formula.Formula.{Formula}
 use Rattle.rule_laws.specs.declared.formula.Truth.{Truth}
@@ -75,6 +75,13 @@ first-within before a b left right = by a.is_zero refl
     by true is = rw is (omega arith)
     by false is = rw is (omega arith)
 
+divided-within : (a b : Finding) → a.blamed ≤ a.operands → b.blamed ≤ b.operands → (if is_divisor b then a.blamed else a.operands + min 1 b.operands) ≤ a.operands + b.operands
+divided-within a b left right = by (is_divisor b) refl
+  where
+    by : (d : Bool) → is_divisor b ≡ d → (if is_divisor b then a.blamed else a.operands + min 1 b.operands) ≤ a.operands + b.operands
+    by true is = rw is (omega arith)
+    by false is = rw is (omega arith)
+
 side-within : (op : Op) (a b : Finding) → a.blamed ≤ a.operands → b.blamed ≤ b.operands → blamed_side op a b ≤ a.operands + b.operands
 side-within Add a b left right = let h = first-within 0 a b left right in omega (arith, h)
 side-within Sub a b left right = let h = first-within 0 a b left right in omega (arith, h)
@@ -82,11 +89,9 @@ side-within Max a b left right = let h = first-within 0 a b left right in omega 
 side-within Min a b left right = let h = first-within 0 a b left right in omega (arith, h)
 side-within Mul a b left right = omega arith
 side-within DivSafe a b left right = omega arith
-side-within Div a b left right = by (is_divisor b) refl
-  where
-    by : (d : Bool) → is_divisor b ≡ d → blamed_side Div a b ≤ a.operands + b.operands
-    by true is = rw is (omega arith)
-    by false is = rw is (omega arith)
+side-within RoundTo a b left right = omega arith
+side-within Div a b left right = divided-within a b left right
+side-within Mod a b left right = divided-within a b left right
 
 branch-within : (t : TruthFinding) (a b : Finding) → a.blamed ≤ a.operands → b.blamed ≤ b.operands
     → blamed_branch t a b ≤ t.operands + a.operands + b.operands

@@ -1,5 +1,5 @@
 -- A formula that passes the zero test is 0 where its covered references, STET and CONTINUE are.
-use Rattle.std.proofs.Common.{◌≡◌, refl, sym, ◌∙◌, ap, Bool, true, false, not, ◌&&◌, ◌||◌, cond, List, [], ◌++◌, Option, None, Some, pos, ℤ}
+use Rattle.std.proofs.Common.{◌≡◌, ◌≢◌, refl, sym, ◌∙◌, ap, Bool, true, false, not, ◌&&◌, ◌||◌, cond, List, [], ◌++◌, Option, None, Some, pos, ℤ}
 use Rattle.std.specs.Ordering.{int_eq}
 use Rattle.std.specs.Option.{option_map}
 use Rattle.std.specs.List.{Contains}
@@ -8,16 +8,16 @@ use Rattle.std.proofs.lemmas.List.Elements.{Contains-append_left, Contains-appen
 use Rattle.cube_fixed.specs.declared.value.Value.{Value}
 use Rattle.cube_fixed.specs.declared.value.Value.TheVariants.{Num, Over}
 use Rattle.cube_fixed.specs.Arithmetic.{zero_value}
-use Rattle.cube_fixed.proofs.Zero.{sum_of-zeros, difference_of-zeros, greater_of-zeros, lesser_of-zeros, rounded-zero, floor_of-zero, size_of-zero, sign_of-zero, product_of-zero_left, product_of-zero_right, safe_quotient_of-zero_left, safe_quotient_of-zero_right, quotient_of-zero_left}
+use Rattle.cube_fixed.proofs.Zero.{sum_of-zeros, difference_of-zeros, greater_of-zeros, lesser_of-zeros, rounded-zero, floor_of-zero, size_of-zero, sign_of-zero, product_of-zero_left, product_of-zero_right, safe_quotient_of-zero_left, safe_quotient_of-zero_right, quotient_of-zero_left, remainder_of-zero_left, rounded_to-zero, truncated-zero}
 use Rattle.rule_laws.specs.declared.finding.Finding.{Finding}
 use Rattle.rule_laws.specs.declared.finding.TruthFinding.{TruthFinding}
 use Rattle.rule_laws.specs.declared.reference.Reference.{Reference}
 use Rattle.rule_laws.specs.declared.formula.Formula.{Formula}
 use Rattle.rule_laws.specs.declared.formula.Formula.TheOpen.{Formula-F, Truth-F}
 use Rattle.rule_laws.specs.declared.operation.Op.{Op}
-use Rattle.rule_laws.specs.declared.operation.Op.TheVariants.{Add, Sub, Mul, DivSafe, Div, Max, Min}
+use Rattle.rule_laws.specs.declared.operation.Op.TheVariants.{Add, Sub, Mul, DivSafe, Div, Max, Min, Mod, RoundTo}
 use Rattle.rule_laws.specs.declared.operation.Fun.{Fun}
-use Rattle.rule_laws.specs.declared.operation.Fun.TheVariants.{Minus, Abs, Sign, Int, Round}
+use Rattle.rule_laws.specs.declared.operation.Fun.TheVariants.{Minus, Abs, Sign, Int, Round, Trunc}
 use Rattle.rule_laws.specs.declared.operation.Rel.{Rel}
 use Rattle.rule_laws.specs.Operation.{operation_of, function_of, comparison_of}
 use Rattle.rule_laws.specs.Meaning.{Others, value_step, truth_step, formula_value, Precedent, Named, precedents_step, truth_precedents_step, precedents}
@@ -41,6 +41,7 @@ function_of-zero Abs = size_of-zero
 function_of-zero Sign = sign_of-zero
 function_of-zero Int = floor_of-zero
 function_of-zero Round = rounded-zero
+function_of-zero Trunc = truncated-zero
 
 -- what is found of a formula with this value: a number that it is written as is its value, so is the value that it is
 -- written as, and it is 0 if the test says so
@@ -60,6 +61,7 @@ written_as-is Abs number v u is e = cc
 written_as-is Sign number v u is e = cc
 written_as-is Int number v u is e = cc
 written_as-is Round number v u is e = cc
+written_as-is Trunc number v u is e = cc
 
 known_value-is : (a : Finding) (v u : Value) → IsTrueOf a v → known_value a ≡ Some u → v ≡ u
 known_value-is a v u true_of e = by_written a.written refl
@@ -73,14 +75,18 @@ known_value-is a v u true_of e = by_written a.written refl
     by_written (Some w) some = let known : Some w ≡ Some u = rw some at e in true_of.written w some ∙ (cc)
 
 -- by a number other than 0 the quotient of 0 is 0
-quotient-zero : (v u : Value) (b : Finding) → v ≡ zero_value → IsTrueOf b u → is_divisor b ≡ true → operation_of Div v u ≡ zero_value
-quotient-zero v u b zero true_of divisor = by_written b.written refl
+-- of 0 this operation gives 0, where its other side is a number other than 0
+abbrev KeepsZero : Op → Type 0
+KeepsZero op = (k : ℤ) → k ≢ pos 0 → operation_of op zero_value (Num k) ≡ zero_value
+
+divided-zero : (op : Op) (v u : Value) (b : Finding) → KeepsZero op → v ≡ zero_value → IsTrueOf b u → is_divisor b ≡ true → operation_of op v u ≡ zero_value
+divided-zero op v u b keeps zero true_of divisor = by_written b.written refl
   where
-    by_value : (x : Value) → is_other_than_zero x ≡ true → operation_of Div zero_value x ≡ zero_value
-    by_value (Num k) other = quotient_of-zero_left k (λ e. let yes' : int_eq k (pos 0) ≡ true = (Decides-int_eq k (pos 0)).1 e in let no' : not true ≡ true = ap not (sym yes') ∙ other in cc)
+    by_value : (x : Value) → is_other_than_zero x ≡ true → operation_of op zero_value x ≡ zero_value
+    by_value (Num k) other = keeps k (λ e. let yes' : int_eq k (pos 0) ≡ true = (Decides-int_eq k (pos 0)).1 e in let no' : not true ≡ true = ap not (sym yes') ∙ other in cc)
     by_value Over other = cc
 
-    by_written : (o : Option Value) → b.written ≡ o → operation_of Div v u ≡ zero_value
+    by_written : (o : Option Value) → b.written ≡ o → operation_of op v u ≡ zero_value
     by_written None none = let no : false ≡ true = rw none at divisor in cc
     by_written (Some x) some = let other : is_other_than_zero x ≡ true = rw some at divisor in rw (zero, true_of.written x some) (by_value x other)
 
@@ -94,7 +100,9 @@ zero_operation-is Mul v u true b left right e = rw (left refl) (product_of-zero_
 zero_operation-is Mul v u false b left right e = rw (right.zero e) (product_of-zero_right v)
 zero_operation-is DivSafe v u true b left right e = rw (left refl) (safe_quotient_of-zero_left u)
 zero_operation-is DivSafe v u false b left right e = rw (right.zero e) (safe_quotient_of-zero_right v)
-zero_operation-is Div v u za b left right e = let h = both za (is_divisor b) e in quotient-zero v u b (left h.0) right h.1
+zero_operation-is Div v u za b left right e = let h = both za (is_divisor b) e in divided-zero Div v u b quotient_of-zero_left (left h.0) right h.1
+zero_operation-is Mod v u za b left right e = let h = both za (is_divisor b) e in divided-zero Mod v u b remainder_of-zero_left (left h.0) right h.1
+zero_operation-is RoundTo v u za b left right e = rw (left e) (rounded_to-zero u)
 
 sure_comparison-is : (rel : Rel) (x y : Option Value) (a b : Value) (t : Bool)
     → ((v : Value) → x ≡ Some v → a ≡ v) → ((v : Value) → y ≡ Some v → b ≡ v) → sure_comparison rel x y ≡ Some t → comparison_of rel a b ≡ t

@@ -15,9 +15,9 @@ use Rattle.rule_laws.specs.declared.formula.Formula.TheFolds.{fold-Formula, fold
 use Rattle.rule_laws.specs.declared.formula.Formula.TheOpen.{Formula-F, Truth-F}
 use Rattle.rule_laws.specs.declared.formula.Truth.{Truth}
 use Rattle.rule_laws.specs.declared.operation.Op.{Op}
-use Rattle.rule_laws.specs.declared.operation.Op.TheVariants.{Add, Sub, Mul, DivSafe, Div, Max, Min}
+use Rattle.rule_laws.specs.declared.operation.Op.TheVariants.{Add, Sub, Mul, DivSafe, Div, Max, Min, Mod, RoundTo}
 use Rattle.rule_laws.specs.declared.operation.Fun.{Fun}
-use Rattle.rule_laws.specs.declared.operation.Fun.TheVariants.{Minus, Abs, Sign, Int, Round}
+use Rattle.rule_laws.specs.declared.operation.Fun.TheVariants.{Minus, Abs, Sign, Int, Round, Trunc}
 use Rattle.rule_laws.specs.declared.operation.Rel.{Rel}
 use Rattle.rule_laws.specs.Operation.{comparison_of}
 
@@ -28,6 +28,7 @@ written_as Abs number = None
 written_as Sign number = None
 written_as Int number = None
 written_as Round number = None
+written_as Trunc number = None
 
 -- whether a value is a number other than 0
 abbrev pub is_other_than_zero : Value → Bool
@@ -73,6 +74,8 @@ zero_operation Min a b divisor = a && b
 zero_operation Mul a b divisor = a || b
 zero_operation DivSafe a b divisor = a || b
 zero_operation Div a b divisor = a && divisor
+zero_operation Mod a b divisor = a && divisor
+zero_operation RoundTo a b divisor = a
 
 -- an IF, by its condition and by whether each branch is 0
 abbrev pub zero_choice : Option Bool → Bool → Bool → Bool
@@ -84,8 +87,9 @@ zero_choice None a b = a && b
 abbrev pub first_blamed : ℕ → Finding → Finding → ℕ
 first_blamed before a b = if a.is_zero then before + a.operands + b.blamed else before + a.blamed
 
--- an operation that isn't 0: a sum is blamed on its first side that isn't, a product on its left side, and a quotient
--- on its left side or, where its right side is written as no number other than 0, on the first operand of that
+-- an operation that isn't 0: a sum is blamed on its first side that isn't, a product and a rounding on their left side,
+-- and a division on its left side or, where its right side is written as no number other than 0, on the first operand
+-- of that
 abbrev pub blamed_side : Op → Finding → Finding → ℕ
 blamed_side Add a b = first_blamed 0 a b
 blamed_side Sub a b = first_blamed 0 a b
@@ -94,6 +98,8 @@ blamed_side Min a b = first_blamed 0 a b
 blamed_side Mul a b = a.blamed
 blamed_side DivSafe a b = a.blamed
 blamed_side Div a b = if is_divisor b then a.blamed else a.operands + min 1 b.operands
+blamed_side Mod a b = if is_divisor b then a.blamed else a.operands + min 1 b.operands
+blamed_side RoundTo a b = a.blamed
 
 -- an IF that isn't 0: the branch that its condition surely takes, else the first branch that isn't
 abbrev pub blamed_branch : TruthFinding → Finding → Finding → ℕ

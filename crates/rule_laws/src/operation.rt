@@ -1,4 +1,7 @@
-use cube_fixed::{Value, abs, add, compare, div, div_safe, floor, max, min, mul, round, sign, sub};
+use cube_fixed::{
+    Value, abs, add, compare, div, div_safe, floor, max, min, mul, remainder, round, round_to,
+    sign, sub, trunc,
+};
 use std::cmp::Ordering;
 
 /// An operation on two values.
@@ -13,6 +16,10 @@ pub enum Op {
     Div,
     Max,
     Min,
+    /// What is left by a division (`MOD` of TM1 Rules); out of range where the divisor is 0.
+    Mod,
+    /// The left value, rounded to as many decimals as the right one says (`ROUNDP` of TM1 Rules).
+    RoundTo,
 }
 
 impl Op {
@@ -31,6 +38,8 @@ impl Op {
             Op::Div => div(left, right),
             Op::Max => max(left, right),
             Op::Min => min(left, right),
+            Op::Mod => remainder(left, right),
+            Op::RoundTo => round_to(left, right),
         }
     }
 }
@@ -41,8 +50,11 @@ pub enum Fun {
     Minus,
     Abs,
     Sign,
+    /// The greatest whole number that is not above the value.
     Int,
     Round,
+    /// The value without its decimals.
+    Trunc,
 }
 
 impl Fun {
@@ -59,6 +71,7 @@ impl Fun {
             Fun::Sign => sign(value),
             Fun::Int => floor(value),
             Fun::Round => round(value),
+            Fun::Trunc => trunc(value),
         }
     }
 }

@@ -29,9 +29,9 @@ pub fn blamed_side(op: Op, left: &Finding, right: &Finding) -> u32
 {
     match op {
         Op::Add | Op::Sub | Op::Max | Op::Min => first_blamed(0, left, right),
-        Op::Mul | Op::DivSafe => left.blamed,
-        Op::Div if is_divisor(right) => left.blamed,
-        Op::Div => left.operands + u32::min(1, right.operands),
+        Op::Mul | Op::DivSafe | Op::RoundTo => left.blamed,
+        Op::Div | Op::Mod if is_divisor(right) => left.blamed,
+        Op::Div | Op::Mod => left.operands + u32::min(1, right.operands),
     }
 }
 

@@ -14,7 +14,8 @@ pub fn zero_operation(op: Op, left: bool, right: bool, divisor: bool) -> bool
     match op {
         Op::Add | Op::Sub | Op::Max | Op::Min => left && right,
         Op::Mul | Op::DivSafe => left || right,
-        Op::Div => left && divisor,
+        Op::Div | Op::Mod => left && divisor,
+        Op::RoundTo => left,
     }
 }
 
@@ -39,7 +40,7 @@ pub fn written_as(fun: Fun, number: Option<Money>) -> Option<Value>
             Some(number) => Some(sub(Value::ZERO, Value::Num(number))),
             None => None,
         },
-        Fun::Abs | Fun::Sign | Fun::Int | Fun::Round => None,
+        Fun::Abs | Fun::Sign | Fun::Int | Fun::Round | Fun::Trunc => None,
     }
 }
 

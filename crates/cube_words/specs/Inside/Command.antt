@@ -43,4 +43,6 @@ plain = on_top (λ shape. record shape { no_binary_name = true; disable_help_fla
     (new_app (codes "cube_program"))
 
 abbrev pub cube : App
-cube = with_rule (with_rule (with_rule (with_rule (with_rule plain check_rule) feeders_rule) sample_rule) model_rule) users_rule
+cube =
+    with_rule (with_rule (with_rule (with_rule (with_rule plain check_rule) feeders_rule) sample_rule) model_rule)
+    users_rule
