@@ -1,4 +1,6 @@
 pub mod Cells
 pub mod Scene
+pub mod Characters
+pub mod Padding
 pub mod Values
 pub mod Inside

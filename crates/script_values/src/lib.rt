@@ -5,13 +5,16 @@
 #![tactic(auto)]
 
 mod cells;
+mod characters;
 mod datum;
 mod kept;
 mod load_reason;
 mod operands;
+mod padding;
 mod same_name;
 mod sight;
 mod text;
+mod text_functions;
 mod value;
 mod wanted;
 
