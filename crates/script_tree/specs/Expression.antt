@@ -63,8 +63,9 @@ functions = (codes "CELLGETN", funs.CellGetN) ∷ (codes "ABS", funs.Abs) ∷ (c
 -- those whose words are functions before a `(` alone, and name variables elsewhere
 abbrev pub functions_before_parenthesis : List (List ℕ × ScriptFun)
 functions_before_parenthesis = (codes "TRIM", funs.Trim) ∷ (codes "UPPER", funs.Upper) ∷ (codes "LOWER", funs.Lower)
-    ∷ (codes "LONG", funs.Long) ∷ (codes "SCAN", funs.Scan) ∷ (codes "SUBST", funs.Subst)
-    ∷ (codes "NUMBR", funs.StringToNumber) ∷ []
+    ∷ (codes "LONG", funs.Long) ∷ (codes "SCAN", funs.Scan) ∷ (codes "SUBST", funs.Subst) ∷ (codes "STR", funs.Str)
+    ∷ (codes "NUMBR", funs.StringToNumber) ∷ (codes "MOD", funs.Mod) ∷ (codes "ROUNDP", funs.RoundP)
+    ∷ (codes "TRUNC", funs.Trunc) ∷ []
 
 -- the function of this word, if there is one
 abbrev pub function_in : List (List ℕ × ScriptFun) → List ℕ → Option ScriptFun
@@ -117,6 +118,10 @@ arguments funs.Lower value = one_value value
 arguments funs.Long value = one_value value
 arguments funs.Scan value = two_values value
 arguments funs.Subst value = three_values value
+arguments funs.Str value = three_values value
+arguments funs.Mod value = two_values value
+arguments funs.RoundP value = two_values value
+arguments funs.Trunc value = one_value value
 
 -- a function's arguments, in their parentheses
 abbrev pub call : Grammar Lexeme Expr → ScriptFun → Grammar Lexeme Expr

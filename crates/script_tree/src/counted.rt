@@ -114,7 +114,8 @@ fn is_function_before_parenthesis(token: &Token<'_>) -> bool
 {
     is_among(
         &[
-            b"TRIM", b"UPPER", b"LOWER", b"LONG", b"SCAN", b"SUBST", b"NUMBR",
+            b"TRIM", b"UPPER", b"LOWER", b"LONG", b"SCAN", b"SUBST", b"STR", b"NUMBR", b"MOD",
+            b"ROUNDP", b"TRUNC",
         ],
         token,
     )

@@ -28,6 +28,14 @@ pub enum ScriptFun {
     Scan,
     /// Characters of a text: the text, the place of the first one, and how many.
     Subst,
+    /// A number as a text: the number, the least width, and how many decimals.
+    Str,
+    /// What is left by a division.
+    Mod,
+    /// A number, rounded to so many decimals.
+    RoundP,
+    /// The number without its decimals.
+    Trunc,
 }
 
 /// An operator between two expressions.
