@@ -1,1 +1,4 @@
 mod PointedTexts
+pub mod Counted
+pub mod CutOut
+pub mod Places
