@@ -6,6 +6,7 @@
 
 mod cells;
 mod datum;
+mod elements;
 mod kept;
 mod load_reason;
 mod operands;

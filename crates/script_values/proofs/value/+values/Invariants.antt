@@ -35,3 +35,12 @@ decreases-operated g l = 4 * max (the_size l.left.now) (the_size l.right.now) + 
 
 abbrev pub decreases-compared : goal.decreases-compared
 decreases-compared g l = 4 * max (the_size l.left.now) (the_size l.right.now) + 2
+
+abbrev pub decreases-element_name : goal.decreases-element_name
+decreases-element_name g l = 4 * max (the_size l.dimension.now) (the_size l.place.now) + 2
+
+abbrev pub decreases-asked_of : goal.decreases-asked_of
+decreases-asked_of g l = 4 * goal.size-asked_of g l + 3
+
+abbrev pub decreases-updateable_at : goal.decreases-updateable_at
+decreases-updateable_at g l = 4 * goal.size-updateable_at g l + 3
