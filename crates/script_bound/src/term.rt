@@ -54,7 +54,7 @@ pub enum ElementFun {
     /// `DTYPE`: whether an element is a leaf.
     Kind,
     /// `ATTRS`: an element's text of an attribute.
-    AttributeText,
+    Text,
     /// `ATTRN`: the number that this text says.
-    AttributeNumber,
+    Number,
 }

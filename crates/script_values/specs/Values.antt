@@ -15,7 +15,7 @@ use Rattle.script_bound.specs.declared.term.Term.{Term}
 use Rattle.script_bound.specs.declared.term.Term.TheFolds.{fold-Term}
 use Rattle.script_bound.specs.declared.term.Term.TheOpen.{Term-F}
 use Rattle.script_bound.specs.declared.term.ElementFun.{ElementFun}
-use Rattle.script_bound.specs.declared.term.ElementFun.TheVariants.{Count, Place, Kind, AttributeText, AttributeNumber}
+use Rattle.script_bound.specs.declared.term.ElementFun.TheVariants as element_functions
 use Rattle.script_values.specs.declared.datum.Datum.{Datum}
 use Rattle.script_values.specs.declared.datum.Datum.TheVariants as data_of
 use Rattle.script_values.specs.declared.kept.Kept.{Kept}
@@ -160,7 +160,7 @@ abbrev pub cell_value : Store → List Write → List (List ℕ) → Result Valu
 cell_value store writes [] = Err UnknownName
 cell_value store writes (cube ∷ elements) = reading store writes cube elements
 
--- ---- dimensions, elements and whether a cell is open
+-- ---- what is asked of dimensions, elements and cells
 
 unfoldable pub element_count : Store → List (List ℕ) → Result Datum LoadReason
 element_count store (dimension ∷ []) =
@@ -187,11 +187,11 @@ attribute store _ = Err UnknownName
 
 -- what a function of a dimension and its elements gives for these texts
 abbrev pub asked : Store → ElementFun → List (List ℕ) → Result Datum LoadReason
-asked store Count texts = element_count store texts
-asked store Place texts = element_place store texts
-asked store Kind texts = element_kind store texts
-asked store AttributeText texts = done (λ bytes. data_of.Text bytes) (attribute store texts)
-asked store AttributeNumber texts = done (λ value. data_of.Number value) (taken amount_in (attribute store texts))
+asked store element_functions.Count texts = element_count store texts
+asked store element_functions.Place texts = element_place store texts
+asked store element_functions.Kind texts = element_kind store texts
+asked store element_functions.Text texts = done (λ bytes. data_of.Text bytes) (attribute store texts)
+asked store element_functions.Number texts = done (λ value. data_of.Number value) (taken amount_in (attribute store texts))
 
 -- the name of the element at a place of a dimension; empty where there is none
 abbrev pub named : Store → List ℕ → Value → Result Datum LoadReason

@@ -145,8 +145,8 @@ pub(crate) fn asked<'a, C: WorkCells>(
         ElementFun::Count => element_count(alloc, names, cells),
         ElementFun::Place => element_place(alloc, names, cells),
         ElementFun::Kind => element_kind(alloc, names, cells),
-        ElementFun::AttributeText => Ok(text_given(attribute(alloc, names, cells)?)),
-        ElementFun::AttributeNumber => Ok(number_given(attribute(alloc, names, cells)?)),
+        ElementFun::Text => Ok(text_given(attribute(alloc, names, cells)?)),
+        ElementFun::Number => Ok(number_given(attribute(alloc, names, cells)?)),
     }
 }
 
