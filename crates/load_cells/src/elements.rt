@@ -17,14 +17,14 @@ pub(crate) fn element_count(
     space: &Space,
     found: &mut FoundNames,
     dimension: &[u8],
-) -> Result<Result<u64, LoadReason>, AllocError>
+) -> Result<Result<usize, LoadReason>, AllocError>
     requires { AreFound space.now found.old }
     ensures value { IfOk result (λ answer. answer
         ≡ of_elements (λ all. all.count) (elements_by_text space.now dimension.now)) }
     ensures found { AreFound space.now found.new }
 {
     match dimension_by_text(alloc, space, &mut found.dimension, dimension)? {
-        Some(dim) => Ok(Ok(u64::from(space.dimension(dim).len()))),
+        Some(dim) => Ok(Ok(space.dimension(dim).len() as usize)),
         None => Ok(Err(LoadReason::UnknownName)),
     }
 }
@@ -33,11 +33,11 @@ pub(crate) fn element_count(
 fn name_at(
     alloc: Global,
     dimension: &Dimension,
-    place: u64,
+    place: usize,
 ) -> Result<Option<ListOf<u8>>, AllocError>
     ensures { IfOk result (λ name. name ≡ name_at dimension.now place) }
 {
-    if place == 0 || place > u64::from(dimension.len()) {
+    if place == 0 || place > dimension.len() as usize {
         return Ok(None);
     }
     let name = dimension.name_of((place - 1) as u32);
@@ -50,7 +50,7 @@ pub(crate) fn element_name(
     space: &Space,
     found: &mut FoundNames,
     dimension: &[u8],
-    place: u64,
+    place: usize,
 ) -> Result<Result<Option<ListOf<u8>>, LoadReason>, AllocError>
     requires { AreFound space.now found.old }
     ensures value { IfOk result (λ answer. answer
@@ -88,7 +88,7 @@ pub(crate) fn element_place(
     found: &mut FoundNames,
     dimension: &[u8],
     element: &[u8],
-) -> Result<Result<Option<u64>, LoadReason>, AllocError>
+) -> Result<Result<Option<usize>, LoadReason>, AllocError>
     requires { AreFound space.now found.old }
     ensures value { IfOk result (λ answer. answer
         ≡ of_elements (λ all. all.place element.now) (elements_by_text space.now dimension.now)) }
@@ -98,7 +98,7 @@ pub(crate) fn element_place(
         return Ok(Err(LoadReason::UnknownName));
     };
     match element_in(alloc, space, &mut found.elements, dim, element)? {
-        Some(index) => Ok(Ok(Some(u64::from(index) + 1))),
+        Some(index) => Ok(Ok(Some(index as usize + 1))),
         None => Ok(Ok(None)),
     }
 }

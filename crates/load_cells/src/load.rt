@@ -102,7 +102,7 @@ impl WorkCells for LoadCells {
         &mut self,
         alloc: Global,
         dimension: &[u8],
-    ) -> Result<Result<u64, LoadReason>, AllocError> {
+    ) -> Result<Result<usize, LoadReason>, AllocError> {
         let space = self.work.model().space();
         elements::element_count(alloc, space, &mut self.names, dimension)
     }
@@ -111,7 +111,7 @@ impl WorkCells for LoadCells {
         &mut self,
         alloc: Global,
         dimension: &[u8],
-        place: u64,
+        place: usize,
     ) -> Result<Result<Option<ListOf<u8>>, LoadReason>, AllocError> {
         let space = self.work.model().space();
         elements::element_name(alloc, space, &mut self.names, dimension, place)
@@ -122,7 +122,7 @@ impl WorkCells for LoadCells {
         alloc: Global,
         dimension: &[u8],
         element: &[u8],
-    ) -> Result<Result<Option<u64>, LoadReason>, AllocError> {
+    ) -> Result<Result<Option<usize>, LoadReason>, AllocError> {
         let space = self.work.model().space();
         elements::element_place(alloc, space, &mut self.names, dimension, element)
     }

@@ -43,14 +43,14 @@ pub(crate) fn element_named<'a>(
 pub(crate) fn name_at(
     alloc: Global,
     elements: &[ListedElement],
-    place: u64,
+    place: usize,
 ) -> Result<Option<ListOf<u8>>, AllocError>
     ensures { IfOk result (λ name. name ≡ members.name_at elements.now place) }
 {
     if place == 0 {
         return Ok(None);
     }
-    match at(elements, (place - 1) as usize) {
+    match at(elements, place - 1) {
         Some(element) => {
             let name = Vec::from_slice(alloc, element.name.as_slice())?;
             Ok(Some(ListOf::new(name)))

@@ -178,9 +178,9 @@ impl WorkCells for MemoryCells {
         &mut self,
         alloc: Global,
         dimension: &[u8],
-    ) -> Result<Result<u64, LoadReason>, AllocError> {
+    ) -> Result<Result<usize, LoadReason>, AllocError> {
         match dimension_named(self.dimensions.as_slice(), dimension) {
-            Some(found) => Ok(Ok(found.elements.as_slice().len() as u64)),
+            Some(found) => Ok(Ok(found.elements.as_slice().len())),
             None => Ok(Err(LoadReason::UnknownName)),
         }
     }
@@ -189,7 +189,7 @@ impl WorkCells for MemoryCells {
         &mut self,
         alloc: Global,
         dimension: &[u8],
-        place: u64,
+        place: usize,
     ) -> Result<Result<Option<ListOf<u8>>, LoadReason>, AllocError> {
         match dimension_named(self.dimensions.as_slice(), dimension) {
             Some(found) => Ok(Ok(name_at(alloc, found.elements.as_slice(), place)?)),
@@ -202,12 +202,12 @@ impl WorkCells for MemoryCells {
         alloc: Global,
         dimension: &[u8],
         element: &[u8],
-    ) -> Result<Result<Option<u64>, LoadReason>, AllocError> {
+    ) -> Result<Result<Option<usize>, LoadReason>, AllocError> {
         let Some(found) = dimension_named(self.dimensions.as_slice(), dimension) else {
             return Ok(Err(LoadReason::UnknownName));
         };
         match place_of(found.elements.as_slice(), element) {
-            Some(index) => Ok(Ok(Some(index as u64 + 1))),
+            Some(index) => Ok(Ok(Some(index + 1))),
             None => Ok(Ok(None)),
         }
     }

@@ -59,7 +59,7 @@ pub trait WorkCells {
         &mut self,
         alloc: Global,
         dimension: &[u8],
-    ) -> Result<Result<u64, LoadReason>, AllocError>
+    ) -> Result<Result<usize, LoadReason>, AllocError>
         ensures value { IfOk result (λ answer. answer
             ≡ of_elements (λ all. all.count) ((store self.old).elements dimension.now)) }
         ensures store { store self.new ≡ store self.old }
@@ -70,7 +70,7 @@ pub trait WorkCells {
         &mut self,
         alloc: Global,
         dimension: &[u8],
-        place: u64,
+        place: usize,
     ) -> Result<Result<Option<ListOf<u8>>, LoadReason>, AllocError>
         ensures value { IfOk result (λ answer. answer
             ≡ of_elements (λ all. all.name place) ((store self.old).elements dimension.now)) }
@@ -83,7 +83,7 @@ pub trait WorkCells {
         alloc: Global,
         dimension: &[u8],
         element: &[u8],
-    ) -> Result<Result<Option<u64>, LoadReason>, AllocError>
+    ) -> Result<Result<Option<usize>, LoadReason>, AllocError>
         ensures value { IfOk result (λ answer. answer
             ≡ of_elements (λ all. all.place element.now) ((store self.old).elements dimension.now)) }
         ensures store { store self.new ≡ store self.old }

@@ -16,10 +16,10 @@ use std::alloc::{AllocError, Global};
 
 /// A count as a number of whole units.
 #[tactic(auto, unfolding(crate::specs::Elements::units_of))]
-fn units(count: u64) -> Value
+fn units(count: usize) -> Value
     ensures { result ≡ units_of count }
 {
-    Value::of_units(count)
+    Value::of_units(count as u64)
 }
 
 /// How many elements a dimension has.
@@ -151,7 +151,7 @@ pub(crate) fn asked<'a, C: WorkCells>(
 }
 
 /// The place that so many millionths say; 0 where they aren't whole units above 0.
-fn whole_place(number: Money) -> u64
+fn whole_place(number: Money) -> usize
     ensures { result ≡ place_said (values_of.Num number) }
 {
     let millionths = number.millionths();
@@ -159,10 +159,14 @@ fn whole_place(number: Money) -> u64
         return 0;
     }
     let size = millionths.unsigned_abs();
-    if size % UNIT == 0 { size / UNIT } else { 0 }
+    if size % UNIT == 0 {
+        (size / UNIT) as usize
+    } else {
+        0
+    }
 }
 
-fn place_said(value: Value) -> u64
+fn place_said(value: Value) -> usize
     ensures { result ≡ place_said value }
 {
     match value {
