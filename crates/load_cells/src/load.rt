@@ -93,7 +93,10 @@ impl WorkCells for LoadCells {
     ) -> Result<bool, AllocError> {
         let model = self.work.model();
         match cell_by_texts(alloc, model, &mut self.names, cube, elements)? {
-            Some(cell) => Ok(why_closed(model, cell).is_none()),
+            Some(cell) => match why_closed(model, cell) {
+                None => Ok(true),
+                Some(_) => Ok(false),
+            },
             None => Ok(false),
         }
     }
