@@ -1,8 +1,7 @@
 -- The numbers that binding gives are one behind the other.
 use Rattle.std.proofs.Common.{◌≡◌, ℕ, ◌+◌, List, [], ◌∷◌, ◌++◌, map, refl, sym, ap, ◌∙◌, subst}
-use Rattle.script_tree.specs.declared.expr.Expr.{Expr}
 use Rattle.script_tree.specs.declared.line.Arm.{Arm}
-use Rattle.script_tree.specs.declared.line.Arm.TheFolds.{fold-roll-Arm, fold-roll-Line, ind-Arm, ind-Line, map-Arm, map-Line}
+use Rattle.script_tree.specs.declared.line.Arm.TheFolds.{fold-roll-Arm, fold-roll-Line, ind-Line, map-Arm, map-Line}
 use Rattle.script_tree.specs.declared.line.Arm.TheOpen.{Arm-F, Line-F}
 use Rattle.script_tree.specs.declared.line.Arm.TheViews.{roll-Arm, roll-Line}
 use Rattle.script_tree.specs.declared.line.Line.{Line}

@@ -21,6 +21,8 @@ use Rattle.script_tree.specs.declared.line.Arm.{Arm}
 use Rattle.script_tree.specs.declared.script.Script.{Script}
 use Rattle.script_bound.specs.declared.term.Term.{Term}
 use Rattle.script_bound.specs.declared.term.Term.TheVariants as terms
+use Rattle.script_bound.specs.declared.term.TextFun.{TextFun}
+use Rattle.script_bound.specs.declared.term.TextFun.TheVariants as text_functions
 use Rattle.script_bound.specs.declared.statement.Case.{Case}
 use Rattle.script_bound.specs.declared.statement.Case.TheVariants as cases
 use Rattle.script_bound.specs.declared.statement.Statement.{Statement}
@@ -77,6 +79,26 @@ unfoldable pub to_text : List Term → Term
 to_text (a ∷ []) = terms.ToText a
 to_text _ = nothing
 
+unfoldable pub altered_term : TextFun → List Term → Term
+altered_term function (a ∷ []) = terms.Altered function a
+altered_term function _ = nothing
+
+unfoldable pub long_term : List Term → Term
+long_term (a ∷ []) = terms.Long a
+long_term _ = nothing
+
+unfoldable pub scan_term : List Term → Term
+scan_term (part ∷ a ∷ []) = terms.Scan part a
+scan_term _ = nothing
+
+unfoldable pub subst_term : List Term → Term
+subst_term (a ∷ start ∷ count ∷ []) = terms.Subst a start count
+subst_term _ = nothing
+
+unfoldable pub str_term : List Term → Term
+str_term (a ∷ width ∷ decimals ∷ []) = terms.Str a width decimals
+str_term _ = nothing
+
 -- a function with these arguments
 unfoldable pub call_term : ScriptFun → List Term → Term
 call_term functions.CellGetN arguments = terms.Get arguments
@@ -88,6 +110,16 @@ call_term functions.StringToNumber arguments = to_number arguments
 call_term functions.NumberToString arguments = to_text arguments
 call_term functions.Max arguments = operation_term operations.Max arguments
 call_term functions.Min arguments = operation_term operations.Min arguments
+call_term functions.Trim arguments = altered_term text_functions.Trim arguments
+call_term functions.Upper arguments = altered_term text_functions.Upper arguments
+call_term functions.Lower arguments = altered_term text_functions.Lower arguments
+call_term functions.Long arguments = long_term arguments
+call_term functions.Scan arguments = scan_term arguments
+call_term functions.Subst arguments = subst_term arguments
+call_term functions.Str arguments = str_term arguments
+call_term functions.Mod arguments = operation_term operations.Mod arguments
+call_term functions.RoundP arguments = operation_term operations.RoundTo arguments
+call_term functions.Trunc arguments = function_term funs.Trunc arguments
 
 -- an operator, by what its operands are and what it gives
 unfoldable pub operator_of : ScriptOp → Operator

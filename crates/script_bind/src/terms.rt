@@ -1,13 +1,14 @@
 ghost use Rattle.std.specs.Prelude.{◌≡◌, ◌-◌, map, IfOk};
 ghost use Rattle.script_bind.specs.Binding as bound;
 ghost use Rattle.script_bind.specs.Binding.{term_of, call_term, function_term, operation_term, to_number, to_text};
+ghost use Rattle.script_bind.specs.Binding.{altered_term, long_term, scan_term, subst_term, str_term};
 ghost use Rattle.script_bound.specs.declared.term.Term.TheVariants as terms;
 
 use crate::operator::{Operator, operator_of};
 use grammar::is_column;
 use lists::ListOf;
 use rule_laws::{Fun, Op};
-use script_bound::Term;
+use script_bound::{Term, TextFun};
 use script_tree::{Expr, ScriptFun, ScriptOp};
 use sqlite_items::{Boxed, Items};
 use std::alloc::{AllocError, Global};
@@ -81,6 +82,35 @@ fn amounts(alloc: Global, op: Op, left: Term, right: Term) -> Result<Term, Alloc
     let left = Boxed::new(alloc, left)?;
     let right = Boxed::new(alloc, right)?;
     Ok(Term::Amounts(op, left, right))
+}
+
+/// Where a text stands in another one.
+fn scan(alloc: Global, part: Term, inner: Term) -> Result<Term, AllocError>
+    ensures { IfOk result (λ term. term ≡ terms.Scan part inner) }
+{
+    let part = Boxed::new(alloc, part)?;
+    let inner = Boxed::new(alloc, inner)?;
+    Ok(Term::Scan(part, inner))
+}
+
+/// Characters of a text.
+fn subst(alloc: Global, inner: Term, start: Term, count: Term) -> Result<Term, AllocError>
+    ensures { IfOk result (λ term. term ≡ terms.Subst inner start count) }
+{
+    let inner = Boxed::new(alloc, inner)?;
+    let start = Boxed::new(alloc, start)?;
+    let count = Boxed::new(alloc, count)?;
+    Ok(Term::Subst(inner, start, count))
+}
+
+/// A number as a text.
+fn written(alloc: Global, inner: Term, width: Term, decimals: Term) -> Result<Term, AllocError>
+    ensures { IfOk result (λ term. term ≡ terms.Str inner width decimals) }
+{
+    let inner = Boxed::new(alloc, inner)?;
+    let width = Boxed::new(alloc, width)?;
+    let decimals = Boxed::new(alloc, decimals)?;
+    Ok(Term::Str(inner, width, decimals))
 }
 
 /// Two operands with an operator between them.
@@ -178,6 +208,16 @@ fn call_term(
         ScriptFun::NumberToString => to_text(alloc, words, arguments),
         ScriptFun::Max => operation_term(alloc, words, Op::Max, arguments),
         ScriptFun::Min => operation_term(alloc, words, Op::Min, arguments),
+        ScriptFun::Trim => altered_term(alloc, words, TextFun::Trim, arguments),
+        ScriptFun::Upper => altered_term(alloc, words, TextFun::Upper, arguments),
+        ScriptFun::Lower => altered_term(alloc, words, TextFun::Lower, arguments),
+        ScriptFun::Long => long_term(alloc, words, arguments),
+        ScriptFun::Scan => scan_term(alloc, words, arguments),
+        ScriptFun::Subst => subst_term(alloc, words, arguments),
+        ScriptFun::Str => str_term(alloc, words, arguments),
+        ScriptFun::Mod => operation_term(alloc, words, Op::Mod, arguments),
+        ScriptFun::RoundP => operation_term(alloc, words, Op::RoundTo, arguments),
+        ScriptFun::Trunc => function_term(alloc, words, Fun::Trunc, arguments),
     }
 }
 
@@ -243,6 +283,86 @@ fn to_text(alloc: Global, words: &WordTable, arguments: &[Expr]) -> Result<Term,
         [inner] => {
             let inner = term_of(alloc, words, inner)?;
             Ok(Term::ToText(Boxed::new(alloc, inner)?))
+        }
+        _ => Ok(nothing(alloc)),
+    }
+}
+
+#[cycle(terms)]
+#[tactic(auto, unfolding(crate::specs::Binding::altered_term))]
+fn altered_term(
+    alloc: Global,
+    words: &WordTable,
+    function: TextFun,
+    arguments: &[Expr],
+) -> Result<Term, AllocError>
+    ensures { IfOk result (λ term. term ≡ altered_term function (map (term_of words.now) arguments.now)) }
+{
+    match arguments {
+        [inner] => {
+            let inner = term_of(alloc, words, inner)?;
+            Ok(Term::Altered(function, Boxed::new(alloc, inner)?))
+        }
+        _ => Ok(nothing(alloc)),
+    }
+}
+
+#[cycle(terms)]
+#[tactic(auto, unfolding(crate::specs::Binding::long_term))]
+fn long_term(alloc: Global, words: &WordTable, arguments: &[Expr]) -> Result<Term, AllocError>
+    ensures { IfOk result (λ term. term ≡ long_term (map (term_of words.now) arguments.now)) }
+{
+    match arguments {
+        [inner] => {
+            let inner = term_of(alloc, words, inner)?;
+            Ok(Term::Long(Boxed::new(alloc, inner)?))
+        }
+        _ => Ok(nothing(alloc)),
+    }
+}
+
+#[cycle(terms)]
+#[tactic(auto, unfolding(crate::specs::Binding::scan_term))]
+fn scan_term(alloc: Global, words: &WordTable, arguments: &[Expr]) -> Result<Term, AllocError>
+    ensures { IfOk result (λ term. term ≡ scan_term (map (term_of words.now) arguments.now)) }
+{
+    match arguments {
+        [part, inner] => {
+            let part = term_of(alloc, words, part)?;
+            let inner = term_of(alloc, words, inner)?;
+            scan(alloc, part, inner)
+        }
+        _ => Ok(nothing(alloc)),
+    }
+}
+
+#[cycle(terms)]
+#[tactic(auto, unfolding(crate::specs::Binding::subst_term))]
+fn subst_term(alloc: Global, words: &WordTable, arguments: &[Expr]) -> Result<Term, AllocError>
+    ensures { IfOk result (λ term. term ≡ subst_term (map (term_of words.now) arguments.now)) }
+{
+    match arguments {
+        [inner, start, count] => {
+            let inner = term_of(alloc, words, inner)?;
+            let start = term_of(alloc, words, start)?;
+            let count = term_of(alloc, words, count)?;
+            subst(alloc, inner, start, count)
+        }
+        _ => Ok(nothing(alloc)),
+    }
+}
+
+#[cycle(terms)]
+#[tactic(auto, unfolding(crate::specs::Binding::str_term))]
+fn str_term(alloc: Global, words: &WordTable, arguments: &[Expr]) -> Result<Term, AllocError>
+    ensures { IfOk result (λ term. term ≡ str_term (map (term_of words.now) arguments.now)) }
+{
+    match arguments {
+        [inner, width, decimals] => {
+            let inner = term_of(alloc, words, inner)?;
+            let width = term_of(alloc, words, width)?;
+            let decimals = term_of(alloc, words, decimals)?;
+            written(alloc, inner, width, decimals)
         }
         _ => Ok(nothing(alloc)),
     }

@@ -3,6 +3,17 @@ use lists::ListOf;
 use rule_laws::{Fun, Op, Rel};
 use sqlite_items::{Boxed, Items};
 
+/// A function of one text, which gives a text.
+#[derive(Clone, Copy, PartialEq, Eq)]
+pub enum TextFun {
+    /// Without the spaces and tabs at its ends.
+    Trim,
+    /// With `a` to `z` raised.
+    Upper,
+    /// With `A` to `Z` lowered.
+    Lower,
+}
+
 /// An expression of a load script. A condition is one that gives a truth.
 #[derive(Drop)]
 pub enum Term {
@@ -24,6 +35,16 @@ pub enum Term {
     ToNumber(Boxed<Term>),
     /// `NumberToString`
     ToText(Boxed<Term>),
+    /// A function of one text, which gives a text.
+    Altered(TextFun, Boxed<Term>),
+    /// `Long`: how many characters a text has.
+    Long(Boxed<Term>),
+    /// `Scan`: where the first text stands in the second one.
+    Scan(Boxed<Term>, Boxed<Term>),
+    /// `Subst`: characters of a text, from a place on, and how many.
+    Subst(Boxed<Term>, Boxed<Term>, Boxed<Term>),
+    /// `Str`: a number as a text, of at least this width and with so many decimals.
+    Str(Boxed<Term>, Boxed<Term>, Boxed<Term>),
     /// `|`, which joins two texts.
     Join(Boxed<Term>, Boxed<Term>),
     /// `@=`, of two texts, as names are compared.

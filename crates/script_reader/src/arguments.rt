@@ -59,6 +59,23 @@ fn two_values<'a, I: Item<Expr, Excess, Counted<'a>>>(
     Ok(given)
 }
 
+/// Reads three values.
+#[tactic(auto, unfolding(crate::specs::Readers::Reading::read_three_values))]
+fn three_values<'a, I: Item<Expr, Excess, Counted<'a>>>(
+    alloc: Global,
+    cursor: &mut Cursor<'_, Counted<'a>>,
+    item: &I,
+) -> Result<ListOf<Expr>, Stop<Excess>>
+    requires { I.may_read item.now }
+    ensures { Reads (λ given. given) (reading.read_three_values (I.reads item.now)) cursor.old result cursor.new }
+{
+    let first = item.read(alloc, cursor)?;
+    sign(cursor, b",")?;
+    let rest = two_values(alloc, cursor, item)?;
+    let given = before(alloc, first, rest)?;
+    Ok(given)
+}
+
 /// Reads two values or more.
 #[tactic(auto, unfolding(crate::specs::Readers::Reading::read_two_or_more))]
 fn two_or_more<'a, I: Item<Expr, Excess, Counted<'a>>>(
@@ -106,12 +123,17 @@ pub fn arguments_of<'a, I: Item<Expr, Excess, Counted<'a>>>(
 {
     match function {
         ScriptFun::CellGetN => two_or_more(alloc, cursor, item),
-        ScriptFun::Max | ScriptFun::Min => two_values(alloc, cursor, item),
+        ScriptFun::Subst => three_values(alloc, cursor, item),
+        ScriptFun::Max | ScriptFun::Min | ScriptFun::Scan => two_values(alloc, cursor, item),
         ScriptFun::Abs
         | ScriptFun::Sign
         | ScriptFun::Int
         | ScriptFun::Round
         | ScriptFun::StringToNumber
-        | ScriptFun::NumberToString => one_value(alloc, cursor, item),
+        | ScriptFun::NumberToString
+        | ScriptFun::Trim
+        | ScriptFun::Upper
+        | ScriptFun::Lower
+        | ScriptFun::Long => one_value(alloc, cursor, item),
     }
 }

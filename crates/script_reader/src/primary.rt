@@ -8,7 +8,7 @@ ghost use Rattle.script_reader.specs.Readers.Reading as reading;
 use crate::arguments::arguments_of;
 use crate::words::expression_word;
 use expression_grammar::{Inner, Want};
-use grammar::{Cursor, Item, Stop, money, number_comes, sign, text, text_comes};
+use grammar::{Cursor, Item, Stop, money, number_comes, sign, sign_comes, text, text_comes};
 use lists::ListOf;
 use script_tree::{Counted, Excess, Expr, ScriptFun};
 use sqlite_items::Items;
@@ -84,6 +84,29 @@ fn function_of(word: &[u8]) -> Option<ScriptFun>
     }
 }
 
+/// The function of a word in capitals before a `(`, if there is one whose word may name a variable elsewhere.
+fn function_before_parenthesis(word: &[u8]) -> Option<ScriptFun>
+    ensures { result ≡ expression.function_in expression.functions_before_parenthesis word.now }
+{
+    if word == b"TRIM".as_slice() {
+        Some(ScriptFun::Trim)
+    } else if word == b"UPPER".as_slice() {
+        Some(ScriptFun::Upper)
+    } else if word == b"LOWER".as_slice() {
+        Some(ScriptFun::Lower)
+    } else if word == b"LONG".as_slice() {
+        Some(ScriptFun::Long)
+    } else if word == b"SCAN".as_slice() {
+        Some(ScriptFun::Scan)
+    } else if word == b"SUBST".as_slice() {
+        Some(ScriptFun::Subst)
+    } else if word == b"NUMBR".as_slice() {
+        Some(ScriptFun::StringToNumber)
+    } else {
+        None
+    }
+}
+
 /// Reads the arguments of a function, in their parentheses.
 #[tactic(auto, unfolding(crate::specs::Readers::Reading::read_call))]
 fn call_at<'a, I: Inner<Expr, Excess, Counted<'a>>>(
@@ -102,7 +125,26 @@ fn call_at<'a, I: Inner<Expr, Excess, Counted<'a>>>(
     Ok(Expr::Call(function, Items::from_vec(given.into_vec())))
 }
 
-/// Reads what stands behind a word: a function's arguments, and behind any other nothing.
+/// Reads what stands behind a word that isn't reserved: a function's arguments where it is that of a function and a `(`
+/// comes, and else nothing.
+#[tactic(auto, unfolding(crate::specs::Readers::Reading::read_behind_variable))]
+fn behind_variable<'a, I: Inner<Expr, Excess, Counted<'a>>>(
+    alloc: Global,
+    cursor: &mut Cursor<'_, Counted<'a>>,
+    word: ListOf<u8>,
+    inner: &I,
+) -> Result<Expr, Stop<Excess>>
+    requires { I.may_read inner.now }
+    ensures { Reads (λ tree. tree) (reading.read_behind_variable (tree_of (I.reads inner.now wants.Value)) word
+        (expression.function_in expression.functions_before_parenthesis word)) cursor.old result cursor.new }
+{
+    match function_before_parenthesis(word.as_slice()) {
+        Some(function) if sign_comes(cursor, b"(") => call_at(alloc, cursor, function, inner),
+        _ => Ok(Expr::Variable(word)),
+    }
+}
+
+/// Reads what stands behind a word: a reserved function's arguments, or what stands behind any other word.
 #[tactic(auto, unfolding(crate::specs::Readers::Reading::read_behind_word))]
 fn behind_word<'a, I: Inner<Expr, Excess, Counted<'a>>>(
     alloc: Global,
@@ -116,7 +158,7 @@ fn behind_word<'a, I: Inner<Expr, Excess, Counted<'a>>>(
 {
     match function_of(word.as_slice()) {
         Some(function) => call_at(alloc, cursor, function, inner),
-        None => Ok(Expr::Variable(word)),
+        None => behind_variable(alloc, cursor, word, inner),
     }
 }
 

@@ -9,6 +9,7 @@ use Rattle.grammar.specs.Variables.{function_words}
 use Rattle.grammar.specs.Watch.{Watch, each_token}
 use Rattle.expression_grammar.specs.Limits.{most_open, begun_within, scanned}
 use Rattle.expression_grammar.specs.declared.limits.Limits.{Limits}
+use Rattle.script_tree.specs.Expression.{functions_before_parenthesis}
 use Rattle.script_tree.specs.declared.counted.Counted.{Counted}
 use Rattle.script_tree.specs.declared.counted.ScriptTextPlace.{ScriptTextPlace}
 use Rattle.script_tree.specs.declared.counted.ScriptTextPlace.TheVariants as places
@@ -24,9 +25,14 @@ start ts = record { left = ts; stage = record { blocks = 0; next = 0; place = pl
 abbrev pub one_more : ℕ → Lexeme → Result ℕ Excess
 one_more open_ones t = if nat_lt open_ones most_open then Ok (open_ones + 1) else Err (excesses.TooDeep t.line)
 
+-- the word is that of a function, before a `(`
+abbrev pub is_function : Lexeme → Bool
+is_function t = list_any (λ word. is_word word t) function_words
+    || list_any (λ entry. is_word entry.0 t) functions_before_parenthesis
+
 -- the word is no function
 abbrev pub is_unknown : Lexeme → Bool
-is_unknown t = is_any_word t && not (list_any (λ word. is_word word t) function_words)
+is_unknown t = is_any_word t && not (is_function t)
 
 -- a whole expression with one more token, which has a `(` behind it or not
 abbrev pub with_token : Bool → Limits → Lexeme → Result Limits Excess

@@ -54,10 +54,18 @@ quoted = do bytes ← one text; done (exprs.Text bytes)
 
 -- The functions.
 
+-- those whose words are reserved
 abbrev pub functions : List (List ℕ × ScriptFun)
 functions = (codes "CELLGETN", funs.CellGetN) ∷ (codes "ABS", funs.Abs) ∷ (codes "SIGN", funs.Sign)
     ∷ (codes "INT", funs.Int) ∷ (codes "ROUND", funs.Round) ∷ (codes "STRINGTONUMBER", funs.StringToNumber)
     ∷ (codes "NUMBERTOSTRING", funs.NumberToString) ∷ (codes "MAX", funs.Max) ∷ (codes "MIN", funs.Min) ∷ []
+
+-- those whose words are functions before a `(` alone, and name variables elsewhere
+abbrev pub functions_before_parenthesis : List (List ℕ × ScriptFun)
+functions_before_parenthesis = (codes "TRIM", funs.Trim) ∷ (codes "UPPER", funs.Upper) ∷ (codes "LOWER", funs.Lower)
+    ∷ (codes "LONG", funs.Long) ∷ (codes "SCAN", funs.Scan) ∷ (codes "SUBST", funs.Subst) ∷ (codes "STR", funs.Str)
+    ∷ (codes "NUMBR", funs.StringToNumber) ∷ (codes "MOD", funs.Mod) ∷ (codes "ROUNDP", funs.RoundP)
+    ∷ (codes "TRUNC", funs.Trunc) ∷ []
 
 -- the function of this word, if there is one
 abbrev pub function_in : List (List ℕ × ScriptFun) → List ℕ → Option ScriptFun
@@ -84,6 +92,9 @@ and_more value others = do
   rest ← others
   done (first ∷ rest)
 
+abbrev pub three_values : Grammar Lexeme Expr → Grammar Lexeme (List Expr)
+three_values value = and_more value (two_values value)
+
 abbrev pub two_or_more : Grammar Lexeme Expr → Grammar Lexeme (List Expr)
 two_or_more value = and_more value (listed value value)
 
@@ -101,22 +112,43 @@ arguments funs.Int value = one_value value
 arguments funs.Round value = one_value value
 arguments funs.StringToNumber value = one_value value
 arguments funs.NumberToString value = one_value value
+arguments funs.Trim value = one_value value
+arguments funs.Upper value = one_value value
+arguments funs.Lower value = one_value value
+arguments funs.Long value = one_value value
+arguments funs.Scan value = two_values value
+arguments funs.Subst value = three_values value
+arguments funs.Str value = three_values value
+arguments funs.Mod value = two_values value
+arguments funs.RoundP value = two_values value
+arguments funs.Trunc value = one_value value
 
--- what stands behind a word: a function's arguments, and nothing behind any other word, which is a variable or a column
-abbrev pub behind_word : Grammar Lexeme Expr → List ℕ → Option ScriptFun → Grammar Lexeme Expr
-behind_word value word (Some function) = do
+-- a function's arguments, in their parentheses
+abbrev pub call : Grammar Lexeme Expr → ScriptFun → Grammar Lexeme Expr
+call value function = do
   one (sign (codes "("))
   given ← arguments function value
   one (sign (codes ")"))
   done (exprs.Call function given)
-behind_word value word None = done (exprs.Variable word)
+
+-- what stands behind a word that isn't reserved: that of a function is called or names a variable, and any other is a
+-- variable or a column
+abbrev pub behind_variable : Grammar Lexeme Expr → List ℕ → Option ScriptFun → Grammar Lexeme Expr
+behind_variable value word (Some function) = either (call value function) (done (exprs.Variable word))
+behind_variable value word None = done (exprs.Variable word)
+
+-- what stands behind a word: a reserved function's arguments, or what stands behind any other word
+abbrev pub behind_word : Grammar Lexeme Expr → List ℕ → Option ScriptFun → Grammar Lexeme Expr
+behind_word value word (Some function) = call value function
+behind_word value word None = behind_variable value word (function_in functions_before_parenthesis word)
 
 -- a word that is no statement word, in capitals
 abbrev pub expression_word : Lexeme → Option (List ℕ)
 expression_word = when (λ t. is_word_kind t.kind && not (is_among statement_words (capitals t.piece)))
     (λ t. capitals t.piece)
 
--- Word | function "(" expression { "," expression } ")"
+-- Word | function "(" expression { "," expression } ")"; the word of a variable may be that of a function that isn't
+-- reserved
 abbrev pub worded : Grammar Lexeme Expr → Grammar Lexeme Expr
 worded value = do word ← one expression_word; behind_word value word (function_in functions word)
 

@@ -5,6 +5,7 @@ ghost use Rattle.grammar.specs.Reading.{starts};
 ghost use Rattle.grammar.specs.Tokens as tokens;
 ghost use Rattle.grammar.specs.Variables.{function_words};
 ghost use Rattle.script_tree.specs.Counting as counting;
+ghost use Rattle.script_tree.specs.Expression.{functions_before_parenthesis};
 
 use crate::excess::Excess;
 use cube_lex::{Kind, Token, TokensLeft};
@@ -107,11 +108,24 @@ fn is_function(token: &Token<'_>) -> bool
     )
 }
 
+/// Whether a token is the word of a function that may name a variable elsewhere.
+fn is_function_before_parenthesis(token: &Token<'_>) -> bool
+    ensures { result ≡ list_any (λ entry. tokens.is_word entry.0 (lexeme_of token.now)) functions_before_parenthesis }
+{
+    is_among(
+        &[
+            b"TRIM", b"UPPER", b"LOWER", b"LONG", b"SCAN", b"SUBST", b"STR", b"NUMBR", b"MOD",
+            b"ROUNDP", b"TRUNC",
+        ],
+        token,
+    )
+}
+
 /// Whether a token is a word that is no function.
 fn is_unknown(token: &Token<'_>) -> bool
     ensures { result ≡ counting.is_unknown (lexeme_of token.now) }
 {
-    token.kind == Kind::Word && !is_function(token)
+    token.kind == Kind::Word && !(is_function(token) || is_function_before_parenthesis(token))
 }
 
 /// A whole expression with one more token, which has a `(` behind it or not.

@@ -18,6 +18,24 @@ pub enum ScriptFun {
     Max,
     /// Of two arguments.
     Min,
+    /// The text without the spaces and tabs at its ends.
+    Trim,
+    Upper,
+    Lower,
+    /// How many characters a text has.
+    Long,
+    /// Where a text stands in another one: what is looked for, and where.
+    Scan,
+    /// Characters of a text: the text, the place of the first one, and how many.
+    Subst,
+    /// A number as a text: the number, the least width, and how many decimals.
+    Str,
+    /// What is left by a division.
+    Mod,
+    /// A number, rounded to so many decimals.
+    RoundP,
+    /// The number without its decimals.
+    Trunc,
 }
 
 /// An operator between two expressions.

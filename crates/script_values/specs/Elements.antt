@@ -1,9 +1,8 @@
 -- The elements of dimensions, as a load asks for them.
-use Rattle.std.specs.Prelude.{ℕ, ◌*◌, ◌/◌, ◌%◌, nat_eq, pos, negsuc, Bool, true, false, List, []}
+use Rattle.std.specs.Prelude.{ℕ, ◌/◌, ◌%◌, nat_eq, pos, negsuc, Bool, true, false, List, []}
 use Rattle.std.specs.Prelude.{Option, Some, None, Result, Ok, Err, codes, if◌then◌else◌}
 use Rattle.cube_fixed.specs.declared.value.Value.{Value}
 use Rattle.cube_fixed.specs.declared.value.Value.TheVariants.{Num, Over}
-use Rattle.cube_fixed.specs.Arithmetic.{fit}
 use Rattle.cube_fixed.specs.Range.{unit}
 use Rattle.script_values.specs.declared.load_reason.LoadReason.{LoadReason}
 use Rattle.script_values.specs.declared.load_reason.LoadReason.TheVariants.{UnknownName}
@@ -30,10 +29,6 @@ of_elements ask None = Err UnknownName
 abbrev pub of_element : {A : Type 0} → Option A → Result A LoadReason
 of_element (Some given) = Ok given
 of_element None = Err UnknownName
-
--- a count as a number of whole units
-unfoldable pub units_of : ℕ → Value
-units_of count = fit (pos (count * unit))
 
 -- the place that a number says; 0, where no element stands, if it isn't a whole number above 0
 abbrev pub place_said : Value → ℕ

@@ -1,11 +1,12 @@
 -- What an expression gives.
 use Rattle.std.specs.Prelude.{ℕ, ℤ, ◌==◌, nat_lt, Bool, not, ◌&&◌, ◌||◌, List, [], ◌∷◌, ◌++◌, length, reverse}
-use Rattle.std.specs.Prelude.{Option, Some, None, unwrap_or, Result, Ok, Err, slice_get, if◌then◌else◌}
+use Rattle.std.specs.Prelude.{Option, Some, None, unwrap_or, Result, Ok, Err, slice_get, if◌then◌else◌, map}
+use Rattle.std.specs.Char.{to_ascii_uppercase, to_ascii_lowercase}
 use Rattle.cube_fixed.specs.declared.value.Value.{Value}
-use Rattle.cube_fixed.specs.declared.value.Value.TheVariants.{Num}
+use Rattle.cube_fixed.specs.declared.value.Value.TheVariants.{Num, Over}
 use Rattle.cube_fixed.specs.declared.reading.NumberFault.{NumberFault}
 use Rattle.cube_fixed.specs.Arithmetic.{zero_value}
-use Rattle.cube_fixed.specs.Text.{number_of, reading_of, printed}
+use Rattle.cube_fixed.specs.Text.{number_of, reading_of, printed, fixed_text}
 use Rattle.dim_name.specs.Bytes.{space, tab}
 use Rattle.dim_name.specs.Name.{is_same_name}
 use Rattle.rule_laws.specs.declared.operation.Op.{Op}
@@ -16,6 +17,8 @@ use Rattle.script_bound.specs.declared.term.Term.TheFolds.{fold-Term}
 use Rattle.script_bound.specs.declared.term.Term.TheOpen.{Term-F}
 use Rattle.script_bound.specs.declared.term.ElementFun.{ElementFun}
 use Rattle.script_bound.specs.declared.term.ElementFun.TheVariants as element_functions
+use Rattle.script_bound.specs.declared.term.TextFun.{TextFun}
+use Rattle.script_bound.specs.declared.term.TextFun.TheVariants.{Trim, Upper, Lower}
 use Rattle.script_values.specs.declared.datum.Datum.{Datum}
 use Rattle.script_values.specs.declared.datum.Datum.TheVariants as data_of
 use Rattle.script_values.specs.declared.kept.Kept.{Kept}
@@ -24,7 +27,9 @@ use Rattle.script_values.specs.declared.load_reason.LoadReason.{LoadReason}
 use Rattle.script_values.specs.declared.load_reason.LoadReason.TheVariants.{UnknownName, NotANumber, UnsetVariable}
 use Rattle.script_values.specs.declared.load_reason.LoadReason.TheVariants.{TypeMismatch, TextLimit}
 use Rattle.script_values.specs.Cells.{Store, Write, reading, is_updateable}
-use Rattle.script_values.specs.Elements.{of_elements, of_element, units_of, place_said, kind_text}
+use Rattle.script_values.specs.Elements.{of_elements, of_element, place_said, kind_text}
+use Rattle.script_values.specs.Characters.{units_of, character_count, place_in, cut_out}
+use Rattle.script_values.specs.Padding.{width_in, padded}
 use Rattle.script_values.specs.Scene.{Scene}
 
 -- ---- a datum as what is wanted
@@ -42,6 +47,12 @@ without_blanks_behind text = reverse (without_blanks (reverse text))
 -- without the spaces and tabs at its ends
 abbrev pub trimmed : List ℕ → List ℕ
 trimmed text = without_blanks_behind (without_blanks text)
+
+-- what a function of one text gives
+abbrev pub altered : TextFun → List ℕ → List ℕ
+altered Trim text = trimmed text
+altered Upper text = map to_ascii_uppercase text
+altered Lower text = map to_ascii_lowercase text
 
 abbrev pub amount_read : Result ℤ NumberFault → Result Value LoadReason
 amount_read (Ok millionths) = Ok (Num millionths)
@@ -96,6 +107,14 @@ one_and_other join (Ok a) (Ok b) = Ok (join a b)
 one_and_other join (Ok a) (Err reason) = Err reason
 one_and_other join (Err reason) other = Err reason
 
+-- three operands, in the same way
+abbrev pub one_and_two : {A B C D : Type 0} → (A → B → C → D) → Result A LoadReason → Result B LoadReason
+    → Result C LoadReason → Result D LoadReason
+one_and_two join (Ok a) (Ok b) (Ok c) = Ok (join a b c)
+one_and_two join (Ok a) (Ok b) (Err reason) = Err reason
+one_and_two join (Ok a) (Err reason) last = Err reason
+one_and_two join (Err reason) other last = Err reason
+
 abbrev pub done : {A B : Type 0} → (A → B) → Result A LoadReason → Result B LoadReason
 done make (Ok a) = Ok (make a)
 done make (Err reason) = Err reason
@@ -118,6 +137,13 @@ two_texts make left right = one_and_other make (text left) (text right)
 
 abbrev pub truths : (Bool → Bool → Bool) → Result Datum LoadReason → Result Datum LoadReason → Result Datum LoadReason
 truths make left right = one_and_other (λ a b. data_of.Truth (make a b)) (truth left) (truth right)
+
+-- characters of a text, from a place on, and how many: the operands from left to right
+unfoldable pub cut : Result Datum LoadReason → Result Datum LoadReason → Result Datum LoadReason
+    → Result Datum LoadReason
+cut given start count =
+    one_and_two (λ bytes first many. data_of.Text (cut_out bytes first many))
+    (text given) (amount start) (amount count)
 
 abbrev pub held : Option (Option Kept) → Result Datum LoadReason
 held (Some (Some (kept.Number value))) = Ok (data_of.Number value)
@@ -143,6 +169,19 @@ most_text_bytes = 1048576
 abbrev pub joined : List ℕ × List ℕ → Result Datum LoadReason
 joined (left, right) =
     if nat_lt most_text_bytes (length (left ++ right)) then Err TextLimit else Ok (data_of.Text (left ++ right))
+
+-- a number as a text, of at least this width and with so many decimals, unless the width is too great for a text
+abbrev pub fitted : Value → Value → Value → Result Datum LoadReason
+fitted value (Num width) decimals =
+    if nat_lt most_text_bytes (width_in width) then Err TextLimit
+    else Ok (data_of.Text (padded (width_in width) (fixed_text value decimals)))
+fitted value Over decimals = Err TextLimit
+
+-- the same of operands, from left to right
+unfoldable pub written : Result Datum LoadReason → Result Datum LoadReason → Result Datum LoadReason
+    → Result Datum LoadReason
+written given width decimals =
+    taken (λ answer. answer) (one_and_two fitted (amount given) (amount width) (amount decimals))
 
 -- what an expression gives: by what is seen, and by the cells after the writes so far
 abbrev pub Reading : Type 0
@@ -226,6 +265,17 @@ value_step (Term-F.ToNumber a) scene store writes =
     done (λ value. data_of.Number value) (taken amount_in (text (a scene store writes)))
 value_step (Term-F.ToText a) scene store writes =
     done (λ value. data_of.Text (printed value)) (amount (a scene store writes))
+value_step (Term-F.Altered function a) scene store writes =
+    done (λ bytes. data_of.Text (altered function bytes)) (text (a scene store writes))
+value_step (Term-F.Long a) scene store writes =
+    done (λ bytes. data_of.Number (units_of (character_count bytes))) (text (a scene store writes))
+value_step (Term-F.Scan part a) scene store writes =
+    two_texts (λ sought bytes. data_of.Number (units_of (place_in sought bytes)))
+    (part scene store writes) (a scene store writes)
+value_step (Term-F.Subst a start count) scene store writes =
+    cut (a scene store writes) (start scene store writes) (count scene store writes)
+value_step (Term-F.Str a width decimals) scene store writes =
+    written (a scene store writes) (width scene store writes) (decimals scene store writes)
 value_step (Term-F.Join a b) scene store writes =
     taken joined
     (one_and_other (λ left right. (left, right)) (text (a scene store writes)) (text (b scene store writes)))

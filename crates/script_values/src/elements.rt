@@ -1,10 +1,12 @@
 ghost use Rattle.std.specs.Prelude.{◌≡◌, IfOk};
-ghost use Rattle.script_values.specs.Elements.{units_of, place_said, kind_text};
+ghost use Rattle.script_values.specs.Characters.{units_of};
+ghost use Rattle.script_values.specs.Elements.{place_said, kind_text};
 ghost use Rattle.script_values.specs.Values as values;
 ghost use Rattle.script_values.specs.declared.datum.Datum.TheVariants as data_of;
 ghost use Rattle.cube_fixed.specs.declared.value.Value.TheVariants as values_of;
 
 use crate::cells::WorkCells;
+use crate::characters::units;
 use crate::datum::Datum;
 use crate::load_reason::LoadReason;
 use crate::text::Text;
@@ -13,14 +15,6 @@ use cube_fixed::{Money, UNIT, Value};
 use lists::ListOf;
 use script_bound::ElementFun;
 use std::alloc::{AllocError, Global};
-
-/// A count as a number of whole units.
-#[tactic(auto, unfolding(crate::specs::Elements::units_of))]
-fn units(count: usize) -> Value
-    ensures { result ≡ units_of count }
-{
-    Value::of_units(count as u64)
-}
 
 /// How many elements a dimension has.
 #[tactic(auto, unfolding(crate::specs::Values::element_count))]

@@ -5,14 +5,17 @@
 #![tactic(auto)]
 
 mod cells;
+mod characters;
 mod datum;
 mod elements;
 mod kept;
 mod load_reason;
 mod operands;
+mod padding;
 mod same_name;
 mod sight;
 mod text;
+mod text_functions;
 mod value;
 mod wanted;
 

@@ -23,6 +23,6 @@ pub enum LoadReason {
     UnsetVariable,
     /// A number stands where a text is wanted.
     TypeMismatch,
-    /// Two texts that are joined would be a text of more than 2^20 bytes.
+    /// Two texts that are joined would be a text of more than 2^20 bytes, or a number is to be written that wide.
     TextLimit,
 }

@@ -71,7 +71,7 @@ pub(crate) fn text_of<'a>(
 }
 
 /// The most bytes of a text that is put together.
-const MAX_TEXT: usize = 1_048_576;
+pub(crate) const MAX_TEXT: usize = 1_048_576;
 
 /// Two texts, one behind the other, unless that is too long for a text.
 fn both<'a>(

@@ -1,5 +1,7 @@
 ghost use Rattle.std.specs.Prelude.{◌≡◌, IfOk};
+ghost use Rattle.script_values.specs.Values.{trimmed};
 
+use crate::wanted::trimmed;
 use lists::ListOf;
 use std::alloc::{AllocError, Global};
 use std::marker::Model;
@@ -49,6 +51,19 @@ impl<'a> Text<'a> {
         match &self.bytes {
             Bytes::Borrowed(bytes) => bytes,
             Bytes::Owned(bytes) => bytes.as_slice(),
+        }
+    }
+
+    /// Without the spaces and tabs at its ends. What is borrowed isn't copied.
+    pub(crate) fn trimmed(self, alloc: Global) -> Result<Text<'a>, AllocError>
+        ensures { IfOk result (λ text. text ≡ trimmed self.entry) }
+    {
+        match self.bytes {
+            Bytes::Borrowed(bytes) => Ok(Text::borrowed(trimmed(bytes))),
+            Bytes::Owned(bytes) => {
+                let rest = Vec::from_slice(alloc, trimmed(bytes.as_slice()))?;
+                Ok(Text::owned(rest))
+            }
         }
     }
 

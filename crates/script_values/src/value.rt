@@ -2,6 +2,7 @@ ghost use Rattle.std.specs.Prelude.{◌≡◌, ◌&&◌, ◌||◌, map, IfOk};
 ghost use Rattle.script_values.specs.Values as values;
 ghost use Rattle.script_values.specs.Values.{value_of, cell_value, each_text, done, taken, amount, operated, compared};
 ghost use Rattle.script_values.specs.Values.{asked, element_name, updateable};
+ghost use Rattle.script_values.specs.Values.{cut, written};
 ghost use Rattle.script_values.specs.declared.datum.Datum.TheVariants as data_of;
 
 use crate::cells::WorkCells;
@@ -12,8 +13,10 @@ use crate::operands::{
     both_hold, comparison, function, joined, number_in, one_holds, operation, opposite, other,
     same, text_of,
 };
+use crate::padding::written;
 use crate::sight::Sight;
 use crate::text::Text;
+use crate::text_functions::{altered, count_of, cut, place_of};
 use crate::wanted::{as_amount, as_text};
 use cube_fixed::Value;
 use lists::ListOf;
@@ -69,6 +72,27 @@ pub fn value_of<'a, C: WorkCells>(
         }
         Term::ToNumber(inner) => Ok(number_in(value_of(alloc, inner.get(), sight, cells)?)),
         Term::ToText(inner) => text_of(alloc, value_of(alloc, inner.get(), sight, cells)?),
+        Term::Altered(fun, inner) => {
+            altered(alloc, *fun, value_of(alloc, inner.get(), sight, cells)?)
+        }
+        Term::Long(inner) => Ok(count_of(value_of(alloc, inner.get(), sight, cells)?)),
+        Term::Scan(part, inner) => {
+            let (part, text) = two_values(alloc, part.get(), inner.get(), sight, cells)?;
+            Ok(place_of(part, text))
+        }
+        Term::Subst(inner, start, count) => {
+            cut_at(alloc, inner.get(), start.get(), count.get(), sight, cells)
+        }
+        Term::Str(inner, width, decimals) => {
+            written_at(
+                alloc,
+                inner.get(),
+                width.get(),
+                decimals.get(),
+                sight,
+                cells,
+            )
+        }
         Term::Join(left, right) => {
             let (left, right) = two_values(alloc, left.get(), right.get(), sight, cells)?;
             joined(alloc, left, right)
@@ -184,6 +208,56 @@ fn compared<'a, C: WorkCells>(
     let left = amount_of(alloc, left, sight, cells)?;
     let right = amount_of(alloc, right, sight, cells)?;
     Ok(comparison(rel, left, right))
+}
+
+/// What characters of a text give: the text, the place of the first one, and how many. Each is evaluated whatever those
+/// before it give.
+#[cycle(values)]
+#[tactic(auto, unfolding(crate::specs::Values::cut))]
+fn cut_at<'a, C: WorkCells>(
+    alloc: Global,
+    inner: &'a Term,
+    start: &'a Term,
+    count: &'a Term,
+    sight: &Sight<'a>,
+    cells: &mut C,
+) -> Result<Result<Datum<'a>, LoadReason>, AllocError>
+    ensures value { IfOk result (λ answer. answer
+        ≡ cut (value_of inner.now sight.now (C.store cells.old) (C.writes cells.old))
+        (value_of start.now sight.now (C.store cells.old) (C.writes cells.old))
+        (value_of count.now sight.now (C.store cells.old) (C.writes cells.old))) }
+    ensures store { C.store cells.new ≡ C.store cells.old }
+    ensures writes { C.writes cells.new ≡ C.writes cells.old }
+{
+    let text = text_at(alloc, inner, sight, cells)?;
+    let start = amount_of(alloc, start, sight, cells)?;
+    let count = amount_of(alloc, count, sight, cells)?;
+    cut(alloc, text, start, count)
+}
+
+/// What a number gives that is written with a width and so many decimals. Each is evaluated whatever those before it
+/// give.
+#[cycle(values)]
+#[tactic(auto, unfolding(crate::specs::Values::written))]
+fn written_at<'a, C: WorkCells>(
+    alloc: Global,
+    inner: &'a Term,
+    width: &'a Term,
+    decimals: &'a Term,
+    sight: &Sight<'a>,
+    cells: &mut C,
+) -> Result<Result<Datum<'a>, LoadReason>, AllocError>
+    ensures value { IfOk result (λ answer. answer
+        ≡ written (value_of inner.now sight.now (C.store cells.old) (C.writes cells.old))
+        (value_of width.now sight.now (C.store cells.old) (C.writes cells.old))
+        (value_of decimals.now sight.now (C.store cells.old) (C.writes cells.old))) }
+    ensures store { C.store cells.new ≡ C.store cells.old }
+    ensures writes { C.writes cells.new ≡ C.writes cells.old }
+{
+    let value = amount_of(alloc, inner, sight, cells)?;
+    let width = amount_of(alloc, width, sight, cells)?;
+    let decimals = amount_of(alloc, decimals, sight, cells)?;
+    written(alloc, value, width, decimals)
 }
 
 /// What two expressions give, the left one first. The right one is evaluated whatever the left one gives.

@@ -40,11 +40,18 @@ fn without_blanks_behind(text: &[u8]) -> &[u8]
     rest
 }
 
+/// Without the spaces and tabs at its ends.
+pub(crate) fn trimmed(text: &[u8]) -> &[u8]
+    ensures { result.now ≡ values.trimmed text.now }
+{
+    without_blanks_behind(without_blanks(text))
+}
+
 /// The number that a text says. Spaces and tabs at its ends are passed over, and an empty text is 0.
 pub(crate) fn amount_in(text: &[u8]) -> Result<Value, LoadReason>
     ensures { result ≡ values.amount_in text.now }
 {
-    match without_blanks_behind(without_blanks(text)) {
+    match trimmed(text) {
         [] => Ok(Value::ZERO),
         trimmed => match read(trimmed) {
             Ok(millionths) => Ok(Value::Num(millionths)),

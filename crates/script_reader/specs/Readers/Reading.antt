@@ -3,14 +3,15 @@ use Rattle.std.specs.Prelude.{ℕ, List, [], ◌∷◌, Option, Some, None, code
 use Rattle.cube_lex.specs.Lexeme.{Lexeme}
 use Rattle.grammar.specs.Reading.{Reader, gives, take_one, choose, ◌>>=◌, ◌>>◌}
 use Rattle.grammar.specs.Lists.{read_listed}
-use Rattle.grammar.specs.Tokens.{sign, word, text, money, is_text, is_number}
+use Rattle.grammar.specs.Tokens.{sign, word, text, money, is_sign, is_text, is_number}
 use Rattle.expression_grammar.specs.Limits.{most_inside}
 use Rattle.expression_grammar.specs.Readers.Reading.{read_expression, tree_of}
 use Rattle.expression_grammar.specs.declared.sort.Sort.{Sort}
 use Rattle.expression_grammar.specs.declared.sort.Want.{Want}
 use Rattle.expression_grammar.specs.declared.sort.Want.TheVariants as wants
 use Rattle.script_tree.specs.Counting.{count}
-use Rattle.script_tree.specs.Expression.{scripts_language, functions, function_in, expression_word}
+use Rattle.script_tree.specs.Expression.{scripts_language, functions, functions_before_parenthesis, function_in}
+use Rattle.script_tree.specs.Expression.{expression_word}
 use Rattle.script_tree.specs.declared.counted.Counted.{Counted}
 use Rattle.script_tree.specs.declared.excess.Excess.{Excess}
 use Rattle.script_tree.specs.declared.expr.Expr.{Expr}
@@ -47,6 +48,13 @@ read_two_values value = do
   second ← value
   gives (first ∷ second ∷ [])
 
+unfoldable pub read_three_values : Plan Expr → Plan (List Expr)
+read_three_values value = do
+  first ← value
+  take_sign (codes ",")
+  rest ← read_two_values value
+  gives (first ∷ rest)
+
 unfoldable pub read_two_or_more : Plan Expr → Plan (List Expr)
 read_two_or_more value = do
   first ← value
@@ -71,6 +79,12 @@ read_arguments funs.Int value = read_one_value value
 read_arguments funs.Round value = read_one_value value
 read_arguments funs.StringToNumber value = read_one_value value
 read_arguments funs.NumberToString value = read_one_value value
+read_arguments funs.Trim value = read_one_value value
+read_arguments funs.Upper value = read_one_value value
+read_arguments funs.Lower value = read_one_value value
+read_arguments funs.Long value = read_one_value value
+read_arguments funs.Scan value = read_two_values value
+read_arguments funs.Subst value = read_three_values value
 
 -- Primaries.
 
@@ -81,10 +95,16 @@ read_call value function = do
   take_sign (codes ")")
   gives (exprs.Call function given)
 
+-- what stands behind a word that isn't reserved
+unfoldable pub read_behind_variable : Plan Expr → List ℕ → Option ScriptFun → Plan Expr
+read_behind_variable value name (Some function) =
+    choose (is_sign (codes "(")) (read_call value function) (gives (exprs.Variable name))
+read_behind_variable value name None = gives (exprs.Variable name)
+
 -- what stands behind a word
 unfoldable pub read_behind_word : Plan Expr → List ℕ → Option ScriptFun → Plan Expr
 read_behind_word value name (Some function) = read_call value function
-read_behind_word value name None = gives (exprs.Variable name)
+read_behind_word value name None = read_behind_variable value name (function_in functions_before_parenthesis name)
 
 unfoldable pub read_worded : Plan Expr → Plan Expr
 read_worded value = do

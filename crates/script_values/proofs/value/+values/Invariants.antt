@@ -36,6 +36,12 @@ decreases-operated g l = 4 * max (the_size l.left.now) (the_size l.right.now) + 
 abbrev pub decreases-compared : goal.decreases-compared
 decreases-compared g l = 4 * max (the_size l.left.now) (the_size l.right.now) + 2
 
+abbrev pub decreases-cut_at : goal.decreases-cut_at
+decreases-cut_at g l = 4 * max (the_size l.inner.now) (max (the_size l.start.now) (the_size l.count.now)) + 2
+
+abbrev pub decreases-written_at : goal.decreases-written_at
+decreases-written_at g l = 4 * max (the_size l.inner.now) (max (the_size l.width.now) (the_size l.decimals.now)) + 2
+
 abbrev pub decreases-element_name : goal.decreases-element_name
 decreases-element_name g l = 4 * max (the_size l.dimension.now) (the_size l.place.now) + 2
 
