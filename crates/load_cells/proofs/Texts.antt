@@ -13,7 +13,8 @@ use Rattle.rule_model.specs.Named.{cell_named, elements_named}
 use Rattle.rule_model.proofs.Named.{found_none, found_one, other_count, with_front}
 use Rattle.load_cells.specs.declared.found.FoundName.{FoundName}
 use Rattle.load_cells.specs.declared.found.FoundElements.{FoundElements}
-use Rattle.load_cells.specs.Found.{AreElements, AreNames, IsFound, element_by_text, elements_by_texts}
+use Rattle.load_cells.specs.Found.{AreElements, AreNames, IsFound}
+use Rattle.load_cells.specs.Names.{element_by_text, elements_by_texts}
 use Rattle.load_cells.specs.Loads.{cell_by_texts}
 
 -- a text that names an element is a name

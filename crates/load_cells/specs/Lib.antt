@@ -1,2 +1,4 @@
 pub mod Found
 pub mod Loads
+pub mod Members
+pub mod Names

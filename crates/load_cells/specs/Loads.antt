@@ -19,6 +19,7 @@ use Rattle.script_values.specs.Cells.{Store}
 use Rattle.script_values.specs.declared.load_reason.LoadReason.{LoadReason}
 use Rattle.script_values.specs.declared.load_reason.LoadReason.TheVariants.{NotALeaf, RuleDerived, StoreLimit, FedLimit}
 use Rattle.stored_laws.specs.Stored.{stored_in}
+use Rattle.load_cells.specs.Members.{elements_by_text}
 
 -- the cell that these texts name; a text that is no name names nothing
 abbrev pub cell_by_texts : Layout → List ℕ → List (List ℕ) → Option ℕ
@@ -45,4 +46,5 @@ store_of model stored =
       value = λ writes. dense_value (system_of model) (stored_in (after_writes stored writes));
       closed = λ cell. option_map reason_of (why_closed model cell);
       full = λ writes. passed model (after_writes stored writes);
+      elements = elements_by_text model.space;
     }

@@ -1,7 +1,8 @@
-ghost use Rattle.std.specs.Prelude.{◌≡◌, ◌≢◌, ◌<◌, [], length, All, Some, None, IfOk, IsTrue, OnErr, OnOk};
+ghost use Rattle.std.specs.Prelude.{◌≡◌, ◌≢◌, ◌<◌, [], length, All, Some, None, IfOk, IfSome, IsTrue, OnErr, OnOk};
 ghost use Rattle.std.specs.Prelude.{if◌then◌else◌};
 ghost use Rattle.dim_name.specs.Name.{is_name};
-ghost use Rattle.load_cells.specs.Found.{AreFound, AreNames, IsFound, cube_by_text, element_by_text};
+ghost use Rattle.load_cells.specs.Found.{AreFound, AreNames, IsFound};
+ghost use Rattle.load_cells.specs.Names.{cube_by_text, dimension_by_text, element_by_text};
 
 use cube_space::Space;
 use dim_core::Dimension;
@@ -126,11 +127,12 @@ fn place_in(text: &[u8], places: usize) -> usize
     (sum % places as u64) as usize
 }
 
-/// The names that a load has found: of the last cube, and of elements of each dimension. Columns of records repeat, so
+/// The names that a load has found: of the last cube, of the last dimension that it asked for, and of elements of each dimension. Columns of records repeat, so
 /// that many a name comes again.
 #[derive(Drop)]
 pub(crate) struct FoundNames {
     pub(crate) cube: FoundName,
+    pub(crate) dimension: FoundName,
     pub(crate) elements: Vec<FoundElements>,
 }
 
@@ -144,6 +146,7 @@ impl FoundNames {
         }
         Ok(FoundNames {
             cube: FoundName::none(alloc),
+            dimension: FoundName::none(alloc),
             elements,
         })
     }
@@ -171,6 +174,31 @@ pub(crate) fn cube_by_text(
     };
     found.keep(text, cube)?;
     Ok(Some(cube))
+}
+
+/// The number of the dimension that a text names.
+pub(crate) fn dimension_by_text(
+    alloc: Global,
+    space: &Space,
+    found: &mut FoundName,
+    text: &[u8],
+) -> Result<Option<u32>, AllocError>
+    requires { IsFound (dimension_by_text space.now) found.old }
+    ensures value { IfOk result (λ dim. dim ≡ dimension_by_text space.now text.now) }
+    ensures within { IfOk result (λ dim. IfSome dim (λ dim. dim < length space.now.dimensions)) }
+    ensures found { IsFound (dimension_by_text space.now) found.new }
+{
+    if found.has(text) {
+        return Ok(Some(found.number));
+    }
+    let Some(name) = name_in(alloc, text)? else {
+        return Ok(None);
+    };
+    let Some(dim) = space.dimension_of(&name) else {
+        return Ok(None);
+    };
+    found.keep(text, dim)?;
+    Ok(Some(dim))
 }
 
 /// The element of a dimension that a text names.
@@ -215,7 +243,7 @@ fn element_at(
 }
 
 // A text as a name, if it is one.
-fn name_in(alloc: Global, text: &[u8]) -> Result<Option<Name>, AllocError>
+pub(crate) fn name_in(alloc: Global, text: &[u8]) -> Result<Option<Name>, AllocError>
     ensures { IfOk result (λ name. name ≡ (if is_name text.now then Some text.now else None)) }
 {
     match Name::new(alloc, text) {

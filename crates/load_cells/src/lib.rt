@@ -5,6 +5,7 @@
 
 pub use load::LoadCells;
 
+mod elements;
 mod found;
 mod load;
 mod names;

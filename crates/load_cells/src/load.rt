@@ -3,10 +3,12 @@ ghost use Rattle.cell_reader.specs.Works.{opening_of, writes_of};
 ghost use Rattle.load_cells.specs.Found.{AreFound};
 ghost use Rattle.load_cells.specs.Loads.{reason_of};
 
+use crate::elements;
 use crate::found::FoundNames;
 use crate::names::cell_by_texts;
 use cell_reader::{Closed, NextFault, Work, why_closed};
 use cube_fixed::Value;
+use lists::ListOf;
 use script_values::{LoadReason, Text, WorkCells};
 use std::alloc::{AllocError, Global};
 
@@ -81,6 +83,72 @@ impl WorkCells for LoadCells {
             Err(NextFault::FedLimit(count)) => Ok(Some(LoadReason::FedLimit(count))),
             Err(NextFault::Memory) => Err(AllocError),
         }
+    }
+
+    fn is_updateable(
+        &mut self,
+        alloc: Global,
+        cube: &[u8],
+        elements: &[Text<'_>],
+    ) -> Result<bool, AllocError> {
+        let model = self.work.model();
+        match cell_by_texts(alloc, model, &mut self.names, cube, elements)? {
+            Some(cell) => match why_closed(model, cell) {
+                None => Ok(true),
+                Some(_) => Ok(false),
+            },
+            None => Ok(false),
+        }
+    }
+
+    fn element_count(
+        &mut self,
+        alloc: Global,
+        dimension: &[u8],
+    ) -> Result<Result<usize, LoadReason>, AllocError> {
+        let space = self.work.model().space();
+        elements::element_count(alloc, space, &mut self.names, dimension)
+    }
+
+    fn element_name(
+        &mut self,
+        alloc: Global,
+        dimension: &[u8],
+        place: usize,
+    ) -> Result<Result<Option<ListOf<u8>>, LoadReason>, AllocError> {
+        let space = self.work.model().space();
+        elements::element_name(alloc, space, &mut self.names, dimension, place)
+    }
+
+    fn element_place(
+        &mut self,
+        alloc: Global,
+        dimension: &[u8],
+        element: &[u8],
+    ) -> Result<Result<Option<usize>, LoadReason>, AllocError> {
+        let space = self.work.model().space();
+        elements::element_place(alloc, space, &mut self.names, dimension, element)
+    }
+
+    fn is_leaf_element(
+        &mut self,
+        alloc: Global,
+        dimension: &[u8],
+        element: &[u8],
+    ) -> Result<Result<Option<bool>, LoadReason>, AllocError> {
+        let space = self.work.model().space();
+        elements::is_leaf_element(alloc, space, &mut self.names, dimension, element)
+    }
+
+    fn attribute(
+        &mut self,
+        alloc: Global,
+        dimension: &[u8],
+        element: &[u8],
+        name: &[u8],
+    ) -> Result<Result<Option<ListOf<u8>>, LoadReason>, AllocError> {
+        let space = self.work.model().space();
+        elements::attribute(alloc, space, &mut self.names, dimension, element, name)
     }
 }
 

@@ -1,7 +1,8 @@
 ghost use Rattle.std.specs.Prelude.{◌≡◌, ◌<◌, ◌≤◌, true, false, Some, None, IfOk, IfSome, All, length, take};
 ghost use Rattle.cube_space.specs.Cells.{IsCell};
 ghost use Rattle.cube_space.specs.Layout.{axes_of, most_dimensions};
-ghost use Rattle.load_cells.specs.Found.{AreElements, AreFound, elements_by_texts};
+ghost use Rattle.load_cells.specs.Found.{AreElements, AreFound};
+ghost use Rattle.load_cells.specs.Names.{elements_by_texts};
 ghost use Rattle.load_cells.specs.Loads.{cell_by_texts};
 
 use crate::found::{FoundElements, FoundNames, cube_by_text, element_by_text};

@@ -21,6 +21,7 @@ use Rattle.script_tree.specs.declared.line.Arm.{Arm}
 use Rattle.script_tree.specs.declared.script.Script.{Script}
 use Rattle.script_bound.specs.declared.term.Term.{Term}
 use Rattle.script_bound.specs.declared.term.Term.TheVariants as terms
+use Rattle.script_bound.specs.declared.term.ElementFun.TheVariants as element_functions
 use Rattle.script_bound.specs.declared.term.TextFun.{TextFun}
 use Rattle.script_bound.specs.declared.term.TextFun.TheVariants as text_functions
 use Rattle.script_bound.specs.declared.statement.Case.{Case}
@@ -99,6 +100,10 @@ unfoldable pub str_term : List Term → Term
 str_term (a ∷ width ∷ decimals ∷ []) = terms.Str a width decimals
 str_term _ = nothing
 
+unfoldable pub element_name : List Term → Term
+element_name (dimension ∷ place ∷ []) = terms.ElementName dimension place
+element_name _ = nothing
+
 -- a function with these arguments
 unfoldable pub call_term : ScriptFun → List Term → Term
 call_term functions.CellGetN arguments = terms.Get arguments
@@ -120,6 +125,13 @@ call_term functions.Str arguments = str_term arguments
 call_term functions.Mod arguments = operation_term operations.Mod arguments
 call_term functions.RoundP arguments = operation_term operations.RoundTo arguments
 call_term functions.Trunc arguments = function_term funs.Trunc arguments
+call_term functions.ElementCount arguments = terms.Element element_functions.Count arguments
+call_term functions.ElementName arguments = element_name arguments
+call_term functions.ElementPlace arguments = terms.Element element_functions.Place arguments
+call_term functions.ElementKind arguments = terms.Element element_functions.Kind arguments
+call_term functions.AttributeText arguments = terms.Element element_functions.Text arguments
+call_term functions.AttributeNumber arguments = terms.Element element_functions.Number arguments
+call_term functions.CellIsUpdateable arguments = terms.IsUpdateable arguments
 
 -- an operator, by what its operands are and what it gives
 unfoldable pub operator_of : ScriptOp → Operator

@@ -1,6 +1,7 @@
 ghost use Rattle.std.specs.Prelude.{◌≡◌, ◌-◌, map, IfOk};
 ghost use Rattle.script_bind.specs.Binding as bound;
 ghost use Rattle.script_bind.specs.Binding.{term_of, call_term, function_term, operation_term, to_number, to_text};
+ghost use Rattle.script_bind.specs.Binding.{element_name};
 ghost use Rattle.script_bind.specs.Binding.{altered_term, long_term, scan_term, subst_term, str_term};
 ghost use Rattle.script_bound.specs.declared.term.Term.TheVariants as terms;
 
@@ -8,7 +9,7 @@ use crate::operator::{Operator, operator_of};
 use grammar::is_column;
 use lists::ListOf;
 use rule_laws::{Fun, Op};
-use script_bound::{Term, TextFun};
+use script_bound::{ElementFun, Term, TextFun};
 use script_tree::{Expr, ScriptFun, ScriptOp};
 use sqlite_items::{Boxed, Items};
 use std::alloc::{AllocError, Global};
@@ -113,6 +114,15 @@ fn written(alloc: Global, inner: Term, width: Term, decimals: Term) -> Result<Te
     Ok(Term::Str(inner, width, decimals))
 }
 
+/// The name of the element at a place of a dimension.
+fn named(alloc: Global, dimension: Term, place: Term) -> Result<Term, AllocError>
+    ensures { IfOk result (λ term. term ≡ terms.ElementName dimension place) }
+{
+    let dimension = Boxed::new(alloc, dimension)?;
+    let place = Boxed::new(alloc, place)?;
+    Ok(Term::ElementName(dimension, place))
+}
+
 /// Two operands with an operator between them.
 #[tactic(auto, unfolding(crate::specs::Binding::operator_term))]
 fn between(operator: Operator, left: Boxed<Term>, right: Boxed<Term>) -> Term
@@ -196,10 +206,7 @@ fn call_term(
     ensures { IfOk result (λ term. term ≡ call_term function (map (term_of words.now) arguments.now)) }
 {
     match function {
-        ScriptFun::CellGetN => {
-            let names = terms_of(alloc, words, arguments)?;
-            Ok(Term::Get(names))
-        }
+        ScriptFun::CellGetN => Ok(Term::Get(terms_of(alloc, words, arguments)?)),
         ScriptFun::Abs => function_term(alloc, words, Fun::Abs, arguments),
         ScriptFun::Sign => function_term(alloc, words, Fun::Sign, arguments),
         ScriptFun::Int => function_term(alloc, words, Fun::Int, arguments),
@@ -218,6 +225,13 @@ fn call_term(
         ScriptFun::Mod => operation_term(alloc, words, Op::Mod, arguments),
         ScriptFun::RoundP => operation_term(alloc, words, Op::RoundTo, arguments),
         ScriptFun::Trunc => function_term(alloc, words, Fun::Trunc, arguments),
+        ScriptFun::ElementCount => element_term(alloc, words, ElementFun::Count, arguments),
+        ScriptFun::ElementName => element_name(alloc, words, arguments),
+        ScriptFun::ElementPlace => element_term(alloc, words, ElementFun::Place, arguments),
+        ScriptFun::ElementKind => element_term(alloc, words, ElementFun::Kind, arguments),
+        ScriptFun::AttributeText => element_term(alloc, words, ElementFun::Text, arguments),
+        ScriptFun::AttributeNumber => element_term(alloc, words, ElementFun::Number, arguments),
+        ScriptFun::CellIsUpdateable => Ok(Term::IsUpdateable(terms_of(alloc, words, arguments)?)),
     }
 }
 
@@ -363,6 +377,33 @@ fn str_term(alloc: Global, words: &WordTable, arguments: &[Expr]) -> Result<Term
             let width = term_of(alloc, words, width)?;
             let decimals = term_of(alloc, words, decimals)?;
             written(alloc, inner, width, decimals)
+        }
+        _ => Ok(nothing(alloc)),
+    }
+}
+
+#[cycle(terms)]
+fn element_term(
+    alloc: Global,
+    words: &WordTable,
+    function: ElementFun,
+    arguments: &[Expr],
+) -> Result<Term, AllocError>
+    ensures { IfOk result (λ term. term ≡ terms.Element function (map (term_of words.now) arguments.now)) }
+{
+    Ok(Term::Element(function, terms_of(alloc, words, arguments)?))
+}
+
+#[cycle(terms)]
+#[tactic(auto, unfolding(crate::specs::Binding::element_name))]
+fn element_name(alloc: Global, words: &WordTable, arguments: &[Expr]) -> Result<Term, AllocError>
+    ensures { IfOk result (λ term. term ≡ element_name (map (term_of words.now) arguments.now)) }
+{
+    match arguments {
+        [dimension, place] => {
+            let dimension = term_of(alloc, words, dimension)?;
+            let place = term_of(alloc, words, place)?;
+            named(alloc, dimension, place)
         }
         _ => Ok(nothing(alloc)),
     }

@@ -9,4 +9,4 @@ mod term;
 
 pub use script::BoundScript;
 pub use statement::{Case, Statement};
-pub use term::{Term, TextFun};
+pub use term::{ElementFun, Term, TextFun};

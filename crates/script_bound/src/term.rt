@@ -57,4 +57,25 @@ pub enum Term {
     Or(Boxed<Term>, Boxed<Term>),
     /// `~`, of a truth.
     Not(Boxed<Term>),
+    /// `DIMNM`: a dimension, and the place of an element.
+    ElementName(Boxed<Term>, Boxed<Term>),
+    /// What is asked of a dimension or of one of its elements, by their names.
+    Element(ElementFun, Items<Term>),
+    /// `CellIsUpdateable`: the names of a cube and of its elements.
+    IsUpdateable(Items<Term>),
+}
+
+/// A function of a dimension, or of one of its elements.
+#[derive(Clone, Copy, PartialEq, Eq)]
+pub enum ElementFun {
+    /// `DIMSIZ`: how many elements a dimension has.
+    Count,
+    /// `DIMIX`: the place of an element.
+    Place,
+    /// `DTYPE`: whether an element is a leaf.
+    Kind,
+    /// `ATTRS`: an element's text of an attribute.
+    Text,
+    /// `ATTRN`: the number that this text says.
+    Number,
 }

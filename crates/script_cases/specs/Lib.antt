@@ -1,1 +1,3 @@
+pub mod Members
 pub mod Memory
+pub mod Names

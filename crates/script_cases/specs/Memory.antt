@@ -10,11 +10,10 @@ use Rattle.script_values.specs.Cells.{Store, Write, unless}
 use Rattle.script_cases.specs.declared.listed.Kind.{Kind}
 use Rattle.script_cases.specs.declared.listed.Kind.TheVariants.{Leaf, Total, Ruled}
 use Rattle.script_cases.specs.declared.listed.Listed.{Listed}
-
--- the names of a cell with a comma between them
-abbrev pub joined : List ℕ → List (List ℕ) → List ℕ
-joined names [] = names
-joined names (element ∷ elements) = joined ((names ++ 44 ∷ []) ++ element) elements
+use Rattle.script_cases.specs.declared.listed.ListedAttribute.{ListedAttribute}
+use Rattle.script_cases.specs.declared.listed.ListedDimension.{ListedDimension}
+use Rattle.script_cases.specs.Members.{elements_named}
+use Rattle.script_cases.specs.Names.{joined}
 
 abbrev pub cell_in : List Listed → List ℕ → List (List ℕ) → Option ℕ
 cell_in cells cube elements = position (λ cell. bytes_eq cell.names (joined cube elements)) cells
@@ -43,12 +42,13 @@ full_with stored fed count =
     if nat_lt stored count then Some (StoreLimit count)
     else if nat_lt fed count then Some (FedLimit count) else None
 
-abbrev pub store_of : List Listed → ℕ → ℕ → Store
-store_of cells stored fed = record {
+abbrev pub store_of : List Listed → List ListedDimension → List ListedAttribute → ℕ → ℕ → Store
+store_of cells dimensions attributes stored fed = record {
   cell = cell_in cells;
   value = λ writes cell. last_value cell (value_of (slice_get cells cell)) writes;
   closed = λ cell. closed_at (slice_get cells cell);
   full = λ writes. full_with stored fed (length writes);
+  elements = elements_named dimensions attributes;
 }
 
 -- the writes with one more, or why it is one too many

@@ -38,6 +38,8 @@ fn answer_script(
 ) -> Result<(), AllocError> {
     let mut cells = MemoryCells {
         cells: ListOf::new(scene.cells),
+        dimensions: ListOf::new(scene.dimensions),
+        attributes: ListOf::new(scene.attributes),
         writes: Vec::new(alloc),
         stored: scene.stored,
         fed: scene.fed,

@@ -4,6 +4,8 @@
 //! leaf Plan,Jan,Units 5                a leaf cell that is open for input, and what it has
 //! total Plan,Q1,Units 5                a consolidated cell
 //! ruled Plan,Jan,Sales #OVER           a leaf cell that a rule governs, and what it has
+//! dimension Month Jan Feb +Q1          a dimension and its elements; those behind a + are consolidated
+//! attribute Month,Jan,Days 31          an element's text of an attribute
 //! stored 2                             how many writes may be stored
 //! fed 1                                how many may be fed
 //! number X 5                           a parameter
@@ -19,8 +21,10 @@
 #![tactic(auto)]
 
 mod cases;
+mod elements;
 mod listed;
 mod memory;
+mod names;
 mod scene;
 
 pub use cases::answer_load;

@@ -2,7 +2,9 @@ ghost use Rattle.std.specs.Prelude.{◌≡◌, position, slice_get, bytes_eq, If
 ghost use Rattle.script_values.specs.Cells.{refusal, writes_after};
 ghost use Rattle.script_cases.specs.Memory as memory;
 
-use crate::listed::{Kind, Listed};
+use crate::elements::{attribute_text, dimension_named, element_named, name_at, place_of};
+use crate::listed::{Kind, Listed, ListedAttribute, ListedDimension};
+use crate::names::joined;
 use cube_fixed::{Money, Value};
 use lists::ListOf;
 use script_run::{LoadReason, Text, WorkCells};
@@ -13,23 +15,13 @@ use std::alloc::{AllocError, Global};
 #[derive(Drop)]
 pub struct MemoryCells {
     pub cells: ListOf<Listed>,
+    pub dimensions: ListOf<ListedDimension>,
+    pub attributes: ListOf<ListedAttribute>,
     pub writes: Vec<(u64, Money)>,
     /// How many writes may be stored.
     pub stored: u64,
     /// How many writes may be fed.
     pub fed: u64,
-}
-
-/// The names of a cell with a comma between them.
-fn joined(alloc: Global, cube: &[u8], elements: &[Text<'_>]) -> Result<Vec<u8>, AllocError>
-    ensures { IfOk result (λ names. names.items ≡ memory.joined cube.now elements.now) }
-{
-    let mut names = Vec::from_slice(alloc, cube)?;
-    'each: for element in elements {
-        names.push(b',')?;
-        names.extend_from_slice(element.as_slice())?;
-    }
-    Ok(names)
 }
 
 fn last_value(cell: u64, value: Value, writes: &[(u64, Money)]) -> Value
@@ -114,6 +106,8 @@ impl MemoryCells {
         ensures written { OnOk result (self.new.writes.items ≡ writes_after self.old.writes.items
             (memory.with_write self.old.stored self.old.fed self.old.writes.items (cell, number))) }
         ensures cells { self.new.cells ≡ self.old.cells }
+        ensures dimensions { self.new.dimensions ≡ self.old.dimensions }
+        ensures attributes { self.new.attributes ≡ self.old.attributes }
         ensures stored { self.new.stored ≡ self.old.stored }
         ensures fed { self.new.fed ≡ self.old.fed }
     {
@@ -130,7 +124,7 @@ impl MemoryCells {
 impl WorkCells for MemoryCells {
     ghost use Rattle.script_cases.specs.Memory.{store_of};
 
-    ghost store = { λ cells. store_of cells.cells cells.stored cells.fed };
+    ghost store = { λ cells. store_of cells.cells cells.dimensions cells.attributes cells.stored cells.fed };
 
     ghost writes = { λ cells. cells.writes.items };
 
@@ -166,5 +160,89 @@ impl WorkCells for MemoryCells {
             Value::Num(number) => self.write(place as u64, number),
             Value::Over => Ok(Some(LoadReason::OverWrite)),
         }
+    }
+
+    fn is_updateable(
+        &mut self,
+        alloc: Global,
+        cube: &[u8],
+        elements: &[Text<'_>],
+    ) -> Result<bool, AllocError> {
+        match cell_in(alloc, self.cells.as_slice(), cube, elements)? {
+            Some(place) => Ok(closed_at(self.cells.as_slice(), place).is_none()),
+            None => Ok(false),
+        }
+    }
+
+    fn element_count(
+        &mut self,
+        alloc: Global,
+        dimension: &[u8],
+    ) -> Result<Result<usize, LoadReason>, AllocError> {
+        match dimension_named(self.dimensions.as_slice(), dimension) {
+            Some(found) => Ok(Ok(found.elements.as_slice().len())),
+            None => Ok(Err(LoadReason::UnknownName)),
+        }
+    }
+
+    fn element_name(
+        &mut self,
+        alloc: Global,
+        dimension: &[u8],
+        place: usize,
+    ) -> Result<Result<Option<ListOf<u8>>, LoadReason>, AllocError> {
+        match dimension_named(self.dimensions.as_slice(), dimension) {
+            Some(found) => Ok(Ok(name_at(alloc, found.elements.as_slice(), place)?)),
+            None => Ok(Err(LoadReason::UnknownName)),
+        }
+    }
+
+    fn element_place(
+        &mut self,
+        alloc: Global,
+        dimension: &[u8],
+        element: &[u8],
+    ) -> Result<Result<Option<usize>, LoadReason>, AllocError> {
+        let Some(found) = dimension_named(self.dimensions.as_slice(), dimension) else {
+            return Ok(Err(LoadReason::UnknownName));
+        };
+        match place_of(found.elements.as_slice(), element) {
+            Some(index) => Ok(Ok(Some(index + 1))),
+            None => Ok(Ok(None)),
+        }
+    }
+
+    fn is_leaf_element(
+        &mut self,
+        alloc: Global,
+        dimension: &[u8],
+        element: &[u8],
+    ) -> Result<Result<Option<bool>, LoadReason>, AllocError> {
+        let Some(found) = dimension_named(self.dimensions.as_slice(), dimension) else {
+            return Ok(Err(LoadReason::UnknownName));
+        };
+        match element_named(found.elements.as_slice(), element) {
+            Some(element) => Ok(Ok(Some(element.is_leaf))),
+            None => Ok(Ok(None)),
+        }
+    }
+
+    fn attribute(
+        &mut self,
+        alloc: Global,
+        dimension: &[u8],
+        element: &[u8],
+        name: &[u8],
+    ) -> Result<Result<Option<ListOf<u8>>, LoadReason>, AllocError> {
+        let Some(found) = dimension_named(self.dimensions.as_slice(), dimension) else {
+            return Ok(Err(LoadReason::UnknownName));
+        };
+        if element_named(found.elements.as_slice(), element).is_none() {
+            return Ok(Ok(None));
+        }
+        let names = [Text::borrowed(element), Text::borrowed(name)];
+        let names = joined(alloc, found.name.as_slice(), &names)?;
+        let text = attribute_text(alloc, self.attributes.as_slice(), &names)?;
+        Ok(Ok(Some(text)))
     }
 }

@@ -1,4 +1,4 @@
-use crate::listed::{Kind, Listed};
+use crate::listed::{Kind, Listed, ListedAttribute, ListedDimension, ListedElement};
 use case_lines::spell;
 use cube_fixed::{Money, Value, read};
 use lists::ListOf;
@@ -9,6 +9,8 @@ use std::alloc::{AllocError, Global};
 #[derive(Drop)]
 pub struct Scene {
     pub cells: Vec<Listed>,
+    pub dimensions: Vec<ListedDimension>,
+    pub attributes: Vec<ListedAttribute>,
     pub stored: u64,
     pub fed: u64,
     pub params: LoadParams,
@@ -44,10 +46,26 @@ fn first_byte(text: &str) -> u8 {
     text.as_bytes().first().copied().unwrap_or(0)
 }
 
+/// An element of a dimension: behind a `+` stands the name of a consolidated one.
+fn element_of(alloc: Global, word: &str) -> Result<ListedElement, AllocError> {
+    match word.strip_prefix('+') {
+        Some(name) => Ok(ListedElement {
+            name: list_of(alloc, name)?,
+            is_leaf: false,
+        }),
+        None => Ok(ListedElement {
+            name: list_of(alloc, word)?,
+            is_leaf: true,
+        }),
+    }
+}
+
 impl Scene {
     pub fn new(alloc: Global) -> Scene {
         Scene {
             cells: Vec::new(alloc),
+            dimensions: Vec::new(alloc),
+            attributes: Vec::new(alloc),
             stored: ROOM,
             fed: ROOM,
             params: LoadParams::new(alloc),
@@ -65,6 +83,8 @@ impl Scene {
             "leaf" => self.add_cell(alloc, Kind::Leaf, rest),
             "total" => self.add_cell(alloc, Kind::Total, rest),
             "ruled" => self.add_cell(alloc, Kind::Ruled, rest),
+            "dimension" => self.add_dimension(alloc, rest),
+            "attribute" => self.add_attribute(alloc, rest),
             "number" => self.add_number(alloc, rest),
             "text" => self.add_text(alloc, rest),
             "row" => self.add_row(rest),
@@ -93,6 +113,26 @@ impl Scene {
         let names = list_of(alloc, names)?;
         let value = value_of(value);
         self.cells.push(Listed { names, kind, value })?;
+        Ok(true)
+    }
+
+    fn add_dimension(&mut self, alloc: Global, rest: &str) -> Result<bool, AllocError> {
+        let (name, words) = rest.split_once(' ').unwrap_or((rest, ""));
+        let name = list_of(alloc, name)?;
+        let mut elements = Vec::new(alloc);
+        for word in words.split(' ') {
+            elements.push(element_of(alloc, word)?)?;
+        }
+        let elements = ListOf::new(elements);
+        self.dimensions.push(ListedDimension { name, elements })?;
+        Ok(true)
+    }
+
+    fn add_attribute(&mut self, alloc: Global, rest: &str) -> Result<bool, AllocError> {
+        let (names, text) = rest.split_once(' ').unwrap_or((rest, ""));
+        let names = list_of(alloc, names)?;
+        let text = list_of(alloc, text)?;
+        self.attributes.push(ListedAttribute { names, text })?;
         Ok(true)
     }
 

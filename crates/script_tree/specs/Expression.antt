@@ -60,12 +60,18 @@ functions = (codes "CELLGETN", funs.CellGetN) ∷ (codes "ABS", funs.Abs) ∷ (c
     ∷ (codes "INT", funs.Int) ∷ (codes "ROUND", funs.Round) ∷ (codes "STRINGTONUMBER", funs.StringToNumber)
     ∷ (codes "NUMBERTOSTRING", funs.NumberToString) ∷ (codes "MAX", funs.Max) ∷ (codes "MIN", funs.Min) ∷ []
 
+-- those that ask for elements and cells: their words name variables where no `(` stands behind them
+abbrev pub functions_of_elements : List (List ℕ × ScriptFun)
+functions_of_elements = (codes "DIMSIZ", funs.ElementCount) ∷ (codes "DIMNM", funs.ElementName)
+    ∷ (codes "DIMIX", funs.ElementPlace) ∷ (codes "DTYPE", funs.ElementKind) ∷ (codes "ATTRS", funs.AttributeText)
+    ∷ (codes "ATTRN", funs.AttributeNumber) ∷ (codes "CELLISUPDATEABLE", funs.CellIsUpdateable) ∷ []
+
 -- those whose words are functions before a `(` alone, and name variables elsewhere
 abbrev pub functions_before_parenthesis : List (List ℕ × ScriptFun)
 functions_before_parenthesis = (codes "TRIM", funs.Trim) ∷ (codes "UPPER", funs.Upper) ∷ (codes "LOWER", funs.Lower)
     ∷ (codes "LONG", funs.Long) ∷ (codes "SCAN", funs.Scan) ∷ (codes "SUBST", funs.Subst) ∷ (codes "STR", funs.Str)
     ∷ (codes "NUMBR", funs.StringToNumber) ∷ (codes "MOD", funs.Mod) ∷ (codes "ROUNDP", funs.RoundP)
-    ∷ (codes "TRUNC", funs.Trunc) ∷ []
+    ∷ (codes "TRUNC", funs.Trunc) ∷ functions_of_elements
 
 -- the function of this word, if there is one
 abbrev pub function_in : List (List ℕ × ScriptFun) → List ℕ → Option ScriptFun
@@ -122,6 +128,13 @@ arguments funs.Str value = three_values value
 arguments funs.Mod value = two_values value
 arguments funs.RoundP value = two_values value
 arguments funs.Trunc value = one_value value
+arguments funs.ElementCount value = one_value value
+arguments funs.ElementName value = two_values value
+arguments funs.ElementPlace value = two_values value
+arguments funs.ElementKind value = two_values value
+arguments funs.AttributeText value = three_values value
+arguments funs.AttributeNumber value = three_values value
+arguments funs.CellIsUpdateable value = two_or_more value
 
 -- a function's arguments, in their parentheses
 abbrev pub call : Grammar Lexeme Expr → ScriptFun → Grammar Lexeme Expr

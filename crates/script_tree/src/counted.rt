@@ -114,8 +114,24 @@ fn is_function_before_parenthesis(token: &Token<'_>) -> bool
 {
     is_among(
         &[
-            b"TRIM", b"UPPER", b"LOWER", b"LONG", b"SCAN", b"SUBST", b"STR", b"NUMBR", b"MOD",
-            b"ROUNDP", b"TRUNC",
+            b"TRIM",
+            b"UPPER",
+            b"LOWER",
+            b"LONG",
+            b"SCAN",
+            b"SUBST",
+            b"STR",
+            b"NUMBR",
+            b"MOD",
+            b"ROUNDP",
+            b"TRUNC",
+            b"DIMSIZ",
+            b"DIMNM",
+            b"DIMIX",
+            b"DTYPE",
+            b"ATTRS",
+            b"ATTRN",
+            b"CELLISUPDATEABLE",
         ],
         token,
     )

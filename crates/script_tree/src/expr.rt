@@ -36,6 +36,20 @@ pub enum ScriptFun {
     RoundP,
     /// The number without its decimals.
     Trunc,
+    /// How many elements a dimension has.
+    ElementCount,
+    /// The name of an element: its dimension, and its place from 1.
+    ElementName,
+    /// The place of an element: its dimension, and its name.
+    ElementPlace,
+    /// Whether an element is a leaf: its dimension, and its name.
+    ElementKind,
+    /// A text of an attribute: the dimension, the element and the attribute.
+    AttributeText,
+    /// The number that this text says.
+    AttributeNumber,
+    /// Whether a cell is open for input: its cube and elements, at least two arguments.
+    CellIsUpdateable,
 }
 
 /// An operator between two expressions.

@@ -1,9 +1,10 @@
 -- The cells that a load reads and writes.
-use Rattle.std.specs.Prelude.{ℕ, ℤ, List, [], ◌∷◌, ◌++◌, Option, Some, None, Result, Ok, Err}
+use Rattle.std.specs.Prelude.{ℕ, ℤ, List, [], ◌∷◌, ◌++◌, Option, Some, None, is_none, Result, Ok, Err, Bool, false}
 use Rattle.cube_fixed.specs.declared.value.Value.{Value}
 use Rattle.cube_fixed.specs.declared.value.Value.TheVariants.{Num, Over}
 use Rattle.script_values.specs.declared.load_reason.LoadReason.{LoadReason}
 use Rattle.script_values.specs.declared.load_reason.LoadReason.TheVariants.{UnknownName, OverWrite}
+use Rattle.script_values.specs.Elements.{Elements}
 
 -- a cell and the millionths that are written into it
 abbrev pub Write : Type 0
@@ -20,6 +21,8 @@ pub record Store : Type 0 where
   pub closed : ℕ → Option LoadReason
   -- StoreLimit where the store with these writes holds too many cells, else FedLimit where its fed cells are too many
   pub full : List Write → Option LoadReason
+  -- the elements of the dimension of a name; None where there is no such dimension
+  pub elements : List ℕ → Option Elements
 
 abbrev pub value_in : Store → List Write → Option ℕ → Result Value LoadReason
 value_in store writes (Some cell) = Ok (store.value writes cell)
@@ -60,3 +63,11 @@ refusal (Err reason) = Some reason
 abbrev pub writes_after : List Write → Result (List Write) LoadReason → List Write
 writes_after before (Ok writes) = writes
 writes_after before (Err reason) = before
+
+abbrev pub is_open_cell : Store → Option ℕ → Bool
+is_open_cell store (Some cell) = is_none (store.closed cell)
+is_open_cell store None = false
+
+-- whether a number could be written into a cell as far as the cell goes: it is there, a leaf, and open for input
+abbrev pub is_updateable : Store → List ℕ → List (List ℕ) → Bool
+is_updateable store cube elements = is_open_cell store (store.cell cube elements)

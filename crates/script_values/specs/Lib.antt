@@ -1,5 +1,6 @@
 pub mod Cells
 pub mod Pointed
+pub mod Elements
 pub mod Scene
 pub mod Characters
 pub mod Padding

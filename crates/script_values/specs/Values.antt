@@ -1,6 +1,6 @@
 -- What an expression gives.
 use Rattle.std.specs.Prelude.{ℕ, ℤ, ◌==◌, nat_lt, Bool, not, ◌&&◌, ◌||◌, List, [], ◌∷◌, ◌++◌, length, reverse}
-use Rattle.std.specs.Prelude.{Option, Some, None, Result, Ok, Err, slice_get, if◌then◌else◌, map}
+use Rattle.std.specs.Prelude.{Option, Some, None, unwrap_or, Result, Ok, Err, slice_get, if◌then◌else◌, map}
 use Rattle.std.specs.Char.{to_ascii_uppercase, to_ascii_lowercase}
 use Rattle.cube_fixed.specs.declared.value.Value.{Value}
 use Rattle.cube_fixed.specs.declared.value.Value.TheVariants.{Num, Over}
@@ -15,6 +15,8 @@ use Rattle.rule_laws.specs.Operation.{operation_of, function_of, comparison_of}
 use Rattle.script_bound.specs.declared.term.Term.{Term}
 use Rattle.script_bound.specs.declared.term.Term.TheFolds.{fold-Term}
 use Rattle.script_bound.specs.declared.term.Term.TheOpen.{Term-F}
+use Rattle.script_bound.specs.declared.term.ElementFun.{ElementFun}
+use Rattle.script_bound.specs.declared.term.ElementFun.TheVariants as element_functions
 use Rattle.script_bound.specs.declared.term.TextFun.{TextFun}
 use Rattle.script_bound.specs.declared.term.TextFun.TheVariants.{Trim, Upper, Lower}
 use Rattle.script_values.specs.declared.datum.Datum.{Datum}
@@ -24,7 +26,8 @@ use Rattle.script_values.specs.declared.kept.Kept.TheVariants as kept
 use Rattle.script_values.specs.declared.load_reason.LoadReason.{LoadReason}
 use Rattle.script_values.specs.declared.load_reason.LoadReason.TheVariants.{UnknownName, NotANumber, UnsetVariable}
 use Rattle.script_values.specs.declared.load_reason.LoadReason.TheVariants.{TypeMismatch, TextLimit}
-use Rattle.script_values.specs.Cells.{Store, Write, reading}
+use Rattle.script_values.specs.Cells.{Store, Write, reading, is_updateable}
+use Rattle.script_values.specs.Elements.{of_elements, of_element, place_said, kind_text}
 use Rattle.script_values.specs.Pointed.{pointed}
 use Rattle.script_values.specs.Characters.{units_of, character_count, place_in, cut_out}
 use Rattle.script_values.specs.Padding.{width_in, padded}
@@ -211,6 +214,56 @@ abbrev pub cell_value : Store → List Write → List (List ℕ) → Result Valu
 cell_value store writes [] = Err UnknownName
 cell_value store writes (cube ∷ elements) = reading store writes cube elements
 
+-- ---- what is asked of dimensions, elements and cells
+
+unfoldable pub element_count : Store → List (List ℕ) → Result Datum LoadReason
+element_count store (dimension ∷ []) =
+    done (λ count. data_of.Number (units_of count)) (of_elements (λ all. all.count) (store.elements dimension))
+element_count store _ = Err UnknownName
+
+unfoldable pub element_place : Store → List (List ℕ) → Result Datum LoadReason
+element_place store (dimension ∷ element ∷ []) =
+    done (λ place. data_of.Number (units_of (unwrap_or place 0)))
+    (of_elements (λ all. all.place element) (store.elements dimension))
+element_place store _ = Err UnknownName
+
+unfoldable pub element_kind : Store → List (List ℕ) → Result Datum LoadReason
+element_kind store (dimension ∷ element ∷ []) =
+    done (λ leaf. data_of.Text (kind_text leaf))
+    (of_elements (λ all. all.is_leaf element) (store.elements dimension))
+element_kind store _ = Err UnknownName
+
+-- an element's text of an attribute
+unfoldable pub attribute : Store → List (List ℕ) → Result (List ℕ) LoadReason
+attribute store (dimension ∷ element ∷ name ∷ []) =
+    taken of_element (of_elements (λ all. all.attribute element name) (store.elements dimension))
+attribute store _ = Err UnknownName
+
+-- what a function of a dimension and its elements gives for these texts
+abbrev pub asked : Store → ElementFun → List (List ℕ) → Result Datum LoadReason
+asked store element_functions.Count texts = element_count store texts
+asked store element_functions.Place texts = element_place store texts
+asked store element_functions.Kind texts = element_kind store texts
+asked store element_functions.Text texts = done (λ bytes. data_of.Text bytes) (attribute store texts)
+asked store element_functions.Number texts = done (λ value. data_of.Number value) (taken amount_in (attribute store texts))
+
+-- the name of the element at a place of a dimension; empty where there is none
+abbrev pub named : Store → List ℕ → Value → Result Datum LoadReason
+named store dimension place =
+    done (λ name. data_of.Text (unwrap_or name []))
+    (of_elements (λ all. all.name (place_said place)) (store.elements dimension))
+
+-- the same of operands, from left to right
+unfoldable pub element_name : Store → Result Datum LoadReason → Result Datum LoadReason → Result Datum LoadReason
+element_name store dimension place =
+    taken (λ answer. answer) (one_and_other (named store) (text dimension) (amount place))
+
+-- 1 where a cell is open, else 0
+unfoldable pub updateable : Store → List (List ℕ) → Result Datum LoadReason
+updateable store [] = Err UnknownName
+updateable store (cube ∷ elements) =
+    Ok (data_of.Number (units_of (if is_updateable store cube elements then 1 else 0)))
+
 abbrev pub value_step : Term-F Reading → Reading
 value_step (Term-F.Number millionths) scene store writes = Ok (data_of.Number (Num millionths))
 value_step (Term-F.Text bytes) scene store writes = Ok (data_of.Text bytes)
@@ -250,6 +303,12 @@ value_step (Term-F.And a b) scene store writes = truths ◌&&◌ (a scene store 
 value_step (Term-F.Or a b) scene store writes = truths ◌||◌ (a scene store writes) (b scene store writes)
 value_step (Term-F.Not a) scene store writes =
     done (λ holds. data_of.Truth (not holds)) (truth (a scene store writes))
+value_step (Term-F.ElementName dimension place) scene store writes =
+    element_name store (dimension scene store writes) (place scene store writes)
+value_step (Term-F.Element function names) scene store writes =
+    taken (asked store function) (each_text names scene store writes)
+value_step (Term-F.IsUpdateable names) scene store writes =
+    taken (updateable store) (each_text names scene store writes)
 
 -- what an expression gives
 abbrev pub value_of : Term → Reading

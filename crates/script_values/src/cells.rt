@@ -1,9 +1,11 @@
 ghost use Rattle.std.specs.Prelude.{◌≡◌, List, IfOk};
-ghost use Rattle.script_values.specs.Cells.{Store, Write, reading, writing, refusal, writes_after};
+ghost use Rattle.script_values.specs.Cells.{Store, Write, reading, writing, refusal, writes_after, is_updateable};
+ghost use Rattle.script_values.specs.Elements.{of_elements};
 
 use crate::load_reason::LoadReason;
 use crate::text::Text;
 use cube_fixed::Value;
+use lists::ListOf;
 use std::alloc::{AllocError, Global};
 
 /// The cells of a load: a model and a stored list, and the writes so far. A load sees its own writes.
@@ -40,4 +42,76 @@ pub trait WorkCells {
         ensures written { IfOk result (λ _. writes self.new ≡ writes_after (writes self.old)
             (writing (store self.old) (writes self.old) cube.now elements.now value)) }
         ensures store { store self.new ≡ store self.old };
+
+    /// Whether a number could be written into a cell as far as the cell goes: it is there, a leaf, and open for input.
+    fn is_updateable(
+        &mut self,
+        alloc: Global,
+        cube: &[u8],
+        elements: &[Text<'_>],
+    ) -> Result<bool, AllocError>
+        ensures value { IfOk result (λ answer. answer ≡ is_updateable (store self.old) cube.now elements.now) }
+        ensures store { store self.new ≡ store self.old }
+        ensures writes { writes self.new ≡ writes self.old };
+
+    /// How many elements a dimension has.
+    fn element_count(
+        &mut self,
+        alloc: Global,
+        dimension: &[u8],
+    ) -> Result<Result<usize, LoadReason>, AllocError>
+        ensures value { IfOk result (λ answer. answer
+            ≡ of_elements (λ all. all.count) ((store self.old).elements dimension.now)) }
+        ensures store { store self.new ≡ store self.old }
+        ensures writes { writes self.new ≡ writes self.old };
+
+    /// The name of the element of a dimension at a place, from 1, as it was defined. None where there is none.
+    fn element_name(
+        &mut self,
+        alloc: Global,
+        dimension: &[u8],
+        place: usize,
+    ) -> Result<Result<Option<ListOf<u8>>, LoadReason>, AllocError>
+        ensures value { IfOk result (λ answer. answer
+            ≡ of_elements (λ all. all.name place) ((store self.old).elements dimension.now)) }
+        ensures store { store self.new ≡ store self.old }
+        ensures writes { writes self.new ≡ writes self.old };
+
+    /// The place of an element of a dimension, from 1. None where there is no such element.
+    fn element_place(
+        &mut self,
+        alloc: Global,
+        dimension: &[u8],
+        element: &[u8],
+    ) -> Result<Result<Option<usize>, LoadReason>, AllocError>
+        ensures value { IfOk result (λ answer. answer
+            ≡ of_elements (λ all. all.place element.now) ((store self.old).elements dimension.now)) }
+        ensures store { store self.new ≡ store self.old }
+        ensures writes { writes self.new ≡ writes self.old };
+
+    /// Whether an element of a dimension is a leaf. None where there is no such element.
+    fn is_leaf_element(
+        &mut self,
+        alloc: Global,
+        dimension: &[u8],
+        element: &[u8],
+    ) -> Result<Result<Option<bool>, LoadReason>, AllocError>
+        ensures value { IfOk result (λ answer. answer
+            ≡ of_elements (λ all. all.is_leaf element.now) ((store self.old).elements dimension.now)) }
+        ensures store { store self.new ≡ store self.old }
+        ensures writes { writes self.new ≡ writes self.old };
+
+    /// The text of an attribute of an element of a dimension, which is empty where the element has none. None where
+    /// there is no such element.
+    fn attribute(
+        &mut self,
+        alloc: Global,
+        dimension: &[u8],
+        element: &[u8],
+        name: &[u8],
+    ) -> Result<Result<Option<ListOf<u8>>, LoadReason>, AllocError>
+        ensures value { IfOk result (λ answer. answer
+            ≡ of_elements (λ all. all.attribute element.now name.now) ((store self.old).elements dimension.now)) }
+        ensures store { store self.new ≡ store self.old }
+        ensures writes { writes self.new ≡ writes self.old };
 }

@@ -8,6 +8,7 @@ mod cells;
 mod characters;
 mod column_number;
 mod datum;
+mod elements;
 mod kept;
 mod load_reason;
 mod operands;

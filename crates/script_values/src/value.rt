@@ -1,11 +1,13 @@
 ghost use Rattle.std.specs.Prelude.{◌≡◌, ◌&&◌, ◌||◌, map, IfOk};
 ghost use Rattle.script_values.specs.Values as values;
 ghost use Rattle.script_values.specs.Values.{value_of, cell_value, each_text, done, taken, amount, operated, compared};
+ghost use Rattle.script_values.specs.Values.{asked, element_name, updateable};
 ghost use Rattle.script_values.specs.Values.{cut, written};
 ghost use Rattle.script_values.specs.declared.datum.Datum.TheVariants as data_of;
 
 use crate::cells::WorkCells;
 use crate::datum::Datum;
+use crate::elements::{asked, named_at, updateable};
 use crate::load_reason::LoadReason;
 use crate::operands::{
     both_hold, comparison, function, joined, number_in, one_holds, operation, opposite, other,
@@ -19,7 +21,7 @@ use crate::wanted::{as_amount, as_text};
 use cube_fixed::Value;
 use lists::ListOf;
 use rule_laws::{Op, Rel};
-use script_bound::Term;
+use script_bound::{ElementFun, Term};
 use std::alloc::{AllocError, Global};
 
 /// The value of the cell of a cube and elements.
@@ -114,6 +116,13 @@ pub fn value_of<'a, C: WorkCells>(
             Ok(one_holds(left, right))
         }
         Term::Not(inner) => Ok(opposite(value_of(alloc, inner.get(), sight, cells)?)),
+        Term::ElementName(dimension, place) => {
+            element_name(alloc, dimension.get(), place.get(), sight, cells)
+        }
+        Term::Element(function, names) => {
+            asked_of(alloc, *function, names.as_slice(), sight, cells)
+        }
+        Term::IsUpdateable(names) => updateable_at(alloc, names.as_slice(), sight, cells),
     }
 }
 
@@ -293,6 +302,67 @@ fn value_in_cell<'a, C: WorkCells>(
             Ok(value) => Ok(Ok(Datum::Number(value))),
             Err(reason) => Ok(Err(reason)),
         },
+        Err(reason) => Ok(Err(reason)),
+    }
+}
+
+/// The name of the element at a place of a dimension: the dimension first, and then the place, which is evaluated
+/// whatever the dimension gives.
+#[cycle(values)]
+#[tactic(auto, unfolding(crate::specs::Values::element_name))]
+fn element_name<'a, C: WorkCells>(
+    alloc: Global,
+    dimension: &'a Term,
+    place: &'a Term,
+    sight: &Sight<'a>,
+    cells: &mut C,
+) -> Result<Result<Datum<'a>, LoadReason>, AllocError>
+    ensures value { IfOk result (λ answer. answer ≡ element_name (C.store cells.old)
+        (value_of dimension.now sight.now (C.store cells.old) (C.writes cells.old))
+        (value_of place.now sight.now (C.store cells.old) (C.writes cells.old))) }
+    ensures store { C.store cells.new ≡ C.store cells.old }
+    ensures writes { C.writes cells.new ≡ C.writes cells.old }
+{
+    let dimension = text_at(alloc, dimension, sight, cells)?;
+    let place = amount_of(alloc, place, sight, cells)?;
+    named_at(alloc, dimension, place, cells)
+}
+
+/// What a function of a dimension and its elements gives for the texts of expressions.
+#[cycle(values)]
+fn asked_of<'a, C: WorkCells>(
+    alloc: Global,
+    function: ElementFun,
+    names: &'a [Term],
+    sight: &Sight<'a>,
+    cells: &mut C,
+) -> Result<Result<Datum<'a>, LoadReason>, AllocError>
+    ensures value { IfOk result (λ answer. answer ≡ taken (asked (C.store cells.old) function)
+        (each_text (map value_of names.now) sight.now (C.store cells.old) (C.writes cells.old))) }
+    ensures store { C.store cells.new ≡ C.store cells.old }
+    ensures writes { C.writes cells.new ≡ C.writes cells.old }
+{
+    match texts_of(alloc, names, sight, cells)? {
+        Ok(names) => asked(alloc, function, names.as_slice(), cells),
+        Err(reason) => Ok(Err(reason)),
+    }
+}
+
+/// Whether the cell that expressions name is open for input.
+#[cycle(values)]
+fn updateable_at<'a, C: WorkCells>(
+    alloc: Global,
+    names: &'a [Term],
+    sight: &Sight<'a>,
+    cells: &mut C,
+) -> Result<Result<Datum<'a>, LoadReason>, AllocError>
+    ensures value { IfOk result (λ answer. answer ≡ taken (updateable (C.store cells.old))
+        (each_text (map value_of names.now) sight.now (C.store cells.old) (C.writes cells.old))) }
+    ensures store { C.store cells.new ≡ C.store cells.old }
+    ensures writes { C.writes cells.new ≡ C.writes cells.old }
+{
+    match texts_of(alloc, names, sight, cells)? {
+        Ok(names) => updateable(alloc, names.as_slice(), cells),
         Err(reason) => Ok(Err(reason)),
     }
 }

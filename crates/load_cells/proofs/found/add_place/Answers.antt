@@ -1,5 +1,6 @@
 use Rattle.std.specs.Prelude.{is_ok}
-use Rattle.load_cells.specs.Found.{IsFound, element_by_text}
+use Rattle.load_cells.specs.Found.{IsFound}
+use Rattle.load_cells.specs.Names.{element_by_text}
 use Rattle.load_cells.proofs.Texts.{no_name, one_more}
 use Rattle.load_cells.proofs.found.add_place.Goals as goal
 

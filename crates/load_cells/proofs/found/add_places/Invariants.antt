@@ -1,5 +1,6 @@
 use Rattle.std.proofs.Common.{◌<◌, length, All}
-use Rattle.load_cells.specs.Found.{IsFound, element_by_text}
+use Rattle.load_cells.specs.Found.{IsFound}
+use Rattle.load_cells.specs.Names.{element_by_text}
 use Rattle.load_cells.proofs.found.add_places.Given as goal
 
 -- each name is right, and there is a place once one was added

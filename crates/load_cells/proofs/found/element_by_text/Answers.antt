@@ -1,5 +1,6 @@
 use Rattle.std.proofs.lemmas.List.Elements.{All-set}
-use Rattle.load_cells.specs.Found.{IsFound, element_by_text}
+use Rattle.load_cells.specs.Found.{IsFound}
+use Rattle.load_cells.specs.Names.{element_by_text}
 use Rattle.load_cells.proofs.found.element_by_text.Goals as goal
 
 pub returns-clause-found : goal.returns-clause-found

@@ -3,7 +3,7 @@ use Rattle.std.proofs.lemmas.Grind.{take-set_at}
 use Rattle.cube_space.specs.Layout.{axes_of}
 use Rattle.rule_model.proofs.Named.{with_front}
 use Rattle.rule_model.proofs.Shapes.{axes_length}
-use Rattle.load_cells.specs.Found.{element_by_text, elements_by_texts}
+use Rattle.load_cells.specs.Names.{element_by_text, elements_by_texts}
 use Rattle.load_cells.proofs.Texts.{item, one_found, still_found, texts_other_count}
 use Rattle.load_cells.proofs.names.find_elements.Goals as goal
 

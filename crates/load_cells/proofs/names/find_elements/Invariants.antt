@@ -1,7 +1,8 @@
 use Rattle.std.proofs.Common.{◌≡◌, drop, take}
 use Rattle.cube_space.specs.Layout.{axes_of}
 use Rattle.rule_model.proofs.Named.{with_front}
-use Rattle.load_cells.specs.Found.{AreElements, elements_by_texts}
+use Rattle.load_cells.specs.Found.{AreElements}
+use Rattle.load_cells.specs.Names.{elements_by_texts}
 use Rattle.load_cells.proofs.names.find_elements.Given as goal
 
 -- the elements so far, and those of the texts that are left

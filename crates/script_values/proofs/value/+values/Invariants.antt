@@ -41,3 +41,12 @@ decreases-cut_at g l = 4 * max (the_size l.inner.now) (max (the_size l.start.now
 
 abbrev pub decreases-written_at : goal.decreases-written_at
 decreases-written_at g l = 4 * max (the_size l.inner.now) (max (the_size l.width.now) (the_size l.decimals.now)) + 2
+
+abbrev pub decreases-element_name : goal.decreases-element_name
+decreases-element_name g l = 4 * max (the_size l.dimension.now) (the_size l.place.now) + 2
+
+abbrev pub decreases-asked_of : goal.decreases-asked_of
+decreases-asked_of g l = 4 * goal.size-asked_of g l + 3
+
+abbrev pub decreases-updateable_at : goal.decreases-updateable_at
+decreases-updateable_at g l = 4 * goal.size-updateable_at g l + 3

@@ -7,5 +7,6 @@ returns c =
     let many : length c.loop-dim.elements.items ≡ length c.args.space.now.dimensions = search rules in
     record {
       cube = λ some. absurd (some (search rules));
+      dimension = λ some. absurd (some (search rules));
       elements = none_yet c.args.space.now.dimensions c.loop-dim.elements.items many c.loop-dim.invariant.none;
     }
