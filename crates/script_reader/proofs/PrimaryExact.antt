@@ -84,6 +84,10 @@ module _ {V V' : Grammar Lexeme Expr} {P : Plan Expr} (value : Exact counting V 
   arguments_exact funs.Long = exact_before (λ rest stops. stops.item) one_value_exact
   arguments_exact funs.Scan = exact_before (λ rest stops. stops.item) two_values_exact
   arguments_exact funs.Subst = exact_before (λ rest stops. stops.item) three_values_exact
+  arguments_exact funs.Str = exact_before (λ rest stops. stops.item) three_values_exact
+  arguments_exact funs.Mod = exact_before (λ rest stops. stops.item) two_values_exact
+  arguments_exact funs.RoundP = exact_before (λ rest stops. stops.item) two_values_exact
+  arguments_exact funs.Trunc = exact_before (λ rest stops. stops.item) one_value_exact
 
   call_exact : (function : ScriptFun) → Exact counting (call V function) (call V' function) (read_call P function) Always
   unfolding read_call

@@ -123,8 +123,9 @@ pub fn arguments_of<'a, I: Item<Expr, Excess, Counted<'a>>>(
 {
     match function {
         ScriptFun::CellGetN => two_or_more(alloc, cursor, item),
-        ScriptFun::Subst => three_values(alloc, cursor, item),
-        ScriptFun::Max | ScriptFun::Min | ScriptFun::Scan => two_values(alloc, cursor, item),
+        ScriptFun::Subst | ScriptFun::Str => three_values(alloc, cursor, item),
+        ScriptFun::Max | ScriptFun::Min | ScriptFun::Scan | ScriptFun::Mod | ScriptFun::RoundP =>
+            two_values(alloc, cursor, item),
         ScriptFun::Abs
         | ScriptFun::Sign
         | ScriptFun::Int
@@ -134,6 +135,7 @@ pub fn arguments_of<'a, I: Item<Expr, Excess, Counted<'a>>>(
         | ScriptFun::Trim
         | ScriptFun::Upper
         | ScriptFun::Lower
-        | ScriptFun::Long => one_value(alloc, cursor, item),
+        | ScriptFun::Long
+        | ScriptFun::Trunc => one_value(alloc, cursor, item),
     }
 }

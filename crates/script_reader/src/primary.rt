@@ -100,8 +100,16 @@ fn function_before_parenthesis(word: &[u8]) -> Option<ScriptFun>
         Some(ScriptFun::Scan)
     } else if word == b"SUBST".as_slice() {
         Some(ScriptFun::Subst)
+    } else if word == b"STR".as_slice() {
+        Some(ScriptFun::Str)
     } else if word == b"NUMBR".as_slice() {
         Some(ScriptFun::StringToNumber)
+    } else if word == b"MOD".as_slice() {
+        Some(ScriptFun::Mod)
+    } else if word == b"ROUNDP".as_slice() {
+        Some(ScriptFun::RoundP)
+    } else if word == b"TRUNC".as_slice() {
+        Some(ScriptFun::Trunc)
     } else {
         None
     }

@@ -85,6 +85,10 @@ read_arguments funs.Lower value = read_one_value value
 read_arguments funs.Long value = read_one_value value
 read_arguments funs.Scan value = read_two_values value
 read_arguments funs.Subst value = read_three_values value
+read_arguments funs.Str value = read_three_values value
+read_arguments funs.Mod value = read_two_values value
+read_arguments funs.RoundP value = read_two_values value
+read_arguments funs.Trunc value = read_one_value value
 
 -- Primaries.
 
