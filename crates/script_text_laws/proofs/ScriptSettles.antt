@@ -1,16 +1,16 @@
 -- The readers of values and truths in scripts settle on lists that are shorter than the depth that they were given.
-use Rattle.std.proofs.Common.{ℕ, suc, List, Option, Some, None}
-use Rattle.grammar.specs.Tokens.{is_text, is_number}
+use Rattle.std.proofs.Common.{ℕ, suc, List, Option, Some, None, codes}
+use Rattle.grammar.specs.Tokens.{is_sign, is_text, is_number}
 use Rattle.expression_grammar.specs.Readers.Reading.{read_expression, tree_of}
 use Rattle.expression_grammar.specs.declared.sort.Want.{Want}
 use Rattle.rule_text_laws.proofs.SettlesBelow.{SettlesBelow, below_gives, below_one, below_both, below_behind_one, below_choose, below_listed}
 use Rattle.rule_text_laws.proofs.ExpressionSettles.{below_tree, below_expression}
 use Rattle.script_tree.specs.Counting.{count}
-use Rattle.script_tree.specs.Expression.{scripts_language, functions, function_in, expression_word}
+use Rattle.script_tree.specs.Expression.{scripts_language, functions, functions_before_parenthesis, function_in, expression_word}
 use Rattle.script_tree.specs.declared.expr.Expr.{Expr}
 use Rattle.script_tree.specs.declared.expr.ScriptFun.{ScriptFun}
 use Rattle.script_tree.specs.declared.expr.ScriptFun.TheVariants as funs
-use Rattle.script_reader.specs.Readers.Reading.{Plan, read_number, read_quoted, read_one_value, read_two_values, read_two_or_more, read_arguments, read_call, read_behind_word, read_worded, read_primary}
+use Rattle.script_reader.specs.Readers.Reading.{Plan, read_number, read_quoted, read_one_value, read_two_values, read_three_values, read_two_or_more, read_arguments, read_call, read_behind_variable, read_behind_word, read_worded, read_primary}
 
 module _ (k : ℕ) (P : Plan Expr) (value : SettlesBelow k P) where
   below_one_value : SettlesBelow k (read_one_value P)
@@ -20,6 +20,10 @@ module _ (k : ℕ) (P : Plan Expr) (value : SettlesBelow k P) where
   below_two_values : SettlesBelow k (read_two_values P)
   unfolding read_two_values
   below_two_values = below_both value (λ first. below_both (below_one _ _) (λ _. below_both value (λ second. below_gives _)))
+
+  below_three_values : SettlesBelow k (read_three_values P)
+  unfolding read_three_values
+  below_three_values = below_both value (λ first. below_both (below_one _ _) (λ _. below_both below_two_values (λ rest. below_gives _)))
 
   below_two_or_more : SettlesBelow k (read_two_or_more P)
   unfolding read_two_or_more
@@ -36,11 +40,30 @@ module _ (k : ℕ) (P : Plan Expr) (value : SettlesBelow k P) where
   below_arguments funs.Round = below_one_value
   below_arguments funs.StringToNumber = below_one_value
   below_arguments funs.NumberToString = below_one_value
+  below_arguments funs.Trim = below_one_value
+  below_arguments funs.Upper = below_one_value
+  below_arguments funs.Lower = below_one_value
+  below_arguments funs.Long = below_one_value
+  below_arguments funs.Scan = below_two_values
+  below_arguments funs.Subst = below_three_values
+  below_arguments funs.Str = below_three_values
+  below_arguments funs.Mod = below_two_values
+  below_arguments funs.RoundP = below_two_values
+  below_arguments funs.Trunc = below_one_value
+
+  below_call : (function : ScriptFun) → SettlesBelow k (read_call P function)
+  unfolding read_call
+  below_call function = below_both (below_one _ _) (λ _. below_both (below_arguments function) (λ given. below_both (below_one _ _) (λ _. below_gives _)))
+
+  below_behind_variable : (word : List ℕ) (o : Option ScriptFun) → SettlesBelow k (read_behind_variable P word o)
+  unfolding read_behind_variable
+  below_behind_variable word (Some function) = below_choose (is_sign (codes "(")) (below_call function) (below_gives _)
+  below_behind_variable word None = below_gives _
 
   below_behind_word : (word : List ℕ) (o : Option ScriptFun) → SettlesBelow k (read_behind_word P word o)
-  unfolding read_behind_word read_call
-  below_behind_word word (Some function) = below_both (below_one _ _) (λ _. below_both (below_arguments function) (λ given. below_both (below_one _ _) (λ _. below_gives _)))
-  below_behind_word word None = below_gives _
+  unfolding read_behind_word
+  below_behind_word word (Some function) = below_call function
+  below_behind_word word None = below_behind_variable word (function_in functions_before_parenthesis word)
 
   below_worded : SettlesBelow (suc k) (read_worded P)
   unfolding read_worded
