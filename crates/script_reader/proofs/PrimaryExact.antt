@@ -88,6 +88,13 @@ module _ {V V' : Grammar Lexeme Expr} {P : Plan Expr} (value : Exact counting V 
   arguments_exact funs.Mod = exact_before (λ rest stops. stops.item) two_values_exact
   arguments_exact funs.RoundP = exact_before (λ rest stops. stops.item) two_values_exact
   arguments_exact funs.Trunc = exact_before (λ rest stops. stops.item) one_value_exact
+  arguments_exact funs.ElementCount = exact_before (λ rest stops. stops.item) one_value_exact
+  arguments_exact funs.ElementName = exact_before (λ rest stops. stops.item) two_values_exact
+  arguments_exact funs.ElementPlace = exact_before (λ rest stops. stops.item) two_values_exact
+  arguments_exact funs.ElementKind = exact_before (λ rest stops. stops.item) two_values_exact
+  arguments_exact funs.AttributeText = exact_before (λ rest stops. stops.item) three_values_exact
+  arguments_exact funs.AttributeNumber = exact_before (λ rest stops. stops.item) three_values_exact
+  arguments_exact funs.CellIsUpdateable = two_or_more_exact
 
   call_exact : (function : ScriptFun) → Exact counting (call V function) (call V' function) (read_call P function) Always
   unfolding read_call

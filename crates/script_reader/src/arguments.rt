@@ -122,10 +122,17 @@ pub fn arguments_of<'a, I: Item<Expr, Excess, Counted<'a>>>(
     ensures { Reads (λ given. given) (reading.read_arguments function (I.reads item.now)) cursor.old result cursor.new }
 {
     match function {
-        ScriptFun::CellGetN => two_or_more(alloc, cursor, item),
-        ScriptFun::Subst | ScriptFun::Str => three_values(alloc, cursor, item),
-        ScriptFun::Max | ScriptFun::Min | ScriptFun::Scan | ScriptFun::Mod | ScriptFun::RoundP =>
-            two_values(alloc, cursor, item),
+        ScriptFun::CellGetN | ScriptFun::CellIsUpdateable => two_or_more(alloc, cursor, item),
+        ScriptFun::Subst | ScriptFun::Str | ScriptFun::AttributeText | ScriptFun::AttributeNumber =>
+            three_values(alloc, cursor, item),
+        ScriptFun::Max
+        | ScriptFun::Min
+        | ScriptFun::Scan
+        | ScriptFun::Mod
+        | ScriptFun::RoundP
+        | ScriptFun::ElementName
+        | ScriptFun::ElementPlace
+        | ScriptFun::ElementKind => two_values(alloc, cursor, item),
         ScriptFun::Abs
         | ScriptFun::Sign
         | ScriptFun::Int
@@ -136,6 +143,7 @@ pub fn arguments_of<'a, I: Item<Expr, Excess, Counted<'a>>>(
         | ScriptFun::Upper
         | ScriptFun::Lower
         | ScriptFun::Long
-        | ScriptFun::Trunc => one_value(alloc, cursor, item),
+        | ScriptFun::Trunc
+        | ScriptFun::ElementCount => one_value(alloc, cursor, item),
     }
 }

@@ -84,6 +84,29 @@ fn function_of(word: &[u8]) -> Option<ScriptFun>
     }
 }
 
+/// The function of a word in capitals that asks for elements or cells, if there is one.
+fn function_of_elements(word: &[u8]) -> Option<ScriptFun>
+    ensures { result ≡ expression.function_in expression.functions_of_elements word.now }
+{
+    if word == b"DIMSIZ".as_slice() {
+        Some(ScriptFun::ElementCount)
+    } else if word == b"DIMNM".as_slice() {
+        Some(ScriptFun::ElementName)
+    } else if word == b"DIMIX".as_slice() {
+        Some(ScriptFun::ElementPlace)
+    } else if word == b"DTYPE".as_slice() {
+        Some(ScriptFun::ElementKind)
+    } else if word == b"ATTRS".as_slice() {
+        Some(ScriptFun::AttributeText)
+    } else if word == b"ATTRN".as_slice() {
+        Some(ScriptFun::AttributeNumber)
+    } else if word == b"CELLISUPDATEABLE".as_slice() {
+        Some(ScriptFun::CellIsUpdateable)
+    } else {
+        None
+    }
+}
+
 /// The function of a word in capitals before a `(`, if there is one whose word may name a variable elsewhere.
 fn function_before_parenthesis(word: &[u8]) -> Option<ScriptFun>
     ensures { result ≡ expression.function_in expression.functions_before_parenthesis word.now }
@@ -111,7 +134,7 @@ fn function_before_parenthesis(word: &[u8]) -> Option<ScriptFun>
     } else if word == b"TRUNC".as_slice() {
         Some(ScriptFun::Trunc)
     } else {
-        None
+        function_of_elements(word)
     }
 }
 

@@ -50,6 +50,13 @@ module _ (k : ℕ) (P : Plan Expr) (value : SettlesBelow k P) where
   below_arguments funs.Mod = below_two_values
   below_arguments funs.RoundP = below_two_values
   below_arguments funs.Trunc = below_one_value
+  below_arguments funs.ElementCount = below_one_value
+  below_arguments funs.ElementName = below_two_values
+  below_arguments funs.ElementPlace = below_two_values
+  below_arguments funs.ElementKind = below_two_values
+  below_arguments funs.AttributeText = below_three_values
+  below_arguments funs.AttributeNumber = below_three_values
+  below_arguments funs.CellIsUpdateable = below_two_or_more
 
   below_call : (function : ScriptFun) → SettlesBelow k (read_call P function)
   unfolding read_call

@@ -89,6 +89,13 @@ read_arguments funs.Str value = read_three_values value
 read_arguments funs.Mod value = read_two_values value
 read_arguments funs.RoundP value = read_two_values value
 read_arguments funs.Trunc value = read_one_value value
+read_arguments funs.ElementCount value = read_one_value value
+read_arguments funs.ElementName value = read_two_values value
+read_arguments funs.ElementPlace value = read_two_values value
+read_arguments funs.ElementKind value = read_two_values value
+read_arguments funs.AttributeText value = read_three_values value
+read_arguments funs.AttributeNumber value = read_three_values value
+read_arguments funs.CellIsUpdateable value = read_two_or_more value
 
 -- Primaries.
 
