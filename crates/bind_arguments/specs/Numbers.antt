@@ -1,5 +1,6 @@
 -- The numbers that a function gives the elements of a dimension, in millionths.
-use Rattle.std.specs.Prelude.{◌≡◌, ℕ, ◌+◌, ◌*◌, ◌==◌, Bool, ℤ, pos, List, [], map, length, slice_get, All, IfSome, ⊤, ◌<◌, Result, Ok, Err, if◌then◌else◌}
+use Rattle.std.specs.Prelude.{◌≡◌, ℕ, ◌+◌, ◌*◌, ◌==◌, ◌<◌, Bool, ℤ, pos, List, [], map, length, slice_get, All, IfSome}
+use Rattle.std.specs.Prelude.{⊤, Result, Ok, Err, if◌then◌else◌}
 use Rattle.std.specs.List.{list_any, range_with_len}
 use Rattle.cube_fixed.specs.Range.{unit}
 use Rattle.cube_fixed.specs.Text.{number_of, reading_of}

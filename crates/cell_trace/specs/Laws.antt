@@ -40,8 +40,8 @@ TheSumsAddUp = (values : ℕ → Value) (cells : List (ℕ × ℤ))
 abbrev pub GivesOwn : Given → Type 0
 GivesOwn g = (dim : ℕ) → g.has_components dim ≡ false → g.others.children dim ≡ g.others.stet
 
--- two are of one cell: references name the same cells, the cell's elements are the same, and they have components in the
--- same dimensions
+-- two are of one cell: references name the same cells, the cell's elements are the same, and they have components in
+-- the same dimensions
 pub record AreOfOneCell (g h : Given) : Type 0 where
   pub own : GivesOwn g
   pub other_own : GivesOwn h

@@ -70,8 +70,8 @@ IsReady files sources bodies.Discard = Unit {0}
 abbrev pub AreReady : ModelFiles → List Source → List UserCommand → Type 0
 AreReady files sources commands = All (λ command. IsReady files sources command.body) commands
 
--- a load as it is run: by the place of its script in the model, with its records, the byte between units and decimals of
--- their numbers, and what is set
+-- a load as it is run: by the place of its script in the model, with its records, the byte between units and decimals
+-- of their numbers, and what is set
 pub record IsLoad (files : ModelFiles) (sources : List Source) (load : LoadText) (job : LoadJob) (bound : BoundScript)
     : Type 0 where
   pub place : place_of files.script_names load.script ≡ Some job.script

@@ -77,7 +77,8 @@ impl<'a, 'b> FileRecords<'a, 'b> {
         requires { IsSome (source_of self.old name.now) }
         ensures kept { self.new ≡ self.old }
         ensures records { IfOk result (λ records.
-            option_map (λ source. rows_of separator 0 source.1) (source_of self.old name.now) ≡ Some (arc_value records)) }
+            option_map (λ source. rows_of separator 0 source.1) (source_of self.old name.now)
+            ≡ Some (arc_value records)) }
     {
         let key = key_of(alloc, separator, name)?;
         if let Some(place) = self.keys.place_of(&key) {

@@ -127,8 +127,8 @@ fn place_in(text: &[u8], places: usize) -> usize
     (sum % places as u64) as usize
 }
 
-/// The names that a load has found: of the last cube, of the last dimension that it asked for, and of elements of each dimension. Columns of records repeat, so
-/// that many a name comes again.
+/// The names that a load has found: of the last cube, of the last dimension that it asked for, and of elements of each
+/// dimension. Columns of records repeat, so that many a name comes again.
 #[derive(Drop)]
 pub(crate) struct FoundNames {
     pub(crate) cube: FoundName,

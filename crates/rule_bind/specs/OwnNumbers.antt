@@ -1,6 +1,6 @@
 -- What functions of the cell's own element mean: a table over the dimension whose element they take.
-use Rattle.std.specs.Prelude.{ℕ, ◌==◌, Bool, true, false, List, [], ◌∷◌, Option, Some, None, Err, ok_or, option_and_then}
-use Rattle.std.specs.Prelude.{slice_get, if◌then◌else◌}
+use Rattle.std.specs.Prelude.{ℕ, ◌==◌, Bool, true, false, List, [], ◌∷◌, Option, Some, None, Err, ok_or}
+use Rattle.std.specs.Prelude.{option_and_then, slice_get, if◌then◌else◌}
 use Rattle.cube_space.specs.Layout.{Layout, axes}
 use Rattle.cube_space.specs.Axes.{axis_called}
 use Rattle.dim_core.specs.Outline.{index_of}

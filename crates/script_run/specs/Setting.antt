@@ -4,8 +4,8 @@ use Rattle.script_tree.specs.declared.script.Section.{Section}
 use Rattle.script_values.specs.declared.kept.Kept.{Kept}
 use Rattle.script_run.specs.declared.execution_place.ExecutionPlace.{ExecutionPlace}
 
--- the section, the row of the record from 1, or 0 outside of Data, the columns of the record, and the byte between units
--- and decimals of numbers in columns
+-- the section, the row of the record from 1, or 0 outside of Data, the columns of the record, and the byte between
+-- units and decimals of numbers in columns
 pub record Setting : Type 0 where
   pub section : Section
   pub row : ℕ

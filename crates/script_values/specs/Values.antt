@@ -245,7 +245,8 @@ asked store element_functions.Count texts = element_count store texts
 asked store element_functions.Place texts = element_place store texts
 asked store element_functions.Kind texts = element_kind store texts
 asked store element_functions.Text texts = done (λ bytes. data_of.Text bytes) (attribute store texts)
-asked store element_functions.Number texts = done (λ value. data_of.Number value) (taken amount_in (attribute store texts))
+asked store element_functions.Number texts =
+    done (λ value. data_of.Number value) (taken amount_in (attribute store texts))
 
 -- the name of the element at a place of a dimension; empty where there is none
 abbrev pub named : Store → List ℕ → Value → Result Datum LoadReason
