@@ -1,5 +1,6 @@
 use Rattle.std.proofs.Common.{◌≡◌, ◌+◌, ◌<◌, ◌≤◌, take, drop, length, sym, subst, arith}
 use Rattle.std.proofs.lemmas.Option.{get_or_from_slice_get}
+use Rattle.rule_tree.specs.Sizes.{IsWithinLimits}
 use Rattle.model_bind.specs.Rules.{meaning_stage}
 use Rattle.model_bind.proofs.CubeRules.{one_more}
 use Rattle.model_bind.proofs.Stages.{comes-refused, one-more, parts-at, place-at, taken-more, whole-found}
@@ -35,3 +36,11 @@ returns-clause-comes c =
     let texts = c.args.texts.now in
     let end : length texts ≤ c.loop-cube.cube = omega (arith, c.loop-cube-test.false, c.cubes-cube-end.ensures, c.requires.one_each) in
     rw c.new.ensures (whole-found (meaning_stage c.args.space.now c.args.files.now) texts c.loop-cube.all.items c.loop-cube.cube end c.loop-cube.invariant.meant)
+
+pub meaning_of-requires-clause-within : goal.meaning_of-requires-clause-within
+meaning_of-requires-clause-within c =
+    let texts = c.args.texts.now in
+    let i = c.loop-cube.cube in
+    let text = c.of_cube-text.result.now in
+    let low : i < length texts = omega (arith, c.loop-cube-test.true, c.cubes-cube-end.ensures, c.requires.one_each) in
+    subst IsWithinLimits (get_or_from_slice_get texts i text text c.of_cube-text.ensures) (c.requires.within i text low)
