@@ -5,6 +5,6 @@ use Rattle.feed_print.proofs.arguments.number.Goals as goal
 
 pub returns-clause-writable : goal.returns-clause-writable
 returns-clause-writable c =
-    let is : c.in-Some.money ≡ pos (c.args.n * unit) = search rules in
-    let low : IsInRange c.in-Some.money = search rules in
-    number_writable (c.args.n * unit) c.in-Some.money is low
+    let is : c.of_units.result ≡ pos (c.args.n * unit) = c.of_units.ensures in
+    let low : IsInRange c.of_units.result = search rules in
+    number_writable (c.args.n * unit) c.of_units.result is low
