@@ -18,9 +18,11 @@ place_of elements name = position (λ element. bytes_eq element.name name) eleme
 abbrev pub element_named : List ListedElement → List ℕ → Option ListedElement
 element_named elements name = option_and_then (slice_get elements) (place_of elements name)
 
+abbrev pub attribute_place : List ListedAttribute → List ℕ → Option ℕ
+attribute_place attributes names = position (λ attribute. bytes_eq attribute.names names) attributes
+
 abbrev pub attribute_named : List ListedAttribute → List ℕ → Option ListedAttribute
-attribute_named attributes names =
-    option_and_then (slice_get attributes) (position (λ attribute. bytes_eq attribute.names names) attributes)
+attribute_named attributes names = option_and_then (slice_get attributes) (attribute_place attributes names)
 
 -- the text of an attribute; empty where none is listed
 abbrev pub text_of : Option ListedAttribute → List ℕ
@@ -39,9 +41,11 @@ elements_of attributes dimension =
           (element_named dimension.elements name);
     }
 
+abbrev pub dimension_place : List ListedDimension → List ℕ → Option ℕ
+dimension_place dimensions name = position (λ dimension. bytes_eq dimension.name name) dimensions
+
 abbrev pub dimension_named : List ListedDimension → List ℕ → Option ListedDimension
-dimension_named dimensions name =
-    option_and_then (slice_get dimensions) (position (λ dimension. bytes_eq dimension.name name) dimensions)
+dimension_named dimensions name = option_and_then (slice_get dimensions) (dimension_place dimensions name)
 
 abbrev pub elements_named : List ListedDimension → List ListedAttribute → List ℕ → Option Elements
 elements_named dimensions attributes name = option_map (elements_of attributes) (dimension_named dimensions name)

@@ -6,6 +6,16 @@ use lists::ListOf;
 use sqlite_items::at;
 use std::alloc::{AllocError, Global};
 
+// The place of the dimension of a name, from 0.
+fn dimension_place(dimensions: &[ListedDimension], name: &[u8]) -> Option<usize>
+    ensures place { result ≡ members.dimension_place dimensions.now name.now }
+    ensures within { IfSome result (λ place. place < length dimensions.now) }
+{
+    dimensions
+        .iter()
+        .position(|dimension| dimension.name.as_slice() == name)
+}
+
 /// The dimension of a name.
 pub(crate) fn dimension_named<'a>(
     dimensions: &'a [ListedDimension],
@@ -13,10 +23,7 @@ pub(crate) fn dimension_named<'a>(
 ) -> Option<&'a ListedDimension>
     ensures { option_copied result ≡ members.dimension_named dimensions.now name.now }
 {
-    let place = dimensions
-        .iter()
-        .position(|dimension| dimension.name.as_slice() == name)?;
-    at(dimensions, place)
+    at(dimensions, dimension_place(dimensions, name)?)
 }
 
 /// The place of the element of a name, from 0.
@@ -59,16 +66,23 @@ pub(crate) fn name_at(
     }
 }
 
+// The place of the attribute of these names, from 0.
+fn attribute_place(attributes: &[ListedAttribute], names: &[u8]) -> Option<usize>
+    ensures place { result ≡ members.attribute_place attributes.now names.now }
+    ensures within { IfSome result (λ place. place < length attributes.now) }
+{
+    attributes
+        .iter()
+        .position(|attribute| attribute.names.as_slice() == names)
+}
+
 fn attribute_named<'a>(
     attributes: &'a [ListedAttribute],
     names: &[u8],
 ) -> Option<&'a ListedAttribute>
     ensures { option_copied result ≡ members.attribute_named attributes.now names.now }
 {
-    let place = attributes
-        .iter()
-        .position(|attribute| attribute.names.as_slice() == names)?;
-    at(attributes, place)
+    at(attributes, attribute_place(attributes, names)?)
 }
 
 /// The text of an attribute; empty where none is listed.
