@@ -8,7 +8,7 @@ use Rattle.std.proofs.lemmas.List.{take_all, drop_all}
 use Rattle.std.proofs.lemmas.Bool.{cases_lt}
 use Rattle.cube_fixed.specs.declared.reading.NumberFault.TheVariants.{TooLarge}
 use Rattle.cube_fixed.specs.Range.{IsInRange, most_millionths, unit}
-use Rattle.cube_fixed.specs.Text.{is_point, is_digits, is_decimal, signed, decimals_value, decimal_value, number_after_sign, reading_of}
+use Rattle.cube_fixed.specs.Text.{is_decimal_sign, is_digits, is_decimal, signed, decimals_value, decimal_value, number_after_sign, reading_of}
 
 -- a test passes somewhere just where the first place that passes is within the list
 pub any-position : (p : ℕ → Bool) (xs : List ℕ) → list_any p xs ≡ ltb (position_or_len p xs) (length xs)
@@ -24,68 +24,70 @@ pub starts_with-minus : (text : List ℕ) → starts_with eqb text (45 ∷ []) �
 starts_with-minus [] = refl
 starts_with-minus (c ∷ cs) = grind (arith, nat_tests)
 
--- where `position` found the point
-pub record HasPointAt (text : List ℕ) (at : ℕ) : Type 0 where
-  pub any : list_any is_point text ≡ true
-  pub first : position_or_len is_point text ≡ at
-  pub within : at < length text
+-- `decimal` is the decimal sign
+module _ (decimal : ℕ) where
+  -- where `position` found the point
+  pub record HasPointAt (text : List ℕ) (at : ℕ) : Type 0 where
+    pub any : list_any (is_decimal_sign decimal) text ≡ true
+    pub first : position_or_len (is_decimal_sign decimal) text ≡ at
+    pub within : at < length text
 
-pub point_found : (text : List ℕ) (at : ℕ) → position is_point text ≡ Some at → HasPointAt text at
-point_found text at h =
-    let go : (b : Bool) → ltb (position_or_len is_point text) (length text) ≡ b →
-    cond b (Some (position_or_len is_point text)) None ≡ Some at → HasPointAt text at =
-    λ b. elim b as (λ b. ltb (position_or_len is_point text) (length text) ≡ b →
-    cond b (Some (position_or_len is_point text)) None ≡ Some at → HasPointAt text at) [
-      | true ↦ λ e f.
-          let first : position_or_len is_point text ≡ at = cc in
-          record { any = any-position is_point text ∙ e; first = first; within = grind (arith, nat_tests) }
-      | false ↦ λ e f. cc
-    ] in
-    go (ltb (position_or_len is_point text) (length text)) refl h
+  pub point_found : (text : List ℕ) (at : ℕ) → position (is_decimal_sign decimal) text ≡ Some at → HasPointAt text at
+  point_found text at h =
+      let go : (b : Bool) → ltb (position_or_len (is_decimal_sign decimal) text) (length text) ≡ b →
+      cond b (Some (position_or_len (is_decimal_sign decimal) text)) None ≡ Some at → HasPointAt text at =
+      λ b. elim b as (λ b. ltb (position_or_len (is_decimal_sign decimal) text) (length text) ≡ b →
+      cond b (Some (position_or_len (is_decimal_sign decimal) text)) None ≡ Some at → HasPointAt text at) [
+        | true ↦ λ e f.
+            let first : position_or_len (is_decimal_sign decimal) text ≡ at = cc in
+            record { any = any-position (is_decimal_sign decimal) text ∙ e; first = first; within = grind (arith, nat_tests) }
+        | false ↦ λ e f. cc
+      ] in
+      go (ltb (position_or_len (is_decimal_sign decimal) text) (length text)) refl h
 
-pub point_missing : (text : List ℕ) → position is_point text ≡ None → list_any is_point text ≡ false
-point_missing text h =
-    let go : (b : Bool) → ltb (position_or_len is_point text) (length text) ≡ b →
-    cond b (Some (position_or_len is_point text)) None ≡ None → list_any is_point text ≡ false =
-    λ b. elim b as (λ b. ltb (position_or_len is_point text) (length text) ≡ b →
-    cond b (Some (position_or_len is_point text)) None ≡ None → list_any is_point text ≡ false) [
-      | true ↦ λ e f. cc
-      | false ↦ λ e f. any-position is_point text ∙ e
-    ] in
-    go (ltb (position_or_len is_point text) (length text)) refl h
+  pub point_missing : (text : List ℕ) → position (is_decimal_sign decimal) text ≡ None → list_any (is_decimal_sign decimal) text ≡ false
+  point_missing text h =
+      let go : (b : Bool) → ltb (position_or_len (is_decimal_sign decimal) text) (length text) ≡ b →
+      cond b (Some (position_or_len (is_decimal_sign decimal) text)) None ≡ None → list_any (is_decimal_sign decimal) text ≡ false =
+      λ b. elim b as (λ b. ltb (position_or_len (is_decimal_sign decimal) text) (length text) ≡ b →
+      cond b (Some (position_or_len (is_decimal_sign decimal) text)) None ≡ None → list_any (is_decimal_sign decimal) text ≡ false) [
+        | true ↦ λ e f. cc
+        | false ↦ λ e f. any-position (is_decimal_sign decimal) text ∙ e
+      ] in
+      go (ltb (position_or_len (is_decimal_sign decimal) text) (length text)) refl h
 
--- with no point all stands before it, and nothing after it
-pub before_first-none : (text : List ℕ) → list_any is_point text ≡ false → before_first is_point text ≡ text
-before_first-none text h =
-    let e = sym (any-position is_point text) ∙ h in
-    let far : length text ≤ position_or_len is_point text = grind (arith, nat_tests) in
-    take_all _ text far
+  -- with no point all stands before it, and nothing after it
+  pub before_first-none : (text : List ℕ) → list_any (is_decimal_sign decimal) text ≡ false → before_first (is_decimal_sign decimal) text ≡ text
+  before_first-none text h =
+      let e = sym (any-position (is_decimal_sign decimal) text) ∙ h in
+      let far : length text ≤ position_or_len (is_decimal_sign decimal) text = grind (arith, nat_tests) in
+      take_all _ text far
 
-pub after_first-none : (text : List ℕ) → list_any is_point text ≡ false → after_first is_point text ≡ []
-after_first-none text h =
-    let e = sym (any-position is_point text) ∙ h in
-    let far : length text ≤ position_or_len is_point text = grind (arith, nat_tests) in
-    drop_all (position_or_len is_point text + 1) text (omega arith)
+  pub after_first-none : (text : List ℕ) → list_any (is_decimal_sign decimal) text ≡ false → after_first (is_decimal_sign decimal) text ≡ []
+  after_first-none text h =
+      let e = sym (any-position (is_decimal_sign decimal) text) ∙ h in
+      let far : length text ≤ position_or_len (is_decimal_sign decimal) text = grind (arith, nat_tests) in
+      drop_all (position_or_len (is_decimal_sign decimal) text + 1) text (omega arith)
 
--- what the two parts round the point say of the text
-pub is_decimal-point : (text : List ℕ) (at : ℕ) → HasPointAt text at → is_decimal text ≡ (is_digits (take at text) && is_digits (drop (at + 1) text))
-is_decimal-point text at p =
-    ap (λ b. if b then is_digits (before_first is_point text) && is_digits (after_first is_point text) else is_digits text) p.any ∙
-    ap (λ n. is_digits (take n text) && is_digits (drop (n + 1) text)) p.first
+  -- what the two parts round the point say of the text
+  pub is_decimal-point : (text : List ℕ) (at : ℕ) → HasPointAt text at → is_decimal decimal text ≡ (is_digits (take at text) && is_digits (drop (at + 1) text))
+  is_decimal-point text at p =
+      ap (λ b. if b then is_digits (before_first (is_decimal_sign decimal) text) && is_digits (after_first (is_decimal_sign decimal) text) else is_digits text) p.any ∙
+      ap (λ n. is_digits (take n text) && is_digits (drop (n + 1) text)) p.first
 
-pub decimal_value-point : (text : List ℕ) (at : ℕ) → HasPointAt text at → decimal_value text ≡ digits_value 10 (take at text) * unit + decimals_value (drop (at + 1) text)
-decimal_value-point text at p =
-    ap (λ n. digits_value 10 (take n text) * unit + decimals_value (drop (n + 1) text)) p.first
+  pub decimal_value-point : (text : List ℕ) (at : ℕ) → HasPointAt text at → decimal_value decimal text ≡ digits_value 10 (take at text) * unit + decimals_value (drop (at + 1) text)
+  decimal_value-point text at p =
+      ap (λ n. digits_value 10 (take n text) * unit + decimals_value (drop (n + 1) text)) p.first
 
-pub is_decimal-none : (text : List ℕ) → list_any is_point text ≡ false → is_decimal text ≡ is_digits text
-is_decimal-none text h =
-    ap (λ b. if b then is_digits (before_first is_point text) && is_digits (after_first is_point text) else is_digits text) h
+  pub is_decimal-none : (text : List ℕ) → list_any (is_decimal_sign decimal) text ≡ false → is_decimal decimal text ≡ is_digits text
+  is_decimal-none text h =
+      ap (λ b. if b then is_digits (before_first (is_decimal_sign decimal) text) && is_digits (after_first (is_decimal_sign decimal) text) else is_digits text) h
 
-pub decimal_value-none : (text : List ℕ) → list_any is_point text ≡ false → decimal_value text ≡ digits_value 10 text * unit
-decimal_value-none text h =
-    let whole : digits_value 10 (before_first is_point text) ≡ digits_value 10 text = ap (λ xs. digits_value 10 xs) (before_first-none text h) in
-    let rest : decimals_value (after_first is_point text) ≡ 0 = ap decimals_value (after_first-none text h) in
-    omega (arith, whole, rest)
+  pub decimal_value-none : (text : List ℕ) → list_any (is_decimal_sign decimal) text ≡ false → decimal_value decimal text ≡ digits_value 10 text * unit
+  decimal_value-none text h =
+      let whole : digits_value 10 (before_first (is_decimal_sign decimal) text) ≡ digits_value 10 text = ap (λ xs. digits_value 10 xs) (before_first-none text h) in
+      let rest : decimals_value (after_first (is_decimal_sign decimal) text) ≡ 0 = ap decimals_value (after_first-none text h) in
+      omega (arith, whole, rest)
 
 -- ---- the range
 
@@ -121,6 +123,6 @@ reading_of_money z None h =
     let no : nat_le (unsigned_abs z) most_millionths ≡ false = grind (arith, nat_tests) in
     sym (ap (λ b. if b then Ok z else Err TooLarge) no)
 
-pub number_after_sign-decimal : (negative : Bool) (text : List ℕ) → is_decimal text ≡ true → number_after_sign negative text ≡ Some (signed negative (decimal_value text))
-number_after_sign-decimal negative text h =
-    ap (λ b. if b then Some (signed negative (decimal_value text)) else None) h
+pub number_after_sign-decimal : (decimal : ℕ) (negative : Bool) (text : List ℕ) → is_decimal decimal text ≡ true → number_after_sign decimal negative text ≡ Some (signed negative (decimal_value decimal text))
+number_after_sign-decimal decimal negative text h =
+    ap (λ b. if b then Some (signed negative (decimal_value decimal text)) else None) h

@@ -16,7 +16,7 @@ use Rattle.cube_fixed.specs.declared.reading.NumberFault.{NumberFault}
 use Rattle.cube_fixed.specs.declared.reading.NumberFault.TheVariants.{TooLarge}
 use Rattle.cube_fixed.specs.Range.{IsInRange, most_millionths, unit}
 use Rattle.cube_fixed.specs.Rounding.{nearest}
-use Rattle.cube_fixed.specs.Text.{is_point, is_digits, is_decimal, decimals_value, decimal_value, signed, number_after_sign, number_of, reading_of, fraction_text, printed}
+use Rattle.cube_fixed.specs.Text.{is_decimal_sign, is_digits, is_decimal, decimals_value, decimal_value, signed, number_after_sign, number_with, number_of, reading_of, fraction_text, printed}
 use Rattle.cube_fixed.proofs.Digits.{Starts, starts, decimals, decimals-zero, decimals-step, below_place, fraction_text-pos}
 use Rattle.cube_fixed.proofs.Points.{HasPointAt, any-position, is_decimal-point, decimal_value-point, is_decimal-none, decimal_value-none, number_after_sign-decimal}
 use Rattle.std.proofs.lemmas.Bool.{and_parts as both_true}
@@ -43,26 +43,26 @@ starts_from_length : (ds : List ℕ) → 0 < length ds → Starts ds
 starts_from_length [] h = absurd (omega arith)
 starts_from_length (c ∷ cs) h = (c, cs, refl)
 
-not_point : (c : ℕ) → is_ascii_digit c ≡ true → is_point c ≡ false
+not_point : (c : ℕ) → is_ascii_digit c ≡ true → is_decimal_sign 46 c ≡ false
 not_point c h = grind (arith, nat_tests)
 
 pub not_minus : (c : ℕ) → is_ascii_digit c ≡ true → (c == 45) ≡ false
 not_minus c h = grind (arith, nat_tests)
 
 -- the first point after digits
-position-digits : (ds ys : List ℕ) → list_all is_ascii_digit ds ≡ true → position_or_len is_point (ds ++ ys) ≡ length ds + position_or_len is_point ys
+position-digits : (ds ys : List ℕ) → list_all is_ascii_digit ds ≡ true → position_or_len (is_decimal_sign 46) (ds ++ ys) ≡ length ds + position_or_len (is_decimal_sign 46) ys
 position-digits [] ys h = omega arith
 position-digits (c ∷ cs) ys h =
     let parts = both_true (is_ascii_digit c) (list_all is_ascii_digit cs) h in
     let later = position-digits cs ys parts.1 in
-    ap (λ b. if not b then 1 + position_or_len is_point (cs ++ ys) else 0) (not_point c parts.0) ∙ omega (arith, later)
+    ap (λ b. if not b then 1 + position_or_len (is_decimal_sign 46) (cs ++ ys) else 0) (not_point c parts.0) ∙ omega (arith, later)
 
 -- digits have no point
-no_point-digits : (ds : List ℕ) → list_all is_ascii_digit ds ≡ true → list_any is_point ds ≡ false
+no_point-digits : (ds : List ℕ) → list_all is_ascii_digit ds ≡ true → list_any (is_decimal_sign 46) ds ≡ false
 no_point-digits [] h = refl
 no_point-digits (c ∷ cs) h =
     let parts = both_true (is_ascii_digit c) (list_all is_ascii_digit cs) h in
-    ap (λ b. b || list_any is_point cs) (not_point c parts.0) ∙ no_point-digits cs parts.1
+    ap (λ b. b || list_any (is_decimal_sign 46) cs) (not_point c parts.0) ∙ no_point-digits cs parts.1
 
 -- ---- the decimals
 
@@ -145,8 +145,8 @@ fraction_text-zero = refl
 
 -- an unsigned text that says this size
 record Says (text : List ℕ) (size : ℕ) : Type 0 where
-  decimal_text : is_decimal text ≡ true
-  value : decimal_value text ≡ size
+  decimal_text : is_decimal 46 text ≡ true
+  value : decimal_value 46 text ≡ size
   no_sign : starts_with_minus text ≡ false
 
 digits_start : (ds rest : List ℕ) → Starts ds → list_all is_ascii_digit ds ≡ true → starts_with_minus (ds ++ rest) ≡ false
@@ -162,18 +162,18 @@ says-whole w below =
     let same : ds ++ fraction_text 0 ≡ ds = ap (λ xs. ds ++ xs) fraction_text-zero ∙ append-nil ds in
     let none = no_point-digits ds all in
     record {
-      decimal_text = ap is_decimal same ∙ is_decimal-none ds none ∙ is_digits-from_starts ds some all;
-      value = ap decimal_value same ∙ decimal_value-none ds none ∙ omega (arith, numeral.1);
+      decimal_text = ap (is_decimal 46) same ∙ is_decimal-none 46 ds none ∙ is_digits-from_starts ds some all;
+      value = ap (decimal_value 46) same ∙ decimal_value-none 46 ds none ∙ omega (arith, numeral.1);
       no_sign = digits_start ds (fraction_text 0) some all;
     }
 
-point_after : (ds fs : List ℕ) → list_all is_ascii_digit ds ≡ true → HasPointAt (ds ++ 46 ∷ fs) (length ds)
+point_after : (ds fs : List ℕ) → list_all is_ascii_digit ds ≡ true → HasPointAt 46 (ds ++ 46 ∷ fs) (length ds)
 point_after ds fs all =
     let text = ds ++ 46 ∷ fs in
-    let first : position_or_len is_point text ≡ length ds = position-digits ds (46 ∷ fs) all ∙ omega arith in
+    let first : position_or_len (is_decimal_sign 46) text ≡ length ds = position-digits ds (46 ∷ fs) all ∙ omega arith in
     let within : length ds < length text = omega (arith, length-append ds (46 ∷ fs)) in
-    let test : ltb (position_or_len is_point text) (length text) ≡ true = ap (λ n. ltb n (length text)) first ∙ grind (arith, nat_tests) in
-    record { any = any-position is_point text ∙ test; first = first; within = within }
+    let test : ltb (position_or_len (is_decimal_sign 46) text) (length text) ≡ true = ap (λ n. ltb n (length text)) first ∙ grind (arith, nat_tests) in
+    record { any = any-position (is_decimal_sign 46) text ∙ test; first = first; within = within }
 
 drop-past : (ds fs : List ℕ) → drop (length ds + 1) (ds ++ 46 ∷ fs) ≡ fs
 drop-past ds fs =
@@ -199,9 +199,9 @@ says-parts w f below above small =
     let fraction : decimals_value (drop (length ds + 1) (ds ++ 46 ∷ fs)) ≡ f = ap decimals_value back ∙ decimals_value-decimals f small in
     record {
       decimal_text =
-          ap is_decimal same ∙ is_decimal-point (ds ++ 46 ∷ fs) (length ds) point ∙
+          ap (is_decimal 46) same ∙ is_decimal-point 46 (ds ++ 46 ∷ fs) (length ds) point ∙
           ap (λ b. b && is_digits (drop (length ds + 1) (ds ++ 46 ∷ fs))) whole_digits ∙ decimals_digits;
-      value = ap decimal_value same ∙ decimal_value-point (ds ++ 46 ∷ fs) (length ds) point ∙ omega (arith, whole_value, fraction);
+      value = ap (decimal_value 46) same ∙ decimal_value-point 46 (ds ++ 46 ∷ fs) (length ds) point ∙ omega (arith, whole_value, fraction);
       no_sign = digits_start ds (fraction_text f) some all;
     }
 
@@ -234,15 +234,15 @@ unfolding printed unsigned_text
 printed-negsuc n = refl
 
 number_of-unsigned : (text : List ℕ) (size : ℕ) → Says text size → number_of text ≡ Some (pos size)
-unfolding number_of
+unfolding number_with
 number_of-unsigned text size s =
-    ap (λ b. if b then number_after_sign true (drop 1 text) else number_after_sign false text) s.no_sign ∙
-    number_after_sign-decimal false text s.decimal_text ∙ ap (λ v. Some (signed false v)) s.value
+    ap (λ b. if b then number_after_sign 46 true (drop 1 text) else number_after_sign 46 false text) s.no_sign ∙
+    number_after_sign-decimal 46 false text s.decimal_text ∙ ap (λ v. Some (signed false v)) s.value
 
 number_of-minus : (text : List ℕ) (size : ℕ) → Says text size → number_of (45 ∷ text) ≡ Some (signed true size)
-unfolding number_of
+unfolding number_with
 number_of-minus text size s =
-    number_after_sign-decimal true text s.decimal_text ∙ ap (λ v. Some (signed true v)) s.value
+    number_after_sign-decimal 46 true text s.decimal_text ∙ ap (λ v. Some (signed true v)) s.value
 
 pub number_of-printed : (z : ℤ) → IsInRange z → number_of (printed (Num z)) ≡ Some z
 number_of-printed (pos n) h = ap number_of (printed-pos n) ∙ number_of-unsigned (unsigned_text n) n (says n h)

@@ -1,4 +1,4 @@
--- What 0 does in each operation, and what stands for -k.
+-- What 0 does in each operation, and what -k is.
 use Rattle.std.proofs.Common.{◌≡◌, ◌≢◌, ◌∙◌, ap, refl, arith, lit≤, ℕ, zero, suc, ◌+◌, ◌*◌, ◌^◌, ◌<◌, nat_le, ℤ, pos, negsuc, neg_ℤ, ◌-ℤ◌, ◌*ℤ◌, unsigned_abs, Bool, true, false, if◌then◌else◌}
 use Rattle.std.specs.Ordering.{int_eq}
 use Rattle.std.proofs.lemmas.Bool.Decides.{nat_tests, Decides-int_eq}
@@ -10,7 +10,7 @@ use Rattle.cube_fixed.specs.Range.{IsInRange, most_millionths, unit}
 use Rattle.cube_fixed.specs.Rounding.{nearest, nearest_ratio}
 use Rattle.cube_fixed.specs.Arithmetic.{zero_value, is_zero, fit, sum_of, difference_of, opposite_of, product_of, greater_of, lesser_of, rounded, floor_of, size_of, sign_of}
 use Rattle.cube_fixed.specs.Division.{quotient_of, safe_quotient_of, floor_ratio, remainder_of}
-use Rattle.cube_fixed.specs.Places.{truncated, power_for, rounded_to}
+use Rattle.cube_fixed.specs.Places.{truncated, whole_part, power_of, rounded_to}
 
 -- ---- 0 times anything, and anything times 0
 
@@ -79,10 +79,10 @@ remainder_of-zero_left k h =
 
 -- ---- decimals
 
--- ROUNDP(0, v)
-pub rounded_to-zero : (v : Value) → rounded_to zero_value v ≡ zero_value
+-- ROUNDP(0, n)
+pub rounded_to-zero : (n : ℤ) → rounded_to zero_value (Num n) ≡ zero_value
 unfolding rounded_to
-rounded_to-zero v = of_step (10 ^ power_for v) (one-le-pow (power_for v) 10 (lit≤ tt))
+rounded_to-zero n = of_step (10 ^ power_of (whole_part n)) (one-le-pow (power_of (whole_part n)) 10 (lit≤ tt))
   where
     of_step : (step : ℕ) → 0 < step → fit (nearest_ratio (pos 0) (pos step) *ℤ pos step) ≡ zero_value
     of_step step above =

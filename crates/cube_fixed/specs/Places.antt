@@ -22,11 +22,6 @@ abbrev pub power_of : ℤ → ℕ
 power_of (pos n) = 6 - n
 power_of (negsuc n) = 6 + min (suc n) 14
 
--- the same for a value; Over is greater than every number
-abbrev pub power_for : Value → ℕ
-power_for (Num n) = power_of (whole_part n)
-power_for Over = 0
-
 -- the nearest multiple of this power of ten, in millionths, halves away from zero
 abbrev pub rounded_at : ℕ → Value → Value
 rounded_at power (Num a) = fit (nearest_ratio a (pos (10 ^ power)) *ℤ pos (10 ^ power))
@@ -35,7 +30,8 @@ rounded_at power Over = Over
 -- ROUNDP(a, n): a to n decimals, halves away from zero. A negative n rounds places before the point. The decimals of n
 -- don't count
 unfoldable pub rounded_to : Value → Value → Value
-rounded_to a n = rounded_at (power_for n) a
+rounded_to a (Num n) = rounded_at (power_of (whole_part n)) a
+rounded_to a Over = Over
 
 -- how many decimals are written where n are asked for: its whole part, at least none and at most six
 abbrev pub decimals_of : ℤ → ℕ

@@ -17,41 +17,54 @@ use Rattle.cube_fixed.specs.Places.{rounded_at, decimals_for}
 -- ---- reading
 
 -- the point, `.`
-abbrev pub is_point : ℕ → Bool
-is_point c = c == 46
+abbrev pub decimal_point : ℕ
+decimal_point = 46
+
+-- the byte that stands between units and decimals
+abbrev pub is_decimal_sign : ℕ → ℕ → Bool
+is_decimal_sign decimal c = c == decimal
 
 -- one or more decimal digits
 abbrev pub is_digits : List ℕ → Bool
 is_digits text = not (length text == 0) && list_all is_ascii_digit text
 
--- of an unsigned text: digits, or digits, a point and digits
-abbrev pub is_decimal : List ℕ → Bool
-is_decimal text =
-    if list_any is_point text then is_digits (before_first is_point text) && is_digits (after_first is_point text)
+-- of an unsigned text: digits, or digits, a decimal sign and digits
+abbrev pub is_decimal : ℕ → List ℕ → Bool
+is_decimal decimal text =
+    if list_any (is_decimal_sign decimal) text
+    then is_digits (before_first (is_decimal_sign decimal) text)
+    && is_digits (after_first (is_decimal_sign decimal) text)
     else is_digits text
 
--- how many millionths the decimals after the point are, to the nearest; a half goes up
+-- how many millionths the decimals are, to the nearest; a half goes up
 abbrev pub decimals_value : List ℕ → ℕ
 decimals_value decimals = nearest (digits_value 10 decimals * unit) (10 ^ length decimals)
 
 -- how many millionths such a text is
-abbrev pub decimal_value : List ℕ → ℕ
-decimal_value text =
-    digits_value 10 (before_first is_point text) * unit + decimals_value (after_first is_point text)
+abbrev pub decimal_value : ℕ → List ℕ → ℕ
+decimal_value decimal text =
+    digits_value 10 (before_first (is_decimal_sign decimal) text) * unit
+    + decimals_value (after_first (is_decimal_sign decimal) text)
 
 -- the number of this size
 abbrev pub signed : Bool → ℕ → ℤ
 signed negative size = if negative then neg_ℤ (pos size) else pos size
 
 -- the number that an unsigned text says under this sign
-abbrev pub number_after_sign : Bool → List ℕ → Option ℤ
-number_after_sign negative text = if is_decimal text then Some (signed negative (decimal_value text)) else None
+abbrev pub number_after_sign : ℕ → Bool → List ℕ → Option ℤ
+number_after_sign decimal negative text =
+    if is_decimal decimal text then Some (signed negative (decimal_value decimal text)) else None
 
--- the millionths that a text says: an optional `-`, one or more digits, and optionally `.` and one or more
+-- the millionths that a text says: an optional `-`, one or more digits, and optionally the decimal sign and one or more
 -- digits; None for any other text
-unfoldable pub number_of : List ℕ → Option ℤ
-number_of text =
-    if starts_with_minus text then number_after_sign true (drop 1 text) else number_after_sign false text
+unfoldable pub number_with : ℕ → List ℕ → Option ℤ
+number_with decimal text =
+    if starts_with_minus text then number_after_sign decimal true (drop 1 text)
+    else number_after_sign decimal false text
+
+-- the same with a point for the decimal sign
+abbrev pub number_of : List ℕ → Option ℤ
+number_of = number_with decimal_point
 
 -- what reading answers: the range is tested after rounding
 abbrev pub reading_of : Option ℤ → Result ℤ NumberFault

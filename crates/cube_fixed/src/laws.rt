@@ -16,7 +16,7 @@ pub fn laws_of_zero()
     ensures zero_safely_divided { (v : Value) → safe_quotient_of zero_value v ≡ zero_value }
     ensures safely_divided_by_zero { (v : Value) → safe_quotient_of v zero_value ≡ zero_value }
     ensures zero_remainder { (k : ℤ) → k ≢ pos 0 → remainder_of zero_value (Num k) ≡ zero_value }
-    ensures zero_rounded { (v : Value) → rounded_to zero_value v ≡ zero_value }
+    ensures zero_rounded { (n : ℤ) → rounded_to zero_value (Num n) ≡ zero_value }
     ensures of_two_zeros { PairOfZerosGivesZero }
     ensures of_zero { ZeroGivesZero }
 {}

@@ -5,7 +5,8 @@
 //! - The operations `add`, `sub`, `mul`, `div`, `div_safe`, `remainder`, `max`, `min`, `round`, `round_to`, `floor`,
 //!   `trunc`, `abs` and `sign` are total, exact before one rounding, and take no memory. [`compare`] puts values in
 //!   order.
-//! - [`read`] and [`print`] are a number's text, and [`print_fixed`] writes it with so many decimals.
+//! - [`read`] and [`print`] are a number's text; [`read_with`] reads it with another decimal sign, and [`print_fixed`]
+//!   writes it with so many decimals.
 //! - [`Sum`] is a weighted sum that is exact to its end, and [`Steps`] a count that takes no bytes.
 //! - [`laws_of_zero`] and [`law_of_opposites`] are what sparse evaluation stands on.
 //!
@@ -19,7 +20,7 @@ pub use laws::{law_of_opposites, laws_of_zero};
 pub use money::{Money, UNIT};
 pub use places::{round_to, trunc};
 pub use printing::print;
-pub use reading::{NumberFault, read};
+pub use reading::{DECIMAL_POINT, NumberFault, read, read_with};
 pub use steps::Steps;
 pub use total::Sum;
 pub use value::Value;

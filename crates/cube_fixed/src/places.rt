@@ -1,5 +1,5 @@
 ghost use Rattle.std.specs.Prelude.{◌≡◌, ◌^◌, ◌≤◌, pos};
-ghost use Rattle.cube_fixed.specs.Places.{truncated, rounded_to, rounded_at, power_of, power_for, whole_part};
+ghost use Rattle.cube_fixed.specs.Places.{truncated, rounded_to, rounded_at, power_of, whole_part};
 ghost use Rattle.cube_fixed.specs.Places.{decimals_of, decimals_for};
 
 use crate::money::{Money, UNIT};
@@ -43,16 +43,6 @@ fn power_of(decimals: i64) -> u32
     (most - decimals.clamp(-MAX_PLACES, most)) as u32
 }
 
-fn power_for(a: Value) -> u32
-    ensures value { result ≡ power_for a }
-    ensures bound { result ≤ 20 }
-{
-    match a {
-        Value::Num(a) => power_of(whole_part(a)),
-        Value::Over => 0,
-    }
-}
-
 /// Ten to this power.
 fn ten_to(power: u32) -> i128
     requires { power ≤ 20 }
@@ -77,13 +67,16 @@ pub(crate) fn round_at(power: u32, a: Value) -> Value
     }
 }
 
-/// `a` to `n` decimals, halves away from zero (TM1's `ROUNDP`). A negative `n` rounds places before the point, and the
-/// decimals of `n` don't count.
+/// `a` to `n` decimals, halves away from zero (TM1's `ROUNDP`); `Over` where `a` or `n` is. A negative `n` rounds places
+/// before the point, and the decimals of `n` don't count.
 #[tactic(auto, unfolding(crate::specs::Places::rounded_to))]
 pub fn round_to(a: Value, n: Value) -> Value
     ensures { result ≡ rounded_to a n }
 {
-    round_at(power_for(n), a)
+    match n {
+        Value::Num(n) => round_at(power_of(whole_part(n)), a),
+        Value::Over => Value::Over,
+    }
 }
 
 /// How many decimals are written where `n` are asked for: its whole part, at least none and at most six.

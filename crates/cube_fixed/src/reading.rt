@@ -5,19 +5,22 @@ ghost use Rattle.std.specs.Char.{is_ascii_digit};
 ghost use Rattle.std.specs.Str.Parse.{digits_value};
 ghost use Rattle.cube_fixed.specs.declared.value.Value.TheVariants.{Num};
 ghost use Rattle.cube_fixed.specs.Range.{unit, most_millionths, IsInRange};
-ghost use Rattle.cube_fixed.specs.Text.{is_digits, is_point, is_decimal, decimals_value, decimal_value};
-ghost use Rattle.cube_fixed.specs.Text.{number_after_sign, number_of, printed, reading_of};
+ghost use Rattle.cube_fixed.specs.Text.{is_digits, is_decimal_sign, is_decimal, decimals_value, decimal_value};
+ghost use Rattle.cube_fixed.specs.Text.{number_after_sign, number_with, number_of, printed, reading_of};
 
 use crate::money::{MAX_MILLIONTHS, Money, UNIT};
 
 /// Why a text gives no number.
 #[derive(Clone, Copy, Debug, PartialEq, Eq)]
 pub enum NumberFault {
-    /// The text isn't an optional `-`, one or more digits, and optionally `.` and one or more digits.
+    /// The text isn't an optional `-`, one or more digits, and optionally the decimal sign and one or more digits.
     NotANumber,
     /// The number, rounded to the millionth, is out of range.
     TooLarge,
 }
+
+/// The decimal sign of the program's own texts.
+pub const DECIMAL_POINT: u8 = b'.';
 
 /// One whole unit more than any number in range has.
 const TOO_MANY_UNITS: u64 = 9_000_000_000_001;
@@ -26,34 +29,41 @@ const TOO_MANY_UNITS: u64 = 9_000_000_000_001;
 /// Decimals past the sixth are rounded, halves away from zero, before the range is tested.
 ///
 /// What [`print`](crate::print) writes for a number reads back as that number.
-#[tactic(auto, unfolding(crate::specs::Text::number_of))]
 pub fn read(text: &[u8]) -> Result<Money, NumberFault>
     ensures value { result ≡ reading_of (number_of text.now) }
     ensures round_trip { (m : ℤ) → IsInRange m → text.now ≡ printed (Num m) → result ≡ Ok m }
 {
+    read_with(DECIMAL_POINT, text)
+}
+
+/// The same with this byte for the decimal sign, as files write it.
+#[tactic(auto, unfolding(crate::specs::Text::number_with))]
+pub fn read_with(decimal: u8, text: &[u8]) -> Result<Money, NumberFault>
+    ensures { result ≡ reading_of (number_with decimal text.now) }
+{
     if text.starts_with(b"-") {
-        read_after_sign(true, &text[1..])
+        read_after_sign(decimal, true, &text[1..])
     } else {
-        read_after_sign(false, text)
+        read_after_sign(decimal, false, text)
     }
 }
 
-fn read_after_sign(negative: bool, text: &[u8]) -> Result<Money, NumberFault>
-    ensures { result ≡ reading_of (number_after_sign negative text.now) }
+fn read_after_sign(decimal: u8, negative: bool, text: &[u8]) -> Result<Money, NumberFault>
+    ensures { result ≡ reading_of (number_after_sign decimal negative text.now) }
 {
-    let Some(size) = decimal_size(text) else {
+    let Some(size) = decimal_size(decimal, text) else {
         return Err(NumberFault::NotANumber);
     };
     Money::of(if negative { -size } else { size }).ok_or(NumberFault::TooLarge)
 }
 
 /// The millionths that an unsigned text says, or `MAX_MILLIONTHS + 1` where they are more than any number has.
-fn decimal_size(text: &[u8]) -> Option<i64>
-    ensures value { SomeIff result (IsTrue (is_decimal text.now))
-        (pos (min (decimal_value text.now) (most_millionths + 1))) }
+fn decimal_size(decimal: u8, text: &[u8]) -> Option<i64>
+    ensures value { SomeIff result (IsTrue (is_decimal decimal text.now))
+        (pos (min (decimal_value decimal text.now) (most_millionths + 1))) }
     ensures bound { IfSome result (λ size. size ≤ℤ pos (most_millionths + 1)) }
 {
-    match point_of(text) {
+    match sign_of(decimal, text) {
         Some(at) => {
             let whole = &text[..at];
             let decimals = &text[at + 1..];
@@ -75,11 +85,11 @@ fn capped(millionths: u64) -> i64
     millionths.min(MAX_MILLIONTHS + 1) as i64
 }
 
-/// Where the point is.
-fn point_of(text: &[u8]) -> Option<usize>
-    ensures { result ≡ position is_point text.now }
+/// Where the decimal sign is.
+fn sign_of(decimal: u8, text: &[u8]) -> Option<usize>
+    ensures { result ≡ position (is_decimal_sign decimal) text.now }
 {
-    text.iter().position(|c| *c == b'.')
+    text.iter().position(|c| *c == decimal)
 }
 
 fn all_digits(text: &[u8]) -> bool
@@ -107,7 +117,7 @@ fn units_of(digits: &[u8]) -> u64
     units
 }
 
-/// The millionths that the decimals after the point are, to the nearest; a half goes up.
+/// The millionths that the decimals are, to the nearest; a half goes up.
 fn millionths_of(decimals: &[u8]) -> u64
     requires { IsTrue (list_all is_ascii_digit decimals.now) }
     ensures value { result ≡ decimals_value decimals.now }

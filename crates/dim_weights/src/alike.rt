@@ -7,7 +7,7 @@ use std::alloc::{AllocError, Global};
 use std::collections::BTreeMap;
 
 /// For each element the one that stands in for it: the first with the very same components, which has the same leaves.
-/// A leaf stands for itself.
+/// For a leaf it is the leaf itself.
 pub fn alike_of(alloc: Global, dimension: &Dimension) -> Result<Vec<u32>, AllocError>
     ensures { IfOk result (λ alike. AreAlike dimension.now alike.items) }
 {

@@ -5,6 +5,7 @@ use Rattle.std.proofs.lemmas.List.Elements.{All-append, All-nil}
 use Rattle.rule_laws.specs.declared.operation.Op.{Op}
 use Rattle.rule_laws.specs.declared.operation.Op.TheVariants.{Add, Sub, Mul, DivSafe, Div, Max, Min, Mod, RoundTo}
 use Rattle.rule_laws.specs.declared.operation.Rel.{Rel}
+use Rattle.rule_laws.specs.ZeroTest.{is_sure_number}
 use Rattle.feed_find.specs.declared.chosen.Chosen.{Chosen}
 use Rattle.feed_find.specs.declared.need.Need.{Need}
 use Rattle.feed_find.specs.declared.need.TruthNeed.{TruthNeed}
@@ -28,7 +29,7 @@ module _ (P : Chosen → Type 0) where
   side-all DivSafe a b left right = either-all (not a.by_all.is_zero && b.by_all.is_zero) b.chosen a.chosen right left
   side-all Div a b left right = left
   side-all Mod a b left right = left
-  side-all RoundTo a b left right = left
+  side-all RoundTo a b left right = either-all (is_sure_number b.by_written) a.chosen (a.chosen ++ b.chosen) left (All-append P a.chosen b.chosen left right)
 
   pub binary-all : (op : Op) (a b : Need) → All P a.chosen → All P b.chosen → All P (of_binary op a b).chosen
   binary-all op a b left right = unless-all (of_binary op a b).by_written.is_zero (chosen_side op a b) (side-all op a b left right)

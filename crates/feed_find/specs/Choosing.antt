@@ -12,8 +12,8 @@ use Rattle.rule_laws.specs.declared.formula.Formula.{Formula}
 use Rattle.rule_laws.specs.declared.formula.Truth.{Truth}
 use Rattle.rule_laws.specs.declared.formula.Formula.TheFolds.{fold-Formula, fold-Truth}
 use Rattle.rule_laws.specs.declared.formula.Formula.TheOpen.{Formula-F, Truth-F}
-use Rattle.rule_laws.specs.ZeroTest.{of_number, of_operand, of_continue, of_operation, of_function, of_choice}
-use Rattle.rule_laws.specs.ZeroTest.{sure_and, sure_or, truth_finding_step}
+use Rattle.rule_laws.specs.ZeroTest.{of_number, of_operand, of_table, of_continue, of_operation, of_function}
+use Rattle.rule_laws.specs.ZeroTest.{of_choice, is_sure_number, sure_and, sure_or, truth_finding_step}
 use Rattle.rule_model.specs.declared.area.Area.{Area}
 use Rattle.rule_model.specs.declared.rules.Feeder.{Feeder}
 use Rattle.rule_model.specs.BoundModel.{BoundModel}
@@ -72,7 +72,7 @@ unless false chosen = chosen
 abbrev pub chosen_factor : Need → Need → List Chosen
 chosen_factor a b = if not a.by_all.is_zero && b.by_all.is_zero then b.chosen else a.chosen
 
--- of a sum both sides, of a division and a rounding the left one
+-- of a sum both sides, of a division the left one; of a rounding that too, and the right one where it may be Over
 abbrev pub chosen_side : Op → Need → Need → List Chosen
 chosen_side Add a b = a.chosen ++ b.chosen
 chosen_side Sub a b = a.chosen ++ b.chosen
@@ -82,7 +82,7 @@ chosen_side Mul a b = chosen_factor a b
 chosen_side DivSafe a b = chosen_factor a b
 chosen_side Div a b = a.chosen
 chosen_side Mod a b = a.chosen
-chosen_side RoundTo a b = a.chosen
+chosen_side RoundTo a b = if is_sure_number b.by_written then a.chosen else a.chosen ++ b.chosen
 
 abbrev pub of_binary : Op → Need → Need → Need
 of_binary op a b = record {
@@ -175,7 +175,7 @@ need_step choose Formula-F.Stet n = plain n (of_operand true)
 need_step choose Formula-F.Continue n = plain n of_continue
 need_step choose (Formula-F.Children dim) n = plain (n + 1) (of_operand false)
 need_step choose (Formula-F.Ref r) n = of_reference n r (choose r)
-need_step choose (Formula-F.Table dim table) n = plain n (of_operand false)
+need_step choose (Formula-F.Table dim table) n = plain n of_table
 need_step choose (Formula-F.Binary op a b) n = of_binary op (a n) (b (a n).behind)
 need_step choose (Formula-F.Unary function a) n = of_unary function (a n)
 need_step choose (Formula-F.If truth a b) n =

@@ -1,6 +1,6 @@
 ghost use Rattle.std.specs.Prelude.{◌≡◌, ◌+◌, ◌^◌, ◌<◌, true, length, All, IfOk};
 ghost use Rattle.rule_laws.specs.Meaning.{each_reference, each_reference_of_truth, precedents, truth_precedents};
-ghost use Rattle.rule_laws.specs.ZeroTest.{of_continue, operands, operands_of_truth};
+ghost use Rattle.rule_laws.specs.ZeroTest.{operands, operands_of_truth};
 ghost use Rattle.feed_find.specs.Choosing.{need, truth_need, of_reference};
 ghost use Rattle.feed_find.specs.Views.{IsAsked, IsChosen, IsCounted, IsCountedTruth, IsKept};
 ghost use Rattle.feed_find.specs.Views.{is_askable, choose_from};
@@ -12,22 +12,9 @@ use crate::need::{Need, TruthNeed};
 use crate::needs::{
     of_binary, of_both, of_compare, of_either, of_if, of_opposite, of_reference, of_unary, plain,
 };
-use rule_laws::{Finding, Formula, Reference, Truth};
+use rule_laws::{Formula, Reference, Truth};
 use std::alloc::{AllocError, Global};
-use zero_check::{of_number, of_operand};
-
-// What the zero test finds of `CONTINUE`.
-fn of_continue() -> Finding
-    ensures { result ≡ of_continue }
-{
-    Finding {
-        number: None,
-        written: None,
-        is_zero: true,
-        operands: 0,
-        blamed: 0,
-    }
-}
+use zero_check::{of_continue, of_number, of_operand, of_table};
 
 // What is needed of a reference of an area, behind so many.
 fn reference_need<'a>(
@@ -74,7 +61,7 @@ pub fn needed<'a>(
         Formula::Stet => Ok(plain(alloc, before, of_operand(true))),
         Formula::Continue => Ok(plain(alloc, before, of_continue())),
         Formula::Children(_) => Ok(plain(alloc, before + 1, of_operand(false))),
-        Formula::Table(_, _) => Ok(plain(alloc, before, of_operand(false))),
+        Formula::Table(_, _) => Ok(plain(alloc, before, of_table())),
         Formula::Ref(reference) => reference_need(alloc, asked, reference, before, kept),
         Formula::Binary(op, left, right) => {
             let left = needed(alloc, asked, left.get(), before, kept)?;

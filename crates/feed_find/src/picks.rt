@@ -8,6 +8,7 @@ use crate::need::{Need, TruthNeed};
 use lists::ListOf;
 use rule_laws::Op;
 use std::alloc::{AllocError, Global};
+use zero_check::is_sure_number;
 
 /// What is 0 already needs nothing.
 pub fn unless(alloc: Global, already: bool, chosen: ListOf<Chosen>) -> ListOf<Chosen>
@@ -38,7 +39,9 @@ pub fn chosen_side(op: Op, left: Need, right: Need) -> Result<ListOf<Chosen>, Al
     match op {
         Op::Add | Op::Sub | Op::Max | Op::Min => joined(left.chosen, right.chosen),
         Op::Mul | Op::DivSafe => Ok(chosen_factor(left, right)),
-        Op::Div | Op::Mod | Op::RoundTo => Ok(left.chosen),
+        Op::Div | Op::Mod => Ok(left.chosen),
+        Op::RoundTo if is_sure_number(&right.by_written) => Ok(left.chosen),
+        Op::RoundTo => joined(left.chosen, right.chosen),
     }
 }
 

@@ -11,7 +11,7 @@ use Rattle.grammar.specs.Reading.{take_one}
 use Rattle.cube_lex.specs.Quoted.{unquoted}
 use Rattle.dim_name.specs.Name.{is_name}
 use Rattle.std.specs.Str.Parse.{digits_value}
-use Rattle.cube_fixed.specs.Text.{number_of, reading_of}
+use Rattle.cube_fixed.specs.Text.{number_with, number_of, reading_of}
 use Rattle.std.specs.Result.{result_ok}
 use Rattle.std.proofs.lemmas.Str.{IsUtf8-from_ascii, is_utf8-from_IsUtf8}
 use Rattle.grammar.specs.Tokens.{is_sign_kind, is_word_kind, is_text_kind, is_number_kind, is_sign, is_word, is_whole, is_file, when, sign, word, text, name, whole, money, file, any_word, capitals, capital_word}
@@ -149,7 +149,7 @@ whole_is_value = record { kind = λ t a e. second_of_two (is_text_kind t.kind) (
 
 -- `1`
 pub exact_money : {R C : Type 0} (scan : R → Lexeme → Result R C) → Exact (each_token scan) (one money) (one money) (take_one scan money) Always
-unfolding number_of
+unfolding number_with
 exact_money scan = exact_one scan money (sample_of kinds.Number (49 ∷ [])) (pos 1000000) refl
 
 pub one_ascii : (i : ℕ) → slice_index (97 ∷ []) i < 128

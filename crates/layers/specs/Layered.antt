@@ -61,7 +61,7 @@ abbrev pub IsLayeredHistoryOf : {C L K T R : Type 0} → (C → L → K → Effe
 IsLayeredHistoryOf answer after first layer users told log =
     IsHistoryOf (effect_of answer) after first (all_layered answer after first log layer told users) told log
 
--- what the user is told at these places, where `versions` gives the content at each place
+-- what the user reads at these places, where `versions` gives the content at each place
 abbrev pub told_at : {C L K T R : Type 0} → (C → L → K → Effect T R × L) → (ℕ → C) → L → List ℕ → List K
     → List (Told R)
 told_at answer versions layer [] commands = []

@@ -1,4 +1,4 @@
--- What finding an order comes to.
+-- What finding an order gives.
 use Rattle.std.specs.Prelude.{◌≡◌, ◌<◌, ◌≤◌, IsTrue, List, map, length}
 use Rattle.rule_model.specs.declared.order.Order.{Order}
 use Rattle.rule_model.specs.BoundModel.{BoundModel}

@@ -1,5 +1,5 @@
--- What an element adds to the cell that is read more than to its own cell, where the kinds of both are left out, and the
--- cube of what is read.
+-- What an element adds to the cell that is read more than to its own cell, where the kinds of both are left out;
+-- and the cube of what is read.
 use Rattle.std.specs.Prelude.{ℕ, ◌==◌, Bool, true, if◌then◌else◌, ℤ, pos, ◌-ℤ◌, neg_ℤ, Option, Some, None}
 use Rattle.std.specs.Prelude.{List, length, slice_index_or}
 use Rattle.dim_weights.specs.Table.{is_nonzero}

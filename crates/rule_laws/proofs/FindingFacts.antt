@@ -12,7 +12,7 @@ use Rattle.rule_laws.specs.declared.formula.Formula.{Formula}
 use Rattle.rule_laws.specs.declared.formula.Truth.{Truth}
 use Rattle.rule_laws.specs.declared.formula.Formula.TheOpen.{Formula-F, Truth-F}
 use Rattle.rule_laws.specs.Meaning.{Precedent, Named, Components, precedents_step, truth_precedents_step, precedents, truth_precedents, each_reference_step, each_reference_truth_step, each_reference}
-use Rattle.rule_laws.specs.ZeroTest.{of_function, of_choice, is_divisor, first_blamed, blamed_side, blamed_branch, finding_step, truth_finding_step, finding, truth_finding, operands_step, truth_operands_step, operands}
+use Rattle.rule_laws.specs.ZeroTest.{of_function, of_choice, is_divisor, is_decimals, first_blamed, blamed_side, blamed_branch, finding_step, truth_finding_step, finding, truth_finding, operands_step, truth_operands_step, operands}
 use Rattle.rule_laws.proofs.Folds.{Layers, TruthLayers, by_layers, by_layers_truth}
 use Rattle.rule_laws.proofs.FormulaFacts.{each_left, each_right}
 use Rattle.rule_laws.proofs.SystemFacts.{both}
@@ -83,6 +83,13 @@ divided-within a b left right = by (is_divisor b) refl
     by true is = rw is (omega arith)
     by false is = rw is (omega arith)
 
+rounded-within : (a b : Finding) → a.blamed ≤ a.operands → b.blamed ≤ b.operands → (if is_decimals b then a.blamed else a.operands + b.blamed) ≤ a.operands + b.operands
+rounded-within a b left right = by (is_decimals b) refl
+  where
+    by : (d : Bool) → is_decimals b ≡ d → (if is_decimals b then a.blamed else a.operands + b.blamed) ≤ a.operands + b.operands
+    by true is = rw is (omega arith)
+    by false is = rw is (omega arith)
+
 side-within : (op : Op) (a b : Finding) → a.blamed ≤ a.operands → b.blamed ≤ b.operands → blamed_side op a b ≤ a.operands + b.operands
 side-within Add a b left right = let h = first-within 0 a b left right in omega (arith, h)
 side-within Sub a b left right = let h = first-within 0 a b left right in omega (arith, h)
@@ -90,9 +97,9 @@ side-within Max a b left right = let h = first-within 0 a b left right in omega 
 side-within Min a b left right = let h = first-within 0 a b left right in omega (arith, h)
 side-within Mul a b left right = omega arith
 side-within DivSafe a b left right = omega arith
-side-within RoundTo a b left right = omega arith
 side-within Div a b left right = divided-within a b left right
 side-within Mod a b left right = divided-within a b left right
+side-within RoundTo a b left right = rounded-within a b left right
 
 branch-within : (t : TruthFinding) (a b : Finding) → a.blamed ≤ a.operands → b.blamed ≤ b.operands
     → blamed_branch t a b ≤ t.operands + a.operands + b.operands

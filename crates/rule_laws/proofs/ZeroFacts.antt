@@ -19,10 +19,11 @@ use Rattle.rule_laws.specs.declared.operation.Op.TheVariants.{Add, Sub, Mul, Div
 use Rattle.rule_laws.specs.declared.operation.Fun.{Fun}
 use Rattle.rule_laws.specs.declared.operation.Fun.TheVariants.{Minus, Abs, Sign, Int, Round, Trunc}
 use Rattle.rule_laws.specs.declared.operation.Rel.{Rel}
+use Rattle.cube_fixed.specs.Places.{rounded_to}
 use Rattle.rule_laws.specs.Tables.{number_of}
 use Rattle.rule_laws.specs.Operation.{operation_of, function_of, comparison_of}
 use Rattle.rule_laws.specs.Meaning.{Others, value_step, truth_step, formula_value, Precedent, Named, precedents_step, truth_precedents_step, precedents}
-use Rattle.rule_laws.specs.ZeroTest.{written_as, is_other_than_zero, is_divisor, known_value, sure_comparison, sure_and, sure_or, zero_operation, zero_choice, finding_step, truth_finding_step, zero_test}
+use Rattle.rule_laws.specs.ZeroTest.{written_as, is_other_than_zero, is_divisor, is_sure_number, is_decimals, known_value, sure_comparison, sure_and, sure_or, zero_operation, zero_choice, finding_step, truth_finding_step, zero_test}
 use Rattle.rule_laws.proofs.Folds.{Layers, TruthLayers, by_layers}
 use Rattle.rule_laws.proofs.SystemFacts.{both}
 
@@ -45,11 +46,12 @@ function_of-zero Round = rounded-zero
 function_of-zero Trunc = truncated-zero
 
 -- what is found of a formula with this value: a number that it is written as is its value, so is the value that it is
--- written as, and it is 0 if the test says so
+-- written as, it is 0 if the test says so, and a table has a number
 pub record IsTrueOf (a : Finding) (v : Value) : Type 0 where
   pub number : (k : ℤ) → a.number ≡ Some k → v ≡ Num k
   pub written : (u : Value) → a.written ≡ Some u → v ≡ u
   pub zero : a.is_zero ≡ true → v ≡ zero_value
+  pub table : a.is_table ≡ true → (k : ℤ) × (v ≡ Num k)
 
 -- a test that is sure of a truth has it
 abbrev pub Tells : Option Bool → Bool → Type 0
@@ -91,8 +93,31 @@ divided-zero op v u b keeps zero true_of divisor = by_written b.written refl
     by_written None none = let no : false ≡ true = rw none at divisor in cc
     by_written (Some x) some = let other : is_other_than_zero x ≡ true = rw some at divisor in rw (zero, true_of.written x some) (by_value x other)
 
+-- 0 is 0, rounded to whatever number of decimals
+rounded-number : (u : Value) → (k : ℤ) × (u ≡ Num k) → rounded_to zero_value u ≡ zero_value
+rounded-number u (k, is) = rw is (rounded_to-zero k)
+
+sure-number : (u : Value) (b : Finding) → IsTrueOf b u → is_sure_number b ≡ true → (k : ℤ) × (u ≡ Num k)
+sure-number u b true_of sure = by_table b.is_table refl
+  where
+    by_written : (o : Option Value) → b.written ≡ o → b.is_table ≡ false → (k : ℤ) × (u ≡ Num k)
+    by_written None none no = let off : false ≡ true = rw (none, no) at sure in cc
+    by_written (Some (Num k)) some no = (k, true_of.written (Num k) some)
+    by_written (Some Over) some no = let off : false ≡ true = rw (some, no) at sure in cc
+
+    by_table : (t : Bool) → b.is_table ≡ t → (k : ℤ) × (u ≡ Num k)
+    by_table true yes = true_of.table yes
+    by_table false no = by_written b.written refl no
+
+rounded-zero_by : (u : Value) (b : Finding) → IsTrueOf b u → is_decimals b ≡ true → rounded_to zero_value u ≡ zero_value
+rounded-zero_by u b true_of decimals = by_zero b.is_zero refl
+  where
+    by_zero : (t : Bool) → b.is_zero ≡ t → rounded_to zero_value u ≡ zero_value
+    by_zero true yes = rounded-number u (pos 0, true_of.zero yes)
+    by_zero false no = let sure : is_sure_number b ≡ true = rw no at decimals in rounded-number u (sure-number u b true_of sure)
+
 zero_operation-is : (op : Op) (v u : Value) (za : Bool) (b : Finding) → (za ≡ true → v ≡ zero_value) → IsTrueOf b u
-    → zero_operation op za b.is_zero (is_divisor b) ≡ true → operation_of op v u ≡ zero_value
+    → zero_operation op za b ≡ true → operation_of op v u ≡ zero_value
 zero_operation-is Add v u za b left right e = let h = both za b.is_zero e in rw (left h.0, right.zero h.1) sum_of-zeros
 zero_operation-is Sub v u za b left right e = let h = both za b.is_zero e in rw (left h.0, right.zero h.1) difference_of-zeros
 zero_operation-is Max v u za b left right e = let h = both za b.is_zero e in rw (left h.0, right.zero h.1) greater_of-zeros
@@ -103,7 +128,7 @@ zero_operation-is DivSafe v u true b left right e = rw (left refl) (safe_quotien
 zero_operation-is DivSafe v u false b left right e = rw (right.zero e) (safe_quotient_of-zero_right v)
 zero_operation-is Div v u za b left right e = let h = both za (is_divisor b) e in divided-zero Div v u b quotient_of-zero_left (left h.0) right h.1
 zero_operation-is Mod v u za b left right e = let h = both za (is_divisor b) e in divided-zero Mod v u b remainder_of-zero_left (left h.0) right h.1
-zero_operation-is RoundTo v u za b left right e = rw (left e) (rounded_to-zero u)
+zero_operation-is RoundTo v u za b left right e = let h = both za (is_decimals b) e in rw (left h.0) (rounded-zero_by u b right h.1)
 
 sure_comparison-is : (rel : Rel) (x y : Option Value) (a b : Value) (t : Bool)
     → ((v : Value) → x ≡ Some v → a ≡ v) → ((v : Value) → y ≡ Some v → b ≡ v) → sure_comparison rel x y ≡ Some t → comparison_of rel a b ≡ t
@@ -147,20 +172,21 @@ module _ (covers : Reference → Bool) (named : Reference → Value) (others : O
 
   -- what is written as no number, and is 0 if the test says so
   unwritten : (zero : Bool) (n m : _) (v : Value) → (zero ≡ true → v ≡ zero_value)
-      → IsTrueOf (record { number = None; written = None; is_zero = zero; operands = n; blamed = m }) v
-  unwritten zero n m v is = record { number = λ k e. (cc); written = λ u e. (cc); zero = is }
+      → IsTrueOf (record { number = None; written = None; is_zero = zero; is_table = false; operands = n; blamed = m }) v
+  unwritten zero n m v is = record { number = λ k e. (cc); written = λ u e. (cc); zero = is; table = λ e. (cc) }
 
   layers : Layers precedents_step truth_precedents_step (finding_step covers) truth_finding_step (value_step named others) truth_step Found FoundTruth
-  layers (Formula-F.Number k) zeros = record { number = λ n e. (cc); written = λ u e. (cc); zero = λ e. ap Num ((Decides-int_eq k (pos 0)).0 e) }
+  layers (Formula-F.Number k) zeros = record { number = λ n e. (cc); written = λ u e. (cc); zero = λ e. ap Num ((Decides-int_eq k (pos 0)).0 e); table = λ e. (cc) }
   layers Formula-F.Stet zeros = unwritten true _ _ others.stet (λ e. stet)
   layers Formula-F.Continue zeros = unwritten true _ _ others.rest (λ e. rest)
   layers (Formula-F.Children dim) zeros = unwritten false _ _ (others.children dim) (λ e. cc)
   layers (Formula-F.Ref r) zeros = unwritten (covers r) _ _ (named r) (λ e. zeros r (Contains-push [] (Named r)) e)
-  layers (Formula-F.Table dim table) zeros = unwritten false _ _ (Num (number_of table (others.own dim))) (λ e. cc)
+  layers (Formula-F.Table dim table) zeros =
+      record { number = λ k e. (cc); written = λ u e. (cc); zero = λ e. (cc); table = λ e. (number_of table (others.own dim), refl) }
   layers (Formula-F.Binary op a b) zeros =
       let left = a.holds (left-zero covers named a.x b.x zeros) in
       let right = b.holds (right-zero covers named a.x b.x zeros) in
-      unwritten (zero_operation op a.y.is_zero b.y.is_zero (is_divisor b.y)) _ _ (operation_of op a.z b.z)
+      unwritten (zero_operation op a.y.is_zero b.y) _ _ (operation_of op a.z b.z)
       (zero_operation-is op a.z b.z a.y.is_zero b.y left.zero right)
   layers (Formula-F.Unary function a) zeros =
       let inner = a.holds zeros in
@@ -168,6 +194,7 @@ module _ (covers : Reference → Bool) (named : Reference → Value) (others : O
         number = λ k e. (cc);
         written = λ u e. written_as-is function a.y.number a.z u inner.number e;
         zero = λ e. ap (function_of function) (inner.zero e) ∙ function_of-zero function;
+        table = λ e. (cc);
       }
   layers (Formula-F.If t a b) zeros =
       let front = left-zero covers named (t.x ++ a.x) b.x zeros in

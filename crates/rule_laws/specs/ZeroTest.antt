@@ -39,6 +39,14 @@ is_other_than_zero Over = false
 abbrev pub is_divisor : Finding → Bool
 is_divisor a = option_map_or is_other_than_zero a.written false
 
+abbrev pub is_number : Value → Bool
+is_number (Num k) = true
+is_number Over = false
+
+-- whether a formula never gives Over: one that is written as a number, and a table
+abbrev pub is_sure_number : Finding → Bool
+is_sure_number a = a.is_table || option_map_or is_number a.written false
+
 -- the value that a formula is known to have: the one that it is written as, else 0 where the formula is 0
 abbrev pub known_value : Finding → Option Value
 known_value a = option_or a.written (if a.is_zero then Some zero_value else None)
@@ -65,17 +73,21 @@ sure_or None (Some true) = Some true
 sure_or None (Some false) = None
 sure_or None None = None
 
--- an operation on two formulas, by whether each is 0
-abbrev pub zero_operation : Op → Bool → Bool → Bool → Bool
-zero_operation Add a b divisor = a && b
-zero_operation Sub a b divisor = a && b
-zero_operation Max a b divisor = a && b
-zero_operation Min a b divisor = a && b
-zero_operation Mul a b divisor = a || b
-zero_operation DivSafe a b divisor = a || b
-zero_operation Div a b divisor = a && divisor
-zero_operation Mod a b divisor = a && divisor
-zero_operation RoundTo a b divisor = a
+-- whether a formula may say to how many decimals 0 is rounded, which gives 0: it never gives Over
+abbrev pub is_decimals : Finding → Bool
+is_decimals b = b.is_zero || is_sure_number b
+
+-- whether an operation gives 0, by whether its left side does and by what is found of its right side
+abbrev pub zero_operation : Op → Bool → Finding → Bool
+zero_operation Add a b = a && b.is_zero
+zero_operation Sub a b = a && b.is_zero
+zero_operation Max a b = a && b.is_zero
+zero_operation Min a b = a && b.is_zero
+zero_operation Mul a b = a || b.is_zero
+zero_operation DivSafe a b = a || b.is_zero
+zero_operation Div a b = a && is_divisor b
+zero_operation Mod a b = a && is_divisor b
+zero_operation RoundTo a b = a && is_decimals b
 
 -- an IF, by its condition and by whether each branch is 0
 abbrev pub zero_choice : Option Bool → Bool → Bool → Bool
@@ -87,9 +99,9 @@ zero_choice None a b = a && b
 abbrev pub first_blamed : ℕ → Finding → Finding → ℕ
 first_blamed before a b = if a.is_zero then before + a.operands + b.blamed else before + a.blamed
 
--- an operation that isn't 0: a sum is blamed on its first side that isn't, a product and a rounding on their left side,
--- and a division on its left side or, where its right side is written as no number other than 0, on the first operand
--- of that
+-- an operation that isn't 0: a sum is blamed on its first side that isn't, and a product on its left side. A division is
+-- blamed on its left side or, where its right side is written as no number other than 0, on the first operand of that; a
+-- rounding on its left side or, where its right side may be Over, on the operand of that which isn't 0
 abbrev pub blamed_side : Op → Finding → Finding → ℕ
 blamed_side Add a b = first_blamed 0 a b
 blamed_side Sub a b = first_blamed 0 a b
@@ -99,7 +111,7 @@ blamed_side Mul a b = a.blamed
 blamed_side DivSafe a b = a.blamed
 blamed_side Div a b = if is_divisor b then a.blamed else a.operands + min 1 b.operands
 blamed_side Mod a b = if is_divisor b then a.blamed else a.operands + min 1 b.operands
-blamed_side RoundTo a b = a.blamed
+blamed_side RoundTo a b = if is_decimals b then a.blamed else a.operands + b.blamed
 
 -- an IF that isn't 0: the branch that its condition surely takes, else the first branch that isn't
 abbrev pub blamed_branch : TruthFinding → Finding → Finding → ℕ
@@ -111,20 +123,32 @@ blamed_branch truth a b = by_truth truth.sure
     by_truth None = first_blamed truth.operands a b
 
 abbrev pub of_number : ℤ → Finding
-of_number k = record { number = Some k; written = Some (Num k); is_zero = int_eq k (pos 0); operands = 1; blamed = 1 }
+of_number k = record {
+  number = Some k;
+  written = Some (Num k);
+  is_zero = int_eq k (pos 0);
+  is_table = false;
+  operands = 1;
+  blamed = 1;
+}
 
--- an operand that is no number, and what is no operand
+-- an operand that is neither a number nor a table, a table, and what is no operand
 abbrev pub of_operand : Bool → Finding
-of_operand zero = record { number = None; written = None; is_zero = zero; operands = 1; blamed = 1 }
+of_operand zero =
+    record { number = None; written = None; is_zero = zero; is_table = false; operands = 1; blamed = 1 }
+
+abbrev pub of_table : Finding
+of_table = record { number = None; written = None; is_zero = false; is_table = true; operands = 1; blamed = 1 }
 
 abbrev pub of_continue : Finding
-of_continue = record { number = None; written = None; is_zero = true; operands = 0; blamed = 0 }
+of_continue = record { number = None; written = None; is_zero = true; is_table = false; operands = 0; blamed = 0 }
 
 abbrev pub of_operation : Op → Finding → Finding → Finding
 of_operation op a b = record {
   number = None;
   written = None;
-  is_zero = zero_operation op a.is_zero b.is_zero (is_divisor b);
+  is_zero = zero_operation op a.is_zero b;
+  is_table = false;
   operands = a.operands + b.operands;
   blamed = blamed_side op a b;
 }
@@ -134,6 +158,7 @@ of_function function a = record {
   number = None;
   written = written_as function a.number;
   is_zero = a.is_zero;
+  is_table = false;
   operands = a.operands;
   blamed = a.blamed;
 }
@@ -143,6 +168,7 @@ of_choice truth a b = record {
   number = None;
   written = None;
   is_zero = zero_choice truth.sure a.is_zero b.is_zero;
+  is_table = false;
   operands = truth.operands + a.operands + b.operands;
   blamed = blamed_branch truth a b;
 }
@@ -153,7 +179,7 @@ finding_step covers Formula-F.Stet = of_operand true
 finding_step covers Formula-F.Continue = of_continue
 finding_step covers (Formula-F.Children dim) = of_operand false
 finding_step covers (Formula-F.Ref r) = of_operand (covers r)
-finding_step covers (Formula-F.Table dim table) = of_operand false
+finding_step covers (Formula-F.Table dim table) = of_table
 finding_step covers (Formula-F.Binary op a b) = of_operation op a b
 finding_step covers (Formula-F.Unary function a) = of_function function a
 finding_step covers (Formula-F.If truth a b) = of_choice truth a b

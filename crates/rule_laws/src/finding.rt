@@ -9,7 +9,9 @@ pub struct Finding {
     pub written: Option<Value>,
     /// Whether it is 0 wherever its covered references, `STET` and `CONTINUE` are.
     pub is_zero: bool,
-    /// How many operands it has: its numbers, references, `STET`s and `ConsolidateChildren`s.
+    /// Whether it is a table, which never gives `Over`.
+    pub is_table: bool,
+    /// How many operands it has: its numbers, references, tables, `STET`s and `ConsolidateChildren`s.
     pub operands: u32,
     /// The operand that it is blamed on where it isn't 0, counted from 1 in reading order.
     pub blamed: u32,

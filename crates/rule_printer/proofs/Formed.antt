@@ -6,7 +6,7 @@ use Rattle.std.specs.Char.{is_ascii_digit, to_ascii_uppercase}
 use Rattle.std.specs.Int.{is_in_range, is_negative}
 use Rattle.std.specs.List.{list_all}
 use Rattle.std.specs.Str.Parse.{starts_with_minus}
-use Rattle.cube_fixed.specs.Text.{number_of, number_after_sign, signed, is_decimal, decimal_value}
+use Rattle.cube_fixed.specs.Text.{decimal_point, number_with, number_of, number_after_sign, signed, is_decimal, decimal_value}
 use Rattle.cube_lex.specs.Bytes.{is_quote, is_plain, starts_word, is_word_byte}
 use Rattle.cube_lex.specs.Lexed.{IsWellFormed}
 use Rattle.cube_lex.specs.Lexeme.{Lexeme}
@@ -173,15 +173,15 @@ no_minus [] (inr (whole, fraction, is, _, same)) = absurd (empty whole is same) 
   empty (c ∷ whole) is same = cc
 no_minus (b ∷ rest) is = number_no_minus b rest is
 
-after_plain : (text : List ℕ) (z : ℤ) (b : Bool) → is_decimal text ≡ b → (if b then Some (signed false (decimal_value text)) else None) ≡ Some z → is_negative z ≡ false
-after_plain text z true is e = let same : pos (decimal_value text) ≡ z = cc in subst (λ y. is_negative y ≡ false) same (pos_plain (decimal_value text))
+after_plain : (text : List ℕ) (z : ℤ) (b : Bool) → is_decimal decimal_point text ≡ b → (if b then Some (signed false (decimal_value decimal_point text)) else None) ≡ Some z → is_negative z ≡ false
+after_plain text z true is e = let same : pos (decimal_value decimal_point text) ≡ z = cc in subst (λ y. is_negative y ≡ false) same (pos_plain (decimal_value decimal_point text))
 after_plain text z false is e = cc
 
 plain_number : (piece : List ℕ) (z : ℤ) → IsNumber piece → number_of piece ≡ Some z → is_negative z ≡ false
-unfolding number_of
+unfolding number_with
 plain_number piece z is e =
-    let says : number_after_sign false piece ≡ Some z = sym (ap (λ b. if b then number_after_sign true (drop 1 piece) else number_after_sign false piece) (no_minus piece is)) ∙ e in
-    after_plain piece z (is_decimal piece) refl says
+    let says : number_after_sign decimal_point false piece ≡ Some z = sym (ap (λ b. if b then number_after_sign decimal_point true (drop 1 piece) else number_after_sign point false piece) (no_minus piece is)) ∙ e in
+    after_plain piece z (is_decimal decimal_point piece) refl says
 
 number_kind : (kind : Kind) (piece : List ℕ) → is_number_kind kind ≡ true → IsToken kind piece × (length piece ≤ most_token_bytes) → IsNumber piece
 number_kind kinds.Word piece e h = cc

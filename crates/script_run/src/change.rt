@@ -128,7 +128,7 @@ fn arguments<'a, C: WorkCells>(
 {
     let value = value_of(alloc, value, sight, cells)?;
     let names = texts_of(alloc, names, sight, cells)?;
-    Ok(both(as_amount(alloc, value)?, names))
+    Ok(both(as_amount(value), names))
 }
 
 /// Writes a value into the cell of these names, if that isn't refused.

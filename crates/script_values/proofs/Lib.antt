@@ -1,4 +1,3 @@
-mod PointedTexts
 pub mod Counted
 pub mod CutOut
 pub mod Places

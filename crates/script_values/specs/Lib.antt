@@ -1,5 +1,4 @@
 pub mod Cells
-pub mod Pointed
 pub mod Elements
 pub mod Scene
 pub mod Characters

@@ -6,7 +6,7 @@ use Rattle.cube_fixed.specs.declared.value.Value.{Value}
 use Rattle.cube_fixed.specs.declared.value.Value.TheVariants.{Num, Over}
 use Rattle.cube_fixed.specs.declared.reading.NumberFault.{NumberFault}
 use Rattle.cube_fixed.specs.Arithmetic.{zero_value}
-use Rattle.cube_fixed.specs.Text.{number_of, reading_of, printed, fixed_text}
+use Rattle.cube_fixed.specs.Text.{decimal_point, number_with, reading_of, printed, fixed_text}
 use Rattle.dim_name.specs.Bytes.{space, tab}
 use Rattle.dim_name.specs.Name.{is_same_name}
 use Rattle.rule_laws.specs.declared.operation.Op.{Op}
@@ -28,7 +28,6 @@ use Rattle.script_values.specs.declared.load_reason.LoadReason.TheVariants.{Unkn
 use Rattle.script_values.specs.declared.load_reason.LoadReason.TheVariants.{TypeMismatch, TextLimit}
 use Rattle.script_values.specs.Cells.{Store, Write, reading, is_updateable}
 use Rattle.script_values.specs.Elements.{of_elements, of_element, place_said, kind_text}
-use Rattle.script_values.specs.Pointed.{pointed}
 use Rattle.script_values.specs.Characters.{units_of, character_count, place_in, cut_out}
 use Rattle.script_values.specs.Padding.{width_in, padded}
 use Rattle.script_values.specs.Scene.{Scene}
@@ -59,17 +58,18 @@ abbrev pub amount_read : Result ℤ NumberFault → Result Value LoadReason
 amount_read (Ok millionths) = Ok (Num millionths)
 amount_read (Err fault) = Err NotANumber
 
-abbrev pub amount_said : List ℕ → Result Value LoadReason
-amount_said [] = Ok zero_value
-amount_said (byte ∷ bytes) = amount_read (reading_of (number_of (byte ∷ bytes)))
+abbrev pub amount_said : ℕ → List ℕ → Result Value LoadReason
+amount_said decimal [] = Ok zero_value
+amount_said decimal (byte ∷ bytes) = amount_read (reading_of (number_with decimal (byte ∷ bytes)))
 
--- what a text says as a number, without the spaces and tabs at its ends; an empty one is 0
-abbrev pub amount_in : List ℕ → Result Value LoadReason
-amount_in text = amount_said (trimmed text)
-
--- the same of a column, where this byte stands between units and decimals
+-- what a column says as a number, without the spaces and tabs at its ends, where this byte stands between units and
+-- decimals; an empty one is 0
 abbrev pub column_amount : ℕ → List ℕ → Result Value LoadReason
-column_amount decimal text = amount_said (pointed decimal (trimmed text))
+column_amount decimal text = amount_said decimal (trimmed text)
+
+-- the same of a text, which has a point there
+abbrev pub amount_in : List ℕ → Result Value LoadReason
+amount_in = column_amount decimal_point
 
 -- a datum where a number is wanted
 abbrev pub as_amount : Datum → Result Value LoadReason

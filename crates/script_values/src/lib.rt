@@ -6,7 +6,6 @@
 
 mod cells;
 mod characters;
-mod column_number;
 mod datum;
 mod elements;
 mod kept;

@@ -9,23 +9,18 @@ use crate::datum::Datum;
 use crate::load_reason::LoadReason;
 use crate::same_name::is_same_name;
 use crate::text::Text;
-use crate::wanted::{as_amount, as_said, as_text, as_truth};
+use crate::wanted::{as_said, as_text, as_truth};
 use cube_fixed::{Value, print};
 use rule_laws::{Fun, Op, Rel};
 use std::alloc::{AllocError, Global};
 
 pub(crate) fn function<'a>(
-    alloc: Global,
     function: Fun,
-    given: Result<Datum<'a>, LoadReason>,
-) -> Result<Result<Datum<'a>, LoadReason>, AllocError>
-    ensures { IfOk result (λ answer. answer
-        ≡ values.done (λ value. data_of.Number (function_of function value)) (values.amount given.entry)) }
+    given: Result<Value, LoadReason>,
+) -> Result<Datum<'a>, LoadReason>
+    ensures { result ≡ values.done (λ value. data_of.Number (function_of function value)) given }
 {
-    match as_amount(alloc, given)? {
-        Ok(value) => Ok(Ok(Datum::Number(function.apply(value)))),
-        Err(reason) => Ok(Err(reason)),
-    }
+    Ok(Datum::Number(function.apply(given?)))
 }
 
 pub(crate) fn operation<'a>(
@@ -48,27 +43,19 @@ pub(crate) fn comparison<'a>(
     Ok(Datum::Truth(rel.holds(left?, right?)))
 }
 
-pub(crate) fn number_in<'a>(
-    alloc: Global,
-    given: Result<Datum<'a>, LoadReason>,
-) -> Result<Result<Datum<'a>, LoadReason>, AllocError>
-    ensures { IfOk result (λ answer. answer
-        ≡ values.done (λ value. data_of.Number value) (values.taken values.as_said given.entry)) }
+pub(crate) fn number_in<'a>(given: Result<Datum<'a>, LoadReason>) -> Result<Datum<'a>, LoadReason>
+    ensures { result ≡ values.done (λ value. data_of.Number value) (values.taken values.as_said given.entry) }
 {
-    match as_said(alloc, given)? {
-        Ok(value) => Ok(Ok(Datum::Number(value))),
-        Err(reason) => Ok(Err(reason)),
-    }
+    Ok(Datum::Number(as_said(given)?))
 }
 
 pub(crate) fn text_of<'a>(
     alloc: Global,
-    given: Result<Datum<'a>, LoadReason>,
+    given: Result<Value, LoadReason>,
 ) -> Result<Result<Datum<'a>, LoadReason>, AllocError>
-    ensures { IfOk result (λ answer. answer
-        ≡ values.done (λ value. data_of.Text (printed value)) (values.amount given.entry)) }
+    ensures { IfOk result (λ answer. answer ≡ values.done (λ value. data_of.Text (printed value)) given) }
 {
-    match as_amount(alloc, given)? {
+    match given {
         Ok(value) => {
             let mut bytes = Vec::new(alloc);
             print(alloc, value, &mut bytes)?;

@@ -2,12 +2,11 @@ ghost use Rattle.std.specs.Prelude.{◌≡◌, slice_get, IfOk};
 ghost use Rattle.std.specs.Option.{option_map};
 ghost use Rattle.script_values.specs.Values.{amount, held, column, filled, text};
 
-use crate::column_number::column_amount;
 use crate::datum::Datum;
 use crate::kept::Kept;
 use crate::load_reason::LoadReason;
 use crate::text::Text;
-use crate::wanted::amount_in;
+use crate::wanted::{amount_in, column_amount};
 use cube_fixed::Value;
 use sqlite_items::at;
 use std::alloc::{AllocError, Global};
@@ -110,19 +109,15 @@ impl<'a> Sight<'a> {
     }
 
     /// What a column gives as a number.
-    pub(crate) fn column_amount(
-        &self,
-        alloc: Global,
-        place: usize,
-    ) -> Result<Result<Value, LoadReason>, AllocError>
-        ensures { IfOk result (λ answer. answer ≡ amount (column self.now.decimal place self.now.columns)) }
+    pub(crate) fn column_amount(&self, place: usize) -> Result<Value, LoadReason>
+        ensures { result ≡ amount (column self.now.decimal place self.now.columns) }
     {
         match self.columns {
             Some(columns) => {
                 let text = filled(columns, place);
-                column_amount(alloc, self.decimal, text.as_slice())
+                column_amount(self.decimal, text.as_slice())
             }
-            None => Ok(Err(LoadReason::UnsetVariable)),
+            None => Err(LoadReason::UnsetVariable),
         }
     }
 

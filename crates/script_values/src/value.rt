@@ -64,7 +64,7 @@ pub fn value_of<'a, C: WorkCells>(
         Term::Column(place) => Ok(sight.column(*place)),
         Term::Get(names) => value_in_cell(alloc, names.as_slice(), sight, cells),
         Term::Amount(fun, inner) => {
-            function(alloc, *fun, value_of(alloc, inner.get(), sight, cells)?)
+            Ok(function(*fun, amount_of(alloc, inner.get(), sight, cells)?))
         }
         Term::Amounts(op, left, right) => {
             operated(alloc, *op, left.get(), right.get(), sight, cells)
@@ -72,8 +72,8 @@ pub fn value_of<'a, C: WorkCells>(
         Term::Compare(rel, left, right) => {
             compared(alloc, *rel, left.get(), right.get(), sight, cells)
         }
-        Term::ToNumber(inner) => number_in(alloc, value_of(alloc, inner.get(), sight, cells)?),
-        Term::ToText(inner) => text_of(alloc, value_of(alloc, inner.get(), sight, cells)?),
+        Term::ToNumber(inner) => Ok(number_in(value_of(alloc, inner.get(), sight, cells)?)),
+        Term::ToText(inner) => text_of(alloc, amount_of(alloc, inner.get(), sight, cells)?),
         Term::Altered(fun, inner) => {
             altered(alloc, *fun, value_of(alloc, inner.get(), sight, cells)?)
         }
@@ -142,8 +142,8 @@ fn amount_of<'a, C: WorkCells>(
     match term {
         Term::Number(number) => Ok(Ok(Value::Num(*number))),
         Term::Variable(place) => Ok(sight.amount(*place)),
-        Term::Column(place) => sight.column_amount(alloc, *place),
-        _ => as_amount(alloc, value_of(alloc, term, sight, cells)?),
+        Term::Column(place) => Ok(sight.column_amount(*place)),
+        _ => Ok(as_amount(value_of(alloc, term, sight, cells)?)),
     }
 }
 

@@ -1,12 +1,10 @@
-ghost use Rattle.std.specs.Prelude.{◌≡◌, IfOk};
+ghost use Rattle.std.specs.Prelude.{◌≡◌};
 ghost use Rattle.script_values.specs.Values as values;
 
-use crate::column_number::column_amount;
 use crate::datum::Datum;
 use crate::load_reason::LoadReason;
 use crate::text::Text;
-use cube_fixed::{Value, read};
-use std::alloc::{AllocError, Global};
+use cube_fixed::{DECIMAL_POINT, Value, read_with};
 
 /// Whether a byte is a space or a tab.
 fn is_blank(byte: u8) -> bool
@@ -49,13 +47,13 @@ pub(crate) fn trimmed(text: &[u8]) -> &[u8]
     without_blanks_behind(without_blanks(text))
 }
 
-/// The number that a text says to its last byte. An empty text is 0.
-pub(crate) fn amount_said(text: &[u8]) -> Result<Value, LoadReason>
-    ensures { result ≡ values.amount_said text.now }
+/// The number that a text says to its last byte, with this decimal sign. An empty text is 0.
+fn amount_said(decimal: u8, text: &[u8]) -> Result<Value, LoadReason>
+    ensures { result ≡ values.amount_said decimal text.now }
 {
     match text {
         [] => Ok(Value::ZERO),
-        _ => match read(text) {
+        _ => match read_with(decimal, text) {
             Ok(millionths) => Ok(Value::Num(millionths)),
             Err(_) => Err(LoadReason::NotANumber),
         },
@@ -66,38 +64,37 @@ pub(crate) fn amount_said(text: &[u8]) -> Result<Value, LoadReason>
 pub(crate) fn amount_in(text: &[u8]) -> Result<Value, LoadReason>
     ensures { result ≡ values.amount_in text.now }
 {
-    amount_said(trimmed(text))
+    column_amount(DECIMAL_POINT, text)
+}
+
+/// The same of a column, with this decimal sign.
+pub(crate) fn column_amount(decimal: u8, text: &[u8]) -> Result<Value, LoadReason>
+    ensures { result ≡ values.column_amount decimal text.now }
+{
+    amount_said(decimal, trimmed(text))
 }
 
 /// What is given, as a number.
-pub fn as_amount(
-    alloc: Global,
-    given: Result<Datum<'_>, LoadReason>,
-) -> Result<Result<Value, LoadReason>, AllocError>
-    ensures { IfOk result (λ answer. answer ≡ values.amount given.entry) }
+pub fn as_amount(given: Result<Datum<'_>, LoadReason>) -> Result<Value, LoadReason>
+    ensures { result ≡ values.amount given.entry }
 {
-    match given {
-        Ok(Datum::Number(value)) => Ok(Ok(value)),
-        Ok(Datum::Text(text)) => Ok(amount_in(text.as_slice())),
-        Ok(Datum::Column(text, decimal)) => column_amount(alloc, decimal, text.as_slice()),
-        Ok(Datum::Truth(_)) => Ok(Err(LoadReason::TypeMismatch)),
-        Err(reason) => Ok(Err(reason)),
+    match given? {
+        Datum::Number(value) => Ok(value),
+        Datum::Text(text) => amount_in(text.as_slice()),
+        Datum::Column(text, decimal) => column_amount(decimal, text.as_slice()),
+        Datum::Truth(_) => Err(LoadReason::TypeMismatch),
     }
 }
 
 /// The number that is said by what is given, which is a text.
-pub(crate) fn as_said(
-    alloc: Global,
-    given: Result<Datum<'_>, LoadReason>,
-) -> Result<Result<Value, LoadReason>, AllocError>
-    ensures { IfOk result (λ answer. answer ≡ values.taken values.as_said given.entry) }
+pub(crate) fn as_said(given: Result<Datum<'_>, LoadReason>) -> Result<Value, LoadReason>
+    ensures { result ≡ values.taken values.as_said given.entry }
 {
-    match given {
-        Ok(Datum::Text(text)) => Ok(amount_in(text.as_slice())),
-        Ok(Datum::Column(text, decimal)) => column_amount(alloc, decimal, text.as_slice()),
-        Ok(Datum::Number(_)) => Ok(Err(LoadReason::TypeMismatch)),
-        Ok(Datum::Truth(_)) => Ok(Err(LoadReason::TypeMismatch)),
-        Err(reason) => Ok(Err(reason)),
+    match given? {
+        Datum::Text(text) => amount_in(text.as_slice()),
+        Datum::Column(text, decimal) => column_amount(decimal, text.as_slice()),
+        Datum::Number(_) => Err(LoadReason::TypeMismatch),
+        Datum::Truth(_) => Err(LoadReason::TypeMismatch),
     }
 }
 

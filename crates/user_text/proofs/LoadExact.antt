@@ -10,7 +10,8 @@ use Rattle.grammar.proofs.Begins.{Begins, begins_both, begins_optional, exact_or
 use Rattle.grammar.proofs.After.{exact_rest_after}
 use Rattle.grammar.proofs.Tokens.{exact_sign, exact_word, exact_name, exact_file, exact_text, exact_whole_number, sign_begins, word_begins, text_begins, sign_no_text, money_no_text}
 use Rattle.user_text.specs.Counting.{count, counting}
-use Rattle.user_text.specs.FileSigns.{comma, decimal_point, separator, decimal}
+use Rattle.cube_fixed.specs.Text.{decimal_point}
+use Rattle.user_text.specs.FileSigns.{comma, separator, decimal}
 use Rattle.user_text.specs.UserText.{Source, skip, given_source, source, value, param, next_param, params_behind, with_params, loading, load}
 use Rattle.user_text.specs.Readers.Reading.{read_skip, read_separator, read_decimal, read_given_source, read_source, read_value, read_param, read_next_param, read_further_params, read_params, read_load}
 use Rattle.user_text.specs.declared.command.ParamText.{ParamText}

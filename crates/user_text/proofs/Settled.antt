@@ -4,7 +4,7 @@ use Rattle.grammar.specs.Tokens.{is_sign, is_word}
 use Rattle.grammar.proofs.Lists.{listed_settles, names_settle, minus_settles}
 use Rattle.grammar.proofs.Settles.{Settles, settles_one, settles_gives, settles_both, settles_choose, settles_all, settles_all_after}
 use Rattle.user_text.specs.Counting.{count}
-use Rattle.user_text.specs.FileSigns.{decimal_point}
+use Rattle.cube_fixed.specs.Text.{decimal_point}
 use Rattle.user_text.specs.Readers.Reading.{is_command_word, read_cell, read_amount, read_put, read_get, read_skip, read_given_separator, read_separator, read_given_decimal, read_decimal_by, read_decimal, read_given_source, read_source, read_value, read_param, read_next_param, read_further_params, read_params, read_load, read_elements, read_set, read_next_set, read_axis, read_point, read_points, read_nozeros, read_view, read_spread_word, read_spread, read_trace, read_alone, read_of_sandboxes, read_command, read_user}
 use Rattle.user_text.specs.declared.command.ParamText.{ParamText}
 use Rattle.user_text.specs.declared.command.UserBody.{UserBody}

@@ -13,7 +13,8 @@ use Rattle.grammar.proofs.Tokens.{and_is, exact_word, sample_of, when_picks, wor
 use Rattle.std.specs.Str.{str_eq_ignore_ascii_case}
 use Rattle.std.proofs.lemmas.Bool.{eqb-true}
 use Rattle.user_text.specs.Counting.{count, counting}
-use Rattle.user_text.specs.FileSigns.{comma, tab, decimal_point, sign_in, sign_text, sign_but, given_separator, separator, given_decimal, decimal_by, decimal}
+use Rattle.cube_fixed.specs.Text.{decimal_point}
+use Rattle.user_text.specs.FileSigns.{comma, tab, sign_in, sign_text, sign_but, given_separator, separator, given_decimal, decimal_by, decimal}
 use Rattle.user_text.specs.Readers.Reading.{read_given_separator, read_separator, read_given_decimal, read_decimal_by, read_decimal}
 
 -- ---- columns

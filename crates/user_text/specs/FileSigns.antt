@@ -2,6 +2,7 @@
 use Rattle.std.specs.Prelude.{ℕ, Bool, true, false, ◌||◌, ◌==◌, if◌then◌else◌, List, [], ◌∷◌, Option, Some, None, codes}
 use Rattle.std.specs.Char.{is_ascii_digit}
 use Rattle.cube_lex.specs.Lexeme.{Lexeme}
+use Rattle.cube_fixed.specs.Text.{decimal_point}
 use Rattle.cube_lex.specs.Quoted.{unquoted}
 use Rattle.grammar.specs.Grammar.{Grammar, done, one, either, ◌>>◌}
 use Rattle.grammar.specs.Tokens.{word, is_text_kind}
@@ -10,13 +11,9 @@ use Rattle.grammar.specs.Tokens.{word, is_text_kind}
 abbrev pub comma : ℕ
 comma = 44
 
--- what the word TAB stands for
+-- what the word TAB means
 abbrev pub tab : ℕ
 tab = 9
-
--- between units and decimals, where a load says nothing else
-abbrev pub decimal_point : ℕ
-decimal_point = 46
 
 -- what a file has for something else than these signs: digits, `+` and `-`, `"`, and what ends a line
 abbrev pub has_other_use : ℕ → Bool

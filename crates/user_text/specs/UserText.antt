@@ -10,7 +10,8 @@ use Rattle.grammar.specs.After.{many_after}
 use Rattle.grammar.specs.Lists.{listed, minus, names}
 use Rattle.grammar.specs.Tokens.{sign, word, whole, name, text, money, file, when, is_word_kind, capitals}
 use Rattle.grammar.specs.Variables.{is_variable}
-use Rattle.user_text.specs.FileSigns.{comma, decimal_point, separator, decimal}
+use Rattle.cube_fixed.specs.Text.{decimal_point}
+use Rattle.user_text.specs.FileSigns.{comma, separator, decimal}
 use Rattle.user_text.specs.declared.command.CellText.{CellText}
 use Rattle.user_text.specs.declared.command.ParamText.{ParamText}
 use Rattle.user_text.specs.declared.command.ParamText.TheVariants as params

@@ -8,6 +8,7 @@ ghost use Rattle.user_text.specs.Readers.Reading as reading;
 
 use crate::counted::Counted;
 use crate::fault::TooMany;
+use cube_fixed::DECIMAL_POINT;
 use cube_lex::{Kind, Token, unquoted};
 use grammar::{Cursor, Stop, text_comes, word, word_comes};
 use std::alloc::{AllocError, Global};
@@ -15,10 +16,7 @@ use std::alloc::{AllocError, Global};
 /// Between columns, where a load says nothing else.
 pub const COMMA: u8 = b',';
 
-/// Between units and decimals, where a load says nothing else.
-pub const POINT: u8 = b'.';
-
-/// What the word TAB stands for.
+/// What the word TAB means.
 const TAB: u8 = b'\t';
 
 /// Whether a file has the byte for something else than these signs.
@@ -132,11 +130,11 @@ pub fn decimal_at(
 ) -> Result<u8, Stop<TooMany>>
     ensures { Reads (λ byte. byte) (reading.read_decimal separator) cursor.old result cursor.new }
 {
-    if separator == POINT {
+    if separator == DECIMAL_POINT {
         given_decimal(alloc, cursor, separator)
     } else if word_comes(cursor, b"DECIMAL") {
         given_decimal(alloc, cursor, separator)
     } else {
-        Ok(POINT)
+        Ok(DECIMAL_POINT)
     }
 }

@@ -5,8 +5,9 @@ ghost use Rattle.user_text.specs.Readers.Reading as reading;
 use crate::command::{LoadText, UserBody, UserCommand};
 use crate::counted::Counted;
 use crate::fault::TooMany;
-use crate::file_signs::{COMMA, POINT, decimal_at, separator_at};
+use crate::file_signs::{COMMA, decimal_at, separator_at};
 use crate::params::params_at;
+use cube_fixed::DECIMAL_POINT;
 use grammar::{Cursor, Stop, file, name, sign, whole, word, word_comes};
 use lists::ListOf;
 use std::alloc::Global;
@@ -49,7 +50,7 @@ fn source_at(alloc: Global, cursor: &mut Cursor<'_, Counted>) -> Result<Source, 
     if word_comes(cursor, b"FROM") {
         given_source(alloc, cursor)
     } else {
-        Ok((None, 0, COMMA, POINT))
+        Ok((None, 0, COMMA, DECIMAL_POINT))
     }
 }
 

@@ -1,7 +1,7 @@
 ghost use Rattle.std.specs.Prelude.{◌≡◌, ◌+◌, ◌^◌, ◌<◌, ◌≤◌};
 ghost use Rattle.rule_laws.specs.ZeroTest.{first_blamed, blamed_side, blamed_branch};
 
-use crate::operation::is_divisor;
+use crate::operation::{is_decimals, is_divisor};
 use rule_laws::{Finding, Op, TruthFinding};
 
 /// Of two formulas that stand after so many operands: the operand of the first that isn't 0.
@@ -29,9 +29,11 @@ pub fn blamed_side(op: Op, left: &Finding, right: &Finding) -> u32
 {
     match op {
         Op::Add | Op::Sub | Op::Max | Op::Min => first_blamed(0, left, right),
-        Op::Mul | Op::DivSafe | Op::RoundTo => left.blamed,
+        Op::Mul | Op::DivSafe => left.blamed,
         Op::Div | Op::Mod if is_divisor(right) => left.blamed,
         Op::Div | Op::Mod => left.operands + u32::min(1, right.operands),
+        Op::RoundTo if is_decimals(right) => left.blamed,
+        Op::RoundTo => left.operands + right.blamed,
     }
 }
 

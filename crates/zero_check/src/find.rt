@@ -1,12 +1,13 @@
 ghost use Rattle.std.specs.Prelude.{◌≡◌, ◌+◌, ◌^◌, ◌<◌, ◌≤◌, true};
 ghost use Rattle.rule_laws.specs.Meaning.{each_reference, each_reference_of_truth};
-ghost use Rattle.rule_laws.specs.ZeroTest.{of_number, of_operand, of_operation, of_function, of_choice};
+ghost use Rattle.rule_laws.specs.ZeroTest.{of_number, of_operand, of_table, of_continue};
+ghost use Rattle.rule_laws.specs.ZeroTest.{of_operation, of_function, of_choice};
 ghost use Rattle.rule_laws.specs.ZeroTest.{finding, truth_finding, operands, operands_of_truth, zero_verdict};
 
 use crate::blame::{blamed_branch, blamed_side};
 use crate::cover::Cover;
 use crate::operation::{
-    is_divisor, known_value, sure_and, sure_comparison, sure_not, sure_or, written_as, zero_choice,
+    known_value, sure_and, sure_comparison, sure_not, sure_or, written_as, zero_choice,
     zero_operation,
 };
 use cube_fixed::{Money, Value};
@@ -20,12 +21,13 @@ pub fn of_number(number: Money) -> Finding
         number: Some(number),
         written: Some(Value::Num(number)),
         is_zero: number.millionths() == 0,
+        is_table: false,
         operands: 1,
         blamed: 1,
     }
 }
 
-/// What is found of an operand that is no number, by whether it is 0.
+/// What is found of an operand that is neither a number nor a table, by whether it is 0.
 pub fn of_operand(is_zero: bool) -> Finding
     ensures { result ≡ of_operand is_zero }
 {
@@ -33,8 +35,37 @@ pub fn of_operand(is_zero: bool) -> Finding
         number: None,
         written: None,
         is_zero,
+        is_table: false,
         operands: 1,
         blamed: 1,
+    }
+}
+
+/// What is found of a table.
+pub fn of_table() -> Finding
+    ensures { result ≡ of_table }
+{
+    Finding {
+        number: None,
+        written: None,
+        is_zero: false,
+        is_table: true,
+        operands: 1,
+        blamed: 1,
+    }
+}
+
+/// What is found of `CONTINUE`, which is no operand.
+pub fn of_continue() -> Finding
+    ensures { result ≡ of_continue }
+{
+    Finding {
+        number: None,
+        written: None,
+        is_zero: true,
+        is_table: false,
+        operands: 0,
+        blamed: 0,
     }
 }
 
@@ -49,7 +80,8 @@ pub fn of_operation(op: Op, left: &Finding, right: &Finding) -> Finding
     Finding {
         number: None,
         written: None,
-        is_zero: zero_operation(op, left.is_zero, right.is_zero, is_divisor(right)),
+        is_zero: zero_operation(op, left.is_zero, right),
+        is_table: false,
         operands: left.operands + right.operands,
         blamed: blamed_side(op, left, right),
     }
@@ -63,6 +95,7 @@ pub fn of_function(fun: Fun, inner: &Finding) -> Finding
         number: None,
         written: written_as(fun, inner.number),
         is_zero: inner.is_zero,
+        is_table: false,
         operands: inner.operands,
         blamed: inner.blamed,
     }
@@ -80,6 +113,7 @@ pub fn of_choice(truth: &TruthFinding, left: &Finding, right: &Finding) -> Findi
         number: None,
         written: None,
         is_zero: zero_choice(truth.sure, left.is_zero, right.is_zero),
+        is_table: false,
         operands: truth.operands + left.operands + right.operands,
         blamed: blamed_branch(truth, left, right),
     }
@@ -100,14 +134,9 @@ pub fn finding<K, C: Cover<K>>(cover: &C, formula: &Formula, kept: &mut K) -> Fi
     match formula {
         Formula::Number(number) => of_number(*number),
         Formula::Stet => of_operand(true),
-        Formula::Continue => Finding {
-            number: None,
-            written: None,
-            is_zero: true,
-            operands: 0,
-            blamed: 0,
-        },
-        Formula::Children(_) | Formula::Table(_, _) => of_operand(false),
+        Formula::Continue => of_continue(),
+        Formula::Children(_) => of_operand(false),
+        Formula::Table(_, _) => of_table(),
         Formula::Ref(reference) => of_operand(cover.covers(reference, kept)),
         Formula::Binary(op, left, right) => {
             let left = finding(cover, left.get(), kept);

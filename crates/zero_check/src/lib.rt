@@ -9,12 +9,12 @@ pub use blame::{blamed_branch, blamed_side};
 pub use count::{operands, operands_of_truth};
 pub use cover::Cover;
 pub use find::{
-    finding, of_choice, of_function, of_number, of_operand, of_operation, truth_finding,
-    zero_verdict,
+    finding, of_choice, of_continue, of_function, of_number, of_operand, of_operation, of_table,
+    truth_finding, zero_verdict,
 };
 pub use operation::{
-    is_divisor, known_value, sure_and, sure_comparison, sure_not, sure_or, written_as, zero_choice,
-    zero_operation,
+    is_divisor, is_sure_number, known_value, sure_and, sure_comparison, sure_not, sure_or,
+    written_as, zero_choice, zero_operation,
 };
 
 mod blame;

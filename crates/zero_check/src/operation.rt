@@ -1,21 +1,21 @@
 ghost use Rattle.std.specs.Prelude.{◌≡◌, not};
 ghost use Rattle.std.specs.Option.{option_map};
 ghost use Rattle.rule_laws.specs.ZeroTest.{written_as, is_other_than_zero, is_divisor, known_value};
+ghost use Rattle.rule_laws.specs.ZeroTest.{is_number, is_sure_number, is_decimals};
 ghost use Rattle.rule_laws.specs.ZeroTest.{sure_comparison, sure_and, sure_or, zero_operation, zero_choice};
 
 use cube_fixed::{Money, Value, sub};
 use rule_laws::{Finding, Fun, Op, Rel};
 
-/// Whether an operation gives 0, by whether each side is 0 and whether the right one is written as a number other
-/// than 0.
-pub fn zero_operation(op: Op, left: bool, right: bool, divisor: bool) -> bool
-    ensures { result ≡ zero_operation op left right divisor }
+/// Whether an operation gives 0, by whether its left side does and by what is found of its right side.
+pub fn zero_operation(op: Op, left: bool, right: &Finding) -> bool
+    ensures { result ≡ zero_operation op left right.now }
 {
     match op {
-        Op::Add | Op::Sub | Op::Max | Op::Min => left && right,
-        Op::Mul | Op::DivSafe => left || right,
-        Op::Div | Op::Mod => left && divisor,
-        Op::RoundTo => left,
+        Op::Add | Op::Sub | Op::Max | Op::Min => left && right.is_zero,
+        Op::Mul | Op::DivSafe => left || right.is_zero,
+        Op::Div | Op::Mod => left && is_divisor(right),
+        Op::RoundTo => left && is_decimals(right),
     }
 }
 
@@ -61,6 +61,32 @@ pub fn is_divisor(formula: &Finding) -> bool
         Some(value) => is_other_than_zero(value),
         None => false,
     }
+}
+
+fn is_number(value: Value) -> bool
+    ensures { result ≡ is_number value }
+{
+    match value {
+        Value::Num(_) => true,
+        Value::Over => false,
+    }
+}
+
+/// Whether a formula never gives `Over`: one that is written as a number, and a table.
+pub fn is_sure_number(formula: &Finding) -> bool
+    ensures { result ≡ is_sure_number formula.now }
+{
+    match formula.written {
+        Some(value) => formula.is_table || is_number(value),
+        None => formula.is_table,
+    }
+}
+
+/// Whether a formula may say to how many decimals 0 is rounded, which gives 0.
+pub fn is_decimals(formula: &Finding) -> bool
+    ensures { result ≡ is_decimals formula.now }
+{
+    formula.is_zero || is_sure_number(formula)
 }
 
 /// The value that a formula is known to have: the one that it is written as, else 0 where the formula is 0.

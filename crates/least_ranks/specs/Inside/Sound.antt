@@ -87,7 +87,7 @@ pub record IsSound (graph : Arrows) (trail : Trail) : Type 0 where
   pub ranked : AreRanked graph trail.states
   pub small : AreSmall graph trail
 
--- a walk only comes to more nodes
+-- a walk only reaches more nodes
 abbrev pub IsLater : Trail → Trail → Type 0
 IsLater old new = (node : ℕ) → is_new (state_of old node) ≡ false → is_new (state_of new node) ≡ false
 

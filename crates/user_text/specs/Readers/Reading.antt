@@ -6,7 +6,8 @@ use Rattle.grammar.specs.After.{all_after}
 use Rattle.grammar.specs.Lists.{read_listed, read_minus, read_names}
 use Rattle.grammar.specs.Tokens.{sign, word, whole, name, text, money, file, is_sign, is_word, is_text}
 use Rattle.user_text.specs.Counting.{count}
-use Rattle.user_text.specs.FileSigns.{comma, tab, decimal_point, sign_text, sign_but}
+use Rattle.cube_fixed.specs.Text.{decimal_point}
+use Rattle.user_text.specs.FileSigns.{comma, tab, sign_text, sign_but}
 use Rattle.user_text.specs.UserText.{Source, signed, new_variable, loading, viewing}
 use Rattle.user_text.specs.declared.command.CellText.{CellText}
 use Rattle.user_text.specs.declared.command.ParamText.{ParamText}

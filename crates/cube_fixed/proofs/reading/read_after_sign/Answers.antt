@@ -10,7 +10,7 @@ use Rattle.cube_fixed.proofs.reading.read_after_sign.Goals.{then-negative, else-
 pub returns : goal.returns
 returns c =
     let text = c.args.text.now in
-    let size = min (decimal_value text) (most_millionths + 1) in
+    let size = min (decimal_value c.args.decimal text) (most_millionths + 1) in
     let size_is = c.in-Some.ensures.value.1 in
     let bound = c.in-Some.ensures.bound in
     let z = to_z w64 c.if-negative.of-bits in
@@ -23,5 +23,5 @@ returns c =
           e ∙ ap (λ b. signed b size) (sym w.if-negative.false)
     ] in
     c.ok_or.ensures.value ∙ reading_of_money z c.of.result c.of.ensures ∙
-    ap (λ x. reading_of (Some x)) z_is ∙ capped_reading c.args.negative (decimal_value text) ∙
-    ap reading_of (sym (number_after_sign-decimal c.args.negative text c.in-Some.ensures.value.0))
+    ap (λ x. reading_of (Some x)) z_is ∙ capped_reading c.args.negative (decimal_value c.args.decimal text) ∙
+    ap reading_of (sym (number_after_sign-decimal c.args.decimal c.args.negative text c.in-Some.ensures.value.0))
