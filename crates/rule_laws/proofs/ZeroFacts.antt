@@ -101,20 +101,20 @@ sure-number : (u : Value) (b : Finding) → IsTrueOf b u → is_sure_number b �
 sure-number u b true_of sure = by_table b.is_table refl
   where
     by_written : (o : Option Value) → b.written ≡ o → b.is_table ≡ false → (k : ℤ) × (u ≡ Num k)
-    by_written None none no = let off : false ≡ true = rw (none, no) at sure in cc
-    by_written (Some (Num k)) some no = (k, true_of.written (Num k) some)
-    by_written (Some Over) some no = let off : false ≡ true = rw (some, no) at sure in cc
+    by_written None none isnt = let off : false ≡ true = rw (none, isnt) at sure in cc
+    by_written (Some (Num k)) some isnt = (k, true_of.written (Num k) some)
+    by_written (Some Over) some isnt = let off : false ≡ true = rw (some, isnt) at sure in cc
 
     by_table : (t : Bool) → b.is_table ≡ t → (k : ℤ) × (u ≡ Num k)
-    by_table true yes = true_of.table yes
-    by_table false no = by_written b.written refl no
+    by_table true is = true_of.table is
+    by_table false isnt = by_written b.written refl isnt
 
 rounded-zero_by : (u : Value) (b : Finding) → IsTrueOf b u → is_decimals b ≡ true → rounded_to zero_value u ≡ zero_value
 rounded-zero_by u b true_of decimals = by_zero b.is_zero refl
   where
     by_zero : (t : Bool) → b.is_zero ≡ t → rounded_to zero_value u ≡ zero_value
-    by_zero true yes = rounded-number u (pos 0, true_of.zero yes)
-    by_zero false no = let sure : is_sure_number b ≡ true = rw no at decimals in rounded-number u (sure-number u b true_of sure)
+    by_zero true is = rounded-number u (pos 0, true_of.zero is)
+    by_zero false isnt = let sure : is_sure_number b ≡ true = rw isnt at decimals in rounded-number u (sure-number u b true_of sure)
 
 zero_operation-is : (op : Op) (v u : Value) (za : Bool) (b : Finding) → (za ≡ true → v ≡ zero_value) → IsTrueOf b u
     → zero_operation op za b ≡ true → operation_of op v u ≡ zero_value
