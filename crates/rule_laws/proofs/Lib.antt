@@ -1,4 +1,5 @@
 pub mod MapFacts
+pub mod MarkFacts
 pub mod Folds
 pub mod FormulaFolds
 pub mod FormulaFacts

@@ -1,2 +1,3 @@
 -- What the code keeps. No public clause cites it.
 pub mod Maps
+pub mod Tables
