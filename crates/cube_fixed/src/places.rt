@@ -67,8 +67,8 @@ pub(crate) fn round_at(power: u32, a: Value) -> Value
     }
 }
 
-/// `a` to `n` decimals, halves away from zero (TM1's `ROUNDP`); `Over` where `a` or `n` is. A negative `n` rounds places
-/// before the point, and the decimals of `n` don't count.
+/// `a` to `n` decimals, halves away from zero (TM1's `ROUNDP`); `Over` where `a` or `n` is. A negative `n` rounds
+/// places before the point, and the decimals of `n` don't count.
 #[tactic(auto, unfolding(crate::specs::Places::rounded_to))]
 pub fn round_to(a: Value, n: Value) -> Value
     ensures { result ≡ rounded_to a n }

@@ -99,9 +99,9 @@ zero_choice None a b = a && b
 abbrev pub first_blamed : ℕ → Finding → Finding → ℕ
 first_blamed before a b = if a.is_zero then before + a.operands + b.blamed else before + a.blamed
 
--- an operation that isn't 0: a sum is blamed on its first side that isn't, and a product on its left side. A division is
--- blamed on its left side or, where its right side is written as no number other than 0, on the first operand of that; a
--- rounding on its left side or, where its right side may be Over, on the operand of that which isn't 0
+-- an operation that isn't 0: a sum is blamed on its first side that isn't, and a product on its left side. A division
+-- is blamed on its left side or, where its right side is written as no number other than 0, on the first operand of
+-- that; a rounding on its left side or, where its right side may be Over, on the operand of that which isn't 0
 abbrev pub blamed_side : Op → Finding → Finding → ℕ
 blamed_side Add a b = first_blamed 0 a b
 blamed_side Sub a b = first_blamed 0 a b
