@@ -11,7 +11,8 @@ use Rattle.cube_fixed.specs.Text.{number_of, reading_of}
 use Rattle.dim_core.specs.Outline.{Outline}
 use Rattle.dim_core.specs.declared.attribute.Attribute.{Attribute}
 use Rattle.dim_name.specs.Name.{key_of}
-use Rattle.bind_arguments.specs.Numbers.{is_component, is_below, number_for, numbers_over, read_or_zero, IsTableIn, AreTablesIn}
+use Rattle.bind_arguments.specs.Family.{is_component}
+use Rattle.bind_arguments.specs.Numbers.{is_below, number_for, numbers_over, read_or_zero, IsTableIn, AreTablesIn}
 use Rattle.bind_arguments.specs.declared.element_function.ElementFunction.{ElementFunction}
 use Rattle.bind_arguments.specs.declared.element_function.ElementFunction.TheVariants as functions
 use Rattle.bind_arguments.specs.declared.bound_tables.BoundTable.{BoundTable}

@@ -1,3 +1,4 @@
 pub mod Reading
 pub mod Within
 pub mod Moves
+pub mod Kin

@@ -10,6 +10,7 @@
 pub use argument::bind_argument;
 pub use bound_maps::BoundMaps;
 pub use element_function::ElementFunction;
+pub use element_text::ElementText;
 pub use fault::ArgumentFault;
 pub use naming::attribute_named;
 
@@ -20,10 +21,14 @@ mod bound_argument;
 mod bound_maps;
 mod bound_tables;
 mod element_function;
+mod element_text;
 mod fault;
 mod giving;
 mod marks;
 mod naming;
 mod numbers;
 mod own_maps;
+mod parents;
 mod reading;
+mod relative;
+mod same_name;
