@@ -22,6 +22,8 @@ mod bound_maps;
 mod bound_tables;
 mod element_function;
 mod element_text;
+mod families;
+mod family;
 mod fault;
 mod giving;
 mod marks;

@@ -99,8 +99,9 @@ fn parent_counts(alloc: Global, dimension: &Dimension) -> Result<Vec<Money>, All
 {
     let parents = parents_over(alloc, dimension)?;
     let mut numbers = Vec::with_capacity(alloc, parents.len())?;
-    for element in 0..parents.len() {
-        numbers.push(Money::of_units(parents[element].len() as u32))?;
+    for element in 0..dimension.len() {
+        let own = parents[element as usize].as_slice();
+        numbers.push(Money::of_units(own.len() as u32))?;
     }
     Ok(numbers)
 }
@@ -119,7 +120,7 @@ fn text_of<'a>(dimension: &'a Dimension, text: &'a ElementText, element: u32) ->
 }
 
 // The letter of a leaf or of a consolidation.
-fn kind_text<'a>(leaf: bool) -> &'a [u8]
+fn kind_text(leaf: bool) -> &'static [u8]
     ensures { result.now ≡ kind_text leaf }
 {
     if leaf {

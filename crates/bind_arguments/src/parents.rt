@@ -29,7 +29,8 @@ fn add_to_parts(
     parts: &[(u32, i64)],
 ) -> Result<(), AllocError>
     requires within { All (λ part. part.0 < length parents.old.items) parts.now }
-    requires before { (element : ℕ) → All (λ other. other < parent) (kin_at parents.old.items element) }
+    requires before { (element : ℕ) → element < length parents.old.items
+        → All (λ other. other < parent) (kin_at parents.old.items element) }
     ensures len { OnOk result (length parents.new.items ≡ length parents.old.items) }
     ensures kin { OnOk result ((element : ℕ) → element < length parents.new.items → kin_at parents.new.items element
         ≡ with_parent (kin_at parents.old.items element) parent (list_any (λ part. part.0 == element) parts.now)) }
@@ -38,6 +39,18 @@ fn add_to_parts(
         add_parent(&mut parents[part.0 as usize], parent)?;
     }
     Ok(())
+}
+
+// No parents yet of so many elements.
+fn no_parents(alloc: Global, len: usize) -> Result<Vec<Vec<u32>>, AllocError>
+    ensures len { IfOk result (λ parents. length parents.items ≡ len) }
+    ensures none { IfOk result (λ parents. (element : ℕ) → kin_at parents.items element ≡ []) }
+{
+    let mut parents = Vec::with_capacity(alloc, len)?;
+    'room: while parents.len() < len {
+        parents.push(Vec::new(alloc))?;
+    }
+    Ok(parents)
 }
 
 /// The consolidations that have each element as a component, in the order of the dimension, each of them once.
@@ -49,10 +62,7 @@ pub(crate) fn parents_over(
     ensures parents { IfOk result (λ parents. (element : ℕ) → element < length parents.items
         → kin_at parents.items element ≡ parents_of dimension.now element) }
 {
-    let mut parents = Vec::with_capacity(alloc, dimension.len() as usize)?;
-    for _ in 0..dimension.len() {
-        parents.push(Vec::new(alloc))?;
-    }
+    let mut parents = no_parents(alloc, dimension.len() as usize)?;
     for parent in 0..dimension.len() {
         add_to_parts(&mut parents, parent, dimension.components(parent))?;
     }
