@@ -3,7 +3,8 @@ use Rattle.std.proofs.Common.{◌≡◌, ℕ, ℤ, ◌+ℤ◌, ◌<◌, List, le
 use Rattle.std.proofs.lemmas.Bool.{and_parts, ltb-true, leb-true}
 use Rattle.cube_fixed.specs.Range.{IsInRange, is_in_range}
 use Rattle.cube_space.specs.Layout.{Layout}
-use Rattle.dim_core.specs.Outline.{Outline, names_of}
+use Rattle.std.specs.Option.{option_and_then}
+use Rattle.dim_core.specs.Outline.{Outline, names_of, index_of}
 use Rattle.bind_arguments.specs.Bound.{dimension_at, name_at, index_in, attribute_in, relative_in, given_step, name_given}
 use Rattle.bind_arguments.specs.declared.relative.Relative.{Relative}
 use Rattle.bind_arguments.specs.Inside.Within.{is_within, is_dimension, is_placed}
@@ -86,3 +87,10 @@ module _ (space : Layout) (element : ℕ) (a : BoundArgument) where
   pub given_relative : (dim : ℕ) (of : BoundArgument) (relative : Relative) → a ≡ bound.RelativeOf dim of relative
       → name_given space element a ≡ relative_in (dimension_at space dim) relative (name_given space element of)
   given_relative dim of relative is = ap (name_given space element) is ∙ of-relative (Option (List ℕ)) (given_step space element) dim of relative
+
+  -- the element of a dimension that an argument's name means
+  pub given_owner : (dim : ℕ) (of inner : BoundArgument) (d : Outline) (owned : Option ℕ) → slice_get space.dimensions dim ≡ Some d → owned ≡ option_and_then (index_of d) (name_given space element inner) → inner ≡ of
+      → owned ≡ option_and_then (index_of (dimension_at space dim)) (name_given space element of)
+  given_owner dim of inner d owned there is same =
+      is ∙ ap (λ d. option_and_then (index_of d) (name_given space element inner)) (sym (found_dimension space dim d there))
+      ∙ ap (λ x. option_and_then (index_of (dimension_at space dim)) (name_given space element x)) same

@@ -13,8 +13,8 @@ use Rattle.bind_arguments.specs.declared.relative.Relative.{Relative}
 use Rattle.bind_arguments.specs.declared.relative.Relative.TheVariants as relatives
 
 -- An element argument: a text; ! and a dimension; DIMNM of a dimension and an index, which is a number, or the index
--- that an argument's element has in a dimension, and so much more; ATTRS of a dimension, an argument and an attribute; ELPAR and
--- ELCOMP of a dimension, an argument and a whole number from 1; DNEXT of a dimension and an argument.
+-- that an argument's element has in a dimension, and so much more; ATTRS of a dimension, an argument and an attribute;
+-- ELPAR and ELCOMP of a dimension, an argument and a whole number from 1; DNEXT of a dimension and an argument.
 pub data Written : Type 0 where
   Quoted : List ℕ → Written
   Current : List ℕ → Written

@@ -64,7 +64,8 @@ fn is_same(function: &ElementFunction, other: &ElementFunction) -> bool
 
 // Whether two texts of elements are known to be the same.
 fn is_same_text(text: &ElementText, other: &ElementText) -> bool
-    ensures { IsTrue result → (d : Outline) → (element : ℕ) → text_for d text.now element ≡ text_for d other.now element }
+    ensures { IsTrue result → (d : Outline) → (element : ℕ)
+        → text_for d text.now element ≡ text_for d other.now element }
 {
     match (text, other) {
         (ElementText::Fixed(bytes), ElementText::Fixed(other)) => {

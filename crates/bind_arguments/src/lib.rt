@@ -3,7 +3,8 @@
 //!
 //! Read first [`bind_argument`], which turns one into an [`Arg`](rule_laws::Arg), and then [`BoundMaps`], by which
 //! equal arguments share a table. `specs/Written.antt` says which formulas are element arguments, `specs/Bound.antt`
-//! which of their names are unknown and which name one gives, `specs/Argument.antt` the table that comes of it.
+//! which of their names are unknown and which name one gives, `specs/Family.antt` the parents and the next leaf of an
+//! element, `specs/Argument.antt` the table that comes of it.
 //! [`ElementFunction`] is a function that gives each element a number, and `specs/Numbers.antt` says which.
 #![tactic(auto)]
 

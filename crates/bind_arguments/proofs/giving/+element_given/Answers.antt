@@ -6,9 +6,8 @@ use Rattle.std.specs.Option.{option_and_then, option_map_or}
 use Rattle.dim_core.specs.Outline.{index_of, attribute_of, names_of}
 use Rattle.bind_arguments.specs.Bound.{dimension_at, name_in, name_at, name_given, index_in}
 use Rattle.bind_arguments.specs.Family.{relative_of}
-use Rattle.bind_arguments.proofs.Around.{found_dimension}
 use Rattle.bind_arguments.proofs.Tables.{if_low, index_low as named_low}
-use Rattle.bind_arguments.proofs.NamesGiven.{current_parts, index_low, place_parts, attribute_parts, relative_parts, given_current, given_index, given_place, given_attribute, given_relative}
+use Rattle.bind_arguments.proofs.NamesGiven.{current_parts, index_low, place_parts, attribute_parts, relative_parts, given_current, given_index, given_place, given_attribute, given_relative, given_owner}
 use Rattle.bind_arguments.specs.declared.bound_argument.BoundArgument.TheViews.{the_lemmas}
 use Rattle.bind_arguments.proofs.giving.+element_given.Goals as goal
 
@@ -101,20 +100,16 @@ relative_given-requires-clause-dim t c = (relative_parts c.args.space.now c.requ
 
 pub relative_given-requires-clause-element : goal.relative_given-requires-clause-element
 relative_given-requires-clause-element t c =
-    let at = found_dimension c.args.space.now c.in-RelativeOf.dim c.dimension-owner-in-RelativeOf.result.now c.dimension-owner-in-RelativeOf.ensures in
     let D = dimension_at c.args.space.now c.in-RelativeOf.dim in
-    let owned : c.in_ok-owned-in-RelativeOf.owned ≡ option_and_then (index_of D) (name_given c.args.space.now c.args.element c.in-RelativeOf.of) =
-    c.in_ok-owned-in-RelativeOf.ensures.given ∙ ap (λ d. option_and_then (index_of d) (name_given c.args.space.now c.args.element c.get-in-RelativeOf.result.now)) (sym at)
-    ∙ ap (λ a. option_and_then (index_of D) (name_given c.args.space.now c.args.element a)) c.get-in-RelativeOf.ensures in
+    let owned = given_owner c.args.space.now c.args.element c.args.argument.now c.in-RelativeOf.dim c.in-RelativeOf.of c.get-in-RelativeOf.result.now c.dimension-owner-in-RelativeOf.result.now c.in_ok-owned-in-RelativeOf.owned
+    c.dimension-owner-in-RelativeOf.ensures c.in_ok-owned-in-RelativeOf.ensures.given c.get-in-RelativeOf.ensures in
     if_low (length D.elements) c.in_ok-owned-in-RelativeOf.owned (λ e is. named_low D (name_given c.args.space.now c.args.element c.in-RelativeOf.of) e (sym owned ∙ is))
 
 pub returns-in_ok-owned-in-RelativeOf-clause-given : goal.returns-in_ok-owned-in-RelativeOf-clause-given
 returns-in_ok-owned-in-RelativeOf-clause-given t c =
-    let at = found_dimension c.args.space.now c.in-RelativeOf.dim c.dimension-owner-in-RelativeOf.result.now c.dimension-owner-in-RelativeOf.ensures in
     let D = dimension_at c.args.space.now c.in-RelativeOf.dim in
-    let owned : c.in_ok-owned-in-RelativeOf.owned ≡ option_and_then (index_of D) (name_given c.args.space.now c.args.element c.in-RelativeOf.of) =
-    c.in_ok-owned-in-RelativeOf.ensures.given ∙ ap (λ d. option_and_then (index_of d) (name_given c.args.space.now c.args.element c.get-in-RelativeOf.result.now)) (sym at)
-    ∙ ap (λ a. option_and_then (index_of D) (name_given c.args.space.now c.args.element a)) c.get-in-RelativeOf.ensures in
+    let owned = given_owner c.args.space.now c.args.element c.args.argument.now c.in-RelativeOf.dim c.in-RelativeOf.of c.get-in-RelativeOf.result.now c.dimension-owner-in-RelativeOf.result.now c.in_ok-owned-in-RelativeOf.owned
+    c.dimension-owner-in-RelativeOf.ensures c.in_ok-owned-in-RelativeOf.ensures.given c.get-in-RelativeOf.ensures in
     let name : option_and_then (slice_get (names_of D.elements)) (option_and_then (relative_of D c.in-RelativeOf.relative) c.in_ok-owned-in-RelativeOf.owned) ≡ name_given c.args.space.now c.args.element c.args.argument.now =
     ap (λ o. option_and_then (slice_get (names_of D.elements)) (option_and_then (relative_of D c.in-RelativeOf.relative) o)) owned
     ∙ sym (given_relative c.args.space.now c.args.element c.args.argument.now c.in-RelativeOf.dim c.in-RelativeOf.of c.in-RelativeOf.relative c.in-RelativeOf.is) in

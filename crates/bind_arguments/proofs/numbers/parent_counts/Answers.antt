@@ -3,7 +3,6 @@ use Rattle.cube_fixed.specs.Range.{unit}
 use Rattle.bind_arguments.specs.Numbers.{number_for}
 use Rattle.bind_arguments.specs.declared.element_function.ElementFunction.TheVariants as functions
 use Rattle.bind_arguments.proofs.NumbersMade.{one_more, whole}
-use Rattle.bind_arguments.specs.Family.{parents_of}
 use Rattle.bind_arguments.proofs.KinFacts.{kin_of, few_parents}
 use Rattle.bind_arguments.proofs.numbers.parent_counts.Goals as goal
 

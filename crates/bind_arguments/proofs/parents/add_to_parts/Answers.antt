@@ -1,6 +1,5 @@
 use Rattle.std.proofs.Common.{◌≡◌, ◌<◌, ◌∙◌, ◌++◌, ◌∷◌, [], ap, sym, subst, arith, pos, length, All, slice_index_or}
 use Rattle.std.proofs.lemmas.List.{get_or_default, length-set}
-use Rattle.bind_arguments.specs.Inside.Kin.{kin_at}
 use Rattle.bind_arguments.proofs.KinFacts.{kin_of, part_more}
 use Rattle.bind_arguments.proofs.parents.add_to_parts.Goals as goal
 

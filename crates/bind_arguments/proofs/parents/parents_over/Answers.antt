@@ -1,4 +1,4 @@
-use Rattle.std.proofs.Common.{◌≡◌, ◌<◌, ◌==◌, ◌∙◌, ap, sym, subst, arith, length, All}
+use Rattle.std.proofs.Common.{◌<◌, ◌==◌, ◌∙◌, ap, sym, subst, arith, All}
 use Rattle.std.specs.List.{list_any}
 use Rattle.bind_arguments.specs.Family.{is_component}
 use Rattle.bind_arguments.specs.Inside.Kin.{kin_at, with_parent}
