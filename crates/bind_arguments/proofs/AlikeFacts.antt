@@ -7,10 +7,11 @@ use Rattle.dim_core.specs.declared.attribute.Attribute.{Attribute}
 use Rattle.dim_name.specs.Name.{key_of}
 use Rattle.cube_space.specs.Layout.{Layout}
 use Rattle.bind_arguments.specs.Argument.{table_over}
-use Rattle.bind_arguments.specs.Bound.{dimension_at, name_at, index_in, attribute_in, name_in, given_step, name_given, element_given, AreAlike}
+use Rattle.bind_arguments.specs.Bound.{dimension_at, name_at, index_in, attribute_in, relative_in, name_in, given_step, name_given, element_given, AreAlike}
 use Rattle.bind_arguments.specs.declared.bound_argument.BoundArgument.{BoundArgument}
+use Rattle.bind_arguments.specs.declared.relative.Relative.{Relative}
 use Rattle.bind_arguments.specs.declared.bound_argument.BoundArgument.TheVariants as bound
-use Rattle.bind_arguments.proofs.ArgumentFolds.{of-current, of-place, of-attribute}
+use Rattle.bind_arguments.proofs.ArgumentFolds.{of-current, of-place, of-attribute, of-relative}
 use Rattle.bind_arguments.proofs.Tables.{map_same}
 
 -- the text of an attribute by the key of its name
@@ -26,25 +27,30 @@ module _ (a b : BoundArgument) where
       ap (name_given space element) is ∙ of-current (Option (List ℕ)) (given_step space element) p dim
       ∙ sym (ap (name_given space element) also ∙ of-current (Option (List ℕ)) (given_step space element) q dim)
 
-  pub alike_place : (dim source its_dim its_source : ℕ) (of own inner its_inner : BoundArgument) (n m : ℤ) → a ≡ bound.AtPlace dim source of n → b ≡ bound.AtPlace its_dim its_source own m
-      → dim ≡ its_dim → source ≡ its_source → n ≡ m → inner ≡ of → its_inner ≡ own → AreAlike inner its_inner → AreAlike a b
-  alike_place dim source its_dim its_source of own inner its_inner n m is also dims sources shifts got its_got alike space element =
-      let its : b ≡ bound.AtPlace dim source own n =
-      also ∙ ap (λ d. bound.AtPlace d its_source own m) (sym dims) ∙ ap (λ s. bound.AtPlace dim s own m) (sym sources) ∙ ap (λ k. bound.AtPlace dim source own k) (sym shifts) in
-      let names : name_given space element of ≡ name_given space element own = ap (name_given space element) (sym got) ∙ alike space element ∙ ap (name_given space element) its_got in
+  pub alike_place : (dim source : ℕ) (of own inner : BoundArgument) (n : ℤ) → a ≡ bound.AtPlace dim source of n → b ≡ bound.AtPlace dim source own n
+      → inner ≡ of → AreAlike inner own → AreAlike a b
+  alike_place dim source of own inner n is also got alike space element =
+      let names : name_given space element of ≡ name_given space element own = ap (name_given space element) (sym got) ∙ alike space element in
       ap (name_given space element) is ∙ of-place (Option (List ℕ)) (given_step space element) dim source of n
       ∙ ap (λ given. name_at (dimension_at space dim) (index_in (dimension_at space source) given +ℤ n)) names
-      ∙ sym (ap (name_given space element) its ∙ of-place (Option (List ℕ)) (given_step space element) dim source own n)
+      ∙ sym (ap (name_given space element) also ∙ of-place (Option (List ℕ)) (given_step space element) dim source own n)
 
-  pub alike_attribute : (dim its_dim : ℕ) (of own inner its_inner : BoundArgument) (name other : List ℕ) → a ≡ bound.AttributeOf dim of name → b ≡ bound.AttributeOf its_dim own other
-      → dim ≡ its_dim → key_of name ≡ key_of other → inner ≡ of → its_inner ≡ own → AreAlike inner its_inner → AreAlike a b
-  alike_attribute dim its_dim of own inner its_inner name other is also dims same got its_got alike space element =
-      let its : b ≡ bound.AttributeOf dim own other = also ∙ ap (λ d. bound.AttributeOf d own other) (sym dims) in
-      let names : name_given space element of ≡ name_given space element own = ap (name_given space element) (sym got) ∙ alike space element ∙ ap (name_given space element) its_got in
+  pub alike_attribute : (dim : ℕ) (of own inner : BoundArgument) (name other : List ℕ) → a ≡ bound.AttributeOf dim of name → b ≡ bound.AttributeOf dim own other
+      → key_of name ≡ key_of other → inner ≡ of → AreAlike inner own → AreAlike a b
+  alike_attribute dim of own inner name other is also same got alike space element =
+      let names : name_given space element of ≡ name_given space element own = ap (name_given space element) (sym got) ∙ alike space element in
       ap (name_given space element) is ∙ of-attribute (Option (List ℕ)) (given_step space element) dim of name
       ∙ ap (attribute_in (dimension_at space dim) name) names
       ∙ same_texts (dimension_at space dim) name other (name_given space element own) same
-      ∙ sym (ap (name_given space element) its ∙ of-attribute (Option (List ℕ)) (given_step space element) dim own other)
+      ∙ sym (ap (name_given space element) also ∙ of-attribute (Option (List ℕ)) (given_step space element) dim own other)
+
+  pub alike_relative : (dim : ℕ) (of own inner : BoundArgument) (relative : Relative) → a ≡ bound.RelativeOf dim of relative → b ≡ bound.RelativeOf dim own relative
+      → inner ≡ of → AreAlike inner own → AreAlike a b
+  alike_relative dim of own inner relative is also got alike space element =
+      let names : name_given space element of ≡ name_given space element own = ap (name_given space element) (sym got) ∙ alike space element in
+      ap (name_given space element) is ∙ of-relative (Option (List ℕ)) (given_step space element) dim of relative
+      ∙ ap (relative_in (dimension_at space dim) relative) names
+      ∙ sym (ap (name_given space element) also ∙ of-relative (Option (List ℕ)) (given_step space element) dim own relative)
 
   -- and so the same table
   pub alike_tables : (space : Layout) (dim size : ℕ) → AreAlike a b → table_over space dim a size ≡ table_over space dim b size

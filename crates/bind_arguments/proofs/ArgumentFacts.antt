@@ -8,14 +8,15 @@ use Rattle.cube_space.specs.Cells.{IsSpace}
 use Rattle.rule_laws.specs.declared.reference.Arg.{Arg}
 use Rattle.rule_model.specs.Conditions.{IsArg}
 use Rattle.rule_tree.specs.declared.tree.Tree.{Tree}
-use Rattle.bind_arguments.specs.Written.{Written, Quoted, Current, AtIndex, AtPlace, AttributeOf, argument_in}
+use Rattle.bind_arguments.specs.Written.{Written, Quoted, Current, AtIndex, AtPlace, AttributeOf, RelativeOf, argument_in}
+use Rattle.bind_arguments.specs.declared.relative.Relative.{Relative}
 use Rattle.bind_arguments.specs.Bound.{dimension_at, dimension_named, attribute_named, place_in_cube, name_in, bound_argument, followed_step, followed}
 use Rattle.bind_arguments.specs.Argument.{arg_of, known_argument, argument_by_form, argument_of, IsAnsweredBy}
 use Rattle.bind_arguments.specs.declared.bound_argument.BoundArgument.{BoundArgument}
 use Rattle.bind_arguments.specs.declared.bound_argument.BoundArgument.TheVariants as bound
 use Rattle.bind_arguments.specs.declared.fault.ArgumentFault.TheVariants.{UnknownName}
 use Rattle.bind_arguments.proofs.Tables.{bound_arg, text_arg, cube_dims}
-use Rattle.bind_arguments.proofs.ArgumentFolds.{of-text, of-current, of-index, of-place, of-attribute}
+use Rattle.bind_arguments.proofs.ArgumentFolds.{of-text, of-current, of-index, of-place, of-attribute, of-relative}
 pub use Rattle.lists.proofs.Found.{mapped, and_then_found}
 
 pub there : {E A : Type 0} (o : Option A) (e : E) (a : A) → ok_or o e ≡ Ok a → o ≡ Some a
@@ -39,6 +40,9 @@ follows_place dim source of n = of-place (Option ℕ) followed_step dim source o
 follows_attribute : (dim : ℕ) (of : BoundArgument) (name : List ℕ) → followed (bound.AttributeOf dim of name) ≡ followed of
 follows_attribute dim of name = of-attribute (Option ℕ) followed_step dim of name
 
+follows_relative : (dim : ℕ) (of : BoundArgument) (relative : Relative) → followed (bound.RelativeOf dim of relative) ≡ followed of
+follows_relative dim of relative = of-relative (Option ℕ) followed_step dim of relative
+
 followed_low : (space : Layout) (cube : ℕ) (w : Written) (a : BoundArgument) (place : ℕ) → bound_argument space cube w ≡ Some a → followed a ≡ Some place → place < length (dims_of space cube)
 followed_low space cube (Quoted text) a place is f =
     let same : bound.Text (name_in text) ≡ a = cc is in
@@ -61,6 +65,10 @@ followed_low space cube (AttributeOf dim of attribute) a place is f =
     let (d, _, later) = and_then_found (λ d. option_map (λ name. bound.AttributeOf d x name) (attribute_named (dimension_at space d) attribute)) (dimension_named space dim) a rest in
     let (name, _, same) = mapped (λ name. bound.AttributeOf d x name) (attribute_named (dimension_at space d) attribute) a later in
     followed_low space cube of x place inner (sym (follows_attribute d x name) ∙ ap followed same ∙ f)
+followed_low space cube (RelativeOf dim of relative) a place is f =
+    let (x, inner, rest) = and_then_found (λ argument. option_map (λ d. bound.RelativeOf d argument relative) (dimension_named space dim)) (bound_argument space cube of) a is in
+    let (d, _, same) = mapped (λ d. bound.RelativeOf d x relative) (dimension_named space dim) a rest in
+    followed_low space cube of x place inner (sym (follows_relative d x relative) ∙ ap followed same ∙ f)
 
 module _ (space : Layout) (cube : ℕ) (valid : IsSpace space) (low : cube < length space.cubes) (dim : ℕ) where
   abbrev IsGood : Arg → Type 0
@@ -81,6 +89,7 @@ module _ (space : Layout) (cube : ℕ) (valid : IsSpace space) (low : cube < len
   known_arg (AtIndex d index) arg is = formed_bound (AtIndex d index) arg is
   known_arg (AtPlace d source of shift) arg is = formed_bound (AtPlace d source of shift) arg is
   known_arg (AttributeOf d of attribute) arg is = formed_bound (AttributeOf d of attribute) arg is
+  known_arg (RelativeOf d of relative) arg is = formed_bound (RelativeOf d of relative) arg is
 
   formed_arg : (w : Option Written) (arg : Arg) → argument_by_form space cube dim w ≡ Ok arg → IsGood arg
   formed_arg None arg is = absurd (cc is)

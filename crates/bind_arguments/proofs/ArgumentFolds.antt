@@ -4,7 +4,8 @@ use Rattle.bind_arguments.specs.declared.bound_argument.BoundArgument.{BoundArgu
 use Rattle.bind_arguments.specs.declared.bound_argument.BoundArgument.TheFolds.{fold-roll-BoundArgument}
 use Rattle.bind_arguments.specs.declared.bound_argument.BoundArgument.TheOpen.{BoundArgument-F}
 use Rattle.bind_arguments.specs.declared.bound_argument.BoundArgument.TheVariants as bound
-use Rattle.bind_arguments.specs.declared.bound_argument.BoundArgument.TheVariants.{rolls-Text, rolls-Current, rolls-AtIndex, rolls-AtPlace, rolls-AttributeOf}
+use Rattle.bind_arguments.specs.declared.bound_argument.BoundArgument.TheVariants.{rolls-Text, rolls-Current, rolls-AtIndex, rolls-AtPlace, rolls-AttributeOf, rolls-RelativeOf}
+use Rattle.bind_arguments.specs.declared.relative.Relative.{Relative}
 
 module _ (V : Type 0) (step : BoundArgument-F V → V) where
   abbrev of : BoundArgument → V
@@ -24,3 +25,6 @@ module _ (V : Type 0) (step : BoundArgument-F V → V) where
 
   pub of-attribute : (dim : ℕ) (inner : BoundArgument) (name : List ℕ) → of (bound.AttributeOf dim inner name) ≡ step (BoundArgument-F.AttributeOf dim (of inner) name)
   of-attribute dim inner name = ap of (sym (rolls-AttributeOf dim inner name)) ∙ fold-roll-BoundArgument V step (BoundArgument-F.AttributeOf dim inner name)
+
+  pub of-relative : (dim : ℕ) (inner : BoundArgument) (relative : Relative) → of (bound.RelativeOf dim inner relative) ≡ step (BoundArgument-F.RelativeOf dim (of inner) relative)
+  of-relative dim inner relative = ap of (sym (rolls-RelativeOf dim inner relative)) ∙ fold-roll-BoundArgument V step (BoundArgument-F.RelativeOf dim inner relative)

@@ -6,7 +6,8 @@ use Rattle.std.specs.Option.{option_map, option_and_then, ok_or}
 use Rattle.cube_fixed.specs.Range.{is_in_range}
 use Rattle.cube_space.specs.Layout.{Layout}
 use Rattle.dim_core.specs.Outline.{Outline}
-use Rattle.bind_arguments.specs.Written.{AtPlace, AttributeOf, Part, argument_of_part}
+use Rattle.bind_arguments.specs.Written.{AtPlace, AttributeOf, RelativeOf, Part, argument_of_part, related}
+use Rattle.bind_arguments.specs.declared.relative.Relative.{Relative}
 use Rattle.bind_arguments.specs.Bound.{dimension_at, dimension_named, attribute_named}
 use Rattle.bind_arguments.specs.Argument.{IsAnsweredBy}
 use Rattle.bind_arguments.specs.Inside.Reading.{bound_part, bound_place, placed, attributed}
@@ -16,7 +17,7 @@ use Rattle.bind_arguments.specs.declared.bound_argument.BoundArgument.TheVariant
 use Rattle.bind_arguments.specs.declared.fault.ArgumentFault.{ArgumentFault}
 use Rattle.bind_arguments.specs.declared.fault.ArgumentFault.TheVariants.{UnknownName}
 use Rattle.bind_arguments.proofs.PartsBound.{refused, known}
-use Rattle.bind_arguments.proofs.ArgumentFolds.{of-text, of-current, of-index, of-place, of-attribute}
+use Rattle.bind_arguments.proofs.ArgumentFolds.{of-text, of-current, of-index, of-place, of-attribute, of-relative}
 
 module _ (space : Layout) (cube : ℕ) (dim : List ℕ) where
   pub placed_refused : (source : List ℕ) (p : Part) (n : ℤ) (f : ArgumentFault) → IsAnsweredBy (bound_part space cube p) (Err f)
@@ -42,6 +43,20 @@ module _ (space : Layout) (cube : ℕ) (dim : List ℕ) where
       → bound_part space cube (attributed dim (argument_of_part p) attribute) ≡ ok_or (attribute_more attribute x) UnknownName
   attribute_known attribute p x h = known space cube (λ a. AttributeOf dim a attribute) (attribute_more attribute) (λ a. refl) p x h
 
+  abbrev relative_more : Relative → BoundArgument → Option BoundArgument
+  relative_more relative x = option_map (λ d. bound.RelativeOf d x relative) (dimension_named space dim)
+
+  pub relative_refused : (relative : Relative) (p : Part) (f : ArgumentFault) → IsAnsweredBy (bound_part space cube p) (Err f)
+      → IsAnsweredBy (bound_part space cube (related dim (argument_of_part p) relative)) (Err f)
+  relative_refused relative p f h = refused space cube (λ a. RelativeOf dim a relative) (relative_more relative) (λ a. refl) p f h
+
+  pub relative_known : (relative : Relative) (p : Part) (x : BoundArgument) (d : Option ℕ) (r : Result BoundArgument ArgumentFault)
+      → d ≡ dimension_named space dim → IsAnsweredBy (bound_part space cube p) (Ok x)
+      → IsAnsweredBy (ok_or (option_map (λ d. bound.RelativeOf d x relative) d) UnknownName) r → IsAnsweredBy (bound_part space cube (related dim (argument_of_part p) relative)) r
+  relative_known relative p x d r is h given =
+      let e = known space cube (λ a. RelativeOf dim a relative) (relative_more relative) (λ a. refl) p x h in
+      subst (λ y. IsAnsweredBy y r) (ap (λ y. ok_or (option_map (λ d. bound.RelativeOf d x relative) y) UnknownName) is ∙ sym e) given
+
 -- Numbers in range.
 
 pub within_text : (space : Layout) (cube : ℕ) (name : Option (List ℕ)) → is_within space cube (bound.Text name) ≡ true
@@ -66,6 +81,11 @@ pub within_attribute : (space : Layout) (cube dim : ℕ) (of : BoundArgument) (a
 unfolding is_within
 within_attribute space cube dim of attribute = of-attribute Bool (within_step space cube) dim of attribute
 
+pub within_relative : (space : Layout) (cube dim : ℕ) (of : BoundArgument) (relative : Relative) → is_within space cube (bound.RelativeOf dim of relative)
+    ≡ (is_within space cube of && is_dimension space dim)
+unfolding is_within
+within_relative space cube dim of relative = of-relative Bool (within_step space cube) dim of relative
+
 pub there : (space : Layout) (dim : ℕ) → dim < length space.dimensions → is_dimension space dim ≡ true
 there space dim low = lt-ltb dim (length space.dimensions) low
 
@@ -88,6 +108,14 @@ attribute_within space cube d x None (Ok y) low within given = absurd given
 attribute_within space cube d x (Some name) (Ok y) low within given =
     ap (is_within space cube) given ∙ within_attribute space cube d x name ∙ and_from (is_within space cube x) (is_dimension space d) within (there space d low)
 attribute_within space cube d x o (Err f) low within given = tt
+
+pub relative_within : (space : Layout) (cube : ℕ) (d : Option ℕ) (x : BoundArgument) (relative : Relative) (r : Result BoundArgument ArgumentFault)
+    → IfSome d (λ dim. dim < length space.dimensions) → is_within space cube x ≡ true
+    → IsAnsweredBy (ok_or (option_map (λ d. bound.RelativeOf d x relative) d) UnknownName) r → IfOk r (λ argument. IsTrue (is_within space cube argument))
+relative_within space cube None x relative (Ok y) low within given = absurd given
+relative_within space cube (Some d) x relative (Ok y) low within given =
+    ap (is_within space cube) given ∙ within_relative space cube d x relative ∙ and_from (is_within space cube x) (is_dimension space d) within (there space d low)
+relative_within space cube d x relative (Err f) low within given = tt
 
 -- A dimension that is there.
 

@@ -6,7 +6,8 @@ use Rattle.std.proofs.lemmas.Bool.{true≢false, eqb-true, eq-eqb}
 use Rattle.std.proofs.lemmas.List.Elements.{All-head, All-tail}
 use Rattle.std.proofs.lemmas.Map.Keys.{apart_from_distinct}
 use Rattle.dim_core.specs.Outline.{Outline, IsDimension, component_lists}
-use Rattle.bind_arguments.specs.Numbers.{is_component, is_below}
+use Rattle.bind_arguments.specs.Family.{is_component}
+use Rattle.bind_arguments.specs.Numbers.{is_below}
 use Rattle.dim_order.specs.Loops.{parts_of, is_reached, IsOrder}
 use Rattle.dim_order.specs.Members.{is_among}
 use Rattle.dim_order.proofs.LoopLemmas.{is_reached-more}

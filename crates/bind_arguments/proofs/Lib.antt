@@ -9,5 +9,8 @@ mod Moves
 mod AlikeFacts
 mod MapsMade
 mod NumbersMade
+mod KinFacts
+mod LeafFacts
+mod FamilyFacts
 mod BelowFacts
 pub mod ArgumentFacts

@@ -3,13 +3,15 @@ use Rattle.std.proofs.Common.{◌≡◌, ℕ, ℤ, ◌+ℤ◌, ◌<◌, List, le
 use Rattle.std.proofs.lemmas.Bool.{and_parts, ltb-true, leb-true}
 use Rattle.cube_fixed.specs.Range.{IsInRange, is_in_range}
 use Rattle.cube_space.specs.Layout.{Layout}
-use Rattle.dim_core.specs.Outline.{Outline, names_of}
-use Rattle.bind_arguments.specs.Bound.{dimension_at, name_at, index_in, attribute_in, given_step, name_given}
+use Rattle.std.specs.Option.{option_and_then}
+use Rattle.dim_core.specs.Outline.{Outline, names_of, index_of}
+use Rattle.bind_arguments.specs.Bound.{dimension_at, name_at, index_in, attribute_in, relative_in, given_step, name_given}
+use Rattle.bind_arguments.specs.declared.relative.Relative.{Relative}
 use Rattle.bind_arguments.specs.Inside.Within.{is_within, is_dimension, is_placed}
 use Rattle.bind_arguments.specs.declared.bound_argument.BoundArgument.{BoundArgument}
 use Rattle.bind_arguments.specs.declared.bound_argument.BoundArgument.TheVariants as bound
-use Rattle.bind_arguments.proofs.Around.{within_current, within_index, within_place, within_attribute, found_dimension}
-use Rattle.bind_arguments.proofs.ArgumentFolds.{of-current, of-index, of-place, of-attribute}
+use Rattle.bind_arguments.proofs.Around.{within_current, within_index, within_place, within_attribute, within_relative, found_dimension}
+use Rattle.bind_arguments.proofs.ArgumentFolds.{of-current, of-index, of-place, of-attribute, of-relative}
 
 -- Numbers in range.
 
@@ -51,6 +53,11 @@ module _ (space : Layout) (cube : ℕ) (a : BoundArgument) (within : is_within s
       let (of_within, low) = and_parts (is_within space cube of) (is_dimension space dim) (sym (within_attribute space cube dim of name) ∙ sym (ap (is_within space cube) is) ∙ within) in
       record { low = low_from space dim low; of_within = of_within }
 
+  pub relative_parts : (dim : ℕ) (of : BoundArgument) (relative : Relative) → a ≡ bound.RelativeOf dim of relative → AttributeParts space cube dim of
+  relative_parts dim of relative is =
+      let (of_within, low) = and_parts (is_within space cube of) (is_dimension space dim) (sym (within_relative space cube dim of relative) ∙ sym (ap (is_within space cube) is) ∙ within) in
+      record { low = low_from space dim low; of_within = of_within }
+
 -- Names.
 
 module _ (space : Layout) (element : ℕ) (a : BoundArgument) where
@@ -76,3 +83,14 @@ module _ (space : Layout) (element : ℕ) (a : BoundArgument) where
   given_attribute dim of name d is there =
       ap (name_given space element) is ∙ of-attribute (Option (List ℕ)) (given_step space element) dim of name
       ∙ ap (λ d. attribute_in d name (name_given space element of)) (found_dimension space dim d there)
+
+  pub given_relative : (dim : ℕ) (of : BoundArgument) (relative : Relative) → a ≡ bound.RelativeOf dim of relative
+      → name_given space element a ≡ relative_in (dimension_at space dim) relative (name_given space element of)
+  given_relative dim of relative is = ap (name_given space element) is ∙ of-relative (Option (List ℕ)) (given_step space element) dim of relative
+
+  -- the element of a dimension that an argument's name means
+  pub given_owner : (dim : ℕ) (of inner : BoundArgument) (d : Outline) (owned : Option ℕ) → slice_get space.dimensions dim ≡ Some d → owned ≡ option_and_then (index_of d) (name_given space element inner) → inner ≡ of
+      → owned ≡ option_and_then (index_of (dimension_at space dim)) (name_given space element of)
+  given_owner dim of inner d owned there is same =
+      is ∙ ap (λ d. option_and_then (index_of d) (name_given space element inner)) (sym (found_dimension space dim d there))
+      ∙ ap (λ x. option_and_then (index_of (dimension_at space dim)) (name_given space element x)) same

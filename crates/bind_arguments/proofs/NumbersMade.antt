@@ -10,10 +10,14 @@ use Rattle.cube_fixed.specs.Range.{unit}
 use Rattle.cube_fixed.specs.Text.{number_of, reading_of}
 use Rattle.dim_core.specs.Outline.{Outline}
 use Rattle.dim_core.specs.declared.attribute.Attribute.{Attribute}
-use Rattle.dim_name.specs.Name.{key_of}
-use Rattle.bind_arguments.specs.Numbers.{is_component, is_below, number_for, numbers_over, read_or_zero, IsTableIn, AreTablesIn}
+use Rattle.dim_name.specs.Name.{key_of, is_same_name}
+use Rattle.bind_arguments.specs.Family.{is_component}
+use Rattle.bind_arguments.specs.Numbers.{is_below, number_for, numbers_over, text_for, read_or_zero, IsTableIn, AreTablesIn}
 use Rattle.bind_arguments.specs.declared.element_function.ElementFunction.{ElementFunction}
 use Rattle.bind_arguments.specs.declared.element_function.ElementFunction.TheVariants as functions
+use Rattle.bind_arguments.specs.declared.element_text.ElementText.{ElementText}
+use Rattle.bind_arguments.specs.declared.element_text.ElementText.TheVariants as texts
+use Rattle.bind_arguments.proofs.Tables.{map_same}
 use Rattle.bind_arguments.specs.declared.bound_tables.BoundTable.{BoundTable}
 
 -- one element more has its number
@@ -34,6 +38,18 @@ pub same_attributes : (d : Outline) (name other : List ℕ) → key_of name ≡ 
 unfolding numbers_over
 same_attributes d name other same =
     ap (λ (key : List ℕ). map (λ element. read_or_zero (reading_of (number_of (text_by d element key)))) (range_with_len 0 (length d.elements))) same
+
+pub same_attribute_texts : (d : Outline) (element : ℕ) (name other : List ℕ) → key_of name ≡ key_of other → text_for d (texts.Attribute name) element ≡ text_for d (texts.Attribute other) element
+same_attribute_texts d element name other same = ap (text_by d element) same
+
+-- the comparisons of texts that are the same
+pub same_comparisons : (d : Outline) (one two other_one other_two : ElementText) → ((e : ℕ) → text_for d one e ≡ text_for d other_one e) → ((e : ℕ) → text_for d two e ≡ text_for d other_two e)
+    → numbers_over d (functions.Same one two) ≡ numbers_over d (functions.Same other_one other_two)
+unfolding numbers_over
+same_comparisons d one two other_one other_two first second =
+    map_same (number_for d (functions.Same one two)) (number_for d (functions.Same other_one other_two)) 0 (length d.elements)
+    (λ e low. ap (λ text. if is_same_name text (text_for d two e) then pos unit else pos 0) (first e)
+    ∙ ap (λ text. if is_same_name (text_for d other_one e) text then pos unit else pos 0) (second e))
 
 -- a number of a mark is that of the element
 pub marked : (d : Outline) (parent element : ℕ) (mark : Bool) (number : ℤ) → mark ≡ is_component d parent element → number ≡ (if mark then pos unit else pos 0) → number ≡ number_for d (functions.ComponentOf parent) element

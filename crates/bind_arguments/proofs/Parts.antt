@@ -9,7 +9,8 @@ use Rattle.rule_tree.specs.declared.tree.Tree.TheVariants as trees
 use Rattle.rule_tree.specs.declared.tree.Tree.TheVariants.{rolls-Number, rolls-Text, rolls-Current, rolls-Call, rolls-Binary}
 use Rattle.rule_tree.specs.declared.tree.TreeOp.{TreeOp}
 use Rattle.rule_tree.specs.declared.tree.TreeOp.TheVariants as ops
-use Rattle.bind_arguments.specs.Written.{Written, Current, Quoted, Part, Whole, AttributeOf, Element, Place, Moved, Other, whole_number, number_part, argument_of_part, at_index, name_call, index_call, attribute_call, call_part, operation_part, part_step, part_in}
+use Rattle.bind_arguments.specs.Written.{Written, Current, Quoted, Part, Whole, AttributeOf, Element, Place, Moved, Other, whole_number, number_part, argument_of_part, at_index, name_call, index_call, attribute_call, RelativeOf, related, relative_called, relative_call, call_part, operation_part, part_step, part_in}
+use Rattle.bind_arguments.specs.declared.relative.Relative.{Relative}
 use Rattle.bind_arguments.specs.Inside.Reading.{text_of_part, whole_of_part, at_moved}
 use Rattle.rule_tree.proofs.TreeFolds.{of-number, of-text, of-current, of-call, of-binary}
 
@@ -65,11 +66,22 @@ attribute_other : (parts : List Part) → IsOther (attribute_call parts)
 attribute_other (Element (Quoted dim) ∷ of ∷ Element (Quoted attribute) ∷ []) = made_other (λ a. Element (AttributeOf dim a attribute)) (λ a. record { text = refl; whole = refl }) (argument_of_part of)
 attribute_other _ = record { text = refl; whole = refl }
 
+related_other : (dim : List ℕ) (of : Option Written) (relative : Relative) → IsOther (related dim of relative)
+related_other dim of relative = made_other (λ a. Element (RelativeOf dim a relative)) (λ a. record { text = refl; whole = refl }) of
+
+relative_other : (function : List ℕ) (parts : List Part) → IsOther (relative_call function parts)
+relative_other function (Element (Quoted dim) ∷ of ∷ behind) = by (relative_called function behind)
+  where
+    by : (o : Option Relative) → IsOther (option_map_or (related dim (argument_of_part of)) o Other)
+    by None = record { text = refl; whole = refl }
+    by (Some relative) = related_other dim (argument_of_part of) relative
+relative_other function _ = record { text = refl; whole = refl }
+
 pub call_other : (function : List ℕ) (parts : List Part) → IsOther (call_part function parts)
 call_other function parts =
     either_other _ (name_call parts) _ (name_other parts)
     (either_other _ (index_call parts) _ (index_other parts)
-    (either_other _ (attribute_call parts) Other (attribute_other parts) (record { text = refl; whole = refl })))
+    (either_other _ (attribute_call parts) _ (attribute_other parts) (relative_other function parts)))
 
 pub operation_other : (op : TreeOp) (left right : Part) → IsOther (operation_part op left right)
 operation_other ops.Add (Place source of) (Whole number) = record { text = refl; whole = refl }

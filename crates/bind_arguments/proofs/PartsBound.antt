@@ -1,5 +1,5 @@
 -- What parts of formulas are bound to.
-use Rattle.std.proofs.Common.{◌≡◌, inl, inr, ℕ, ℤ, pos, neg_ℤ, List, [], ◌∷◌, map, length, get_or, Bool, true, false, Option, Some, None, Result, Ok, Err, refl, sym, ap, ◌∙◌, subst, if◌then◌else◌, codes, bytes_eq, slice_index_or}
+use Rattle.std.proofs.Common.{◌≡◌, ◌<◌, ◌≤◌, inl, inr, ℕ, ℤ, pos, neg_ℤ, List, [], ◌∷◌, map, length, get_or, drop, arith, Bool, true, false, Option, Some, None, Result, Ok, Err, refl, sym, ap, ◌∙◌, subst, if◌then◌else◌, codes, bytes_eq, slice_index_or}
 use Rattle.std.proofs.lemmas.List.{length-map}
 use Rattle.std.proofs.lemmas.Slice.Eq.{bytes_eq-Decides}
 use Rattle.std.specs.Option.{option_map, option_map_or, option_and_then, ok_or}
@@ -7,7 +7,8 @@ use Rattle.cube_space.specs.Layout.{Layout, dims_of}
 use Rattle.rule_tree.specs.declared.tree.Tree.{Tree}
 use Rattle.rule_tree.specs.declared.tree.TreeOp.{TreeOp}
 use Rattle.rule_tree.specs.declared.tree.TreeOp.TheVariants as ops
-use Rattle.bind_arguments.specs.Written.{Written, Current, whole_number, number_part, AtPlace, AttributeOf, Quoted, Part, Whole, Element, Place, Moved, Other, argument_of_part, at_index, name_call, index_call, attribute_call, call_part, operation_part, part_in}
+use Rattle.bind_arguments.specs.Written.{Written, Current, whole_number, number_part, AtPlace, AttributeOf, Quoted, Part, Whole, Element, Place, Moved, Other, argument_of_part, at_index, name_call, index_call, attribute_call, RelativeOf, place_of_part, related, relative_at, relative_called, relative_call, call_part, operation_part, part_in}
+use Rattle.bind_arguments.specs.declared.relative.Relative.{Relative}
 use Rattle.bind_arguments.specs.Bound.{name_in, dimension_named, place_in_cube, bound_argument}
 use Rattle.bind_arguments.specs.Argument.{IsAnsweredBy}
 use Rattle.bind_arguments.specs.Inside.Reading.{text_of_part, shift_in, bound_by_form, bound_part, at_moved}
@@ -81,15 +82,57 @@ no_index : (parts : List Part) → argument_of_part (index_call parts) ≡ None
 no_index (Element (Quoted source) ∷ of ∷ []) = no_argument (λ a. Place source a) (λ a. refl) (argument_of_part of)
 no_index _ = refl
 
-no_call : (dimnm dimix attrs : Bool) (parts : List Part) → dimnm ≡ false → attrs ≡ false
-    → argument_of_part (if dimnm then name_call parts else if dimix then index_call parts else if attrs then attribute_call parts else Other) ≡ None
-no_call true dimix attrs parts a b = absurd (cc)
-no_call false dimix true parts a b = absurd (cc)
-no_call false true false parts a b = no_index parts
-no_call false false false parts a b = refl
+-- DIMIX means no relative
+no_relative_at : (o : Option ℕ) → option_and_then (relative_at (codes "DIMIX")) o ≡ None
+no_relative_at None = refl
+no_relative_at (Some place) = refl
 
-pub other_call : (function : List ℕ) (parts : List Part) → bytes_eq function (codes "DIMNM") ≡ false → bytes_eq function (codes "ATTRS") ≡ false → argument_of_part (call_part function parts) ≡ None
-other_call function parts dimnm attrs = no_call (bytes_eq function (codes "DIMNM")) (bytes_eq function (codes "DIMIX")) (bytes_eq function (codes "ATTRS")) parts dimnm attrs
+no_relative_of : (behind : List Part) → relative_called (codes "DIMIX") behind ≡ None
+no_relative_of [] = refl
+no_relative_of (part ∷ []) = no_relative_at (place_of_part part)
+no_relative_of (part ∷ next ∷ behind) = refl
+
+no_relative : (parts : List Part) → argument_of_part (relative_call (codes "DIMIX") parts) ≡ None
+no_relative (Element (Quoted dim) ∷ of ∷ behind) = ap (λ o. argument_of_part (option_map_or (related dim (argument_of_part of)) o Other)) (no_relative_of behind)
+no_relative _ = refl
+
+other_by : (dimnm dimix attrs : Bool) (function : List ℕ) (parts : List Part) → dimnm ≡ false → attrs ≡ false → (dimix ≡ true → function ≡ codes "DIMIX")
+    → argument_of_part (relative_call function parts) ≡ argument_of_part (if dimnm then name_call parts else if dimix then index_call parts else if attrs then attribute_call parts else relative_call function parts)
+other_by true dimix attrs function parts a b is = absurd (cc)
+other_by false dimix true function parts a b is = absurd (cc)
+other_by false true false function parts a b is = ap (λ f. argument_of_part (relative_call f parts)) (is refl) ∙ no_relative parts ∙ sym (no_index parts)
+other_by false false false function parts a b is = refl
+
+pub other_call : (function : List ℕ) (parts : List Part) → bytes_eq function (codes "DIMNM") ≡ false → bytes_eq function (codes "ATTRS") ≡ false
+    → argument_of_part (relative_call function parts) ≡ argument_of_part (call_part function parts)
+other_call function parts dimnm attrs =
+    other_by (bytes_eq function (codes "DIMNM")) (bytes_eq function (codes "DIMIX")) (bytes_eq function (codes "ATTRS")) function parts dimnm attrs (bytes_eq-Decides function (codes "DIMIX")).0
+
+-- an answer at a part is one at another that is the same argument
+pub same_argument : (space : Layout) (cube : ℕ) (p q : Part) (r : Result BoundArgument ArgumentFault) → argument_of_part p ≡ argument_of_part q → IsAnsweredBy (bound_part space cube p) r → IsAnsweredBy (bound_part space cube q) r
+unfolding bound_part
+same_argument space cube p q r same h = subst (λ o. IsAnsweredBy (bound_by_form space cube o) r) same h
+
+-- Relatives.
+
+pub relative_count : (function : List ℕ) (parts : List Part) → length parts < 2 → argument_of_part (relative_call function parts) ≡ None
+relative_count function (Element (Quoted dim) ∷ of ∷ behind) few = absurd (omega (arith, few))
+relative_count function _ few = refl
+
+pub relative_textless : (function : List ℕ) (p q : Part) (behind : List Part) → text_of_part p ≡ None → argument_of_part (relative_call function (p ∷ q ∷ behind)) ≡ None
+relative_textless function (Element (Quoted dim)) q behind h = absurd (cc)
+relative_textless function _ q behind h = refl
+
+pub relative_unknown : (function : List ℕ) (p q : Part) (behind : List Part) → relative_called function behind ≡ None → argument_of_part (relative_call function (p ∷ q ∷ behind)) ≡ None
+relative_unknown function (Element (Quoted dim)) q behind h = ap (λ o. argument_of_part (option_map_or (related dim (argument_of_part q)) o Other)) h
+relative_unknown function _ q behind h = refl
+
+pub relative_is : (function dim : List ℕ) (p q : Part) (behind : List Part) (relative : Relative) → text_of_part p ≡ Some dim → relative_called function behind ≡ Some relative
+    → relative_call function (p ∷ q ∷ behind) ≡ related dim (argument_of_part q) relative
+relative_is function dim (Element (Quoted d)) q behind relative text h =
+    let same : d ≡ dim = cc text in
+    ap (λ o. option_map_or (related d (argument_of_part q)) o Other) h ∙ ap (λ x. related x (argument_of_part q) relative) same
+relative_is function dim _ q behind relative text h = absurd (cc text)
 
 pub name_count : (parts : List Part) → (length parts ≡ 2 → ⊥) → argument_of_part (name_call parts) ≡ None
 name_count (Element (Quoted dim) ∷ index ∷ []) h = absurd (h refl)
@@ -140,6 +183,17 @@ three_first (a ∷ b ∷ []) x h first = absurd (cc)
 three_first (a ∷ b ∷ c ∷ []) x h first = (part_in b, part_in c, ap (λ t. part_in t ∷ part_in b ∷ part_in c ∷ []) (sym first))
 three_first (a ∷ b ∷ c ∷ d ∷ l) x h first = absurd (cc)
 
+-- the parts of two arguments and those behind them
+pub parts_behind : (l : List Tree) (x : Tree) → 2 ≤ length l → x ≡ get_or l 0 x → (q : Part) × (map part_in l ≡ part_in x ∷ q ∷ map part_in (drop 2 l))
+parts_behind [] x many first = absurd (omega (arith, many))
+parts_behind (a ∷ []) x many first = absurd (omega (arith, many))
+parts_behind (a ∷ b ∷ l) x many first = (part_in b, ap (λ t. part_in t ∷ part_in b ∷ map part_in l) (sym first))
+
+pub both_behind : (l : List Tree) (x y : Tree) → 2 ≤ length l → x ≡ get_or l 0 x → y ≡ get_or l 1 y → map part_in l ≡ part_in x ∷ part_in y ∷ map part_in (drop 2 l)
+both_behind [] x y many first second = absurd (omega (arith, many))
+both_behind (a ∷ []) x y many first second = absurd (omega (arith, many))
+both_behind (a ∷ b ∷ l) x y many first second = ap (λ t. part_in t ∷ part_in b ∷ map part_in l) (sym first) ∙ ap (λ t. part_in x ∷ part_in t ∷ map part_in l) (sym second)
+
 -- Indices.
 
 -- a call as an index is DIMIX alone, or nothing
@@ -172,11 +226,19 @@ attribute_is_call : (dim : List ℕ) (parts : List Part) → IsCall dim (attribu
 attribute_is_call dim (Element (Quoted d) ∷ of ∷ Element (Quoted attribute) ∷ []) = made_call dim (λ a. Element (AttributeOf d a attribute)) (λ a. record { same = refl }) (argument_of_part of)
 attribute_is_call dim _ = record { same = refl }
 
+relative_is_call : (dim function : List ℕ) (parts : List Part) → IsCall dim (relative_call function parts)
+relative_is_call dim function (Element (Quoted d) ∷ of ∷ behind) = by (relative_called function behind)
+  where
+    by : (o : Option Relative) → IsCall dim (option_map_or (related d (argument_of_part of)) o Other)
+    by None = record { same = refl }
+    by (Some relative) = made_call dim (λ a. Element (RelativeOf d a relative)) (λ a. record { same = refl }) (argument_of_part of)
+relative_is_call dim function _ = record { same = refl }
+
 pub call_as_index : (dim function : List ℕ) (parts : List Part) → at_index dim (call_part function parts) ≡ at_moved dim (call_part function parts) (pos 0)
 call_as_index dim function parts =
     (either_call dim _ (name_call parts) _ (name_is_call dim parts)
     (either_call dim _ (index_call parts) _ (index_is_call dim parts)
-    (either_call dim _ (attribute_call parts) Other (attribute_is_call dim parts) (record { same = refl })))).same
+    (either_call dim _ (attribute_call parts) _ (attribute_is_call dim parts) (relative_is_call dim function parts)))).same
 
 pub operation_moved : (dim : List ℕ) (op : TreeOp) (left right : Part) (n : ℤ) → shift_in op right ≡ Some n → at_index dim (operation_part op left right) ≡ at_moved dim left n
 operation_moved dim ops.Add (Place source of) (Whole m) n h = ap (λ k. Element (AtPlace dim source of k)) (let e : m ≡ n = cc in e)
@@ -218,15 +280,23 @@ unplaced_attribute : (dim : List ℕ) (n : ℤ) (parts : List Part) → argument
 unplaced_attribute dim n (Element (Quoted d) ∷ of ∷ Element (Quoted attribute) ∷ []) = no_place_in dim n (λ a. Element (AttributeOf d a attribute)) (λ a. refl) (argument_of_part of)
 unplaced_attribute dim n _ = refl
 
-unplaced_by : (dim : List ℕ) (n : ℤ) (dimnm dimix attrs : Bool) (parts : List Part) → dimix ≡ false
-    → argument_of_part (at_moved dim (if dimnm then name_call parts else if dimix then index_call parts else if attrs then attribute_call parts else Other) n) ≡ None
-unplaced_by dim n true dimix attrs parts h = unplaced_name dim n parts
-unplaced_by dim n false true attrs parts h = absurd (cc)
-unplaced_by dim n false false true parts h = unplaced_attribute dim n parts
-unplaced_by dim n false false false parts h = refl
+unplaced_relative : (dim : List ℕ) (n : ℤ) (function : List ℕ) (parts : List Part) → argument_of_part (at_moved dim (relative_call function parts) n) ≡ None
+unplaced_relative dim n function (Element (Quoted d) ∷ of ∷ behind) = by (relative_called function behind)
+  where
+    by : (o : Option Relative) → argument_of_part (at_moved dim (option_map_or (related d (argument_of_part of)) o Other) n) ≡ None
+    by None = refl
+    by (Some relative) = no_place_in dim n (λ a. Element (RelativeOf d a relative)) (λ a. refl) (argument_of_part of)
+unplaced_relative dim n function _ = refl
+
+unplaced_by : (dim : List ℕ) (n : ℤ) (dimnm dimix attrs : Bool) (function : List ℕ) (parts : List Part) → dimix ≡ false
+    → argument_of_part (at_moved dim (if dimnm then name_call parts else if dimix then index_call parts else if attrs then attribute_call parts else relative_call function parts) n) ≡ None
+unplaced_by dim n true dimix attrs function parts h = unplaced_name dim n parts
+unplaced_by dim n false true attrs function parts h = absurd (cc)
+unplaced_by dim n false false true function parts h = unplaced_attribute dim n parts
+unplaced_by dim n false false false function parts h = unplaced_relative dim n function parts
 
 pub unplaced : (dim f : List ℕ) (n : ℤ) (parts : List Part) → bytes_eq f (codes "DIMIX") ≡ false → argument_of_part (at_moved dim (call_part f parts) n) ≡ None
-unplaced dim f n parts is = unplaced_by dim n (bytes_eq f (codes "DIMNM")) (bytes_eq f (codes "DIMIX")) (bytes_eq f (codes "ATTRS")) parts is
+unplaced dim f n parts is = unplaced_by dim n (bytes_eq f (codes "DIMNM")) (bytes_eq f (codes "DIMIX")) (bytes_eq f (codes "ATTRS")) f parts is
 
 -- the parts of a list of formulas are as many
 pub other_count : (l : List Tree) (n : ℕ) → (length l ≡ n → ⊥) → length (map part_in l) ≡ n → ⊥

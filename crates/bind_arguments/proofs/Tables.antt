@@ -127,6 +127,9 @@ module _ (space : Layout) (cube : ℕ) where
   layer (BoundArgument-F.AttributeOf dim of name) place f w =
       let (inner, low) = and_parts (is_within space cube of.0) (is_dimension space dim) (sym (in_range (BoundArgument-F.AttributeOf dim of.0 name)) ∙ w) in
       of.1 place (sym (follows (BoundArgument-F.AttributeOf dim of.0 name)) ∙ f) inner
+  layer (BoundArgument-F.RelativeOf dim of relative) place f w =
+      let (inner, low) = and_parts (is_within space cube of.0) (is_dimension space dim) (sym (in_range (BoundArgument-F.RelativeOf dim of.0 relative)) ∙ w) in
+      of.1 place (sym (follows (BoundArgument-F.RelativeOf dim of.0 relative)) ∙ f) inner
 
   pub followed_low : (a : BoundArgument) → IsPlaced a
   followed_low = ind-BoundArgument IsPlaced (λ x l is. subst (λ z. IsPlaced (roll-BoundArgument z)) is (layer l))
@@ -159,11 +162,11 @@ own_table space cube dim a own place dims d are all there valid within is follow
 
 -- Arguments that are bound.
 
-index_low : (d : Outline) (o : Option (List ℕ)) (e : ℕ) → option_and_then (index_of d) o ≡ Some e → e < length d.elements
+pub index_low : (d : Outline) (o : Option (List ℕ)) (e : ℕ) → option_and_then (index_of d) o ≡ Some e → e < length d.elements
 index_low d None e is = absurd (cc)
 index_low d (Some name) e is = called_within d name e is
 
-if_low : (size : ℕ) (o : Option ℕ) → ((e : ℕ) → o ≡ Some e → e < size) → IfSome o (λ e. e < size)
+pub if_low : (size : ℕ) (o : Option ℕ) → ((e : ℕ) → o ≡ Some e → e < size) → IfSome o (λ e. e < size)
 if_low size None h = tt
 if_low size (Some e) h = h e refl
 

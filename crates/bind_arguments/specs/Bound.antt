@@ -7,7 +7,9 @@ use Rattle.std.specs.Option.{option_map, option_map_or, option_and_then}
 use Rattle.dim_name.specs.Name.{is_name, is_same_name, place_of}
 use Rattle.dim_core.specs.Outline.{Outline, index_of, names_of, attribute_of}
 use Rattle.cube_space.specs.Layout.{Layout, dims_of, dimension_names}
-use Rattle.bind_arguments.specs.Written.{Written, Quoted, Current, AtIndex, AtPlace, AttributeOf}
+use Rattle.bind_arguments.specs.Family.{relative_of}
+use Rattle.bind_arguments.specs.Written.{Written, Quoted, Current, AtIndex, AtPlace, AttributeOf, RelativeOf}
+use Rattle.bind_arguments.specs.declared.relative.Relative.{Relative}
 use Rattle.bind_arguments.specs.declared.bound_argument.BoundArgument.{BoundArgument, fold-BoundArgument}
 use Rattle.bind_arguments.specs.declared.bound_argument.BoundArgument.TheOpen.{BoundArgument-F}
 use Rattle.bind_arguments.specs.declared.bound_argument.BoundArgument.TheVariants as bound
@@ -49,6 +51,9 @@ bound_argument space cube (AttributeOf dim of attribute) =
     option_and_then (λ argument. option_and_then (λ d. option_map
     (λ name. bound.AttributeOf d argument name) (attribute_named (dimension_at space d) attribute))
     (dimension_named space dim)) (bound_argument space cube of)
+bound_argument space cube (RelativeOf dim of relative) =
+    option_and_then (λ argument. option_map (λ d. bound.RelativeOf d argument relative) (dimension_named space dim))
+    (bound_argument space cube of)
 
 abbrev pub followed_step : BoundArgument-F (Option ℕ) → Option ℕ
 followed_step (BoundArgument-F.Text name) = None
@@ -56,6 +61,7 @@ followed_step (BoundArgument-F.Current place dim) = Some place
 followed_step (BoundArgument-F.AtIndex dim index) = None
 followed_step (BoundArgument-F.AtPlace dim source of shift) = of
 followed_step (BoundArgument-F.AttributeOf dim of attribute) = of
+followed_step (BoundArgument-F.RelativeOf dim of relative) = of
 
 -- the place in the statement's cube of the dimension that an argument follows: the one behind its !
 abbrev pub followed : BoundArgument → Option ℕ
@@ -77,6 +83,12 @@ attribute_in dimension attribute name =
     option_and_then (λ element. name_in (attribute_of dimension element attribute))
     (option_and_then (index_of dimension) name)
 
+-- the name of the relative of the element that has a name
+abbrev pub relative_in : Outline → Relative → Option (List ℕ) → Option (List ℕ)
+relative_in dimension relative name =
+    option_and_then (slice_get (names_of dimension.elements))
+    (option_and_then (relative_of dimension relative) (option_and_then (index_of dimension) name))
+
 abbrev pub given_step : Layout → ℕ → BoundArgument-F (Option (List ℕ)) → Option (List ℕ)
 given_step space element (BoundArgument-F.Text name) = name
 given_step space element (BoundArgument-F.Current place dim) =
@@ -86,6 +98,8 @@ given_step space element (BoundArgument-F.AtPlace dim source of shift) =
     name_at (dimension_at space dim) (index_in (dimension_at space source) of +ℤ shift)
 given_step space element (BoundArgument-F.AttributeOf dim of attribute) =
     attribute_in (dimension_at space dim) attribute of
+given_step space element (BoundArgument-F.RelativeOf dim of relative) =
+    relative_in (dimension_at space dim) relative of
 
 -- the name that an argument gives, where the dimension that it follows has this element
 abbrev pub name_given : Layout → ℕ → BoundArgument → Option (List ℕ)

@@ -1,4 +1,5 @@
 pub mod Written
+pub mod Family
 pub mod Bound
 pub mod Argument
 pub mod Numbers

@@ -1,9 +1,11 @@
--- The maps that were made of arguments, and the tables that were made of functions.
-use Rattle.std.specs.Prelude.{◌≡◌, List, All}
+-- The maps that were made of arguments, the tables that were made of functions, and the families of dimensions.
+use Rattle.std.specs.Prelude.{◌≡◌, List, Option, All}
 use Rattle.cube_space.specs.Layout.{Layout}
 use Rattle.bind_arguments.specs.Argument.{table_over}
 use Rattle.bind_arguments.specs.declared.own_maps.BoundMap.{BoundMap}
 use Rattle.bind_arguments.specs.declared.bound_tables.BoundTable.{BoundTable}
+use Rattle.bind_arguments.specs.declared.family.Family.{Family}
+use Rattle.bind_arguments.specs.Inside.Families.{AreFamiliesIn}
 use Rattle.bind_arguments.specs.Numbers.{AreTablesIn}
 
 -- it leads from each element where its argument does in this space
@@ -18,7 +20,9 @@ AreOwnMapsIn space maps = All (IsMapIn space) maps
 pub record Made : Type 0 where
   pub maps : List BoundMap
   pub tables : List BoundTable
+  pub families : List (Option Family)
 
 -- all of it is right in this space
 unfoldable pub AreMapsIn : Layout → Made → Type 0
-AreMapsIn space made = AreOwnMapsIn space made.maps × AreTablesIn space made.tables
+AreMapsIn space made =
+    AreOwnMapsIn space made.maps × AreTablesIn space made.tables × AreFamiliesIn space made.families

@@ -1,22 +1,27 @@
 -- Which formulas are element arguments of a DB.
-use Rattle.std.specs.Prelude.{ℕ, ℤ, pos, neg_ℤ, Bool, List, [], ◌∷◌, Option, Some, None, codes, bytes_eq, if◌then◌else◌}
+use Rattle.std.specs.Prelude.{ℕ, suc, ℤ, pos, neg_ℤ, Bool, List, [], ◌∷◌, Option, Some, None, codes, bytes_eq}
+use Rattle.std.specs.Prelude.{if◌then◌else◌}
 use Rattle.std.specs.Int.{int_div_euclid, int_rem_euclid}
-use Rattle.std.specs.Option.{is_some, option_map_or}
+use Rattle.std.specs.Option.{is_some, option_map_or, option_and_then}
 use Rattle.std.specs.Ordering.{int_eq}
 use Rattle.cube_fixed.specs.Range.{unit}
 use Rattle.rule_tree.specs.declared.tree.Tree.{Tree, fold-Tree}
 use Rattle.rule_tree.specs.declared.tree.Tree.TheOpen.{Tree-F}
 use Rattle.rule_tree.specs.declared.tree.TreeOp.{TreeOp}
 use Rattle.rule_tree.specs.declared.tree.TreeOp.TheVariants as ops
+use Rattle.bind_arguments.specs.declared.relative.Relative.{Relative}
+use Rattle.bind_arguments.specs.declared.relative.Relative.TheVariants as relatives
 
 -- An element argument: a text; ! and a dimension; DIMNM of a dimension and an index, which is a number, or the index
--- that an argument's element has in a dimension, and so much more; ATTRS of a dimension, an argument and an attribute.
+-- that an argument's element has in a dimension, and so much more; ATTRS of a dimension, an argument and an attribute;
+-- ELPAR and ELCOMP of a dimension, an argument and a whole number from 1; DNEXT of a dimension and an argument.
 pub data Written : Type 0 where
   Quoted : List ℕ → Written
   Current : List ℕ → Written
   AtIndex : List ℕ → ℤ → Written
   AtPlace : List ℕ → List ℕ → Written → ℤ → Written
   AttributeOf : List ℕ → Written → List ℕ → Written
+  RelativeOf : List ℕ → Written → Relative → Written
 
 -- What a formula is within an element argument: a whole number, another argument, DIMIX alone, DIMIX and a whole number
 -- behind + or -, or nothing that may stand there.
@@ -61,12 +66,40 @@ attribute_call (Element (Quoted dim) ∷ of ∷ Element (Quoted attribute) ∷ [
     option_map_or (λ argument. Element (AttributeOf dim argument attribute)) (argument_of_part of) Other
 attribute_call _ = Other
 
+-- a relative of an argument's element in a dimension
+abbrev pub related : List ℕ → Option Written → Relative → Part
+related dim of relative = option_map_or (λ argument. Element (RelativeOf dim argument relative)) of Other
+
+-- a place from 0, by a whole number from 1
+abbrev pub place_of_part : Part → Option ℕ
+place_of_part (Whole (pos (suc place))) = Some place
+place_of_part _ = None
+
+-- what ELPAR and ELCOMP ask for
+abbrev pub relative_at : List ℕ → ℕ → Option Relative
+relative_at function place =
+    if bytes_eq function (codes "ELPAR") then Some (relatives.Parent place)
+    else if bytes_eq function (codes "ELCOMP") then Some (relatives.Component place)
+    else None
+
+-- what a function asks for that has these arguments behind the element
+abbrev pub relative_called : List ℕ → List Part → Option Relative
+relative_called function [] = if bytes_eq function (codes "DNEXT") then Some relatives.NextLeaf else None
+relative_called function (part ∷ []) = option_and_then (relative_at function) (place_of_part part)
+relative_called function _ = None
+
+-- ELPAR, ELCOMP and DNEXT of these arguments
+abbrev pub relative_call : List ℕ → List Part → Part
+relative_call function (Element (Quoted dim) ∷ of ∷ behind) =
+    option_map_or (related dim (argument_of_part of)) (relative_called function behind) Other
+relative_call function _ = Other
+
 abbrev pub call_part : List ℕ → List Part → Part
 call_part function arguments =
     if bytes_eq function (codes "DIMNM") then name_call arguments
     else if bytes_eq function (codes "DIMIX") then index_call arguments
     else if bytes_eq function (codes "ATTRS") then attribute_call arguments
-    else Other
+    else relative_call function arguments
 
 -- DIMIX and a whole number behind + or -
 abbrev pub operation_part : TreeOp → Part → Part → Part

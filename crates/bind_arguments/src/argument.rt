@@ -7,7 +7,6 @@ ghost use Rattle.rule_model.specs.Conditions.{IsArg};
 ghost use Rattle.rule_laws.specs.declared.reference.Arg.TheVariants.{Fixed};
 ghost use Rattle.bind_arguments.specs.Bound as bound;
 ghost use Rattle.bind_arguments.specs.Bound.{name_in, dimension_at};
-ghost use Rattle.bind_arguments.specs.declared.bound_argument.BoundArgument.TheVariants as variants;
 ghost use Rattle.bind_arguments.specs.Argument as bindings;
 ghost use Rattle.bind_arguments.specs.Argument.{argument_of, size_at, table, IsAnsweredBy};
 ghost use Rattle.bind_arguments.specs.Maps.{AreMapsIn};
@@ -15,11 +14,12 @@ ghost use Rattle.bind_arguments.specs.Inside.Within.{is_within};
 ghost use Rattle.bind_arguments.specs.Inside.Moves.{IsOwnMove, moved_by};
 ghost use Rattle.bind_arguments.specs.declared.fault.ArgumentFault.TheVariants.{UnknownName};
 
+use crate::alike::is_own;
 use crate::binding::bind_element;
 use crate::bound_argument::BoundArgument;
 use crate::bound_maps::BoundMaps;
 use crate::fault::ArgumentFault;
-use crate::giving::{element_given, element_named, followed};
+use crate::giving::{element_named, followed};
 use cube_space::Space;
 use rule_laws::{Arg, ElementMap};
 use rule_tree::Tree;
@@ -93,7 +93,7 @@ fn arg_of(
             Ok(Arg::Moved { from, to })
         }
         None => {
-            let element = element_given(alloc, space, space.dimension(dim), &argument, 0)?;
+            let element = maps.element_of(alloc, space, dim, &argument)?;
             Ok(still(space, cube, element))
         }
     }
@@ -125,16 +125,6 @@ fn elements_from(
     match own_move(&argument, dim) {
         Some(shift) => Ok(moved_by(len, shift)),
         None => maps.map_of(alloc, space, dim, argument, len),
-    }
-}
-
-// Whether an argument is the cell's own element of this dimension.
-fn is_own(argument: &BoundArgument, dim: u32) -> bool
-    ensures { IsTrue result → (place : ℕ) × (argument.now ≡ variants.Current place dim) }
-{
-    match argument {
-        BoundArgument::Current { dim: own, .. } => *own == dim,
-        _ => false,
     }
 }
 

@@ -3,17 +3,18 @@ ghost use Rattle.std.specs.Option.{option_map, ok_or};
 ghost use Rattle.cube_fixed.specs.Range.{IsInRange};
 ghost use Rattle.bind_arguments.specs.Written.{Element, Current, argument_of_part, number_part, part_in};
 ghost use Rattle.bind_arguments.specs.Written.{call_part, name_call, index_call, attribute_call, at_index};
+ghost use Rattle.bind_arguments.specs.Written.{related, relative_call};
 ghost use Rattle.bind_arguments.specs.declared.bound_argument.BoundArgument.TheVariants as bound;
 ghost use Rattle.bind_arguments.specs.declared.fault.ArgumentFault.TheVariants.{UnknownName};
 ghost use Rattle.bind_arguments.specs.Argument.{IsAnsweredBy};
 ghost use Rattle.bind_arguments.specs.Inside.Reading.{bound_part, bound_place, placed, at_moved, attributed};
 ghost use Rattle.bind_arguments.specs.Inside.Within.{is_within};
-ghost use Rattle.bind_arguments.specs.Inside.Within.{is_within};
 
 use crate::bound_argument::BoundArgument;
 use crate::fault::ArgumentFault;
 use crate::naming::{attribute_named, dimension_named, name_in, place_among};
-use crate::reading::{shift_of, text_of, whole_number};
+use crate::reading::{relative_called, shift_of, text_of, whole_number};
+use crate::relative::Relative;
 use cube_fixed::Money;
 use cube_space::Space;
 use dim_name::Name;
@@ -86,7 +87,7 @@ fn bind_call(
     } else if function == b"ATTRS".as_slice() {
         bind_attribute(alloc, space, cube, arguments)
     } else {
-        Err(ArgumentFault::DynamicReference)
+        bind_relative(alloc, space, cube, function, arguments)
     }
 }
 
@@ -317,6 +318,70 @@ fn attribute_of(
         Some(attribute) => {
             let of = Boxed::new(alloc, of)?;
             Ok(BoundArgument::AttributeOf { dim, of, attribute })
+        }
+        None => Err(ArgumentFault::UnknownName),
+    }
+}
+
+// `ELPAR`, `ELCOMP` or `DNEXT` of these arguments.
+#[cycle(bind)]
+fn bind_relative(
+    alloc: Global,
+    space: &Space,
+    cube: u32,
+    function: &[u8],
+    arguments: &[Tree],
+) -> Result<BoundArgument, ArgumentFault>
+    requires { cube < length space.now.cubes }
+    ensures answered { IsAnsweredBy (bound_part space.now cube
+        (relative_call function.now (map part_in arguments.now))) result }
+    ensures within { IfOk result (λ argument. IsTrue (is_within space.now cube argument)) }
+{
+    if arguments.len() < 2 {
+        return Err(ArgumentFault::DynamicReference);
+    }
+    match text_of(&arguments[0]) {
+        Some(dim) => match relative_called(function, &arguments[2..]) {
+            Some(relative) => bind_relative_of(alloc, space, cube, dim, &arguments[1], relative),
+            None => Err(ArgumentFault::DynamicReference),
+        },
+        None => Err(ArgumentFault::DynamicReference),
+    }
+}
+
+// A relative, in a dimension, of this argument's element.
+#[cycle(bind)]
+fn bind_relative_of(
+    alloc: Global,
+    space: &Space,
+    cube: u32,
+    dim: &[u8],
+    of: &Tree,
+    relative: Relative,
+) -> Result<BoundArgument, ArgumentFault>
+    requires { cube < length space.now.cubes }
+    ensures answered { IsAnsweredBy (bound_part space.now cube
+        (related dim.now (argument_of_part (part_in of.now)) relative)) result }
+    ensures within { IfOk result (λ argument. IsTrue (is_within space.now cube argument)) }
+{
+    let of = bind_element(alloc, space, cube, of)?;
+    let dim = dimension_named(alloc, space, dim)?;
+    relative_of(alloc, dim, of, relative)
+}
+
+// A relative, in a dimension, of a bound argument's element, where the dimension is known.
+fn relative_of(
+    alloc: Global,
+    dim: Option<u32>,
+    of: BoundArgument,
+    relative: Relative,
+) -> Result<BoundArgument, ArgumentFault>
+    ensures { IsAnsweredBy (ok_or (option_map (λ d. bound.RelativeOf d of relative) dim) UnknownName) result }
+{
+    match dim {
+        Some(dim) => {
+            let of = Boxed::new(alloc, of)?;
+            Ok(BoundArgument::RelativeOf { dim, of, relative })
         }
         None => Err(ArgumentFault::UnknownName),
     }

@@ -1,3 +1,4 @@
+use crate::relative::Relative;
 use dim_name::Name;
 use sqlite_items::Boxed;
 
@@ -28,5 +29,11 @@ pub(crate) enum BoundArgument {
         dim: u32,
         of: Boxed<BoundArgument>,
         attribute: Name,
+    },
+    /// A relative of the argument's element in `dim`.
+    RelativeOf {
+        dim: u32,
+        of: Boxed<BoundArgument>,
+        relative: Relative,
     },
 }

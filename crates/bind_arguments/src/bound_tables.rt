@@ -2,10 +2,11 @@ ghost use Rattle.std.specs.Prelude.{◌≡◌, ◌<◌, ◌++◌, ◌∷◌, [],
 ghost use Rattle.cube_space.specs.Layout.{Layout};
 ghost use Rattle.dim_core.specs.Outline.{Outline};
 ghost use Rattle.bind_arguments.specs.Bound.{dimension_at};
-ghost use Rattle.bind_arguments.specs.Numbers.{AreTablesIn, IsTableIn, is_within, numbers_over};
+ghost use Rattle.bind_arguments.specs.Numbers.{AreTablesIn, IsTableIn, is_within, numbers_over, text_for};
 
 use crate::alike::is_same_attribute;
 use crate::element_function::ElementFunction;
+use crate::element_text::ElementText;
 use crate::numbers::numbers_over;
 use cube_space::Space;
 use rule_laws::ElementTable;
@@ -52,6 +53,29 @@ fn is_same(function: &ElementFunction, other: &ElementFunction) -> bool
         (ElementFunction::Attribute(name), ElementFunction::Attribute(other)) => {
             is_same_attribute(name, other)
         }
+        (ElementFunction::ComponentCount, ElementFunction::ComponentCount) => true,
+        (ElementFunction::ParentCount, ElementFunction::ParentCount) => true,
+        (ElementFunction::Same(one, two), ElementFunction::Same(other_one, other_two)) => {
+            is_same_text(one, other_one) && is_same_text(two, other_two)
+        }
+        _ => false,
+    }
+}
+
+// Whether two texts of elements are known to be the same.
+fn is_same_text(text: &ElementText, other: &ElementText) -> bool
+    ensures { IsTrue result → (d : Outline) → (element : ℕ)
+        → text_for d text.now element ≡ text_for d other.now element }
+{
+    match (text, other) {
+        (ElementText::Fixed(bytes), ElementText::Fixed(other)) => {
+            bytes.as_slice() == other.as_slice()
+        }
+        (ElementText::Name, ElementText::Name) => true,
+        (ElementText::Kind, ElementText::Kind) => true,
+        (ElementText::Attribute(name), ElementText::Attribute(other)) => {
+            is_same_attribute(name, other)
+        }
         _ => false,
     }
 }
@@ -76,8 +100,34 @@ fn key_of(alloc: Global, dim: u32, function: &ElementFunction) -> Result<Vec<u8>
             key.extend_from_slice(b".")?;
             key.extend_from_slice(name.key())?;
         }
+        ElementFunction::ComponentCount => key.extend_from_slice(b"v")?,
+        ElementFunction::ParentCount => key.extend_from_slice(b"^n")?,
+        ElementFunction::Same(one, two) => {
+            key.extend_from_slice(b"=")?;
+            add_text(&mut key, one)?;
+            add_text(&mut key, two)?;
+        }
     }
     Ok(key)
+}
+
+// Adds the bytes of a text of elements.
+fn add_text(key: &mut Vec<u8>, text: &ElementText) -> Result<(), AllocError> {
+    match text {
+        ElementText::Fixed(bytes) => {
+            key.extend_from_slice(b"'")?;
+            key.extend_from_slice(&bytes.as_slice().len().to_le_bytes())?;
+            key.extend_from_slice(bytes.as_slice())
+        }
+        ElementText::Name => key.extend_from_slice(b"!"),
+        ElementText::Kind => key.extend_from_slice(b"?"),
+        ElementText::Attribute(name) => {
+            key.extend_from_slice(b".")?;
+            key.extend_from_slice(name.key())?;
+            // no name has this byte
+            key.extend_from_slice(b"\0")
+        }
+    }
 }
 
 impl BoundTable {

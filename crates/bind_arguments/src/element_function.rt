@@ -1,3 +1,4 @@
+use crate::element_text::ElementText;
 use dim_name::Name;
 
 /// A function that gives each element of a dimension a number.
@@ -14,4 +15,10 @@ pub enum ElementFunction {
     Below(u32),
     /// `ATTRN`: its text of this attribute as a number; 0 where that is no number.
     Attribute(Name),
+    /// `ELCOMPN`: how many components it has; each naming counts.
+    ComponentCount,
+    /// `ELPARN`: how many consolidations have it as a component; each of them counts once.
+    ParentCount,
+    /// 1 where both texts of the element are the same, as names are compared, and 0 elsewhere.
+    Same(ElementText, ElementText),
 }

@@ -3,13 +3,15 @@
 //!
 //! Read first [`bind_argument`], which turns one into an [`Arg`](rule_laws::Arg), and then [`BoundMaps`], by which
 //! equal arguments share a table. `specs/Written.antt` says which formulas are element arguments, `specs/Bound.antt`
-//! which of their names are unknown and which name one gives, `specs/Argument.antt` the table that comes of it.
+//! which of their names are unknown and which name one gives, `specs/Family.antt` the parents and the next leaf of an
+//! element, `specs/Argument.antt` the table that comes of it.
 //! [`ElementFunction`] is a function that gives each element a number, and `specs/Numbers.antt` says which.
 #![tactic(auto)]
 
 pub use argument::bind_argument;
 pub use bound_maps::BoundMaps;
 pub use element_function::ElementFunction;
+pub use element_text::ElementText;
 pub use fault::ArgumentFault;
 pub use naming::attribute_named;
 
@@ -20,10 +22,16 @@ mod bound_argument;
 mod bound_maps;
 mod bound_tables;
 mod element_function;
+mod element_text;
+mod families;
+mod family;
 mod fault;
 mod giving;
 mod marks;
 mod naming;
 mod numbers;
 mod own_maps;
+mod parents;
 mod reading;
+mod relative;
+mod same_name;

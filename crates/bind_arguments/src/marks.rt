@@ -1,7 +1,8 @@
 ghost use Rattle.std.specs.Prelude.{◌≡◌, ◌==◌, ◌<◌, ◌||◌, ℕ, true, false, length, get_or, All, IfOk};
 ghost use Rattle.std.specs.List.{list_any};
 ghost use Rattle.dim_core.specs.Outline.{IsDimension};
-ghost use Rattle.bind_arguments.specs.Numbers.{is_component, is_below};
+ghost use Rattle.bind_arguments.specs.Family.{is_component};
+ghost use Rattle.bind_arguments.specs.Numbers.{is_below};
 
 use dim_core::Dimension;
 use std::alloc::{AllocError, Global};

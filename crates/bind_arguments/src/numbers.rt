@@ -3,10 +3,13 @@ ghost use Rattle.cube_fixed.specs.Range.{unit};
 ghost use Rattle.cube_fixed.specs.Text.{number_of, reading_of};
 ghost use Rattle.dim_core.specs.Outline.{level, attribute_of};
 ghost use Rattle.bind_arguments.specs.declared.element_function.ElementFunction.TheVariants as functions;
-ghost use Rattle.bind_arguments.specs.Numbers.{is_within, number_for, numbers_over, read_or_zero};
+ghost use Rattle.bind_arguments.specs.Numbers.{is_within, number_for, numbers_over, read_or_zero, kind_text, text_for};
 
 use crate::element_function::ElementFunction;
+use crate::element_text::ElementText;
 use crate::marks::{components_of, elements_below};
+use crate::parents::parents_over;
+use crate::same_name::is_same_name;
 use cube_fixed::{Money, read};
 use dim_core::Dimension;
 use dim_name::Name;
@@ -28,6 +31,9 @@ pub(crate) fn numbers_over(
         ElementFunction::ComponentOf(parent) => memberships(alloc, dimension, *parent)?,
         ElementFunction::Below(above) => descents(alloc, dimension, *above)?,
         ElementFunction::Attribute(name) => attributes(alloc, dimension, name)?,
+        ElementFunction::ComponentCount => component_counts(alloc, dimension)?,
+        ElementFunction::ParentCount => parent_counts(alloc, dimension)?,
+        ElementFunction::Same(one, other) => comparisons(alloc, dimension, one, other)?,
     };
     ElementTable::new(alloc, numbers)
 }
@@ -71,6 +77,75 @@ fn attributes(alloc: Global, dimension: &Dimension, name: &Name) -> Result<Vec<M
     let mut numbers = Vec::with_capacity(alloc, dimension.len() as usize)?;
     for element in 0..dimension.len() {
         numbers.push(read_or_zero(dimension.attribute(element, name)))?;
+    }
+    Ok(numbers)
+}
+
+// How many components each element has.
+fn component_counts(alloc: Global, dimension: &Dimension) -> Result<Vec<Money>, AllocError>
+    ensures { IfOk result (λ numbers. numbers.items ≡ numbers_over dimension.now functions.ComponentCount) }
+{
+    let mut numbers = Vec::with_capacity(alloc, dimension.len() as usize)?;
+    for element in 0..dimension.len() {
+        let count = dimension.components(element).len() as u32;
+        numbers.push(Money::of_units(count))?;
+    }
+    Ok(numbers)
+}
+
+// How many consolidations have each element as a component.
+fn parent_counts(alloc: Global, dimension: &Dimension) -> Result<Vec<Money>, AllocError>
+    ensures { IfOk result (λ numbers. numbers.items ≡ numbers_over dimension.now functions.ParentCount) }
+{
+    let parents = parents_over(alloc, dimension)?;
+    let mut numbers = Vec::with_capacity(alloc, parents.len())?;
+    for element in 0..dimension.len() {
+        let own = parents[element as usize].as_slice();
+        numbers.push(Money::of_units(own.len() as u32))?;
+    }
+    Ok(numbers)
+}
+
+// A text of an element.
+fn text_of<'a>(dimension: &'a Dimension, text: &'a ElementText, element: u32) -> &'a [u8]
+    requires { element < length dimension.now.elements }
+    ensures { result.now ≡ text_for dimension.now text.now element }
+{
+    match text {
+        ElementText::Fixed(bytes) => bytes.as_slice(),
+        ElementText::Name => dimension.name_of(element).shown(),
+        ElementText::Kind => kind_text(dimension.is_leaf(element)),
+        ElementText::Attribute(name) => dimension.attribute(element, name),
+    }
+}
+
+// The letter of a leaf or of a consolidation.
+fn kind_text(leaf: bool) -> &'static [u8]
+    ensures { result.now ≡ kind_text leaf }
+{
+    if leaf {
+        b"N".as_slice()
+    } else {
+        b"C".as_slice()
+    }
+}
+
+// 1 for each element of which both texts are the same, 0 for the others.
+fn comparisons(
+    alloc: Global,
+    dimension: &Dimension,
+    one: &ElementText,
+    other: &ElementText,
+) -> Result<Vec<Money>, AllocError>
+    ensures { IfOk result (λ numbers. numbers.items ≡ numbers_over dimension.now (functions.Same one.now other.now)) }
+{
+    let mut numbers = Vec::with_capacity(alloc, dimension.len() as usize)?;
+    for element in 0..dimension.len() {
+        let same = is_same_name(
+            text_of(dimension, one, element),
+            text_of(dimension, other, element),
+        );
+        numbers.push(number_of_mark(same))?;
     }
     Ok(numbers)
 }

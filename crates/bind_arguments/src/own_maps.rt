@@ -3,10 +3,12 @@ ghost use Rattle.std.specs.Prelude.{IfOk, IfSome, OnOk, OnErr, IsTrue};
 ghost use Rattle.cube_space.specs.Layout.{Layout};
 ghost use Rattle.bind_arguments.specs.Argument.{table_over};
 ghost use Rattle.bind_arguments.specs.Maps.{IsMapIn, AreOwnMapsIn};
+ghost use Rattle.bind_arguments.specs.Inside.Families.{AreFamiliesIn};
 ghost use Rattle.bind_arguments.specs.Inside.Within.{is_within};
 
 use crate::alike::{is_alike, key_of};
 use crate::bound_argument::BoundArgument;
+use crate::families::Families;
 use crate::giving::elements_given;
 use cube_space::Space;
 use rule_laws::ElementMap;
@@ -62,6 +64,7 @@ impl OwnMaps {
         &mut self,
         alloc: Global,
         space: &Space,
+        families: &mut Families,
         dim: u32,
         argument: BoundArgument,
         len: u32,
@@ -69,14 +72,16 @@ impl OwnMaps {
         requires dim { dim < length space.now.dimensions }
         requires within { (cube : ℕ) × IsTrue (is_within space.now cube argument) }
         requires maps { AreOwnMapsIn space.now self.old }
+        requires families { AreFamiliesIn space.now families.old }
         ensures map { IfOk result (λ map. map ≡ table_over space.now dim argument len) }
         ensures maps { AreOwnMapsIn space.now self.new }
+        ensures families { AreFamiliesIn space.now families.new }
     {
         let key = key_of(alloc, len, dim, &argument)?;
         match self.find(&key, len, dim, &argument) {
             Some(targets) => targets.share(),
             None => {
-                let targets = elements_given(alloc, space, dim, &argument, len)?;
+                let targets = elements_given(alloc, space, families, dim, &argument, len)?;
                 let shared = targets.share()?;
                 self.add(
                     alloc,

@@ -20,6 +20,7 @@ within_step space cube (BoundArgument-F.AtIndex dim index) = is_dimension space 
 within_step space cube (BoundArgument-F.AtPlace dim source of shift) =
     of && is_dimension space dim && is_dimension space source && is_in_range shift
 within_step space cube (BoundArgument-F.AttributeOf dim of attribute) = of && is_dimension space dim
+within_step space cube (BoundArgument-F.RelativeOf dim of relative) = of && is_dimension space dim
 
 -- dimensions are there, places are of the cube, and indices don't run over
 unfoldable pub is_within : Layout → ℕ → BoundArgument → Bool

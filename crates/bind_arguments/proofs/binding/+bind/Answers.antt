@@ -1,18 +1,19 @@
-use Rattle.std.proofs.Common.{rules, ◌≡◌, ap, sym, ◌∙◌, subst, Some, None, Err, map, length, pos, codes, bytes_eq, true, false, w64, ◌<◌, IfSome}
+use Rattle.std.proofs.Common.{rules, ◌≡◌, ap, sym, ◌∙◌, subst, Some, None, Err, map, length, pos, codes, bytes_eq, true, false, w64, ◌<◌, IfSome, drop, arith}
 use Rattle.std.proofs.lemmas.Result.{err_from_is_err_and}
 use Rattle.std.proofs.lemmas.Bool.{le-leb}
+use Rattle.std.proofs.lemmas.List.{length-map, take_rest}
 use Rattle.std.specs.Option.{option_copied, option_map, option_and_then, ok_or}
 use Rattle.std.proofs.lemmas.Int.{to_z-of_z}
 use mir.Val.{SFits}
-use Rattle.bind_arguments.specs.Written.{Quoted, Element, Current, argument_of_part, name_call, index_call, attribute_call, call_part, at_index, number_part, part_in}
+use Rattle.bind_arguments.specs.Written.{Quoted, Element, Current, argument_of_part, name_call, index_call, attribute_call, call_part, at_index, number_part, part_in, related, relative_called, relative_call}
 use Rattle.bind_arguments.specs.Argument.{IsAnsweredBy}
 use Rattle.bind_arguments.specs.Bound.{name_in, dimension_at, dimension_named, attribute_named}
 use Rattle.bind_arguments.specs.Inside.Reading.{shift_in, at_moved}
 use Rattle.bind_arguments.specs.declared.bound_argument.BoundArgument.TheVariants as bound
 use Rattle.bind_arguments.specs.declared.fault.ArgumentFault.TheVariants.{UnknownName}
 use Rattle.bind_arguments.proofs.Parts.{part_number, part_text, part_current, part_call, part_binary, no_argument, no_place, no_index}
-use Rattle.bind_arguments.proofs.PartsBound.{answers, dynamic, text_bound, same_part, other_count, other_call, place_call, unplaced, call_as_index, operation_moved, operation_unmoved, name_count, index_count, attribute_count, name_textless, index_textless, attribute_textless, attribute_nameless, two_parts, three_parts, three_first}
-use Rattle.bind_arguments.proofs.Around.{placed_refused, placed_known, placed_within, attribute_refused, attribute_known, attribute_within, within_text, found_dimension}
+use Rattle.bind_arguments.proofs.PartsBound.{answers, dynamic, text_bound, same_part, other_count, other_call, same_argument, relative_count, relative_textless, relative_unknown, relative_is, parts_behind, both_behind, place_call, unplaced, call_as_index, operation_moved, operation_unmoved, name_count, index_count, attribute_count, name_textless, index_textless, attribute_textless, attribute_nameless, two_parts, three_parts, three_first}
+use Rattle.bind_arguments.proofs.Around.{placed_refused, placed_known, placed_within, attribute_refused, attribute_known, attribute_within, relative_refused, relative_known, relative_within, within_text, found_dimension}
 use Rattle.bind_arguments.proofs.binding.+bind.Goals as goal
 
 pub bind_at_index-returns-then-arguments-ne2-clause-answered : goal.bind_at_index-returns-then-arguments-ne2-clause-answered
@@ -44,7 +45,53 @@ pub bind_call-returns-else-eq-2-clause-answered : goal.bind_call-returns-else-eq
 bind_call-returns-else-eq-2-clause-answered t c =
     let dimnm : bytes_eq c.args.function.now (codes "DIMNM") ≡ false = ap (bytes_eq c.args.function.now) (sym c.as_slice.ensures) ∙ sym c.eq.ensures ∙ c.if-eq.false in
     let attrs : bytes_eq c.args.function.now (codes "ATTRS") ≡ false = ap (bytes_eq c.args.function.now) (sym c.as_slice-else-eq.ensures) ∙ sym c.eq-else-eq.ensures ∙ c.if-eq-2.false in
-    dynamic c.args.space.now c.args.cube _ (other_call c.args.function.now (map part_in c.args.arguments.now) dimnm attrs)
+    let parts = map part_in c.args.arguments.now in
+    same_argument c.args.space.now c.args.cube (relative_call c.args.function.now parts) (call_part c.args.function.now parts) c.bind_relative.result (other_call c.args.function.now parts dimnm attrs) c.bind_relative.ensures.answered
+
+pub bind_relative-returns-then-arguments-lt2-clause-answered : goal.bind_relative-returns-then-arguments-lt2-clause-answered
+bind_relative-returns-then-arguments-lt2-clause-answered t c =
+    let parts = map part_in c.args.arguments.now in
+    let few : length parts < 2 = omega (arith, length-map c.args.arguments.now part_in, c.if-arguments-lt2.true) in
+    dynamic c.args.space.now c.args.cube (relative_call c.args.function.now parts) (relative_count c.args.function.now parts few)
+
+pub bind_relative-returns-in-Some-relative_called-clause-answered : goal.bind_relative-returns-in-Some-relative_called-clause-answered
+bind_relative-returns-in-Some-relative_called-clause-answered t c =
+    let rest = ap (λ l. relative_called c.args.function.now (map part_in l)) (sym (take_rest c.args.arguments.now 2)) in
+    let is = both_behind c.args.arguments.now c.index-arguments-0.result c.index-arguments-1.result (omega (arith, c.if-arguments-lt2.false)) c.index-arguments-0.is c.index-arguments-1.is in
+    same_part c.args.space.now c.args.cube (related c.in-Some.dim.now (argument_of_part (part_in c.index-arguments-1.result)) c.in-Some-relative_called.relative) (relative_call c.args.function.now (map part_in c.args.arguments.now)) c.bind_relative_of.result
+    (sym (ap (relative_call c.args.function.now) is
+    ∙ relative_is c.args.function.now c.in-Some.dim.now (part_in c.index-arguments-0.result) (part_in c.index-arguments-1.result) (map part_in (drop 2 c.args.arguments.now)) c.in-Some-relative_called.relative
+    (sym c.text_of.ensures ∙ ap option_copied c.in-Some.is) (rest ∙ sym c.relative_called.ensures ∙ c.in-Some-relative_called.is)))
+    c.bind_relative_of.ensures.answered
+
+pub bind_relative-returns-in-None-relative_called-clause-answered : goal.bind_relative-returns-in-None-relative_called-clause-answered
+bind_relative-returns-in-None-relative_called-clause-answered t c =
+    let rest = ap (λ l. relative_called c.args.function.now (map part_in l)) (sym (take_rest c.args.arguments.now 2)) in
+    let (q, is) = parts_behind c.args.arguments.now c.index-arguments-0.result (omega (arith, c.if-arguments-lt2.false)) c.index-arguments-0.is in
+    dynamic c.args.space.now c.args.cube (relative_call c.args.function.now (map part_in c.args.arguments.now))
+    (ap (λ l. argument_of_part (relative_call c.args.function.now l)) is
+    ∙ relative_unknown c.args.function.now (part_in c.index-arguments-0.result) q (map part_in (drop 2 c.args.arguments.now)) (rest ∙ sym c.relative_called.ensures ∙ c.in-None-relative_called.is))
+
+pub bind_relative-returns-in-None-clause-answered : goal.bind_relative-returns-in-None-clause-answered
+bind_relative-returns-in-None-clause-answered t c =
+    let (q, is) = parts_behind c.args.arguments.now c.index-arguments-0.result (omega (arith, c.if-arguments-lt2.false)) c.index-arguments-0.is in
+    dynamic c.args.space.now c.args.cube (relative_call c.args.function.now (map part_in c.args.arguments.now))
+    (ap (λ l. argument_of_part (relative_call c.args.function.now l)) is
+    ∙ relative_textless c.args.function.now (part_in c.index-arguments-0.result) q (map part_in (drop 2 c.args.arguments.now)) (sym c.text_of.ensures ∙ ap option_copied c.in-None.is))
+
+pub bind_relative_of-returns-in_err-of-clause-answered : goal.bind_relative_of-returns-in_err-of-clause-answered
+bind_relative_of-returns-in_err-of-clause-answered t c =
+    let p = err_from_is_err_and c.from_residual.result c.from_residual.ensures.1 in
+    rw (p.1, p.2) (relative_refused c.args.space.now c.args.cube c.args.dim.now c.args.relative (part_in c.args.of.now) c.in_err-of.field-0.0 c.in_err-of.ensures.answered)
+
+pub bind_relative_of-returns-clause-answered : goal.bind_relative_of-returns-clause-answered
+bind_relative_of-returns-clause-answered t c =
+    relative_known c.args.space.now c.args.cube c.args.dim.now c.args.relative (part_in c.args.of.now) c.in_ok-of.of c.in_ok-dim.dim c.relative_of.result
+    c.in_ok-dim.ensures.named c.in_ok-of.ensures.answered c.relative_of.ensures
+
+pub bind_relative_of-returns-clause-within : goal.bind_relative_of-returns-clause-within
+bind_relative_of-returns-clause-within t c =
+    relative_within c.args.space.now c.args.cube c.in_ok-dim.dim c.in_ok-of.of c.args.relative c.relative_of.result c.in_ok-dim.ensures.within c.in_ok-of.ensures.within c.relative_of.ensures
 
 pub bind_element-returns-in_ok-name_in-in-Text-clause-answered : goal.bind_element-returns-in_ok-name_in-in-Text-clause-answered
 bind_element-returns-in_ok-name_in-in-Text-clause-answered t c =

@@ -13,7 +13,10 @@ one_more f n before after o so is pushed =
 
 pub loop-element-preserved : goal.loop-element-preserved
 loop-element-preserved c =
-    one_more (element_given c.args.space.now c.args.dim c.args.argument.now) c.loop-element.element c.loop-element.to.items c.push.new.self.items c.in_ok-element_given.field-0
-    c.loop-element.invariant
-    (c.in_ok-element_given.ensures ∙ ap (λ d. option_and_then (index_of d) (name_given c.args.space.now c.loop-element.element c.args.argument.now)) (sym (found_dimension c.args.space.now c.args.dim c.dimension-dimension.result.now c.dimension-dimension.ensures)))
-    c.in_ok-push.ensures.items
+    record {
+      given = one_more (element_given c.args.space.now c.args.dim c.args.argument.now) c.loop-element.element c.loop-element.to.items c.push.new.self.items c.in_ok-given.given
+          c.loop-element.invariant.given
+          (c.in_ok-given.ensures.given ∙ ap (λ d. option_and_then (index_of d) (name_given c.args.space.now c.loop-element.element c.args.argument.now)) (sym (found_dimension c.args.space.now c.args.dim c.dimension-dimension.result.now c.dimension-dimension.ensures)))
+          c.in_ok-push.ensures.items;
+      families = c.element_given.ensures.families;
+    }
