@@ -24,6 +24,8 @@ pub assignment_of_word : (mark : List ℕ) → capitals mark ≡ mark → is_var
 assignment_of_word mark capital names t is =
     let (w, e, h) = value_exact.word in
     let equals : Lexeme = sign_of (codes "=") in
-    let ends : Lexeme = sign_of (codes ";") in
-    (equals ∷ (w ++ ends ∷ []), lines.Assign mark e,
-    (t ∷ [], equals ∷ (w ++ ends ∷ []), mark, refl, (t, refl, variable_of mark capital names t is), (equals ∷ [], w ++ ends ∷ [], tt, refl, (equals, refl, refl), (w, ends ∷ [], e, refl, h, (ends ∷ [], [], tt, refl, (ends, refl, refl), (refl, refl))))))
+    let ends : Lexeme = sign_of (codes ";") in (
+      equals ∷ (w ++ ends ∷ []),
+      lines.Assign mark e,
+      (t ∷ [], equals ∷ (w ++ ends ∷ []), mark, refl, (t, refl, variable_of mark capital names t is), (equals ∷ [], w ++ ends ∷ [], tt, refl, (equals, refl, refl), (w, ends ∷ [], e, refl, h, (ends ∷ [], [], tt, refl, (ends, refl, refl), (refl, refl))))),
+    )
