@@ -13,7 +13,7 @@ use Rattle.script_bound.specs.declared.statement.Case.TheVariants.{rolls-When, r
 use Rattle.script_bound.specs.declared.statement.Case.TheVariants as cases
 use Rattle.script_bound.specs.declared.statement.Statement.{Statement}
 use Rattle.script_bound.specs.declared.statement.Statement.TheVariants as statements
-use Rattle.script_bound.specs.declared.statement.Statement.TheVariants.{rolls-Assign, rolls-Put, rolls-Increment, rolls-Skip, rolls-Break, rolls-Error, rolls-If, rolls-While}
+use Rattle.script_bound.specs.declared.statement.Statement.TheVariants.{rolls-Assign, rolls-Put, rolls-Increment, rolls-ZeroOut, rolls-Skip, rolls-Break, rolls-Error, rolls-If, rolls-While}
 use Rattle.script_bind.specs.Variables.{Words}
 use Rattle.script_bind.specs.Binding.{Numbered, in_order, number_of, term_of, written, arm_step, line_step, statement_of, case_of, statements_of, section_of}
 use Rattle.script_bind.specs.Numbers.{together, case_numbers, statement_numbers, numbers_at, numbers_of_case, numbers_of, AreFrom}
@@ -88,6 +88,9 @@ module _ (words : Words) where
   at_increment : (n : ℕ) (t : Term) (ts : List Term) → numbers_at (statements.Increment n t ts) ≡ n ∷ []
   at_increment n t ts = ap numbers_at (sym (rolls-Increment n t ts)) ∙ fold-roll-Statement (List ℕ) (List ℕ) case_numbers statement_numbers (Statement-F.Increment n t ts)
 
+  at_zero_out : (n : ℕ) (ts : List Term) → numbers_at (statements.ZeroOut n ts) ≡ n ∷ []
+  at_zero_out n ts = ap numbers_at (sym (rolls-ZeroOut n ts)) ∙ fold-roll-Statement (List ℕ) (List ℕ) case_numbers statement_numbers (Statement-F.ZeroOut n ts)
+
   at_skip : (n : ℕ) → numbers_at (statements.Skip n) ≡ n ∷ []
   at_skip n = ap numbers_at (sym (rolls-Skip n)) ∙ fold-roll-Statement (List ℕ) (List ℕ) case_numbers statement_numbers (Statement-F.Skip n)
 
@@ -121,6 +124,8 @@ module _ (words : Words) where
   layer (Line-F.Increment given) =
       let w = written (map (term_of words) given) in
       rolled (Line-F.Increment given) (λ n. alone (statements.Increment n w.0 w.1) n (at_increment n w.0 w.1))
+  layer (Line-F.ZeroOut given) =
+      rolled (Line-F.ZeroOut given) (λ n. alone (statements.ZeroOut n (map (term_of words) given)) n (at_zero_out n (map (term_of words) given)))
   layer Line-F.Skip = rolled Line-F.Skip (λ n. alone (statements.Skip n) n (at_skip n))
   layer Line-F.Break = rolled Line-F.Break (λ n. alone (statements.Break n) n (at_break n))
   layer Line-F.Error = rolled Line-F.Error (λ n. alone (statements.Error n) n (at_error n))

@@ -132,6 +132,7 @@ call_term functions.ElementKind arguments = terms.Element element_functions.Kind
 call_term functions.AttributeText arguments = terms.Element element_functions.Text arguments
 call_term functions.AttributeNumber arguments = terms.Element element_functions.Number arguments
 call_term functions.CellIsUpdateable arguments = terms.IsUpdateable arguments
+call_term functions.IsAncestor arguments = terms.Element element_functions.IsAncestor arguments
 
 -- an operator, by what its operands are and what it gives
 unfoldable pub operator_of : ScriptOp → Operator
@@ -208,6 +209,8 @@ line_step words (Line-F.Increment arguments) next = (
   statements.Increment next (written (map (term_of words) arguments)).0 (written (map (term_of words) arguments)).1,
   next + 1,
 )
+line_step words (Line-F.ZeroOut arguments) next =
+    (statements.ZeroOut next (map (term_of words) arguments), next + 1)
 line_step words Line-F.Skip next = (statements.Skip next, next + 1)
 line_step words Line-F.Break next = (statements.Break next, next + 1)
 line_step words Line-F.Error next = (statements.Error next, next + 1)

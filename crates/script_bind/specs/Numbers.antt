@@ -18,6 +18,7 @@ abbrev pub statement_numbers : Statement-F (List ℕ) (List ℕ) → List ℕ
 statement_numbers (Statement-F.Assign number place term) = number ∷ []
 statement_numbers (Statement-F.Put number value names) = number ∷ []
 statement_numbers (Statement-F.Increment number value names) = number ∷ []
+statement_numbers (Statement-F.ZeroOut number names) = number ∷ []
 statement_numbers (Statement-F.Skip number) = number ∷ []
 statement_numbers (Statement-F.Break number) = number ∷ []
 statement_numbers (Statement-F.Error number) = number ∷ []

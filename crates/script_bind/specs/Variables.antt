@@ -59,6 +59,7 @@ abbrev pub line_words : Line-F More More → More
 line_words (Line-F.Assign word given) words = words_in given (with_word word words)
 line_words (Line-F.Put arguments) words = words_in_all arguments words
 line_words (Line-F.Increment arguments) words = words_in_all arguments words
+line_words (Line-F.ZeroOut arguments) words = words_in_all arguments words
 line_words Line-F.Skip words = words
 line_words Line-F.Break words = words
 line_words Line-F.Error words = words

@@ -69,6 +69,10 @@ fn statement_of(
             let (value, names) = written(alloc, words, arguments.as_slice())?;
             Ok(Statement::Increment(number, value, names))
         }
+        Line::ZeroOut(arguments) => {
+            let names = terms_of(alloc, words, arguments.as_slice())?;
+            Ok(Statement::ZeroOut(number, names))
+        }
         Line::Skip => Ok(Statement::Skip(number)),
         Line::Break => Ok(Statement::Break(number)),
         Line::Error => Ok(Statement::Error(number)),

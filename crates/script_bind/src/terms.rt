@@ -231,6 +231,7 @@ fn call_term(
         ScriptFun::ElementKind => element_term(alloc, words, ElementFun::Kind, arguments),
         ScriptFun::AttributeText => element_term(alloc, words, ElementFun::Text, arguments),
         ScriptFun::AttributeNumber => element_term(alloc, words, ElementFun::Number, arguments),
+        ScriptFun::IsAncestor => element_term(alloc, words, ElementFun::IsAncestor, arguments),
         ScriptFun::CellIsUpdateable => Ok(Term::IsUpdateable(terms_of(alloc, words, arguments)?)),
     }
 }

@@ -69,6 +69,7 @@ fn add_words_at(alloc: Global, words: &mut WordTable, line: &Line) -> Result<(),
         }
         Line::Put(arguments) => add_words_in_all(alloc, words, arguments.as_slice()),
         Line::Increment(arguments) => add_words_in_all(alloc, words, arguments.as_slice()),
+        Line::ZeroOut(arguments) => add_words_in_all(alloc, words, arguments.as_slice()),
         Line::Skip => Ok(()),
         Line::Break => Ok(()),
         Line::Error => Ok(()),

@@ -11,6 +11,8 @@ pub enum Statement {
     Put(u32, Term, Items<Term>),
     /// `CellIncrementN`: what is added, and the names of a cube and of its elements.
     Increment(u32, Term, Items<Term>),
+    /// `ZeroOut`: the names of a cube and of its elements.
+    ZeroOut(u32, Items<Term>),
     /// `ItemSkip`
     Skip(u32),
     /// `ProcessBreak`

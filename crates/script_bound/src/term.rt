@@ -78,4 +78,6 @@ pub enum ElementFun {
     Text,
     /// `ATTRN`: the number that this text says.
     Number,
+    /// `ELISANC`: whether the second element lies below the first one.
+    IsAncestor,
 }

@@ -12,18 +12,18 @@ use Rattle.script_bound.specs.declared.statement.Statement.{Statement}
 use Rattle.script_values.specs.declared.kept.Kept.{Kept}
 use Rattle.script_values.specs.declared.load_reason.LoadReason.{LoadReason}
 use Rattle.script_values.specs.declared.load_reason.LoadReason.TheVariants.{ProcessError}
-use Rattle.script_values.specs.Cells.{Store, Write, writing}
-use Rattle.script_values.specs.Values.{truth, taken, cell_value}
+use Rattle.script_values.specs.Cells.{Store, Write, writing, zeroing}
+use Rattle.script_values.specs.Values.{truth, taken, cell_value, each_text, value_of}
 use Rattle.script_tree.specs.declared.script.Section.TheVariants.{Prolog, Body, Epilog}
 use Rattle.script_run.specs.declared.ending.Ending.{Ending}
 use Rattle.script_run.specs.declared.ending.Ending.TheVariants.{Next, Skipped, Broken, Stopped}
 use Rattle.script_run.specs.declared.execution_place.ExecutionPlace.{ExecutionPlace}
 use Rattle.script_run.specs.Setting.{Setting, Progress}
-use Rattle.script_run.specs.Meaning.{Outcome, Ended, Doing, Deed, CaseDeed, Begun, Begins, then_do, begun_with, begin, once, place_of, executed, scene_of, kept_in, assign, given, as_kept, arguments, with_write, put_arguments, increment_arguments, wrote, put, increment, end_with, block, where_holds, choose, turns, case_step, statement_step, deed_of, case_deed, block_of}
+use Rattle.script_run.specs.Meaning.{Outcome, Ended, Doing, Deed, CaseDeed, Begun, Begins, then_do, begun_with, begin, once, place_of, executed, scene_of, kept_in, assign, given, as_kept, arguments, with_write, put_arguments, increment_arguments, zeroing_arguments, wrote, put, increment, zero_out, end_with, block, where_holds, choose, turns, case_step, statement_step, deed_of, case_deed, block_of}
 use Rattle.script_run.specs.Load.{setting, next_record, records, in_the_end, sections, load, start}
 
 -- What holds between a progress with its writes and a later one: of the same, from step to step, and over each step,
--- which is an execution that begins, a variable that is set, or a write that is allowed.
+-- which is an execution that begins, a variable that is set, a write that is allowed, or a cell that is zeroed out.
 pub record IsChain (store : Store) (R : Progress → List Write → Progress → List Write → Type 0) : Type 0 where
   pub same : (p : Progress) (w : List Write) → R p w p w
   pub on : (p q r : Progress) (w v u : List Write) → R p w q v → R q v r u → R p w r u
@@ -33,6 +33,7 @@ pub record IsChain (store : Store) (R : Progress → List Write → Progress →
       → R p w (record { variables = slice_set p.variables place (Some value); left = p.left; last = p.last }) w
   pub writes : (p : Progress) (w u : List Write) (cube : List ℕ) (elements : List (List ℕ)) (value : Value)
       → writing store w cube elements value ≡ Ok u → R p w p u
+  pub zeros : (p : Progress) (w u : List Write) (cube : List ℕ) (elements : List (List ℕ)) → zeroing store w cube elements ≡ Ok u → R p w p u
 
 module _ (store : Store) (R : Progress → List Write → Progress → List Write → Type 0) (chain : IsChain store R) where
   abbrev pub Reaches : Progress → List Write → Outcome → Type 0
@@ -122,6 +123,20 @@ module _ (store : Store) (R : Progress → List Write → Progress → List Writ
       let a = arguments value names (scene_of here p) store w in
       wrote_steady (taken (increment_arguments store w) a) p w (λ u is. increment_allowed p w u a is)
 
+  zeros_allowed : (p : Progress) (w u : List Write) (names : List (List ℕ)) → zeroing_arguments store w names ≡ Ok u → R p w p u
+  zeros_allowed p w u [] is = absurd (cc is)
+  zeros_allowed p w u (cube ∷ elements) is = chain.zeros p w u cube elements is
+
+  zeros_taken : (p : Progress) (w u : List Write) (a : Result (List (List ℕ)) LoadReason) → taken (zeroing_arguments store w) a ≡ Ok u → R p w p u
+  zeros_taken p w u (Ok names) is = zeros_allowed p w u names is
+  zeros_taken p w u (Err reason) is = absurd (cc is)
+
+  zero_out_steady : (names : List Term) → IsSteady (zero_out names)
+  unfolding zero_out
+  zero_out_steady names here p w =
+      let a = each_text (map value_of names) (scene_of here p) store w in
+      wrote_steady (taken (zeroing_arguments store w) a) p w (λ u is. zeros_taken p w u a is)
+
   end_with_steady : (ending : Ending) → IsSteady (end_with ending)
   end_with_steady ending here p w = chain.same p w
 
@@ -166,6 +181,7 @@ module _ (store : Store) (R : Progress → List Write → Progress → List Writ
   layer (Statement-F.Assign number place term) = rolled (Statement-F.Assign number place term) (executed_steady number (assign place term) (assign_steady place term))
   layer (Statement-F.Put number value names) = rolled (Statement-F.Put number value names) (executed_steady number (put value names) (put_steady value names))
   layer (Statement-F.Increment number value names) = rolled (Statement-F.Increment number value names) (executed_steady number (increment value names) (increment_steady value names))
+  layer (Statement-F.ZeroOut number names) = rolled (Statement-F.ZeroOut number names) (executed_steady number (zero_out names) (zero_out_steady names))
   layer (Statement-F.Skip number) = rolled (Statement-F.Skip number) (executed_steady number (end_with Skipped) (end_with_steady Skipped))
   layer (Statement-F.Break number) = rolled (Statement-F.Break number) (executed_steady number (end_with Broken) (end_with_steady Broken))
   layer (Statement-F.Error number) = rolled (Statement-F.Error number) (executed_steady number (end_with (Stopped ProcessError)) (end_with_steady (Stopped ProcessError)))

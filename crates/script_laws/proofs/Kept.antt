@@ -3,14 +3,15 @@ use Rattle.std.proofs.Common.{◌≡◌, ℕ, List, Ok}
 use Rattle.cube_fixed.specs.declared.value.Value.{Value}
 use Rattle.script_bound.specs.declared.script.BoundScript.{BoundScript}
 use Rattle.user_text.specs.declared.command.ParamText.{ParamText}
-use Rattle.script_values.specs.Cells.{Store, Write, writing}
+use Rattle.script_values.specs.Cells.{Store, Write, writing, zeroing}
 use Rattle.script_run.specs.Setting.{Progress}
 use Rattle.script_run.specs.Meaning.{Outcome, Ended}
 use Rattle.script_run.specs.Load.{load, start, writes_of}
 use Rattle.script_laws.proofs.Chains.{IsChain, Reaches, sections_steady}
 
 module _ (store : Store) (P : List Write → Type 0)
-    (kept : (before after : List Write) (cube : List ℕ) (elements : List (List ℕ)) (value : Value) → P before → writing store before cube elements value ≡ Ok after → P after) where
+    (kept : (before after : List Write) (cube : List ℕ) (elements : List (List ℕ)) (value : Value) → P before → writing store before cube elements value ≡ Ok after → P after)
+    (kept_zeros : (before after : List Write) (cube : List ℕ) (elements : List (List ℕ)) → P before → zeroing store before cube elements ≡ Ok after → P after) where
   abbrev Along : Progress → List Write → Progress → List Write → Type 0
   Along p w q v = P w → P v
 
@@ -21,6 +22,7 @@ module _ (store : Store) (P : List Write → Type 0)
     begins = λ p w place left is h. h;
     sets = λ p w place value h. h;
     writes = λ p w u cube elements value is h. kept w u cube elements value h is;
+    zeros = λ p w u cube elements is h. kept_zeros w u cube elements h is;
   }
 
   ends : (p : Progress) (w : List Write) (o : Outcome) → Reaches store Along chain p w o → P w → P (writes_of o)

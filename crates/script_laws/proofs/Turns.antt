@@ -26,6 +26,7 @@ falls store = record {
   begins = λ p w place left is. omega (arith, is);
   sets = λ p w place value. omega arith;
   writes = λ p w u cube elements value is. omega arith;
+  zeros = λ p w u cube elements is. omega arith;
 }
 
 module _ (number : ℕ) (test : Term) (statements : List Statement) (store : Store) (here : Setting) where

@@ -50,6 +50,9 @@ word_leaps : (w : List ℕ) (t : Lexeme) (x : ℕ) → word w t ≡ Some x → i
 word_leaps w t x e = three (is_word (codes "ITEMSKIP") t) (is_word (codes "PROCESSBREAK") t) (is_word (codes "PROCESSERROR") t) _ _ _
     (word_tells w (codes "ITEMSKIP") t x e) (word_tells w (codes "PROCESSBREAK") t x e) (word_tells w (codes "PROCESSERROR") t x e)
 
+pub word_leap : (w : List ℕ) → Begins (one (word w)) is_leap (str_eq_ignore_ascii_case w (codes "ITEMSKIP") || str_eq_ignore_ascii_case w (codes "PROCESSBREAK") || str_eq_ignore_ascii_case w (codes "PROCESSERROR"))
+word_leap w = begins_one (word w) is_leap (str_eq_ignore_ascii_case w (codes "ITEMSKIP") || str_eq_ignore_ascii_case w (codes "PROCESSBREAK") || str_eq_ignore_ascii_case w (codes "PROCESSERROR")) (word_leaps w)
+
 -- Words of variables.
 
 variable_word : (t : Lexeme) (a : List ℕ) → variable t ≡ Some a → (is_word_kind t.kind ≡ true) × (is_variable (capitals t.piece) ≡ true)

@@ -1,6 +1,7 @@
 pub mod PrimaryExact
 pub mod ValueExact
 pub mod FirstWords
+pub mod Assignments
 pub mod StatementExact
 pub mod WithinExact
 pub mod NoHeading

@@ -1,31 +1,23 @@
 -- A statement is not taken for the beginning of a section, and a word that begins one may begin a statement too.
-use Rattle.std.proofs.Common.{◌≡◌, ℕ, zero, suc, List, [], ◌∷◌, ◌++◌, true, false, codes, refl, ◌∙◌, ap, inl, inr}
+use Rattle.std.proofs.Common.{◌≡◌, ℕ, zero, suc, List, ◌∷◌, ◌++◌, true, false, codes, refl, ◌∙◌, inl, inr}
 use Rattle.std.specs.Str.{str_eq_ignore_ascii_case}
 use Rattle.cube_lex.specs.Lexeme.{Lexeme}
 use Rattle.grammar.specs.Grammar.{Grammar, one, many}
 use Rattle.grammar.specs.Tokens.{word, is_sign, is_word, capitals}
 use Rattle.grammar.specs.Variables.{is_variable}
 use Rattle.grammar.proofs.Begins.{Begins, begins_both, starts_text}
-use Rattle.grammar.proofs.Tokens.{sign_of, sign_tells, word_begins}
+use Rattle.grammar.proofs.Tokens.{word_begins}
 use Rattle.expression_grammar.proofs.LookaheadExact.{no_pair}
-use Rattle.script_tree.specs.Statement.{assignment, branching, looping, put, increment, leaping, statement_within, statement}
+use Rattle.script_tree.specs.Statement.{branching, looping, put, increment, leaping, zeroing, statement_within, statement}
 use Rattle.script_reader.specs.Readers.TextReading.{starts_heading}
 use Rattle.script_tree.specs.declared.line.Line.{Line}
-use Rattle.script_tree.specs.declared.line.Line.TheVariants as lines
 use Rattle.script_tree.specs.declared.script.Section.{Section}
-use Rattle.script_reader.proofs.ValueExact.{value_exact}
-use Rattle.script_reader.proofs.FirstWords.{variable_of, leap_no_word}
-use Rattle.std.proofs.lemmas.Bool.{and_right as and_no}
+use Rattle.script_reader.proofs.Assignments.{assignment_no, assignment_of_word}
+use Rattle.script_reader.proofs.FirstWords.{leap_no_word}
 
 -- what begins with another word
 pub other_word : {A : Type 0} {G : Grammar Lexeme A} (mark : List ℕ) → Begins G (is_word mark) false → (u : List Lexeme) (a : A) (rest : List Lexeme) → G u a → starts_heading mark (u ++ rest) ≡ false
 other_word mark e u a rest h = no_pair (is_word mark) (is_sign (codes ":")) (u ++ rest) (starts_text e u a rest h)
-
--- behind the variable of an assignment `=` stands
-assignment_no : (mark : List ℕ) (u : List Lexeme) (l : Line) (rest : List Lexeme) → assignment u l → starts_heading mark (u ++ rest) ≡ false
-assignment_no mark u l rest (a, b, name, parts, (t, is, picks), (c, d, x, more, (s, single, equals), h)) =
-    ap (λ y. starts_heading mark (y ++ rest)) (parts ∙ ap (λ y. y ++ b) is ∙ ap (λ y. t ∷ y) (more ∙ ap (λ y. y ++ d) single))
-    ∙ and_no (is_word mark t) (is_sign (codes ":") s) (sign_tells (codes "=") (codes ":") s x equals)
 
 -- a word that no statement but an assignment begins with
 pub record IsFree (mark : List ℕ) : Type 0 where
@@ -36,6 +28,7 @@ pub record IsFree (mark : List ℕ) : Type 0 where
   pub skips : str_eq_ignore_ascii_case (codes "ITEMSKIP") mark ≡ false
   pub breaks : str_eq_ignore_ascii_case (codes "PROCESSBREAK") mark ≡ false
   pub fails : str_eq_ignore_ascii_case (codes "PROCESSERROR") mark ≡ false
+  pub zeros : str_eq_ignore_ascii_case (codes "ZEROOUT") mark ≡ false
 
 not_word : (w mark : List ℕ) → str_eq_ignore_ascii_case w mark ≡ false → Begins (one (word w)) (is_word mark) false
 not_word w mark e = record { at = λ u a h. (let (t, v, is, tells) = (word_begins w mark).at u a h in (t, v, is, tells ∙ e)) }
@@ -56,6 +49,9 @@ module _ (mark : List ℕ) (free : IsFree mark) (section : Section) where
   leaping_other : Begins (leaping section) (is_word mark) false
   leaping_other = begins_both (leap_no_word section mark free.skips free.breaks free.fails)
 
+  zeroing_other : Begins zeroing (is_word mark) false
+  zeroing_other = begins_both (not_word (codes "ZEROOUT") mark free.zeros)
+
   within_no : (h : ℕ) (u : List Lexeme) (l : Line) (rest : List Lexeme) → statement_within section h u l → starts_heading mark (u ++ rest) ≡ false
   within_no zero u l rest h = absurd h
   within_no (suc k) u l rest (inl h) = other_word mark (branching_other (many (statement_within section k))) u l rest h
@@ -63,7 +59,8 @@ module _ (mark : List ℕ) (free : IsFree mark) (section : Section) where
   within_no (suc k) u l rest (inr (inr (inl h))) = other_word mark put_other u l rest h
   within_no (suc k) u l rest (inr (inr (inr (inl h)))) = other_word mark increment_other u l rest h
   within_no (suc k) u l rest (inr (inr (inr (inr (inl h))))) = other_word mark leaping_other u l rest h
-  within_no (suc k) u l rest (inr (inr (inr (inr (inr h))))) = assignment_no mark u l rest h
+  within_no (suc k) u l rest (inr (inr (inr (inr (inr (inl h)))))) = other_word mark zeroing_other u l rest h
+  within_no (suc k) u l rest (inr (inr (inr (inr (inr (inr h)))))) = assignment_no mark (codes ":") refl u l rest h
 
   pub statement_no_heading : (u : List Lexeme) (l : Line) (rest : List Lexeme) → statement section u l → starts_heading mark (u ++ rest) ≡ false
   statement_no_heading u l rest (h, g) = within_no h u l rest g
@@ -71,9 +68,5 @@ module _ (mark : List ℕ) (free : IsFree mark) (section : Section) where
 -- `mark = 1 ;`
 pub statement_of_word : (mark : List ℕ) → capitals mark ≡ mark → is_variable mark ≡ true → (section : Section) (t : Lexeme) → is_word mark t ≡ true → (v : List Lexeme) × (l : Line) × statement section (t ∷ v) l
 statement_of_word mark capital names section t is =
-    let (w, e, h) = value_exact.word in
-    let equals : Lexeme = sign_of (codes "=") in
-    let ends : Lexeme = sign_of (codes ";") in
-    let assigned : assignment (t ∷ equals ∷ (w ++ ends ∷ [])) (lines.Assign mark e) =
-    (t ∷ [], equals ∷ (w ++ ends ∷ []), mark, refl, (t, refl, variable_of mark capital names t is), (equals ∷ [], w ++ ends ∷ [], tt, refl, (equals, refl, refl), (w, ends ∷ [], e, refl, h, (ends ∷ [], [], tt, refl, (ends, refl, refl), (refl, refl))))) in
-    (equals ∷ (w ++ ends ∷ []), lines.Assign mark e, (1, inr (inr (inr (inr (inr assigned))))))
+    let (v, l, h) = assignment_of_word mark capital names t is in
+    (v, l, (1, inr (inr (inr (inr (inr (inr h)))))))

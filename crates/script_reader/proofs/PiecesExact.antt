@@ -72,10 +72,10 @@ line_starts : (mark : List ℕ) → IsFree mark → (section : Section) (u : Lis
 line_starts mark free section u a rest h = let (l, k) = made_is (statement section) (λ line. pieces.Statement line) u a h in statement_no_heading mark free section u l rest k
 
 data_is_free : IsFree (codes "DATA")
-data_is_free = record { branches = refl; loops = refl; puts = refl; increments = refl; skips = refl; breaks = refl; fails = refl }
+data_is_free = record { branches = refl; loops = refl; puts = refl; increments = refl; skips = refl; breaks = refl; fails = refl; zeros = refl }
 
 epilog_is_free : IsFree (codes "EPILOG")
-epilog_is_free = record { branches = refl; loops = refl; puts = refl; increments = refl; skips = refl; breaks = refl; fails = refl }
+epilog_is_free = record { branches = refl; loops = refl; puts = refl; increments = refl; skips = refl; breaks = refl; fails = refl; zeros = refl }
 
 heading_of_word : (mark : List ℕ) (section : Section) (t : Lexeme) → is_word mark t ≡ true → (v : List Lexeme) × (a : Piece) × heading_piece mark section (t ∷ v) a
 heading_of_word mark section t is =

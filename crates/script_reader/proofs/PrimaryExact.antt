@@ -59,7 +59,7 @@ module _ {V V' : Grammar Lexeme Expr} {P : Plan Expr} (value : Exact counting V 
   unfolding read_three_values
   three_values_exact = exact_before_next value (λ first. exact_then (exact_sign count (codes ",")) (λ _. exact_made (λ rest. first ∷ rest) two_values_exact)) (λ first. begins_both comma)
 
-  two_or_more_exact : Exact counting (two_or_more V) (two_or_more V') (read_two_or_more P) (BehindList (goes_on scripts_language))
+  pub two_or_more_exact : Exact counting (two_or_more V) (two_or_more V') (read_two_or_more P) (BehindList (goes_on scripts_language))
   unfolding read_two_or_more
   two_or_more_exact = exact_before_next value (λ first. exact_then (exact_sign count (codes ",")) (λ _. exact_made (λ rest. first ∷ rest) (listed_exact (goes_on scripts_language) comma value))) (λ first. begins_both comma)
 
@@ -95,6 +95,7 @@ module _ {V V' : Grammar Lexeme Expr} {P : Plan Expr} (value : Exact counting V 
   arguments_exact funs.AttributeText = exact_before (λ rest stops. stops.item) three_values_exact
   arguments_exact funs.AttributeNumber = exact_before (λ rest stops. stops.item) three_values_exact
   arguments_exact funs.CellIsUpdateable = two_or_more_exact
+  arguments_exact funs.IsAncestor = exact_before (λ rest stops. stops.item) three_values_exact
 
   call_exact : (function : ScriptFun) → Exact counting (call V function) (call V' function) (read_call P function) Always
   unfolding read_call

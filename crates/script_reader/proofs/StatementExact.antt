@@ -1,30 +1,33 @@
 -- The readers of statements are exact, if that of the blocks inside them is.
-use Rattle.std.proofs.Common.{ℕ, List, [], ◌∷◌, ◌++◌, true, false, codes, refl, ◌∙◌, ap}
+use Rattle.std.proofs.Common.{◌≡◌, ℕ, List, [], ◌∷◌, ◌++◌, Some, None, true, false, ◌&&◌, if◌then◌else◌, codes, refl, ◌∙◌, ap}
 use Rattle.std.specs.Str.{str_eq_ignore_ascii_case}
 use Rattle.cube_lex.specs.Lexeme.{Lexeme}
-use Rattle.grammar.specs.Grammar.{Grammar, one, both, done, many}
+use Rattle.grammar.specs.Grammar.{Grammar, one, both, done, either, many}
 use Rattle.grammar.specs.Reading.{starts}
-use Rattle.grammar.specs.Tokens.{sign, word, is_word, is_any_word}
+use Rattle.grammar.specs.Tokens.{sign, word, is_sign, is_word, is_any_word}
 use Rattle.grammar.proofs.Exact.{Exact, Always, Not, exact_gives, exact_then, exact_both, exact_made, exact_choose}
-use Rattle.grammar.proofs.Begins.{Begins, begins_both, begins_either, begins_optional, starts_text, starts_many, made_is, exact_or, exact_before_next}
+use Rattle.grammar.proofs.Begins.{Begins, begins_both, begins_either, begins_optional, has_token, starts_text, starts_many, made_is, exact_or, exact_before_next}
 use Rattle.grammar.proofs.Lists.{behind_list}
 use Rattle.grammar.proofs.Many.{exact_all}
-use Rattle.grammar.proofs.Tokens.{exact_sign, exact_word, word_begins}
+use Rattle.grammar.proofs.Tokens.{exact_sign, exact_word, sign_tells, when_picks, word_begins}
 use Rattle.expression_grammar.proofs.Languages.{goes_on}
 use Rattle.expression_grammar.proofs.ExpressionExact.{sign_goes_on}
+use Rattle.expression_grammar.proofs.LookaheadExact.{exact_choose_pair}
+use Rattle.expression_grammar.specs.Readers.Lookahead.{starts_pair, choose_pair}
 use Rattle.script_tree.specs.Counting.{count, counting}
 use Rattle.script_tree.specs.Expression.{scripts_language}
-use Rattle.script_tree.specs.Statement.{assignment, written, put, increment, leaping, condition, arm, conditional, otherwise, branching, looping, plain, statement_of}
+use Rattle.script_tree.specs.Statement.{assignment, written, zeroing, put, increment, leaping, condition, arm, conditional, otherwise, branching, looping, plain, statement_of}
 use Rattle.script_reader.specs.Readers.Reading.{Plan}
-use Rattle.script_reader.specs.Readers.StatementReading.{read_assignment, read_written, read_leaping, read_condition, read_arm, read_arms, read_otherwise, read_branching, read_looping, read_plain, read_statement, is_leap, begins_statement}
+use Rattle.script_reader.specs.Readers.StatementReading.{read_assignment, read_written, read_zeroing, read_leaping, read_condition, read_arm, read_arms, read_otherwise, read_branching, read_looping, read_plain, read_statement, is_leap, begins_statement}
 use Rattle.script_tree.specs.declared.line.Arm.{Arm}
 use Rattle.script_tree.specs.declared.line.Arm.TheVariants as arms
 use Rattle.script_tree.specs.declared.line.Line.{Line}
 use Rattle.script_tree.specs.declared.line.Line.TheVariants as lines
 use Rattle.script_tree.specs.declared.script.Section.{Section}
-use Rattle.script_reader.proofs.PrimaryExact.{closing, three_or_more_exact}
+use Rattle.script_reader.proofs.PrimaryExact.{closing, two_or_more_exact, three_or_more_exact}
 use Rattle.script_reader.proofs.ValueExact.{value_exact, truth_exact}
-use Rattle.script_reader.proofs.FirstWords.{word_statement, word_any, variable_no_word, variable_any, variable_opens, variable_no_leap, exact_variable, leap_no_word, leap_leaps, leap_opens, leap_any, exact_leap}
+use Rattle.script_reader.proofs.Assignments.{assignment_no, assignment_of_word}
+use Rattle.script_reader.proofs.FirstWords.{word_statement, word_any, word_leap, variable_no_word, variable_any, variable_opens, variable_no_leap, exact_variable, leap_no_word, leap_leaps, leap_opens, leap_any, exact_leap}
 
 pub semicolon : Begins (one (sign (codes ";"))) (goes_on scripts_language) false
 semicolon = sign_goes_on scripts_language (codes ";")
@@ -38,6 +41,12 @@ unfolding read_written
 written_exact function = exact_then (exact_word count function) (λ _. exact_then (exact_sign count (codes "(")) (λ _. exact_both (three_or_more_exact value_exact)
     (λ given. exact_then (exact_sign count (codes ")")) (λ _. exact_then (exact_sign count (codes ";")) (λ _. exact_gives counting given)))
     (λ given v b rest l _. behind_list (codes ")") (both (one (sign (codes ";"))) (λ _. done given)) (goes_on scripts_language) closing refl v b rest l)))
+
+zeroing_exact : Exact counting zeroing zeroing read_zeroing Always
+unfolding read_zeroing
+zeroing_exact = exact_then (exact_word count (codes "ZEROOUT")) (λ _. exact_then (exact_sign count (codes "(")) (λ _. exact_both (two_or_more_exact value_exact)
+    (λ given. exact_then (exact_sign count (codes ")")) (λ _. exact_then (exact_sign count (codes ";")) (λ _. exact_gives counting (lines.ZeroOut given))))
+    (λ given v b rest l _. behind_list (codes ")") (both (one (sign (codes ";"))) (λ _. done (lines.ZeroOut given))) (goes_on scripts_language) closing refl v b rest l)))
 
 leaping_exact : (section : Section) → Exact counting (leaping section) (leaping section) (read_leaping section) Always
 unfolding read_leaping
@@ -53,37 +62,59 @@ condition_exact = exact_then (exact_sign count (codes "(")) (λ _. exact_before_
 
 -- What statements begin with.
 
+-- the word of a ZEROOUT begins one, and a `(` follows it
+zeroing_of_word : (t : Lexeme) → is_word (codes "ZEROOUT") t ≡ true → (v : List Lexeme) × (l : Line) × zeroing (t ∷ v) l
+zeroing_of_word t is =
+    let (u, l, (a, b, x, parts, first, rest)) = zeroing_exact.word in
+    (b, l, (t ∷ [], b, t.line, refl, (t, refl, ap (λ c. if c then Some t.line else None) is), rest))
+
+pub zeroing_starts : (u : List Lexeme) (l : Line) (rest : List Lexeme) → zeroing u l → starts_pair (is_word (codes "ZEROOUT")) (is_sign (codes "(")) (u ++ rest) ≡ true
+zeroing_starts u l rest (a, b, line, parts, (t, is, picks), (c, d, x, more, (s, single, opens), h)) =
+    let (marked, _) = when_picks (is_word (codes "ZEROOUT")) (λ t. t.line) t line picks in
+    ap (λ y. starts_pair (is_word (codes "ZEROOUT")) (is_sign (codes "(")) (y ++ rest)) (parts ∙ ap (λ y. y ++ b) is ∙ ap (λ y. t ∷ y) (more ∙ ap (λ y. y ++ d) single))
+    ∙ ap (λ m. m && is_sign (codes "(") s) marked ∙ sign_tells (codes "(") (codes "(") s x opens
+
+zeroing_begins : (mark : List ℕ) → Begins zeroing (is_word mark) (str_eq_ignore_ascii_case (codes "ZEROOUT") mark)
+zeroing_begins mark = begins_both (word_begins (codes "ZEROOUT") mark)
+
+zeroing_or : Exact counting (either zeroing assignment) (either zeroing assignment) (choose_pair (is_word (codes "ZEROOUT")) (is_sign (codes "(")) read_zeroing read_assignment) Always
+zeroing_or = exact_choose_pair count (is_word (codes "ZEROOUT")) (is_sign (codes "("))
+    (record { exact = zeroing_exact; ends = tt; has = has_token {p = is_any_word} (begins_both (word_any (codes "ZEROOUT"))); begun = zeroing_of_word })
+    (record { exact = assignment_exact; ends = tt; has = has_token {p = is_any_word} (begins_both variable_any); begun = assignment_of_word (codes "ZEROOUT") refl refl })
+    (λ u a rest h stops. (zeroing_starts u a rest h, tt))
+    (λ u a rest h stops. (assignment_no (codes "ZEROOUT") (codes "(") refl u a rest h, tt))
+
 plain_exact : (section : Section) → Exact counting (plain section) (plain section) (read_plain section) Always
 unfolding read_plain
 plain_exact section =
     exact_or (is_word (codes "CELLPUTN")) (begins_both (begins_both (word_begins (codes "CELLPUTN") (codes "CELLPUTN"))))
-    (begins_either (begins_both (begins_both (word_begins (codes "CELLINCREMENTN") (codes "CELLPUTN")))) (begins_either (begins_both (leap_no_word section (codes "CELLPUTN") refl refl refl)) (begins_both (variable_no_word (codes "CELLPUTN") refl refl))))
+    (begins_either (begins_both (begins_both (word_begins (codes "CELLINCREMENTN") (codes "CELLPUTN")))) (begins_either (begins_both (leap_no_word section (codes "CELLPUTN") refl refl refl)) (begins_either (zeroing_begins (codes "CELLPUTN")) (begins_both (variable_no_word (codes "CELLPUTN") refl refl)))))
     (exact_made (λ given. lines.Put given) (written_exact (codes "CELLPUTN")))
     (exact_or (is_word (codes "CELLINCREMENTN")) (begins_both (begins_both (word_begins (codes "CELLINCREMENTN") (codes "CELLINCREMENTN"))))
-    (begins_either (begins_both (leap_no_word section (codes "CELLINCREMENTN") refl refl refl)) (begins_both (variable_no_word (codes "CELLINCREMENTN") refl refl)))
+    (begins_either (begins_both (leap_no_word section (codes "CELLINCREMENTN") refl refl refl)) (begins_either (zeroing_begins (codes "CELLINCREMENTN")) (begins_both (variable_no_word (codes "CELLINCREMENTN") refl refl))))
     (exact_made (λ given. lines.Increment given) (written_exact (codes "CELLINCREMENTN")))
-    (exact_or is_leap (begins_both (leap_leaps section)) (begins_both variable_no_leap) (leaping_exact section) assignment_exact))
+    (exact_or is_leap (begins_both (leap_leaps section)) (begins_either (begins_both (word_leap (codes "ZEROOUT"))) (begins_both variable_no_leap)) (leaping_exact section) zeroing_or))
 
-plain_no : (section : Section) (w : List ℕ) → Begins (leaping section) (is_word w) false → Begins assignment (is_word w) false → Begins put (is_word w) false → Begins increment (is_word w) false → Begins (plain section) (is_word w) false
-plain_no section w l a p i = begins_either p (begins_either i (begins_either l a))
+plain_no : (section : Section) (w : List ℕ) → Begins (leaping section) (is_word w) false → Begins zeroing (is_word w) false → Begins assignment (is_word w) false → Begins put (is_word w) false → Begins increment (is_word w) false → Begins (plain section) (is_word w) false
+plain_no section w l z a p i = begins_either p (begins_either i (begins_either l (begins_either z a)))
 
 plain_no_if : (section : Section) → Begins (plain section) (is_word (codes "IF")) false
-plain_no_if section = plain_no section (codes "IF") (begins_both (leap_no_word section (codes "IF") refl refl refl)) (begins_both (variable_no_word (codes "IF") refl refl))
+plain_no_if section = plain_no section (codes "IF") (begins_both (leap_no_word section (codes "IF") refl refl refl)) (zeroing_begins (codes "IF")) (begins_both (variable_no_word (codes "IF") refl refl))
     (begins_both (begins_both (word_begins (codes "CELLPUTN") (codes "IF")))) (begins_both (begins_both (word_begins (codes "CELLINCREMENTN") (codes "IF"))))
 
 plain_no_while : (section : Section) → Begins (plain section) (is_word (codes "WHILE")) false
-plain_no_while section = plain_no section (codes "WHILE") (begins_both (leap_no_word section (codes "WHILE") refl refl refl)) (begins_both (variable_no_word (codes "WHILE") refl refl))
+plain_no_while section = plain_no section (codes "WHILE") (begins_both (leap_no_word section (codes "WHILE") refl refl refl)) (zeroing_begins (codes "WHILE")) (begins_both (variable_no_word (codes "WHILE") refl refl))
     (begins_both (begins_both (word_begins (codes "CELLPUTN") (codes "WHILE")))) (begins_both (begins_both (word_begins (codes "CELLINCREMENTN") (codes "WHILE"))))
 
 -- any word but those that go on behind a block begins a statement, and each does
 module _ (section : Section) (block : Grammar Lexeme (List Line)) where
   pub statement_opens : Begins (statement_of section block) begins_statement true
   statement_opens = begins_either (begins_both (begins_both (begins_both (word_statement (codes "IF"))))) (begins_either (begins_both (word_statement (codes "WHILE")))
-      (begins_either (begins_both (begins_both (word_statement (codes "CELLPUTN")))) (begins_either (begins_both (begins_both (word_statement (codes "CELLINCREMENTN")))) (begins_either (begins_both (leap_opens section)) (begins_both variable_opens)))))
+      (begins_either (begins_both (begins_both (word_statement (codes "CELLPUTN")))) (begins_either (begins_both (begins_both (word_statement (codes "CELLINCREMENTN")))) (begins_either (begins_both (leap_opens section)) (begins_either (begins_both (word_statement (codes "ZEROOUT"))) (begins_both variable_opens))))))
 
   pub statement_any : Begins (statement_of section block) is_any_word true
   statement_any = begins_either (begins_both (begins_both (begins_both (word_any (codes "IF"))))) (begins_either (begins_both (word_any (codes "WHILE")))
-      (begins_either (begins_both (begins_both (word_any (codes "CELLPUTN")))) (begins_either (begins_both (begins_both (word_any (codes "CELLINCREMENTN")))) (begins_either (begins_both (leap_any section)) (begins_both variable_any)))))
+      (begins_either (begins_both (begins_both (word_any (codes "CELLPUTN")))) (begins_either (begins_both (begins_both (word_any (codes "CELLINCREMENTN")))) (begins_either (begins_both (leap_any section)) (begins_either (begins_both (word_any (codes "ZEROOUT"))) (begins_both variable_any))))))
 
 -- what may stand behind the arms of `IF` and `ELSEIF`
 record BehindArms (rest : List Lexeme) : Type 0 where

@@ -78,7 +78,7 @@ fn three_values<'a, I: Item<Expr, Excess, Counted<'a>>>(
 
 /// Reads two values or more.
 #[tactic(auto, unfolding(crate::specs::Readers::Reading::read_two_or_more))]
-fn two_or_more<'a, I: Item<Expr, Excess, Counted<'a>>>(
+pub fn two_or_more<'a, I: Item<Expr, Excess, Counted<'a>>>(
     alloc: Global,
     cursor: &mut Cursor<'_, Counted<'a>>,
     item: &I,
@@ -123,8 +123,11 @@ pub fn arguments_of<'a, I: Item<Expr, Excess, Counted<'a>>>(
 {
     match function {
         ScriptFun::CellGetN | ScriptFun::CellIsUpdateable => two_or_more(alloc, cursor, item),
-        ScriptFun::Subst | ScriptFun::Str | ScriptFun::AttributeText | ScriptFun::AttributeNumber =>
-            three_values(alloc, cursor, item),
+        ScriptFun::Subst
+        | ScriptFun::Str
+        | ScriptFun::AttributeText
+        | ScriptFun::AttributeNumber
+        | ScriptFun::IsAncestor => three_values(alloc, cursor, item),
         ScriptFun::Max
         | ScriptFun::Min
         | ScriptFun::Scan

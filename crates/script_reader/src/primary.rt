@@ -102,6 +102,8 @@ fn function_of_elements(word: &[u8]) -> Option<ScriptFun>
         Some(ScriptFun::AttributeNumber)
     } else if word == b"CELLISUPDATEABLE".as_slice() {
         Some(ScriptFun::CellIsUpdateable)
+    } else if word == b"ELISANC".as_slice() {
+        Some(ScriptFun::IsAncestor)
     } else {
         None
     }

@@ -3,9 +3,10 @@ ghost use Rattle.grammar.specs.Cursor.{Reads};
 ghost use Rattle.grammar.specs.Reading.{starts, all_of};
 ghost use Rattle.script_reader.specs.Readers.StatementReading as reading;
 
-use crate::arguments::three_or_more;
+use crate::arguments::{three_or_more, two_or_more};
 use crate::value::{ValueItem, truth_at, value_at};
 use crate::words::{leap, variable};
+use expression_grammar::pair_comes;
 use grammar::{Cursor, RepeatedItem, Stop, repeated, repeated_behind, sign, word, word_comes};
 use lists::ListOf;
 use script_tree::{Arm, Counted, Excess, Expr, Line, Section};
@@ -39,6 +40,19 @@ fn written_at(
     sign(cursor, b")")?;
     sign(cursor, b";")?;
     Ok(Items::from_vec(given.into_vec()))
+}
+
+/// Reads a `ZeroOut`.
+#[tactic(auto, unfolding(crate::specs::Readers::StatementReading::read_zeroing))]
+fn zeroing_at(alloc: Global, cursor: &mut Cursor<'_, Counted<'_>>) -> Result<Line, Stop<Excess>>
+    ensures { Reads (λ line. line) reading.read_zeroing cursor.old result cursor.new }
+{
+    word(cursor, b"ZEROOUT")?;
+    sign(cursor, b"(")?;
+    let given = two_or_more(alloc, cursor, &ValueItem)?;
+    sign(cursor, b")")?;
+    sign(cursor, b";")?;
+    Ok(Line::ZeroOut(Items::from_vec(given.into_vec())))
 }
 
 /// Reads a statement of one word.
@@ -230,6 +244,8 @@ fn plain_at(
         Ok(Line::Increment(given))
     } else if leap_comes(cursor) {
         leaping_at(cursor, section)
+    } else if pair_comes(cursor, b"ZEROOUT", b"(") {
+        zeroing_at(alloc, cursor)
     } else {
         assignment_at(alloc, cursor)
     }

@@ -17,7 +17,7 @@ use Rattle.script_values.specs.declared.kept.Kept.TheVariants as kept
 use Rattle.script_values.specs.declared.load_reason.LoadReason.{LoadReason}
 use Rattle.script_values.specs.declared.load_reason.LoadReason.TheVariants.{UnknownName, ProcessError, StepLimit}
 use Rattle.script_values.specs.declared.load_reason.LoadReason.TheVariants.{TypeMismatch}
-use Rattle.script_values.specs.Cells.{Store, Write, writing, refusal, writes_after}
+use Rattle.script_values.specs.Cells.{Store, Write, writing, zeroing, refusal, writes_after}
 use Rattle.script_values.specs.Scene.{Scene}
 use Rattle.script_values.specs.Values.{amount, truth, taken, one_and_other, cell_value, each_text, value_of}
 use Rattle.script_run.specs.declared.ending.Ending.{Ending}
@@ -140,6 +140,15 @@ unfoldable pub increment : Term → List Term → Deed
 increment value names store here p w =
     wrote (taken (increment_arguments store w) (arguments value names (scene_of here p) store w)) p w
 
+-- the writes with those that zero out the cell of these names
+abbrev pub zeroing_arguments : Store → List Write → List (List ℕ) → Result (List Write) LoadReason
+zeroing_arguments store w [] = Err UnknownName
+zeroing_arguments store w (cube ∷ elements) = zeroing store w cube elements
+
+unfoldable pub zero_out : List Term → Deed
+zero_out names store here p w =
+    wrote (taken (zeroing_arguments store w) (each_text (map value_of names) (scene_of here p) store w)) p w
+
 abbrev pub end_with : Ending → Deed
 end_with ending store here p w = Ended ending p w
 
@@ -187,6 +196,7 @@ abbrev pub statement_step : Statement-F CaseDeed Deed → Deed
 statement_step (Statement-F.Assign number place term) = executed number (assign place term)
 statement_step (Statement-F.Put number value names) = executed number (put value names)
 statement_step (Statement-F.Increment number value names) = executed number (increment value names)
+statement_step (Statement-F.ZeroOut number names) = executed number (zero_out names)
 statement_step (Statement-F.Skip number) = executed number (end_with Skipped)
 statement_step (Statement-F.Break number) = executed number (end_with Broken)
 statement_step (Statement-F.Error number) = executed number (end_with (Stopped ProcessError))

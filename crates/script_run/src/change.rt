@@ -202,3 +202,41 @@ pub(crate) fn change_cell<C: WorkCells>(
         Err(reason) => Ok(Ending::Stopped(reason)),
     }
 }
+
+/// Writes a 0 into each open leaf cell that is stored at the cell of these names or counts in it.
+fn zero_out_at<C: WorkCells>(
+    alloc: Global,
+    names: &[Text<'_>],
+    cells: &mut C,
+) -> Result<Option<LoadReason>, AllocError>
+    ensures refused { IfOk result (λ reason. reason
+        ≡ refusal (meaning.zeroing_arguments (C.store cells.old) (C.writes cells.old) names.now)) }
+    ensures written { IfOk result (λ _. C.writes cells.new ≡ writes_after (C.writes cells.old)
+        (meaning.zeroing_arguments (C.store cells.old) (C.writes cells.old) names.now)) }
+    ensures store { C.store cells.new ≡ C.store cells.old }
+{
+    match names {
+        [cube, elements @ ..] => cells.zero_out(alloc, cube.as_slice(), elements),
+        [] => Ok(Some(LoadReason::UnknownName)),
+    }
+}
+
+/// Runs a `ZeroOut`.
+#[tactic(auto, unfolding(crate::specs::Meaning::zero_out))]
+pub(crate) fn zero_out<C: WorkCells>(
+    alloc: Global,
+    names: &[Term],
+    here: &Here<'_>,
+    run: &Run,
+    cells: &mut C,
+) -> Result<Ending, AllocError>
+    ensures ended { IfOk result (λ ending. Ended ending run.now (C.writes cells.new)
+        ≡ meaning.zero_out names.now (C.store cells.old) here.now run.now (C.writes cells.old)) }
+    ensures store { C.store cells.new ≡ C.store cells.old }
+{
+    let sight = run.sight(here);
+    match texts_of(alloc, names, &sight, cells)? {
+        Ok(names) => Ok(ending_of(zero_out_at(alloc, names.as_slice(), cells)?)),
+        Err(reason) => Ok(Ending::Stopped(reason)),
+    }
+}

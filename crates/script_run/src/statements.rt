@@ -4,7 +4,7 @@ ghost use Rattle.script_values.specs.declared.load_reason.LoadReason.TheVariants
 ghost use Rattle.script_run.specs.Meaning.{Ended, Begins, stopped, turns, block, choose, deed_of, case_deed};
 ghost use Rattle.script_run.specs.Inside.Executions.{begun};
 
-use crate::change::{Change, assign, change_cell, holds};
+use crate::change::{Change, assign, change_cell, holds, zero_out};
 use crate::ending::Ending;
 use crate::here::Here;
 use crate::progress::Run;
@@ -24,6 +24,7 @@ fn begin(statement: &Statement, here: &Here<'_>, run: &mut Run) -> bool
         Statement::Assign(number, ..)
         | Statement::Put(number, ..)
         | Statement::Increment(number, ..)
+        | Statement::ZeroOut(number, _)
         | Statement::Skip(number)
         | Statement::Break(number)
         | Statement::Error(number)
@@ -83,6 +84,7 @@ fn run_statement<C: WorkCells>(
         Statement::Increment(_, term, names) => {
             change_cell(alloc, Change::Add, term, names.as_slice(), here, run, cells)
         }
+        Statement::ZeroOut(_, names) => zero_out(alloc, names.as_slice(), here, run, cells),
         Statement::Skip(_) => Ok(Ending::Skipped),
         Statement::Break(_) => Ok(Ending::Broken),
         Statement::Error(_) => Ok(Ending::Stopped(LoadReason::ProcessError)),

@@ -64,7 +64,8 @@ functions = (codes "CELLGETN", funs.CellGetN) ∷ (codes "ABS", funs.Abs) ∷ (c
 abbrev pub functions_of_elements : List (List ℕ × ScriptFun)
 functions_of_elements = (codes "DIMSIZ", funs.ElementCount) ∷ (codes "DIMNM", funs.ElementName)
     ∷ (codes "DIMIX", funs.ElementPlace) ∷ (codes "DTYPE", funs.ElementKind) ∷ (codes "ATTRS", funs.AttributeText)
-    ∷ (codes "ATTRN", funs.AttributeNumber) ∷ (codes "CELLISUPDATEABLE", funs.CellIsUpdateable) ∷ []
+    ∷ (codes "ATTRN", funs.AttributeNumber) ∷ (codes "CELLISUPDATEABLE", funs.CellIsUpdateable)
+    ∷ (codes "ELISANC", funs.IsAncestor) ∷ []
 
 -- those whose words are functions before a `(` alone, and name variables elsewhere
 abbrev pub functions_before_parenthesis : List (List ℕ × ScriptFun)
@@ -135,6 +136,7 @@ arguments funs.ElementKind value = two_values value
 arguments funs.AttributeText value = three_values value
 arguments funs.AttributeNumber value = three_values value
 arguments funs.CellIsUpdateable value = two_or_more value
+arguments funs.IsAncestor value = three_values value
 
 -- a function's arguments, in their parentheses
 abbrev pub call : Grammar Lexeme Expr → ScriptFun → Grammar Lexeme Expr

@@ -6,7 +6,7 @@ use Rattle.grammar.specs.Grammar.{Grammar, done, one, either, many, ◌>>=◌, �
 use Rattle.grammar.specs.Tokens.{sign, word, when, is_word, is_word_kind, capitals}
 use Rattle.grammar.specs.Variables.{is_variable}
 use Rattle.expression_grammar.specs.Expression.{nothing}
-use Rattle.script_tree.specs.Expression.{value, truth, three_or_more}
+use Rattle.script_tree.specs.Expression.{value, truth, two_or_more, three_or_more}
 use Rattle.script_tree.specs.declared.expr.Expr.{Expr}
 use Rattle.script_tree.specs.declared.line.Arm.{Arm}
 use Rattle.script_tree.specs.declared.line.Arm.TheVariants as arms
@@ -43,6 +43,16 @@ put = do given ← written (codes "CELLPUTN"); done (lines.Put given)
 
 abbrev pub increment : Grammar Lexeme Line
 increment = do given ← written (codes "CELLINCREMENTN"); done (lines.Increment given)
+
+-- "ZEROOUT" "(" value "," value { "," value } ")" ";" where the word isn't reserved: before a "=" it names a variable
+abbrev pub zeroing : Grammar Lexeme Line
+zeroing = do
+  one (word (codes "ZEROOUT"))
+  one (sign (codes "("))
+  given ← two_or_more value
+  one (sign (codes ")"))
+  one (sign (codes ";"))
+  done (lines.ZeroOut given)
 
 -- `ITEMSKIP` stands in Data alone, `PROCESSBREAK` in Prolog and Data.
 abbrev pub may_skip : Section → Bool
@@ -120,7 +130,7 @@ looping block = do
 
 -- a statement of a section that is no block
 abbrev pub plain : Section → Grammar Lexeme Line
-plain section = either put (either increment (either (leaping section) assignment))
+plain section = either put (either increment (either (leaping section) (either zeroing assignment)))
 
 -- a statement of a section, by the blocks inside it
 abbrev pub statement_of : Section → Grammar Lexeme (List Line) → Grammar Lexeme Line

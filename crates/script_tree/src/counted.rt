@@ -132,6 +132,7 @@ fn is_function_before_parenthesis(token: &Token<'_>) -> bool
             b"ATTRS",
             b"ATTRN",
             b"CELLISUPDATEABLE",
+            b"ELISANC",
         ],
         token,
     )

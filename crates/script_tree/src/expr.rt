@@ -50,6 +50,8 @@ pub enum ScriptFun {
     AttributeNumber,
     /// Whether a cell is open for input: its cube and elements, at least two arguments.
     CellIsUpdateable,
+    /// Whether an element lies below another one: the dimension, the one above and the element.
+    IsAncestor,
 }
 
 /// An operator between two expressions.

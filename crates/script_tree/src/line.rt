@@ -12,6 +12,8 @@ pub enum Line {
     Put(Items<Expr>),
     /// `CellIncrementN(value, cube, element, ..);` It has at least three arguments.
     Increment(Items<Expr>),
+    /// `ZeroOut(cube, element, ..);` It has at least two arguments.
+    ZeroOut(Items<Expr>),
     /// `ItemSkip;`
     Skip,
     /// `ProcessBreak;`

@@ -1,5 +1,5 @@
 -- The cells that a load reads and writes.
-use Rattle.std.specs.Prelude.{ℕ, ℤ, List, [], ◌∷◌, ◌++◌, Option, Some, None, is_none, Result, Ok, Err, Bool, false}
+use Rattle.std.specs.Prelude.{ℕ, ℤ, pos, List, [], ◌∷◌, ◌++◌, Option, Some, None, is_none, Result, Ok, Err, Bool, false}
 use Rattle.cube_fixed.specs.declared.value.Value.{Value}
 use Rattle.cube_fixed.specs.declared.value.Value.TheVariants.{Num, Over}
 use Rattle.script_values.specs.declared.load_reason.LoadReason.{LoadReason}
@@ -21,6 +21,8 @@ pub record Store : Type 0 where
   pub closed : ℕ → Option LoadReason
   -- StoreLimit where the store with these writes holds too many cells, else FedLimit where its fed cells are too many
   pub full : List Write → Option LoadReason
+  -- the leaf cells at a cell or counting in it that are stored after these writes and open for input, rising
+  pub cleared : List Write → ℕ → List ℕ
   -- the elements of the dimension of a name; None where there is no such dimension
   pub elements : List ℕ → Option Elements
 
@@ -32,9 +34,13 @@ value_in store writes None = Err UnknownName
 abbrev pub reading : Store → List Write → List ℕ → List (List ℕ) → Result Value LoadReason
 reading store writes cube elements = value_in store writes (store.cell cube elements)
 
+-- what follows where no reason is against it
+abbrev pub unless_refused : Option LoadReason → Result (List Write) LoadReason → Result (List Write) LoadReason
+unless_refused None after = after
+unless_refused (Some reason) after = Err reason
+
 abbrev pub unless : Option LoadReason → List Write → Result (List Write) LoadReason
-unless None writes = Ok writes
-unless (Some reason) writes = Err reason
+unless reason writes = unless_refused reason (Ok writes)
 
 abbrev pub with_number : Store → List Write → ℕ → Value → Result (List Write) LoadReason
 with_number store writes cell Over = Err OverWrite
@@ -53,6 +59,21 @@ with_cell store writes value None = Err UnknownName
 -- StoreLimit, FedLimit, in this order
 abbrev pub writing : Store → List Write → List ℕ → List (List ℕ) → Value → Result (List Write) LoadReason
 writing store writes cube elements value = with_cell store writes value (store.cell cube elements)
+
+-- the writes with a 0 in each of these cells in turn, or the limit that one of them passes
+abbrev pub with_zeros : Store → List Write → List ℕ → Result (List Write) LoadReason
+with_zeros store writes [] = Ok writes
+with_zeros store writes (cell ∷ cells) =
+    unless_refused (store.full (writes ++ (cell, pos 0) ∷ []))
+    (with_zeros store (writes ++ (cell, pos 0) ∷ []) cells)
+
+abbrev pub zeroed_at : Store → List Write → Option ℕ → Result (List Write) LoadReason
+zeroed_at store writes (Some cell) = with_zeros store writes (store.cleared writes cell)
+zeroed_at store writes None = Err UnknownName
+
+-- the writes with those that zero out a cell: a 0 in each open leaf cell that is stored at it or counts in it
+abbrev pub zeroing : Store → List Write → List ℕ → List (List ℕ) → Result (List Write) LoadReason
+zeroing store writes cube elements = zeroed_at store writes (store.cell cube elements)
 
 -- why a write is refused, if it is
 abbrev pub refusal : Result (List Write) LoadReason → Option LoadReason

@@ -17,6 +17,8 @@ pub record Elements : Type 0 where
   pub place : List ℕ → Option ℕ
   -- whether the one of this name is a leaf
   pub is_leaf : List ℕ → Option Bool
+  -- whether the one of the second name lies below that of the first one, at any depth and whatever the weights
+  pub is_below : List ℕ → List ℕ → Option Bool
   -- the text of an attribute of the one of this name, by the attribute's name; empty where it has none
   pub attribute : List ℕ → List ℕ → Option (List ℕ)
 

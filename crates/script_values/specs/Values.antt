@@ -239,6 +239,13 @@ attribute store (dimension ∷ element ∷ name ∷ []) =
     taken of_element (of_elements (λ all. all.attribute element name) (store.elements dimension))
 attribute store _ = Err UnknownName
 
+-- 1 where an element lies below the first one, else 0
+unfoldable pub is_ancestor : Store → List (List ℕ) → Result Datum LoadReason
+is_ancestor store (dimension ∷ above ∷ element ∷ []) =
+    done (λ below. data_of.Number (units_of (if below then 1 else 0)))
+    (taken of_element (of_elements (λ all. all.is_below above element) (store.elements dimension)))
+is_ancestor store _ = Err UnknownName
+
 -- what a function of a dimension and its elements gives for these texts
 abbrev pub asked : Store → ElementFun → List (List ℕ) → Result Datum LoadReason
 asked store element_functions.Count texts = element_count store texts
@@ -247,6 +254,7 @@ asked store element_functions.Kind texts = element_kind store texts
 asked store element_functions.Text texts = done (λ bytes. data_of.Text bytes) (attribute store texts)
 asked store element_functions.Number texts =
     done (λ value. data_of.Number value) (taken amount_in (attribute store texts))
+asked store element_functions.IsAncestor texts = is_ancestor store texts
 
 -- the name of the element at a place of a dimension; empty where there is none
 abbrev pub named : Store → List ℕ → Value → Result Datum LoadReason

@@ -1,5 +1,6 @@
 ghost use Rattle.std.specs.Prelude.{◌≡◌, List, IfOk};
-ghost use Rattle.script_values.specs.Cells.{Store, Write, reading, writing, refusal, writes_after, is_updateable};
+ghost use Rattle.script_values.specs.Cells.{Store, Write, reading, writing, zeroing, refusal, writes_after};
+ghost use Rattle.script_values.specs.Cells.{is_updateable};
 ghost use Rattle.script_values.specs.Elements.{of_elements};
 
 use crate::load_reason::LoadReason;
@@ -114,4 +115,32 @@ pub trait WorkCells {
             ≡ of_elements (λ all. all.attribute element.now name.now) ((store self.old).elements dimension.now)) }
         ensures store { store self.new ≡ store self.old }
         ensures writes { writes self.new ≡ writes self.old };
+
+    /// Whether the second element of a dimension lies below the first one, at any depth and whatever the weights. None
+    /// where one of them isn't there.
+    fn is_ancestor(
+        &mut self,
+        alloc: Global,
+        dimension: &[u8],
+        above: &[u8],
+        element: &[u8],
+    ) -> Result<Result<Option<bool>, LoadReason>, AllocError>
+        ensures value { IfOk result (λ answer. answer
+            ≡ of_elements (λ all. all.is_below above.now element.now) ((store self.old).elements dimension.now)) }
+        ensures store { store self.new ≡ store self.old }
+        ensures writes { writes self.new ≡ writes self.old };
+
+    /// Writes a 0 into each open leaf cell that is stored at a cell or counts in it, or says why that is refused; a
+    /// refused one changes nothing.
+    fn zero_out(
+        &mut self,
+        alloc: Global,
+        cube: &[u8],
+        elements: &[Text<'_>],
+    ) -> Result<Option<LoadReason>, AllocError>
+        ensures refused { IfOk result (λ reason. reason
+            ≡ refusal (zeroing (store self.old) (writes self.old) cube.now elements.now)) }
+        ensures written { IfOk result (λ _. writes self.new ≡ writes_after (writes self.old)
+            (zeroing (store self.old) (writes self.old) cube.now elements.now)) }
+        ensures store { store self.new ≡ store self.old };
 }

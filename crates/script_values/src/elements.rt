@@ -109,6 +109,29 @@ fn attribute<C: WorkCells>(
     }
 }
 
+/// 1 where the second element lies below the first one, else 0; both have to be there.
+#[tactic(auto, unfolding(crate::specs::Values::is_ancestor))]
+fn is_ancestor<'a, C: WorkCells>(
+    alloc: Global,
+    names: &[Text<'_>],
+    cells: &mut C,
+) -> Result<Result<Datum<'a>, LoadReason>, AllocError>
+    ensures value { IfOk result (λ answer. answer ≡ values.is_ancestor (C.store cells.old) names.now) }
+    ensures store { C.store cells.new ≡ C.store cells.old }
+    ensures writes { C.writes cells.new ≡ C.writes cells.old }
+{
+    let [dimension, above, element] = names else {
+        return Ok(Err(LoadReason::UnknownName));
+    };
+    let (above, element) = (above.as_slice(), element.as_slice());
+    match cells.is_ancestor(alloc, dimension.as_slice(), above, element)? {
+        Ok(Some(true)) => Ok(Ok(Datum::Number(units(1)))),
+        Ok(Some(false)) => Ok(Ok(Datum::Number(units(0)))),
+        Ok(None) => Ok(Err(LoadReason::UnknownName)),
+        Err(reason) => Ok(Err(reason)),
+    }
+}
+
 fn text_given<'a>(given: Result<ListOf<u8>, LoadReason>) -> Result<Datum<'a>, LoadReason>
     ensures { result ≡ values.done (λ bytes. data_of.Text bytes) given }
 {
@@ -141,6 +164,7 @@ pub(crate) fn asked<'a, C: WorkCells>(
         ElementFun::Kind => element_kind(alloc, names, cells),
         ElementFun::Text => Ok(text_given(attribute(alloc, names, cells)?)),
         ElementFun::Number => Ok(number_given(attribute(alloc, names, cells)?)),
+        ElementFun::IsAncestor => is_ancestor(alloc, names, cells),
     }
 }
 

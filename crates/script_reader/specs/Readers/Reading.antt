@@ -96,6 +96,7 @@ read_arguments funs.ElementKind value = read_two_values value
 read_arguments funs.AttributeText value = read_three_values value
 read_arguments funs.AttributeNumber value = read_three_values value
 read_arguments funs.CellIsUpdateable value = read_two_or_more value
+read_arguments funs.IsAncestor value = read_three_values value
 
 -- Primaries.
 

@@ -3,11 +3,13 @@ use Rattle.std.specs.Prelude.{ℕ, zero, suc, Bool, not, ◌&&◌, ◌||◌, Lis
 use Rattle.cube_lex.specs.Lexeme.{Lexeme}
 use Rattle.grammar.specs.Reading.{gives, take_one, choose, all_of, ◌>>=◌, ◌>>◌}
 use Rattle.grammar.specs.Lists.{read_behind}
-use Rattle.grammar.specs.Tokens.{is_word, is_any_word}
+use Rattle.grammar.specs.Tokens.{is_sign, is_word, is_any_word}
+use Rattle.expression_grammar.specs.Readers.Lookahead.{choose_pair}
 use Rattle.expression_grammar.specs.Readers.Reading.{out_of_turns}
 use Rattle.script_tree.specs.Counting.{count}
 use Rattle.script_tree.specs.Statement.{variable, leap}
-use Rattle.script_reader.specs.Readers.Reading.{Plan, take_sign, take_word, read_three_or_more, read_value, read_truth}
+use Rattle.script_reader.specs.Readers.Reading.{Plan, take_sign, take_word, read_value, read_truth}
+use Rattle.script_reader.specs.Readers.Reading.{read_two_or_more, read_three_or_more}
 use Rattle.script_tree.specs.declared.expr.Expr.{Expr}
 use Rattle.script_tree.specs.declared.line.Arm.{Arm}
 use Rattle.script_tree.specs.declared.line.Arm.TheVariants as arms
@@ -31,6 +33,15 @@ read_written function = do
   take_sign (codes ")")
   take_sign (codes ";")
   gives given
+
+unfoldable pub read_zeroing : Plan Line
+read_zeroing = do
+  take_word (codes "ZEROOUT")
+  take_sign (codes "(")
+  given ← read_two_or_more read_value
+  take_sign (codes ")")
+  take_sign (codes ";")
+  gives (lines.ZeroOut given)
 
 unfoldable pub read_leaping : Section → Plan Line
 read_leaping section = do
@@ -93,7 +104,8 @@ read_plain section =
     choose (is_word (codes "CELLPUTN")) (do given ← read_written (codes "CELLPUTN"); gives (lines.Put given))
     (choose (is_word (codes "CELLINCREMENTN"))
     (do given ← read_written (codes "CELLINCREMENTN"); gives (lines.Increment given))
-    (choose is_leap (read_leaping section) read_assignment))
+    (choose is_leap (read_leaping section)
+    (choose_pair (is_word (codes "ZEROOUT")) (is_sign (codes "(")) read_zeroing read_assignment)))
 
 -- a statement, by the blocks inside it
 unfoldable pub read_statement : Section → Plan (List Line) → Plan Line

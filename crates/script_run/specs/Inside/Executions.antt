@@ -13,6 +13,7 @@ abbrev begun_layer : Statement-F Case Statement → Setting → Progress → Beg
 begun_layer (Statement-F.Assign number place term) here p = begin (place_of here number) p
 begun_layer (Statement-F.Put number value names) here p = begin (place_of here number) p
 begun_layer (Statement-F.Increment number value names) here p = begin (place_of here number) p
+begun_layer (Statement-F.ZeroOut number names) here p = begin (place_of here number) p
 begun_layer (Statement-F.Skip number) here p = begin (place_of here number) p
 begun_layer (Statement-F.Break number) here p = begin (place_of here number) p
 begun_layer (Statement-F.Error number) here p = begin (place_of here number) p
