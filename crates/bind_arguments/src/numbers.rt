@@ -1,7 +1,7 @@
-ghost use Rattle.std.specs.Prelude.{◌≡◌, ◌*◌, ◌<◌, pos, length, IfOk, if◌then◌else◌};
-ghost use Rattle.cube_fixed.specs.Range.{unit};
+ghost use Rattle.std.specs.Prelude.{◌≡◌, ◌<◌, length, IfOk};
 ghost use Rattle.cube_fixed.specs.Text.{number_of, reading_of};
 ghost use Rattle.dim_core.specs.Outline.{level, attribute_of};
+ghost use Rattle.rule_laws.specs.Tables.{mark_numbers};
 ghost use Rattle.bind_arguments.specs.declared.element_function.ElementFunction.TheVariants as functions;
 ghost use Rattle.bind_arguments.specs.Numbers.{is_within, number_for, numbers_over, read_or_zero, kind_text, text_for};
 
@@ -25,17 +25,22 @@ pub(crate) fn numbers_over(
     requires { is_within dimension.now function.now }
     ensures { IfOk result (λ table. table ≡ numbers_over dimension.now function.now) }
 {
-    let numbers = match function {
-        ElementFunction::Place => places(alloc, dimension)?,
-        ElementFunction::Level => levels(alloc, dimension)?,
-        ElementFunction::ComponentOf(parent) => memberships(alloc, dimension, *parent)?,
-        ElementFunction::Below(above) => descents(alloc, dimension, *above)?,
-        ElementFunction::Attribute(name) => attributes(alloc, dimension, name)?,
-        ElementFunction::ComponentCount => component_counts(alloc, dimension)?,
-        ElementFunction::ParentCount => parent_counts(alloc, dimension)?,
-        ElementFunction::Same(one, other) => comparisons(alloc, dimension, one, other)?,
-    };
-    ElementTable::new(alloc, numbers)
+    match function {
+        ElementFunction::Place => ElementTable::new(alloc, places(alloc, dimension)?),
+        ElementFunction::Level => ElementTable::new(alloc, levels(alloc, dimension)?),
+        ElementFunction::ComponentOf(parent) => memberships(alloc, dimension, *parent),
+        ElementFunction::Below(above) => descents(alloc, dimension, *above),
+        ElementFunction::Attribute(name) => {
+            ElementTable::new(alloc, attributes(alloc, dimension, name)?)
+        }
+        ElementFunction::ComponentCount => {
+            ElementTable::new(alloc, component_counts(alloc, dimension)?)
+        }
+        ElementFunction::ParentCount => ElementTable::new(alloc, parent_counts(alloc, dimension)?),
+        ElementFunction::Same(one, other) => {
+            ElementTable::marked(alloc, comparisons(alloc, dimension, one, other)?)
+        }
+    }
 }
 
 // The place of each element, from 1.
@@ -130,59 +135,47 @@ fn kind_text(leaf: bool) -> &'static [u8]
     }
 }
 
-// 1 for each element of which both texts are the same, 0 for the others.
+// Of which elements both texts are the same.
 fn comparisons(
     alloc: Global,
     dimension: &Dimension,
     one: &ElementText,
     other: &ElementText,
-) -> Result<Vec<Money>, AllocError>
-    ensures { IfOk result (λ numbers. numbers.items ≡ numbers_over dimension.now (functions.Same one.now other.now)) }
+) -> Result<Vec<bool>, AllocError>
+    ensures { IfOk result (λ marks. mark_numbers marks.items
+        ≡ numbers_over dimension.now (functions.Same one.now other.now)) }
 {
-    let mut numbers = Vec::with_capacity(alloc, dimension.len() as usize)?;
+    let mut marks = Vec::with_capacity(alloc, dimension.len() as usize)?;
     for element in 0..dimension.len() {
         let same = is_same_name(
             text_of(dimension, one, element),
             text_of(dimension, other, element),
         );
-        numbers.push(number_of_mark(same))?;
+        marks.push(same)?;
     }
-    Ok(numbers)
-}
-
-// 1 for what holds, 0 for what doesn't.
-fn number_of_mark(mark: bool) -> Money
-    ensures { result ≡ (if mark then pos unit else pos 0) }
-{
-    if mark {
-        Money::of_units(1)
-    } else {
-        Money::ZERO
-    }
+    Ok(marks)
 }
 
 // 1 for each component of this element, 0 for the others.
-fn memberships(alloc: Global, dimension: &Dimension, parent: u32) -> Result<Vec<Money>, AllocError>
+fn memberships(
+    alloc: Global,
+    dimension: &Dimension,
+    parent: u32,
+) -> Result<ElementTable, AllocError>
     requires { parent < length dimension.now.elements }
-    ensures { IfOk result (λ numbers. numbers.items ≡ numbers_over dimension.now (functions.ComponentOf parent)) }
+    ensures { IfOk result (λ table. table ≡ numbers_over dimension.now (functions.ComponentOf parent)) }
 {
     let marks = components_of(alloc, dimension, parent)?;
-    let mut numbers = Vec::with_capacity(alloc, marks.len())?;
-    for element in 0..marks.len() {
-        numbers.push(number_of_mark(marks[element]))?;
-    }
-    Ok(numbers)
+    let table = ElementTable::marked(alloc, marks)?;
+    Ok(table)
 }
 
 // 1 for each element below this one, 0 for the others.
-fn descents(alloc: Global, dimension: &Dimension, above: u32) -> Result<Vec<Money>, AllocError>
+fn descents(alloc: Global, dimension: &Dimension, above: u32) -> Result<ElementTable, AllocError>
     requires { above < length dimension.now.elements }
-    ensures { IfOk result (λ numbers. numbers.items ≡ numbers_over dimension.now (functions.Below above)) }
+    ensures { IfOk result (λ table. table ≡ numbers_over dimension.now (functions.Below above)) }
 {
     let marks = elements_below(alloc, dimension, above)?;
-    let mut numbers = Vec::with_capacity(alloc, marks.len())?;
-    for element in 0..marks.len() {
-        numbers.push(number_of_mark(marks[element]))?;
-    }
-    Ok(numbers)
+    let table = ElementTable::marked(alloc, marks)?;
+    Ok(table)
 }

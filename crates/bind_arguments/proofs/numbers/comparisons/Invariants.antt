@@ -1,9 +1,8 @@
 use Rattle.std.proofs.Common.{◌≡◌, map}
 use Rattle.std.specs.List.{range_with_len}
-use Rattle.bind_arguments.specs.Numbers.{number_for}
-use Rattle.bind_arguments.specs.declared.element_function.ElementFunction.TheVariants as functions
+use Rattle.bind_arguments.proofs.NumbersMade.{same_texts}
 use Rattle.bind_arguments.proofs.numbers.comparisons.Given as goal
 
--- the numbers so far
+-- the marks so far
 abbrev pub invariant-loop-element : goal.invariant-loop-element
-invariant-loop-element l = l.numbers.items ≡ map (number_for l.dimension (functions.Same l.one l.other)) (range_with_len 0 l.element)
+invariant-loop-element l = l.marks.items ≡ map (same_texts l.dimension l.one l.other) (range_with_len 0 l.element)
