@@ -5,12 +5,14 @@
 //! equal arguments share a table. `specs/Written.antt` says which formulas are element arguments, `specs/Bound.antt`
 //! which of their names are unknown and which name one gives, `specs/Argument.antt` the table that comes of it.
 //! [`ElementFunction`] is a function that gives each element a number, and `specs/Numbers.antt` says which.
+//! [`elements_below`] marks what lies below an element.
 #![tactic(auto)]
 
 pub use argument::bind_argument;
 pub use bound_maps::BoundMaps;
 pub use element_function::ElementFunction;
 pub use fault::ArgumentFault;
+pub use marks::elements_below;
 pub use naming::attribute_named;
 
 mod alike;
