@@ -6,6 +6,7 @@
 //! which of their names are unknown and which name one gives, `specs/Family.antt` the parents and the next leaf of an
 //! element, `specs/Argument.antt` the table that comes of it.
 //! [`ElementFunction`] is a function that gives each element a number, and `specs/Numbers.antt` says which.
+//! [`elements_below`] marks what lies below an element.
 #![tactic(auto)]
 
 pub use argument::bind_argument;
@@ -13,6 +14,7 @@ pub use bound_maps::BoundMaps;
 pub use element_function::ElementFunction;
 pub use element_text::ElementText;
 pub use fault::ArgumentFault;
+pub use marks::elements_below;
 pub use naming::attribute_named;
 
 mod alike;

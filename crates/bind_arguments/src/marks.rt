@@ -53,7 +53,7 @@ fn take_turn(marks: &mut Vec<bool>, dimension: &Dimension, above: u32, element: 
 }
 
 /// Which elements lie below this one. Those above are looked at first, so each is looked at once.
-pub(crate) fn elements_below(
+pub fn elements_below(
     alloc: Global,
     dimension: &Dimension,
     above: u32,

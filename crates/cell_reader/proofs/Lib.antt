@@ -4,4 +4,5 @@ pub mod LastNumbers
 pub mod Limits
 pub mod RoomFacts
 pub mod SlotFacts
+pub mod StoredCells
 pub mod Works

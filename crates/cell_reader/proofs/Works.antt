@@ -20,7 +20,7 @@ use Rattle.rule_model.specs.BoundModel.{BoundModel}
 use Rattle.rule_model.specs.Conditions.{AreRules}
 use Rattle.rule_model.specs.System.{system_of}
 use Rattle.cell_reader.specs.FedCount.{fed_count}
-use Rattle.cell_reader.specs.Limits.{IsLimitAnswer}
+use Rattle.cell_reader.specs.Limits.{IsLimitAnswer, IsWithinLimits}
 use Rattle.cell_reader.specs.Inside.After.{IsAfter, IsAhead, MayWait}
 use Rattle.cell_reader.specs.declared.room.Room.{Room}
 use Rattle.cell_reader.specs.declared.work.Work.{Work}
@@ -74,6 +74,18 @@ module _ (opening latest : Arc NumberedVersion Global) (ws : List (ℕ × ℤ)) 
 
   pub ahead_answers : {T : Type 0} (ok : T) → IsLimitAnswer (arc_value opening).model (after_writes (arc_value opening).stored ws) (Ok ok)
   ahead_answers ok = within-answers (arc_value opening).model (after_writes (arc_value opening).stored ws) ok few_after few_fed_after
+
+  -- also after a written 0
+  pub zero-within : IsSpace (arc_value opening).model.space → AreRules (arc_value opening).model.space (arc_value opening).model.rules → (cell : ℕ) (number : ℤ) → number ≡ pos 0
+      → IsWithinLimits (arc_value opening).model (after_writes (arc_value opening).stored (ws ++ (cell, number) ∷ []))
+  zero-within valid rules cell number none =
+      let so_far : List Entry = after_writes (arc_value opening).stored ws in
+      let fewer = none_more so_far cell number none in
+      let fed = no_more_fed (arc_value opening).model so_far cell number valid rules none in
+      rw (after-more (arc_value opening).stored ws ((cell, number) ∷ [])) (record {
+        few_stored = omega (arith, fewer, few_after);
+        few_fed = omega (arith, fed, few_fed_after);
+      })
 
   -- less room is left
   pub less-room : (left : Room) → left.stored ≤ room.stored → left.fed ≤ room.fed → IsAhead opening latest ws made left

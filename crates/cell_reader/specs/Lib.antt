@@ -4,4 +4,5 @@ pub mod FedCount
 pub mod Limits
 pub mod Works
 pub mod WritePermission
+pub mod StoredBelow
 pub mod Inside

@@ -4,10 +4,11 @@
 //!   stored, [`Snapshot::next`] is the one after some writes, and [`Snapshot::share`] is the same for another reader.
 //! - [`Snapshot::value_at`] is a cell's value, and [`Snapshot::read`] the same for who counts steps.
 //! - [`Work`] is a version with the writes of a load so far, which sees its own writes: [`Work::get`], [`Work::put`].
+//!   [`Work::stored_below`] and [`Work::clear`] serve what empties the cells below a total.
 //! - [`why_closed`] says whether a cell may be written, and why not.
 //!
-//! Contracts speak of these by the words of `specs/Snapshots.antt`, `specs/Works.antt`, `specs/Limits.antt` and
-//! `specs/WritePermission.antt`.
+//! Contracts speak of these by the words of `specs/Snapshots.antt`, `specs/Works.antt`, `specs/Limits.antt`,
+//! `specs/StoredBelow.antt` and `specs/WritePermission.antt`.
 #![tactic(auto)]
 
 pub use cell_versions::NextFault;
@@ -23,6 +24,7 @@ mod slots;
 mod snapshot;
 mod snapshot_read;
 mod sound;
+mod stored_below;
 mod uncounted;
 mod ungoverned;
 mod work;

@@ -1,11 +1,12 @@
-ghost use Rattle.std.specs.Prelude.{◌≡◌, [], IfOk};
+ghost use Rattle.std.specs.Prelude.{◌≡◌, true, [], All, IfOk};
 ghost use Rattle.cell_store.specs.Entries.{number_at};
 ghost use Rattle.cell_versions.specs.Versions.{AreLeafWrites};
-ghost use Rattle.cube_space.specs.Cells.{IsCell};
+ghost use Rattle.cube_space.specs.Cells.{IsCell, is_leaf_cell};
 ghost use Rattle.rule_laws.specs.RuleSystem.{dense_value};
 ghost use Rattle.rule_model.specs.System.{system_of};
 ghost use Rattle.stored_laws.specs.Stored.{stored_in};
 ghost use Rattle.cell_reader.specs.Snapshots.{known_in, memory_of, version_of};
+ghost use Rattle.cell_reader.specs.StoredBelow.{stored_below};
 ghost use Rattle.cell_reader.specs.Works.{opening_of, stored_after, writes_of};
 ghost use Rattle.cell_writes.specs.Writes.{last_writes};
 
@@ -13,6 +14,7 @@ use crate::last_numbers::{last_numbers, number_after};
 use crate::next_snapshot::memory_for;
 use crate::room::room_of;
 use crate::snapshot::Snapshot;
+use crate::stored_below::stored_below;
 use crate::uncounted::uncounted_value;
 use crate::ungoverned::is_ungoverned_leaf;
 use crate::work::{WORK_SLOTS, Work};
@@ -85,6 +87,20 @@ impl Work {
         let number = number_after(self.latest.store(), &numbers, cell);
         self.numbers = Some(numbers);
         Ok(number)
+    }
+
+    /// The leaf cells that are stored after the writes so far and count in a cell, rising. A leaf cell counts in itself.
+    pub fn stored_below(&mut self, alloc: Global, cell: u64) -> Result<Vec<u64>, AllocError>
+        requires { IsCell (opening_of self.old).model.space cell }
+        ensures cells { IfOk result (λ cells. cells.items ≡ stored_below (opening_of self.old).model.space
+            (stored_after self.old (writes_of self.old)) cell) }
+        ensures leaves { let space = (opening_of self.old).model.space in
+            IfOk result (λ cells. All (λ one. IsCell space one × (is_leaf_cell space one ≡ true)) cells.items) }
+        ensures opening { opening_of self.new ≡ opening_of self.old }
+        ensures writes { writes_of self.new ≡ writes_of self.old }
+    {
+        self.settle(alloc)?;
+        stored_below(alloc, self.latest.model(), self.latest.store(), cell)
     }
 
     /// The model.

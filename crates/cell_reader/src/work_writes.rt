@@ -1,13 +1,14 @@
-ghost use Rattle.std.specs.Prelude.{◌≡◌, true, [], ◌∷◌, ◌++◌, OnOk, OnErr};
+ghost use Rattle.std.specs.Prelude.{◌≡◌, true, pos, [], ◌∷◌, ◌++◌, OnOk, OnErr};
 ghost use Rattle.std.specs.Arc.{arc_value};
 ghost use Rattle.cube_space.specs.Cells.{IsCell, is_leaf_cell};
-ghost use Rattle.cell_reader.specs.Limits.{IsLimitAnswer};
+ghost use Rattle.cell_reader.specs.Limits.{IsLimitAnswer, IsWithinLimits};
 ghost use Rattle.cell_reader.specs.Works.{opening_of, stored_after, writes_of};
 ghost use Rattle.cell_reader.specs.Inside.After.{IsAfter};
 
 use crate::last_numbers::with_write;
 use crate::next_snapshot::{version_after, version_within};
 use crate::room::{room_behind, room_of};
+use crate::sound::is_sound;
 use crate::work::Work;
 use cell_versions::{NextFault, Version};
 use cube_fixed::Money;
@@ -39,6 +40,24 @@ impl Work {
         let next = version_after(alloc, &self.latest, &[(cell, number)])?;
         self.go_on(alloc, next, &[(cell, number)])?;
         Ok(())
+    }
+
+    /// Writes a 0 into a leaf cell. It passes no limit.
+    pub fn clear(&mut self, alloc: Global, cell: u64) -> Result<(), AllocError>
+        requires cell { IsCell (opening_of self.old).model.space cell }
+        requires leaf { is_leaf_cell (opening_of self.old).model.space cell ≡ true }
+        ensures opening { opening_of self.new ≡ opening_of self.old }
+        ensures written { OnOk result (writes_of self.new ≡ writes_of self.old ++ (cell, pos 0) ∷ []) }
+        ensures same { OnErr result (writes_of self.new ≡ writes_of self.old) }
+        ensures within { IsWithinLimits (opening_of self.old).model
+            (stored_after self.old (writes_of self.old ++ (cell, pos 0) ∷ [])) }
+    {
+        is_sound(&self.opening);
+        match self.put(alloc, cell, Money::ZERO) {
+            Ok(()) => Ok(()),
+            Err(NextFault::Memory) => Err(AllocError),
+            Err(NextFault::StoreLimit(_)) | Err(NextFault::FedLimit(_)) => unreachable!(),
+        }
     }
 
     /// Makes the version with the writes that wait.

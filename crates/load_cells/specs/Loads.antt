@@ -1,7 +1,9 @@
 -- What a load runs on: the cells of a version, by names, with the writes so far.
-use Rattle.std.specs.Prelude.{ℕ, suc, nat_lt, ◌&&◌, List, length, Option, Some, None, option_map, if◌then◌else◌}
+use Rattle.std.specs.Prelude.{ℕ, suc, nat_lt, ◌&&◌, List, length, filter, if◌then◌else◌}
+use Rattle.std.specs.Prelude.{Option, Some, None, is_none, option_map}
 use Rattle.std.specs.List.{list_all}
 use Rattle.cell_reader.specs.FedCount.{fed_count}
+use Rattle.cell_reader.specs.StoredBelow.{stored_below}
 use Rattle.cell_reader.specs.WritePermission.{why_closed}
 use Rattle.cell_reader.specs.declared.write_permission.Closed.{Closed}
 use Rattle.cell_reader.specs.declared.write_permission.Closed.TheVariants as closed
@@ -38,6 +40,10 @@ passed model stored =
     else if nat_lt most_fed (fed_count model stored) then Some (FedLimit (suc most_fed))
     else None
 
+-- those of these cells that take input, whatever is stored
+abbrev pub open_among : BoundModel → List ℕ → List ℕ
+open_among model cells = filter (λ cell. is_none (why_closed model cell)) cells
+
 -- a model and what is stored, as a load sees them
 abbrev pub store_of : BoundModel → List Entry → Store
 store_of model stored =
@@ -46,5 +52,6 @@ store_of model stored =
       value = λ writes. dense_value (system_of model) (stored_in (after_writes stored writes));
       closed = λ cell. option_map reason_of (why_closed model cell);
       full = λ writes. passed model (after_writes stored writes);
+      cleared = λ writes cell. open_among model (stored_below model.space (after_writes stored writes) cell);
       elements = elements_by_text model.space;
     }

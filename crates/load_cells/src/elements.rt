@@ -4,6 +4,7 @@ ghost use Rattle.load_cells.specs.Found.{AreElements, AreFound};
 ghost use Rattle.load_cells.specs.Members.{elements_by_text, name_at};
 ghost use Rattle.load_cells.specs.Names.{attribute_by_text, element_by_text};
 
+use crate::below::is_below;
 use crate::found::{FoundElements, FoundNames, dimension_by_text, element_by_text, name_in};
 use cube_space::Space;
 use dim_core::Dimension;
@@ -167,4 +168,30 @@ pub(crate) fn attribute(
         }
         None => Ok(Ok(None)),
     }
+}
+
+/// Whether an element of a dimension lies below another one.
+pub(crate) fn is_ancestor(
+    alloc: Global,
+    space: &Space,
+    found: &mut FoundNames,
+    dimension: &[u8],
+    above: &[u8],
+    element: &[u8],
+) -> Result<Result<Option<bool>, LoadReason>, AllocError>
+    requires { AreFound space.now found.old }
+    ensures value { IfOk result (λ answer. answer
+        ≡ of_elements (λ all. all.is_below above.now element.now) (elements_by_text space.now dimension.now)) }
+    ensures found { AreFound space.now found.new }
+{
+    let Some(dim) = dimension_by_text(alloc, space, &mut found.dimension, dimension)? else {
+        return Ok(Err(LoadReason::UnknownName));
+    };
+    let above = element_in(alloc, space, &mut found.elements, dim, above)?;
+    let element = element_in(alloc, space, &mut found.elements, dim, element)?;
+    let (Some(above), Some(element)) = (above, element) else {
+        return Ok(Ok(None));
+    };
+    let below = is_below(alloc, space, &mut found.below, dim, above, element)?;
+    Ok(Ok(Some(below)))
 }

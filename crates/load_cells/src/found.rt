@@ -4,6 +4,7 @@ ghost use Rattle.dim_name.specs.Name.{is_name};
 ghost use Rattle.load_cells.specs.Found.{AreFound, AreNames, IsFound};
 ghost use Rattle.load_cells.specs.Names.{cube_by_text, dimension_by_text, element_by_text};
 
+use crate::below::FoundBelow;
 use cube_space::Space;
 use dim_core::Dimension;
 use dim_name::{Name, NameFault};
@@ -134,6 +135,7 @@ pub(crate) struct FoundNames {
     pub(crate) cube: FoundName,
     pub(crate) dimension: FoundName,
     pub(crate) elements: Vec<FoundElements>,
+    pub(crate) below: Option<FoundBelow>,
 }
 
 impl FoundNames {
@@ -148,6 +150,7 @@ impl FoundNames {
             cube: FoundName::none(alloc),
             dimension: FoundName::none(alloc),
             elements,
+            below: None,
         })
     }
 }

@@ -5,7 +5,9 @@
 
 pub use load::LoadCells;
 
+mod below;
 mod elements;
 mod found;
 mod load;
 mod names;
+mod zeros;

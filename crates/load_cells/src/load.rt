@@ -6,6 +6,7 @@ ghost use Rattle.load_cells.specs.Loads.{reason_of};
 use crate::elements;
 use crate::found::FoundNames;
 use crate::names::cell_by_texts;
+use crate::zeros::zero_out;
 use cell_reader::{Closed, NextFault, Work, why_closed};
 use cube_fixed::Value;
 use lists::ListOf;
@@ -149,6 +150,32 @@ impl WorkCells for LoadCells {
     ) -> Result<Result<Option<ListOf<u8>>, LoadReason>, AllocError> {
         let space = self.work.model().space();
         elements::attribute(alloc, space, &mut self.names, dimension, element, name)
+    }
+
+    fn is_ancestor(
+        &mut self,
+        alloc: Global,
+        dimension: &[u8],
+        above: &[u8],
+        element: &[u8],
+    ) -> Result<Result<Option<bool>, LoadReason>, AllocError> {
+        let space = self.work.model().space();
+        elements::is_ancestor(alloc, space, &mut self.names, dimension, above, element)
+    }
+
+    fn zero_out(
+        &mut self,
+        alloc: Global,
+        cube: &[u8],
+        elements: &[Text<'_>],
+    ) -> Result<Option<LoadReason>, AllocError> {
+        let model = self.work.model();
+        let Some(cell) = cell_by_texts(alloc, model, &mut self.names, cube, elements)? else {
+            return Ok(Some(LoadReason::UnknownName));
+        };
+        let cells = self.work.stored_below(alloc, cell)?;
+        zero_out(alloc, &mut self.work, &cells)?;
+        Ok(None)
     }
 }
 

@@ -1,5 +1,5 @@
 -- Dimensions that are listed in a case, and their elements.
-use Rattle.std.specs.Prelude.{ℕ, zero, suc, ◌+◌, List, [], ◌∷◌, length, position, slice_get, bytes_eq}
+use Rattle.std.specs.Prelude.{ℕ, zero, suc, ◌+◌, Bool, false, List, [], ◌∷◌, length, position, slice_get, bytes_eq}
 use Rattle.std.specs.Prelude.{Option, Some, None, option_map, option_and_then}
 use Rattle.script_values.specs.Elements.{Elements}
 use Rattle.script_cases.specs.declared.listed.ListedAttribute.{ListedAttribute}
@@ -29,6 +29,12 @@ abbrev pub text_of : Option ListedAttribute → List ℕ
 text_of (Some attribute) = attribute.text
 text_of None = []
 
+-- A case lists no components, so that no element lies below another one.
+abbrev pub none_below : Option ListedElement → Option ListedElement → Option Bool
+none_below (Some above) (Some element) = Some false
+none_below (Some above) None = None
+none_below None element = None
+
 abbrev pub elements_of : List ListedAttribute → ListedDimension → Elements
 elements_of attributes dimension =
     record {
@@ -36,6 +42,8 @@ elements_of attributes dimension =
       name = name_at dimension.elements;
       place = λ name. option_map (λ index. index + 1) (place_of dimension.elements name);
       is_leaf = λ name. option_map (λ element. element.is_leaf) (element_named dimension.elements name);
+      is_below = λ above name.
+          none_below (element_named dimension.elements above) (element_named dimension.elements name);
       attribute = λ name attribute.
           option_map (λ element. text_of (attribute_named attributes (joined dimension.name (name ∷ attribute ∷ []))))
           (element_named dimension.elements name);

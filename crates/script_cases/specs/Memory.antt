@@ -42,12 +42,18 @@ full_with stored fed count =
     if nat_lt stored count then Some (StoreLimit count)
     else if nat_lt fed count then Some (FedLimit count) else None
 
+-- No cell of a case has others below it: zeroing out an open cell writes a 0 into it.
+abbrev pub cleared_at : Option LoadReason → ℕ → List ℕ
+cleared_at None cell = cell ∷ []
+cleared_at (Some reason) cell = []
+
 abbrev pub store_of : List Listed → List ListedDimension → List ListedAttribute → ℕ → ℕ → Store
 store_of cells dimensions attributes stored fed = record {
   cell = cell_in cells;
   value = λ writes cell. last_value cell (value_of (slice_get cells cell)) writes;
   closed = λ cell. closed_at (slice_get cells cell);
   full = λ writes. full_with stored fed (length writes);
+  cleared = λ writes cell. cleared_at (closed_at (slice_get cells cell)) cell;
   elements = elements_named dimensions attributes;
 }
 

@@ -245,4 +245,40 @@ impl WorkCells for MemoryCells {
         let text = attribute_text(alloc, self.attributes.as_slice(), &names)?;
         Ok(Ok(Some(text)))
     }
+
+    fn is_ancestor(
+        &mut self,
+        alloc: Global,
+        dimension: &[u8],
+        above: &[u8],
+        element: &[u8],
+    ) -> Result<Result<Option<bool>, LoadReason>, AllocError> {
+        let Some(found) = dimension_named(self.dimensions.as_slice(), dimension) else {
+            return Ok(Err(LoadReason::UnknownName));
+        };
+        let elements = found.elements.as_slice();
+        match (
+            element_named(elements, above),
+            element_named(elements, element),
+        ) {
+            (Some(_), Some(_)) => Ok(Ok(Some(false))),
+            (Some(_), None) => Ok(Ok(None)),
+            (None, _) => Ok(Ok(None)),
+        }
+    }
+
+    fn zero_out(
+        &mut self,
+        alloc: Global,
+        cube: &[u8],
+        elements: &[Text<'_>],
+    ) -> Result<Option<LoadReason>, AllocError> {
+        let Some(place) = cell_in(alloc, self.cells.as_slice(), cube, elements)? else {
+            return Ok(Some(LoadReason::UnknownName));
+        };
+        match closed_at(self.cells.as_slice(), place) {
+            None => self.write(place as u64, Money::ZERO),
+            Some(_) => Ok(None),
+        }
+    }
 }

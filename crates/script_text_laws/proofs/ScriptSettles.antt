@@ -57,6 +57,7 @@ module _ (k : ℕ) (P : Plan Expr) (value : SettlesBelow k P) where
   below_arguments funs.AttributeText = below_three_values
   below_arguments funs.AttributeNumber = below_three_values
   below_arguments funs.CellIsUpdateable = below_two_or_more
+  below_arguments funs.IsAncestor = below_three_values
 
   below_call : (function : ScriptFun) → SettlesBelow k (read_call P function)
   unfolding read_call

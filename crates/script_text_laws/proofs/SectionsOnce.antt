@@ -48,10 +48,10 @@ abbrev starts_statement : List Lexeme → Bool
 starts_statement ts = starts is_any_word ts && not (starts_heading (codes "DATA") ts || starts_heading (codes "EPILOG") ts)
 
 data_is_free : IsFree (codes "DATA")
-data_is_free = record { branches = refl; loops = refl; puts = refl; increments = refl; skips = refl; breaks = refl; fails = refl }
+data_is_free = record { branches = refl; loops = refl; puts = refl; increments = refl; skips = refl; breaks = refl; fails = refl; zeros = refl }
 
 epilog_is_free : IsFree (codes "EPILOG")
-epilog_is_free = record { branches = refl; loops = refl; puts = refl; increments = refl; skips = refl; breaks = refl; fails = refl }
+epilog_is_free = record { branches = refl; loops = refl; puts = refl; increments = refl; skips = refl; breaks = refl; fails = refl; zeros = refl }
 
 free_word : (a b c : Bool) → a ≡ true → b ≡ false → c ≡ false → (a && not (b || c)) ≡ true
 free_word a b c p q r = ap (λ x. x && not (b || c)) p ∙ ap (λ x. not (x || c)) q ∙ ap (λ x. not x) r

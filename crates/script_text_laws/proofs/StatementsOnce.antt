@@ -2,28 +2,30 @@
 use Rattle.std.proofs.Common.{ℕ, List, [], ◌∷◌, ◌++◌, true, false, codes, refl, ◌∙◌, ap}
 use Rattle.std.specs.Str.{str_eq_ignore_ascii_case}
 use Rattle.cube_lex.specs.Lexeme.{Lexeme}
-use Rattle.grammar.specs.Grammar.{Grammar, one, both, done, many}
+use Rattle.grammar.specs.Grammar.{Grammar, one, both, done, either, many}
 use Rattle.grammar.specs.Reading.{starts}
-use Rattle.grammar.specs.Tokens.{sign, word, is_word}
+use Rattle.grammar.specs.Tokens.{sign, word, is_sign, is_word}
 use Rattle.grammar.proofs.Begins.{Begins, begins_both, begins_either, begins_optional, starts_text, starts_many, made_is}
 use Rattle.grammar.proofs.Exact.{Always, Not}
 use Rattle.grammar.proofs.Lists.{behind_list}
 use Rattle.grammar.proofs.Tokens.{word_begins}
 use Rattle.expression_grammar.proofs.Languages.{goes_on}
+use Rattle.expression_grammar.specs.Readers.Lookahead.{starts_pair}
 use Rattle.rule_text_laws.proofs.OneTree.{OneTree, once_one, once_done, once_both, once_then, once_before_next, once_either, once_or, once_many}
 use Rattle.script_tree.specs.Counting.{count}
 use Rattle.script_tree.specs.Expression.{scripts_language}
-use Rattle.script_tree.specs.Statement.{variable, assignment, written, put, increment, leap, leaping, condition, arm, conditional, otherwise, branching, looping, plain, statement_of}
+use Rattle.script_tree.specs.Statement.{variable, assignment, written, zeroing, put, increment, leap, leaping, condition, arm, conditional, otherwise, branching, looping, plain, statement_of}
 use Rattle.script_tree.specs.declared.line.Arm.{Arm}
 use Rattle.script_tree.specs.declared.line.Arm.TheVariants as arms
 use Rattle.script_tree.specs.declared.line.Line.{Line}
 use Rattle.script_tree.specs.declared.line.Line.TheVariants as lines
 use Rattle.script_tree.specs.declared.script.Section.{Section}
 use Rattle.script_reader.specs.Readers.StatementReading.{is_leap, begins_statement}
-use Rattle.script_reader.proofs.FirstWords.{word_statement, variable_no_word, variable_no_leap, leap_no_word, leap_leaps}
+use Rattle.script_reader.proofs.FirstWords.{word_statement, word_leap, variable_no_word, variable_no_leap, leap_no_word, leap_leaps}
+use Rattle.script_reader.proofs.Assignments.{assignment_no}
 use Rattle.script_reader.proofs.PrimaryExact.{closing}
-use Rattle.script_reader.proofs.StatementExact.{semicolon}
-use Rattle.script_text_laws.proofs.ValuesOnce.{value_once, truth_once, three_once, once_made}
+use Rattle.script_reader.proofs.StatementExact.{semicolon, zeroing_starts}
+use Rattle.script_text_laws.proofs.ValuesOnce.{value_once, truth_once, two_once, three_once, once_made}
 
 -- Statements that are no block.
 
@@ -36,6 +38,17 @@ written_once : (function : List ℕ) → OneTree count (written function) Always
 written_once function = once_then (once_one (word function)) (λ _. once_then (once_one (sign (codes "("))) (λ _. once_both three_once
     (λ given. once_then (once_one (sign (codes ")"))) (λ _. once_then (once_one (sign (codes ";"))) (λ _. once_done given)))
     (λ given v b rest l _. behind_list (codes ")") (both (one (sign (codes ";"))) (λ _. done given)) (goes_on scripts_language) closing refl v b rest l)))
+
+zeroing_once : OneTree count zeroing Always
+zeroing_once = once_then (once_one (word (codes "ZEROOUT"))) (λ _. once_then (once_one (sign (codes "("))) (λ _. once_both two_once
+    (λ given. once_then (once_one (sign (codes ")"))) (λ _. once_then (once_one (sign (codes ";"))) (λ _. once_done (lines.ZeroOut given))))
+    (λ given v b rest l _. behind_list (codes ")") (both (one (sign (codes ";"))) (λ _. done (lines.ZeroOut given))) (goes_on scripts_language) closing refl v b rest l)))
+
+-- the sign behind the word tells which of the two it is
+zeroing_or_once : OneTree count (either zeroing assignment) Always
+zeroing_or_once = once_either {S = Always} {S' = Always} {S'' = Always} (starts_pair (is_word (codes "ZEROOUT")) (is_sign (codes "("))) zeroing_once assignment_once
+    (λ u a rest h stops. (zeroing_starts u a rest h, tt))
+    (λ u a rest h stops. (assignment_no (codes "ZEROOUT") (codes "(") refl u a rest h, tt))
 
 leaping_once : (section : Section) → OneTree count (leaping section) Always
 leaping_once section = once_then (once_one (leap section)) (λ line. once_then (once_one (sign (codes ";"))) (λ _. once_done line))
@@ -53,21 +66,24 @@ put_begins mark = begins_both (begins_both (word_begins (codes "CELLPUTN") mark)
 increment_begins : (mark : List ℕ) → Begins increment (is_word mark) (str_eq_ignore_ascii_case (codes "CELLINCREMENTN") mark)
 increment_begins mark = begins_both (begins_both (word_begins (codes "CELLINCREMENTN") mark))
 
+zeroing_begins : (mark : List ℕ) → Begins zeroing (is_word mark) (str_eq_ignore_ascii_case (codes "ZEROOUT") mark)
+zeroing_begins mark = begins_both (word_begins (codes "ZEROOUT") mark)
+
 plain_once : (section : Section) → OneTree count (plain section) Always
 plain_once section =
     once_or (is_word (codes "CELLPUTN")) (put_begins (codes "CELLPUTN"))
-    (begins_either (increment_begins (codes "CELLPUTN")) (begins_either (begins_both (leap_no_word section (codes "CELLPUTN") refl refl refl)) (begins_both (variable_no_word (codes "CELLPUTN") refl refl))))
+    (begins_either (increment_begins (codes "CELLPUTN")) (begins_either (begins_both (leap_no_word section (codes "CELLPUTN") refl refl refl)) (begins_either (zeroing_begins (codes "CELLPUTN")) (begins_both (variable_no_word (codes "CELLPUTN") refl refl)))))
     (once_made (λ given. lines.Put given) (written_once (codes "CELLPUTN")))
     (once_or (is_word (codes "CELLINCREMENTN")) (increment_begins (codes "CELLINCREMENTN"))
-    (begins_either (begins_both (leap_no_word section (codes "CELLINCREMENTN") refl refl refl)) (begins_both (variable_no_word (codes "CELLINCREMENTN") refl refl)))
+    (begins_either (begins_both (leap_no_word section (codes "CELLINCREMENTN") refl refl refl)) (begins_either (zeroing_begins (codes "CELLINCREMENTN")) (begins_both (variable_no_word (codes "CELLINCREMENTN") refl refl))))
     (once_made (λ given. lines.Increment given) (written_once (codes "CELLINCREMENTN")))
-    (once_or is_leap (begins_both (leap_leaps section)) (begins_both variable_no_leap) (leaping_once section) assignment_once))
+    (once_or is_leap (begins_both (leap_leaps section)) (begins_either (begins_both (word_leap (codes "ZEROOUT"))) (begins_both variable_no_leap)) (leaping_once section) zeroing_or_once))
 
 plain_no_if : (section : Section) → Begins (plain section) (is_word (codes "IF")) false
-plain_no_if section = begins_either (put_begins (codes "IF")) (begins_either (increment_begins (codes "IF")) (begins_either (begins_both (leap_no_word section (codes "IF") refl refl refl)) (begins_both (variable_no_word (codes "IF") refl refl))))
+plain_no_if section = begins_either (put_begins (codes "IF")) (begins_either (increment_begins (codes "IF")) (begins_either (begins_both (leap_no_word section (codes "IF") refl refl refl)) (begins_either (zeroing_begins (codes "IF")) (begins_both (variable_no_word (codes "IF") refl refl)))))
 
 plain_no_while : (section : Section) → Begins (plain section) (is_word (codes "WHILE")) false
-plain_no_while section = begins_either (put_begins (codes "WHILE")) (begins_either (increment_begins (codes "WHILE")) (begins_either (begins_both (leap_no_word section (codes "WHILE") refl refl refl)) (begins_both (variable_no_word (codes "WHILE") refl refl))))
+plain_no_while section = begins_either (put_begins (codes "WHILE")) (begins_either (increment_begins (codes "WHILE")) (begins_either (begins_both (leap_no_word section (codes "WHILE") refl refl refl)) (begins_either (zeroing_begins (codes "WHILE")) (begins_both (variable_no_word (codes "WHILE") refl refl)))))
 
 -- Blocks.
 

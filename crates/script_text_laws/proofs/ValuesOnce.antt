@@ -61,5 +61,8 @@ values_once = once_both {S' = BehindList (goes_on scripts_language)} value_once 
 more_once : {others : Grammar Lexeme (List Expr)} → OneTree count others (BehindList (goes_on scripts_language)) → OneTree count (and_more value others) (BehindList (goes_on scripts_language))
 more_once e = once_before_next value_once (λ first. once_then (once_one (sign (codes ","))) (λ _. once_made (λ rest. first ∷ rest) e)) (λ first. begins_both comma)
 
+pub two_once : OneTree count (two_or_more value) (BehindList (goes_on scripts_language))
+two_once = more_once values_once
+
 pub three_once : OneTree count (three_or_more value) (BehindList (goes_on scripts_language))
-three_once = more_once {others = two_or_more value} (more_once values_once)
+three_once = more_once {others = two_or_more value} two_once

@@ -27,7 +27,7 @@ use Rattle.user_session.specs.Planning.{effect, ended_effect, fixed_effect, get_
 use Rattle.view_query.specs.Binding.{bound}
 use Rattle.view_query.specs.declared.fault.ViewFault.{ViewFault}
 use Rattle.view_query.specs.declared.shape.View as views
-use Rattle.user_session.proofs.Kept.{open-leaf, write-kept}
+use Rattle.user_session.proofs.Kept.{open-leaf, write-kept, zeroing-kept}
 use Rattle.user_session.proofs.Limits.{fits-leaves, fits-limits, none-passed}
 use Rattle.user_session.proofs.Shares.{shares-leaves}
 use Rattle.user_session.proofs.Within.{AreWithin, before-writes, last-within, named-cell}
@@ -89,7 +89,8 @@ load-within content job script writes reply is =
     let store = store_of content.model content.stored in
     let outcome = load script job.params job.decimal (rows_in job) store [] in
     let kept : AreWithin content (writes_of outcome) =
-    load_keeps store (AreWithin content) (λ before after cube elements value within written. write-kept content before after within cube elements value written) script job.params job.decimal (rows_in job) [] (before-writes content) in
+    load_keeps store (AreWithin content) (λ before after cube elements value within written. write-kept content before after within cube elements value written)
+    (λ before after cube elements within zeroed. zeroing-kept content before after within cube elements zeroed) script job.params job.decimal (rows_in job) [] (before-writes content) in
     ended-within content (ran_of outcome) (writes_of outcome) writes reply kept is
 
 -- ---- fixed writes that are accepted

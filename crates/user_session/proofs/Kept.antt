@@ -1,10 +1,12 @@
 -- A load that begins within the limits stays within them.
 use Rattle.std.proofs.Common.{Result, Ok, ◌≡◌, refl, subst, ℕ, ℤ, Bool, true, false, not, if◌then◌else◌, List, [], ◌∷◌, ◌++◌, ◌&&◌, length, Option, Some, None}
-use Rattle.std.specs.Prelude.{nat_lt, option_map, suc}
+use Rattle.std.specs.Prelude.{All, is_none, nat_lt, option_map, pos, suc}
 use Rattle.std.specs.List.{list_all}
-use Rattle.std.proofs.lemmas.List.Elements.{All-push}
+use Rattle.std.proofs.lemmas.List.Elements.{All-filter, All-head, All-push, All-tail}
+use Rattle.cell_reader.proofs.StoredCells.{IsLeaf, stored-leaves}
 use Rattle.cell_reader.specs.FedCount.{fed_count}
 use Rattle.cell_reader.specs.Limits.{IsWithinLimits}
+use Rattle.cell_reader.specs.StoredBelow.{stored_below}
 use Rattle.cell_reader.specs.WritePermission.{why_closed}
 use Rattle.cell_reader.specs.declared.write_permission.Closed.{Closed}
 use Rattle.cell_reader.specs.declared.write_permission.Closed.TheVariants.{NotALeaf, RuleDerived}
@@ -17,11 +19,11 @@ use Rattle.cube_space.specs.Cells.{IsCell, is_leaf_cell}
 use Rattle.cube_space.specs.Layout.{Layout}
 use Rattle.dim_name.specs.Name.{is_name}
 use Rattle.feed_map.specs.FedCells.{most_fed}
-use Rattle.load_cells.specs.Loads.{cell_by_texts, passed, reason_of, store_of}
+use Rattle.load_cells.specs.Loads.{cell_by_texts, open_among, passed, reason_of, store_of}
 use Rattle.rule_model.specs.BoundModel.{BoundModel}
 use Rattle.rule_model.specs.Input.{is_input}
 use Rattle.rule_model.specs.Named.{cell_named}
-use Rattle.script_values.specs.Cells.{unless, with_cell, with_number, with_value, writing}
+use Rattle.script_values.specs.Cells.{unless, unless_refused, with_cell, with_number, with_value, with_zeros, writing, zeroed_at, zeroing}
 use Rattle.script_values.specs.declared.load_reason.LoadReason.{LoadReason}
 use Rattle.script_values.specs.declared.load_reason.LoadReason.TheVariants.{StoreLimit, FedLimit}
 use Rattle.user_session.specs.declared.content.Content.{Content}
@@ -87,3 +89,28 @@ module _ (content : Content) (before after : List (ℕ × ℤ)) (within : AreWit
   pub write-kept : (cube : List ℕ) (elements : List (List ℕ)) (value : Value) → writing (store_of content.model content.stored) before cube elements value ≡ Ok after → AreWithin content after
   write-kept cube elements value =
       cell_kept value (cell_by_texts content.model.space cube elements) (λ c is. texts-cell content.model.space cube elements c is)
+
+-- a 0 in each of these leaf cells
+zeros-kept : (content : Content) (cells : List ℕ) (before after : List (ℕ × ℤ)) → AreWithin content before → All (IsLeaf content.model.space) cells
+    → with_zeros (store_of content.model content.stored) before cells ≡ Ok after → AreWithin content after
+zeros-kept content [] before after within leaves is = let same : before ≡ after = cc in subst (AreWithin content) same within
+zeros-kept content (cell ∷ cells) before after within leaves is = by (passed content.model (after_writes content.stored (before ++ (cell, pos 0) ∷ []))) refl is
+  where
+    by : (limit : Option LoadReason) → passed content.model (after_writes content.stored (before ++ (cell, pos 0) ∷ [])) ≡ limit
+        → unless_refused limit (with_zeros (store_of content.model content.stored) (before ++ (cell, pos 0) ∷ []) cells) ≡ Ok after → AreWithin content after
+    by None is more =
+        let own = All-head (IsLeaf content.model.space) cell cells leaves in
+        let later : AreWithin content (before ++ (cell, pos 0) ∷ []) = with_limits content before (before ++ (cell, pos 0) ∷ []) within cell (pos 0) own.0 own.1 None is refl in
+        zeros-kept content cells (before ++ (cell, pos 0) ∷ []) after later (All-tail (IsLeaf content.model.space) cell cells leaves) more
+    by (Some reason) is more = absurd (cc)
+
+pub zeroing-kept : (content : Content) (before after : List (ℕ × ℤ)) → AreWithin content before → (cube : List ℕ) (elements : List (List ℕ))
+    → zeroing (store_of content.model content.stored) before cube elements ≡ Ok after → AreWithin content after
+zeroing-kept content before after within cube elements = by (cell_by_texts content.model.space cube elements)
+  where
+    by : (named : Option ℕ) → zeroed_at (store_of content.model content.stored) before named ≡ Ok after → AreWithin content after
+    by (Some cell) is =
+        let stored : List ℕ = stored_below content.model.space (after_writes content.stored before) cell in
+        zeros-kept content (open_among content.model stored) before after within
+        (All-filter (λ one. is_none (why_closed content.model one)) (IsLeaf content.model.space) stored (stored-leaves content.model.space (after_writes content.stored before) cell)) is
+    by None is = absurd (cc)

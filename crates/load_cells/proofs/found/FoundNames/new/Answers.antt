@@ -8,5 +8,6 @@ returns c =
     record {
       cube = λ some. absurd (some (search rules));
       dimension = λ some. absurd (some (search rules));
+      below = tt;
       elements = none_yet c.args.space.now.dimensions c.loop-dim.elements.items many c.loop-dim.invariant.none;
     }
