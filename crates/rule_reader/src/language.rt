@@ -31,6 +31,10 @@ fn relation_of(token: &Token<'_>) -> Option<TreeOp>
         Some(TreeOp::AtMost)
     } else if is_sign(token, b">=") {
         Some(TreeOp::AtLeast)
+    } else if is_sign(token, b"@=") {
+        Some(TreeOp::Same)
+    } else if is_sign(token, b"@<>") {
+        Some(TreeOp::Other)
     } else {
         None
     }

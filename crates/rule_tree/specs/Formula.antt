@@ -24,7 +24,7 @@ ands = (codes "&", ops.And) ∷ []
 
 abbrev pub relations : Table TreeOp
 relations = (codes "=", ops.Equal) ∷ (codes "<>", ops.Unequal) ∷ (codes "<", ops.Less) ∷ (codes ">", ops.Greater)
-    ∷ (codes "<=", ops.AtMost) ∷ (codes ">=", ops.AtLeast) ∷ []
+    ∷ (codes "<=", ops.AtMost) ∷ (codes ">=", ops.AtLeast) ∷ (codes "@=", ops.Same) ∷ (codes "@<>", ops.Other) ∷ []
 
 abbrev pub sums : Table TreeOp
 sums = (codes "+", ops.Add) ∷ (codes "-", ops.Sub) ∷ []

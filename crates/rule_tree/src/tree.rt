@@ -29,6 +29,10 @@ pub enum TreeOp {
     AtMost,
     /// `>=`
     AtLeast,
+    /// `@=`, of texts, as names are compared.
+    Same,
+    /// `@<>`, of texts.
+    Other,
     /// `+`
     Add,
     /// `-`
