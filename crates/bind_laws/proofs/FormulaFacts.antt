@@ -1,5 +1,5 @@
 -- What a formula that is bound reads meets the conditions.
-use Rattle.std.proofs.Common.{◌≡◌, ◌<◌, ℕ, List, [], ◌∷◌, ◌++◌, length, map, Ok, All, refl, sym, subst, Bool, true, false, if◌then◌else◌, codes, bytes_eq}
+use Rattle.std.proofs.Common.{◌≡◌, ◌<◌, ℕ, List, [], ◌∷◌, ◌++◌, length, map, Ok, All, refl, sym, subst, ◌∙◌, Bool, true, false, if◌then◌else◌, codes, bytes_eq}
 use Rattle.std.proofs.lemmas.List.Elements.{All-nil, All-cons, All-append, All-weaker}
 use Rattle.cube_space.specs.Layout.{Layout}
 use Rattle.cube_space.specs.Cells.{IsSpace}
@@ -29,7 +29,7 @@ use Rattle.rule_bind.specs.Functions.{function_of, operator_of}
 use Rattle.rule_bind.specs.References.{db_of, children_of}
 use Rattle.rule_bind.specs.Formulas.{Meanings, Meant, alone, children, unary, binary, choice, choice_call, unary_call, binary_call, children_call, call_value, operator_value, operator_truth, meanings_step, meanings, meant}
 use Rattle.rule_bind.proofs.FormulaFacts.{by_layer}
-use Rattle.rule_bind.proofs.OwnFacts.{IsTable, call_table}
+use Rattle.rule_bind.proofs.OwnFacts.{IsTable, IsTableTruth, IsCounted, call_table, texts_table, call_counted}
 use Rattle.rule_bind.proofs.Got.{got, answer}
 use Rattle.bind_laws.proofs.AreaFacts.{bracket_valid}
 use Rattle.bind_laws.proofs.ReferenceFacts.{db_valid, children_low}
@@ -112,6 +112,16 @@ module _ (space : Layout) (cube : ℕ) where
   table_good at f (place, table, same) =
       subst (λ g. AreRead at (precedents g)) (sym same) (none_read at (precedents (formulas.Table place table)) (table_reads place table))
 
+  table_truth_good : (q : Truth) → IsTableTruth q → AreRead Within (truth_precedents q)
+  table_truth_good q (rel, place, table, k, same) =
+      subst (λ z. AreRead Within (truth_precedents z)) (sym same)
+      (both_read Within (precedents (formulas.Table place table)) (precedents (formulas.Number k)) _ (compare_reads rel (formulas.Table place table) (formulas.Number k))
+          (none_read Within _ (table_reads place table)) (none_read Within _ (number_reads k)))
+
+  counted_good : (at : Standing) (f : Formula) → IsCounted f → AreRead at (precedents f)
+  counted_good at f (k, same) =
+      subst (λ g. AreRead at (precedents g)) (sym same) (none_read at _ (unary_reads funs.Trunc (formulas.Number k) ∙ number_reads k))
+
   children_good : (at : Standing) (tree : Tree) → IsGood at (children space cube at tree)
   children_good Part tree f is = absurd (cc is)
   children_good ConsolidatedPart tree f is =
@@ -146,7 +156,7 @@ module _ (space : Layout) (cube : ℕ) where
       let (b, second, rest) = got (right.1.value Within) (λ b. Ok (truths.Compare rel a b)) q more in
       given_truth Within (truths.Compare rel a b) q rest (both_read Within (precedents a) (precedents b) _ (compare_reads rel a b) (l.value Within a first) (r.value Within b second))
 
-  operator_truth_good : (op : TreeOp) (left right : Meant) → IsSound left.1 → IsSound right.1 → IsGoodTruth Within (operator_truth (operator_of op) left right)
+  operator_truth_good : (op : TreeOp) (left right : Meant) → IsSound left.1 → IsSound right.1 → IsGoodTruth Within (operator_truth space cube (operator_of op) left right)
   operator_truth_good signs.And left right l r = λ q is.
       let (a, first, more) = got left.1.truth (λ a. right.1.truth >>= (λ b. Ok (truths.And a b))) q is in
       let (b, second, rest) = got right.1.truth (λ b. Ok (truths.And a b)) q more in
@@ -161,6 +171,8 @@ module _ (space : Layout) (cube : ℕ) where
   operator_truth_good signs.Greater left right l r = compare_good rels.Greater left right l r
   operator_truth_good signs.AtMost left right l r = compare_good rels.AtMost left right l r
   operator_truth_good signs.AtLeast left right l r = compare_good rels.AtLeast left right l r
+  operator_truth_good signs.Same left right l r = λ q is. table_truth_good q (texts_table space cube rels.Equal left.0 right.0 q is)
+  operator_truth_good signs.Other left right l r = λ q is. table_truth_good q (texts_table space cube rels.Unequal left.0 right.0 q is)
   operator_truth_good _ left right l r = λ q is. absurd (cc is)
 
   not_good : (m : Meant) → IsSound m.1 → IsGoodTruth Within (m.1.truth >>= (λ q. Ok (truths.Not q)))
@@ -193,6 +205,7 @@ module _ (space : Layout) (cube : ℕ) where
         either_way (λ function. IsGood at (call_value space cube at function ms)) (bytes_eq word (codes "IF")) _ _ (choice_call_good at ms all)
         (either_way (λ function. IsGood at (call_value space cube at function ms)) (bytes_eq word (codes "DB")) _ _ (reference_good at (db_of space cube (map (λ m. m.0) ms)) (db_valid space cube valid low (map (λ m. m.0) ms)))
         (either_way (λ function. IsGood at (call_value space cube at function ms)) (bytes_eq word (codes "CONSOLIDATECHILDREN")) _ _ (children_call_good at ms)
+        (either_way (λ function. IsGood at (call_value space cube at function ms)) (bytes_eq word (codes "DIMSIZ")) _ _ (λ f is. counted_good at f (call_counted space (map (λ m. m.0) ms) f is))
         (either_way (λ function. IsGood at (call_value space cube at function ms)) (bytes_eq word (codes "ABS")) _ _ (unary_call_good at funs.Abs ms all)
         (either_way (λ function. IsGood at (call_value space cube at function ms)) (bytes_eq word (codes "SIGN")) _ _ (unary_call_good at funs.Sign ms all)
         (either_way (λ function. IsGood at (call_value space cube at function ms)) (bytes_eq word (codes "INT")) _ _ (unary_call_good at funs.Int ms all)
@@ -208,7 +221,9 @@ module _ (space : Layout) (cube : ℕ) where
         (either_way (λ function. IsGood at (call_value space cube at function ms)) (bytes_eq word (codes "ELISANC")) _ _ (λ f is. table_good at f (call_table space cube _ (map (λ m. m.0) ms) f is))
         (either_way (λ function. IsGood at (call_value space cube at function ms)) (bytes_eq word (codes "ELISCOMP")) _ _ (λ f is. table_good at f (call_table space cube _ (map (λ m. m.0) ms) f is))
         (either_way (λ function. IsGood at (call_value space cube at function ms)) (bytes_eq word (codes "ATTRN")) _ _ (λ f is. table_good at f (call_table space cube _ (map (λ m. m.0) ms) f is))
-        (λ f is. absurd (cc is)))))))))))))))))))
+        (either_way (λ function. IsGood at (call_value space cube at function ms)) (bytes_eq word (codes "ELCOMPN")) _ _ (λ f is. table_good at f (call_table space cube _ (map (λ m. m.0) ms) f is))
+        (either_way (λ function. IsGood at (call_value space cube at function ms)) (bytes_eq word (codes "ELPARN")) _ _ (λ f is. table_good at f (call_table space cube _ (map (λ m. m.0) ms) f is))
+        (λ f is. absurd (cc is))))))))))))))))))))))
 
     abbrev Held : Type 0
     Held = (tree : Tree) × IsSound (meanings space cube tree)

@@ -28,7 +28,7 @@ use Rattle.rule_bind.specs.Functions.{function_of, operator_of}
 use Rattle.rule_bind.specs.References.{db_of, children_of}
 use Rattle.rule_bind.specs.Formulas.{Meanings, Meant, alone, children, unary, binary, choice, choice_call, unary_call, binary_call, children_call, call_value, operator_value, operator_truth, meanings_step, meanings, meant}
 use Rattle.rule_bind.proofs.FormulaFacts.{by_layer}
-use Rattle.rule_bind.proofs.OwnFacts.{IsTable, call_table}
+use Rattle.rule_bind.proofs.OwnFacts.{IsTable, IsTableTruth, IsCounted, call_table, texts_table, call_counted}
 use Rattle.rule_bind.proofs.Got.{got, answer}
 use Rattle.bind_laws.proofs.FormulaFacts.{either_way}
 
@@ -47,6 +47,25 @@ pub record IsCount (of : Formula → ℕ) (of_truth : Truth → ℕ) : Type 0 wh
   pub both : (p q : Truth) → of_truth (truths.And p q) ≡ of_truth p + of_truth q
   pub either : (p q : Truth) → of_truth (truths.Or p q) ≡ of_truth p + of_truth q
   pub opposite : (q : Truth) → of_truth (truths.Not q) ≡ of_truth q
+
+-- a formula has a node at least
+one_node : (l : Tree-F ℕ) → 1 ≤ nodes_step l
+one_node (Tree-F.Number k) = omega arith
+one_node (Tree-F.Text bytes) = omega arith
+one_node (Tree-F.Current dim) = omega arith
+one_node (Tree-F.Bracket simples) = omega arith
+one_node Tree-F.Stet = omega arith
+one_node Tree-F.Continue = omega arith
+one_node (Tree-F.Call word arguments) = omega arith
+one_node (Tree-F.Minus e) = omega arith
+one_node (Tree-F.Not e) = omega arith
+one_node (Tree-F.Binary op left right) = omega arith
+
+rolled_node : (l : Tree-F Tree) → 1 ≤ nodes (roll-Tree l)
+rolled_node l = subst (λ n. 1 ≤ n) (sym (nodes-roll l)) (one_node (map-Tree Tree ℕ nodes l))
+
+some_nodes : (tree : Tree) → 1 ≤ nodes tree
+some_nodes = ind-Tree (λ tree. 1 ≤ nodes tree) (λ x l is. rolled_node x)
 
 module _ (of : Formula → ℕ) (of_truth : Truth → ℕ) (counts : IsCount of of_truth) where
   -- of each formula, and of each truth, that may be meant so many are counted at most
@@ -95,22 +114,28 @@ module _ (of : Formula → ℕ) (of_truth : Truth → ℕ) (counts : IsCount of 
       let (b, second, rest) = got (right.1.value Within) (λ b. Ok (truths.Compare rel a b)) q more in
       given_truth s (truths.Compare rel a b) q rest (omega (arith, counts.compare rel a b, l.value Within a first, r.value Within b second, small))
 
-  operator_truth_light : (n k s : ℕ) (op : TreeOp) (left right : Meant) → AreLight n left.1 → AreLight k right.1 → n + k ≤ s → IsLightTruth s (operator_truth (operator_of op) left right)
-  operator_truth_light n k s signs.And left right l r small = λ q is.
+  table_truth_light : (n : ℕ) (q : Truth) → IsTableTruth q → 2 ≤ n → of_truth q ≤ n
+  table_truth_light n q (rel, place, table, k, same) enough =
+      subst (λ z. of_truth z ≤ n) (sym same) (omega (arith, counts.compare rel (formulas.Table place table) (formulas.Number k), counts.table place table, counts.number k, enough))
+
+  operator_truth_light : (n k s : ℕ) (space : Layout) (cube : ℕ) (op : TreeOp) (left right : Meant) → AreLight n left.1 → AreLight k right.1 → 1 ≤ n → 1 ≤ k → n + k ≤ s → IsLightTruth s (operator_truth space cube (operator_of op) left right)
+  operator_truth_light n k s space cube signs.And left right l r some_left some_right small = λ q is.
       let (a, first, more) = got left.1.truth (λ a. right.1.truth >>= (λ b. Ok (truths.And a b))) q is in
       let (b, second, rest) = got right.1.truth (λ b. Ok (truths.And a b)) q more in
       given_truth s (truths.And a b) q rest (omega (arith, counts.both a b, l.truth a first, r.truth b second, small))
-  operator_truth_light n k s signs.Or left right l r small = λ q is.
+  operator_truth_light n k s space cube signs.Or left right l r some_left some_right small = λ q is.
       let (a, first, more) = got left.1.truth (λ a. right.1.truth >>= (λ b. Ok (truths.Or a b))) q is in
       let (b, second, rest) = got right.1.truth (λ b. Ok (truths.Or a b)) q more in
       given_truth s (truths.Or a b) q rest (omega (arith, counts.either a b, l.truth a first, r.truth b second, small))
-  operator_truth_light n k s signs.Equal left right l r small = compare_light n k s rels.Equal left right l r small
-  operator_truth_light n k s signs.Unequal left right l r small = compare_light n k s rels.Unequal left right l r small
-  operator_truth_light n k s signs.Less left right l r small = compare_light n k s rels.Less left right l r small
-  operator_truth_light n k s signs.Greater left right l r small = compare_light n k s rels.Greater left right l r small
-  operator_truth_light n k s signs.AtMost left right l r small = compare_light n k s rels.AtMost left right l r small
-  operator_truth_light n k s signs.AtLeast left right l r small = compare_light n k s rels.AtLeast left right l r small
-  operator_truth_light n k s _ left right l r small = λ q is. absurd (cc is)
+  operator_truth_light n k s space cube signs.Equal left right l r some_left some_right small = compare_light n k s rels.Equal left right l r small
+  operator_truth_light n k s space cube signs.Unequal left right l r some_left some_right small = compare_light n k s rels.Unequal left right l r small
+  operator_truth_light n k s space cube signs.Less left right l r some_left some_right small = compare_light n k s rels.Less left right l r small
+  operator_truth_light n k s space cube signs.Greater left right l r some_left some_right small = compare_light n k s rels.Greater left right l r small
+  operator_truth_light n k s space cube signs.AtMost left right l r some_left some_right small = compare_light n k s rels.AtMost left right l r small
+  operator_truth_light n k s space cube signs.AtLeast left right l r some_left some_right small = compare_light n k s rels.AtLeast left right l r small
+  operator_truth_light n k s space cube signs.Same left right l r some_left some_right small = λ q is. table_truth_light s q (texts_table space cube rels.Equal left.0 right.0 q is) (omega (arith, some_left, some_right, small))
+  operator_truth_light n k s space cube signs.Other left right l r some_left some_right small = λ q is. table_truth_light s q (texts_table space cube rels.Unequal left.0 right.0 q is) (omega (arith, some_left, some_right, small))
+  operator_truth_light n k s space cube _ left right l r some_left some_right small = λ q is. absurd (cc is)
 
   not_light : (n k : ℕ) (m : Meant) → AreLight n m.1 → n ≤ k → IsLightTruth k (m.1.truth >>= (λ q. Ok (truths.Not q)))
   not_light n k m light small q is =
@@ -166,6 +191,10 @@ module _ (of : Formula → ℕ) (of_truth : Truth → ℕ) (counts : IsCount of 
     table_light trees f (place, table, same) =
         subst (λ g. of g ≤ called trees) (sym same) (omega (arith, counts.table place table))
 
+    counted_light : (trees : List Tree) (f : Formula) → IsCounted f → of f ≤ called trees
+    counted_light trees f (k, same) =
+        subst (λ g. of g ≤ called trees) (sym same) (omega (arith, counts.unary funs.Trunc (formulas.Number k), counts.number k))
+
     children_call_light : (at : Standing) (trees : List Tree) → IsLight (called trees) (children_call space cube at (all_meant trees))
     children_call_light at (dim ∷ []) = children_light (called (dim ∷ [])) at dim (omega arith)
     children_call_light at _ = λ f is. absurd (cc is)
@@ -176,6 +205,7 @@ module _ (of : Formula → ℕ) (of_truth : Truth → ℕ) (counts : IsCount of 
         either_way (λ function. P (call_value space cube at function (all_meant trees))) (bytes_eq word (codes "IF")) _ _ (choice_call_light at trees all)
         (either_way (λ function. P (call_value space cube at function (all_meant trees))) (bytes_eq word (codes "DB")) _ _ (reference_light (called trees) (db_of space cube (map (λ m. m.0) (all_meant trees))) (omega arith))
         (either_way (λ function. P (call_value space cube at function (all_meant trees))) (bytes_eq word (codes "CONSOLIDATECHILDREN")) _ _ (children_call_light at trees)
+        (either_way (λ function. P (call_value space cube at function (all_meant trees))) (bytes_eq word (codes "DIMSIZ")) _ _ (λ f is. counted_light trees f (call_counted space (map (λ m. m.0) (all_meant trees)) f is))
         (either_way (λ function. P (call_value space cube at function (all_meant trees))) (bytes_eq word (codes "ABS")) _ _ (unary_call_light funs.Abs trees all)
         (either_way (λ function. P (call_value space cube at function (all_meant trees))) (bytes_eq word (codes "SIGN")) _ _ (unary_call_light funs.Sign trees all)
         (either_way (λ function. P (call_value space cube at function (all_meant trees))) (bytes_eq word (codes "INT")) _ _ (unary_call_light funs.Int trees all)
@@ -191,7 +221,9 @@ module _ (of : Formula → ℕ) (of_truth : Truth → ℕ) (counts : IsCount of 
         (either_way (λ function. P (call_value space cube at function (all_meant trees))) (bytes_eq word (codes "ELISANC")) _ _ (λ f is. table_light trees f (call_table space cube _ (map (λ m. m.0) (all_meant trees)) f is))
         (either_way (λ function. P (call_value space cube at function (all_meant trees))) (bytes_eq word (codes "ELISCOMP")) _ _ (λ f is. table_light trees f (call_table space cube _ (map (λ m. m.0) (all_meant trees)) f is))
         (either_way (λ function. P (call_value space cube at function (all_meant trees))) (bytes_eq word (codes "ATTRN")) _ _ (λ f is. table_light trees f (call_table space cube _ (map (λ m. m.0) (all_meant trees)) f is))
-        (λ f is. absurd (cc is)))))))))))))))))))
+        (either_way (λ function. P (call_value space cube at function (all_meant trees))) (bytes_eq word (codes "ELCOMPN")) _ _ (λ f is. table_light trees f (call_table space cube _ (map (λ m. m.0) (all_meant trees)) f is))
+        (either_way (λ function. P (call_value space cube at function (all_meant trees))) (bytes_eq word (codes "ELPARN")) _ _ (λ f is. table_light trees f (call_table space cube _ (map (λ m. m.0) (all_meant trees)) f is))
+        (λ f is. absurd (cc is))))))))))))))))))))))
 
     abbrev IsLightTree : Tree → Type 0
     IsLightTree tree = AreLight (nodes tree) (meanings space cube tree)
@@ -218,7 +250,7 @@ module _ (of : Formula → ℕ) (of_truth : Truth → ℕ) (counts : IsCount of 
     step (Tree-F.Not h) = record { value = λ at f is. absurd (cc is); truth = not_light (nodes h.0) (1 + nodes h.0) (meant space cube h.0) h.1 (omega arith) }
     step (Tree-F.Binary op left right) = record {
       value = λ at. operator_light (nodes left.0) (nodes right.0) (1 + nodes left.0 + nodes right.0) at op (meant space cube left.0) (meant space cube right.0) left.1 right.1 (omega arith);
-      truth = operator_truth_light (nodes left.0) (nodes right.0) (1 + nodes left.0 + nodes right.0) op (meant space cube left.0) (meant space cube right.0) left.1 right.1 (omega arith);
+      truth = operator_truth_light (nodes left.0) (nodes right.0) (1 + nodes left.0 + nodes right.0) space cube op (meant space cube left.0) (meant space cube right.0) left.1 right.1 (some_nodes left.0) (some_nodes right.0) (omega arith);
     }
 
     layer : (l : Tree-F Held) → IsLightTree (roll-Tree (out l))

@@ -98,12 +98,12 @@ module _ (space : Layout) (cube : ℕ) where
       rw (operation_is at tree left right l r sign o op is told known same_left same_right, first, second) h
 
   truth_is : (tree left right l r : Tree) (sign : TreeOp) (o known : Operator) → tree ≡ trees.Binary sign left right → o ≡ operator_of sign → o ≡ known → l ≡ left → r ≡ right
-      → truth_of space cube tree ≡ operator_truth known (meant space cube l) (meant space cube r)
+      → truth_of space cube tree ≡ operator_truth space cube known (meant space cube l) (meant space cube r)
   truth_is tree left right l r sign o known is told same same_left same_right =
       ap (λ m. m.truth) (ap (meanings space cube) is ∙ means_binary sign left right)
-      ∙ ap (λ x. operator_truth x (meant space cube left) (meant space cube right)) (sym told ∙ same)
-      ∙ ap (λ t. operator_truth known (meant space cube t) (meant space cube right)) (sym same_left)
-      ∙ ap (λ t. operator_truth known (meant space cube l) (meant space cube t)) (sym same_right)
+      ∙ ap (λ x. operator_truth space cube x (meant space cube left) (meant space cube right)) (sym told ∙ same)
+      ∙ ap (λ t. operator_truth space cube known (meant space cube t) (meant space cube right)) (sym same_left)
+      ∙ ap (λ t. operator_truth space cube known (meant space cube l) (meant space cube t)) (sym same_right)
 
   pub and_fails : (tree left right l r : Tree) (sign : TreeOp) (o : Operator) (p : Truth) (cause : BindCause) → tree ≡ trees.Binary sign left right → o ≡ operator_of sign → o ≡ operators.And → l ≡ left → r ≡ right
       → truth_of space cube l ≡ Ok p → Answers (truth_of space cube r) (Err cause) → Answers (truth_of space cube tree) (Err cause)

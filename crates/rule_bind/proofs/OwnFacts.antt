@@ -1,20 +1,34 @@
--- A function of the cell's own element means a table.
-use Rattle.std.proofs.Common.{◌≡◌, ℕ, ℤ, Bool, true, false, List, [], ◌∷◌, Ok, sym}
+-- A function of the cell's own element means a table, a comparison of its texts one of a table with a number, and DIMSIZ
+-- a number in a TRUNC.
+use Rattle.std.proofs.Common.{◌≡◌, ◌*◌, ℕ, ℤ, pos, Bool, true, false, List, [], ◌∷◌, Ok, sym}
+use Rattle.cube_fixed.specs.Range.{unit}
 use Rattle.cube_space.specs.Layout.{Layout}
 use Rattle.rule_laws.specs.declared.formula.Formula.{Formula}
 use Rattle.rule_laws.specs.declared.formula.Formula.TheVariants as formulas
+use Rattle.rule_laws.specs.declared.formula.Truth.{Truth}
+use Rattle.rule_laws.specs.declared.formula.Truth.TheVariants as truths
+use Rattle.rule_laws.specs.declared.operation.Fun.TheVariants as funs
+use Rattle.rule_laws.specs.declared.operation.Rel.{Rel}
 use Rattle.rule_tree.specs.declared.tree.Tree.{Tree}
-use Rattle.bind_areas.specs.Meaning.{◌>>=◌}
+use Rattle.bind_areas.specs.Meaning.{Meaning, ◌>>=◌}
 use Rattle.bind_arguments.specs.Numbers.{numbers_at}
 use Rattle.bind_arguments.specs.declared.element_function.ElementFunction.{ElementFunction}
 use Rattle.bind_arguments.specs.declared.element_function.ElementFunction.TheVariants as functions
 use Rattle.rule_bind.specs.OwnNumbers.{axis_named, own_place, element_at, attribute_at, table_at, under, plain_call, upper_call, component_call, attribute_call, own_call}
+use Rattle.rule_bind.specs.Texts.{Side, side_of, shared_place, compared, texts_truth}
+use Rattle.rule_bind.specs.DimensionSize.{size_named, counted, size_call}
 use Rattle.rule_bind.specs.declared.function.OwnFunction.{OwnFunction}
 use Rattle.rule_bind.specs.declared.function.OwnFunction.TheVariants as own
 use Rattle.rule_bind.proofs.Got.{got, answer}
 
 abbrev pub IsTable : Formula → Type 0
 IsTable f = (place : ℕ) × (table : List ℤ) × (f ≡ formulas.Table place table)
+
+abbrev pub IsTableTruth : Truth → Type 0
+IsTableTruth q = (rel : Rel) × (place : ℕ) × (table : List ℤ) × (k : ℤ) × (q ≡ truths.Compare rel (formulas.Table place table) (formulas.Number k))
+
+abbrev pub IsCounted : Formula → Type 0
+IsCounted f = (k : ℤ) × (f ≡ formulas.Unary funs.Trunc (formulas.Number k))
 
 module _ (space : Layout) (cube : ℕ) where
   made : (place : ℕ) (function : ElementFunction) (f : Formula) → answer (table_at space cube place function) ≡ Ok f → IsTable f
@@ -61,3 +75,29 @@ module _ (space : Layout) (cube : ℕ) where
   call_table own.HasAncestor trees f is = upper true trees f is
   call_table own.IsComponent trees f is = component trees f is
   call_table own.Attribute trees f is = attribute trees f is
+  call_table own.ComponentCount trees f is = plain functions.ComponentCount trees f is
+  call_table own.ParentCount trees f is = plain functions.ParentCount trees f is
+
+  -- the rest of what a comparison of texts means, behind both of them, and behind the first
+  abbrev placed_truth : Rel → Side → Side → Meaning Truth
+  placed_truth rel text other = shared_place text.0 other.0 >>= (λ place. answer (compared space cube rel place (functions.Same text.1 other.1)))
+
+  abbrev other_truth : Rel → Tree → Side → Meaning Truth
+  other_truth rel right text = side_of space cube right >>= placed_truth rel text
+
+  pub texts_table : (rel : Rel) (left right : Tree) (q : Truth) → texts_truth space cube rel left right ≡ Ok q → IsTableTruth q
+  unfolding texts_truth
+  texts_table rel left right q is =
+      let (text, first, many) = got (side_of space cube left) (other_truth rel right) q is in
+      let (other, second, more) = got (side_of space cube right) (placed_truth rel text) q many in
+      let (place, third, rest) = got (shared_place text.0 other.0) (λ place. answer (compared space cube rel place (functions.Same text.1 other.1))) q more in
+      let same : compared space cube rel place (functions.Same text.1 other.1) ≡ q = cc rest in
+      (rel, place, numbers_at space cube place (functions.Same text.1 other.1), pos unit, sym same)
+
+pub call_counted : (space : Layout) (trees : List Tree) (f : Formula) → size_call space trees ≡ Ok f → IsCounted f
+unfolding size_call
+call_counted space (dim ∷ []) f is =
+    let (size, first, rest) = got (size_named space dim) (λ size. answer (counted size)) f is in
+    let same : counted size ≡ f = cc rest in
+    (pos (size * unit), sym same)
+call_counted space _ f is = absurd (cc is)

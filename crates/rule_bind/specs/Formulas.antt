@@ -23,6 +23,8 @@ use Rattle.rule_bind.specs.declared.standing.Standing.TheVariants.{Part, Consoli
 use Rattle.rule_bind.specs.Functions.{function_of, operator_of}
 use Rattle.rule_bind.specs.References.{db_of, children_of}
 use Rattle.rule_bind.specs.OwnNumbers.{own_call}
+use Rattle.rule_bind.specs.Texts.{texts_truth}
+use Rattle.rule_bind.specs.DimensionSize.{size_call}
 
 -- what a formula means as a value, by where it stands, and as a truth
 pub record Meanings : Type 0 where
@@ -88,6 +90,7 @@ call_value space cube at (functions.One function) arguments = unary_call functio
 call_value space cube at (functions.Two op) arguments = binary_call op arguments
 call_value space cube at (functions.Own function) arguments =
     own_call space cube function (map (λ m. m.0) arguments)
+call_value space cube at functions.Size arguments = size_call space (map (λ m. m.0) arguments)
 call_value space cube at functions.Other arguments = Err Unsupported
 
 abbrev pub operator_value : Operator → Meant → Meant → Meaning Formula
@@ -107,29 +110,30 @@ value_step space cube at (Tree-F.Minus m) = unary funs.Minus m
 value_step space cube at (Tree-F.Not m) = Err Unsupported
 value_step space cube at (Tree-F.Binary op left right) = operator_value (operator_of op) left right
 
-abbrev pub operator_truth : Operator → Meant → Meant → Meaning Truth
-operator_truth (operators.Comparison rel) left right = do
+abbrev pub operator_truth : Layout → ℕ → Operator → Meant → Meant → Meaning Truth
+operator_truth space cube (operators.Comparison rel) left right = do
   a ← left.1.value Within
   b ← right.1.value Within
   done (truths.Compare rel a b)
-operator_truth operators.And left right = do
+operator_truth space cube operators.And left right = do
   p ← left.1.truth
   q ← right.1.truth
   done (truths.And p q)
-operator_truth operators.Or left right = do
+operator_truth space cube operators.Or left right = do
   p ← left.1.truth
   q ← right.1.truth
   done (truths.Or p q)
-operator_truth (operators.Operation op) left right = Err Unsupported
+operator_truth space cube (operators.Texts rel) left right = texts_truth space cube rel left.0 right.0
+operator_truth space cube (operators.Operation op) left right = Err Unsupported
 
-abbrev pub truth_step : Tree-F Meant → Meaning Truth
-truth_step (Tree-F.Not m) = do q ← m.1.truth; done (truths.Not q)
-truth_step (Tree-F.Binary op left right) = operator_truth (operator_of op) left right
-truth_step _ = Err Unsupported
+abbrev pub truth_step : Layout → ℕ → Tree-F Meant → Meaning Truth
+truth_step space cube (Tree-F.Not m) = do q ← m.1.truth; done (truths.Not q)
+truth_step space cube (Tree-F.Binary op left right) = operator_truth space cube (operator_of op) left right
+truth_step space cube _ = Err Unsupported
 
 abbrev pub meanings_step : Layout → ℕ → Tree-F Meant → Meanings
 meanings_step space cube layer =
-    record { value = λ at. value_step space cube at layer; truth = truth_step layer }
+    record { value = λ at. value_step space cube at layer; truth = truth_step space cube layer }
 
 -- what a formula in a statement of a cube means
 unfoldable pub meanings : Layout → ℕ → Tree → Meanings

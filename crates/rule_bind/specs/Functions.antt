@@ -20,6 +20,8 @@ own_function word =
     else if bytes_eq word (codes "ELISANC") then functions.Own own.HasAncestor
     else if bytes_eq word (codes "ELISCOMP") then functions.Own own.IsComponent
     else if bytes_eq word (codes "ATTRN") then functions.Own own.Attribute
+    else if bytes_eq word (codes "ELCOMPN") then functions.Own own.ComponentCount
+    else if bytes_eq word (codes "ELPARN") then functions.Own own.ParentCount
     else functions.Other
 
 -- a function of values by its word
@@ -42,6 +44,7 @@ function_of word =
     if bytes_eq word (codes "IF") then functions.If
     else if bytes_eq word (codes "DB") then functions.Db
     else if bytes_eq word (codes "CONSOLIDATECHILDREN") then functions.Children
+    else if bytes_eq word (codes "DIMSIZ") then functions.Size
     else value_function word
 
 -- what an operator means
@@ -54,6 +57,8 @@ operator_of signs.Less = operators.Comparison rels.Less
 operator_of signs.Greater = operators.Comparison rels.Greater
 operator_of signs.AtMost = operators.Comparison rels.AtMost
 operator_of signs.AtLeast = operators.Comparison rels.AtLeast
+operator_of signs.Same = operators.Texts rels.Equal
+operator_of signs.Other = operators.Texts rels.Unequal
 operator_of signs.Add = operators.Operation ops.Add
 operator_of signs.Sub = operators.Operation ops.Sub
 operator_of signs.Mul = operators.Operation ops.Mul

@@ -1,5 +1,7 @@
 pub mod Functions
 pub mod References
 pub mod OwnNumbers
+pub mod Texts
+pub mod DimensionSize
 pub mod Formulas
 pub mod Rules

@@ -103,3 +103,5 @@ own_call space cube own.HasParent arguments = upper_call space cube false argume
 own_call space cube own.HasAncestor arguments = upper_call space cube true arguments
 own_call space cube own.IsComponent arguments = component_call space cube arguments
 own_call space cube own.Attribute arguments = attribute_call space cube arguments
+own_call space cube own.ComponentCount arguments = plain_call space cube functions.ComponentCount arguments
+own_call space cube own.ParentCount arguments = plain_call space cube functions.ParentCount arguments

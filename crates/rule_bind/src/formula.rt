@@ -6,11 +6,13 @@ ghost use Rattle.bind_arguments.specs.Maps.{AreMapsIn};
 ghost use Rattle.rule_bind.specs.Formulas.{alone, children, unary_call, binary_call, choice_call, call_value, meant};
 ghost use Rattle.rule_bind.specs.Formulas.{value_of, truth_of};
 
+use crate::dimension_size::size_call;
 use crate::function::{Function, function_of};
 use crate::operator::{Operator, operator_of};
 use crate::own_numbers::own_call;
 use crate::reference::{children_of, db_of};
 use crate::standing::Standing;
+use crate::texts::texts_truth;
 use bind_areas::{BindCause, bind_bracket};
 use bind_arguments::BoundMaps;
 use cube_space::Space;
@@ -166,6 +168,9 @@ pub fn truth_of(
                 let right = value_of(alloc, space, maps, cube, Standing::Within, right.get())?;
                 Ok(Truth::Compare(rel, left, right))
             }
+            Operator::Texts(rel) => {
+                texts_truth(alloc, space, maps, cube, rel, left.get(), right.get())
+            }
             Operator::And => {
                 let left = truth_of(alloc, space, maps, cube, left.get())?;
                 let right = truth_of(alloc, space, maps, cube, right.get())?;
@@ -219,6 +224,7 @@ fn call_of(
             _ => Err(BindCause::WrongCount),
         },
         Function::Own(function) => own_call(alloc, space, maps, cube, function, arguments),
+        Function::Size => size_call(alloc, space, arguments),
         Function::Other => Err(BindCause::Unsupported),
     }
 }

@@ -18,6 +18,10 @@ pub(crate) enum OwnFunction {
     IsComponent,
     /// `ATTRN`
     Attribute,
+    /// `ELCOMPN`
+    ComponentCount,
+    /// `ELPARN`
+    ParentCount,
 }
 
 /// A function that is a value.
@@ -29,6 +33,8 @@ pub(crate) enum Function {
     Db,
     /// `ConsolidateChildren`
     Children,
+    /// `DIMSIZ`
+    Size,
     /// A function of one value.
     One(Fun),
     /// A function of two values.
@@ -55,6 +61,10 @@ fn own_function(word: &[u8]) -> Function
         Function::Own(OwnFunction::IsComponent)
     } else if word == b"ATTRN".as_slice() {
         Function::Own(OwnFunction::Attribute)
+    } else if word == b"ELCOMPN".as_slice() {
+        Function::Own(OwnFunction::ComponentCount)
+    } else if word == b"ELPARN".as_slice() {
+        Function::Own(OwnFunction::ParentCount)
     } else {
         Function::Other
     }
@@ -97,6 +107,8 @@ pub(crate) fn function_of(word: &[u8]) -> Function
         Function::Db
     } else if word == b"CONSOLIDATECHILDREN".as_slice() {
         Function::Children
+    } else if word == b"DIMSIZ".as_slice() {
+        Function::Size
     } else {
         value_function(word)
     }

@@ -2,7 +2,9 @@
 //!
 //! Read in this order: [`bind`], which turns the text into statements and feeders over numbers; [`BindFault`], why it
 //! refuses, with the statement or the feeder; [`Standing`], where a formula stands. `specs/Rules.antt` says what
-//! statements and feeders mean, `specs/Formulas.antt` what a formula means, `specs/References.antt` what a `DB` names.
+//! statements and feeders mean, `specs/Formulas.antt` what a formula means, `specs/References.antt` what a `DB` names,
+//! `specs/OwnNumbers.antt` what a number of the cell's own element means, `specs/Texts.antt` what a comparison of its
+//! texts means, and `specs/DimensionSize.antt` what the size of a dimension means.
 #![tactic(auto)]
 
 pub use bind_areas::BindCause;
@@ -13,6 +15,7 @@ pub use rule_model::CubeRules;
 pub use standing::Standing;
 
 mod binding;
+mod dimension_size;
 mod fault;
 mod feeder;
 mod formula;
@@ -22,3 +25,4 @@ mod own_numbers;
 mod reference;
 mod standing;
 mod statement;
+mod texts;

@@ -4,11 +4,12 @@ ghost use Rattle.rule_bind.specs.Functions.{operator_of};
 use rule_laws::{Op, Rel};
 use rule_tree::TreeOp;
 
-/// What an operator means: a value of two values, a truth of two values, or a truth of two truths.
+/// What an operator means: a value of two values, a truth of two values or of two texts, or a truth of two truths.
 #[derive(Clone, Copy, PartialEq, Eq)]
 pub(crate) enum Operator {
     Operation(Op),
     Comparison(Rel),
+    Texts(Rel),
     And,
     Or,
 }
@@ -26,6 +27,8 @@ pub(crate) fn operator_of(op: TreeOp) -> Operator
         TreeOp::Greater => Operator::Comparison(Rel::Greater),
         TreeOp::AtMost => Operator::Comparison(Rel::AtMost),
         TreeOp::AtLeast => Operator::Comparison(Rel::AtLeast),
+        TreeOp::Same => Operator::Texts(Rel::Equal),
+        TreeOp::Other => Operator::Texts(Rel::Unequal),
         TreeOp::Add => Operator::Operation(Op::Add),
         TreeOp::Sub => Operator::Operation(Op::Sub),
         TreeOp::Mul => Operator::Operation(Op::Mul),

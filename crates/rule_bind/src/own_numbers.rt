@@ -17,9 +17,14 @@ use rule_laws::Formula;
 use rule_tree::Tree;
 use std::alloc::Global;
 
-// The place in a cube of the dimension that a quoted text names.
+/// The place in a cube of the dimension that a quoted text names.
 #[tactic(auto, unfolding(crate::specs::OwnNumbers::axis_named))]
-fn axis_named(alloc: Global, space: &Space, cube: u32, tree: &Tree) -> Result<u32, BindCause>
+pub(crate) fn axis_named(
+    alloc: Global,
+    space: &Space,
+    cube: u32,
+    tree: &Tree,
+) -> Result<u32, BindCause>
     requires { cube < length space.now.cubes }
     ensures answers { Answers (axis_named space.now cube tree.now) result }
     ensures within { IfOk result (λ place. place < length (axes space.now cube)) }
@@ -33,9 +38,9 @@ fn axis_named(alloc: Global, space: &Space, cube: u32, tree: &Tree) -> Result<u3
     }
 }
 
-// The place of a dimension again, where a `!` follows it.
+/// The place of a dimension again, where a `!` follows it.
 #[tactic(auto, unfolding(crate::specs::OwnNumbers::own_place))]
-fn own_place(space: &Space, cube: u32, place: u32, tree: &Tree) -> Result<u32, BindCause>
+pub(crate) fn own_place(space: &Space, cube: u32, place: u32, tree: &Tree) -> Result<u32, BindCause>
     requires cube { cube < length space.now.cubes }
     ensures answers { Answers (own_place space.now cube place tree.now) result }
     ensures within { IfOk result (λ own. own ≡ place) }
@@ -73,9 +78,9 @@ fn element_at(
     }
 }
 
-// The attribute of this name that some element of the dimension at a place has.
+/// The attribute of this name that some element of the dimension at a place has.
 #[tactic(auto, unfolding(crate::specs::OwnNumbers::attribute_at))]
-fn attribute_at(
+pub(crate) fn attribute_at(
     alloc: Global,
     space: &Space,
     cube: u32,
@@ -96,8 +101,8 @@ fn attribute_at(
     }
 }
 
-// The table of a function over the dimension at a place of a cube.
-fn table_at(
+/// The table of a function over the dimension at a place of a cube.
+pub(crate) fn table_at(
     alloc: Global,
     space: &Space,
     maps: &mut BoundMaps,
@@ -248,5 +253,25 @@ pub(crate) fn own_call(
         OwnFunction::HasAncestor => upper_call(alloc, space, maps, cube, true, arguments),
         OwnFunction::IsComponent => component_call(alloc, space, maps, cube, arguments),
         OwnFunction::Attribute => attribute_call(alloc, space, maps, cube, arguments),
+        OwnFunction::ComponentCount => {
+            plain_call(
+                alloc,
+                space,
+                maps,
+                cube,
+                ElementFunction::ComponentCount,
+                arguments,
+            )
+        }
+        OwnFunction::ParentCount => {
+            plain_call(
+                alloc,
+                space,
+                maps,
+                cube,
+                ElementFunction::ParentCount,
+                arguments,
+            )
+        }
     }
 }

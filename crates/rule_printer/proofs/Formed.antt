@@ -180,7 +180,7 @@ after_plain text z false is e = cc
 plain_number : (piece : List ℕ) (z : ℤ) → IsNumber piece → number_of piece ≡ Some z → is_negative z ≡ false
 unfolding number_with
 plain_number piece z is e =
-    let says : number_after_sign decimal_point false piece ≡ Some z = sym (ap (λ b. if b then number_after_sign decimal_point true (drop 1 piece) else number_after_sign point false piece) (no_minus piece is)) ∙ e in
+    let says : number_after_sign decimal_point false piece ≡ Some z = sym (ap (λ b. if b then number_after_sign decimal_point true (drop 1 piece) else number_after_sign decimal_point false piece) (no_minus piece is)) ∙ e in
     after_plain piece z (is_decimal decimal_point piece) refl says
 
 number_kind : (kind : Kind) (piece : List ℕ) → is_number_kind kind ≡ true → IsToken kind piece × (length piece ≤ most_token_bytes) → IsNumber piece

@@ -97,7 +97,13 @@ relation_entries = (
         relation_entry (codes ">") ops.Greater refl refl refl refl (λ t. refl) (quiet_of (codes ">") refl refl refl refl refl refl refl),
         (
           relation_entry (codes "<=") ops.AtMost refl refl refl refl (λ t. refl) (quiet_of (codes "<=") refl refl refl refl refl refl refl),
-          (relation_entry (codes ">=") ops.AtLeast refl refl refl refl (λ t. refl) (quiet_of (codes ">=") refl refl refl refl refl refl refl), tt),
+          (
+            relation_entry (codes ">=") ops.AtLeast refl refl refl refl (λ t. refl) (quiet_of (codes ">=") refl refl refl refl refl refl refl),
+            (
+              relation_entry (codes "@=") ops.Same refl refl refl refl (λ t. refl) (quiet_of (codes "@=") refl refl refl refl refl refl refl),
+              (relation_entry (codes "@<>") ops.Other refl refl refl refl (λ t. refl) (quiet_of (codes "@<>") refl refl refl refl refl refl refl), tt),
+            ),
+          ),
         ),
       ),
     ),

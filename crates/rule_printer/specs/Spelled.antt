@@ -72,6 +72,8 @@ rank_of ops.Less = 3
 rank_of ops.Greater = 3
 rank_of ops.AtMost = 3
 rank_of ops.AtLeast = 3
+rank_of ops.Same = 3
+rank_of ops.Other = 3
 rank_of ops.Add = 0
 rank_of ops.Sub = 0
 rank_of ops.Mul = 1
@@ -94,6 +96,8 @@ sign_of ops.Less = codes "<"
 sign_of ops.Greater = codes ">"
 sign_of ops.AtMost = codes "<="
 sign_of ops.AtLeast = codes ">="
+sign_of ops.Same = codes "@="
+sign_of ops.Other = codes "@<>"
 sign_of ops.Add = codes "+"
 sign_of ops.Sub = codes "-"
 sign_of ops.Mul = codes "*"

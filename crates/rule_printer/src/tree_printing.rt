@@ -23,6 +23,7 @@ fn rank_of(op: TreeOp) -> u8
         TreeOp::And | TreeOp::Mul | TreeOp::Div | TreeOp::DivSafe => 1,
         TreeOp::Equal | TreeOp::Unequal | TreeOp::Less => 3,
         TreeOp::Greater | TreeOp::AtMost | TreeOp::AtLeast => 3,
+        TreeOp::Same | TreeOp::Other => 3,
     }
 }
 
@@ -54,6 +55,8 @@ fn write_operator(out: &mut Vec<u8>, op: TreeOp) -> Result<(), AllocError>
         TreeOp::Greater => write_sign(out, b">"),
         TreeOp::AtMost => write_sign(out, b"<="),
         TreeOp::AtLeast => write_sign(out, b">="),
+        TreeOp::Same => write_sign(out, b"@="),
+        TreeOp::Other => write_sign(out, b"@<>"),
         TreeOp::Add => write_sign(out, b"+"),
         TreeOp::Sub => write_sign(out, b"-"),
         TreeOp::Mul => write_sign(out, b"*"),

@@ -38,3 +38,9 @@ returns-in-AtMost c = rw c.in-AtMost.is c.write_sign-in-AtMost.ensures.spaced
 
 pub returns-in-AtLeast : goal.returns-in-AtLeast
 returns-in-AtLeast c = rw c.in-AtLeast.is c.write_sign-in-AtLeast.ensures.spaced
+
+pub returns-in-Same : goal.returns-in-Same
+returns-in-Same c = rw c.in-Same.is c.write_sign-in-Same.ensures.spaced
+
+pub returns-in-Other : goal.returns-in-Other
+returns-in-Other c = rw c.in-Other.is c.write_sign-in-Other.ensures.spaced
