@@ -152,3 +152,11 @@ module _ (version : NumberedVersion) (ws : List (ℕ × ℤ)) (room : Room) (cel
         few_stored = rw more-is (omega (arith, stored, one, may.few_stored));
         few_fed = omega (arith, fed_of_all version.model (after_writes version.stored (ws ++ (cell, number) ∷ [])), none, small);
       }
+
+-- a written 0 passes no limit, by what a version says of itself
+pub clear-within : (work : Work) (version : NumberedVersion) (cell : ℕ) → version ≡ arc_value work.opening → IsSpace version.model.space → AreRules version.model.space version.model.rules
+    → IsWithinLimits (arc_value work.opening).model (after_writes (arc_value work.opening).stored (work.written.items ++ (cell, pos 0) ∷ []))
+clear-within work version cell is space rules =
+    zero-within work.opening work.latest work.written.items work.made work.room work.ahead
+    (subst (λ (v : NumberedVersion). IsSpace v.model.space) is space)
+    (subst (λ (v : NumberedVersion). AreRules v.model.space v.model.rules) is rules) cell (pos 0) refl

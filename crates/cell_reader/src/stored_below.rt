@@ -1,5 +1,5 @@
-ghost use Rattle.std.specs.Prelude.{◌≡◌, true, All, IfOk};
-ghost use Rattle.cube_space.specs.Cells.{IsCell, is_leaf_cell};
+ghost use Rattle.std.specs.Prelude.{◌≡◌, IfOk};
+ghost use Rattle.cube_space.specs.Cells.{IsCell};
 ghost use Rattle.cell_reader.specs.StoredBelow.{stored_below};
 
 use cell_store::{CellSet, Store};
@@ -29,9 +29,7 @@ pub(crate) fn stored_below(
     cell: u64,
 ) -> Result<Vec<u64>, AllocError>
     requires { IsCell model.now.space cell }
-    ensures cells { IfOk result (λ cells. cells.items ≡ stored_below model.now.space store.now cell) }
-    ensures leaves { IfOk result (λ cells.
-        All (λ one. IsCell model.now.space one × (is_leaf_cell model.now.space one ≡ true)) cells.items) }
+    ensures { IfOk result (λ cells. cells.items ≡ stored_below model.now.space store.now cell) }
 {
     let space = model.space();
     let mut cells = Vec::new(alloc);

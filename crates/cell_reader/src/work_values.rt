@@ -100,7 +100,8 @@ impl Work {
         ensures writes { writes_of self.new ≡ writes_of self.old }
     {
         self.settle(alloc)?;
-        stored_below(alloc, self.latest.model(), self.latest.store(), cell)
+        let cells = stored_below(alloc, self.latest.model(), self.latest.store(), cell)?;
+        Ok(cells)
     }
 
     /// The model.
