@@ -116,7 +116,7 @@ module _ (space : Layout) (cube : ℕ) where
   table_truth_good q (rel, place, table, k, same) =
       subst (λ z. AreRead Within (truth_precedents z)) (sym same)
       (both_read Within (precedents (formulas.Table place table)) (precedents (formulas.Number k)) _ (compare_reads rel (formulas.Table place table) (formulas.Number k))
-          (none_read Within _ (table_reads place table)) (none_read Within _ (number_reads k)))
+      (none_read Within _ (table_reads place table)) (none_read Within _ (number_reads k)))
 
   counted_good : (at : Standing) (f : Formula) → IsCounted f → AreRead at (precedents f)
   counted_good at f (k, same) =

@@ -1,5 +1,5 @@
 -- The names that a load has found last. Private functions cite it.
-use Rattle.std.specs.Prelude.{◌≡◌, ℕ, Bool, false, List, [], length, get_or, Option, Some, IfSome, slice_get}
+use Rattle.std.specs.Prelude.{◌≡◌, ◌<◌, ℕ, Bool, false, List, [], length, get_or, Option, Some, IfSome, slice_get}
 use Rattle.std.specs.List.{All}
 use Rattle.bind_arguments.specs.Numbers.{is_below}
 use Rattle.cube_space.specs.Layout.{Layout}

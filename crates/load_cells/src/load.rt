@@ -1,4 +1,5 @@
 ghost use Rattle.std.specs.Prelude.{◌≡◌, IfOk};
+ghost use Rattle.std.proofs.Props.{props};
 ghost use Rattle.cell_reader.specs.Works.{opening_of, writes_of};
 ghost use Rattle.load_cells.specs.Found.{AreFound};
 ghost use Rattle.load_cells.specs.Loads.{reason_of};
@@ -18,7 +19,7 @@ use std::alloc::{AllocError, Global};
 pub struct LoadCells {
     work: Work,
     names: FoundNames,
-    ghost found: { AreFound (opening_of work).model.space names },
+    ghost found: { AreFound (opening_of work).model.space names } by { Prim.hlevel props },
 }
 
 impl LoadCells {

@@ -7,10 +7,10 @@ use Rattle.load_cells.proofs.zeros.zero_out.Given as goal
 -- what is left to write gives what all gives
 abbrev pub invariant-each : goal.invariant-each
 invariant-each l =
-    let opening = opening_of l.initial.work in
-    let store = store_of opening.model opening.stored in
+    let first = opening_of l.initial.work in
+    let store = store_of first.model first.stored in
     record {
-      opening : opening_of l.work ≡ opening;
-      left : with_zeros store (writes_of l.work) (open_among opening.model (drop l.cell-index l.cells))
-          ≡ with_zeros store (writes_of l.initial.work) (open_among opening.model l.cells);
+      same : opening_of l.work ≡ first;
+      left : with_zeros store (writes_of l.work) (open_among first.model (drop l.cell-index l.cells))
+          ≡ with_zeros store (writes_of l.initial.work) (open_among first.model l.cells);
     }
