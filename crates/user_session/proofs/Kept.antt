@@ -94,15 +94,17 @@ module _ (content : Content) (before after : List (ℕ × ℤ)) (within : AreWit
 zeros-kept : (content : Content) (cells : List ℕ) (before after : List (ℕ × ℤ)) → AreWithin content before → All (IsLeaf content.model.space) cells
     → with_zeros (store_of content.model content.stored) before cells ≡ Ok after → AreWithin content after
 zeros-kept content [] before after within leaves is = let same : before ≡ after = cc in subst (AreWithin content) same within
-zeros-kept content (cell ∷ cells) before after within leaves is = by (passed content.model (after_writes content.stored (before ++ (cell, pos 0) ∷ []))) refl is
+zeros-kept content (cell ∷ cells) before after within leaves is =
+    by (λ next more. zeros-kept content cells (before ++ (cell, pos 0) ∷ []) after next (All-tail (IsLeaf content.model.space) cell cells leaves) more)
+    (passed content.model (after_writes content.stored (before ++ (cell, pos 0) ∷ []))) refl is
   where
-    by : (limit : Option LoadReason) → passed content.model (after_writes content.stored (before ++ (cell, pos 0) ∷ [])) ≡ limit
+    by : (AreWithin content (before ++ (cell, pos 0) ∷ []) → with_zeros (store_of content.model content.stored) (before ++ (cell, pos 0) ∷ []) cells ≡ Ok after → AreWithin content after)
+        → (limit : Option LoadReason) → passed content.model (after_writes content.stored (before ++ (cell, pos 0) ∷ [])) ≡ limit
         → unless_refused limit (with_zeros (store_of content.model content.stored) (before ++ (cell, pos 0) ∷ []) cells) ≡ Ok after → AreWithin content after
-    by None is more =
+    by on None is more =
         let own = All-head (IsLeaf content.model.space) cell cells leaves in
-        let later : AreWithin content (before ++ (cell, pos 0) ∷ []) = with_limits content before (before ++ (cell, pos 0) ∷ []) within cell (pos 0) own.0 own.1 None is refl in
-        zeros-kept content cells (before ++ (cell, pos 0) ∷ []) after later (All-tail (IsLeaf content.model.space) cell cells leaves) more
-    by (Some reason) is more = absurd (cc)
+        on (with_limits content before (before ++ (cell, pos 0) ∷ []) within cell (pos 0) own.0 own.1 None is refl) more
+    by on (Some reason) is more = absurd (cc)
 
 pub zeroing-kept : (content : Content) (before after : List (ℕ × ℤ)) → AreWithin content before → (cube : List ℕ) (elements : List (List ℕ))
     → zeroing (store_of content.model content.stored) before cube elements ≡ Ok after → AreWithin content after
