@@ -4,7 +4,8 @@
 //!   stored, [`Snapshot::next`] is the one after some writes, and [`Snapshot::share`] is the same for another reader.
 //! - [`Snapshot::value_at`] is a cell's value, and [`Snapshot::read`] the same for who counts steps.
 //! - [`Work`] is a version with the writes of a load so far, which sees its own writes: [`Work::get`], [`Work::put`].
-//!   [`Work::stored_below`] and [`Work::clear`] serve what empties the cells below a total.
+//!   [`Work::stored_below`] and [`Work::clear`] serve what empties the cells below a total. [`Work::back`] takes writes
+//!   back, quickly to where [`Work::mark`] marked them.
 //! - [`why_closed`] says whether a cell may be written, and why not.
 //!
 //! Contracts speak of these by the words of `specs/Snapshots.antt`, `specs/Works.antt`, `specs/Limits.antt`,
@@ -18,6 +19,7 @@ pub use work::Work;
 pub use write_permission::{Closed, why_closed};
 
 mod last_numbers;
+mod mark;
 mod next_snapshot;
 mod room;
 mod slots;
@@ -28,6 +30,7 @@ mod stored_below;
 mod uncounted;
 mod ungoverned;
 mod work;
+mod work_marks;
 mod work_values;
 mod work_writes;
 mod write_permission;

@@ -4,8 +4,9 @@ ghost use Rattle.std.specs.Coded.{codes};
 ghost use Rattle.std.proofs.Props.{props};
 ghost use Rattle.memo_cells.specs.contracts.version.Version as kept;
 ghost use Rattle.rule_laws.specs.contracts.formula.Formula as formula;
-ghost use Rattle.cell_reader.specs.Inside.After.{AreLast, HasValues, IsAhead};
+ghost use Rattle.cell_reader.specs.Inside.After.{AreLast, HasFirst, HasValues, IsAhead};
 
+use crate::mark::Mark;
 use crate::room::Room;
 use cell_versions::Version;
 use cube_fixed::Money;
@@ -35,7 +36,10 @@ pub struct Work {
     pub(crate) room: Room,
     /// The last number that the waiting writes have for each of their cells; none before a read has asked for one.
     pub(crate) numbers: Option<BTreeMap<u64, Money>>,
+    /// Where the load marked its writes last.
+    pub(crate) marked: Mark,
     ghost ahead: { IsAhead opening latest written.items made room } by { Prim.hlevel (codes, formula.the_row.coded) },
     ghost last: { AreLast (drop made written.items) numbers } by { Prim.hlevel (codes, props) },
+    ghost first: { HasFirst (arc_value opening) written.items marked } by { Prim.hlevel (codes, formula.the_row.coded) },
     ghost values: { HasValues (arc_value latest) memo } by { Prim.hlevel (codes, kept.the_row.coded) },
 }

@@ -11,6 +11,7 @@ ghost use Rattle.cell_reader.specs.Works.{opening_of, stored_after, writes_of};
 ghost use Rattle.cell_writes.specs.Writes.{last_writes};
 
 use crate::last_numbers::{last_numbers, number_after};
+use crate::mark::Mark;
 use crate::next_snapshot::memory_for;
 use crate::room::room_of;
 use crate::snapshot::Snapshot;
@@ -38,6 +39,7 @@ impl Work {
         let room = room_of(&snapshot.version);
         let opening = Arc::try_clone(&snapshot.version)?;
         let latest = Arc::try_clone(&snapshot.version)?;
+        let version = Arc::try_clone(&snapshot.version)?;
         let memo = snapshot.memo.share()?;
         Ok(Work {
             opening,
@@ -47,6 +49,7 @@ impl Work {
             made: 0,
             room,
             numbers: None,
+            marked: Mark { version, made: 0 },
         })
     }
 
@@ -89,7 +92,8 @@ impl Work {
         Ok(number)
     }
 
-    /// The leaf cells that are stored after the writes so far and count in a cell, rising. A leaf cell counts in itself.
+    /// The leaf cells that are stored after the writes so far and count in a cell, rising. A leaf cell counts in
+    /// itself.
     pub fn stored_below(&mut self, alloc: Global, cell: u64) -> Result<Vec<u64>, AllocError>
         requires { IsCell (opening_of self.old).model.space cell }
         ensures cells { IfOk result (λ cells. cells.items ≡ stored_below (opening_of self.old).model.space

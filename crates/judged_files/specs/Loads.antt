@@ -71,13 +71,14 @@ abbrev pub AreReady : ModelFiles → List Source → List UserCommand → Type 0
 AreReady files sources commands = All (λ command. IsReady files sources command.body) commands
 
 -- a load as it is run: by the place of its script in the model, with its records, the byte between units and decimals
--- of their numbers, and what is set
+-- of their numbers, how many records may be passed over, and what is set
 pub record IsLoad (files : ModelFiles) (sources : List Source) (load : LoadText) (job : LoadJob) (bound : BoundScript)
     : Type 0 where
   pub place : place_of files.script_names load.script ≡ Some job.script
   pub script : slice_get files.bound job.script ≡ Some bound
   pub records : records_of sources load.file load.separator load.skip ≡ Some (rows_in job)
   pub decimal : job.decimal ≡ load.decimal
+  pub rejects : job.rejects ≡ load.rejects
   pub params : job.params ≡ load.params
 
 abbrev pub IsLoadCommand : ModelFiles → List Source → LoadText → Act PlanCommand → Type 0

@@ -146,6 +146,7 @@ fn load_command(
         records: records_of(alloc, sources, &load.file, load.separator)?,
         skip: load.skip,
         decimal: load.decimal,
+        rejects: load.rejects,
         params: load.params,
     };
     Ok(Act::Do(PlanCommand::Load(job, Arc::try_clone(bound)?)))

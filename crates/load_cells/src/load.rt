@@ -178,6 +178,14 @@ impl WorkCells for LoadCells {
         zero_out(alloc, &mut self.work, &cells)?;
         Ok(None)
     }
+
+    fn mark(&mut self) -> Result<usize, AllocError> {
+        self.work.mark()
+    }
+
+    fn back(&mut self, alloc: Global, count: usize) -> Result<(), AllocError> {
+        self.work.back(alloc, count)
+    }
 }
 
 // Why a load that writes into a closed cell is rejected.

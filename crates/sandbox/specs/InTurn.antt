@@ -19,7 +19,7 @@ layer_of s (Some kept) = Some (joined s kept)
 
 -- a command that would commit writes adds them at the end of the list
 abbrev pub added_in : {C K T R : Type 0} → Sandboxing C K T R → List T → Effect T R → Effect T R × Option (List T)
-added_in s kept (Commit writes reply) = (Read (s.kept writes), Some (kept ++ writes ∷ []))
+added_in s kept (Commit writes reply) = (Read (s.kept reply), Some (kept ++ writes ∷ []))
 added_in s kept (Rejected reply) = (Read reply, Some kept)
 added_in s kept (Read reply) = (Read reply, Some kept)
 

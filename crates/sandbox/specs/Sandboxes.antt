@@ -20,9 +20,10 @@ pub record Sandboxing (C K T R : Type 0) : Type 0 where
   pub fixed : T → K
   -- the reply to every command but PUBLISH and DISCARD where the content with these writes passes a limit
   pub unfit : C → T → Option R
-  -- the reply to an act that only opens or ends a sandbox, and to a command whose writes were kept in it
+  -- the reply to an act that only opens or ends a sandbox
   pub note : Note → R
-  pub kept : T → R
+  -- the reply to a command whose writes were kept in it, where they would have been committed with this reply
+  pub kept : R → R
 
 -- the layer after the sandbox of these writes was published with this effect: none where they were committed
 abbrev pub left_of : {L T R : Type 0} → L → Effect T R → Option L
@@ -32,7 +33,7 @@ left_of layer (Read reply) = Some layer
 
 -- a command that would commit writes keeps them in the sandbox, and only reads
 abbrev pub kept_in : {C K T R : Type 0} → Sandboxing C K T R → T → Effect T R → Effect T R × Option T
-kept_in s layer (Commit writes reply) = (Read (s.kept writes), Some (s.join layer writes))
+kept_in s layer (Commit writes reply) = (Read (s.kept reply), Some (s.join layer writes))
 kept_in s layer (Rejected reply) = (Read reply, Some layer)
 kept_in s layer (Read reply) = (Read reply, Some layer)
 

@@ -64,7 +64,8 @@ pub trait Layered: World {
     fn note(alloc: Global, note: Note) -> Result<Self::Reply, AllocError>
         ensures note { IfOk result (λ reply. reply ≡ sandbox.note note) };
 
-    /// The reply to a command whose writes, these, were kept in the sandbox.
-    fn kept(alloc: Global, writes: &Self::Writes) -> Result<Self::Reply, AllocError>
-        ensures kept { IfOk result (λ reply. reply ≡ sandbox.kept writes.now) };
+    /// The reply to a command whose writes were kept in the sandbox, where they would have been committed with this
+    /// reply.
+    fn kept(alloc: Global, reply: Self::Reply) -> Result<Self::Reply, AllocError>
+        ensures kept { IfOk result (λ kept. kept ≡ sandbox.kept reply) };
 }

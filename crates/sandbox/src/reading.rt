@@ -119,8 +119,8 @@ fn act_on<W: Layered>(
             own.private = Some(private);
             Ok(reply)
         }
-        Effect::Commit(writes, _) => {
-            let reply = W::kept(alloc, &writes)?;
+        Effect::Commit(writes, reply) => {
+            let reply = W::kept(alloc, reply)?;
             let next = W::go_on(alloc, &private, &writes)?;
             W::keep(alloc, &mut own.layer, &writes)?;
             own.private = next;

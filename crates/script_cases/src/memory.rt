@@ -281,4 +281,13 @@ impl WorkCells for MemoryCells {
             Some(_) => Ok(None),
         }
     }
+
+    fn mark(&mut self) -> Result<usize, AllocError> {
+        Ok(self.writes.len())
+    }
+
+    fn back(&mut self, _alloc: Global, count: usize) -> Result<(), AllocError> {
+        self.writes.truncate(count);
+        Ok(())
+    }
 }

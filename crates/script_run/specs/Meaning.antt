@@ -54,7 +54,8 @@ pub data Begun : Type 0 where
 
 abbrev pub begun_with : ℕ → ExecutionPlace → Progress → Begun
 begun_with zero place p = Begins false p
-begun_with (suc left) place p = Begins true (record { variables = p.variables; left = left; last = place })
+begun_with (suc left) place p =
+    Begins true (record { variables = p.variables; left = left; last = place; rejects = p.rejects })
 
 -- one execution more, if one is left
 abbrev pub begin : ExecutionPlace → Progress → Begun
@@ -98,8 +99,12 @@ abbrev pub given : Term → Store → Setting → Progress → List Write → Re
 given term store here p w = value_of term (scene_of here p) store w
 
 abbrev pub kept_in : ℕ → Result Kept LoadReason → Doing
-kept_in place (Ok value) p w =
-    Ended Next (record { variables = slice_set p.variables place (Some value); left = p.left; last = p.last }) w
+kept_in place (Ok value) p w = Ended Next (record {
+  variables = slice_set p.variables place (Some value);
+  left = p.left;
+  last = p.last;
+  rejects = p.rejects;
+}) w
 kept_in place (Err reason) p w = Ended (Stopped reason) p w
 
 unfoldable pub assign : ℕ → Term → Deed

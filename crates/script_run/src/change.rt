@@ -52,7 +52,7 @@ fn kept_of<C: WorkCells>(
     cells: &mut C,
 ) -> Result<Result<Kept, LoadReason>, AllocError>
     ensures value { IfOk result (λ answer. answer
-        ≡ values.taken meaning.as_kept (given term.now (C.store cells.old) here.now run.now (C.writes cells.old))) }
+        ≡ values.taken meaning.as_kept (given term.now (C.store cells.old) here.now run.now.progress (C.writes cells.old))) }
     ensures store { C.store cells.new ≡ C.store cells.old }
     ensures writes { C.writes cells.new ≡ C.writes cells.old }
 {
@@ -70,7 +70,7 @@ pub(crate) fn holds<C: WorkCells>(
     cells: &mut C,
 ) -> Result<Result<bool, LoadReason>, AllocError>
     ensures value { IfOk result (λ answer. answer
-        ≡ values.truth (given test.now (C.store cells.old) here.now run.now (C.writes cells.old))) }
+        ≡ values.truth (given test.now (C.store cells.old) here.now run.now.progress (C.writes cells.old))) }
     ensures store { C.store cells.new ≡ C.store cells.old }
     ensures writes { C.writes cells.new ≡ C.writes cells.old }
 {
@@ -89,14 +89,15 @@ pub(crate) fn assign<C: WorkCells>(
     run: &mut Run,
     cells: &mut C,
 ) -> Result<Ending, AllocError>
-    ensures ended { IfOk result (λ ending. Ended ending run.new (C.writes cells.new)
-        ≡ meaning.assign place term.now (C.store cells.old) here.now run.old (C.writes cells.old)) }
-    ensures left { run.new.left ≤ run.old.left }
+    ensures ended { IfOk result (λ ending. Ended ending run.new.progress (C.writes cells.new)
+        ≡ meaning.assign place term.now (C.store cells.old) here.now run.old.progress (C.writes cells.old)) }
+    ensures left { run.new.progress.left ≤ run.old.progress.left }
+    ensures held { IfOk result (λ _. run.new.held ≡ run.old.held) }
     ensures store { C.store cells.new ≡ C.store cells.old }
 {
     match kept_of(alloc, term, here, run, cells)? {
         Ok(value) => {
-            run.keep(place, value);
+            run.keep(place, value)?;
             Ok(Ending::Next)
         }
         Err(reason) => Ok(Ending::Stopped(reason)),
@@ -189,8 +190,8 @@ pub(crate) fn change_cell<C: WorkCells>(
     run: &Run,
     cells: &mut C,
 ) -> Result<Ending, AllocError>
-    ensures ended { IfOk result (λ ending. Ended ending run.now (C.writes cells.new)
-        ≡ changed change value.now names.now (C.store cells.old) here.now run.now (C.writes cells.old)) }
+    ensures ended { IfOk result (λ ending. Ended ending run.now.progress (C.writes cells.new)
+        ≡ changed change value.now names.now (C.store cells.old) here.now run.now.progress (C.writes cells.old)) }
     ensures store { C.store cells.new ≡ C.store cells.old }
 {
     let sight = run.sight(here);
@@ -230,8 +231,8 @@ pub(crate) fn zero_out<C: WorkCells>(
     run: &Run,
     cells: &mut C,
 ) -> Result<Ending, AllocError>
-    ensures ended { IfOk result (λ ending. Ended ending run.now (C.writes cells.new)
-        ≡ meaning.zero_out names.now (C.store cells.old) here.now run.now (C.writes cells.old)) }
+    ensures ended { IfOk result (λ ending. Ended ending run.now.progress (C.writes cells.new)
+        ≡ meaning.zero_out names.now (C.store cells.old) here.now run.now.progress (C.writes cells.old)) }
     ensures store { C.store cells.new ≡ C.store cells.old }
 {
     let sight = run.sight(here);

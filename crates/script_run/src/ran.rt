@@ -1,11 +1,13 @@
+use crate::reject::Reject;
+use lists::ListOf;
 use script_tree::Section;
 use script_values::LoadReason;
 
 /// How a load ended.
-#[derive(Clone, Copy, PartialEq, Eq)]
+#[derive(Drop)]
 pub enum Ran {
-    /// Its writes are to be kept.
-    Done,
+    /// Its writes are to be kept. These records were passed over.
+    Done(ListOf<Reject>),
     /// None of its writes is to be kept.
     Rejected {
         /// The section of the last execution.

@@ -59,7 +59,7 @@ fn variables(
 
 /// Before the first execution.
 fn start(alloc: Global, script: &BoundScript, params: &LoadParams) -> Result<Run, AllocError>
-    ensures { IfOk result (λ run. run ≡ start script.now params.now) }
+    ensures { IfOk result (λ run. run.progress ≡ start script.now params.now) }
 {
     let variables = variables(alloc, script.variables.as_slice(), params)?;
     let last = ExecutionPlace {
@@ -67,29 +67,32 @@ fn start(alloc: Global, script: &BoundScript, params: &LoadParams) -> Result<Run
         row: 0,
         statement: 0,
     };
-    Ok(Run::new(variables, MAX_STEPS, last))
+    Run::new(alloc, variables, MAX_STEPS, last)
 }
 
-/// How a load ended whose last execution stands there.
-fn ran_at(ending: Ending, last: ExecutionPlace) -> Ran
-    ensures { result ≡ loads.ran_at ending last }
+/// How a load ended that has come so far.
+fn ran_at(ending: Ending, run: Run) -> Ran
+    ensures { result ≡ loads.ran_at ending run.progress }
 {
     match ending {
-        Ending::Stopped(reason) => Ran::Rejected {
-            section: last.section,
-            row: last.row,
-            statement: last.statement,
-            reason,
-        },
-        Ending::Next => Ran::Done,
-        Ending::Skipped => Ran::Done,
-        Ending::Broken => Ran::Done,
+        Ending::Stopped(reason) => {
+            let last = run.last();
+            Ran::Rejected {
+                section: last.section,
+                row: last.row,
+                statement: last.statement,
+                reason,
+            }
+        }
+        Ending::Next | Ending::Skipped | Ending::Broken => Ran::Done(run.into_rejects()),
     }
 }
 
 /// Runs a bound script: the Prolog, Data once for each record, and the Epilog. The parameters are variables, by their
-/// words in capitals, that are set before. Numbers in the records have `decimal` between units and decimals. The first
-/// reason ends the load, and what was written is then to be dropped.
+/// words in capitals, that are set before. Numbers in the records have `decimal` between units and decimals.
+///
+/// At most so many `rejects` are passed over: records that a reason that lies in them stopped, which leave nothing. The
+/// first other reason ends the load, and what was written is then to be dropped.
 ///
 /// Out of memory, nothing is said of the writes.
 pub fn run<C: WorkCells>(
@@ -97,16 +100,17 @@ pub fn run<C: WorkCells>(
     script: &BoundScript,
     rows: Rows<'_>,
     decimal: u8,
+    rejects: u32,
     params: &LoadParams,
     cells: &mut C,
 ) -> Result<Ran, AllocError>
     ensures ran { IfOk result (λ ran. ran ≡ ran_of
-        (load script.now params.now decimal rows.entry (C.store cells.old) (C.writes cells.old))) }
+        (load script.now params.now decimal rejects rows.entry (C.store cells.old) (C.writes cells.old))) }
     ensures writes { IfOk result (λ _. C.writes cells.new ≡ writes_of
-        (load script.now params.now decimal rows.entry (C.store cells.old) (C.writes cells.old))) }
+        (load script.now params.now decimal rejects rows.entry (C.store cells.old) (C.writes cells.old))) }
     ensures store { C.store cells.new ≡ C.store cells.old }
 {
     let mut run = start(alloc, script, params)?;
-    let ending = run_sections(alloc, script, rows, decimal, &mut run, cells)?;
-    Ok(ran_at(ending, run.last()))
+    let ending = run_sections(alloc, script, rows, decimal, rejects, &mut run, cells)?;
+    Ok(ran_at(ending, run))
 }

@@ -1,7 +1,7 @@
-ghost use Rattle.std.specs.Prelude.{◌≡◌, ◌+◌, ◌≤◌, List, [], map, IfOk};
+ghost use Rattle.std.specs.Prelude.{◌≡◌, ℕ, ◌+◌, ◌<◌, ◌≤◌, List, [], length, map, IfOk};
 ghost use Rattle.script_tree.specs.declared.script.Section.TheVariants as sections_of;
 ghost use Rattle.script_run.specs.Meaning.{Ended, block_of, then_do};
-ghost use Rattle.script_run.specs.Load.{records, setting, sections};
+ghost use Rattle.script_run.specs.Load.{is_of_record, records, setting, sections, tried};
 
 use crate::ending::Ending;
 use crate::here::Here;
@@ -9,27 +9,96 @@ use crate::progress::Run;
 use crate::statements::run_block;
 use script_bound::{BoundScript, Statement};
 use script_tree::Section;
-use script_values::WorkCells;
+use script_values::{LoadReason, WorkCells};
 use std::alloc::{AllocError, Global};
 use user_text::{Record, Rows};
 
-/// Runs Data, once for each record.
+/// Whether a reason lies in the record, so that the record may be passed over for it.
+fn is_of_record(reason: LoadReason) -> bool
+    ensures { result ≡ is_of_record reason }
+{
+    match reason {
+        LoadReason::UnknownName
+        | LoadReason::NotALeaf
+        | LoadReason::RuleDerived
+        | LoadReason::NotANumber
+        | LoadReason::OverWrite
+        | LoadReason::UnsetVariable
+        | LoadReason::TypeMismatch => true,
+        LoadReason::ProcessError
+        | LoadReason::StepLimit
+        | LoadReason::StoreLimit(_)
+        | LoadReason::FedLimit(_)
+        | LoadReason::TextLimit => false,
+    }
+}
+
+/// Runs Data for a record, which is passed over where a reason that lies in it stops it.
+fn try_record<C: WorkCells>(
+    alloc: Global,
+    body: &[Statement],
+    here: &Here<'_>,
+    run: &mut Run,
+    cells: &mut C,
+) -> Result<Ending, AllocError>
+    ensures ended { (most : ℕ) → length run.old.progress.rejects < most
+        → IfOk result (λ ending. Ended ending run.new.progress (C.writes cells.new)
+        ≡ tried most run.old.progress (C.writes cells.old)
+        (block_of body.now (C.store cells.old) here.now run.old.progress (C.writes cells.old))) }
+    ensures store { C.store cells.new ≡ C.store cells.old }
+{
+    let count = cells.mark()?;
+    run.mark();
+    match run_block(alloc, body, here, run, cells)? {
+        Ending::Stopped(reason) if is_of_record(reason) => {
+            cells.back(alloc, count)?;
+            run.pass_over(reason)?;
+            Ok(Ending::Next)
+        }
+        ending => Ok(ending),
+    }
+}
+
+/// Runs Data for a record. At most so many records are passed over.
+fn run_record<C: WorkCells>(
+    alloc: Global,
+    body: &[Statement],
+    here: &Here<'_>,
+    most: u32,
+    run: &mut Run,
+    cells: &mut C,
+) -> Result<Ending, AllocError>
+    ensures ended { IfOk result (λ ending. Ended ending run.new.progress (C.writes cells.new)
+        ≡ tried most run.old.progress (C.writes cells.old)
+        (block_of body.now (C.store cells.old) here.now run.old.progress (C.writes cells.old))) }
+    ensures store { C.store cells.new ≡ C.store cells.old }
+{
+    if run.rejects().len() < most as usize {
+        try_record(alloc, body, here, run, cells)
+    } else {
+        run_block(alloc, body, here, run, cells)
+    }
+}
+
+/// Runs Data, once for each record. At most so many records are passed over.
 fn run_records<C: WorkCells>(
     alloc: Global,
     body: &[Statement],
     mut rows: Rows<'_>,
     decimal: u8,
+    most: u32,
     run: &mut Run,
     cells: &mut C,
 ) -> Result<Ending, AllocError>
-    ensures ended { IfOk result (λ ending. Ended ending run.new (C.writes cells.new)
-        ≡ records decimal (block_of body.now) (C.store cells.old) 1 rows.entry run.old (C.writes cells.old)) }
+    ensures ended { IfOk result (λ ending. Ended ending run.new.progress (C.writes cells.new)
+        ≡ records decimal most (block_of body.now) (C.store cells.old) 1 rows.entry run.old.progress
+        (C.writes cells.old)) }
     ensures store { C.store cells.new ≡ C.store cells.old }
 {
     let mut row = 1u32;
     'each: while let Some(record) = rows.next() {
         let here = Here::new(decimal, Section::Body, row, &record);
-        match run_block(alloc, body, &here, run, cells)? {
+        match run_record(alloc, body, &here, most, run, cells)? {
             Ending::Next => {}
             Ending::Skipped => {}
             Ending::Broken => return Ok(Ending::Broken),
@@ -53,18 +122,22 @@ fn run_records_after_prolog<C: WorkCells>(
     script: &BoundScript,
     rows: Rows<'_>,
     decimal: u8,
+    most: u32,
     run: &mut Run,
     cells: &mut C,
 ) -> Result<Ending, AllocError>
-    ensures ended { IfOk result (λ ending. Ended ending run.new (C.writes cells.new)
+    ensures ended { IfOk result (λ ending. Ended ending run.new.progress (C.writes cells.new)
         ≡ then_do (block_of script.now.prolog (C.store cells.old) (setting decimal sections_of.Prolog 0 [])
-        run.old (C.writes cells.old)) (records decimal (block_of script.now.body) (C.store cells.old) 1 rows.entry)) }
+        run.old.progress (C.writes cells.old))
+        (records decimal most (block_of script.now.body) (C.store cells.old) 1 rows.entry)) }
     ensures store { C.store cells.new ≡ C.store cells.old }
 {
     let none = Record::empty();
     let here = Here::new(decimal, Section::Prolog, 0, &none);
     match run_block(alloc, script.prolog.as_slice(), &here, run, cells)? {
-        Ending::Next => run_records(alloc, script.body.as_slice(), rows, decimal, run, cells),
+        Ending::Next => {
+            run_records(alloc, script.body.as_slice(), rows, decimal, most, run, cells)
+        }
         Ending::Skipped => Ok(Ending::Skipped),
         Ending::Broken => Ok(Ending::Broken),
         Ending::Stopped(reason) => Ok(Ending::Stopped(reason)),
@@ -79,9 +152,9 @@ fn run_epilog<C: WorkCells>(
     run: &mut Run,
     cells: &mut C,
 ) -> Result<Ending, AllocError>
-    ensures ended { IfOk result (λ ending. Ended ending run.new (C.writes cells.new)
+    ensures ended { IfOk result (λ ending. Ended ending run.new.progress (C.writes cells.new)
         ≡ block_of script.now.epilog (C.store cells.old) (setting decimal sections_of.Epilog 0 [])
-        run.old (C.writes cells.old)) }
+        run.old.progress (C.writes cells.old)) }
     ensures store { C.store cells.new ≡ C.store cells.old }
 {
     let none = Record::empty();
@@ -95,14 +168,15 @@ pub(crate) fn run_sections<C: WorkCells>(
     script: &BoundScript,
     rows: Rows<'_>,
     decimal: u8,
+    most: u32,
     run: &mut Run,
     cells: &mut C,
 ) -> Result<Ending, AllocError>
-    ensures ended { IfOk result (λ ending. Ended ending run.new (C.writes cells.new)
-        ≡ sections script.now (C.store cells.old) decimal rows.entry run.old (C.writes cells.old)) }
+    ensures ended { IfOk result (λ ending. Ended ending run.new.progress (C.writes cells.new)
+        ≡ sections script.now (C.store cells.old) decimal most rows.entry run.old.progress (C.writes cells.old)) }
     ensures store { C.store cells.new ≡ C.store cells.old }
 {
-    match run_records_after_prolog(alloc, script, rows, decimal, run, cells)? {
+    match run_records_after_prolog(alloc, script, rows, decimal, most, run, cells)? {
         Ending::Next => run_epilog(alloc, script, decimal, run, cells),
         Ending::Skipped => run_epilog(alloc, script, decimal, run, cells),
         Ending::Broken => run_epilog(alloc, script, decimal, run, cells),

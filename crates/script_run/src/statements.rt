@@ -15,10 +15,11 @@ use std::alloc::{AllocError, Global};
 /// Begins a statement as one execution, if one is left. A `WHILE` begins with each of its tests.
 #[tactic(auto, using(crate::proofs::Begun::not_begun), unfolding(crate::specs::Meaning::executed))]
 fn begin(statement: &Statement, here: &Here<'_>, run: &mut Run) -> bool
-    ensures begun { Begins result run.new ≡ begun statement.now here.now run.old }
+    ensures begun { Begins result run.new.progress ≡ begun statement.now here.now run.old.progress }
     ensures limit { IsFalse result → (store : Store) (writes : List Write) →
-        deed_of statement.now store here.now run.old writes ≡ stopped reason_of.StepLimit run.new writes }
-    ensures left { run.new.left ≤ run.old.left }
+        deed_of statement.now store here.now run.old.progress writes ≡ stopped reason_of.StepLimit run.new.progress writes }
+    ensures left { run.new.progress.left ≤ run.old.progress.left }
+    ensures held { run.new.held ≡ run.old.held }
 {
     match statement {
         Statement::Assign(number, ..)
@@ -42,9 +43,10 @@ pub(crate) fn run_block<C: WorkCells>(
     run: &mut Run,
     cells: &mut C,
 ) -> Result<Ending, AllocError>
-    ensures ended { IfOk result (λ ending. Ended ending run.new (C.writes cells.new)
-        ≡ block (map deed_of statements.now) (C.store cells.old) here.now run.old (C.writes cells.old)) }
-    ensures left { run.new.left ≤ run.old.left }
+    ensures ended { IfOk result (λ ending. Ended ending run.new.progress (C.writes cells.new)
+        ≡ block (map deed_of statements.now) (C.store cells.old) here.now run.old.progress (C.writes cells.old)) }
+    ensures left { run.new.progress.left ≤ run.old.progress.left }
+    ensures held { IfOk result (λ _. run.new.held ≡ run.old.held) }
     ensures store { C.store cells.new ≡ C.store cells.old }
 {
     'each: for statement in statements {
@@ -68,9 +70,10 @@ fn run_statement<C: WorkCells>(
     run: &mut Run,
     cells: &mut C,
 ) -> Result<Ending, AllocError>
-    ensures ended { IfOk result (λ ending. Ended ending run.new (C.writes cells.new)
-        ≡ deed_of statement.now (C.store cells.old) here.now run.old (C.writes cells.old)) }
-    ensures left { run.new.left ≤ run.old.left }
+    ensures ended { IfOk result (λ ending. Ended ending run.new.progress (C.writes cells.new)
+        ≡ deed_of statement.now (C.store cells.old) here.now run.old.progress (C.writes cells.old)) }
+    ensures left { run.new.progress.left ≤ run.old.progress.left }
+    ensures held { IfOk result (λ _. run.new.held ≡ run.old.held) }
     ensures store { C.store cells.new ≡ C.store cells.old }
 {
     if !begin(statement, here, run) {
@@ -104,9 +107,10 @@ fn run_choice<C: WorkCells>(
     run: &mut Run,
     cells: &mut C,
 ) -> Result<Ending, AllocError>
-    ensures ended { IfOk result (λ ending. Ended ending run.new (C.writes cells.new)
-        ≡ choose (map case_deed cases.now) (C.store cells.old) here.now run.old (C.writes cells.old)) }
-    ensures left { run.new.left ≤ run.old.left }
+    ensures ended { IfOk result (λ ending. Ended ending run.new.progress (C.writes cells.new)
+        ≡ choose (map case_deed cases.now) (C.store cells.old) here.now run.old.progress (C.writes cells.old)) }
+    ensures left { run.new.progress.left ≤ run.old.progress.left }
+    ensures held { IfOk result (λ _. run.new.held ≡ run.old.held) }
     ensures store { C.store cells.new ≡ C.store cells.old }
 {
     'each: for case in cases {
@@ -136,10 +140,11 @@ fn run_while<C: WorkCells>(
     run: &mut Run,
     cells: &mut C,
 ) -> Result<Ending, AllocError>
-    ensures ended { IfOk result (λ ending. Ended ending run.new (C.writes cells.new)
-        ≡ turns run.old.left number test.now (block (map deed_of statements.now))
-        (C.store cells.old) here.now run.old (C.writes cells.old)) }
-    ensures left { run.new.left ≤ run.old.left }
+    ensures ended { IfOk result (λ ending. Ended ending run.new.progress (C.writes cells.new)
+        ≡ turns run.old.progress.left number test.now (block (map deed_of statements.now))
+        (C.store cells.old) here.now run.old.progress (C.writes cells.old)) }
+    ensures left { run.new.progress.left ≤ run.old.progress.left }
+    ensures held { IfOk result (λ _. run.new.held ≡ run.old.held) }
     ensures store { C.store cells.new ≡ C.store cells.old }
 {
     let mut most = run.left();

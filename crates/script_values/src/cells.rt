@@ -1,4 +1,4 @@
-ghost use Rattle.std.specs.Prelude.{◌≡◌, List, IfOk};
+ghost use Rattle.std.specs.Prelude.{◌≡◌, List, length, take, None, IfOk};
 ghost use Rattle.script_values.specs.Cells.{Store, Write, reading, writing, zeroing, refusal, writes_after};
 ghost use Rattle.script_values.specs.Cells.{is_updateable};
 ghost use Rattle.script_values.specs.Elements.{of_elements};
@@ -142,5 +142,18 @@ pub trait WorkCells {
             ≡ refusal (zeroing (store self.old) (writes self.old) cube.now elements.now)) }
         ensures written { IfOk result (λ _. writes self.new ≡ writes_after (writes self.old)
             (zeroing (store self.old) (writes self.old) cube.now elements.now)) }
+        ensures store { store self.new ≡ store self.old };
+
+    /// Marks the writes so far, which pass no limit, so that going back to them is quick. Gives how many they are.
+    fn mark(&mut self) -> Result<usize, AllocError>
+        ensures count { IfOk result (λ count. count ≡ length (writes self.old)) }
+        ensures within { (store self.old).full (writes self.old) ≡ None }
+        ensures store { store self.new ≡ store self.old }
+        ensures writes { writes self.new ≡ writes self.old };
+
+    /// Takes back all writes but the first so many, which pass no limit.
+    fn back(&mut self, alloc: Global, count: usize) -> Result<(), AllocError>
+        requires within { (store self.old).full (take count (writes self.old)) ≡ None }
+        ensures writes { IfOk result (λ _. writes self.new ≡ take count (writes self.old)) }
         ensures store { store self.new ≡ store self.old };
 }

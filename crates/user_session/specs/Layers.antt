@@ -1,5 +1,5 @@
 -- A planner's sandbox: what is kept in it, and what a planner with or without one is answered.
-use Rattle.std.specs.Prelude.{ℕ, ℤ, List, [], ◌++◌, length, Option}
+use Rattle.std.specs.Prelude.{ℕ, ℤ, List, [], ◌++◌, Option}
 use Rattle.std.specs.Option.{option_map}
 use Rattle.cell_writes.specs.Writes.{last_writes}
 use Rattle.sandbox.specs.Sandboxes.{Sandboxing, answer as answer_of}
@@ -8,13 +8,13 @@ use Rattle.sandbox.specs.declared.act.Note.{Note}
 use Rattle.sandbox.specs.declared.act.Note.TheVariants as notes
 use Rattle.user_session.specs.Content.{after}
 use Rattle.user_session.specs.Planning.{PlanEffect, effect, misfit}
-use Rattle.user_session.specs.Replies.{reply_text}
+use Rattle.user_session.specs.Replies.{kept_text, reply_text}
 use Rattle.user_session.specs.declared.command.PlanCommand.{PlanCommand}
 use Rattle.user_session.specs.declared.command.PlanCommand.TheVariants.{Fixed}
 use Rattle.user_session.specs.declared.content.Content.{Content}
 use Rattle.user_session.specs.declared.reply.CommandReason.TheVariants.{NoSandbox, SandboxOpen}
 use Rattle.user_session.specs.declared.reply.Reply.{Reply}
-use Rattle.user_session.specs.declared.reply.Reply.TheVariants.{Refused, Kept, Opened, Discarded}
+use Rattle.user_session.specs.declared.reply.Reply.TheVariants.{Refused, Opened, Discarded}
 
 -- the reply to SANDBOX and DISCARD, and to a PUBLISH without a sandbox
 abbrev pub noted : Note → Reply
@@ -35,7 +35,7 @@ sandbox = record {
   fixed = λ writes. Fixed writes;
   unfit = unfit;
   note = λ note. reply_text (noted note);
-  kept = λ writes. reply_text (Kept (length writes));
+  kept = kept_text;
 }
 
 -- what an act does on a version, for a planner whose sandbox keeps these writes or who has none, and what is kept next

@@ -1,7 +1,7 @@
 -- What a planner's commands do on a version of the numbers.
 use Rattle.std.specs.Prelude.{ℕ, nat_lt, ℤ, Bool, ◌&&◌, List, [], ◌∷◌, length, Option, Some, None, ◌++◌, codes}
 use Rattle.std.specs.Prelude.{Result, Ok, Err}
-use Rattle.std.specs.Prelude.{if◌then◌else◌}
+use Rattle.std.specs.Prelude.{get_or, if◌then◌else◌}
 use Rattle.std.specs.List.{list_all}
 use Rattle.std.specs.Arc.{arc_value}
 use Rattle.cube_fixed.specs.declared.value.Value.{Value}
@@ -38,7 +38,7 @@ use Rattle.stored_laws.specs.Stored.{stored_in}
 use Rattle.trace_text.specs.TraceText.{reply_text as traced_text}
 use Rattle.user_session.specs.declared.content.Content.{Content}
 use Rattle.user_session.specs.Replies.{fault_text, reply_text, spread_fault_text}
-use Rattle.user_session.specs.RejectedLoad.{stopped_text}
+use Rattle.user_session.specs.RejectedLoad.{stopped_text, told_rejects}
 use Rattle.user_session.specs.declared.command.PlanCommand.{PlanCommand}
 use Rattle.user_session.specs.declared.command.PlanCommand.TheVariants.{Put, Get, Load, View, Spread, Trace, Fixed}
 use Rattle.user_session.specs.declared.reply.CommandReason.{CommandReason}
@@ -113,17 +113,21 @@ abbrev pub get_effect : Content → Option ℕ → PlanEffect
 get_effect content None = effects.Read (reply_text (Refused UnknownName))
 get_effect content (Some cell) = effects.Read (reply_text (Found (value_at content cell)))
 
--- a load that ended so: for each cell that it wrote, by number, the last number written; or nothing
-abbrev pub ended_effect : Ran → List (ℕ × ℤ) → PlanEffect
-ended_effect Done writes = committed (last_writes writes)
-ended_effect (Stopped section row statement reason) writes =
+-- a load that ended so, where so many records might be passed over, if that was said: for each cell that it wrote, by
+-- number, the last number written; or nothing
+abbrev pub ended_effect : Option ℕ → Ran → List (ℕ × ℤ) → PlanEffect
+ended_effect most (Done rejects) writes =
+    effects.Commit (last_writes writes)
+    (reply_text (Committed (length (last_writes writes))) ++ told_rejects most rejects)
+ended_effect most (Stopped section row statement reason) writes =
     effects.Rejected (stopped_text section row statement reason)
 
 -- a load of a script over records, from no writes
 abbrev pub load_effect : Content → LoadJob → BoundScript → PlanEffect
 load_effect content job script =
-    let outcome = load script job.params job.decimal (rows_in job) (store_of content.model content.stored) [] in
-    ended_effect (ran_of outcome) (writes_of outcome)
+    let most = get_or 0 job.rejects in
+    let outcome = load script job.params job.decimal most (rows_in job) (store_of content.model content.stored) [] in
+    ended_effect job.rejects (ran_of outcome) (writes_of outcome)
 
 -- a question for a table: the table that its text means, or why it means none
 abbrev pub table_effect : Content → Result views.View ViewFault → PlanEffect

@@ -1,5 +1,8 @@
--- What a rejected load prints.
-use Rattle.std.specs.Prelude.{ℕ, List, ◌++◌, codes, decimal}
+-- What a rejected load prints, and a load that passed over records.
+use Rattle.std.specs.Prelude.{ℕ, List, [], ◌∷◌, ◌++◌, length, codes, decimal, Option, Some, None}
+use Rattle.std.specs.List.{flat_map}
+use Rattle.dim_name.specs.Bytes.{newline}
+use Rattle.script_run.specs.declared.reject.Reject.{Reject}
 use Rattle.script_tree.specs.declared.script.Section.{Section}
 use Rattle.script_tree.specs.declared.script.Section.TheVariants as sections
 use Rattle.script_values.specs.declared.load_reason.LoadReason as scripts
@@ -26,8 +29,25 @@ cause_text stops.UnsetVariable = codes "UnsetVariable"
 cause_text stops.TypeMismatch = codes "TypeMismatch"
 cause_text stops.TextLimit = codes "TextLimit"
 
+-- `SECTION record R statement S REASON`
+abbrev pub place_text : Section → ℕ → ℕ → scripts.LoadReason → List ℕ
+place_text section row statement reason =
+    section_text section ++ codes " record " ++ decimal row
+    ++ codes " statement " ++ decimal statement ++ codes " " ++ cause_text reason
+
 -- `rejected SECTION record R statement S REASON`
 abbrev pub stopped_text : Section → ℕ → ℕ → scripts.LoadReason → List ℕ
-stopped_text section row statement reason =
-    codes "rejected " ++ section_text section ++ codes " record " ++ decimal row
-    ++ codes " statement " ++ decimal statement ++ codes " " ++ cause_text reason
+stopped_text section row statement reason = codes "rejected " ++ place_text section row statement reason
+
+-- a line of a record that was passed over: `Data record R statement S REASON`
+abbrev pub reject_line : Reject → List ℕ
+reject_line reject = newline ∷ place_text sections.Body reject.row reject.statement reject.reason
+
+-- ` rejects N`, and a line for each of the records that were passed over
+abbrev pub rejects_text : List Reject → List ℕ
+rejects_text rejects = codes " rejects " ++ decimal (length rejects) ++ flat_map reject_line rejects
+
+-- what stands behind `committed N` where so many records might be passed over, or where nothing is said of that
+abbrev pub told_rejects : Option ℕ → List Reject → List ℕ
+told_rejects None rejects = []
+told_rejects (Some most) rejects = rejects_text rejects

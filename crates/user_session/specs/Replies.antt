@@ -1,5 +1,5 @@
 -- The replies to users, as text.
-use Rattle.std.specs.Prelude.{ℕ, List, [], ◌++◌, codes, decimal}
+use Rattle.std.specs.Prelude.{ℕ, List, [], ◌++◌, length, drop, codes, decimal}
 use Rattle.cell_spread.specs.declared.fault.SpreadFault.{SpreadFault}
 use Rattle.cell_spread.specs.declared.fault.SpreadFault.TheVariants as spreads
 use Rattle.cube_fixed.specs.Text.{printed}
@@ -8,7 +8,7 @@ use Rattle.user_session.specs.declared.reply.CommandReason.TheVariants.{UnknownN
 use Rattle.user_session.specs.declared.reply.CommandReason.TheVariants.{StoreLimit, FedLimit, NoSandbox, SandboxOpen}
 use Rattle.user_session.specs.declared.reply.Reply.{Reply}
 use Rattle.user_session.specs.declared.reply.Reply.TheVariants.{Committed, Rejected, Found, Refused}
-use Rattle.user_session.specs.declared.reply.Reply.TheVariants.{Kept, Opened, Discarded}
+use Rattle.user_session.specs.declared.reply.Reply.TheVariants.{Opened, Discarded}
 use Rattle.view_query.specs.declared.fault.ViewFault.{ViewFault}
 use Rattle.view_query.specs.declared.fault.ViewFault.TheVariants as faults
 
@@ -39,12 +39,16 @@ spread_fault_text spreads.NothingThere = codes "NothingThere"
 spread_fault_text spreads.OverWrite = codes "OverWrite"
 spread_fault_text spreads.Memory = []
 
--- `committed N`, `rejected REASON`, the value, `refused REASON`, `kept N`, `opened` or `discarded`
+-- `committed N`, `rejected REASON`, the value, `refused REASON`, `opened` or `discarded`
 abbrev pub reply_text : Reply → List ℕ
 reply_text (Committed cells) = codes "committed " ++ decimal cells
 reply_text (Rejected reason) = codes "rejected " ++ reason_text reason
 reply_text (Found value) = printed value
 reply_text (Refused reason) = codes "refused " ++ reason_text reason
-reply_text (Kept cells) = codes "kept " ++ decimal cells
 reply_text Opened = codes "opened"
 reply_text Discarded = codes "discarded"
+
+-- the reply to a command whose writes were kept in a sandbox, where they would have been committed with this one:
+-- `kept` in place of `committed`
+abbrev pub kept_text : List ℕ → List ℕ
+kept_text reply = codes "kept" ++ drop (length (codes "committed")) reply

@@ -1,16 +1,21 @@
-ghost use Rattle.std.specs.Prelude.{◌≡◌, IfOk};
+ghost use Rattle.std.specs.Prelude.{◌≡◌, ◌++◌, length, IfOk};
+ghost use Rattle.history.specs.declared.effect.Effect.TheVariants as effects;
 ghost use Rattle.user_session.specs.Content.{content_of};
 ghost use Rattle.user_session.specs.Planning.{load_effect};
-ghost use Rattle.user_session.specs.RejectedLoad.{cause_text, section_text, stopped_text};
+ghost use Rattle.user_session.specs.RejectedLoad.{cause_text, reject_line, rejects_text, section_text, stopped_text};
+ghost use Rattle.user_session.specs.RejectedLoad.{told_rejects};
+ghost use Rattle.user_session.specs.Replies.{reply_text};
+ghost use Rattle.user_session.specs.declared.reply.Reply.TheVariants.{Committed};
 
+use crate::reply::Reply;
 use crate::world::PlanEffect;
-use crate::writes::committed;
 use cell_reader::{Snapshot, Work};
+use cube_fixed::Money;
 use history::Effect;
 use lists::ListOf;
 use load_cells::LoadCells;
 use script_bound::BoundScript;
-use script_run::{Ran, run};
+use script_run::{Ran, Reject, run};
 use script_tree::Section;
 use script_values::LoadReason;
 use std::alloc::{AllocError, Global};
@@ -33,12 +38,13 @@ pub(crate) fn load(
         script,
         job.rows(),
         job.decimal,
+        job.rejects.unwrap_or(0),
         &job.params,
         &mut cells,
     )? {
-        Ran::Done => {
+        Ran::Done(rejects) => {
             let writes = cells.into_work().writes(alloc)?;
-            committed(alloc, writes)
+            loaded(alloc, writes, job.rejects, rejects.as_slice())
         }
         Ran::Rejected {
             section,
@@ -50,6 +56,50 @@ pub(crate) fn load(
             Ok(Effect::Rejected(ListOf::new(text)))
         }
     }
+}
+
+// A load is accepted with these writes. Where it says how many records may be passed over, the reply lists those that
+// were.
+fn loaded(
+    alloc: Global,
+    writes: Vec<(u64, Money)>,
+    most: Option<u32>,
+    rejects: &[Reject],
+) -> Result<PlanEffect, AllocError>
+    ensures { IfOk result (λ found. found ≡ effects.Commit writes.items
+        (reply_text (Committed (length writes.items)) ++ told_rejects most rejects.now)) }
+{
+    let reply = Reply::Committed(writes.len() as u64).text(alloc)?;
+    let reply = match most {
+        None => reply,
+        Some(_) => ListOf::new(with_rejects(alloc, reply.as_slice(), rejects)?),
+    };
+    Ok(Effect::Commit(ListOf::new(writes), reply))
+}
+
+// The text, ` rejects N`, and a line for each of the records that were passed over.
+fn with_rejects(alloc: Global, head: &[u8], rejects: &[Reject]) -> Result<Vec<u8>, AllocError>
+    ensures { IfOk result (λ text. text.items ≡ head.now ++ rejects_text rejects.now) }
+{
+    let mut text = Vec::from_slice(alloc, head)?;
+    let count = rejects.len();
+    text.extend_from_slice(format!(in alloc; " rejects {count}")?.as_bytes())?;
+    for reject in rejects {
+        let line = reject_line(alloc, reject)?;
+        text.extend_from_slice(&line)?;
+    }
+    Ok(text)
+}
+
+// A line end, and `Data record R statement S REASON`.
+fn reject_line(alloc: Global, reject: &Reject) -> Result<Vec<u8>, AllocError>
+    ensures { IfOk result (λ text. text.items ≡ reject_line reject.now) }
+{
+    let row = reject.row;
+    let statement = reject.statement;
+    let reason = cause_name(reject.reason);
+    let text = format!(in alloc; "\nData record {row} statement {statement} {reason}")?;
+    Ok(text.into_bytes())
 }
 
 // `rejected SECTION record R statement S REASON`.

@@ -1,5 +1,5 @@
 ghost use Rattle.std.specs.Prelude.{◌≡◌, ◌≢◌, ◌++◌, codes, IfOk};
-ghost use Rattle.user_session.specs.Replies.{fault_text, reason_text, reply_text, spread_fault_text};
+ghost use Rattle.user_session.specs.Replies.{fault_text, kept_text, reason_text, reply_text, spread_fault_text};
 
 use cell_spread::SpreadFault;
 use cube_fixed::{Value, print};
@@ -40,8 +40,6 @@ pub enum Reply {
     Found(Value),
     /// A reading command has no answer.
     Refused(CommandReason),
-    /// A writing command in a sandbox: so many cells were written, and are kept there.
-    Kept(u64),
     /// A sandbox was opened.
     Opened,
     /// A sandbox was ended, and what it kept is dropped.
@@ -49,7 +47,7 @@ pub enum Reply {
 }
 
 impl Reply {
-    /// `committed N`, `rejected REASON`, the value, `refused REASON`, `kept N`, `opened` or `discarded`.
+    /// `committed N`, `rejected REASON`, the value, `refused REASON`, `opened` or `discarded`.
     pub(crate) fn text(self, alloc: Global) -> Result<ReplyText, AllocError>
         ensures { IfOk result (λ text. text ≡ reply_text self) }
     {
@@ -58,12 +56,23 @@ impl Reply {
             Reply::Rejected(reason) => reason_text(alloc, b"rejected ", reason)?,
             Reply::Found(value) => value_text(alloc, value)?,
             Reply::Refused(reason) => reason_text(alloc, b"refused ", reason)?,
-            Reply::Kept(cells) => format!(in alloc; "kept {cells}")?.into_bytes(),
             Reply::Opened => Vec::from_slice(alloc, b"opened")?,
             Reply::Discarded => Vec::from_slice(alloc, b"discarded")?,
         };
         Ok(ListOf::new(text))
     }
+}
+
+/// The first word of the reply to a command that is accepted.
+const COMMITTED: &[u8] = b"committed";
+
+/// The reply to a command whose writes are kept in a sandbox: `kept` in place of `committed`.
+pub(crate) fn kept_reply(alloc: Global, reply: &[u8]) -> Result<ReplyText, AllocError>
+    ensures { IfOk result (λ text. text ≡ kept_text reply.now) }
+{
+    let behind = reply.get(COMMITTED.len()..).unwrap_or(&[]);
+    let text = with_name(alloc, b"kept", behind)?;
+    Ok(ListOf::new(text))
 }
 
 /// `refused` and the name of why there is no table.

@@ -4,7 +4,7 @@ ghost use Rattle.user_session.specs.Layers.{noted};
 
 use crate::command::PlanCommand;
 use crate::fixed_writes::{Laid, lay_over};
-use crate::reply::{CommandReason, Reply, ReplyText};
+use crate::reply::{CommandReason, Reply, ReplyText, kept_reply};
 use crate::world::{CellWrites, PlanWorld};
 use cell_reader::Snapshot;
 use cell_writes::last_writes;
@@ -67,8 +67,8 @@ impl Layered for PlanWorld {
         noted(note).text(alloc)
     }
 
-    fn kept(alloc: Global, writes: &CellWrites) -> Result<ReplyText, AllocError> {
-        Reply::Kept(writes.as_slice().len() as u64).text(alloc)
+    fn kept(alloc: Global, reply: ReplyText) -> Result<ReplyText, AllocError> {
+        kept_reply(alloc, reply.as_slice())
     }
 }
 

@@ -63,12 +63,16 @@ get = do
 abbrev pub skip : Grammar Lexeme ℕ
 skip = either (do one (word (codes "SKIP")); one whole) (done 0)
 
--- the file of the records, how many records are passed over, what stands between columns, and what between units and
--- decimals
-abbrev pub Source : Type 0
-Source = Option (List ℕ) × ℕ × ℕ × ℕ
+-- [ "REJECTS" whole ]
+abbrev pub rejects : Grammar Lexeme (Option ℕ)
+rejects = either (do one (word (codes "REJECTS")); most ← one whole; done (Some most)) (done None)
 
--- "FROM" file [ "SKIP" whole ] [ "SEPARATOR" ( Text | "TAB" ) ] [ "DECIMAL" Text ]
+-- the file of the records, how many records at its beginning are skipped, what stands between columns, what between
+-- units and decimals, and how many records may be passed over
+abbrev pub Source : Type 0
+Source = Option (List ℕ) × ℕ × ℕ × ℕ × Option ℕ
+
+-- "FROM" file [ "SKIP" whole ] [ "SEPARATOR" ( Text | "TAB" ) ] [ "DECIMAL" Text ] [ "REJECTS" whole ]
 abbrev pub given_source : Grammar Lexeme Source
 given_source = do
   one (word (codes "FROM"))
@@ -76,11 +80,12 @@ given_source = do
   records ← skip
   byte ← separator
   mark ← decimal byte
-  done (Some path, records, byte, mark)
+  most ← rejects
+  done (Some path, records, byte, mark, most)
 
--- [ "FROM" file [ "SKIP" whole ] [ "SEPARATOR" ( Text | "TAB" ) ] [ "DECIMAL" Text ] ]
+-- [ "FROM" file [ "SKIP" whole ] [ "SEPARATOR" ( Text | "TAB" ) ] [ "DECIMAL" Text ] [ "REJECTS" whole ] ]
 abbrev pub source : Grammar Lexeme Source
-source = either given_source (done (None, 0, comma, decimal_point))
+source = either given_source (done (None, 0, comma, decimal_point, None))
 
 -- whether a parameter of this word is among these
 abbrev pub is_set : List (List ℕ × ParamText) → List ℕ → Bool
@@ -137,11 +142,13 @@ loading line script records variables = record {
     skip = records.1;
     separator = records.2;
     decimal = records.3;
+    rejects = records.4;
     params = variables;
   });
 }
 
--- "LOAD" name [ "FROM" file [ "SKIP" whole ] [ "SEPARATOR" ( Text | "TAB" ) ] [ "DECIMAL" Text ] ]
+-- "LOAD" name
+-- [ "FROM" file [ "SKIP" whole ] [ "SEPARATOR" ( Text | "TAB" ) ] [ "DECIMAL" Text ] [ "REJECTS" whole ] ]
 -- [ "WITH" param { "," param } ] ";"
 abbrev pub load : Grammar Lexeme UserCommand
 load = do

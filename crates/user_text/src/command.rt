@@ -30,6 +30,8 @@ pub struct LoadText {
     pub separator: u8,
     /// The byte between units and decimals of the numbers in the file. It is another one than `separator`.
     pub decimal: u8,
+    /// How many records may be passed over at most, where the load says so.
+    pub rejects: Option<u32>,
     /// The variables that are set before the script's Prolog. Words are in capitals, and each stands once.
     pub params: LoadParams,
 }

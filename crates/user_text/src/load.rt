@@ -25,9 +25,23 @@ fn skip_at(cursor: &mut Cursor<'_, Counted>) -> Result<u32, Stop<TooMany>>
     }
 }
 
-/// Where the records come from: the file, how many records are passed over, and the bytes between columns and between
-/// units and decimals.
-type Source = (Option<ListOf<u8>>, u32, u8, u8);
+/// Reads how many records may be passed over at most.
+#[tactic(auto, unfolding(crate::specs::Readers::Reading::read_rejects))]
+fn rejects_at(cursor: &mut Cursor<'_, Counted>) -> Result<Option<u32>, Stop<TooMany>>
+    ensures { Reads (λ rejects. rejects) reading.read_rejects cursor.old result cursor.new }
+{
+    if word_comes(cursor, b"REJECTS") {
+        word(cursor, b"REJECTS")?;
+        let most = whole(cursor)?;
+        Ok(Some(most))
+    } else {
+        Ok(None)
+    }
+}
+
+/// Where the records come from: the file, how many records at its beginning are skipped, the bytes between columns and
+/// between units and decimals, and how many records may be passed over.
+type Source = (Option<ListOf<u8>>, u32, u8, u8, Option<u32>);
 
 /// Reads the file of the records, and how it is read.
 #[tactic(auto, unfolding(crate::specs::Readers::Reading::read_given_source))]
@@ -39,7 +53,8 @@ fn given_source(alloc: Global, cursor: &mut Cursor<'_, Counted>) -> Result<Sourc
     let skip = skip_at(cursor)?;
     let separator = separator_at(alloc, cursor)?;
     let decimal = decimal_at(alloc, cursor, separator)?;
-    Ok((Some(ListOf::new(path)), skip, separator, decimal))
+    let rejects = rejects_at(cursor)?;
+    Ok((Some(ListOf::new(path)), skip, separator, decimal, rejects))
 }
 
 /// Reads where the records come from, if they do.
@@ -50,11 +65,11 @@ fn source_at(alloc: Global, cursor: &mut Cursor<'_, Counted>) -> Result<Source, 
     if word_comes(cursor, b"FROM") {
         given_source(alloc, cursor)
     } else {
-        Ok((None, 0, COMMA, DECIMAL_POINT))
+        Ok((None, 0, COMMA, DECIMAL_POINT, None))
     }
 }
 
-/// Reads `LOAD name [ FROM file [ SKIP whole ] [ SEPARATOR ( Text | TAB ) ] [ DECIMAL Text ] ]
+/// Reads `LOAD name [ FROM file [ SKIP whole ] [ SEPARATOR ( Text | TAB ) ] [ DECIMAL Text ] [ REJECTS whole ] ]
 /// [ WITH param { , param } ] ;`.
 #[tactic(auto, unfolding(crate::specs::Readers::Reading::read_load))]
 pub fn load_at(
@@ -65,7 +80,7 @@ pub fn load_at(
 {
     let line = word(cursor, b"LOAD")?;
     let script = name(alloc, cursor)?;
-    let (file, skip, separator, decimal) = source_at(alloc, cursor)?;
+    let (file, skip, separator, decimal, rejects) = source_at(alloc, cursor)?;
     let params = params_at(alloc, cursor)?;
     sign(cursor, b";")?;
     let body = UserBody::Load(LoadText {
@@ -74,6 +89,7 @@ pub fn load_at(
         skip,
         separator,
         decimal,
+        rejects,
         params,
     });
     Ok(UserCommand { line, body })

@@ -18,6 +18,8 @@ pub struct LoadJob {
     pub skip: u32,
     /// The byte between units and decimals of the numbers in the file.
     pub decimal: u8,
+    /// How many records may be passed over at most, where the load says so.
+    pub rejects: Option<u32>,
     /// The variables that are set before the script's Prolog, each once, in capitals.
     pub params: LoadParams,
 }

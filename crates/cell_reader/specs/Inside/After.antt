@@ -1,5 +1,5 @@
 -- What a load's work keeps of its versions.
-use Rattle.std.specs.Prelude.{◌≡◌, ◌≤◌, ◌+◌, ℕ, ℤ, List, length, drop, Option, Some, IfSome}
+use Rattle.std.specs.Prelude.{◌≡◌, ◌≤◌, ◌+◌, ℕ, ℤ, List, length, drop, take, Option, Some, IfSome}
 use Rattle.std.specs.Arc.{arc_value}
 use Rattle.std.specs.BTreeMap.{BTreeMap}
 use Rattle.std.specs.declared.alloc.Global.{Global}
@@ -16,6 +16,7 @@ use Rattle.memo_cells.specs.Shared.{version_kept}
 use Rattle.memo_cells.specs.Values.{cell_value}
 use Rattle.rule_model.specs.BoundModel.{BoundModel}
 use Rattle.cell_reader.specs.FedCount.{fed_count}
+use Rattle.cell_reader.specs.declared.mark.Mark.{Mark}
 use Rattle.cell_reader.specs.declared.room.Room.{Room}
 
 -- what these writes have made of the version that the work began with
@@ -37,6 +38,12 @@ pub record IsAhead (opening latest : Arc NumberedVersion Global) (writes : List 
   pub waiting : MayWait (arc_value latest) (drop made writes) room
   pub all : IsAfter (arc_value opening) writes (arc_value latest).model
       (after_writes (arc_value latest).stored (drop made writes))
+
+-- a mark has the version with the first so many of these writes
+pub record HasFirst (opening : NumberedVersion) (writes : List (ℕ × ℤ)) (mark : Mark) : Type 0 where
+  pub made_first : mark.made ≤ length writes
+  pub first : let version = arc_value mark.version in
+      IsAfter opening (take mark.made writes) version.model version.stored
 
 -- the last numbers of these writes, by cell, where they are kept
 abbrev pub AreLast : List (ℕ × ℤ) → Option (BTreeMap ℕ ℤ) → Type 0

@@ -85,6 +85,10 @@ read_decimal_by false byte = choose (is_word (codes "DECIMAL")) (read_given_deci
 unfoldable pub read_decimal : ℕ → Plan ℕ
 read_decimal byte = read_decimal_by (byte == decimal_point) byte
 
+unfoldable pub read_rejects : Plan (Option ℕ)
+read_rejects = choose (is_word (codes "REJECTS")) (do take_word (codes "REJECTS"); most ← take_one count whole; gives (Some most))
+    (gives None)
+
 unfoldable pub read_given_source : Plan Source
 read_given_source = do
   take_word (codes "FROM")
@@ -92,10 +96,11 @@ read_given_source = do
   records ← read_skip
   byte ← read_separator
   mark ← read_decimal byte
-  gives (Some path, records, byte, mark)
+  most ← read_rejects
+  gives (Some path, records, byte, mark, most)
 
 unfoldable pub read_source : Plan Source
-read_source = choose (is_word (codes "FROM")) read_given_source (gives (None, 0, comma, decimal_point))
+read_source = choose (is_word (codes "FROM")) read_given_source (gives (None, 0, comma, decimal_point, None))
 
 unfoldable pub read_value : Plan ParamText
 read_value = choose is_text
