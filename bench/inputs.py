@@ -399,6 +399,20 @@ def paired_load(folder, n):
     return write(folder, u_txt=u, **plan(n, pair))
 
 
+def faulty_records(folder, n):
+    """Every second of n records is at fault, when it has written a cell and read one that a rule governs."""
+    text = "CellPutN(V4, 'C', V1, V2, V3);\nx = CellGetN('C', V1, V2, 'Sales');\n"
+    text += "IF (MOD(NUMBR(V4), 2) = 0);\nCellPutN(1, 'C', 'All', V2, V3);\nENDIF;\n"
+    u = "LOAD 's' FROM 'x.csv' REJECTS 1000000;\nGET 'C' ('All', 'Year', 'Sales');\n"
+    return write(folder, u_txt=u, **plan(n, text))
+
+
+def faulty_variables(folder, n):
+    """Each record sets n variables and is at fault then, until the statements of a load are used up."""
+    s = "DATA:\n" + "".join(f"x{i} = {i};\n" for i in range(n)) + "CellPutN(1, 'C', 'none', 'A');\n"
+    return write(folder, m_txt=SMALL, s_ti=s, x_csv="1\n" * (1000000 // (n + 1)), u_txt="LOAD 's' FROM 'x.csv' REJECTS 1000000;\n")
+
+
 def large_plan(folder, n):
     """A load of n records, each of which feeds a cell, in a model of 9,600,000 cells."""
     k = 100000
@@ -564,7 +578,7 @@ SHAPES = [
     (found_shared, 1000), (found_circle, 99000),
     (spread_equal, 99000), (spread_proportional, 99000), (totals_above_loop, 90000), (cancelling_weights, 50000), (dense_leaves, 90000),
     (continued, 900), (puts_of_0, 30000), (puts, 800000), (zeros, 800000), (opened_total, 100000), (opened_zeros, 100000), (overfed_total, 1000000),
-    (clearing_load, 100000), (adding_load, 100000), (paired_load, 100000), (large_plan, 800000), (plain_increments, 1000000), (equal_loads, 2000),
+    (clearing_load, 100000), (adding_load, 100000), (paired_load, 100000), (faulty_records, 100000), (faulty_variables, 100000), (large_plan, 800000), (plain_increments, 1000000), (equal_loads, 2000),
     (variables, 100000), (parameters, 100000), (joins, 40),
     (recurrence, 240), (stock, 20000), (wide_formula, 900), (ruled_total, 800000), (traced_total, 800000), (empty_axis, 90000), (many_views, 2000),
     (semicolons, 100000000), (semicolon_model, 2**30), (semicolon_rules, 100000000), (semicolon_script, 100000000), (load_files, 65000),
