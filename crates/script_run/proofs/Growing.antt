@@ -19,8 +19,8 @@ grows_on : (w v u : List Write) → Grows w v → Grows v u → Grows w u
 grows_on w v u first second =
     (first.0 ++ second.0, second.1 ∙ ap (λ (x : List Write). x ++ second.0) first.1 ∙ append_assoc w first.0 second.0)
 
-same : (w : List Write) → Grows w w
-same w = ([], sym (append-nil w))
+grows_same : (w : List Write) → Grows w w
+grows_same w = ([], sym (append-nil w))
 
 one_more : (w u : List Write) (write : Write) (reason : Option LoadReason) → unless reason (w ++ write ∷ []) ≡ Ok u → Grows w u
 one_more w u write None is = (write ∷ [], cc is)
@@ -57,10 +57,10 @@ Along p w q v = Grows w v
 
 chain : (store : Store) → IsChain store Along
 chain store = record {
-  same = λ p w. same w;
+  same = λ p w. grows_same w;
   on = λ p q r w v u first second. grows_on w v u first second;
-  begins = λ p w place left is. same w;
-  sets = λ p w place value. same w;
+  begins = λ p w place left is. grows_same w;
+  sets = λ p w place value. grows_same w;
   writes = λ p w u cube elements value is. with_cell_grows store w u value (store.cell cube elements) is;
   zeros = λ p w u cube elements is. zeroed_grows store w u (store.cell cube elements) is;
 }
