@@ -52,27 +52,28 @@ zeroed_grows : (store : Store) (w u : List Write) (cell : Option ℕ) → zeroed
 zeroed_grows store w u (Some cell) is = with_zeros_grows store w u (store.cleared w cell) is
 zeroed_grows store w u None is = absurd (cc is)
 
+-- and no block changes which records were passed over
 abbrev Along : Progress → List Write → Progress → List Write → Type 0
-Along p w q v = Grows w v
+Along p w q v = Grows w v × (q.rejects ≡ p.rejects)
 
 chain : (store : Store) → IsChain store Along
 chain store = record {
-  same = λ p w. grows_same w;
-  on = λ p q r w v u first second. grows_on w v u first second;
-  begins = λ p w place left is. grows_same w;
-  sets = λ p w place value. grows_same w;
-  writes = λ p w u cube elements value is. with_cell_grows store w u value (store.cell cube elements) is;
-  zeros = λ p w u cube elements is. zeroed_grows store w u (store.cell cube elements) is;
+  same = λ p w. (grows_same w, refl);
+  on = λ p q r w v u first second. (grows_on w v u first.0 second.0, second.1 ∙ first.1);
+  begins = λ p w place left is. (grows_same w, refl);
+  sets = λ p w place value. (grows_same w, refl);
+  writes = λ p w u cube elements value is. (with_cell_grows store w u value (store.cell cube elements) is, refl);
+  zeros = λ p w u cube elements is. (zeroed_grows store w u (store.cell cube elements) is, refl);
 }
 
-taken_back : (store : Store) (p q : Progress) (w u : List Write) (ending : Ending) (o : Outcome)
-    → Reaches store Along (chain store) p w o → Ended ending q u ≡ o → take (length w) u ≡ w
-taken_back store p q w u ending o reached is =
-    let grown : Grows w u = subst (Reaches store Along (chain store) p w) (sym is) reached in
-    ap (take (length w)) grown.1 ∙ take_at w grown.0 (length w) refl
+back_from : (store : Store) (p q : Progress) (w u : List Write) (ending : Ending) (o : Outcome)
+    → Reaches store Along (chain store) p w o → Ended ending q u ≡ o → (take (length w) u ≡ w) × (q.rejects ≡ p.rejects)
+back_from store p q w u ending o reached is =
+    let along : Along p w q u = subst (Reaches store Along (chain store) p w) (sym is) reached in
+    (ap (take (length w)) along.0.1 ∙ take_at w along.0.0 (length w) refl, along.1)
 
--- a block left the writes that were there before it
-pub taken_back_to : (store : Store) (statements : List Statement) (here : Setting) (p q : Progress) (w u : List Write) (ending : Ending)
-    → Ended ending q u ≡ block_of statements store here p w → take (length w) u ≡ w
-taken_back_to store statements here p q w u ending is =
-    taken_back store p q w u ending (block_of statements store here p w) (statements_steady store Along (chain store) statements here p w) is
+-- a block leaves the writes and the records passed over that were there before it
+pub left_by_block : (store : Store) (statements : List Statement) (here : Setting) (p q : Progress) (w u : List Write) (ending : Ending)
+    → Ended ending q u ≡ block_of statements store here p w → (take (length w) u ≡ w) × (q.rejects ≡ p.rejects)
+left_by_block store statements here p q w u ending is =
+    back_from store p q w u ending (block_of statements store here p w) (statements_steady store Along (chain store) statements here p w) is

@@ -1,9 +1,12 @@
 -- Which records are passed over.
-use Rattle.std.proofs.Common.{◌≡◌, ◌<◌, ◌≤◌, ◌+◌, ℕ, Bool, true, false, ◌&&◌, cond, ltb, List, length, refl, ap, sym, ◌∙◌, arith}
+use Rattle.std.proofs.Common.{◌≡◌, ◌<◌, ◌≤◌, ◌+◌, ℕ, Bool, true, false, ◌&&◌, cond, ltb, List, [], ◌∷◌, ◌++◌, length, Option, refl, ap, sym, ◌∙◌, arith}
 use Rattle.std.proofs.lemmas.Bool.{lt-ltb, le-ltb}
 use Rattle.script_values.specs.declared.load_reason.LoadReason.{LoadReason}
 use Rattle.script_values.specs.Cells.{Write}
 use Rattle.script_run.specs.declared.ending.Ending.TheVariants.{Next, Skipped, Broken, Stopped}
+use Rattle.script_values.specs.declared.kept.Kept.{Kept}
+use Rattle.script_run.specs.declared.execution_place.ExecutionPlace.{ExecutionPlace}
+use Rattle.script_run.specs.declared.reject.Reject.{Reject}
 use Rattle.script_run.specs.Setting.{Progress}
 use Rattle.script_run.specs.Meaning.{Outcome, Ended}
 use Rattle.script_run.specs.Load.{is_of_record, passed_over, tried}
@@ -45,3 +48,23 @@ tried_passes reason p q w u is =
 pub tried_stops : (most : ℕ) (reason : LoadReason) (p q : Progress) (w u : List Write) → is_of_record reason ≡ false
     → Ended (Stopped reason) q u ≡ tried most p w (Ended (Stopped reason) q u)
 tried_stops most reason p q w u is = sym (ap (λ (b : Bool). stopped_if b (ltb (length p.rejects) most) reason p w q u) is)
+
+progress_of : List (Option Kept) → ℕ → ExecutionPlace → List Reject → Progress
+progress_of variables left last rejects = record { variables = variables; left = left; last = last; rejects = rejects }
+
+same_progress : (a b : Progress) → a.variables ≡ b.variables → a.left ≡ b.left → a.last ≡ b.last → a.rejects ≡ b.rejects → a ≡ b
+unfolding progress_of
+same_progress a b variables left last rejects =
+    ap (λ (x : List (Option Kept)). progress_of x a.left a.last a.rejects) variables
+    ∙ ap (λ (x : ℕ). progress_of b.variables x a.last a.rejects) left
+    ∙ ap (λ (x : ExecutionPlace). progress_of b.variables b.left x a.rejects) last
+    ∙ ap (λ (x : List Reject). progress_of b.variables b.left b.last x) rejects
+
+abbrev rejected : LoadReason → Progress → Reject
+rejected reason q = record { row = q.last.row; statement = q.last.statement; reason = reason }
+
+-- the progress after a record is passed over, where Data changed no other rejects
+pub after_passing : (reason : LoadReason) (p q r : Progress) → r.variables ≡ p.variables → r.left ≡ q.left → r.last ≡ q.last
+    → r.rejects ≡ q.rejects ++ rejected reason q ∷ [] → q.rejects ≡ p.rejects → r ≡ passed_over reason p q
+after_passing reason p q r variables left last rejects same =
+    same_progress r (passed_over reason p q) variables left last (rejects ∙ ap (λ (x : List Reject). x ++ rejected reason q ∷ []) same)
