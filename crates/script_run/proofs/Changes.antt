@@ -106,11 +106,13 @@ taken_by changes rest flags c same is there k false e on =
 pub flagged-taken : (changes rest : Changes) (flags : List Bool) (c : ℕ × Option Kept) → changes ≡ rest ++ c ∷ [] → AreFlagged changes flags
     → (c.0 < length flags) × AreFlagged rest (set flags c.0 false)
 flagged-taken changes rest flags c same is =
-    let all = All-pop (λ (change : ℕ × Option Kept). change.0 < length flags) changes rest (Some c) same is.within in
-    (all.1, record {
-      within = subst (λ (n : ℕ). All (λ change. change.0 < n) rest) (sym (length-set flags c.0 false)) all.0;
-      listed = λ k on. taken_by changes rest flags c same is all.1 k (eqb c.0 k) refl on;
-    })
+    let all = All-pop (λ (change : ℕ × Option Kept). change.0 < length flags) changes rest (Some c) same is.within in (
+      all.1,
+      record {
+        within = subst (λ (n : ℕ). All (λ change. change.0 < n) rest) (sym (length-set flags c.0 false)) all.0;
+        listed = λ k on. taken_by changes rest flags c same is all.1 k (eqb c.0 k) refl on;
+      },
+    )
 
 -- the changes after a variable is set, and their flags
 abbrev with_change : Changes → List Bool → ℕ → Option Kept → Changes

@@ -138,7 +138,15 @@ fn run_records_after_prolog<C: WorkCells>(
     let here = Here::new(decimal, Section::Prolog, 0, &none);
     match run_block(alloc, script.prolog.as_slice(), &here, run, cells)? {
         Ending::Next => {
-            run_records(alloc, script.body.as_slice(), rows, decimal, most, run, cells)
+            run_records(
+                alloc,
+                script.body.as_slice(),
+                rows,
+                decimal,
+                most,
+                run,
+                cells,
+            )
         }
         Ending::Skipped => Ok(Ending::Skipped),
         Ending::Broken => Ok(Ending::Broken),

@@ -9,9 +9,10 @@ pub invariant_of-self : goal.invariant_of-self
 invariant_of-self c =
     let flags = c.self.inside.is_changed.items in
     let there : c.args.place < length c.self.inside.is_changed.items = search rules in
-    rw (c.in_ok-list_change.ensures.flags, c.in_ok-list_change.ensures.changes)
-    (length-set flags c.args.place true ∙ c.self.invariant.0 ∙ sym (length-set c.self.inside.variables.items c.args.place c.replace-before.new.self),
-    flagged-kept c.self.inside.changes.items flags c.args.place _ there c.self.invariant.1)
+    rw (c.in_ok-list_change.ensures.flags, c.in_ok-list_change.ensures.changes) (
+      length-set flags c.args.place true ∙ c.self.invariant.0 ∙ sym (length-set c.self.inside.variables.items c.args.place c.replace-before.new.self),
+      flagged-kept c.self.inside.changes.items flags c.args.place _ there c.self.invariant.1,
+    )
 
 pub returns-in_ok-list_change-clause-held : goal.returns-in_ok-list_change-clause-held
 returns-in_ok-list_change-clause-held c =
